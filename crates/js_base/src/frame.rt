@@ -1,0 +1,28 @@
+//! What the server writes to a client.
+
+use crate::blob::Blob;
+
+/// A frame of the NATS client protocol, from the server.
+#[derive(Drop, Debug)]
+pub enum Frame {
+    /// The server's information, at the start of a session. The host is an address text, which needs no escape.
+    Info {
+        client_id: u64,
+        host: Blob,
+        port: u16,
+    },
+    /// A message, spelled HMSG exactly where its header block is not empty.
+    Msg {
+        subject: Blob,
+        sid: Blob,
+        reply: Option<Blob>,
+        headers: Blob,
+        payload: Blob,
+    },
+    Ping,
+    Pong,
+    Ok,
+    Err {
+        text: Blob,
+    },
+}
