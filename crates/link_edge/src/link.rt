@@ -1,0 +1,44 @@
+//! Connections.
+
+ghost use Rattle.std.specs.Prelude.{◌≡◌, ◌<◌, ℕ, List, Option, length};
+ghost use Rattle.link_edge.specs.declared.answers.Answer.{Answer};
+ghost use Rattle.link_edge.specs.Told.{grown, Loses};
+ghost use Rattle.link_edge.specs.Takes.{IsTakeWithin, EndsAtEnd, taken_bytes, answers_of};
+ghost use Rattle.link_edge.specs.Gives.{IsGiveWithin, given_bytes};
+ghost use Rattle.link_edge.specs.Causes.{HasCause};
+
+use crate::answers::{Give, Take};
+
+/// A connection to a client: bytes come in pieces, and bytes go out.
+pub trait Link {
+    /// The bytes that are left to take, where they are told.
+    ghost left: { Self → Option (List ℕ) };
+
+    /// What its takes answered so far, where it is told.
+    ghost answered: { Self → Option (List Answer) };
+
+    /// The bytes that it was given so far, where they are told.
+    ghost given: { Self → Option (List ℕ) };
+
+    /// How often it failed so far.
+    ghost faults: { Self → ℕ };
+
+    /// Takes the next piece of the input, as far as there is room. What stands in the room behind the piece is free.
+    fn take(&mut self, into: &mut [u8]) -> Take
+        requires room { 0 < length into.old }
+        ensures within { IsTakeWithin result (length into.new) }
+        ensures left { Loses (left self.old) (left self.new) (taken_bytes result into.new) }
+        ensures end { EndsAtEnd result (left self.new) }
+        ensures answered { answered self.new ≡ grown (answered self.old) (answers_of result into.new) }
+        ensures given { given self.new ≡ given self.old }
+        ensures cause { HasCause (faults self.old) (faults self.new) (result ≡ Take.Failed) };
+
+    /// Gives the bytes, or a front of them.
+    fn give(&mut self, bytes: &[u8]) -> Give
+        requires bytes { 0 < length bytes.now }
+        ensures within { IsGiveWithin result (length bytes.now) }
+        ensures left { left self.new ≡ left self.old }
+        ensures answered { answered self.new ≡ answered self.old }
+        ensures given { given self.new ≡ grown (given self.old) (given_bytes result bytes.now) }
+        ensures cause { HasCause (faults self.old) (faults self.new) (result ≡ Give.Failed) };
+}
