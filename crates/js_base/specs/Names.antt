@@ -1,5 +1,5 @@
 -- Names of streams and consumers, as the JetStream naming rules have them.
-use Rattle.std.specs.Prelude.{ℕ, Bool, ◌≡◌, nat_lt, nat_le, ◌&&◌, not, List, [], ◌∷◌, length, codes, Option, Some, None, position, Result, Ok, Err, if◌then◌else◌}
+use Rattle.std.specs.Prelude.{ℕ, Bool, ◌≡◌, nat_lt, nat_le, ◌&&◌, not, List, [], ◌∷◌, length, codes, Option, Some, None, position, Result, Ok, Err, IsOk, if◌then◌else◌}
 use Rattle.js_base.specs.Bytes.{Bytes, has}
 use Rattle.js_base.specs.declared.name.NameFault.{NameFault}
 use Rattle.js_base.specs.declared.name.NameFault.TheVariants.{Empty, TooLong, BadByte, NoMemory}
@@ -22,8 +22,8 @@ name_of [] = Err Empty
 name_of (byte ∷ more) =
     if nat_lt 255 (length (byte ∷ more)) then Err TooLong else unless_bad (first_bad (byte ∷ more)) (byte ∷ more)
 
--- what was returned is this reading, unless memory ran out
+-- what was returned is this reading, and memory runs out for a name alone
 abbrev pub ReadsName : Result Bytes NameFault → Result Bytes NameFault → Type 0
 ReadsName (Ok name) reading = reading ≡ Ok name
-ReadsName (Err NoMemory) reading = Unit {0}
+ReadsName (Err NoMemory) reading = IsOk reading
 ReadsName (Err fault) reading = reading ≡ Err fault
