@@ -1,1 +1,10 @@
 pub mod Words
+pub mod Desks
+pub mod Outputs
+pub mod Calls
+pub mod Answers
+pub mod Talk
+pub mod Giving
+pub mod Carrying
+pub mod Hearing
+pub mod Session

@@ -1,6 +1,11 @@
 //! The server.
 #![tactic(auto)]
 
+mod conversation;
+mod desk;
+mod giving;
+mod operation;
+mod session;
 mod words;
 
 use std::io;
