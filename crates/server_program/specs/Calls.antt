@@ -95,7 +95,7 @@ pub record IsPublish (session : ℕ) (message : Out) (now : ℕ) (taken : Taken)
   pub taken_is : taken ≡ record { subscriptions = count; other = is_some found }
   pub hold : MatchOption found (held ≡ []) (λ at. IsHold at.place (published_event at.incarnation message) now false AreRouted held)
 
--- memory ran out: in the router, in the place, for the answer of the step that was made, or where that answer was routed
+-- memory ran out: in the router, in the place, for the answer of the step that was made, or where what that step sends was routed
 pub data IsPublishCut (session : ℕ) (message : Out) (now : ℕ) (entries : List DeskEntry) : Type 0 where
   Unrouted : entries ≡ Routed (routes.Publish message (Some session)) routes.NoMemory ∷ [] → IsPublishCut session message now entries
   Unstored : (count : ℕ) (at : PlaceAt)
@@ -105,9 +105,9 @@ pub data IsPublishCut (session : ℕ) (message : Out) (now : ℕ) (entries : Lis
       → entries ≡ Routed (routes.Publish message (Some session)) (routes.Taken count) ∷ Looked (catalog.Find message.to) (catalog.At (Some at)) ∷ held
       → IsHold at.place (published_event at.incarnation message) now true AreRouted held
       → IsPublishCut session message now entries
-  Unrouted_answer : (count : ℕ) (at : PlaceAt) (held : List DeskEntry)
+  Unrouted_outs : (count : ℕ) (at : PlaceAt) (unsaid : Bool) (held : List DeskEntry)
       → entries ≡ Routed (routes.Publish message (Some session)) (routes.Taken count) ∷ Looked (catalog.Find message.to) (catalog.At (Some at)) ∷ held
-      → IsHold at.place (published_event at.incarnation message) now false AreCut held
+      → IsHold at.place (published_event at.incarnation message) now unsaid AreCut held
       → IsPublishCut session message now entries
 
 -- ---- all calls

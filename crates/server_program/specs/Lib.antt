@@ -8,3 +8,15 @@ pub mod Giving
 pub mod Carrying
 pub mod Hearing
 pub mod Session
+pub mod Plain
+pub mod Places
+pub mod Held
+pub mod Sessions
+pub mod Queue
+pub mod Subscriptions
+pub mod RouterState
+pub mod Routing
+pub mod Catalogs
+pub mod Holding
+pub mod Making
+pub mod Solo

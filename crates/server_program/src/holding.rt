@@ -1,0 +1,111 @@
+//! A hold on the place: an event is made there, and what it sends is routed.
+
+ghost use Rattle.std.specs.Prelude.{◌≡◌, ◌++◌, IfOk, IsTrue};
+ghost use Rattle.js_model.specs.Events.{kept_incarnation};
+ghost use Rattle.js_model.specs.Proper.{is_proper};
+ghost use Rattle.server_program.specs.Outputs.{answer_of, stream_name, said};
+ghost use Rattle.server_program.specs.Places.{IsBuilt};
+ghost use Rattle.server_program.specs.Routing.{KeepsOpen};
+ghost use Rattle.server_program.specs.Holding.{listed, Routes, Holds};
+
+use crate::place::Place;
+use crate::publish_text::publish_text;
+use crate::router::Router;
+use js_base::{Blob, List, Moment, NoMemory, Out, Outs};
+use js_model::{Event, Publish, Reply, What};
+use std::alloc::Global;
+
+/// Where memory ran out in a hold.
+#[derive(Clone, Copy, Debug, PartialEq, Eq)]
+pub enum HoldFault {
+    /// Before the event: it was not made.
+    Unmade,
+    /// The event was made, and its answer could not be printed.
+    Unsaid,
+    /// The event was made, and an output of it could not be routed.
+    Unrouted,
+}
+
+/// The name of the place's stream, empty where there is none.
+fn stream_name(place: &Place) -> Result<Blob, NoMemory>
+    ensures name { IfOk result (λ name. name ≡ stream_name place.now) }
+{
+    match place.name() {
+        Some(name) => Ok(name.clone()?),
+        None => Ok(Blob::empty()),
+    }
+}
+
+/// The message that tells a publisher what became of the event, where one is asked for.
+fn answer_of(alloc: Global, stream: &[u8], what: &What, reply: &Reply) -> Result<Option<Out>, NoMemory>
+    ensures answer { IfOk result (λ answer. listed answer ≡ answer_of stream.now what.now reply.now) }
+{
+    let What::Publish(Publish { reply: Some(to), .. }) = what else {
+        return Ok(None);
+    };
+    match publish_text(alloc, stream, reply)? {
+        Some(payload) => Ok(Some(Out {
+            to: to.clone()?,
+            subject: to.clone()?,
+            reply: None,
+            headers: Blob::empty(),
+            payload,
+        })),
+        None => Ok(None),
+    }
+}
+
+/// Adds that message behind the outputs. `true` where memory ran out for it, and nothing was added.
+fn add_answer(alloc: Global, stream: &[u8], what: &What, reply: &Reply, outs: &mut Outs) -> bool
+    ensures added { outs.new ≡ outs.old ++ said result (answer_of stream.now what.now reply.now) }
+{
+    match answer_of(alloc, stream, what, reply) {
+        Ok(Some(answer)) => outs.push(answer).is_err(),
+        Ok(None) => false,
+        Err(_) => true,
+    }
+}
+
+/// Sends the outputs to the subscriptions, in order.
+fn route_all(router: &mut Router, outs: &[Out]) -> Result<(), NoMemory>
+    ensures routes { Routes result outs.now router.old router.new }
+    ensures stay { KeepsOpen router.old router.new }
+{
+    for out in outs {
+        match router.publish(out, None) {
+            Ok(_) => {}
+            Err(_) => return Err(NoMemory),
+        }
+    }
+    Ok(())
+}
+
+/// Makes the event on the place, and routes what it sends: its outputs, and its answer where one is asked for. After `Unmade` nothing changed.
+pub fn hold(alloc: Global, place: &mut Place, router: &mut Router, event: &Event, now: Moment) -> Result<(), HoldFault>
+    requires built { IsBuilt place.old event.now }
+    requires proper { IsTrue (is_proper event.now) }
+    ensures holds { Holds result event.now now place.old place.new router.old router.new }
+    ensures incarnation { kept_incarnation place.new ≡ kept_incarnation place.old }
+    ensures stay { KeepsOpen router.old router.new }
+{
+    let stream = match stream_name(place) {
+        Ok(stream) => stream,
+        Err(_) => return Err(HoldFault::Unmade),
+    };
+    let mut outs = List::new(alloc);
+    let reply = match place.step(event, now, &mut outs) {
+        Ok(reply) => reply,
+        Err(_) => return Err(HoldFault::Unmade),
+    };
+    let unsaid = add_answer(alloc, stream.as_slice(), &event.what, &reply, &mut outs);
+    match route_all(router, outs.as_slice()) {
+        Ok(()) => {
+            if unsaid {
+                Err(HoldFault::Unsaid)
+            } else {
+                Ok(())
+            }
+        }
+        Err(_) => Err(HoldFault::Unrouted),
+    }
+}

@@ -1,0 +1,219 @@
+//! The desk of one caller, who owns the router, the catalog and the one place.
+
+ghost use Rattle.std.specs.Prelude.{◌≡◌, ◌++◌, [], IfOk, IsTrue, OnOk};
+ghost use Rattle.js_model.specs.Configs.{is_stream_subject};
+ghost use Rattle.server_program.specs.Calls.{is_reserved, published_event};
+ghost use Rattle.server_program.specs.Making.{default_config};
+ghost use Rattle.server_program.specs.Solo.{SoloRun, frames_left, IsMade};
+
+use crate::catalog::Catalog;
+use crate::desk::{Desk, OpenFault};
+use crate::holding::hold;
+use crate::place::Place;
+use crate::router::{RouteFault, Router};
+use js_base::{Blob, List, Moment, Name, NoMemory, Out};
+use js_model::{Collected, Discard, Event, PlaceAt, Publish, Retention, StreamConfig, Taken, Wants, What};
+use std::alloc::Global;
+use std::marker::Model;
+
+/// How many streams there may be.
+const PLACES: u32 = 1;
+
+/// The greatest number that a session can have.
+const LAST_SESSION: u64 = (1 << 62) - 1;
+
+/// How long a stream remembers ids by default: 2 minutes, in nanoseconds.
+const DUPLICATE_WINDOW: u64 = 120_000_000_000;
+
+/// A desk with its own router, catalog and place.
+#[derive(Drop)]
+pub struct SoloDesk {
+    alloc: Global,
+    router: Router,
+    catalog: Catalog,
+    place: Place,
+    session: Option<u64>,
+}
+
+impl Model for SoloDesk {
+    ghost use Rattle.server_program.specs.Solo.{Solo, solo, IsConsistent};
+
+    ghost Value = { Solo };
+
+    ghost view = { solo };
+
+    ghost invariant = { IsConsistent };
+}
+
+/// Whether the subject is one of the JetStream API or of acknowledgements.
+fn is_reserved(subject: &[u8]) -> bool
+    ensures { result ≡ is_reserved subject.now }
+{
+    subject.starts_with(b"$JS.API.") || subject.starts_with(b"$JS.ACK.")
+}
+
+/// The configuration of a stream of this name and this one subject, with every default of JetStream.
+fn default_config(alloc: Global, name: &Name, subject: &Blob) -> Result<StreamConfig, NoMemory>
+    ensures config { IfOk result (λ config. config ≡ default_config name.now subject.now) }
+{
+    Ok(StreamConfig {
+        description: Blob::empty(),
+        discard: Discard::Old,
+        duplicate_window: DUPLICATE_WINDOW,
+        max_age: 0,
+        max_bytes: None,
+        max_consumers: None,
+        max_msg_size: None,
+        max_msgs: None,
+        max_msgs_per_subject: None,
+        name: name.as_blob().clone()?,
+        retention: Retention::Limits,
+        subjects: one_subject(alloc, subject)?,
+    })
+}
+
+fn one_subject(alloc: Global, subject: &Blob) -> Result<List<Blob>, NoMemory>
+    ensures list { IfOk result (λ list. list ≡ subject.now ∷ []) }
+{
+    let mut subjects = List::new(alloc);
+    subjects.push(subject.clone()?)?;
+    Ok(subjects)
+}
+
+/// The event that a published message without a header block is for its stream.
+fn published_event(at: PlaceAt, message: &Out) -> Result<Event, NoMemory>
+    ensures event { IfOk result (λ event. event ≡ published_event at.incarnation message.now) }
+{
+    let publish = Publish {
+        reply: message.reply.clone()?,
+        subject: message.subject.clone()?,
+        headers: message.headers.clone()?,
+        payload: message.payload.clone()?,
+        wants: Wants {
+            bad: None,
+            id: Blob::empty(),
+            stream: None,
+            last: None,
+            subject_last: None,
+            last_id: None,
+        },
+    };
+    Ok(Event {
+        incarnation: at.incarnation,
+        what: What::Publish(publish),
+    })
+}
+
+impl SoloDesk {
+    /// A desk whose one place has a stream of this name and this one subject, made at the moment, with every default.
+    pub fn with_stream(alloc: Global, name: Name, subject: Blob, now: Moment) -> Result<SoloDesk, NoMemory>
+        requires subject { IsTrue (is_stream_subject subject) }
+        ensures made { IfOk result (IsMade name subject now) }
+    {
+        let mut router = Router::new(alloc);
+        let mut catalog = Catalog::new(alloc, PLACES)?;
+        let mut place = Place::new(alloc);
+        let _ = catalog.by_name(name.as_slice());
+        let Ok(at) = catalog.add(name.as_blob().clone()?, one_subject(alloc, &subject)?) else {
+            return Err(NoMemory);
+        };
+        let event = Event {
+            incarnation: at.incarnation,
+            what: What::Make {
+                reply: None,
+                config: default_config(alloc, &name, &subject)?,
+            },
+        };
+        match hold(alloc, &mut place, &mut router, &event, now) {
+            Ok(()) => Ok(SoloDesk {
+                alloc,
+                router,
+                catalog,
+                place,
+                session: None,
+            }),
+            Err(_) => Err(NoMemory),
+        }
+    }
+}
+
+impl Desk for SoloDesk {
+    ghost session = { λ desk. desk.session };
+
+    ghost is_open = { λ desk. desk.is_open };
+
+    ghost made = { SoloRun };
+
+    ghost to_collect = { frames_left };
+
+    fn open(&mut self) -> Result<u64, OpenFault> {
+        match self.router.open() {
+            Ok(session) => {
+                self.session = Some(session);
+                Ok(session)
+            }
+            Err(RouteFault::Worn) => Err(OpenFault::Worn(LAST_SESSION)),
+            Err(_) => Err(OpenFault::NoMemory),
+        }
+    }
+
+    fn options(&mut self, echo: bool, headers: bool, no_responders: bool) {
+        let _ = no_responders;
+        if let Some(session) = self.session {
+            self.router.options(session, echo, headers);
+        }
+    }
+
+    fn sub(&mut self, subject: &[u8], sid: &[u8]) -> Result<(), NoMemory> {
+        let Some(session) = self.session else {
+            unreachable!()
+        };
+        match self.router.sub(session, subject, sid) {
+            Ok(()) => Ok(()),
+            Err(_) => Err(NoMemory),
+        }
+    }
+
+    fn publish(&mut self, message: &Out, now: Moment) -> Result<Taken, NoMemory> {
+        if is_reserved(message.to.as_slice()) {
+            return Ok(Taken {
+                subscriptions: 0,
+                other: false,
+            });
+        }
+        let Ok(subscriptions) = self.router.publish(message, self.session) else {
+            return Err(NoMemory);
+        };
+        match self.catalog.find(message.to.as_slice()) {
+            Some(at) => {
+                let event = published_event(at, message)?;
+                match hold(self.alloc, &mut self.place, &mut self.router, &event, now) {
+                    Ok(()) => Ok(Taken { subscriptions, other: true }),
+                    Err(_) => Err(NoMemory),
+                }
+            }
+            None => Ok(Taken { subscriptions, other: false }),
+        }
+    }
+
+    fn collect(&mut self, max: usize) -> Result<Collected, NoMemory> {
+        let Some(session) = self.session else {
+            unreachable!()
+        };
+        match self.router.collect(session, max) {
+            Ok(collected) => Ok(collected),
+            Err(_) => Err(NoMemory),
+        }
+    }
+
+    fn close(&mut self) {
+        if let Some(session) = self.session {
+            self.router.close(session);
+            self.session = None;
+        }
+    }
+
+    ghost made_nothing = { λ desk. refl };
+
+    ghost made_more = { λ a b c first more h k. run_append first more h k };
+}
