@@ -2,7 +2,6 @@
 
 use crate::SubjectFault::{BadByte, EmptyToken, TooLong, Wildcard};
 use crate::{SubjectFault, check_pattern, check_subject, is_publish_subject, matches, overlaps};
-use std::test::Fail;
 
 #[test]
 fn faults(rt: HostRuntime) {
