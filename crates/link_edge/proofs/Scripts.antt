@@ -1,5 +1,5 @@
 -- Laws of scripts.
-use Rattle.std.proofs.Common.{ℕ, ◌≡◌, ◌≤◌, ◌<◌, Bool, true, false, cond, min, nat_le, List, [], ◌∷◌, ◌++◌, arith, length, drop, take, suc, get_or, refl, ap, ◌∙◌, sym, append_assoc, subst}
+use Rattle.std.proofs.Common.{ℕ, ◌≡◌, ◌≤◌, ◌<◌, Bool, true, false, cond, min, nat_le, List, ◌∷◌, ◌++◌, arith, length, drop, take, suc, get_or, refl, ap, ◌∙◌, sym, append_assoc}
 use Rattle.std.proofs.Math.Seq.{drop-cons}
 use Rattle.std.proofs.lemmas.List.{take-append-drop, take_all}
 use Rattle.std.proofs.lemmas.Bool.{leb-true, leb-false}

@@ -1,5 +1,5 @@
 -- A door in memory, as contracts see it, and what each of its calls does.
-use Rattle.std.specs.Prelude.{ℕ, Bool, true, false, ◌+◌, List, [], ◌∷◌, ◌++◌, Some, map, if◌then◌else◌}
+use Rattle.std.specs.Prelude.{ℕ, Bool, true, false, ◌+◌, List, [], ◌∷◌, ◌++◌, Some, if◌then◌else◌}
 use Rattle.link_edge.specs.declared.answers.Accept.{Accept}
 use Rattle.link_edge.specs.declared.answers.Accept.TheVariants as accepts
 use Rattle.link_edge.specs.declared.answers.Accepted.{Accepted}

@@ -1,5 +1,5 @@
 -- A link in memory, as contracts see it, and what each of its calls does.
-use Rattle.std.specs.Prelude.{ℕ, List, [], ◌∷◌, ◌++◌, length, take, if◌then◌else◌}
+use Rattle.std.specs.Prelude.{ℕ, List, [], ◌++◌, length, take, if◌then◌else◌}
 use Rattle.link_edge.specs.declared.answers.Take.{Take}
 use Rattle.link_edge.specs.declared.answers.Take.TheVariants as takes
 use Rattle.link_edge.specs.declared.answers.Give.{Give}
@@ -7,7 +7,6 @@ use Rattle.link_edge.specs.declared.answers.Give.TheVariants as gives
 use Rattle.link_edge.specs.declared.answers.Answer.{Answer}
 use Rattle.link_edge.specs.declared.script.Said.{Said}
 use Rattle.link_edge.specs.Takes.{answers_of}
-use Rattle.link_edge.specs.Gives.{given_bytes}
 use Rattle.link_edge.specs.Calls.{CallState, calls_of, next_fails, with_pass, with_failure}
 use Rattle.link_edge.specs.Script.{next_take, script_after}
 

@@ -1,5 +1,5 @@
 -- A sink in memory, as contracts see it, and what a put does.
-use Rattle.std.specs.Prelude.{◌≡◌, ℕ, ◌/◌, Bool, true, false, List, [], ◌++◌, ◌⊎◌, length, take}
+use Rattle.std.specs.Prelude.{◌≡◌, ℕ, ◌/◌, true, false, List, [], ◌++◌, ◌⊎◌, length, take}
 use Rattle.link_edge.specs.declared.answers.Put.{Put}
 use Rattle.link_edge.specs.declared.answers.Put.TheVariants.{Done, Failed}
 use Rattle.link_edge.specs.Calls.{CallState, calls_of, next_fails, with_pass, with_failure}

@@ -1,4 +1,4 @@
-use Rattle.std.proofs.Common.{◌≡◌, arith, ap, ◌∙◌, sym, Some, length, drop, min, take, get_or}
+use Rattle.std.proofs.Common.{◌≡◌, arith, ap, ◌∙◌, length, drop, take, get_or}
 use Rattle.link_edge.specs.declared.script.Said.TheVariants.{Piece}
 use Rattle.link_edge.proofs.Scripts.{piece_said}
 use Rattle.link_edge.proofs.script.Script.say.Goals as goal
