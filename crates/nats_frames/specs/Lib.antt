@@ -1,0 +1,6 @@
+pub mod Grammar
+pub mod Reading
+pub mod Shapes
+pub mod Looking
+pub mod Decoding
+pub mod Laws
