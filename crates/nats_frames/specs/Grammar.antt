@@ -18,9 +18,13 @@ Lacks byte (b ∷ more) = (b ≢ byte) × Lacks byte more
 abbrev pub options : Bytes
 options = codes "{\"headers\":true,\"verbose\":false}"
 
--- a subscription's identifier: 1 to 256 bytes, none of them a space, a tab or a LF
+-- no space, no tab and no LF
+abbrev pub is_sid_byte : ℕ → Bool
+is_sid_byte byte = not (has (codes " \t\n") byte)
+
+-- a subscription's identifier: 1 to 256 such bytes
 abbrev pub is_sid : Bytes → Bool
-is_sid sid = nat_lt 0 (length sid) && nat_le (length sid) 256 && list_all (λ byte. not (has (codes " \t\n") byte)) sid
+is_sid sid = nat_lt 0 (length sid) && nat_le (length sid) 256 && list_all is_sid_byte sid
 
 pub record IsSub (pattern : Bytes) (queue : Option Bytes) (sid : Bytes) : Type 0 where
   pub pattern_text : IsTrue (is_pattern_text pattern)

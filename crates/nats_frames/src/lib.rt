@@ -10,7 +10,6 @@ mod look;
 mod op;
 mod shape;
 mod split;
-mod subject;
 mod write;
 
 pub use decoder::Decoder;

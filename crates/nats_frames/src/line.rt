@@ -1,13 +1,14 @@
 //! The lines that begin operations.
 
 ghost use Rattle.std.specs.Prelude.{◌≡◌, option_map};
+ghost use Rattle.std.specs.List.{list_all};
 ghost use Rattle.js_base.specs.Decimal.{number_of};
-ghost use Rattle.nats_frames.specs.Grammar.{is_sid};
+ghost use Rattle.nats_frames.specs.Grammar.{is_sid_byte, is_sid};
 ghost use Rattle.nats_frames.specs.Reading.{connect_at, sub_at, pub_at, sized, words_at, line_at, seen};
 
 use crate::split::split_at;
-use crate::subject::{is_pattern, is_publish_subject, is_subject};
 use js_base::read_decimal;
+use subject_match::{check_pattern, check_subject, is_publish_subject};
 
 /// The options that a client may send.
 const OPTIONS: &[u8] = b"{\"headers\":true,\"verbose\":false}";
@@ -33,11 +34,25 @@ pub(crate) enum Line<'a> {
     },
 }
 
+/// Whether the byte may stand in the name of a subscription.
+fn is_sid_byte(byte: u8) -> bool
+    ensures { result ≡ is_sid_byte byte }
+{
+    !b" \t\n".contains(&byte)
+}
+
+/// Whether each byte may stand there.
+fn are_sid_bytes(text: &[u8]) -> bool
+    ensures { result ≡ list_all is_sid_byte text.now }
+{
+    text.iter().all(|byte| is_sid_byte(*byte))
+}
+
 /// Whether the text may name a subscription.
 fn is_sid(text: &[u8]) -> bool
     ensures { result ≡ is_sid text.now }
 {
-    !text.is_empty() && text.len() <= 256 && text.iter().all(|byte| !b" \t\n".contains(byte))
+    !text.is_empty() && text.len() <= 256 && are_sid_bytes(text)
 }
 
 fn connect_at(text: &[u8]) -> Option<Line<'_>>
@@ -54,7 +69,7 @@ fn sub_at(fields: &[u8]) -> Option<Line<'_>>
     ensures { option_map seen result ≡ sub_at fields.now }
 {
     let (pattern, sid) = split_at(b' ', fields)?;
-    if is_pattern(pattern) && is_sid(sid) {
+    if check_pattern(pattern).is_ok() && is_sid(sid) {
         Some(Line::Sub { pattern, sid })
     } else {
         None
@@ -85,7 +100,7 @@ fn pub_at(fields: &[u8]) -> Option<Line<'_>>
     match split_at(b' ', fields) {
         None => sized(subject, None, fields),
         Some((reply, digits)) => {
-            if is_subject(reply) {
+            if check_subject(reply).is_ok() {
                 sized(subject, Some(reply), digits)
             } else {
                 None
