@@ -183,7 +183,7 @@ sub_says pattern sid h =
     ap (option_and_then sub_of) (split_again 32 pattern sid (text_lacks pattern (pattern_is_text pattern h.pattern_text) 32 refl))
     ∙ ap (λ b. cond b (Some (SubLine pattern sid)) None) tests
 
-sid_short : (sid : Bytes) → is_sid sid ≡ true → length sid ≤ 256
+pub sid_short : (sid : Bytes) → is_sid sid ≡ true → length sid ≤ 256
 sid_short sid h = leb-true (length sid) 256 (and_parts _ _ (and_parts _ _ h).0).1
 
 sub_again : (pattern sid bytes : Bytes) → Says (SubLine pattern sid) bytes → AreWords (SubLine pattern sid) bytes

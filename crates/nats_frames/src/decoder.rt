@@ -1,7 +1,8 @@
 //! A stream of operations, decoded piece by piece.
 
-ghost use Rattle.std.specs.Prelude.{◌≡◌, ◌+◌, ◌<◌, ◌^◌, ◌++◌, [], length, None, OnOk, OnErr, IfSome};
+ghost use Rattle.std.specs.Prelude.{◌≡◌, ◌+◌, ◌<◌, ◌^◌, ◌++◌, [], length, None, OnOk, OnErr, IfOk, IfErr, IfSome};
 ghost use Rattle.nats_frames.specs.Decoding.{IsReady, kept, Takes};
+ghost use Rattle.nats_frames.specs.Shapes.{op_in};
 
 use crate::front::{Front, Ready};
 use crate::op::{FrameFault, Op};
@@ -43,6 +44,18 @@ fn take(ready: &mut Option<Ready>, front: &mut Front) -> Result<Option<Ready>, F
     }
 }
 
+/// The operation whose bytes these are. They come back where memory is short.
+fn into_op(ready: Ready) -> Result<Op, Ready>
+    requires { IsReady ready }
+    ensures ok { IfOk result (λ op. op ≡ op_in ready.bytes ready.shape) }
+    ensures err { IfErr result (λ back. back ≡ ready) }
+{
+    match op_in(&ready.bytes, ready.shape) {
+        Ok(op) => Ok(op),
+        Err(_) => Err(ready),
+    }
+}
+
 impl Decoder {
     ghost use Rattle.nats_frames.specs.Decoding.{Gives};
 
@@ -77,12 +90,13 @@ impl Decoder {
             Ok(None) => return Ok(None),
             Err(fault) => return Err(fault),
         };
-        match op_in(&ready.bytes, ready.shape) {
+        let len = ready.bytes.len() as u64;
+        match into_op(ready) {
             Ok(op) => {
-                self.before += ready.bytes.len() as u64;
+                self.before += len;
                 Ok(Some(op))
             }
-            Err(NoMemory) => {
+            Err(ready) => {
                 self.ready = Some(ready);
                 Err(FrameFault::NoMemory)
             }

@@ -41,7 +41,7 @@ fn line_end(bytes: &[u8], scanned: usize) -> Option<usize>
     ensures none { IfNone result ((k : ℕ) → k < 4098 → k < length bytes.now → slice_index bytes.now k ≢ 10) }
 {
     let (window, _) = bytes.split_at(bytes.len().min(MOST_LINE));
-    let (_, unseen) = window.split_at(scanned.min(window.len()));
+    let (_, unseen) = window.split_at(scanned);
     let at = memchr(b'\n', unseen)?;
     Some(scanned + at)
 }
