@@ -7,3 +7,4 @@ pub mod Scans
 pub mod Parts
 pub mod Begins
 pub mod Giving
+pub mod Written

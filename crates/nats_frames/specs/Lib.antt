@@ -3,4 +3,5 @@ pub mod Reading
 pub mod Shapes
 pub mod Looking
 pub mod Decoding
+pub mod Writing
 pub mod Laws

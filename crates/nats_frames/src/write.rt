@@ -3,6 +3,7 @@
 ghost use Rattle.std.specs.Prelude.{◌≡◌, ◌+◌, ◌<◌, ◌^◌, [], ◌∷◌, ◌++◌, codes, length, take, decimal, option_map, OnOk, OnErr};
 ghost use Rattle.js_base.specs.Bytes.{crlf};
 ghost use Rattle.js_base.specs.Framing.{frame as bytes_of, spaced, optional, message};
+ghost use Rattle.nats_frames.specs.Writing.{sizes};
 
 use itoa::Buffer;
 use js_base::{Blob, Frame, NoMemory};
@@ -92,7 +93,17 @@ fn put_plain(
     put_body(into, b"", payload.as_slice())
 }
 
+/// Adds the sizes of a message with headers. An `Err` leaves what was there, and more at most.
+fn put_sizes(into: &mut Vec<u8>, headers: &Blob, payload: &Blob) -> Result<(), NoMemory>
+    ensures ok { OnOk result (into.new.items ≡ into.old.items ++ sizes headers.now payload.now) }
+    ensures err { OnErr result (take (length into.old.items) into.new.items ≡ into.old.items) }
+{
+    put_size(into, headers.len())?;
+    put_size(into, headers.len() + payload.len())
+}
+
 /// Adds a message with headers. An `Err` leaves what was there, and more at most.
+#[tactic(auto, using(crate::proofs::Written::headed))]
 fn put_headed(
     into: &mut Vec<u8>,
     subject: &[u8],
@@ -108,9 +119,20 @@ fn put_headed(
 {
     put(into, b"HMSG")?;
     put_fields(into, subject, sid, reply)?;
-    put_size(into, headers.len())?;
-    put_size(into, headers.len() + payload.len())?;
+    put_sizes(into, headers, payload)?;
     put_body(into, headers.as_slice(), payload.as_slice())
+}
+
+/// Adds the first half of the server's information. An `Err` leaves what was there, and more at most.
+fn put_client(into: &mut Vec<u8>, client_id: u64, host: &Blob) -> Result<(), NoMemory>
+    ensures ok { OnOk result (into.new.items
+        ≡ into.old.items ++ (codes "INFO {\"client_id\":" ++ decimal client_id ++ codes ",\"headers\":true,\"host\":\"" ++ host.now)) }
+    ensures err { OnErr result (take (length into.old.items) into.new.items ≡ into.old.items) }
+{
+    put(into, b"INFO {\"client_id\":")?;
+    put_number(into, client_id)?;
+    put(into, b",\"headers\":true,\"host\":\"")?;
+    put(into, host.as_slice())
 }
 
 /// Adds the server's information. An `Err` leaves what was there, and more at most.
@@ -118,19 +140,10 @@ fn put_info(into: &mut Vec<u8>, client_id: u64, host: &Blob, port: u16) -> Resul
     ensures ok { OnOk result (into.new.items ≡ into.old.items ++ bytes_of (Frame.Info client_id host.now port)) }
     ensures err { OnErr result (take (length into.old.items) into.new.items ≡ into.old.items) }
 {
-    put(into, b"INFO {\"client_id\":")?;
-    put_number(into, client_id)?;
-    put(into, b",\"headers\":true,\"host\":\"")?;
-    put(into, host.as_slice())?;
-    put(
-        into,
-        b"\",\"jetstream\":true,\"max_payload\":1048576,\"port\":",
-    )?;
+    put_client(into, client_id, host)?;
+    put(into, b"\",\"jetstream\":true,\"max_payload\":1048576,\"port\":")?;
     put_number(into, u64::from(port))?;
-    put(
-        into,
-        b",\"proto\":1,\"server_id\":\"JSBLOCK\",\"server_name\":\"jsblock\",\"version\":\"2.10.0\"}\r\n",
-    )
+    put(into, b",\"proto\":1,\"server_id\":\"JSBLOCK\",\"server_name\":\"jsblock\",\"version\":\"2.10.0\"}\r\n")
 }
 
 /// Adds an error's line. An `Err` leaves what was there, and more at most.
