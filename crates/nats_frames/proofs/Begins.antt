@@ -32,14 +32,14 @@ front_of bytes end l h =
     let apart = (split_found 10 bytes (take end bytes) (drop (end + 1) bytes) h.first).whole in
     let whole : bytes ≡ (take end bytes ++ 10 ∷ []) ++ drop (end + 1) bytes = apart ∙ sym (append_assoc (take end bytes) (10 ∷ []) (drop (end + 1) bytes)) in
     let line : take (end + 1) bytes ≡ take end bytes ++ 10 ∷ [] =
-        ap (take (end + 1)) whole ∙ take_at (take end bytes ++ 10 ∷ []) (drop (end + 1) bytes) (end + 1) (length-append (take end bytes) (10 ∷ []) ∙ ap (λ m. m + 1) n) in
+    ap (take (end + 1)) whole ∙ take_at (take end bytes ++ 10 ∷ []) (drop (end + 1) bytes) (end + 1) (length-append (take end bytes) (10 ∷ []) ∙ ap (λ m. m + 1) n) in
     let said : Says l (take (end + 1) bytes) = subst (λ (b : Bytes). Says l b) (sym line) (line_found (take end bytes) l (omega (arith, h.short, n)) h.says) in
     record {
       says = said;
       len = length-take-le (end + 1) bytes (omega arith);
       reads = λ more.
-        ap op_at (ap (λ b. b ++ more) (sym (take-append-drop (end + 1) bytes)) ∙ append_assoc (take (end + 1) bytes) (drop (end + 1) bytes) more)
-        ∙ behind l (take (end + 1) bytes) (drop (end + 1) bytes ++ more) said;
+          ap op_at (ap (λ b. b ++ more) (sym (take-append-drop (end + 1) bytes)) ∙ append_assoc (take (end + 1) bytes) (drop (end + 1) bytes) more)
+          ∙ behind l (take (end + 1) bytes) (drop (end + 1) bytes ++ more) said;
     }
 
 -- what is read of the bytes as they are
@@ -97,9 +97,9 @@ publish_whole bytes end subject reply size h e =
     let within : len ≤ length bytes = omega arith in
     let front = publish_front bytes subject reply payload len within reads in
     let line : length (pub_line subject reply front.0) ≡ end + 1 =
-        omega (arith, ap length front.1, length-take-le len bytes within, length-append (pub_line subject reply front.0 ++ payload) crlf, length-append (pub_line subject reply front.0) payload, n) in
+    omega (arith, ap length front.1, length-take-le len bytes within, length-append (pub_line subject reply front.0 ++ payload) crlf, length-append (pub_line subject reply front.0) payload, n) in
     let shaped : Shaped (take len bytes) (shape_at (PubLine subject reply size) (end + 1)) (Pub subject reply payload) =
-        subst (λ (m : ℕ). Shaped (take len bytes) (shape_at (PubLine subject reply m) (end + 1)) (Pub subject reply payload)) n (pub_shaped subject reply front.0 payload (take len bytes) (end + 1) front.1 line) in
+    subst (λ (m : ℕ). Shaped (take len bytes) (shape_at (PubLine subject reply m) (end + 1)) (Pub subject reply payload)) n (pub_shaped subject reply front.0 payload (take len bytes) (end + 1) front.1 line) in
     (within, shaped.fits, reads ∙ ap (λ (o : Op). Whole o (drop len bytes)) (sym shaped.is))
 
 pub publish_partial : (bytes : Bytes) (end : ℕ) (subject : Bytes) (reply : Option Bytes) (size quiet : ℕ) → IsLine bytes end (PubLine subject reply size) →
@@ -111,7 +111,7 @@ publish_partial bytes end subject reply size quiet h e =
       publish_reads bytes end subject reply size h ∙ e.0,
       record { within = omega arith; short = omega arith; none = h.none },
       λ more lt.
-        f.reads more ∙ e.1 more (omega (arith, lt, length-append bytes more, length-append (drop (end + 1) bytes) more, length-drop (end + 1) bytes)),
+          f.reads more ∙ e.1 more (omega (arith, lt, length-append bytes more, length-append (drop (end + 1) bytes) more, length-drop (end + 1) bytes)),
     )
 
 pub publish_broken : (bytes : Bytes) (end : ℕ) (subject : Bytes) (reply : Option Bytes) (size : ℕ) → IsLine bytes end (PubLine subject reply size) →
@@ -145,8 +145,8 @@ not_ended bytes short none =
       waits,
       record { within = omega arith; short = omega arith; none = λ k lt. none k (omega arith) lt },
       λ more lt.
-        let empty : more ≡ [] = nil_from_length more (omega (arith, lt, length-append bytes more)) in
-        ap op_at (ap (λ m. bytes ++ m) empty ∙ append-nil bytes) ∙ waits,
+          let empty : more ≡ [] = nil_from_length more (omega (arith, lt, length-append bytes more)) in
+          ap op_at (ap (λ m. bytes ++ m) empty ∙ append-nil bytes) ∙ waits,
     )
 
 -- ---- an operation that is taken off

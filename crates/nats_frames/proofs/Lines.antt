@@ -195,8 +195,8 @@ sub_again pattern sid bytes h =
       whole = h.1;
       says = sub_says pattern sid h.0;
       one_line =
-        lacks_append 10 (codes "SUB ") (pattern ++ 32 ∷ sid) (lacks_lf (codes "SUB ") refl)
-        (lacks_append 10 pattern (spaced sid) (text_lacks pattern text 10 refl) (spaced_lacks sid (sid_lacks sid h.0.sid_text 10 refl)));
+          lacks_append 10 (codes "SUB ") (pattern ++ 32 ∷ sid) (lacks_lf (codes "SUB ") refl)
+          (lacks_append 10 pattern (spaced sid) (text_lacks pattern text 10 refl) (spaced_lacks sid (sid_lacks sid h.0.sid_text 10 refl)));
       short = omega (arith, length-append pattern (32 ∷ sid), text.short, sid_short sid h.0.sid_text);
     }
 
@@ -233,8 +233,8 @@ pub_words subject reply digits more size bytes h lacks is apart e =
       whole = is ∙ apart;
       says = pub_says subject reply digits size more h e;
       one_line =
-        lacks_append 10 (codes "PUB ") (subject ++ 32 ∷ more) (lacks_lf (codes "PUB ") refl)
-        (lacks_append 10 subject (spaced more) (text_lacks subject text 10 refl) (spaced_lacks more lacks));
+          lacks_append 10 (codes "PUB ") (subject ++ 32 ∷ more) (lacks_lf (codes "PUB ") refl)
+          (lacks_append 10 subject (spaced more) (text_lacks subject text 10 refl) (spaced_lacks more lacks));
       short = omega (arith, h.short, ap length apart, length-append words crlf);
     }
 

@@ -79,8 +79,8 @@ pub_shaped subject reply digits payload bytes len is at =
     record {
       fits = (first.within, second.0, third.within);
       is =
-        ap (λ (s : Bytes). op.Pub s (option_map (part bytes) (option_map (λ text. span (5 + length subject) (length text)) reply)) (part bytes (span len (length payload)))) first.is
-        ∙ ap (λ (r : Option Bytes). op.Pub subject r (part bytes (span len (length payload)))) second.1 ∙ ap (λ (p : Bytes). op.Pub subject reply p) third.is;
+          ap (λ (s : Bytes). op.Pub s (option_map (part bytes) (option_map (λ text. span (5 + length subject) (length text)) reply)) (part bytes (span len (length payload)))) first.is
+          ∙ ap (λ (r : Option Bytes). op.Pub subject r (part bytes (span len (length payload)))) second.1 ∙ ap (λ (p : Bytes). op.Pub subject reply p) third.is;
     }
 
 -- ---- no part is long

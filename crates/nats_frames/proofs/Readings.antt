@@ -36,7 +36,7 @@ ended_whole made (b ∷ []) op rest e = elim (chosen (b == 13) _ _ _ e) [ inl p 
 ended_whole made (b ∷ c ∷ more) op rest e =
     elim (chosen (b == 13 && c == 10) _ _ _ e) [
       | inl p ↦ let both = and_parts _ _ p.0 in let same : Whole made more ≡ Whole op rest = p.1 in
-        let b_is = eqb-true b 13 both.0 in let c_is = eqb-true c 10 both.1 in let more_is : more ≡ rest = cc in (cc, cc)
+          let b_is = eqb-true b 13 both.0 in let c_is = eqb-true c 10 both.1 in let more_is : more ≡ rest = cc in (cc, cc)
       | inr p ↦ let no : Broken ≡ Whole op rest = p.1 in absurd (cc)
     ]
 
@@ -102,16 +102,16 @@ with_payload bytes line tail subject reply size op rest is says e =
     elim (payload_cases subject reply size tail (Whole op rest) e) [
       | inl partial ↦ absurd (cc)
       | inr there ↦
-        let payload = take size tail in
-        let end = ended_whole (Pub subject reply payload) (drop size tail) op rest there.1 in
-        let counted : IsPub subject reply says.0 (length payload) = subst (λ (n : ℕ). IsPub subject reply says.0 n) (sym (length-take-le size tail there.0)) says.1 in
-        let tail_is : tail ≡ payload ++ (crlf ++ rest) = sym (take-append-drop size tail) ∙ ap (λ r. payload ++ r) end.1 in
-        record {
-          front = pub_line subject reply says.0 ++ payload ++ crlf;
-          spelled = subst (λ (o : Op). Spells o (pub_line subject reply says.0 ++ payload ++ crlf)) end.0 (says.0, counted, refl);
-          whole = is ∙ line_apart line tail ∙ ap (λ x. x ++ tail) says.2 ∙ ap (λ r. pub_line subject reply says.0 ++ r) tail_is
-              ∙ regroup (pub_line subject reply says.0) payload rest;
-        }
+          let payload = take size tail in
+          let end = ended_whole (Pub subject reply payload) (drop size tail) op rest there.1 in
+          let counted : IsPub subject reply says.0 (length payload) = subst (λ (n : ℕ). IsPub subject reply says.0 n) (sym (length-take-le size tail there.0)) says.1 in
+          let tail_is : tail ≡ payload ++ (crlf ++ rest) = sym (take-append-drop size tail) ∙ ap (λ r. payload ++ r) end.1 in
+          record {
+            front = pub_line subject reply says.0 ++ payload ++ crlf;
+            spelled = subst (λ (o : Op). Spells o (pub_line subject reply says.0 ++ payload ++ crlf)) end.0 (says.0, counted, refl);
+            whole = is ∙ line_apart line tail ∙ ap (λ x. x ++ tail) says.2 ∙ ap (λ r. pub_line subject reply says.0 ++ r) tail_is
+                ∙ regroup (pub_line subject reply says.0) payload rest;
+          }
     ]
   where
     regroup : (line payload rest : Bytes) → line ++ (payload ++ (crlf ++ rest)) ≡ (line ++ payload ++ crlf) ++ rest
@@ -179,7 +179,7 @@ bad_line bytes line tail is lacks short e =
       whole = is;
       first = lacks;
       none = λ op other h.
-        let clash : Whole op [] ≡ Broken = sym (op_alone op (line ++ 10 ∷ other) h) ∙ at_first line other lacks short ∙ ap (λ o. behind_line o other) e in absurd (cc);
+          let clash : Whole op [] ≡ Broken = sym (op_alone op (line ++ 10 ∷ other) h) ∙ at_first line other lacks short ∙ ap (λ o. behind_line o other) e in absurd (cc);
     }
 
 bad_end : (bytes line tail subject : Bytes) (reply : Option Bytes) (size : ℕ) → bytes ≡ line ++ 10 ∷ tail →
@@ -188,17 +188,17 @@ bad_end bytes line tail subject reply size is says e =
     elim (payload_cases subject reply size tail Broken e) [
       | inl partial ↦ absurd (cc)
       | inr there ↦
-        record {
-          subject = subject;
-          reply = reply;
-          digits = says.0;
-          payload = take size tail;
-          tail = drop size tail;
-          counted = subst (λ (n : ℕ). IsPub subject reply says.0 n) (sym (length-take-le size tail there.0)) says.1;
-          whole = is ∙ line_apart line tail ∙ ap (λ x. x ++ tail) says.2
-              ∙ (ap (λ r. pub_line subject reply says.0 ++ r) (sym (take-append-drop size tail)) ∙ sym (append_assoc (pub_line subject reply says.0) (take size tail) (drop size tail)));
-          wrong = ended_broken (Pub subject reply (take size tail)) (drop size tail) there.1;
-        }
+          record {
+            subject = subject;
+            reply = reply;
+            digits = says.0;
+            payload = take size tail;
+            tail = drop size tail;
+            counted = subst (λ (n : ℕ). IsPub subject reply says.0 n) (sym (length-take-le size tail there.0)) says.1;
+            whole = is ∙ line_apart line tail ∙ ap (λ x. x ++ tail) says.2
+                ∙ (ap (λ r. pub_line subject reply says.0 ++ r) (sym (take-append-drop size tail)) ∙ sym (append_assoc (pub_line subject reply says.0) (take size tail) (drop size tail)));
+            wrong = ended_broken (Pub subject reply (take size tail)) (drop size tail) there.1;
+          }
     ]
 
 behind_broken : (bytes line tail : Bytes) → bytes ≡ line ++ 10 ∷ tail → Lacks 10 line → length line < 4098 → (o : Option Line) → line_at line ≡ o →

@@ -24,8 +24,8 @@ no_lf_to bytes scanned n m before fits none k lt at =
     elim (cases_lt k scanned) [
       | inl lt' ↦ before k lt' at
       | inr le ↦
-        let place : scanned + (k - scanned) ≡ k = omega arith in
-        none (k - scanned) (omega arith) (eq-eqb _ 10 (part_byte bytes scanned n (k - scanned) (omega arith) ∙ ap (λ i. get_or bytes i 0) place ∙ at))
+          let place : scanned + (k - scanned) ≡ k = omega arith in
+          none (k - scanned) (omega arith) (eq-eqb _ 10 (part_byte bytes scanned n (k - scanned) (omega arith) ∙ ap (λ i. get_or bytes i 0) place ∙ at))
     ]
 
 -- where the search found one

@@ -3,6 +3,7 @@
 ghost use Rattle.std.specs.Prelude.{◌≡◌, ◌<◌, ◌≤◌, ◌^◌, ◌+◌, length, decimal, min, option_map};
 ghost use Rattle.js_base.specs.Framing.{frame as bytes_of, message};
 
+use crate::write::{BEFORE_CLIENT, BEFORE_HOST, BEFORE_PORT, INFO_END};
 use itoa::Buffer;
 use js_base::{Blob, Frame};
 
@@ -49,16 +50,24 @@ fn message_len(
     fields + reply + sizes + body
 }
 
-/// How many bytes `write_frame` adds for the frame, or the greatest `usize` where they are more. It takes no memory.
-pub fn frame_len(frame: &Frame) -> usize
-    ensures length { result ≡ min (length (bytes_of frame.now)) usize.MAX }
+/// The length of the server's information.
+fn info_len(client_id: u64, host: &Blob, port: u16) -> u128
+    ensures { result ≡ length (bytes_of (Frame.Info client_id host.now port)) }
 {
-    let len = match frame {
+    let fixed = BEFORE_CLIENT.len() + BEFORE_HOST.len() + BEFORE_PORT.len() + INFO_END.len();
+    fixed as u128 + digits(client_id) + bytes(host) + digits(u64::from(port))
+}
+
+/// The length of a frame.
+fn exact_len(frame: &Frame) -> u128
+    ensures { result ≡ length (bytes_of frame.now) }
+{
+    match frame {
         Frame::Info {
             client_id,
             host,
             port,
-        } => 212 + digits(*client_id) + bytes(host) + digits(u64::from(*port)),
+        } => info_len(*client_id, host, *port),
         Frame::Msg {
             subject,
             sid,
@@ -69,6 +78,12 @@ pub fn frame_len(frame: &Frame) -> usize
         Frame::Ping | Frame::Pong => 6,
         Frame::Ok => 5,
         Frame::Err { text } => 9 + bytes(text),
-    };
-    usize::try_from(len).unwrap_or(usize::MAX)
+    }
+}
+
+/// How many bytes `write_frame` adds for the frame, or the greatest `usize` where they are more. It takes no memory.
+pub fn frame_len(frame: &Frame) -> usize
+    ensures length { result ≡ min (length (bytes_of frame.now)) usize.MAX }
+{
+    usize::try_from(exact_len(frame)).unwrap_or(usize::MAX)
 }

@@ -8,6 +8,16 @@ ghost use Rattle.nats_frames.specs.Writing.{sizes};
 use itoa::Buffer;
 use js_base::{Blob, Frame, NoMemory};
 
+/// What stands before the client's number, the host, the port and the end in the server's information.
+pub(crate) const BEFORE_CLIENT: &[u8] = b"INFO {\"client_id\":";
+
+pub(crate) const BEFORE_HOST: &[u8] = b",\"headers\":true,\"host\":\"";
+
+pub(crate) const BEFORE_PORT: &[u8] = b"\",\"jetstream\":true,\"max_payload\":1048576,\"port\":";
+
+pub(crate) const INFO_END: &[u8] =
+    b",\"proto\":1,\"server_id\":\"JSBLOCK\",\"server_name\":\"jsblock\",\"version\":\"2.10.0\"}\r\n";
+
 /// Adds bytes at the end. An `Err` leaves what was there.
 fn put(into: &mut Vec<u8>, bytes: &[u8]) -> Result<(), NoMemory>
     ensures ok { OnOk result (into.new.items ≡ into.old.items ++ bytes.now) }
@@ -129,9 +139,9 @@ fn put_client(into: &mut Vec<u8>, client_id: u64, host: &Blob) -> Result<(), NoM
         ≡ into.old.items ++ (codes "INFO {\"client_id\":" ++ decimal client_id ++ codes ",\"headers\":true,\"host\":\"" ++ host.now)) }
     ensures err { OnErr result (take (length into.old.items) into.new.items ≡ into.old.items) }
 {
-    put(into, b"INFO {\"client_id\":")?;
+    put(into, BEFORE_CLIENT)?;
     put_number(into, client_id)?;
-    put(into, b",\"headers\":true,\"host\":\"")?;
+    put(into, BEFORE_HOST)?;
     put(into, host.as_slice())
 }
 
@@ -141,9 +151,9 @@ fn put_info(into: &mut Vec<u8>, client_id: u64, host: &Blob, port: u16) -> Resul
     ensures err { OnErr result (take (length into.old.items) into.new.items ≡ into.old.items) }
 {
     put_client(into, client_id, host)?;
-    put(into, b"\",\"jetstream\":true,\"max_payload\":1048576,\"port\":")?;
+    put(into, BEFORE_PORT)?;
     put_number(into, u64::from(port))?;
-    put(into, b",\"proto\":1,\"server_id\":\"JSBLOCK\",\"server_name\":\"jsblock\",\"version\":\"2.10.0\"}\r\n")
+    put(into, INFO_END)
 }
 
 /// Adds an error's line. An `Err` leaves what was there, and more at most.
