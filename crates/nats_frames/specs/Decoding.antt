@@ -14,10 +14,13 @@ pub record Held : Type 0 where
   pub before : ℕ
   pub bytes : Bytes
 
--- what was given of the bytes held before, and what is held now
+-- how many bytes came in all
+abbrev pub total : Held → ℕ
+total held = held.before + length held.bytes
+
+-- what was given of the bytes held before, and which are held now
 abbrev pub Gives : Result (Option Op) FrameFault → Held → Held → Type 0
-Gives (Ok (Some op)) old new =
-    (op_at old.bytes ≡ Whole op new.bytes) × (new.before + length new.bytes ≡ old.before + length old.bytes)
+Gives (Ok (Some op)) old new = op_at old.bytes ≡ Whole op new.bytes
 Gives (Ok None) old new = (op_at old.bytes ≡ Partial) × (new ≡ old)
 Gives (Err NotBuilt) old new = (op_at old.bytes ≡ Broken) × (new ≡ old)
 Gives (Err NoMemory) old new = new ≡ old

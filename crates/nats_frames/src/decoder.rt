@@ -57,7 +57,7 @@ fn into_op(ready: Ready) -> Result<Op, Ready>
 }
 
 impl Decoder {
-    ghost use Rattle.nats_frames.specs.Decoding.{Gives};
+    ghost use Rattle.nats_frames.specs.Decoding.{total, Gives};
 
     /// A decoder of an input of which nothing came yet. It takes no memory.
     pub fn new(alloc: Global) -> Decoder
@@ -72,7 +72,7 @@ impl Decoder {
 
     /// Takes the next piece of the input, of which fewer than 2^62 bytes may be fed in all. An `Err` changes nothing.
     pub fn feed(&mut self, piece: &[u8]) -> Result<(), NoMemory>
-        requires room { self.old.before + length self.old.bytes + length piece.now < 2 ^ 62 }
+        requires room { total self.old + length piece.now < 2 ^ 62 }
         ensures ok { OnOk result (self.new ≡ record { before = self.old.before; bytes = self.old.bytes ++ piece.now }) }
         ensures err { OnErr result (self.new ≡ self.old) }
     {
@@ -84,6 +84,7 @@ impl Decoder {
     /// is not followed by CR LF. After `NotBuilt` it answers the same again. An `Err` changes nothing.
     pub fn next(&mut self) -> Result<Option<Op>, FrameFault>
         ensures gives { Gives result self.old self.new }
+        ensures total { total self.new ≡ total self.old }
     {
         let ready = match take(&mut self.ready, &mut self.front) {
             Ok(Some(ready)) => ready,

@@ -10,6 +10,8 @@ mod look;
 mod op;
 mod shape;
 mod split;
+#[cfg(test)]
+mod tests;
 mod write;
 
 pub use decoder::Decoder;

@@ -4,7 +4,7 @@ use js_base::Blob;
 use thiserror::Error;
 
 /// An operation of the NATS client protocol, from a client. Its parts share the bytes that were fed.
-#[derive(Debug, Drop)]
+#[derive(Debug, Drop, PartialEq, Eq)]
 pub enum Op {
     /// The client's options. The text is their JSON object.
     Connect {
