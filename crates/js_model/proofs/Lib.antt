@@ -3,3 +3,10 @@ pub mod RowsOfStreams
 pub mod RowsOfConsumers
 pub mod RowsOfRoutes
 pub mod RowsOfCatalog
+pub mod Parts
+pub mod Lacking
+pub mod Named
+pub mod Facts
+pub mod ConsumerFacts
+pub mod SoundParts
+pub mod SoundTime

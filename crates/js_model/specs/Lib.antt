@@ -21,3 +21,4 @@ pub mod Sound
 pub mod Routes
 pub mod Catalog
 pub mod Legal
+pub mod Laws
