@@ -10,3 +10,8 @@ pub mod Facts
 pub mod ConsumerFacts
 pub mod SoundParts
 pub mod SoundTime
+pub mod NameOrder
+pub mod SoundStored
+pub mod SoundMade
+pub mod SoundAcks
+pub mod Members

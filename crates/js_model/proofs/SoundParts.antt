@@ -38,12 +38,12 @@ map-filter f p (x ∷ xs) = go (p (f x)) (map-filter f p xs)
 
 -- ---- messages of one sequence
 
--- no message below the first
-pub none_below : (t : Message → Bool) (n low high : ℕ) (ms : List Message) → Between (λ m. m.seq) low high ms → n < low → list_any (λ m. m.seq == n && t m) ms ≡ false
-none_below t n low high [] h below = refl
-none_below t n low high (m ∷ ms) h below =
-    or_from _ _ (and_left _ _ (ne_eqb m.seq n (let q : low ≤ m.seq = h.0 in omega arith)))
-    (none_below t n (m.seq + 1) high ms h.1 (let q : low ≤ m.seq = h.0 in omega arith))
+-- nothing below the first
+pub none_below : {X : Type 0} (f : X → ℕ) (t : X → Bool) (n low high : ℕ) (xs : List X) → Between f low high xs → n < low → list_any (λ x. f x == n && t x) xs ≡ false
+none_below f t n low high [] h below = refl
+none_below f t n low high (x ∷ xs) h below =
+    or_from _ _ (and_left _ _ (ne_eqb (f x) n (let q : low ≤ f x = h.0 in omega arith)))
+    (none_below f t n (f x + 1) high xs h.1 (let q : low ≤ f x = h.0 in omega arith))
 
 -- a message that the part has, and that is found among all, is found in the part
 pub found_in_part : (t : Message → Bool) (n low high : ℕ) {ys xs : List Message} → IsPart ys xs → Between (λ m. m.seq) low high xs
@@ -56,7 +56,7 @@ found_in_part t n low high (keep {x = x} {ys = ys} {xs = xs} p) h found there = 
       where
         own : (b : Bool) → (b || list_any (λ m. m.seq == n && t m) xs) ≡ true → (b || list_any (λ m. m.seq == n && t m) ys) ≡ true
         own true g = refl
-        own false g = absurd (true≢false (sym g ∙ none_below t n (x.seq + 1) high xs h.1 (let q : x.seq ≡ n = eqb-true x.seq n e in omega arith)))
+        own false g = absurd (true≢false (sym g ∙ none_below (λ m. m.seq) t n (x.seq + 1) high xs h.1 (let q : x.seq ≡ n = eqb-true x.seq n e in omega arith)))
     go false e r f k = r f k
 found_in_part t n low high (skip {x = x} {ys = ys} {xs = xs} p) h found there = go (x.seq == n) refl (λ f. found_in_part t n (x.seq + 1) high p h.1 f there) found
   where
@@ -70,7 +70,7 @@ found_in_part t n low high (skip {x = x} {ys = ys} {xs = xs} p) h found there = 
 
     -- the first one's sequence is not among the later
     apart : (x.seq == n) ≡ true → ⊥
-    apart e = true≢false (sym (as_any xs above) ∙ none_below (λ m. true) n (x.seq + 1) high xs h.1 (let q : x.seq ≡ n = eqb-true x.seq n e in omega arith))
+    apart e = true≢false (sym (as_any xs above) ∙ none_below (λ m. m.seq) (λ m. true) n (x.seq + 1) high xs h.1 (let q : x.seq ≡ n = eqb-true x.seq n e in omega arith))
       where
         as_any : (ms : List Message) → has (seqs ms) n ≡ true → list_any (λ m. m.seq == n && true) ms ≡ true
         as_any [] k = k
