@@ -15,3 +15,6 @@ pub mod SoundStored
 pub mod SoundMade
 pub mod SoundAcks
 pub mod Members
+pub mod Candidates
+pub mod SoundSent
+pub mod Sounding
