@@ -31,7 +31,7 @@ use Rattle.js_model.specs.Events.{with_message, with_id, after_ack, pulled_next,
 use Rattle.js_model.specs.Deliver.{Delivers, IsDelivery}
 use Rattle.js_model.specs.Laws.{drops}
 use Rattle.js_model.proofs.Named.{Stands, stands-map, stands-found, stands-with_new, stands-without, KeepsNames, same_is, found_named, same_self, in_place_of-names, placed_same, placed_other}
-use Rattle.js_model.proofs.Facts.{IsStreamFact, IfLive, at_event, at_kept}
+use Rattle.js_model.proofs.Facts.{IsStreamFact, IfLive, at_event, at_time, at_kept}
 
 -- a fact of a consumer that its stream's steps keep
 pub record IsKept (P : Consumer → Type 0) : Type 0 where
@@ -140,6 +140,10 @@ module _ (name : Bytes) (P : Consumer → Type 0) (k : IsKept P) where
 
   pub in_event : (old new : State) (e : Event) (now : ℕ) (reply : Reply) (outs : List Out) → IsEvent old e now reply outs new → drops name e.what ≡ false → InState name P old → InState name P new
   in_event old new e now reply outs x g h = at_event (λ w. drops name w ≡ false) ⊥ (InStream name P) in_stream_fact old new e now reply outs x g h
+
+  -- an event on a stream with such a consumer at the event's moment
+  pub in_at_time : (s : Stream) (new : State) (e : Event) (now : ℕ) (reply : Reply) (outs : List Out) → IsEvent (Live s) e now reply outs new → drops name e.what ≡ false → InStream name P (advance s now) → InState name P new
+  in_at_time s new e now reply outs x g h = at_time (λ w. drops name w ≡ false) ⊥ (InStream name P) in_stream_fact s new e now reply outs x g h
 
 -- ---- deliveries
 

@@ -143,10 +143,13 @@ module _ (allowed : What → Type 0) (V : Type 0) (P : Stream → Type 0) (k : I
   at_vacant i (Make reply config) now g v = at_cond (i + 1 == 2 ^ 62) _ _ v (k.empty i now reply config g v)
   at_vacant i _ now g v = v
 
-  pub at_answered : (s : State) (e : Event) (now : ℕ) (room : Bool) → allowed e.what → IfLive V P s → IfLive V P (answered s e now room).state
+  -- an event on a stream of which P holds at the event's moment
+  pub at_time : (s : Stream) (new : State) (e : Event) (now : ℕ) (reply : Reply) (outs : List Out) → IsEvent (Live s) e now reply outs new → allowed e.what → P (advance s now) → IfLive V P new
   unfolding answered
-  at_answered (Vacant i) e now room g h = at_settled (vacant_answer i e.what now).state (at_vacant i e.what now g h)
-  at_answered (Live s) e now room g h = at_settled (stream_answer (advance s now) e.what room).state (at_answer (advance s now) e.what room g (k.time s now h))
+  at_time s new e now reply outs x g h =
+      subst (IfLive V P) (ap (λ (a : Answer). a.state) x.answers) (at_settled (stream_answer (advance s now) e.what x.room).state (at_answer (advance s now) e.what x.room g h))
 
   pub at_event : (old new : State) (e : Event) (now : ℕ) (reply : Reply) (outs : List Out) → IsEvent old e now reply outs new → allowed e.what → IfLive V P old → IfLive V P new
-  at_event old new e now reply outs x g h = subst (IfLive V P) (ap (λ (a : Answer). a.state) x.answers) (at_answered old e now x.room g h)
+  unfolding answered
+  at_event (Vacant i) new e now reply outs x g h = subst (IfLive V P) (ap (λ (a : Answer). a.state) x.answers) (at_settled (vacant_answer i e.what now).state (at_vacant i e.what now g h))
+  at_event (Live s) new e now reply outs x g h = at_time s new e now reply outs x g (k.time s now h)

@@ -18,3 +18,5 @@ pub mod Members
 pub mod Candidates
 pub mod SoundSent
 pub mod Sounding
+pub mod Settled
+pub mod Acked

@@ -129,7 +129,7 @@ pub none_above : (n low high : ℕ) (xs : List ℕ) → Between (λ n. n) low hi
 none_above n low high [] h l = refl
 none_above n low high (x ∷ xs) h l = or_from _ _ (ne_eqb x n (let q : x + 1 ≤ high = between_bounds (λ n. n) (x + 1) high xs h.1 in omega arith)) (none_above n (x + 1) high xs h.1 l)
 
-seqs_between : (c : Consumer) → Between (λ p. p.seq) 1 c.cursor c.pending → Between (λ n. n) 1 c.cursor (pending_seqs c)
+pub seqs_between : (c : Consumer) → Between (λ p. p.seq) 1 c.cursor c.pending → Between (λ n. n) 1 c.cursor (pending_seqs c)
 seqs_between c h = between_map (λ n. n) (λ p. p.seq) 1 c.cursor c.pending h
 
 next_count : (p : Pending) (limit : Option ℕ) → below_limit p.count limit ≡ true → IfSome limit (λ limit. p.count + 1 ≤ limit)

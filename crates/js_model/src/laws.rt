@@ -1,9 +1,13 @@
 //! What holds of each run of a place, by the definitions alone.
 
-ghost use Rattle.js_model.specs.Laws.{LawSound};
+ghost use Rattle.js_model.specs.Laws.{LawSound, LawAcked};
 
 /// Soundness is kept: each state that a run reaches from a sound one is sound.
-#[tactic(auto, using(crate::proofs::Sounding::law_sound))]
 pub fn law_sound()
     ensures law { LawSound }
+{}
+
+/// A sequence whose entry an acknowledgement ended is not sent again to its consumer, until it or the stream is dropped.
+pub fn law_acked()
+    ensures law { LawAcked }
 {}
