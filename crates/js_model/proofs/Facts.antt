@@ -22,6 +22,7 @@ use Rattle.js_model.specs.declared.reply.Reply.{Reply}
 use Rattle.js_model.specs.declared.reply.Reply.TheVariants.{Silent}
 use Rattle.js_model.specs.declared.reply.Verdict.{Verdict}
 use Rattle.js_model.specs.declared.reply.Verdict.TheVariants.{Take, Duplicate as TakenBefore, Refused as RefusedBy}
+use Rattle.js_model.specs.declared.entry.Delivery.{Delivery}
 use Rattle.js_model.specs.Streams.{only, by_name, with_consumer}
 use Rattle.js_model.specs.Refusals.{first_refusal}
 use Rattle.js_model.specs.Configs.{same_stream_config, same_consumer_config, same_retention}
@@ -33,6 +34,7 @@ use Rattle.js_model.specs.Acknowledge.{is_no_delivery}
 use Rattle.js_model.specs.Pulls.{pulled}
 use Rattle.js_model.specs.Consumers.{empty_stream, new_consumer, with_new, making_checks}
 use Rattle.js_model.specs.Events.{Answer, stream_answer, vacant_answer, answered, settled, settled_state, made_again, changed, published, with_message, deleted, message_at, message_told, message_by, told_of, consumer_made, consumer_asked, consumer_dropped, pull_answer, ack_answer, ack_done, after_ack, quietly, IsEvent}
+use Rattle.js_model.specs.Deliver.{IsDelivered}
 use Rattle.js_model.proofs.Parts.{IsPart, filter_part, drop_part, newest_at_part, fitting_at_part}
 
 -- P is kept by each change that allowed events make; V holds where there is no stream
@@ -69,7 +71,7 @@ module _ (allowed : What → Type 0) (V : Type 0) (P : Stream → Type 0) (k : I
       (k.only (trim_subjects s) _ (drop_part _ (trim_subjects s).messages)
       (k.only s _ (newest_at_part s.config.max_msgs_per_subject s.messages) h))
 
-  at_settled : (s : State) → IfLive V P s → IfLive V P (settled_state s)
+  pub at_settled : (s : State) → IfLive V P s → IfLive V P (settled_state s)
   at_settled (Vacant i) h = h
   at_settled (Live s) h = at_kept (trim s) (at_trim s h)
 
@@ -153,3 +155,9 @@ module _ (allowed : What → Type 0) (V : Type 0) (P : Stream → Type 0) (k : I
   unfolding answered
   at_event (Vacant i) new e now reply outs x g h = subst (IfLive V P) (ap (λ (a : Answer). a.state) x.answers) (at_settled (vacant_answer i e.what now).state (at_vacant i e.what now g h))
   at_event (Live s) new e now reply outs x g h = at_time s new e now reply outs x g (k.time s now h)
+
+  -- a fact of which the consumers are no part
+  pub at_delivery : ((s : Stream) (c : Consumer) → P s → P (with_consumer s c)) → (old new : State) (now : ℕ) (listening : List Bytes) (d : Delivery) (outs : List Out)
+      → IsDelivered old now listening d outs new → IfLive V P old → IfLive V P new
+  at_delivery f (Vacant i) new now listening d outs x h = absurd x
+  at_delivery f (Live s) new now listening d outs x h = subst (IfLive V P) (sym x.new_is) (at_kept _ (f (advance s now) x.after (k.time s now h)))

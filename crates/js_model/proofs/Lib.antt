@@ -20,3 +20,4 @@ pub mod SoundSent
 pub mod Sounding
 pub mod Settled
 pub mod Acked
+pub mod Duplicates

@@ -1,6 +1,6 @@
 //! What holds of each run of a place, by the definitions alone.
 
-ghost use Rattle.js_model.specs.Laws.{LawSound, LawAcked};
+ghost use Rattle.js_model.specs.Laws.{LawSound, LawAcked, LawDuplicate};
 
 /// Soundness is kept: each state that a run reaches from a sound one is sound.
 pub fn law_sound()
@@ -10,4 +10,10 @@ pub fn law_sound()
 /// A sequence whose entry an acknowledgement ended is not sent again to its consumer, until it or the stream is dropped.
 pub fn law_acked()
     ensures law { LawAcked }
+{}
+
+/// After a publish was stored with an id, another one of that id is told the first sequence, as long as the window has
+/// not passed and the configuration stays. It may be refused first for its size, its headers or the expected stream.
+pub fn law_duplicate()
+    ensures law { LawDuplicate }
 {}
