@@ -123,7 +123,7 @@ module _ (allowed : What → Type 0) (V : Type 0) (P : Stream → Type 0) (k : I
       go true q = h
       go false q = k.acked s reply ack c g e q h
 
-  at_answer : (s : Stream) (what : What) (room : Bool) → allowed what → P s → IfLive V P (stream_answer s what room).state
+  pub at_answer : (s : Stream) (what : What) (room : Bool) → allowed what → P s → IfLive V P (stream_answer s what room).state
   at_answer s (Make reply config) room g h = at_cond (same_stream_config config s.config) _ _ h h
   at_answer s (Change reply config) room g h = at_cond (same_retention config.retention s.config.retention) _ _ (k.configured s reply config g h) h
   at_answer s (DropStream reply) room g h = k.gone s reply g h

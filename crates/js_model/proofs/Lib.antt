@@ -21,3 +21,5 @@ pub mod Sounding
 pub mod Settled
 pub mod Acked
 pub mod Duplicates
+pub mod Leaving
+pub mod Kept

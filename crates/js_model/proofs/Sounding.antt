@@ -35,7 +35,7 @@ use Rattle.js_model.proofs.SoundMade.{sound_made, sound_removed}
 use Rattle.js_model.proofs.SoundAcks.{All-by_name, sound_with, after_ack_sound, pulled_sound}
 use Rattle.js_model.proofs.SoundSent.{delivered_sound}
 
-abbrev IsProperWhat : What → Type 0
+abbrev pub IsProperWhat : What → Type 0
 IsProperWhat w = IsTrue (is_proper_what w)
 
 configured : (s : Stream) (config : StreamConfig) → IsTrue (is_stream_config config) → IsSoundStream s → IsSoundStream (record s { config = config })

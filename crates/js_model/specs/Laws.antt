@@ -1,14 +1,16 @@
 -- What holds of each run of a place.
-use Rattle.std.specs.Prelude.{◌≡◌, ◌<◌, ◌||◌, ◌&&◌, ◌==◌, Bool, true, false, ℕ, List, [], ◌∷◌, Option, Some, None, ⊤, MatchBool}
+use Rattle.std.specs.Prelude.{◌≡◌, ◌<◌, ◌≤◌, max, Contains, ◌||◌, ◌&&◌, ◌==◌, Bool, true, false, ℕ, List, [], ◌∷◌, Option, Some, None, ⊤, MatchBool}
 use Rattle.js_base.specs.Bytes.{Bytes, is_empty, same, has}
 use Rattle.js_base.specs.Moments.{plus}
 use Rattle.js_base.specs.declared.out.Out.{Out}
+use Rattle.js_model.specs.declared.stream.Message.{Message}
+use Rattle.js_model.specs.declared.stream.Stream.{Stream}
 use Rattle.js_model.specs.declared.stream.State.{State}
 use Rattle.js_model.specs.declared.stream.State.TheVariants.{Vacant, Live}
 use Rattle.js_model.specs.declared.consumer.Consumer.{Consumer}
 use Rattle.js_model.specs.declared.event.Event.{Event}
 use Rattle.js_model.specs.declared.event.What.{What}
-use Rattle.js_model.specs.declared.event.What.TheVariants.{Change, Drop as DropStream, Publish as PublishIt, DropConsumer, Ack as AckIt}
+use Rattle.js_model.specs.declared.event.What.TheVariants.{Change, Drop as DropStream, Publish as PublishIt, Purge, Delete, DropConsumer, Ack as AckIt}
 use Rattle.js_model.specs.declared.reply.Reply.{Reply}
 use Rattle.js_model.specs.declared.reply.Reply.TheVariants.{Published, Duplicate, Refused}
 use Rattle.js_model.specs.declared.entry.Delivered.{Delivered}
@@ -18,9 +20,12 @@ use Rattle.js_model.specs.declared.entry.Call.{Call}
 use Rattle.js_model.specs.declared.entry.Call.TheVariants.{Step as StepOf, Deliver as DeliverOf}
 use Rattle.js_model.specs.declared.entry.PlaceEntry.{PlaceEntry}
 use Rattle.js_model.specs.declared.entry.PlaceEntry.TheVariants.{Step, Deliver, Broken}
-use Rattle.js_model.specs.Streams.{by_name, pending_seqs}
+use Rattle.js_model.specs.Streams.{by_name, pending_seqs, seqs}
 use Rattle.js_model.specs.Advance.{advance}
-use Rattle.js_model.specs.Runs.{RunFrom, IsStep}
+use Rattle.js_model.specs.Retention.{is_kept}
+use Rattle.js_model.specs.Trim.{trim}
+use Rattle.js_model.specs.Events.{purge_list, stream_answer}
+use Rattle.js_model.specs.Runs.{RunFrom, IsStep, messages_of}
 use Rattle.js_model.specs.Firm.{moment_of}
 use Rattle.js_model.specs.Sound.{IsSound}
 
@@ -124,3 +129,46 @@ abbrev pub LawDuplicate : Type 0
 LawDuplicate = (n count between after : ℕ) (old mid later new : State) (first second : Event) (now then : ℕ) (reply : Reply) (outs others : List Out) (entries : List PlaceEntry)
     → IsSound old → IsStep count old first now (Published n) outs mid → RunFrom between mid entries later → EachEvent keeps_window entries
     → IsStep after later second then reply others new → Repeats mid later then first.what second.what → IsRepeatReply n reply
+
+-- ---- a stored message leaves only for a reason
+
+-- it is too old at the moment
+pub record IsAged (s : Stream) (now : ℕ) (m : Message) : Type 0 where
+  pub limited : (s.config.max_age == 0) ≡ false
+  pub old : plus m.at s.config.max_age ≤ max s.moment now
+
+-- a limit drops it from what the event leaves
+abbrev pub IsTrimmed : State → Message → Type 0
+IsTrimmed (Vacant i) m = ⊥
+IsTrimmed (Live s) m = (has (seqs s.messages) m.seq ≡ true) × (has (seqs (trim s).messages) m.seq ≡ false)
+
+-- the retention of the state after it does not ask for it
+abbrev pub IsUnneeded : State → Message → Type 0
+IsUnneeded (Vacant i) m = ⊥
+IsUnneeded (Live s) m = is_kept s.config.retention s.consumers m ≡ false
+
+-- why a message of the stream is gone after an event
+pub data LeavesOnEvent (s : Stream) (what : What) (now : ℕ) (new : State) (m : Message) : Type 0 where
+  aged : IsAged s now m → LeavesOnEvent s what now new m
+  purged : (reply : Option Bytes) (pattern : Bytes) (below keep : Option ℕ) → what ≡ Purge reply pattern below keep → has (seqs (purge_list (advance s now) pattern below keep)) m.seq ≡ true → LeavesOnEvent s what now new m
+  deleted : (reply : Option Bytes) → what ≡ Delete reply m.seq → LeavesOnEvent s what now new m
+  dropped : (reply : Option Bytes) → what ≡ DropStream reply → LeavesOnEvent s what now new m
+  trimmed : (room : Bool) → IsTrimmed (stream_answer (advance s now) what room).state m → LeavesOnEvent s what now new m
+  unneeded : IsUnneeded new m → LeavesOnEvent s what now new m
+
+-- why a message of the stream is gone after a delivery
+pub data LeavesOnDelivery (s : Stream) (now : ℕ) (new : State) (m : Message) : Type 0 where
+  aged_by_then : IsAged s now m → LeavesOnDelivery s now new m
+  not_needed : IsUnneeded new m → LeavesOnDelivery s now new m
+
+abbrev pub Leaves : State → PlaceEntry → State → Message → Type 0
+Leaves (Vacant i) entry new m = ⊥
+Leaves (Live s) (Step seat e now reply outs unsaid) new m = LeavesOnEvent s e.what now new m
+Leaves (Live s) (Deliver seat now listening d outs) new m = LeavesOnDelivery s now new m
+Leaves (Live s) (Broken seat now (StepOf e)) new m = LeavesOnEvent s e.what now new m
+Leaves (Live s) (Broken seat now (DeliverOf listening d)) new m = LeavesOnDelivery s now new m
+
+abbrev pub LawKept : Type 0
+LawKept = (count later : ℕ) (first old new : State) (entries : List PlaceEntry) (entry : PlaceEntry) (m : Message)
+    → IsSound first → RunFrom count first entries old → RunFrom later old (entry ∷ []) new
+    → Contains (messages_of old) m → has (seqs (messages_of new)) m.seq ≡ false → Leaves old entry new m

@@ -1,6 +1,6 @@
 //! What holds of each run of a place, by the definitions alone.
 
-ghost use Rattle.js_model.specs.Laws.{LawSound, LawAcked, LawDuplicate};
+ghost use Rattle.js_model.specs.Laws.{LawSound, LawAcked, LawDuplicate, LawKept};
 
 /// Soundness is kept: each state that a run reaches from a sound one is sound.
 pub fn law_sound()
@@ -16,4 +16,9 @@ pub fn law_acked()
 /// not passed and the configuration stays. It may be refused first for its size, its headers or the expected stream.
 pub fn law_duplicate()
     ensures law { LawDuplicate }
+{}
+
+/// A stored message leaves only by its age, a purge, a delete, a drop of the stream, a limit or the retention.
+pub fn law_kept()
+    ensures law { LawKept }
 {}
