@@ -5,6 +5,7 @@ use Rattle.std.specs.List.{list_any}
 use Rattle.std.proofs.lemmas.Bool.{true≢false, or_cases, or_parts, and_left, and_right, leb-true, leb-false}
 use Rattle.js_base.specs.Bytes.{Bytes, same, has}
 use Rattle.js_base.specs.declared.out.Out.{Out}
+use Rattle.js_model.specs.Lists.{Between, Lacks}
 use Rattle.js_model.specs.declared.stream.Message.{Message}
 use Rattle.js_model.specs.declared.stream.Stream.{Stream}
 use Rattle.js_model.specs.declared.stream.State.{State}
@@ -23,7 +24,7 @@ use Rattle.js_model.specs.Streams.{by_name, pending_seqs}
 use Rattle.js_model.specs.Advance.{advance}
 use Rattle.js_model.specs.Deliver.{IsDelivery, IsDelivered}
 use Rattle.js_model.specs.Runs.{RunFrom, IsStep, new_messages}
-use Rattle.js_model.specs.Sound.{Between, Lacks, IsSoundConsumer, IsSoundStream, IsSound}
+use Rattle.js_model.specs.Sound.{IsSoundConsumer, IsSoundStream, IsSound}
 use Rattle.js_model.specs.Laws.{LawAcked, NeverSent, EndsEntry, drops, acknowledges, sends, has_entry, consumer_of}
 use Rattle.js_model.proofs.Named.{Stands, stands-found, stands-at, none_some, same_is}
 use Rattle.js_model.proofs.Lacking.{lacks-from_map, apart-swapped}

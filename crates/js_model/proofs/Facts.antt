@@ -5,6 +5,7 @@ use Rattle.js_base.specs.Bytes.{Bytes, same}
 use Rattle.js_base.specs.Moments.{plus}
 use Rattle.js_base.specs.declared.out.Out.{Out}
 use Rattle.js_base.specs.declared.out.ApiError.{ApiError}
+use Rattle.js_model.specs.Lists.{IsPart}
 use Rattle.js_model.specs.declared.stream_config.StreamConfig.{StreamConfig}
 use Rattle.js_model.specs.declared.consumer_config.ConsumerConfig.{ConsumerConfig}
 use Rattle.js_model.specs.declared.stream.Message.{Message}
@@ -35,7 +36,7 @@ use Rattle.js_model.specs.Pulls.{pulled}
 use Rattle.js_model.specs.Consumers.{empty_stream, new_consumer, with_new, making_checks}
 use Rattle.js_model.specs.Events.{Answer, stream_answer, vacant_answer, answered, settled, settled_state, made_again, changed, published, with_message, deleted, message_at, message_told, message_by, told_of, consumer_made, consumer_asked, consumer_dropped, pull_answer, ack_answer, ack_done, after_ack, quietly, IsEvent}
 use Rattle.js_model.specs.Deliver.{IsDelivered}
-use Rattle.js_model.proofs.Parts.{IsPart, filter_part, drop_part, newest_at_part, fitting_at_part}
+use Rattle.js_model.proofs.Parts.{filter_part, drop_part, newest_at_part, fitting_at_part}
 
 -- P is kept by each change that allowed events make; V holds where there is no stream
 pub record IsStreamFact (allowed : What → Type 0) (V : Type 0) (P : Stream → Type 0) : Type 0 where

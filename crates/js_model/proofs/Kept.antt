@@ -5,6 +5,7 @@ use Rattle.std.proofs.lemmas.Bool.{true≢false, eqb-true, and_parts, or_cases, 
 use Rattle.js_base.specs.Bytes.{Bytes, has}
 use Rattle.js_base.specs.declared.out.Out.{Out}
 use Rattle.js_base.specs.declared.out.ApiError.{ApiError}
+use Rattle.js_model.specs.Lists.{Between}
 use Rattle.js_model.specs.declared.consumer_config.ConsumerConfig.{ConsumerConfig}
 use Rattle.js_model.specs.declared.stream.Message.{Message}
 use Rattle.js_model.specs.declared.stream.Stream.{Stream}
@@ -37,7 +38,7 @@ use Rattle.js_model.specs.Consumers.{making_checks, with_new, new_consumer}
 use Rattle.js_model.specs.Events.{Answer, stream_answer, answered, settled, settled_state, published, with_message, with_id, purge_list, deleted, message_at, message_told, message_by, told_of, consumer_made, consumer_asked, consumer_dropped, pull_answer, ack_answer, ack_done, quietly, IsEvent}
 use Rattle.js_model.specs.Deliver.{IsDelivery}
 use Rattle.js_model.specs.Runs.{RunFrom, IsStep, messages_of}
-use Rattle.js_model.specs.Sound.{Between, IsSoundStream, IsSound}
+use Rattle.js_model.specs.Sound.{IsSoundStream, IsSound}
 use Rattle.js_model.specs.Laws.{LawKept, IsAged, IsTrimmed, Leaves, LeavesOnEvent, aged, purged, deleted as deleted_it, dropped, trimmed, unneeded, LeavesOnDelivery, aged_by_then, not_needed}
 use Rattle.js_model.proofs.Facts.{IfLive, at_answer}
 use Rattle.js_model.proofs.Members.{IsIn, in_push, found_in, in_from_contains}

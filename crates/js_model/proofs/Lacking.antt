@@ -5,9 +5,9 @@ use Rattle.std.specs.List.{list_any}
 use Rattle.std.proofs.lemmas.Bool.{or_parts, or_left, or_right, or_cases, or_from, true≢false, eqb-true, eq-eqb, and_from, and_parts}
 use Rattle.std.proofs.lemmas.List.Elements.{All-head, All-tail}
 use Rattle.js_base.specs.Bytes.{has}
-use Rattle.js_model.specs.Sound.{Lacks, Apart}
+use Rattle.js_model.specs.Lists.{Apart, IsPart, Lacks}
 use Rattle.js_model.specs.Advance.{placed}
-use Rattle.js_model.proofs.Parts.{IsPart, part_any, filter_part, drop_part}
+use Rattle.js_model.proofs.Parts.{part_any, filter_part, drop_part}
 
 pub lacks-cons : {X : Type 0} {t : X → Bool} {x : X} {xs : List X} → t x ≡ false → Lacks t xs → Lacks t (x ∷ xs)
 lacks-cons {t = t} {x = x} {xs = xs} h k = record { none = or_from (t x) (list_any t xs) h k.none }

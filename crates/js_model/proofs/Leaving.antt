@@ -7,6 +7,7 @@ use Rattle.js_base.specs.Bytes.{Bytes, has}
 use Rattle.js_base.specs.Moments.{plus}
 use Rattle.js_base.specs.declared.out.Out.{Out}
 use Rattle.js_base.specs.declared.out.ApiError.{ApiError}
+use Rattle.js_model.specs.Lists.{Between, IsPart, keep, none, skip}
 use Rattle.js_model.specs.declared.stream_config.Retention.{Retention}
 use Rattle.js_model.specs.declared.stream_config.Retention.TheVariants.{Limits, Interest, WorkQueue}
 use Rattle.js_model.specs.declared.stream.Message.{Message}
@@ -18,9 +19,9 @@ use Rattle.js_model.specs.Streams.{only, seqs, confined, takes, pending_seqs}
 use Rattle.js_model.specs.Advance.{advance, young}
 use Rattle.js_model.specs.Retention.{kept, is_kept, needs}
 use Rattle.js_model.specs.Trim.{trim, trim_subjects, trim_count}
-use Rattle.js_model.specs.Sound.{Between, IsSoundStream, IsSound}
+use Rattle.js_model.specs.Sound.{IsSoundStream, IsSound}
 use Rattle.js_model.specs.Laws.{IsAged}
-use Rattle.js_model.proofs.Parts.{IsPart, none, keep, skip, all_part, filter_part, drop_part, newest_at_part, fitting_at_part, part_between}
+use Rattle.js_model.proofs.Parts.{all_part, filter_part, drop_part, newest_at_part, fitting_at_part, part_between}
 use Rattle.js_model.proofs.Lacking.{has-not, has-part}
 use Rattle.js_model.proofs.SoundParts.{none_below}
 use Rattle.js_model.proofs.SoundTime.{sound_time, part_map}

@@ -23,3 +23,5 @@ pub mod Acked
 pub mod Duplicates
 pub mod Leaving
 pub mod Kept
+pub mod Consecutive
+pub mod StartOrder

@@ -5,8 +5,8 @@ use Rattle.std.specs.List.{list_any}
 use Rattle.std.proofs.lemmas.Bool.{true≢false, or_cases, or_left, or_right, eqb-true, eq-eqb, and_parts, or_parts}
 use Rattle.std.proofs.lemmas.List.Elements.{All-head, All-tail}
 use Rattle.js_base.specs.Bytes.{has}
-use Rattle.js_model.specs.Sound.{Between}
-use Rattle.js_model.proofs.Parts.{IsPart, none, keep, skip, between_bounds}
+use Rattle.js_model.specs.Lists.{Between, IsPart, keep, none, skip}
+use Rattle.js_model.proofs.Parts.{between_bounds}
 use Rattle.js_model.proofs.SoundParts.{none_below}
 use Rattle.js_model.proofs.Named.{none_some, some_is}
 

@@ -5,16 +5,10 @@ use Rattle.std.proofs.lemmas.Bool.{or_left, or_right, or_cases, eq-eqb}
 use Rattle.std.proofs.lemmas.List.Sums.{sum_by-cons}
 use Rattle.std.specs.List.{list_any}
 use Rattle.js_base.specs.Bytes.{same, has}
+use Rattle.js_model.specs.Lists.{Between, IsPart, keep, none, skip}
 use Rattle.js_model.specs.declared.stream.Message.{Message}
 use Rattle.js_model.specs.Trim.{newest, newest_at, fitting, fitting_at}
 use Rattle.js_model.specs.Streams.{size}
-use Rattle.js_model.specs.Sound.{Between}
-
--- ys are some of the xs, in their order
-pub data IsPart {X : Type 0} : List X → List X → Type 0 where
-  none : IsPart [] []
-  keep : {x : X} {ys xs : List X} → IsPart ys xs → IsPart (x ∷ ys) (x ∷ xs)
-  skip : {x : X} {ys xs : List X} → IsPart ys xs → IsPart ys (x ∷ xs)
 
 -- ---- what leaves a part
 

@@ -6,6 +6,7 @@ use Rattle.std.proofs.lemmas.Bool.{true≢false, ne_eqb, eq-eqb, eqb-false}
 use Rattle.js_base.specs.Bytes.{Bytes, has}
 use Rattle.js_base.specs.Moments.{plus}
 use Rattle.js_base.specs.declared.out.Out.{Out}
+use Rattle.js_model.specs.Lists.{Lacks}
 use Rattle.js_model.specs.declared.stream.Message.{Message}
 use Rattle.js_model.specs.declared.stream.Stream.{Stream}
 use Rattle.js_model.specs.declared.consumer.Pending.{Pending}
@@ -20,7 +21,6 @@ use Rattle.js_model.specs.Advance.{consumer_at, is_spent}
 use Rattle.js_model.specs.Acknowledge.{acknowledged, without, with_due, moved}
 use Rattle.js_model.specs.Pulls.{pulled, pulled_unless, with_pull, pull_refusal}
 use Rattle.js_model.specs.Deliver.{candidates, is_due, sent_to, pending_after, with_pending, count_of, Delivers}
-use Rattle.js_model.specs.Sound.{Lacks}
 use Rattle.js_model.specs.Laws.{is_sent}
 use Rattle.js_model.proofs.Parts.{filter_part}
 use Rattle.js_model.proofs.Lacking.{lacks-cons, lacks-head, lacks-tail, lacks-part, lacks-both}
@@ -42,7 +42,7 @@ pub record IsSettled (n : ℕ) (c : Consumer) : Type 0 where
 passed_same : (n : ℕ) (c d : Consumer) → d.picks ≡ c.picks → d.cursor ≡ c.cursor → IsPassed n c → IsPassed n d
 passed_same n c d e f h = record { picks = subst (Lacks (λ m. m == n)) (sym e) h.picks; below = let q : n < c.cursor = h.below in omega arith }
 
-picks_pulled : (now : ℕ) (reply : Option Bytes) (ask : Option Ask) (c : Consumer) → ((pulled now reply ask c).picks ≡ c.picks) × ((pulled now reply ask c).cursor ≡ c.cursor) × ((pulled now reply ask c).pending ≡ c.pending)
+pub picks_pulled : (now : ℕ) (reply : Option Bytes) (ask : Option Ask) (c : Consumer) → ((pulled now reply ask c).picks ≡ c.picks) × ((pulled now reply ask c).cursor ≡ c.cursor) × ((pulled now reply ask c).pending ≡ c.pending)
 picks_pulled now None ask c = (refl, refl, refl)
 picks_pulled now (Some reply) ask c = go ask (pull_refusal c ask)
   where

@@ -4,6 +4,7 @@ use Rattle.std.specs.Prelude.{Option, Some, None, filter, ◌==◌, All, nat_le,
 use Rattle.std.proofs.lemmas.Bool.{true≢false}
 use Rattle.std.proofs.lemmas.List.Elements.{All-filter, All-map, All-weaker, All-head, All-tail}
 use Rattle.js_base.specs.Bytes.{Bytes, same}
+use Rattle.js_model.specs.Lists.{Apart, Between}
 use Rattle.js_model.specs.declared.stream.Message.{Message}
 use Rattle.js_model.specs.declared.stream.Stream.{Stream}
 use Rattle.js_model.specs.declared.consumer.Pending.{Pending}
@@ -16,7 +17,7 @@ use Rattle.js_model.specs.Streams.{by_name, with_consumer, in_place_of, pending_
 use Rattle.js_model.specs.Acknowledge.{acknowledged, without, with_due, moved}
 use Rattle.js_model.specs.Pulls.{pulled, pulled_unless, with_pull, pull_refusal, push_based, bad_request, exceeded_waiting}
 use Rattle.js_model.specs.Events.{after_ack, pulled_next, next_ask}
-use Rattle.js_model.specs.Sound.{Between, IsStored, AreStored, Apart, IsCounted, IsSoundConsumer, IsSoundStream}
+use Rattle.js_model.specs.Sound.{IsStored, AreStored, IsCounted, IsSoundConsumer, IsSoundStream}
 use Rattle.js_model.proofs.Named.{none_some, some_is, in_place_of-names}
 use Rattle.js_model.proofs.Parts.{filter_part, part_between, between_map, all_part}
 use Rattle.js_model.proofs.Lacking.{apart-parts, has-part}

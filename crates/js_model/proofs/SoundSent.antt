@@ -7,6 +7,7 @@ use Rattle.std.proofs.lemmas.List.Elements.{All-cons, All-head, All-tail, All-we
 use Rattle.js_base.specs.Bytes.{Bytes, has}
 use Rattle.js_base.specs.Moments.{plus}
 use Rattle.js_base.specs.declared.out.Out.{Out}
+use Rattle.js_model.specs.Lists.{Apart, Between, IsPart}
 use Rattle.js_model.specs.declared.consumer_config.ConsumerConfig.{ConsumerConfig}
 use Rattle.js_model.specs.declared.stream.Message.{Message}
 use Rattle.js_model.specs.declared.stream.Stream.{Stream}
@@ -18,8 +19,8 @@ use Rattle.js_model.specs.declared.entry.Delivered.TheVariants.{Sent, TooSmall, 
 use Rattle.js_model.specs.Streams.{takes, passes_filter, pending_seqs, is_push, is_unacknowledged, sent_size, below_limit}
 use Rattle.js_model.specs.Configs.{is_consumer_config, is_limit}
 use Rattle.js_model.specs.Deliver.{sent_to, pending_after, with_pending, count_of, front_served, is_due, without_first, Delivers}
-use Rattle.js_model.specs.Sound.{Between, IsStored, AreStored, Apart, IsCounted, IsSoundConsumer, IsSoundStream}
-use Rattle.js_model.proofs.Parts.{IsPart, filter_part, all_part, part_between, between_higher, between_bounds, between_map}
+use Rattle.js_model.specs.Sound.{IsStored, AreStored, IsCounted, IsSoundConsumer, IsSoundStream}
+use Rattle.js_model.proofs.Parts.{filter_part, all_part, part_between, between_higher, between_bounds, between_map}
 use Rattle.js_model.proofs.Lacking.{apart-parts, has-part}
 use Rattle.js_model.proofs.SoundParts.{has-filter}
 use Rattle.js_model.proofs.SoundTime.{has_between}
@@ -101,7 +102,7 @@ limit_of : (config : ConsumerConfig) → IsTrue (is_consumer_config config) → 
 limit_of config h = (and_parts _ _ (and_parts _ _ (and_parts _ _ (and_parts _ _ (and_parts _ _ (and_parts _ _ (and_parts _ _ (and_parts _ _ (and_parts _ _ h).0).0).0).0).0).0).0).0).1
 
 -- a sequence that waits is counted; another one is not
-count_waiting : (c : Consumer) (n : ℕ) (p : Pending) → find (λ p. p.seq == n) c.pending ≡ Some p → count_of c n ≡ p.count
+pub count_waiting : (c : Consumer) (n : ℕ) (p : Pending) → find (λ p. p.seq == n) c.pending ≡ Some p → count_of c n ≡ p.count
 count_waiting c n p e = ap (λ (o : Option Pending). count_or_zero o) e
   where
     count_or_zero : Option Pending → ℕ

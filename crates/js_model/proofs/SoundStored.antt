@@ -6,6 +6,7 @@ use Rattle.std.proofs.lemmas.Bool.{true≢false, or_right, or_left, false_from_n
 use Rattle.std.proofs.lemmas.List.Elements.{All-weaker}
 use Rattle.js_base.specs.Bytes.{Bytes, same, is_empty}
 use Rattle.js_base.specs.declared.out.ApiError.{ApiError}
+use Rattle.js_model.specs.Lists.{Between, Lacks}
 use Rattle.js_model.specs.declared.stream.Message.{Message}
 use Rattle.js_model.specs.declared.stream.Id.{Id}
 use Rattle.js_model.specs.declared.stream.Stream.{Stream}
@@ -17,7 +18,7 @@ use Rattle.js_model.specs.Streams.{passes_filter, pending_seqs}
 use Rattle.js_model.specs.Refusals.{first_refusal}
 use Rattle.js_model.specs.Verdict.{verdict, message_of, known, first_of_all, early_checks, late_checks}
 use Rattle.js_model.specs.Events.{with_message, with_id}
-use Rattle.js_model.specs.Sound.{Between, Lacks, IsStored, AreStored, IsSoundConsumer, IsSoundStream, AreDifferent}
+use Rattle.js_model.specs.Sound.{IsStored, AreStored, IsSoundConsumer, IsSoundStream, AreDifferent}
 use Rattle.js_model.proofs.Named.{none_some, same_is, same_self}
 use Rattle.js_model.proofs.Parts.{between_push}
 use Rattle.js_model.proofs.Lacking.{lacks-push}

@@ -6,6 +6,7 @@ use Rattle.std.proofs.lemmas.Bool.{true≢false, or_cases, or_from, ltb-true, lt
 use Rattle.std.proofs.lemmas.List.Elements.{All-filter, All-map, All-weaker}
 use Rattle.js_base.specs.Bytes.{Bytes, has, same, last_of}
 use Rattle.js_base.specs.Moments.{plus}
+use Rattle.js_model.specs.Lists.{Apart, Between, IsPart, Lacks, keep, none, skip}
 use Rattle.js_model.specs.declared.stream.Message.{Message}
 use Rattle.js_model.specs.declared.stream.Id.{Id}
 use Rattle.js_model.specs.declared.stream.Stream.{Stream}
@@ -14,8 +15,8 @@ use Rattle.js_model.specs.declared.consumer.Pull.{Pull}
 use Rattle.js_model.specs.declared.consumer.Consumer.{Consumer}
 use Rattle.js_model.specs.Streams.{only, pending_seqs, is_unacknowledged, is_push}
 use Rattle.js_model.specs.Advance.{advance, aged, young, remembered, consumer_at, placed, is_spent, all_given_up, beaten, running, is_over}
-use Rattle.js_model.specs.Sound.{Between, Apart, Lacks, IsStored, AreStored, IsCounted, IsSoundConsumer, IsSoundStream, AreDifferent}
-use Rattle.js_model.proofs.Parts.{IsPart, none, keep, skip, all_part, filter_part, drop_part, part_between, between_lower, between_map}
+use Rattle.js_model.specs.Sound.{IsStored, AreStored, IsCounted, IsSoundConsumer, IsSoundStream, AreDifferent}
+use Rattle.js_model.proofs.Parts.{all_part, filter_part, drop_part, part_between, between_lower, between_map}
 use Rattle.js_model.proofs.Lacking.{apart-parts, has-part, has-placed, has-all_placed, lacks-part}
 use Rattle.js_model.proofs.SoundParts.{sound_only, ordered_map}
 

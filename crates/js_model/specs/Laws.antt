@@ -1,5 +1,6 @@
 -- What holds of each run of a place.
-use Rattle.std.specs.Prelude.{◌≡◌, ◌<◌, ◌≤◌, max, Contains, ◌||◌, ◌&&◌, ◌==◌, Bool, true, false, ℕ, List, [], ◌∷◌, Option, Some, None, ⊤, MatchBool}
+use Rattle.std.specs.Prelude.{◌≡◌, ◌<◌, ◌≤◌, ◌+◌, ◌++◌, map, filter, if◌then◌else◌, max, Contains, ◌||◌, ◌&&◌, ◌==◌, Bool, true, false, ℕ, List, [], ◌∷◌, Option, Some, None, ⊤, MatchBool}
+use Rattle.std.specs.List.{list_any}
 use Rattle.js_base.specs.Bytes.{Bytes, is_empty, same, has}
 use Rattle.js_base.specs.Moments.{plus}
 use Rattle.js_base.specs.declared.out.Out.{Out}
@@ -20,7 +21,8 @@ use Rattle.js_model.specs.declared.entry.Call.{Call}
 use Rattle.js_model.specs.declared.entry.Call.TheVariants.{Step as StepOf, Deliver as DeliverOf}
 use Rattle.js_model.specs.declared.entry.PlaceEntry.{PlaceEntry}
 use Rattle.js_model.specs.declared.entry.PlaceEntry.TheVariants.{Step, Deliver, Broken}
-use Rattle.js_model.specs.Streams.{by_name, pending_seqs, seqs}
+use Rattle.js_model.specs.Lists.{Ascends, IsPart}
+use Rattle.js_model.specs.Streams.{by_name, pending_seqs, seqs, passes_filter}
 use Rattle.js_model.specs.Advance.{advance}
 use Rattle.js_model.specs.Retention.{is_kept}
 use Rattle.js_model.specs.Trim.{trim}
@@ -126,9 +128,9 @@ pub record Repeats (mid later : State) (now : ℕ) (first second : What) : Type 
   pub within : moment_of (state_at later now) < plus (moment_of mid) (window_of mid)
 
 abbrev pub LawDuplicate : Type 0
-LawDuplicate = (n count between after : ℕ) (old mid later new : State) (first second : Event) (now then : ℕ) (reply : Reply) (outs others : List Out) (entries : List PlaceEntry)
+LawDuplicate = (n count between after : ℕ) (old mid later new : State) (first second : Event) (now repeated : ℕ) (reply : Reply) (outs others : List Out) (entries : List PlaceEntry)
     → IsSound old → IsStep count old first now (Published n) outs mid → RunFrom between mid entries later → EachEvent keeps_window entries
-    → IsStep after later second then reply others new → Repeats mid later then first.what second.what → IsRepeatReply n reply
+    → IsStep after later second repeated reply others new → Repeats mid later repeated first.what second.what → IsRepeatReply n reply
 
 -- ---- a stored message leaves only for a reason
 
@@ -172,3 +174,81 @@ abbrev pub LawKept : Type 0
 LawKept = (count later : ℕ) (first old new : State) (entries : List PlaceEntry) (entry : PlaceEntry) (m : Message)
     → IsSound first → RunFrom count first entries old → RunFrom later old (entry ∷ []) new
     → Contains (messages_of old) m → has (seqs (messages_of new)) m.seq ≡ false → Leaves old entry new m
+
+-- ---- deliveries come in order
+
+-- what was sent
+pub record Sending : Type 0 where
+  pub seq : ℕ
+  pub count : ℕ
+  pub dseq : ℕ
+
+abbrev pub sending_of : Delivered → List Sending
+sending_of (Sent seq count dseq) = record { seq = seq; count = count; dseq = dseq } ∷ []
+sending_of TooSmall = []
+sending_of Emptied = []
+
+abbrev pub sending_to : Bytes → Delivery → List Sending
+sending_to name d = if same d.consumer name then sending_of d.what else []
+
+-- what is sent to the consumer of this name, until it or the stream is dropped
+abbrev pub sendings : Bytes → List PlaceEntry → List Sending
+sendings name [] = []
+sendings name (Step seat e now reply outs unsaid ∷ entries) = if drops name e.what then [] else sendings name entries
+sendings name (Deliver seat now listening d outs ∷ entries) = sending_to name d ++ sendings name entries
+sendings name (Broken seat now (StepOf e) ∷ entries) = []
+sendings name (Broken seat now (DeliverOf listening d) ∷ entries) = sending_to name d
+
+-- the consumer sequences follow one after the other
+abbrev pub Follow : ℕ → List Sending → Type 0
+Follow dseq [] = ⊤
+Follow dseq (x ∷ xs) = (x.dseq ≡ dseq + 1) × Follow (dseq + 1) xs
+
+-- the sequences that are delivered for the first time
+abbrev pub firsts : List Sending → List ℕ
+firsts xs = map (λ x. x.seq) (filter (λ x. x.count == 1) xs)
+
+-- some picks in their order, and then sequences that rise from the cursor on
+pub record IsStartOrder (picks : List ℕ) (cursor : ℕ) (seqs : List ℕ) : Type 0 where
+  pub picked : List ℕ
+  pub rising : List ℕ
+  pub split : seqs ≡ picked ++ rising
+  pub part : IsPart picked picks
+  pub ascends : Ascends cursor rising
+
+-- the sequence and the subject of a message
+abbrev pub Stored : Type 0
+Stored = ℕ × Bytes
+
+abbrev pub stored_first : State → List Stored
+stored_first s = map (λ m. (m.seq, m.subject)) (messages_of s)
+
+-- what a publish that is taken stores
+abbrev pub stored_by : What → Reply → List Stored
+stored_by (PublishIt p) (Published n) = (n, p.subject) ∷ []
+stored_by _ _ = []
+
+-- a message of this sequence was stored, and the filter matches its subject
+abbrev pub was_stored : Bytes → List Stored → ℕ → Bool
+was_stored pattern stored n = list_any (λ x. x.0 == n && passes_filter pattern x.1) stored
+
+abbrev pub WereStored : Bytes → List Stored → List Sending → Type 0
+WereStored pattern stored [] = ⊤
+WereStored pattern stored (x ∷ xs) = (was_stored pattern stored x.seq ≡ true) × WereStored pattern stored xs
+
+-- what is sent to the consumer was stored at first or by an entry before, and its filter matches it
+abbrev pub SendsStored : Bytes → Bytes → List Stored → List PlaceEntry → Type 0
+SendsStored name pattern stored [] = ⊤
+SendsStored name pattern stored (Step seat e now reply outs unsaid ∷ entries) = MatchBool (drops name e.what) ⊤ (SendsStored name pattern (stored_by e.what reply ++ stored) entries)
+SendsStored name pattern stored (Deliver seat now listening d outs ∷ entries) = WereStored pattern stored (sending_to name d) × SendsStored name pattern stored entries
+SendsStored name pattern stored (Broken seat now (StepOf e) ∷ entries) = ⊤
+SendsStored name pattern stored (Broken seat now (DeliverOf listening d) ∷ entries) = WereStored pattern stored (sending_to name d)
+
+pub record IsInOrder (name : Bytes) (old : State) (c : Consumer) (entries : List PlaceEntry) : Type 0 where
+  pub consecutive : Follow c.dseq (sendings name entries)
+  pub start : IsStartOrder c.picks c.cursor (firsts (sendings name entries))
+  pub stored : SendsStored name c.config.filter_subject (stored_first old) entries
+
+abbrev pub LawOrder : Type 0
+LawOrder = (name : Bytes) (count : ℕ) (old new : State) (entries : List PlaceEntry) (c : Consumer)
+    → IsSound old → consumer_of name old ≡ Some c → RunFrom count old entries new → IsInOrder name old c entries

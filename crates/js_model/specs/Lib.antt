@@ -1,3 +1,4 @@
+pub mod Lists
 pub mod Streams
 pub mod Refusals
 pub mod Configs

@@ -9,22 +9,10 @@ use Rattle.js_model.specs.declared.stream.State.{State}
 use Rattle.js_model.specs.declared.stream.State.TheVariants.{Vacant, Live}
 use Rattle.js_model.specs.declared.consumer.Pending.{Pending}
 use Rattle.js_model.specs.declared.consumer.Consumer.{Consumer}
+use Rattle.js_model.specs.Lists.{Lacks, Between, Apart}
 use Rattle.js_model.specs.Streams.{passes_filter, pending_seqs, is_unacknowledged, is_push}
 use Rattle.js_model.specs.Configs.{is_stream_config, is_consumer_config}
 use Rattle.js_model.specs.Consumers.{is_before}
-
--- no element of the list passes the test
-pub record Lacks {X : Type 0} (t : X → Bool) (xs : List X) : Type 0 where
-  pub none : list_any t xs ≡ false
-
--- the elements ascend, from low on and below high
-abbrev pub Between : {X : Type 0} → (X → ℕ) → ℕ → ℕ → List X → Type 0
-Between f low high [] = low ≤ high
-Between f low high (x ∷ xs) = (low ≤ f x) × Between f (f x + 1) high xs
-
--- no number is in both lists
-pub record Apart (xs ys : List ℕ) : Type 0 where
-  pub apart : (n : ℕ) → has xs n ≡ true → has ys n ≡ false
 
 -- a stored message of this sequence matches the filter
 abbrev pub IsStored : List Message → Bytes → ℕ → Type 0
