@@ -25,3 +25,5 @@ pub mod Leaving
 pub mod Kept
 pub mod Consecutive
 pub mod StartOrder
+pub mod StoredBefore
+pub mod Ordering

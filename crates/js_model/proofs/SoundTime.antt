@@ -163,7 +163,7 @@ different_part none h = h
 different_part (keep p) h = (lacks-part p h.0, different_part p h.1)
 different_part (skip p) h = different_part p h.1
 
-young_part : (s : Stream) (now : ℕ) → IsPart (young s now) s.messages
+pub young_part : (s : Stream) (now : ℕ) → IsPart (young s now) s.messages
 young_part s now = go (s.config.max_age == 0)
   where
     go : (b : Bool) → IsPart (cond b s.messages (filter (λ m. nat_lt now (plus m.at s.config.max_age)) s.messages)) s.messages

@@ -1,6 +1,6 @@
 //! What holds of each run of a place, by the definitions alone.
 
-ghost use Rattle.js_model.specs.Laws.{LawSound, LawAcked, LawDuplicate, LawKept};
+ghost use Rattle.js_model.specs.Laws.{LawSound, LawAcked, LawDuplicate, LawKept, LawOrder};
 
 /// Soundness is kept: each state that a run reaches from a sound one is sound.
 pub fn law_sound()
@@ -21,4 +21,10 @@ pub fn law_duplicate()
 /// A stored message leaves only by its age, a purge, a delete, a drop of the stream, a limit or the retention.
 pub fn law_kept()
     ensures law { LawKept }
+{}
+
+/// What is sent to a consumer has consumer sequences one after the other, was stored before and matches its filter;
+/// first deliveries are its picks in order, and then sequences that rise from its cursor on.
+pub fn law_order()
+    ensures law { LawOrder }
 {}
