@@ -46,16 +46,18 @@ empty i now config proper = record { config = proper; messages = omega arith; co
 
 pub sound_fact : IsStreamFact IsProperWhat ⊤ IsSoundStream
 sound_fact = record {
-  gone = λ s reply g h. tt;
+  change = record {
+    gone = λ s reply g h. tt;
+    only = sound_only;
+    configured = λ s reply config g h. configured s config g h;
+    stored = λ s p room g e h. sound_stored s p room e h;
+    made = λ s reply name config g e h. sound_made s name config (and_parts _ _ (and_parts _ _ g).0).1 (and_parts _ _ g).1 e h;
+    removed = λ s reply name c g e h. sound_removed s c.name h;
+    acked = λ s reply ack c g e q h. sound_with s _ (after_ack_sound s.messages s.last s.moment reply ack.seq ack.kind c (All-by_name (IsSoundConsumer s.messages s.last) s.consumers ack.consumer c e h.consumers)) h;
+    pulled = λ s reply name ask c g e h. sound_with s _ (pulled_sound s.messages s.last s.moment reply ask c (All-by_name (IsSoundConsumer s.messages s.last) s.consumers name c e h.consumers)) h;
+  };
   empty = λ i now reply config g h. empty (i + 1) now config g;
   time = sound_time;
-  only = sound_only;
-  configured = λ s reply config g h. configured s config g h;
-  stored = λ s p room g e h. sound_stored s p room e h;
-  made = λ s reply name config g e h. sound_made s name config (and_parts _ _ (and_parts _ _ g).0).1 (and_parts _ _ g).1 e h;
-  removed = λ s reply name c g e h. sound_removed s c.name h;
-  acked = λ s reply ack c g e q h. sound_with s _ (after_ack_sound s.messages s.last s.moment reply ack.seq ack.kind c (All-by_name (IsSoundConsumer s.messages s.last) s.consumers ack.consumer c e h.consumers)) h;
-  pulled = λ s reply name ask c g e h. sound_with s _ (pulled_sound s.messages s.last s.moment reply ask c (All-by_name (IsSoundConsumer s.messages s.last) s.consumers name c e h.consumers)) h;
 }
 
 live_from : (s : State) → IsSound s → IfLive ⊤ IsSoundStream s

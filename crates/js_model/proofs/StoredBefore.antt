@@ -66,16 +66,18 @@ known_at_time known s now h = known_part known (young s (max s.moment now)) s.me
 known_fact : (known : List Stored) → IsStreamFact (λ w. not_publish w ≡ true) ⊤ (λ s. AreKnown known s.messages)
 unfolding not_publish
 known_fact known = record {
-  gone = λ s reply g h. tt;
+  change = record {
+    gone = λ s reply g h. tt;
+    only = λ s messages part h. known_part known messages s.messages part h;
+    configured = λ s reply config g h. h;
+    stored = λ s p room g e h. absurd (true≢false (sym g));
+    made = λ s reply name config g e h. h;
+    removed = λ s reply name c g e h. h;
+    acked = λ s reply ack c g e q h. h;
+    pulled = λ s reply name ask c g e h. h;
+  };
   empty = λ i now reply config g v. record { each = λ m i. elim i [ ] };
   time = known_at_time known;
-  only = λ s messages part h. known_part known messages s.messages part h;
-  configured = λ s reply config g h. h;
-  stored = λ s p room g e h. absurd (true≢false (sym g));
-  made = λ s reply name config g e h. h;
-  removed = λ s reply name c g e h. h;
-  acked = λ s reply ack c g e q h. h;
-  pulled = λ s reply name ask c g e h. h;
 }
 
 -- a publish makes its message known
