@@ -10,7 +10,7 @@ sources_sum() (
     cd "${top:?}" &&
         {
             rt version &&
-                find crates.txt HANDLES crates -path 'crates/*/out' -prune -o -type f -print0 | LC_ALL=C sort -z | xargs -0 sha256sum
+                find crates.txt HANDLES crates -regex 'crates/[^/]+/out' -prune -o -type f -print0 | LC_ALL=C sort -z | xargs -0 sha256sum
         } | sha256sum | cut -c 1-32
 )
 
