@@ -1,5 +1,5 @@
 -- Laws of decimal numbers.
-use Rattle.std.proofs.Common.{ℕ, zero, lit≤, ◌≡◌, ◌≤◌, ◌+◌, ◌*◌, ◌-◌, ◌<◌, ◌^◌, List, [], ◌∷◌, arith, length, drop, suc, get_or, add-one, refl, ap, ◌∙◌, sym}
+use Rattle.std.proofs.Common.{ℕ, zero, lit≤, ◌≡◌, ◌≤◌, ◌+◌, ◌*◌, ◌-◌, ◌<◌, ◌^◌, List, ◌∷◌, arith, length, drop, suc, get_or, add-one}
 use Rattle.std.proofs.Math.Nat.{pow-suc}
 use Rattle.std.proofs.Math.Seq.{drop-cons}
 use Rattle.js_base.specs.Decimal.{value_of}

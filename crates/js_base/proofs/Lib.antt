@@ -1,2 +1,5 @@
+pub mod Places
 pub mod Meeting
 pub mod Decimals
+pub mod Printing
+mod Rows

@@ -1,5 +1,5 @@
 -- Decimal numbers, as the protocol's sizes and sequences are written.
-use Rattle.std.specs.Prelude.{ℕ, ◌≡◌, ◌<◌, true, slice_index, ◌+◌, ◌-◌, ◌*◌, ◌^◌, nat_lt, not, List, [], ◌∷◌, length, Option, Some, None, position, Result, Ok, Err, if◌then◌else◌}
+use Rattle.std.specs.Prelude.{ℕ, ◌≡◌, ◌<◌, true, slice_index, ◌+◌, ◌-◌, ◌*◌, ◌^◌, nat_lt, not, [], ◌∷◌, length, Option, Some, None, position, Result, Ok, Err, if◌then◌else◌, decimal}
 use Rattle.std.specs.Char.{is_ascii_digit}
 use Rattle.js_base.specs.Bytes.{Bytes}
 use Rattle.js_base.specs.declared.decimal.DecFault.{DecFault}
@@ -26,3 +26,7 @@ small_or None n = if nat_lt n (2 ^ 62) then Ok n else Err TooBig
 abbrev pub number_of : Bytes → Result ℕ DecFault
 number_of [] = Err Empty
 number_of (byte ∷ more) = small_or (first_bad (byte ∷ more)) (value_of (byte ∷ more))
+
+-- what a number is printed as is read as that number
+abbrev pub LawDecimal : Type 0
+LawDecimal = (n : ℕ) → n < 2 ^ 62 → number_of (decimal n) ≡ Ok n

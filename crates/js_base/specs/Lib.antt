@@ -6,3 +6,4 @@ pub mod Names
 pub mod Subjects
 pub mod Framing
 pub mod Status
+pub mod Headers

@@ -1,5 +1,5 @@
 -- Names of streams and consumers, as the JetStream naming rules have them.
-use Rattle.std.specs.Prelude.{ℕ, Bool, ◌≡◌, nat_lt, nat_le, ◌&&◌, not, List, [], ◌∷◌, length, codes, Option, Some, None, position, Result, Ok, Err, IsOk, if◌then◌else◌}
+use Rattle.std.specs.Prelude.{ℕ, Bool, ◌≡◌, nat_lt, nat_le, ◌&&◌, not, [], ◌∷◌, length, codes, Option, Some, None, position, Result, Ok, Err, IsOk, if◌then◌else◌}
 use Rattle.js_base.specs.Bytes.{Bytes, has}
 use Rattle.js_base.specs.declared.name.NameFault.{NameFault}
 use Rattle.js_base.specs.declared.name.NameFault.TheVariants.{Empty, TooLong, BadByte, NoMemory}

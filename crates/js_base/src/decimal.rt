@@ -8,10 +8,13 @@ use thiserror::Error;
 /// Why a text is no decimal number below 2^62.
 #[derive(Clone, Copy, Debug, PartialEq, Eq, Error)]
 pub enum DecFault {
+    /// No bytes at all.
     #[error("no digits")]
     Empty,
+    /// The place, counted from 0, of the first byte that is no digit.
     #[error("no digit at {0}")]
     BadDigit(usize),
+    /// Digits that spell 2^62 or more.
     #[error("2^62 or more")]
     TooBig,
 }
@@ -40,8 +43,9 @@ fn small_value(text: &[u8]) -> Option<u64>
     if n < 1 << 62 { Some(n) } else { None }
 }
 
-/// The number that the text spells, in digits alone, of which leading ones may be zeros. A text without digits is `Empty`, and a byte that
-/// is no digit stands before a number that is too big.
+/// The number that the text spells in digits alone, of which the first may be zeros, as sizes and sequences stand in the NATS protocols. A
+/// text without bytes is `Empty`; else the first byte that is no digit is `BadDigit`, however long the text is; else a number of 2^62 or more
+/// is `TooBig`.
 pub fn read_decimal(text: &[u8]) -> Result<u64, DecFault>
     ensures { result ≡ number_of text.now }
 {

@@ -3,7 +3,7 @@
 use crate::blob::Blob;
 
 /// A frame of the NATS client protocol, from the server.
-#[derive(Drop, Debug)]
+#[derive(Drop, Clone, Debug, PartialEq, Eq)]
 pub enum Frame {
     /// The server's information, at the start of a session. The host is an address text, which needs no escape.
     Info {
@@ -19,9 +19,13 @@ pub enum Frame {
         headers: Blob,
         payload: Blob,
     },
+    /// Asks whether the client is there.
     Ping,
+    /// Answers a client's PING.
     Pong,
+    /// Says that a verbose client's operation was done.
     Ok,
+    /// Says why an operation was not done, or why the connection ends.
     Err {
         text: Blob,
     },

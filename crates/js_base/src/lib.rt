@@ -23,3 +23,6 @@ pub use moment::Moment;
 pub use name::{Name, NameFault};
 pub use out::{ApiError, Out, Outs};
 pub use spot::Spot;
+
+#[cfg(test)]
+mod tests;

@@ -3,7 +3,7 @@
 ghost use Rattle.std.specs.Prelude.{◌≡◌, ◌==◌, [], ◌∷◌, ◌++◌, OnOk, OnErr, length};
 
 use crate::memory::NoMemory;
-use std::alloc::Global;
+use std::alloc::{AllocError, Global};
 use std::marker::Model;
 
 /// A vector that contracts see as the list of its items. It is made from a `Vec` and gives it back without taking memory.
@@ -77,4 +77,36 @@ impl<T> List<T> {
             Err(_) => Err(NoMemory),
         }
     }
+}
+
+/// The clones of the items, in their order. It takes memory for them.
+impl<T: Clone> Clone for List<T> {
+    ghost use Rattle.std.specs.List.{AllZip};
+
+    ghost is_clone = { λ list copy. AllZip T.is_clone list copy };
+
+    fn clone(&self) -> Result<List<T>, AllocError> {
+        Ok(List {
+            items: self.items.clone()?,
+        })
+    }
+}
+
+/// Two lists are equal where they have as many items, and each equals the one at its place.
+impl<T: PartialEq> PartialEq for List<T> {
+    ghost use Rattle.std.specs.Cmp.Lexicographic.{pointwise, lists_per};
+
+    ghost eq = { λ one other. pointwise T.eq one other };
+
+    ghost laws = { lists_per T.laws };
+
+    fn eq(&self, other: &Self) -> bool {
+        self.items == other.items
+    }
+}
+
+impl<T: Eq> Eq for List<T> {
+    ghost use Rattle.std.specs.Cmp.Lexicographic.{lists_equiv};
+
+    ghost laws = { lists_equiv T.Eq.laws };
 }

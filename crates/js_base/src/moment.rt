@@ -5,7 +5,7 @@ ghost use Rattle.js_base.specs.Moments.{plus};
 
 use std::marker::Model;
 
-/// A moment in nanoseconds since 1970, below 2^62.
+/// A moment in nanoseconds since 1970, below 2^62, which is in the year 2116.
 #[derive(Clone, Copy, Debug, PartialEq, Eq, PartialOrd, Ord)]
 pub struct Moment {
     ns: u64,
@@ -36,7 +36,7 @@ impl Moment {
         }
     }
 
-    /// The moment so many nanoseconds later, or the last one, 2^62 - 1, where that is later still.
+    /// The moment so many nanoseconds later, or the last one, 2^62 - 1, where that would be past it.
     pub fn plus(self, ns: u64) -> Moment
         ensures { result ≡ plus self ns }
     {

@@ -30,18 +30,23 @@ impl Model for Name {
 /// Why a text is no name.
 #[derive(Clone, Copy, Debug, PartialEq, Eq, Error)]
 pub enum NameFault {
+    /// No bytes at all.
     #[error("empty")]
     Empty,
+    /// More than 255 bytes.
     #[error("longer than 255 bytes")]
     TooLong,
+    /// The place, counted from 0, of the first byte that may not stand in a name.
     #[error("a byte at {0} that may not stand in a name")]
     BadByte(usize),
+    /// The text is a name, and there was no memory for a copy of it.
     #[error("out of memory")]
     NoMemory,
 }
 
 impl Name {
-    /// The name that the text is. A text that is too long is called so before its bytes are looked at.
+    /// The name that the text is, in a copy of it. Without bytes it is `Empty`; else with more than 255 it is `TooLong`, before any of them is
+    /// looked at; else the first that may not stand in a name is `BadByte`.
     pub fn read(alloc: Global, bytes: &[u8]) -> Result<Name, NameFault>
         ensures { ReadsName result (name_of bytes.now) }
     {

@@ -4,10 +4,13 @@ use crate::blob::Blob;
 use crate::list::List;
 
 /// A message that the server routes: to a subject, showing a subject, which is another one where a stored message is delivered.
-#[derive(Drop, Debug)]
+#[derive(Drop, Clone, Debug, PartialEq, Eq)]
 pub struct Out {
+    /// The subject by which it finds its subscriptions.
     pub to: Blob,
+    /// The subject that its receivers see.
     pub subject: Blob,
+    /// Where its receivers answer to.
     pub reply: Option<Blob>,
     /// The header block, empty where there is none.
     pub headers: Blob,
@@ -18,9 +21,12 @@ pub struct Out {
 pub type Outs = List<Out>;
 
 /// A refusal of the JetStream API: its HTTP-like code, the number that names it, and its text.
-#[derive(Drop, Debug, PartialEq, Eq)]
+#[derive(Drop, Clone, Debug, PartialEq, Eq)]
 pub struct ApiError {
+    /// Its kind, as an HTTP status tells it.
     pub code: u16,
+    /// The number that names the refusal, as JetStream's `err_code`.
     pub err_code: u32,
+    /// What it says to a reader.
     pub text: Blob,
 }

@@ -170,14 +170,39 @@ pull_answer s reply ask None = quietly Nobody s
 pull_answer s reply ask (Some c) = record { reply = Silent; outs = pull_outs reply ask c; state = Live (with_consumer s (pulled s.moment reply ask c)) }
 
 -- an acknowledgement that asks for the next message pulls, and is not confirmed
+abbrev pub ack_reply : AckKind → Reply
+ack_reply Acknowledge = Confirmed
+ack_reply (Nak delay) = Confirmed
+ack_reply Wpi = Confirmed
+ack_reply (Next ask) = Silent
+ack_reply Term = Confirmed
+
+-- what it asks for
+abbrev pub next_ask : AckKind → Option Ask
+next_ask Acknowledge = None
+next_ask (Nak delay) = None
+next_ask Wpi = None
+next_ask (Next ask) = Some ask
+next_ask Term = None
+
+abbrev pub pulled_next : ℕ → Option Bytes → Option Ask → Consumer → Consumer
+pulled_next now reply None c = c
+pulled_next now reply (Some ask) c = pulled now reply (Some ask) c
+
+abbrev pub next_outs : Option Bytes → Option Ask → Consumer → List Out
+next_outs reply None c = []
+next_outs reply (Some ask) c = pull_outs reply (Some ask) c
+
+-- the consumer after the acknowledgement, and after what it asks for
+abbrev pub after_ack : ℕ → Option Bytes → ℕ → AckKind → Consumer → Consumer
+after_ack now reply n kind c = pulled_next now reply (next_ask kind) (acknowledged now n kind c)
+
 abbrev pub ack_done : Stream → Option Bytes → ℕ → AckKind → Consumer → Answer
-ack_done s reply n Acknowledge c = quietly Confirmed (with_consumer s (acknowledged s.moment n Acknowledge c))
-ack_done s reply n (Nak delay) c = quietly Confirmed (with_consumer s (acknowledged s.moment n (Nak delay) c))
-ack_done s reply n Wpi c = quietly Confirmed (with_consumer s (acknowledged s.moment n Wpi c))
-ack_done s reply n (Next ask) c =
-    let acked = acknowledged s.moment n (Next ask) c in
-    record { reply = Silent; outs = pull_outs reply (Some ask) acked; state = Live (with_consumer s (pulled s.moment reply (Some ask) acked)) }
-ack_done s reply n Term c = quietly Confirmed (with_consumer s (acknowledged s.moment n Term c))
+ack_done s reply n kind c = record {
+  reply = ack_reply kind;
+  outs = next_outs reply (next_ask kind) (acknowledged s.moment n kind c);
+  state = Live (with_consumer s (after_ack s.moment reply n kind c));
+}
 
 abbrev pub ack_answer : Stream → Option Bytes → ℕ → AckKind → Option Consumer → Answer
 ack_answer s reply n kind None = quietly Silent s

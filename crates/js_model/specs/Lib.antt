@@ -1,3 +1,4 @@
+pub mod Lists
 pub mod Streams
 pub mod Refusals
 pub mod Configs
@@ -21,3 +22,4 @@ pub mod Sound
 pub mod Routes
 pub mod Catalog
 pub mod Legal
+pub mod Laws

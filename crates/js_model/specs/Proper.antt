@@ -1,6 +1,7 @@
--- Events as the server's readers give them: names, subjects, patterns, configurations and numbers in their ranges.
+-- Events as the server's readers give them: names, subjects, patterns, configurations, header blocks and numbers as they are accepted.
 use Rattle.std.specs.Prelude.{◌+◌, ◌^◌, nat_le, Bool, true, ◌&&◌, ◌||◌, length, Option, Some, None}
 use Rattle.js_base.specs.Bytes.{Bytes, is_empty, same}
+use Rattle.js_base.specs.Headers.{is_block}
 use Rattle.js_base.specs.Subjects.{is_pattern_text, is_subject_text}
 use Rattle.js_model.specs.declared.ack.Ask.{Ask}
 use Rattle.js_model.specs.declared.ack.AckKind.{AckKind}
@@ -45,7 +46,7 @@ is_proper_kind _ = true
 
 abbrev pub is_proper_publish : Publish → Bool
 is_proper_publish p =
-    is_subject_text p.subject && nat_le (length p.headers + length p.payload) 1048576
+    is_subject_text p.subject && (is_empty p.headers || is_block p.headers) && nat_le (length p.headers + length p.payload) 1048576
     && if_given is_number p.wants.last && if_given is_number p.wants.subject_last
 
 abbrev pub is_proper_what : What → Bool

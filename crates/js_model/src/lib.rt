@@ -7,6 +7,7 @@ mod consumer_config;
 mod desk;
 mod entry;
 mod event;
+pub mod laws;
 mod reply;
 mod stream;
 mod stream_config;

@@ -2,3 +2,4 @@ pub mod Told
 pub mod Causes
 pub mod Reports
 pub mod Moments
+mod Scripts

@@ -6,3 +6,8 @@ pub mod Accepts
 pub mod Reports
 pub mod Puts
 pub mod Moments
+pub mod Calls
+pub mod Script
+pub mod MemLink
+pub mod MemDoor
+pub mod MemSink

@@ -3,15 +3,36 @@
 #![tactic(auto)]
 
 mod answers;
+mod calls;
 mod clock;
 mod door;
 mod gate;
+mod gates;
 mod link;
+mod mem_clock;
+mod mem_door;
+mod mem_link;
+mod mem_sink;
+mod pipe;
+mod script;
 mod sink;
+mod system_clock;
+#[cfg(test)]
+mod tests;
+mod writer_sink;
 
 pub use answers::{Accept, Accepted, Answer, Give, Put, Take};
 pub use clock::Clock;
 pub use door::Door;
 pub use gate::Gate;
+pub use gates::{HoldGate, OpenGate};
 pub use link::Link;
+pub use mem_clock::MemClock;
+pub use mem_door::{Knock, MemDoor};
+pub use mem_link::MemLink;
+pub use mem_sink::MemSink;
+pub use pipe::{PipeDoor, PipeLink};
+pub use script::Said;
 pub use sink::Sink;
+pub use system_clock::SystemClock;
+pub use writer_sink::WriterSink;

@@ -1,12 +1,13 @@
 -- A text has no fault just where it is a subject, or a pattern.
-use Rattle.std.proofs.Common.{ℕ, ◌≡◌, ◌+◌, Bool, true, false, cond, ltb, nat_lt, nat_le, ◌&&◌, ◌||◌, not, suc, List, [], ◌∷◌, Option, Some, None, length, is_none, refl, sym, ap, ◌∙◌, arith}
+use Rattle.std.proofs.Common.{ℕ, ◌≡◌, ◌+◌, Bool, true, false, cond, nat_lt, nat_le, ◌&&◌, ◌||◌, not, List, [], ◌∷◌, Option, Some, None, length, is_none, refl, sym, ap, ◌∙◌, arith}
 use Rattle.std.specs.Option.{option_map}
-use Rattle.std.specs.List.{list_all, prefix_len, position_or_len}
+use Rattle.std.specs.List.{list_all}
 use Rattle.std.specs.Str.{is_utf8}
 use Rattle.std.specs.Str.Lossy.{utf8_valid_len}
 use Rattle.std.proofs.lemmas.Bool.Decides.{nat_tests}
 use Rattle.js_base.specs.Bytes.{Bytes, is_empty, same}
 use Rattle.js_base.specs.Subjects.{tokens, rest, is_plain, is_pattern, is_token_byte, is_spelled, is_subject_text, is_pattern_text}
+use Rattle.js_base.proofs.Places.{none_fails}
 use Rattle.subject_match.specs.declared.check.Kind.{Kind}
 use Rattle.subject_match.specs.declared.check.Kind.TheVariants.{Subject, Pattern}
 use Rattle.subject_match.specs.declared.fault.SubjectFault.{SubjectFault}
@@ -34,24 +35,6 @@ none_broken text = go (is_utf8 text)
     go : (b : Bool) → is_none (cond b None (Some (utf8_valid_len text))) ≡ b
     go true = refl
     go false = refl
-
-one_more : (n l : ℕ) → ltb (1 + n) (suc l) ≡ ltb n l
-one_more n l = grind (arith, nat_tests)
-
-none_at : (text : Bytes) → ltb (prefix_len (λ byte. not (not (is_token_byte byte))) text) (length text) ≡ not (list_all is_token_byte text)
-none_at [] = refl
-none_at (byte ∷ more) = go (is_token_byte byte) (none_at more)
-  where
-    go : (b : Bool) → ltb (prefix_len (λ byte. not (not (is_token_byte byte))) more) (length more) ≡ not (list_all is_token_byte more) → ltb (cond (not (not b)) (1 + prefix_len (λ byte. not (not (is_token_byte byte))) more) 0) (suc (length more)) ≡ not (b && list_all is_token_byte more)
-    go true h = one_more _ _ ∙ h
-    go false h = grind (arith, nat_tests)
-
-none_bad : (text : Bytes) → is_none (bad_byte text) ≡ list_all is_token_byte text
-none_bad text = go (list_all is_token_byte text) _ (none_at text)
-  where
-    go : (all found : Bool) → found ≡ not all → is_none (cond found (Some (position_or_len (λ byte. not (is_token_byte byte)) text)) None) ≡ all
-    go true found h = rw h refl
-    go false found h = rw h refl
 
 -- the tokens are as the kind wants them
 abbrev are_fit : Kind → List Bytes → Bool
@@ -104,7 +87,7 @@ both h k = cc
 no_fault : (kind : Kind) (text : Bytes) → is_none (fault_of kind text) ≡ (is_spelled text && are_fit kind (tokens text))
 no_fault kind text =
     let parts = none_in_tokens kind 0 (tokens text) in
-    let bytes = none_earlier (option_map BadByte (bad_byte text)) (option_map BadByte (broken text)) ∙ both (none_mapped (bad_byte text) ∙ none_bad text) (none_mapped (broken text) ∙ none_broken text) in
+    let bytes = none_earlier (option_map BadByte (bad_byte text)) (option_map BadByte (broken text)) ∙ both (none_mapped (bad_byte text) ∙ none_fails is_token_byte text) (none_mapped (broken text) ∙ none_broken text) in
     none_short (nat_lt 1024 (length text)) _
     ∙ both (short_enough (length text)) (none_earlier (token_fault kind 0 (tokens text)) _ ∙ both parts bytes)
     ∙ joined (nat_lt 0 (length text)) (nat_le (length text) 1024) (list_all is_token_byte text) (is_utf8 text) (list_all (λ token. not (is_empty token)) (tokens text)) (are_fit kind (tokens text)) (some_bytes text)

@@ -1,4 +1,4 @@
--- The tokens of a text, by its first dot.
+-- The tokens of a text by its first dot, and what matches where they end.
 use Rattle.std.proofs.Common.{ℕ, ◌≡◌, ◌+◌, ◌-◌, ◌==◌, Bool, true, false, cond, ltb, List, All, [], ◌∷◌, Option, Some, None, length, take, drop, position, refl, sym, ◌∙◌, arith, is_some, not, Bor}
 use Rattle.std.specs.Option.{option_copied}
 use Rattle.std.specs.List.{onto_first, position_or_len}

@@ -52,6 +52,7 @@ pub fn is_publish_subject(bytes: &[u8]) -> bool
     check_subject(bytes).is_ok() || (bytes.starts_with(b"$JS.API.") && check_pattern(bytes).is_ok())
 }
 
+/// What is wrong with the text, if anything is.
 fn fault_of(kind: Kind, text: &[u8]) -> Option<SubjectFault>
     ensures value { result ≡ fault_of kind text.now }
 {
@@ -104,6 +105,7 @@ fn bad_byte(text: &[u8]) -> Option<usize>
     text.iter().position(|byte| !is_token_byte(*byte))
 }
 
+/// Whether the byte may stand in a token, as far as it tells alone.
 fn is_token_byte(byte: u8) -> bool
     ensures value { result ≡ is_token_byte byte }
 {
@@ -125,16 +127,12 @@ fn earlier(one: Option<SubjectFault>, other: Option<SubjectFault>) -> Option<Sub
     ensures value { result ≡ earlier one other }
 {
     match (one, other) {
-        (Some(one), Some(other)) => Some(if place(other) < place(one) {
-            other
-        } else {
-            one
-        }),
-        (None, other) => other,
-        (one, None) => one,
+        (Some(first), Some(second)) if place(second) < place(first) => other,
+        _ => one.or(other),
     }
 }
 
+/// Where the fault is.
 fn place(fault: SubjectFault) -> usize
     ensures value { result ≡ place fault }
 {

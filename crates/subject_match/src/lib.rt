@@ -9,3 +9,6 @@ mod token;
 pub use check::{check_pattern, check_subject, is_publish_subject};
 pub use fault::SubjectFault;
 pub use matching::{matches, overlaps};
+
+#[cfg(test)]
+mod tests;

@@ -1,4 +1,4 @@
-use Rattle.std.proofs.Common.{◌∙◌, sym, ap, drop, ◌+◌, ◌-◌, ◌*◌, ◌≤◌, subst, ℕ, ◌^◌, get_or}
+use Rattle.std.proofs.Common.{◌∙◌, sym, ap, drop, ◌+◌, ◌*◌, ◌≤◌, subst, ℕ, ◌^◌}
 use Rattle.js_base.proofs.Decimals.{continued, continued-next, too_big}
 use Rattle.js_base.proofs.decimal.small_value.Goals as goal
 

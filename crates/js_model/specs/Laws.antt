@@ -1,0 +1,254 @@
+-- What holds of each run of a place.
+use Rattle.std.specs.Prelude.{◌≡◌, ◌<◌, ◌≤◌, ◌+◌, ◌++◌, map, filter, if◌then◌else◌, max, Contains, ◌||◌, ◌&&◌, ◌==◌, Bool, true, false, ℕ, List, [], ◌∷◌, Option, Some, None, ⊤, MatchBool}
+use Rattle.std.specs.List.{list_any}
+use Rattle.js_base.specs.Bytes.{Bytes, is_empty, same, has}
+use Rattle.js_base.specs.Moments.{plus}
+use Rattle.js_base.specs.declared.out.Out.{Out}
+use Rattle.js_model.specs.declared.stream.Message.{Message}
+use Rattle.js_model.specs.declared.stream.Stream.{Stream}
+use Rattle.js_model.specs.declared.stream.State.{State}
+use Rattle.js_model.specs.declared.stream.State.TheVariants.{Vacant, Live}
+use Rattle.js_model.specs.declared.consumer.Consumer.{Consumer}
+use Rattle.js_model.specs.declared.event.Event.{Event}
+use Rattle.js_model.specs.declared.event.What.{What}
+use Rattle.js_model.specs.declared.event.What.TheVariants.{Change, Drop as DropStream, Publish as PublishIt, Purge, Delete, DropConsumer, Ack as AckIt}
+use Rattle.js_model.specs.declared.reply.Reply.{Reply}
+use Rattle.js_model.specs.declared.reply.Reply.TheVariants.{Published, Duplicate, Refused}
+use Rattle.js_model.specs.declared.entry.Delivered.{Delivered}
+use Rattle.js_model.specs.declared.entry.Delivered.TheVariants.{Sent, TooSmall, Emptied}
+use Rattle.js_model.specs.declared.entry.Delivery.{Delivery}
+use Rattle.js_model.specs.declared.entry.Call.{Call}
+use Rattle.js_model.specs.declared.entry.Call.TheVariants.{Step as StepOf, Deliver as DeliverOf}
+use Rattle.js_model.specs.declared.entry.PlaceEntry.{PlaceEntry}
+use Rattle.js_model.specs.declared.entry.PlaceEntry.TheVariants.{Step, Deliver, Broken}
+use Rattle.js_model.specs.Lists.{Ascends, IsPart}
+use Rattle.js_model.specs.Streams.{by_name, pending_seqs, seqs, passes_filter}
+use Rattle.js_model.specs.Advance.{advance}
+use Rattle.js_model.specs.Retention.{is_kept}
+use Rattle.js_model.specs.Trim.{trim}
+use Rattle.js_model.specs.Events.{purge_list, stream_answer}
+use Rattle.js_model.specs.Runs.{RunFrom, IsStep, messages_of}
+use Rattle.js_model.specs.Firm.{moment_of}
+use Rattle.js_model.specs.Sound.{IsSound}
+
+-- ---- soundness is kept
+
+abbrev pub LawSound : Type 0
+LawSound = (count : ℕ) (old new : State) (entries : List PlaceEntry) → IsSound old → RunFrom count old entries new → IsSound new
+
+-- ---- what is acknowledged is not sent again
+
+-- the event drops the consumer of this name, or the stream
+abbrev pub drops : Bytes → What → Bool
+drops name (DropStream reply) = true
+drops name (DropConsumer reply other) = same name other
+drops name _ = false
+
+-- the event acknowledges a delivery to the consumer of this name
+abbrev pub acknowledges : Bytes → What → Bool
+acknowledges name (AckIt reply ack) = same ack.consumer name
+acknowledges name _ = false
+
+-- a delivery of the sequence waits for its acknowledgement, or was given up
+abbrev pub has_entry : ℕ → Option Consumer → Bool
+has_entry n None = false
+has_entry n (Some c) = has (pending_seqs c) n || has c.given_up n
+
+abbrev pub consumer_of : Bytes → State → Option Consumer
+consumer_of name (Vacant i) = None
+consumer_of name (Live s) = by_name s.consumers name
+
+-- the state at a moment
+abbrev pub state_at : State → ℕ → State
+state_at (Vacant i) now = Vacant i
+state_at (Live s) now = Live (advance s now)
+
+-- an acknowledgement ended the entry of the sequence: it stood at the event's moment, and is gone after it
+pub record EndsEntry (old : State) (e : Event) (now : ℕ) (new : State) (name : Bytes) (n : ℕ) : Type 0 where
+  pub event : acknowledges name e.what ≡ true
+  pub stood : has_entry n (consumer_of name (state_at old now)) ≡ true
+  pub gone : has_entry n (consumer_of name new) ≡ false
+
+abbrev pub is_sent : ℕ → Delivered → Bool
+is_sent n (Sent seq count dseq) = seq == n
+is_sent n TooSmall = false
+is_sent n Emptied = false
+
+-- the delivery sends the sequence to the consumer of this name
+abbrev pub sends : Bytes → ℕ → Delivery → Bool
+sends name n d = same d.consumer name && is_sent n d.what
+
+-- until the consumer or the stream is dropped, the sequence is not sent to it
+abbrev pub NeverSent : Bytes → ℕ → List PlaceEntry → Type 0
+NeverSent name n [] = ⊤
+NeverSent name n (Step seat e now reply outs unsaid ∷ entries) = MatchBool (drops name e.what) ⊤ (NeverSent name n entries)
+NeverSent name n (Deliver seat now listening d outs ∷ entries) = (sends name n d ≡ false) × NeverSent name n entries
+NeverSent name n (Broken seat now (StepOf e) ∷ entries) = ⊤
+NeverSent name n (Broken seat now (DeliverOf listening d) ∷ entries) = sends name n d ≡ false
+
+abbrev pub LawAcked : Type 0
+LawAcked = (name : Bytes) (n count later : ℕ) (old mid new : State) (e : Event) (now : ℕ) (reply : Reply) (outs : List Out) (entries : List PlaceEntry)
+    → IsSound old → IsStep count old e now reply outs mid → EndsEntry old e now mid name n → RunFrom later mid entries new → NeverSent name n entries
+
+-- ---- a repeat is told so
+
+-- the id with which an event publishes
+abbrev pub id_of : What → Bytes
+id_of (PublishIt p) = p.wants.id
+id_of _ = []
+
+-- the event neither changes the configuration nor drops the stream
+abbrev pub keeps_window : What → Bool
+keeps_window (Change reply config) = false
+keeps_window (DropStream reply) = false
+keeps_window _ = true
+
+-- each event of the entries passes
+abbrev pub EachEvent : (What → Bool) → List PlaceEntry → Type 0
+EachEvent test [] = ⊤
+EachEvent test (Step seat e now reply outs unsaid ∷ entries) = (test e.what ≡ true) × EachEvent test entries
+EachEvent test (Deliver seat now listening d outs ∷ entries) = EachEvent test entries
+EachEvent test (Broken seat now (StepOf e) ∷ entries) = (test e.what ≡ true) × EachEvent test entries
+EachEvent test (Broken seat now (DeliverOf listening d) ∷ entries) = EachEvent test entries
+
+abbrev pub window_of : State → ℕ
+window_of (Vacant i) = 0
+window_of (Live s) = s.config.duplicate_window
+
+-- the sequence of the first, or a refusal that is decided before: by size, a bad header number, a long id, or the expected stream
+abbrev pub IsRepeatReply : ℕ → Reply → Type 0
+IsRepeatReply n (Duplicate m) = m ≡ n
+IsRepeatReply n (Refused e) = has (20018 ∷ 20021 ∷ 20014 ∷ 10060 ∷ []) e.err_code ≡ true
+IsRepeatReply n _ = ⊥
+
+-- a publish of an id that was published within the window
+pub record Repeats (mid later : State) (now : ℕ) (first second : What) : Type 0 where
+  pub id : is_empty (id_of first) ≡ false
+  pub same_id : id_of second ≡ id_of first
+  pub within : moment_of (state_at later now) < plus (moment_of mid) (window_of mid)
+
+abbrev pub LawDuplicate : Type 0
+LawDuplicate = (n count between after : ℕ) (old mid later new : State) (first second : Event) (now repeated : ℕ) (reply : Reply) (outs others : List Out) (entries : List PlaceEntry)
+    → IsSound old → IsStep count old first now (Published n) outs mid → RunFrom between mid entries later → EachEvent keeps_window entries
+    → IsStep after later second repeated reply others new → Repeats mid later repeated first.what second.what → IsRepeatReply n reply
+
+-- ---- a stored message leaves only for a reason
+
+-- it is too old at the moment
+pub record IsAged (s : Stream) (now : ℕ) (m : Message) : Type 0 where
+  pub limited : (s.config.max_age == 0) ≡ false
+  pub old : plus m.at s.config.max_age ≤ max s.moment now
+
+-- a limit drops it from what the event leaves
+abbrev pub IsTrimmed : State → Message → Type 0
+IsTrimmed (Vacant i) m = ⊥
+IsTrimmed (Live s) m = (has (seqs s.messages) m.seq ≡ true) × (has (seqs (trim s).messages) m.seq ≡ false)
+
+-- the retention of the state after it does not ask for it
+abbrev pub IsUnneeded : State → Message → Type 0
+IsUnneeded (Vacant i) m = ⊥
+IsUnneeded (Live s) m = is_kept s.config.retention s.consumers m ≡ false
+
+-- why a message of the stream is gone after an event
+pub data LeavesOnEvent (s : Stream) (what : What) (now : ℕ) (new : State) (m : Message) : Type 0 where
+  aged : IsAged s now m → LeavesOnEvent s what now new m
+  purged : (reply : Option Bytes) (pattern : Bytes) (below keep : Option ℕ) → what ≡ Purge reply pattern below keep → has (seqs (purge_list (advance s now) pattern below keep)) m.seq ≡ true → LeavesOnEvent s what now new m
+  deleted : (reply : Option Bytes) → what ≡ Delete reply m.seq → LeavesOnEvent s what now new m
+  dropped : (reply : Option Bytes) → what ≡ DropStream reply → LeavesOnEvent s what now new m
+  trimmed : (room : Bool) → IsTrimmed (stream_answer (advance s now) what room).state m → LeavesOnEvent s what now new m
+  unneeded : IsUnneeded new m → LeavesOnEvent s what now new m
+
+-- why a message of the stream is gone after a delivery
+pub data LeavesOnDelivery (s : Stream) (now : ℕ) (new : State) (m : Message) : Type 0 where
+  aged_by_then : IsAged s now m → LeavesOnDelivery s now new m
+  not_needed : IsUnneeded new m → LeavesOnDelivery s now new m
+
+abbrev pub Leaves : State → PlaceEntry → State → Message → Type 0
+Leaves (Vacant i) entry new m = ⊥
+Leaves (Live s) (Step seat e now reply outs unsaid) new m = LeavesOnEvent s e.what now new m
+Leaves (Live s) (Deliver seat now listening d outs) new m = LeavesOnDelivery s now new m
+Leaves (Live s) (Broken seat now (StepOf e)) new m = LeavesOnEvent s e.what now new m
+Leaves (Live s) (Broken seat now (DeliverOf listening d)) new m = LeavesOnDelivery s now new m
+
+abbrev pub LawKept : Type 0
+LawKept = (count later : ℕ) (first old new : State) (entries : List PlaceEntry) (entry : PlaceEntry) (m : Message)
+    → IsSound first → RunFrom count first entries old → RunFrom later old (entry ∷ []) new
+    → Contains (messages_of old) m → has (seqs (messages_of new)) m.seq ≡ false → Leaves old entry new m
+
+-- ---- deliveries come in order
+
+-- what was sent
+pub record Sending : Type 0 where
+  pub seq : ℕ
+  pub count : ℕ
+  pub dseq : ℕ
+
+abbrev pub sending_of : Delivered → List Sending
+sending_of (Sent seq count dseq) = record { seq = seq; count = count; dseq = dseq } ∷ []
+sending_of TooSmall = []
+sending_of Emptied = []
+
+abbrev pub sending_to : Bytes → Delivery → List Sending
+sending_to name d = if same d.consumer name then sending_of d.what else []
+
+-- what is sent to the consumer of this name, until it or the stream is dropped
+abbrev pub sendings : Bytes → List PlaceEntry → List Sending
+sendings name [] = []
+sendings name (Step seat e now reply outs unsaid ∷ entries) = if drops name e.what then [] else sendings name entries
+sendings name (Deliver seat now listening d outs ∷ entries) = sending_to name d ++ sendings name entries
+sendings name (Broken seat now (StepOf e) ∷ entries) = []
+sendings name (Broken seat now (DeliverOf listening d) ∷ entries) = sending_to name d
+
+-- the consumer sequences follow one after the other
+abbrev pub Follow : ℕ → List Sending → Type 0
+Follow dseq [] = ⊤
+Follow dseq (x ∷ xs) = (x.dseq ≡ dseq + 1) × Follow (dseq + 1) xs
+
+-- the sequences that are delivered for the first time
+abbrev pub firsts : List Sending → List ℕ
+firsts xs = map (λ x. x.seq) (filter (λ x. x.count == 1) xs)
+
+-- some picks in their order, and then sequences that rise from the cursor on
+pub record IsStartOrder (picks : List ℕ) (cursor : ℕ) (seqs : List ℕ) : Type 0 where
+  pub picked : List ℕ
+  pub rising : List ℕ
+  pub split : seqs ≡ picked ++ rising
+  pub part : IsPart picked picks
+  pub ascends : Ascends cursor rising
+
+-- the sequence and the subject of a message
+abbrev pub Stored : Type 0
+Stored = ℕ × Bytes
+
+abbrev pub stored_first : State → List Stored
+stored_first s = map (λ m. (m.seq, m.subject)) (messages_of s)
+
+-- what a publish that is taken stores
+abbrev pub stored_by : What → Reply → List Stored
+stored_by (PublishIt p) (Published n) = (n, p.subject) ∷ []
+stored_by _ _ = []
+
+-- a message of this sequence was stored, and the filter matches its subject
+abbrev pub was_stored : Bytes → List Stored → ℕ → Bool
+was_stored pattern stored n = list_any (λ x. x.0 == n && passes_filter pattern x.1) stored
+
+abbrev pub WereStored : Bytes → List Stored → List Sending → Type 0
+WereStored pattern stored [] = ⊤
+WereStored pattern stored (x ∷ xs) = (was_stored pattern stored x.seq ≡ true) × WereStored pattern stored xs
+
+-- what is sent to the consumer was stored at first or by an entry before, and its filter matches it
+abbrev pub SendsStored : Bytes → Bytes → List Stored → List PlaceEntry → Type 0
+SendsStored name pattern stored [] = ⊤
+SendsStored name pattern stored (Step seat e now reply outs unsaid ∷ entries) = MatchBool (drops name e.what) ⊤ (SendsStored name pattern (stored_by e.what reply ++ stored) entries)
+SendsStored name pattern stored (Deliver seat now listening d outs ∷ entries) = WereStored pattern stored (sending_to name d) × SendsStored name pattern stored entries
+SendsStored name pattern stored (Broken seat now (StepOf e) ∷ entries) = ⊤
+SendsStored name pattern stored (Broken seat now (DeliverOf listening d) ∷ entries) = WereStored pattern stored (sending_to name d)
+
+pub record IsInOrder (name : Bytes) (old : State) (c : Consumer) (entries : List PlaceEntry) : Type 0 where
+  pub consecutive : Follow c.dseq (sendings name entries)
+  pub start : IsStartOrder c.picks c.cursor (firsts (sendings name entries))
+  pub stored : SendsStored name c.config.filter_subject (stored_first old) entries
+
+abbrev pub LawOrder : Type 0
+LawOrder = (name : Bytes) (count : ℕ) (old new : State) (entries : List PlaceEntry) (c : Consumer)
+    → IsSound old → consumer_of name old ≡ Some c → RunFrom count old entries new → IsInOrder name old c entries

@@ -1,0 +1,30 @@
+//! What holds of each run of a place, by the definitions alone.
+
+ghost use Rattle.js_model.specs.Laws.{LawSound, LawAcked, LawDuplicate, LawKept, LawOrder};
+
+/// Soundness is kept: each state that a run reaches from a sound one is sound.
+pub fn law_sound()
+    ensures law { LawSound }
+{}
+
+/// A sequence whose entry an acknowledgement ended is not sent again to its consumer, until it or the stream is dropped.
+pub fn law_acked()
+    ensures law { LawAcked }
+{}
+
+/// After a publish was stored with an id, another one of that id is told the first sequence, as long as the window has
+/// not passed and the configuration stays. It may be refused first for its size, its headers or the expected stream.
+pub fn law_duplicate()
+    ensures law { LawDuplicate }
+{}
+
+/// A stored message leaves only by its age, a purge, a delete, a drop of the stream, a limit or the retention.
+pub fn law_kept()
+    ensures law { LawKept }
+{}
+
+/// What is sent to a consumer has consumer sequences one after the other, was stored before and matches its filter;
+/// first deliveries are its picks in order, and then sequences that rise from its cursor on.
+pub fn law_order()
+    ensures law { LawOrder }
+{}

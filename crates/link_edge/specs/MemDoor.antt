@@ -1,0 +1,57 @@
+-- A door in memory, as contracts see it, and what each of its calls does.
+use Rattle.std.specs.Prelude.{ℕ, Bool, true, false, ◌+◌, List, [], ◌∷◌, ◌++◌, Some, if◌then◌else◌}
+use Rattle.link_edge.specs.declared.answers.Accept.{Accept}
+use Rattle.link_edge.specs.declared.answers.Accept.TheVariants as accepts
+use Rattle.link_edge.specs.declared.answers.Accepted.{Accepted}
+use Rattle.link_edge.specs.declared.mem_door.Knock.{Knock}
+use Rattle.link_edge.specs.declared.mem_door.Knock.TheVariants as knocks
+use Rattle.link_edge.specs.Accepts.{accepted_of}
+use Rattle.link_edge.specs.Reports.{Report}
+use Rattle.link_edge.specs.Calls.{CallState, calls_of, next_fails, with_pass, with_failure}
+use Rattle.link_edge.specs.MemLink.{LinkState, link_of}
+
+-- who is still to knock, the accepts so far and what they answered, how many links were given out, and which came back
+pub record DoorState : Type 0 where
+  pub knocks : List Knock
+  pub calls : CallState
+  pub answered : List Accepted
+  pub gave : ℕ
+  pub back : List LinkState
+
+-- a door with a script, of whose accepts those with these numbers fail
+abbrev pub door_of : List Knock → List ℕ → DoorState
+door_of knocks failing = record { knocks = knocks; calls = calls_of failing; answered = []; gave = 0; back = [] }
+
+-- whether it is a link that comes
+abbrev pub is_link : Knock → Bool
+is_link (knocks.Link script failing) = true
+is_link knocks.Quiet = false
+
+-- what is known of a link that came back
+abbrev pub report_of : LinkState → Report
+report_of link = record { answered = Some link.answered; given = Some link.given; faults = link.calls.failed }
+
+-- what the script answers next
+abbrev pub next_accept : List Knock → Accept LinkState
+next_accept [] = accepts.Closed
+next_accept (knocks.Quiet ∷ more) = accepts.Quiet
+next_accept (knocks.Link script failing ∷ more) = accepts.Got (link_of script failing)
+
+-- what an accept answers, where memory suffices
+abbrev pub accept_of : DoorState → Accept LinkState
+accept_of door = if next_fails door.calls then accepts.Failed else next_accept door.knocks
+
+-- the script after that
+abbrev pub knocks_after : List Knock → List Knock
+knocks_after [] = []
+knocks_after (knock ∷ more) = more
+
+-- the door after an accept that was answered so
+abbrev pub after_accept : DoorState → Accept LinkState → DoorState
+after_accept door accepts.NoMemory = door
+after_accept door accepts.Failed =
+    record door { calls = with_failure door.calls; answered = door.answered ++ accepted_of {L = LinkState} accepts.Failed }
+after_accept door (accepts.Got link) =
+    record door { knocks = knocks_after door.knocks; calls = with_pass door.calls; answered = door.answered ++ accepted_of (accepts.Got link); gave = door.gave + 1 }
+after_accept door accept =
+    record door { knocks = knocks_after door.knocks; calls = with_pass door.calls; answered = door.answered ++ accepted_of accept }

@@ -1,0 +1,104 @@
+//! What a link in memory says.
+
+ghost use Rattle.std.specs.Prelude.{◌≡◌, ◌<◌, ◌≤◌, ◌++◌, length, min, take};
+ghost use Rattle.link_edge.specs.Takes.{taken_bytes};
+
+use crate::answers::Take;
+use js_base::{Blob, List};
+use std::marker::Model;
+
+/// A member of a script.
+#[derive(Drop, Debug)]
+pub enum Said {
+    /// These bytes come, in as many pieces as the room of the takes asks. No bytes are a `Quiet`.
+    Piece(Blob),
+    /// One take is answered `Quiet`.
+    Quiet,
+}
+
+/// A script that is played: what is still to be said, of a first piece only what was not taken yet.
+#[derive(Drop, Debug)]
+pub struct Script {
+    said: List<Said>,
+    next: usize,
+    offset: usize,
+}
+
+impl Model for Script {
+    ghost use Rattle.std.specs.Prelude.{List, length, drop, ◌≤◌};
+    ghost use Rattle.link_edge.specs.declared.script.Said.{Said};
+    ghost use Rattle.link_edge.specs.Script.{first_bytes, rest_from};
+
+    ghost Value = { List Said };
+
+    ghost view = { λ s. rest_from s.said s.next s.offset };
+
+    ghost invariant = { λ s. s.offset ≤ length (first_bytes (drop s.next s.said)) };
+}
+
+/// Copies as much of the bytes as there is room for, and says how much that was.
+fn copy_front(bytes: &[u8], into: &mut [u8]) -> usize
+    ensures count { result ≡ min (length bytes.now) (length into.old) }
+    ensures bytes { take result into.new ≡ take result bytes.now }
+{
+    let count = bytes.len().min(into.len());
+    into[..count].copy_from_slice(&bytes[..count]);
+    count
+}
+
+impl Script {
+    ghost use Rattle.link_edge.specs.Script.{next_take, script_after, script_bytes};
+
+    /// All of it is still to be said.
+    pub fn new(said: List<Said>) -> Script
+        ensures fresh { result ≡ said }
+    {
+        Script {
+            said,
+            next: 0,
+            offset: 0,
+        }
+    }
+
+    /// What the next take answers, whose bytes are put into the room. The script stays where it is.
+    pub fn say(&self, into: &mut [u8]) -> Take
+        requires room { 0 < length into.old }
+        ensures value { result ≡ next_take self.now (length into.new) }
+        ensures bytes { script_bytes self.now
+            ≡ taken_bytes result into.new ++ script_bytes (script_after self.now (length into.new)) }
+    {
+        if self.next >= self.said.len() {
+            return Take::Ended;
+        }
+        match &self.said.as_slice()[self.next] {
+            Said::Quiet => Take::Quiet,
+            Said::Piece(piece) => {
+                let (_, rest) = piece.as_slice().split_at(self.offset);
+                if rest.is_empty() {
+                    return Take::Quiet;
+                }
+                Take::Got(copy_front(rest, into))
+            }
+        }
+    }
+
+    /// Goes on by what a take with so much room was answered.
+    pub fn advance(&mut self, room: usize)
+        ensures rest { self.new ≡ script_after self.old room }
+    {
+        if self.next >= self.said.len() {
+            return;
+        }
+        match &self.said.as_slice()[self.next] {
+            Said::Quiet => self.next += 1,
+            Said::Piece(piece) => {
+                if piece.len() - self.offset <= room {
+                    self.next += 1;
+                    self.offset = 0;
+                } else {
+                    self.offset += room;
+                }
+            }
+        }
+    }
+}

@@ -1,0 +1,75 @@
+//! The clock of the system.
+
+ghost use Rattle.std.specs.Prelude.{◌≡◌, None};
+
+use crate::clock::Clock;
+use js_base::{Moment, NoMemory};
+use std::marker::Model;
+use std::rt;
+use std::time::{SystemTime, UNIX_EPOCH};
+
+/// The clock of the system. It tells nothing of the moments to come. Where the system fails to tell the time, or tells one that is no
+/// moment, that is counted and the last moment stays, which is at first the beginning of 1970.
+#[derive(Drop)]
+pub struct SystemClock<R: rt::Clock + Clone + Drop> {
+    rt: R,
+    last: Moment,
+    faults: u64,
+}
+
+impl<R: rt::Clock + Clone + Drop> Model for SystemClock<R> {
+    ghost use Rattle.std.specs.Prelude.{ℕ};
+
+    ghost Value = { ℕ };
+
+    ghost view = { λ s. s.faults };
+}
+
+impl<R: rt::Clock + Clone + Drop> SystemClock<R> {
+    /// A clock that has not been read yet.
+    pub fn new(rt: R) -> SystemClock<R>
+        ensures unfailed { result ≡ 0 }
+    {
+        SystemClock {
+            rt,
+            last: Moment::of(0).unwrap(),
+            faults: 0,
+        }
+    }
+
+    /// How often the system failed to tell a moment. The count stands still at its type's end.
+    pub fn faults(&self) -> u64
+        ensures value { result ≡ self.now }
+    {
+        self.faults
+    }
+}
+
+/// The moment that the system tells, if it tells one.
+fn read<R: rt::Clock>(rt: &R) -> Option<Moment> {
+    let time = SystemTime::now(rt).ok()?;
+    let since = time.duration_since(UNIX_EPOCH).ok()?;
+    Moment::of(u64::try_from(since.as_nanos()).ok()?)
+}
+
+impl<R: rt::Clock + Clone + Drop> Clock for SystemClock<R> {
+    ghost to_come = { λ _. None };
+
+    fn now(&mut self) -> Moment {
+        match read(&self.rt) {
+            Some(moment) => self.last = moment,
+            None => self.faults = self.faults.saturating_add(1),
+        }
+        self.last
+    }
+
+    /// A clock over the same system, which has counted no fault.
+    fn twin(&self) -> Result<SystemClock<R>, NoMemory> {
+        let rt = self.rt.clone()?;
+        Ok(SystemClock {
+            rt,
+            last: self.last,
+            faults: 0,
+        })
+    }
+}

@@ -1,0 +1,10 @@
+pub mod Splits
+pub mod Fields
+pub mod Lines
+pub mod Readings
+pub mod Runs
+pub mod Scans
+pub mod Parts
+pub mod Begins
+pub mod Giving
+pub mod Written

@@ -1,0 +1,42 @@
+-- What a decoder of a stream gives, piece by piece.
+use Rattle.std.specs.Prelude.{ℕ, ◌≡◌, ◌+◌, [], ◌++◌, length, Option, None, Some, Result, Ok, Err}
+use Rattle.js_base.specs.Bytes.{Bytes}
+use Rattle.nats_frames.specs.declared.op.Op.{Op}
+use Rattle.nats_frames.specs.declared.op.FrameFault.{FrameFault}
+use Rattle.nats_frames.specs.declared.op.FrameFault.TheVariants.{NotBuilt, NoMemory}
+use Rattle.nats_frames.specs.declared.front.Ready.{Ready}
+use Rattle.nats_frames.specs.Grammar.{Spells}
+use Rattle.nats_frames.specs.Reading.{Whole, Partial, Broken, op_at}
+use Rattle.nats_frames.specs.Shapes.{op_in, Fits}
+
+-- what a decoder holds of its input: how many bytes stood before, and the bytes that came since
+pub record Held : Type 0 where
+  pub before : ℕ
+  pub bytes : Bytes
+
+-- how many bytes came in all
+abbrev pub total : Held → ℕ
+total held = held.before + length held.bytes
+
+-- what was given of the bytes held before, and which are held now
+abbrev pub Gives : Result (Option Op) FrameFault → Held → Held → Type 0
+Gives (Ok (Some op)) old new = op_at old.bytes ≡ Whole op new.bytes
+Gives (Ok None) old new = (op_at old.bytes ≡ Partial) × (new ≡ old)
+Gives (Err NotBuilt) old new = (op_at old.bytes ≡ Broken) × (new ≡ old)
+Gives (Err NoMemory) old new = new ≡ old
+
+-- the parts of an operation stand in its bytes
+abbrev pub IsReady : Ready → Type 0
+IsReady ready = Fits ready.bytes ready.shape × Spells (op_in ready.bytes ready.shape) ready.bytes
+
+-- the bytes of an operation that is taken off but not given yet
+abbrev pub kept : Option Ready → Bytes
+kept None = []
+kept (Some ready) = ready.bytes
+
+-- what was taken off the front
+abbrev pub Takes : Result (Option Ready) FrameFault → Bytes → Bytes → Type 0
+Takes (Ok (Some ready)) old new = IsReady ready × (old ≡ ready.bytes ++ new)
+Takes (Ok None) old new = (op_at old ≡ Partial) × (new ≡ old)
+Takes (Err NotBuilt) old new = (op_at old ≡ Broken) × (new ≡ old)
+Takes (Err NoMemory) old new = new ≡ old

@@ -1,0 +1,90 @@
+//! Bytes that were fed, of which operations are taken off the front.
+
+ghost use Rattle.std.specs.Prelude.{◌≡◌, [], ◌++◌, OnOk, OnErr};
+
+use crate::look::{Look, look_at};
+use crate::op::FrameFault;
+use crate::shape::Shape;
+use bytes::{Bytes, BytesMut};
+use js_base::NoMemory;
+use std::alloc::Global;
+use std::marker::Model;
+
+/// The bytes of one operation, and where its parts stand in them.
+#[derive(Drop)]
+pub(crate) struct Ready {
+    pub(crate) bytes: Bytes,
+    pub(crate) shape: Shape,
+}
+
+/// Bytes that were fed and not taken yet, which contracts see as their list. What was found out about them is kept, so that no line is
+/// searched twice for its end, and none is read again before its payload is there.
+#[derive(Drop)]
+pub(crate) struct Front {
+    bytes: BytesMut,
+    scanned: usize,
+    quiet: usize,
+}
+
+impl Model for Front {
+    ghost use Rattle.std.specs.Prelude.{ℕ, List};
+    ghost use Rattle.nats_frames.specs.Reading.{op_at};
+    ghost use Rattle.nats_frames.specs.Looking.{IsScanned, IsQuiet};
+
+    ghost Value = { List ℕ };
+
+    ghost view = { λ front. front.bytes.items };
+
+    ghost invariant = { λ front. IsScanned front.bytes.items front.scanned × IsQuiet op_at front.bytes.items front.quiet };
+}
+
+impl Front {
+    ghost use Rattle.nats_frames.specs.Decoding.{Takes};
+
+    /// No bytes.
+    pub(crate) fn new(alloc: Global) -> Front
+        ensures { result ≡ [] }
+    {
+        Front {
+            bytes: BytesMut::new(alloc),
+            scanned: 0,
+            quiet: 0,
+        }
+    }
+
+    /// Adds bytes at the end. An `Err` leaves what was there.
+    pub(crate) fn push(&mut self, piece: &[u8]) -> Result<(), NoMemory>
+        ensures ok { OnOk result (self.new ≡ self.old ++ piece.now) }
+        ensures err { OnErr result (self.new ≡ self.old) }
+    {
+        match self.bytes.extend_from_slice(piece) {
+            Ok(()) => Ok(()),
+            Err(_) => Err(NoMemory),
+        }
+    }
+
+    /// Takes the operation at the front. An `Err` leaves what was there.
+    pub(crate) fn take(&mut self) -> Result<Option<Ready>, FrameFault>
+        ensures { Takes result self.old self.new }
+    {
+        if self.bytes.len() < self.quiet {
+            return Ok(None);
+        }
+        match look_at(self.bytes.as_slice(), self.scanned) {
+            Look::Whole { shape, len } => match self.bytes.freeze_to(len) {
+                Ok(bytes) => {
+                    self.scanned = 0;
+                    self.quiet = 0;
+                    Ok(Some(Ready { bytes, shape }))
+                }
+                Err(_) => Err(FrameFault::NoMemory),
+            },
+            Look::Partial { scanned, quiet } => {
+                self.scanned = scanned;
+                self.quiet = quiet;
+                Ok(None)
+            }
+            Look::Broken => Err(FrameFault::NotBuilt),
+        }
+    }
+}
