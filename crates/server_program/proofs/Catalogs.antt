@@ -1,5 +1,5 @@
 -- How the entries of a catalog are gone through, and what a new stream changes.
-use Rattle.std.proofs.Common.{◌≡◌, ℕ, ◌+◌, ◌<◌, zero, suc, Bool, true, false, ◌||◌, if◌then◌else◌, List, [], ◌∷◌, length, map, drop, get_or, Option, Some, None, Ok, Err, refl, sym, ap, ◌∙◌, inl, inr, add-one, arith}
+use Rattle.std.proofs.Common.{◌≡◌, ℕ, ◌+◌, ◌<◌, zero, suc, Bool, true, ◌||◌, if◌then◌else◌, List, [], ◌∷◌, length, map, drop, get_or, Option, Some, Ok, Err, refl, sym, ap, ◌∙◌, inl, inr, add-one, arith}
 use Rattle.std.proofs.lemmas.List.{length-map}
 use Rattle.std.proofs.Math.ListN.{set}
 use Rattle.std.proofs.lemmas.Bool.{eq-eqb, ne_eqb}
@@ -7,7 +7,7 @@ use Rattle.std.proofs.Math.Seq.{drop-cons}
 use Rattle.js_base.specs.Bytes.{Bytes}
 use Rattle.js_base.specs.declared.out.ApiError.{ApiError}
 use Rattle.js_model.specs.declared.desk.PlaceAt.{PlaceAt}
-use Rattle.js_model.specs.Catalog.{Catalog, Place, CatCall, Add, At, IsCatalogCall, catalog_call, telling, added, added_at, edited, with_place, taken_by, first_place, overlaps, overlaps_at, if_used, meets_used}
+use Rattle.js_model.specs.Catalog.{Catalog, Place, Add, At, IsCatalogCall, catalog_call, telling, added, added_at, edited, with_place, taken_by, first_place, overlaps, overlaps_at, if_used, meets_used}
 use Rattle.server_program.specs.declared.catalog.entry.Entry.{Entry}
 use Rattle.server_program.specs.declared.catalog.entry.Sought.{Sought}
 use Rattle.server_program.specs.declared.catalog.CatalogFault.{CatalogFault}

@@ -17,7 +17,7 @@ use Rattle.js_model.specs.declared.reply.Verdict.{Verdict}
 use Rattle.js_model.specs.declared.reply.Verdict.TheVariants.{Take, Refused as RefusedBy}
 use Rattle.js_model.specs.declared.reply.Reply.TheVariants.{Published, Refused}
 use Rattle.js_model.specs.Streams.{only}
-use Rattle.js_model.specs.Advance.{advance, advance_outs, aged, stream_at, young, remembered, consumer_at, consumer_outs}
+use Rattle.js_model.specs.Advance.{advance, advance_outs, aged, stream_at, young, remembered, consumer_at}
 use Rattle.js_model.specs.Trim.{trim, trim_subjects, trim_count, trim_bytes, newest_at, fitting_at}
 use Rattle.js_model.specs.Retention.{kept, is_kept}
 use Rattle.js_model.specs.Verdict.{verdict, known, early_checks, late_checks, first_of_all, message_of}

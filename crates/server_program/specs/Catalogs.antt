@@ -1,5 +1,5 @@
 -- What the entries of a catalog stand for, and what its calls tell.
-use Rattle.std.specs.Prelude.{◌≡◌, List, ℕ, Bool, false, not, Option, None, Some, option_map, Result, Ok, Err}
+use Rattle.std.specs.Prelude.{◌≡◌, List, Bool, false, not, None, Some, option_map, Result, Ok, Err}
 use Rattle.js_base.specs.Bytes.{Bytes, same}
 use Rattle.js_model.specs.declared.desk.PlaceAt.{PlaceAt}
 use Rattle.js_model.specs.Refusals.{first_refusal}

@@ -11,10 +11,6 @@ pub mod Session
 pub mod Plain
 pub mod Places
 pub mod Held
-pub mod Sessions
-pub mod Queue
-pub mod Subscriptions
-pub mod RouterState
 pub mod Routing
 pub mod Catalogs
 pub mod Holding

@@ -1,6 +1,6 @@
 //! The desk of one caller, who owns the router, the catalog and the one place.
 
-ghost use Rattle.std.specs.Prelude.{◌≡◌, ◌++◌, [], IfOk, IsTrue, OnOk};
+ghost use Rattle.std.specs.Prelude.{◌≡◌, ◌∷◌, [], IfOk, IsTrue, refl};
 ghost use Rattle.js_model.specs.Configs.{is_stream_subject};
 ghost use Rattle.server_program.specs.Calls.{is_reserved, published_event};
 ghost use Rattle.server_program.specs.Making.{default_config};

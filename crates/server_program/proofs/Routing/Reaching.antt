@@ -1,14 +1,14 @@
 -- How far a collect reaches, one frame of the queue after the other.
 use Rattle.std.proofs.Common.{◌≡◌, ◌⊎◌, inl, inr, ℕ, ◌+◌, ◌-◌, ◌<◌, ◌≤◌, Bool, true, false, cond, nat_lt, List, [], ◌∷◌, ◌++◌, length, get_or, take, drop, map, filter, refl, sym, ap, ◌∙◌, arith, length-append, append_assoc, length-drop}
-use Rattle.std.proofs.lemmas.List.{drop_more, drop_all, append-nil, length_push}
+use Rattle.std.proofs.lemmas.List.{drop_more, append-nil, length_push}
 use Rattle.std.proofs.lemmas.Bool.Decides.{nat_tests}
 use Rattle.js_base.specs.declared.frame.Frame.{Frame}
 use Rattle.js_base.specs.Framing.{frame}
 use Rattle.js_model.specs.Routes.{front_within, collected}
 use Rattle.server_program.specs.declared.router.queue.Waiting.{Waiting}
-use Rattle.server_program.specs.Queue.{is_for, frame_of, frames_of}
-use Rattle.server_program.proofs.Filtered.{mapped_passed, mapped_failed}
-use Rattle.server_program.proofs.Queues.{frames_split}
+use Rattle.server_program.specs.Routing.Queue.{is_for, frame_of, frames_of}
+use Rattle.server_program.proofs.Routing.Filtered.{mapped_passed, mapped_failed}
+use Rattle.server_program.proofs.Routing.Queues.{frames_split}
 
 -- what is still taken of the frames that are left, where some were taken before or none
 abbrev pub fitting : Bool → ℕ → List Frame → List Frame
@@ -71,7 +71,7 @@ reached_all n max queue i end count room r h =
     let all : front ≡ frames_of n queue = sym (append-nil front) ∙ ap (λ xs. front ++ xs) (sym none) ∙ sym (frames_split n i queue) in
     let some = nat_lt 0 count in
     let whole : front ≡ collected max (frames_of n queue) =
-        sym (append-nil front) ∙ ap (λ xs. front ++ xs) (sym (ap (fitting some room) none ∙ nothing_fits some room)) ∙ r.rest in
+    sym (append-nil front) ∙ ap (λ xs. front ++ xs) (sym (ap (fitting some room) none ∙ nothing_fits some room)) ∙ r.rest in
     record {
       within = r.within;
       front = r.front ∙ whole;
@@ -124,13 +124,13 @@ module _ (n max : ℕ) (queue : List Waiting) (i end count room : ℕ) (w : Wait
       let front = frames_of n (take i queue) in
       let more = frames_of n (drop (i + 1) queue) in
       let whole : front ≡ collected max (frames_of n queue) =
-          sym (append-nil front)
-          ∙ ap (λ xs. front ++ xs) (sym (ap (λ b. fitting b room (frames_of n (drop i queue))) (sym (some_more 0 count some)) ∙ ap (front_within room) (left true h) ∙ first_left room w.frame more (sym (some_more room _ long))))
-          ∙ r.rest in
+      sym (append-nil front)
+      ∙ ap (λ xs. front ++ xs) (sym (ap (λ b. fitting b room (frames_of n (drop i queue))) (sym (some_more 0 count some)) ∙ ap (front_within room) (left true h) ∙ first_left room w.frame more (sym (some_more room _ long))))
+      ∙ r.rest in
       let split : frames_of n queue ≡ front ++ w.frame ∷ more = frames_split n i queue ∙ ap (λ xs. front ++ xs) (left true h) in
       record {
         within = r.within;
-      front = r.front ∙ whole;
+        front = r.front ∙ whole;
         count_is = r.count_is ∙ ap length whole;
         more_is = some_more count _ (omega (arith, r.count_is, ap length split, length-append front (w.frame ∷ more)));
       }

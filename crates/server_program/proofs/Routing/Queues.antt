@@ -1,11 +1,11 @@
 -- The frames that wait for one session, in a queue of all.
-use Rattle.std.proofs.Common.{◌≡◌, ℕ, ◌+◌, ◌-◌, ◌<◌, ◌≤◌, Bool, true, false, not, List, [], ◌∷◌, ◌++◌, length, get_or, take, drop, map, filter, refl, sym, ap, ◌∙◌, arith, append_assoc, length-append, ◌==◌}
+use Rattle.std.proofs.Common.{◌≡◌, ℕ, ◌+◌, ◌-◌, ◌<◌, ◌≤◌, true, false, not, List, [], ◌∷◌, ◌++◌, length, get_or, take, drop, map, filter, refl, sym, ap, ◌∙◌, arith, append_assoc, length-append}
 use Rattle.std.proofs.lemmas.List.{drop_more, map-append, take-append-drop, take-take, length_push, drop_at, take_at}
 use Rattle.std.proofs.lemmas.List.Elements.{filter-append}
 use Rattle.js_base.specs.declared.frame.Frame.{Frame}
 use Rattle.server_program.specs.declared.router.queue.Waiting.{Waiting}
-use Rattle.server_program.specs.Queue.{is_for, frame_of, frames_of, without}
-use Rattle.server_program.proofs.Filtered.{filter_passed, filter_failed, mapped_passed, mapped_failed}
+use Rattle.server_program.specs.Routing.Queue.{is_for, frame_of, frames_of, without}
+use Rattle.server_program.proofs.Routing.Filtered.{filter_passed, filter_failed, mapped_passed, mapped_failed}
 
 pub frames_of-append : (n : ℕ) (xs ys : List Waiting) → frames_of n (xs ++ ys) ≡ frames_of n xs ++ frames_of n ys
 frames_of-append n xs ys = ap (map frame_of) (filter-append (is_for n) xs ys) ∙ map-append frame_of (filter (is_for n) xs) (filter (is_for n) ys)
@@ -18,7 +18,7 @@ frames_split n i queue = ap (frames_of n) (sym (take-append-drop i queue)) ∙ f
 pub fewer_in_front : (n i end : ℕ) (queue : List Waiting) → i ≤ end → length (frames_of n (take i queue)) ≤ length (frames_of n (take end queue))
 fewer_in_front n i end queue h =
     let split : frames_of n (take end queue) ≡ frames_of n (take i queue) ++ frames_of n (drop i (take end queue)) =
-        frames_split n i (take end queue) ∙ ap (λ xs. frames_of n xs ++ frames_of n (drop i (take end queue))) (take-take i end queue h) in
+    frames_split n i (take end queue) ∙ ap (λ xs. frames_of n xs ++ frames_of n (drop i (take end queue))) (take-take i end queue h) in
     omega (arith, ap length split, length-append (frames_of n (take i queue)) (frames_of n (drop i (take end queue))))
 
 -- ---- a front's frames are moved out one by one, and the others to the end
@@ -68,7 +68,7 @@ module _ (n : ℕ) (old queue rest : List Waiting) (before taken : List Frame) (
   pub room_for_own : (end : ℕ) → is_for n w ≡ true → i < end → length taken < length before + length (frames_of n (take end old))
   room_for_own end h k =
       let more : length (frames_of n (take (i + 1) old)) ≡ length (frames_of n (take i old)) + 1 =
-          ap length (mapped_passed frame_of (is_for n) old i w within here h) ∙ length_push (frames_of n (take i old)) w.frame in
+      ap length (mapped_passed frame_of (is_for n) old i w within here h) ∙ length_push (frames_of n (take i old)) w.frame in
       omega (arith, more, fewer_in_front n (i + 1) end old (omega arith), ap length moved.taken_are, length-append before (frames_of n (take i old)))
 
 -- the others go to the front again

@@ -1,26 +1,25 @@
 -- The machine's router that the lists stand for, as they change.
-use Rattle.std.proofs.Common.{◌≡◌, ℕ, ◌+◌, ◌-◌, ◌<◌, ◌≤◌, ◌==◌, ◌&&◌, ◌||◌, Bool, true, false, cond, not, List, [], ◌∷◌, ◌++◌, Option, Some, None, length, take, drop, map, filter, refl, sym, ap, ◌∙◌, arith, eq-eqb, append_assoc}
-use Rattle.std.specs.List.{AllByRecursion, list_any, find, fold}
+use Rattle.std.proofs.Common.{◌≡◌, ℕ, ◌+◌, ◌<◌, ◌==◌, ◌&&◌, ◌||◌, Bool, true, false, cond, not, List, [], ◌∷◌, ◌++◌, Option, Some, None, length, take, drop, map, filter, refl, sym, ap, ◌∙◌, arith, eq-eqb, append_assoc}
+use Rattle.std.specs.List.{list_any, find, fold}
 use Rattle.std.proofs.lemmas.Bool.{eqb-true, eqb-false, ne_eqb}
 use Rattle.std.proofs.lemmas.List.Elements.{filter_agree}
 use Rattle.std.proofs.lemmas.Bool.Decides.{nat_tests}
-use Rattle.std.proofs.lemmas.List.{map-append, append-nil, drop_at, drop-append-le}
-use Rattle.js_base.specs.Bytes.{Bytes, same}
+use Rattle.std.proofs.lemmas.List.{append-nil, drop_at}
+use Rattle.js_base.specs.Bytes.{Bytes}
 use Rattle.js_base.specs.Subjects.{tokens, matches}
 use Rattle.js_base.specs.declared.out.Out.{Out}
 use Rattle.js_base.specs.declared.frame.Frame.{Frame}
 use Rattle.js_model.specs.Routes as routes
-use Rattle.js_model.specs.Sound.{Between}
 use Rattle.server_program.specs.declared.router.session.Session.{Session}
 use Rattle.server_program.specs.declared.router.subscription.Subscription.{Subscription}
 use Rattle.server_program.specs.declared.router.queue.Waiting.{Waiting}
-use Rattle.server_program.specs.Sessions.{number_of, is_of, is_deaf, deaf_of, takes_headers, with_options}
-use Rattle.server_program.specs.Subscriptions.{is_under, is_number, hears, delivery, deliveries}
-use Rattle.server_program.specs.Queue.{is_for, frame_of, frames_of, without, LeavesOver}
-use Rattle.server_program.specs.RouterState.{AreQueued, shown_session, shown_subscription, shown_router}
+use Rattle.server_program.specs.Routing.Sessions.{is_of, is_deaf, deaf_of, takes_headers, with_options}
+use Rattle.server_program.specs.Routing.Subscriptions.{is_number, hears, delivery}
+use Rattle.server_program.specs.Routing.Queue.{is_for, frame_of, frames_of, without, LeavesOver}
+use Rattle.server_program.specs.Routing.State.{AreQueued, shown_session, shown_subscription, shown_router}
 use Rattle.server_program.specs.Routing.{waiting_count, Opens}
-use Rattle.server_program.proofs.Numbers.{TellHeaders}
-use Rattle.server_program.proofs.Queues.{frames_of-append, frames_split}
+use Rattle.server_program.proofs.Routing.Numbers.{TellHeaders}
+use Rattle.server_program.proofs.Routing.Queues.{frames_of-append, frames_split}
 
 -- ---- lists that a function shows
 
@@ -86,7 +85,7 @@ closed_shown n queue (s ∷ ss) = go (is_of n s) refl (closed_shown n queue ss)
   where
     go : (b : Bool) → is_of n s ≡ b → filter (λ s. not (routes.is_session n s)) (map (shown_session queue) ss) ≡ map (shown_session (without n queue)) (filter (λ s. not (is_of n s)) ss)
         → cond (not b) (shown_session queue s ∷ filter (λ s. not (routes.is_session n s)) (map (shown_session queue) ss)) (filter (λ s. not (routes.is_session n s)) (map (shown_session queue) ss))
-            ≡ map (shown_session (without n queue)) (cond (not b) (s ∷ filter (λ s. not (is_of n s)) ss) (filter (λ s. not (is_of n s)) ss))
+        ≡ map (shown_session (without n queue)) (cond (not b) (s ∷ filter (λ s. not (is_of n s)) ss) (filter (λ s. not (is_of n s)) ss))
     go true e h = h
     go false e h = ap (λ x. x ∷ filter (λ s. not (routes.is_session n s)) (map (shown_session queue) ss)) (closed_session n queue s e) ∙ ap (λ xs. shown_session (without n queue) s ∷ xs) h
 
@@ -152,8 +151,8 @@ handed_session all queue out sub s h = go (s.number == sub.session) refl
         let at : s.number ≡ sub.session = eqb-true s.number sub.session e in
         let w = delivery all out sub in
         let own : frames_of s.number (w ∷ []) ≡ routes.frame_for out sub.sid s.headers ∷ [] =
-            ap (λ b. map frame_of (cond b (w ∷ []) [])) (eq-eqb sub.session s.number (sym at))
-            ∙ ap (λ b. routes.frame_for out sub.sid b ∷ []) (ap (takes_headers all) (sym at) ∙ h) in
+        ap (λ b. map frame_of (cond b (w ∷ []) [])) (eq-eqb sub.session s.number (sym at))
+        ∙ ap (λ b. routes.frame_for out sub.sid b ∷ []) (ap (takes_headers all) (sym at) ∙ h) in
         ap (with_frames s) (sym (frames_of-append s.number queue (w ∷ []) ∙ ap (λ xs. frames_of s.number queue ++ xs) own))
     go false e =
         let w = delivery all out sub in
@@ -184,7 +183,7 @@ own_left n max old new left =
     let front = frames_of n (take left.end old) in
     let back = frames_of n (drop left.end old) in
     let rest : drop (length (routes.collected max (frames_of n old))) (frames_of n old) ≡ back =
-        ap (λ xs. drop (length xs) (frames_of n old)) (sym left.front) ∙ ap (drop (length front)) (frames_split n left.end old) ∙ drop_at front back (length front) refl in
+    ap (λ xs. drop (length xs) (frames_of n old)) (sym left.front) ∙ ap (drop (length front)) (frames_split n left.end old) ∙ drop_at front back (length front) refl in
     ap (frames_of n) left.left ∙ frames_of-append n (without n (take left.end old)) (drop left.end old) ∙ ap (λ xs. xs ++ back) (none_without n (take left.end old)) ∙ sym rest
 
 others_left : (n m max : ℕ) (old new : List Waiting) → LeavesOver n max old new → (m == n) ≡ false → frames_of m new ≡ frames_of m old

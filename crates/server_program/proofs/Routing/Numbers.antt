@@ -3,16 +3,15 @@ use Rattle.std.proofs.Common.{◌≡◌, ℕ, ◌+◌, ◌<◌, ◌≤◌, ◌==
 use Rattle.std.specs.List.{AllByRecursion, list_any}
 use Rattle.std.proofs.lemmas.Bool.{eqb-true, ne_eqb}
 use Rattle.std.proofs.lemmas.List.{take_at, length-map}
-use Rattle.std.proofs.lemmas.Bool.Decides.{nat_tests}
 use Rattle.js_base.specs.declared.out.Out.{Out}
 use Rattle.js_model.specs.Sound.{Between}
 use Rattle.server_program.specs.declared.router.session.Session.{Session}
 use Rattle.server_program.specs.declared.router.subscription.Subscription.{Subscription}
 use Rattle.server_program.specs.declared.router.queue.Waiting.{Waiting}
-use Rattle.server_program.specs.Sessions.{number_of, is_of, takes_headers, with_options}
-use Rattle.server_program.specs.Subscriptions.{delivery, deliveries, hears}
-use Rattle.server_program.specs.Queue.{without, LeavesOver}
-use Rattle.server_program.specs.RouterState.{AreSubscribed, AreQueued}
+use Rattle.server_program.specs.Routing.Sessions.{number_of, is_of, takes_headers, with_options}
+use Rattle.server_program.specs.Routing.Subscriptions.{delivery, deliveries, hears}
+use Rattle.server_program.specs.Routing.Queue.{without, LeavesOver}
+use Rattle.server_program.specs.Routing.State.{AreSubscribed, AreQueued}
 
 -- ---- each element of a list
 
@@ -151,7 +150,7 @@ pub tell_headers : (low high : ℕ) (sessions : List Session) → AreBetween low
 tell_headers low high [] h = tt
 tell_headers low high (s ∷ ss) h =
     let own : takes_headers (s ∷ ss) s.number ≡ s.headers =
-        ap (λ b. (b && s.headers) || takes_headers ss s.number) (eq-eqb s.number s.number refl) ∙ ap (λ b. s.headers || b) (none_takes s.number (s.number + 1) high ss h.1 (omega arith)) ∙ or_false s.headers in
+    ap (λ b. (b && s.headers) || takes_headers ss s.number) (eq-eqb s.number s.number refl) ∙ ap (λ b. s.headers || b) (none_takes s.number (s.number + 1) high ss h.1 (omega arith)) ∙ or_false s.headers in
     (own, passed_over s ss ss (each_above (s.number + 1) high ss h.1) (tell_headers (s.number + 1) high ss h.1))
 
 -- ---- sessions that were lent as a slice, and mapped there

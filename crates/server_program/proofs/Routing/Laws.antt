@@ -1,13 +1,12 @@
 -- What the calls of the machine's router leave open, and how many frames they leave waiting.
-use Rattle.std.proofs.Common.{◌≡◌, ◌⊎◌, inl, inr, ℕ, ◌+◌, ◌-◌, ◌<◌, ◌≤◌, ◌==◌, ◌&&◌, ◌||◌, ◌^◌, Bool, true, false, cond, not, nat_lt, List, [], ◌∷◌, ◌++◌, Option, Some, None, Result, Ok, Err, length, drop, map, filter, refl, sym, ap, ◌∙◌, arith, length-drop, subst}
+use Rattle.std.proofs.Common.{◌≡◌, inl, inr, ℕ, ◌+◌, ◌<◌, ◌==◌, ◌||◌, ◌^◌, Bool, true, false, cond, not, nat_lt, List, [], ◌∷◌, ◌++◌, Option, Some, None, Result, Ok, Err, length, map, filter, refl, sym, ap, ◌∙◌, arith, length-drop}
 use Rattle.std.specs.List.{list_any, find, fold}
 use Rattle.std.proofs.lemmas.List.Folds.{list_any-append}
-use Rattle.std.proofs.lemmas.Bool.{eqb-true, eq-eqb, true≢false}
+use Rattle.std.proofs.lemmas.Bool.{eqb-true}
 use Rattle.std.proofs.lemmas.Bool.Decides.{nat_tests}
 use Rattle.js_base.specs.Bytes.{Bytes}
 use Rattle.js_base.specs.declared.out.Out.{Out}
 use Rattle.js_base.specs.declared.frame.Frame.{Frame}
-use Rattle.js_base.specs.Framing.{frame}
 use Rattle.js_model.specs.Routes
 use Rattle.js_model.specs.Routes.{Router, Session, Subscription, RouteCall, RouteTold, Routed, Open, Close, Options, Sub, Publish, Collect, Opened, Done, Frames, IsRoute, route, telling, is_session, is_open, session_of, opened, closed, configured, subscribed, with_options, is_sub, new_session, routed, handed, handed_to, queued, frame_for, listeners, emptied, without_collected, left_over, collected, collect_told, frames_told, if_open, if_publisher_open}
 use Rattle.js_model.specs.declared.desk.Collected.{Collected}
@@ -180,9 +179,9 @@ collected_fewer r new n max list true (Some s) f e =
     let told : Frames (collected max s.waiting) (nat_lt (length (collected max s.waiting)) (length s.waiting)) ≡ Frames list true = ap (λ (x : Routed). x.told) e in
     let more : nat_lt (length (collected max s.waiting)) (length s.waiting) ≡ true = cc in
     let left : waiting_for new n ≡ length (left_over max s.waiting) =
-        ap (λ (x : Routed). waiting_for x.router n) (sym e)
-        ∙ ap waiting_count (found_mapped (without_collected n max) (collected_number n max) n r.sessions s f)
-        ∙ ap (λ b. length (cond b (record s { waiting = left_over max s.waiting }) s).waiting) (found_is n r.sessions s f) in
+    ap (λ (x : Routed). waiting_for x.router n) (sym e)
+    ∙ ap waiting_count (found_mapped (without_collected n max) (collected_number n max) n r.sessions s f)
+    ∙ ap (λ b. length (cond b (record s { waiting = left_over max s.waiting }) s).waiting) (found_is n r.sessions s f) in
     omega (arith, fewer_left max s.waiting more)
 
 -- where more was left than a collect took, fewer frames wait

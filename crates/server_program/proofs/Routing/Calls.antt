@@ -1,5 +1,5 @@
 -- Each call of the router is a call of the machine.
-use Rattle.std.proofs.Common.{◌≡◌, ◌⊎◌, inl, inr, ℕ, ◌+◌, ◌-◌, ◌<◌, ◌≤◌, ◌==◌, ◌^◌, Bool, true, false, cond, not, List, [], ◌∷◌, ◌++◌, Option, Some, None, Ok, length, take, drop, map, filter, refl, sym, ap, ◌∙◌, arith, subst, eq-eqb}
+use Rattle.std.proofs.Common.{◌≡◌, inl, ℕ, ◌+◌, ◌==◌, ◌^◌, Bool, true, false, cond, not, List, [], ◌∷◌, ◌++◌, Option, Some, None, Ok, length, map, filter, refl, sym, ap, ◌∙◌, arith, eq-eqb}
 use Rattle.std.specs.List.{list_any, fold}
 use Rattle.std.proofs.lemmas.Bool.{ne_eqb}
 use Rattle.std.proofs.lemmas.List.{map-append, length-map}
@@ -12,13 +12,13 @@ use Rattle.js_model.specs.Routes.{Router, RouteCall, RouteTold, Routed, route, t
 use Rattle.server_program.specs.declared.router.session.Session.{Session}
 use Rattle.server_program.specs.declared.router.subscription.Subscription.{Subscription}
 use Rattle.server_program.specs.declared.router.queue.Waiting.{Waiting}
-use Rattle.server_program.specs.Sessions.{number_of, is_of, is_publisher_open, deaf_of, with_options}
-use Rattle.server_program.specs.Subscriptions.{is_under, hears, delivery, deliveries}
-use Rattle.server_program.specs.Queue.{frames_of, without, gathered, LeavesOver}
-use Rattle.server_program.specs.RouterState.{AreQueued, shown_session, shown_subscription, shown_router}
+use Rattle.server_program.specs.Routing.Sessions.{number_of, is_of, is_publisher_open, deaf_of, with_options}
+use Rattle.server_program.specs.Routing.Subscriptions.{is_under, hears, delivery, deliveries}
+use Rattle.server_program.specs.Routing.Queue.{frames_of, without, gathered, LeavesOver}
+use Rattle.server_program.specs.Routing.State.{AreQueued, shown_session, shown_subscription, shown_router}
 use Rattle.server_program.specs.Routing.{Collects}
-use Rattle.server_program.proofs.Numbers.{tell_headers}
-use Rattle.server_program.proofs.Shown.{not_queued, any_of_shown, filter_of_shown, closed_shown, configured_shown, listeners_shown, handed_shown, emptied_shown, told_shown}
+use Rattle.server_program.proofs.Routing.Numbers.{tell_headers}
+use Rattle.server_program.proofs.Routing.Shown.{not_queued, any_of_shown, filter_of_shown, closed_shown, configured_shown, listeners_shown, handed_shown, emptied_shown, told_shown}
 
 -- the machine's router with these parts
 abbrev with_parts : List routes.Session → List routes.Subscription → ℕ → Router
@@ -45,8 +45,8 @@ module _ (sessions : List Session) (subs : List Subscription) (queue : List Wait
   open_routed more e h k =
       let s : Session = record { number = latest + 1; echo = true; headers = false } in
       let shown : map (shown_session queue) more ≡ map (shown_session queue) sessions ++ routes.new_session (latest + 1) ∷ [] =
-          ap (map (shown_session queue)) e ∙ map-append (shown_session queue) sessions (s ∷ [])
-          ∙ ap (λ frames. map (shown_session queue) sessions ++ record { number = latest + 1; echo = true; headers = false; waiting = frames } ∷ []) (not_queued (latest + 1) latest queue (omega arith) h) in
+      ap (map (shown_session queue)) e ∙ map-append (shown_session queue) sessions (s ∷ [])
+      ∙ ap (λ frames. map (shown_session queue) sessions ++ record { number = latest + 1; echo = true; headers = false; waiting = frames } ∷ []) (not_queued (latest + 1) latest queue (omega arith) h) in
       said routes.Open (routes.Opened (latest + 1)) (shown_router more subs queue (latest + 1))
       (ap (λ b. cond b (telling routes.Worn here) (telling (routes.Opened (latest + 1)) (routes.opened here))) (ne_eqb (latest + 1) (2 ^ 62) k)
       ∙ ap (λ xs. telling (routes.Opened (latest + 1)) (with_parts xs (map shown_subscription subs) (latest + 1))) (sym shown))
@@ -103,7 +103,7 @@ module _ (sessions : List Session) (subs : List Subscription) (queue : List Wait
       (if_open n (telling routes.Done (routes.subscribed here n pattern sid)) h
       ∙ ap (λ b. telling routes.Done (cond b here (record here { subscriptions = map shown_subscription subs ++ record { session = n; sid = sid; pattern = pattern } ∷ [] }))) (used n sid ∙ k)
       ∙ ap (λ ys. telling routes.Done (with_parts (map (shown_session queue) sessions) ys latest))
-          (sym (ap (map shown_subscription) e ∙ map-append shown_subscription subs (record { session = n; sid = sid; pattern = pattern } ∷ []))))
+      (sym (ap (map shown_subscription) e ∙ map-append shown_subscription subs (record { session = n; sid = sid; pattern = pattern } ∷ []))))
 
   if_publisher : (from : Option ℕ) (after : Routed) → is_publisher_open sessions from ≡ true → routes.if_publisher_open here from after ≡ after
   if_publisher None after h = refl
@@ -124,9 +124,9 @@ module _ (sessions : List Session) (subs : List Subscription) (queue : List Wait
       let heard = filter (hears out.to (deaf_of sessions from)) subs in
       let listeners = listeners_shown sessions subs queue latest out.to from in
       let told : length (routes.listeners here out.to from) ≡ count =
-          ap length listeners ∙ length-map heard shown_subscription ∙ sym (length-map heard (delivery sessions out)) ∙ sym f in
+      ap length listeners ∙ length-map heard shown_subscription ∙ sym (length-map heard (delivery sessions out)) ∙ sym f in
       let left : routes.routed here out from ≡ shown_router sessions subs queue' latest =
-          ap (fold (routes.handed out) here) listeners ∙ handed_shown sessions subs latest out (tell_headers 1 (latest + 1) sessions between) heard queue ∙ ap (λ q. shown_router sessions subs q latest) (sym e) in
+      ap (fold (routes.handed out) here) listeners ∙ handed_shown sessions subs latest out (tell_headers 1 (latest + 1) sessions between) heard queue ∙ ap (λ q. shown_router sessions subs q latest) (sym e) in
       said (routes.Publish out from) (routes.Taken count) (shown_router sessions subs queue' latest)
       (if_publisher from (telling (routes.Taken (length (routes.listeners here out.to from))) (routes.routed here out from)) h
       ∙ ap (λ k. telling (routes.Taken k) (routes.routed here out from)) told ∙ ap (telling (routes.Taken count)) left)

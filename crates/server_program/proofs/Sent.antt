@@ -1,0 +1,84 @@
+-- Outputs that are sent one after another, and where that leads.
+use Rattle.std.proofs.Common.{◌≡◌, ℕ, ◌+◌, List, [], ◌∷◌, ◌++◌, Result, Ok, Err, refl, sym, ap, subst, ◌∙◌, inl, inr}
+use Rattle.std.proofs.lemmas.List.{append-nil}
+use Rattle.std.proofs.Math.Seq.{append_assoc}
+use Rattle.js_base.specs.declared.out.Out.{Out}
+use Rattle.js_base.specs.declared.memory.NoMemory.{NoMemory}
+use Rattle.js_model.specs.declared.stream.State.{State}
+use Rattle.js_model.specs.Catalog.{Catalog}
+use Rattle.js_model.specs.Routes as routes
+use Rattle.server_program.specs.Desks.{DeskEntry, World, DeskRun, Routed, Looked, Held}
+use Rattle.server_program.specs.Calls.{AreRouted, AreCut}
+use Rattle.server_program.specs.declared.router.fault.RouteFault.{RouteFault}
+use Rattle.server_program.specs.declared.router.fault.RouteFault.TheVariants as faults
+use Rattle.server_program.specs.Routing.{fault_told, publish_told}
+use Rattle.server_program.specs.Holding.{world_of, Leads, Routes}
+
+-- ---- runs of a desk
+
+pub run_append : (a b c : World) (first more : List DeskEntry) → DeskRun a first b → DeskRun b more c → DeskRun a (first ++ more) c
+run_append a b c [] more h k = subst (λ (w : World). DeskRun w more c) (sym h) k
+run_append a b c (Routed call told ∷ first) more h k = (h.0, h.1, run_append (record a { router = h.0 }) b c first more h.2 k)
+run_append a b c (Looked call told ∷ first) more h k = (h.0, h.1, run_append (record a { catalog = h.0 }) b c first more h.2 k)
+run_append a b c (Held place before entries ∷ first) more h k = (h.0, h.1, h.2, run_append _ b c first more h.3 k)
+
+-- ---- outputs
+
+sending : Out → ℕ → DeskEntry
+sending out count = Routed (routes.Publish out None) (routes.Taken count)
+
+-- one more was routed
+routed_push : (front : List Out) (out : Out) (count : ℕ) (entries : List DeskEntry) → AreRouted front entries
+    → AreRouted (front ++ out ∷ []) (entries ++ sending out count ∷ [])
+routed_push [] out count entries h = (count, [], ap (λ (es : List DeskEntry). es ++ sending out count ∷ []) h, refl)
+routed_push (first ∷ front) out count entries h =
+    (h.0, h.1 ++ sending out count ∷ [], ap (λ (es : List DeskEntry). es ++ sending out count ∷ []) h.2, routed_push front out count h.1 h.3)
+
+-- the next one found no memory
+cut_push : (front : List Out) (out : Out) (rest : List Out) (entries : List DeskEntry) → AreRouted front entries
+    → AreCut (front ++ out ∷ rest) (entries ++ Routed (routes.Publish out None) routes.NoMemory ∷ [])
+cut_push [] out rest entries h = inl (ap (λ (es : List DeskEntry). es ++ Routed (routes.Publish out None) routes.NoMemory ∷ []) h)
+cut_push (first ∷ front) out rest entries h =
+    inr (h.0, h.1 ++ Routed (routes.Publish out None) routes.NoMemory ∷ [], ap (λ (es : List DeskEntry). es ++ Routed (routes.Publish out None) routes.NoMemory ∷ []) h.2, cut_push front out rest h.1 h.3)
+
+-- a message of the server itself is refused for want of memory alone
+unrouted : (r new : routes.Router) (out : Out) (fault : RouteFault) → routes.IsRoute r (routes.Publish out None) (fault_told fault) new
+    → routes.IsRoute r (routes.Publish out None) routes.NoMemory new
+unfolding routes.route
+unrouted r new out faults.NoMemory h = h
+unrouted r new out (faults.NoSession latest) (inl e) = cc
+unrouted r new out (faults.NoSession latest) (inr e) = cc
+unrouted r new out faults.Worn (inl e) = cc
+unrouted r new out faults.Worn (inr e) = cc
+
+-- the front of the outputs was routed
+pub record Sent (outs rest : List Out) (old new : routes.Router) : Type 0 where
+  pub front : List Out
+  pub entries : List DeskEntry
+  pub whole : outs ≡ front ++ rest
+  pub are : AreRouted front entries
+  pub led : (place : State) (catalog : Catalog) → DeskRun (world_of old catalog place) entries (world_of new catalog place)
+
+pub none_sent : (outs rest : List Out) (r : routes.Router) → rest ≡ outs → Sent outs rest r r
+none_sent outs rest r e = record { front = []; entries = []; whole = sym e; are = refl; led = λ place catalog. refl }
+
+pub one_sent : (outs : List Out) (out : Out) (rest : List Out) (count : ℕ) (old mid new : routes.Router) → Sent outs (out ∷ rest) old mid
+    → routes.IsRoute mid (routes.Publish out None) (routes.Taken count) new → Sent outs rest old new
+one_sent outs out rest count old mid new h k = record {
+  front = h.front ++ out ∷ [];
+  entries = h.entries ++ sending out count ∷ [];
+  whole = h.whole ∙ sym (append_assoc h.front (out ∷ []) rest);
+  are = routed_push h.front out count h.entries h.are;
+  led = λ place catalog. run_append (world_of old catalog place) (world_of mid catalog place) (world_of new catalog place) h.entries (sending out count ∷ []) (h.led place catalog) (new, k, refl);
+}
+
+pub all_sent : (outs rest : List Out) (old new : routes.Router) → Sent outs rest old new → rest ≡ [] → (place : State) → Leads (AreRouted outs) place place old new
+all_sent outs rest old new h e place =
+    (h.entries, subst (λ (os : List Out). AreRouted os h.entries) (sym (h.whole ∙ ap (λ (os : List Out). h.front ++ os) e ∙ append-nil h.front)) h.are, h.led place)
+
+pub cut_sent : (outs : List Out) (out : Out) (rest : List Out) (fault : RouteFault) (old mid new : routes.Router) → Sent outs (out ∷ rest) old mid
+    → routes.IsRoute mid (routes.Publish out None) (fault_told fault) new → (place : State) → Leads (AreCut outs) place place old new
+cut_sent outs out rest fault old mid new h k place =
+    (h.entries ++ Routed (routes.Publish out None) routes.NoMemory ∷ [],
+     subst (λ (os : List Out). AreCut os (h.entries ++ Routed (routes.Publish out None) routes.NoMemory ∷ [])) (sym h.whole) (cut_push h.front out rest h.entries h.are),
+     λ catalog. run_append (world_of old catalog place) (world_of mid catalog place) (world_of new catalog place) h.entries _ (h.led place catalog) (new, unrouted mid new out fault k, refl))
