@@ -1,6 +1,7 @@
 //! The server.
 #![tactic(auto)]
 
+mod router;
 mod words;
 
 use std::io;
