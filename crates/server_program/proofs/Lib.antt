@@ -8,5 +8,6 @@ pub mod GivenBytes
 pub mod Heard
 pub mod Places
 pub mod Plain
+pub mod Routing
 pub mod Sent
 pub mod Served
