@@ -1,7 +1,7 @@
 -- Outputs that are sent one after another, and where that leads.
-use Rattle.std.proofs.Common.{◌≡◌, ℕ, ◌+◌, List, [], ◌∷◌, ◌++◌, Result, Ok, Err, refl, sym, ap, subst, ◌∙◌, inl, inr}
+use Rattle.std.proofs.Common.{◌≡◌, ℕ, zero, suc, ◌+◌, ◌<◌, ◌≤◌, length, drop, get_or, add-one, arith, List, [], ◌∷◌, ◌++◌, Option, None, Result, Ok, Err, refl, sym, ap, subst, ◌∙◌, append_assoc, inl, inr}
 use Rattle.std.proofs.lemmas.List.{append-nil}
-use Rattle.std.proofs.Math.Seq.{append_assoc}
+use Rattle.std.proofs.Math.Seq.{drop-cons}
 use Rattle.js_base.specs.declared.out.Out.{Out}
 use Rattle.js_base.specs.declared.memory.NoMemory.{NoMemory}
 use Rattle.js_model.specs.declared.stream.State.{State}
@@ -24,7 +24,7 @@ run_append a b c (Held place before entries ∷ first) more h k = (h.0, h.1, h.2
 
 -- ---- outputs
 
-sending : Out → ℕ → DeskEntry
+abbrev sending : Out → ℕ → DeskEntry
 sending out count = Routed (routes.Publish out None) (routes.Taken count)
 
 -- one more was routed
@@ -41,15 +41,28 @@ cut_push [] out rest entries h = inl (ap (λ (es : List DeskEntry). es ++ Routed
 cut_push (first ∷ front) out rest entries h =
     inr (h.0, h.1 ++ Routed (routes.Publish out None) routes.NoMemory ∷ [], ap (λ (es : List DeskEntry). es ++ Routed (routes.Publish out None) routes.NoMemory ∷ []) h.2, cut_push front out rest h.1 h.3)
 
+impossible : {X : Type 0} → zero ≡ suc zero → X
+impossible e = absurd (omega e)
+
 -- a message of the server itself is refused for want of memory alone
 unrouted : (r new : routes.Router) (out : Out) (fault : RouteFault) → routes.IsRoute r (routes.Publish out None) (fault_told fault) new
     → routes.IsRoute r (routes.Publish out None) routes.NoMemory new
 unfolding routes.route
 unrouted r new out faults.NoMemory h = h
-unrouted r new out (faults.NoSession latest) (inl e) = cc
-unrouted r new out (faults.NoSession latest) (inr e) = cc
-unrouted r new out faults.Worn (inl e) = cc
-unrouted r new out faults.Worn (inr e) = cc
+unrouted r new out (faults.NoSession latest) (inl e) = impossible cc
+unrouted r new out (faults.NoSession latest) (inr e) = let told = e.0 in impossible cc
+unrouted r new out faults.Worn (inl e) = impossible cc
+unrouted r new out faults.Worn (inr e) = let told = e.0 in impossible cc
+
+-- what is left begins with the next one
+pub next_left : (outs : List Out) (i : ℕ) (out : Out) → i < length outs → out ≡ get_or outs i out → drop i outs ≡ out ∷ drop (i + 1) outs
+next_left outs i out within is = drop-cons outs i out within ∙ ap (λ (o : Out). o ∷ drop (suc i) outs) (sym is) ∙ ap (λ (n : ℕ). out ∷ drop n outs) (sym (add-one i))
+
+pub none_left : (outs : List Out) (i : ℕ) → length outs ≤ i → drop i outs ≡ []
+none_left [] zero h = refl
+none_left [] (suc i) h = refl
+none_left (out ∷ outs) zero h = absurd (omega h)
+none_left (out ∷ outs) (suc i) h = none_left outs i (omega h)
 
 -- the front of the outputs was routed
 pub record Sent (outs rest : List Out) (old new : routes.Router) : Type 0 where

@@ -6,7 +6,7 @@ use Rattle.std.proofs.lemmas.List.{map-append, length-map}
 use Rattle.js_base.specs.Bytes.{Bytes}
 use Rattle.js_base.specs.declared.out.Out.{Out}
 use Rattle.js_model.specs.declared.desk.Collected.{Collected}
-use Rattle.js_model.specs.Sound.{Between}
+use Rattle.js_model.specs.Lists.{Between}
 use Rattle.js_model.specs.Routes as routes
 use Rattle.js_model.specs.Routes.{Router, RouteCall, RouteTold, Routed, route, telling, IsRoute}
 use Rattle.server_program.specs.declared.router.session.Session.{Session}

@@ -4,7 +4,7 @@ use Rattle.std.specs.List.{AllByRecursion, list_any}
 use Rattle.std.proofs.lemmas.Bool.{eqb-true, ne_eqb}
 use Rattle.std.proofs.lemmas.List.{take_at, length-map}
 use Rattle.js_base.specs.declared.out.Out.{Out}
-use Rattle.js_model.specs.Sound.{Between}
+use Rattle.js_model.specs.Lists.{Between}
 use Rattle.server_program.specs.declared.router.session.Session.{Session}
 use Rattle.server_program.specs.declared.router.subscription.Subscription.{Subscription}
 use Rattle.server_program.specs.declared.router.queue.Waiting.{Waiting}

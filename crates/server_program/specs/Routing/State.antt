@@ -2,7 +2,7 @@
 use Rattle.std.specs.Prelude.{ℕ, ◌+◌, ◌<◌, ◌≤◌, ◌^◌, List, map}
 use Rattle.std.specs.List.{AllByRecursion}
 use Rattle.js_model.specs.Routes as routes
-use Rattle.js_model.specs.Sound.{Between}
+use Rattle.js_model.specs.Lists.{Between}
 use Rattle.server_program.specs.declared.router.Router.TheInside.{Inside}
 use Rattle.server_program.specs.declared.router.session.Session.{Session}
 use Rattle.server_program.specs.declared.router.subscription.Subscription.{Subscription}
