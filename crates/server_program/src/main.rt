@@ -1,6 +1,7 @@
 //! The server.
 #![tactic(auto)]
 
+mod publish_text;
 mod words;
 
 use std::io;
