@@ -1,1 +1,3 @@
 mod Rows
+pub mod Plain
+pub mod Places

@@ -1,5 +1,5 @@
 -- Worked rows: answers to publishes, byte for byte.
-use Rattle.std.proofs.Common.{◌≡◌, length, codes, Option, Some, None, refl}
+use Rattle.std.proofs.Common.{◌≡◌, length, codes, Some, None, refl}
 use Rattle.std.specs.Fmt.{digits}
 use Rattle.js_model.specs.declared.reply.Reply.TheVariants.{Published, Duplicate, Refused, Silent}
 use Rattle.js_model.specs.Refusals.{refusal, max_messages_exceeded, wrong_last}

@@ -1,2 +1,5 @@
 pub mod Words
 pub mod Outputs
+pub mod Plain
+pub mod Places
+pub mod Held

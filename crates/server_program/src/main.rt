@@ -1,7 +1,10 @@
 //! The server.
 #![tactic(auto)]
 
+mod place;
+mod plain_stream;
 mod publish_text;
+mod refusals;
 mod words;
 
 use std::io;
