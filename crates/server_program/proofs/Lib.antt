@@ -1,3 +1,4 @@
 mod Rows
 pub mod Plain
 pub mod Places
+pub mod Catalogs

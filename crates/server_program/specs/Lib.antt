@@ -3,3 +3,4 @@ pub mod Outputs
 pub mod Plain
 pub mod Places
 pub mod Held
+pub mod Catalogs

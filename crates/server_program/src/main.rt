@@ -1,6 +1,7 @@
 //! The server.
 #![tactic(auto)]
 
+mod catalog;
 mod place;
 mod plain_stream;
 mod publish_text;
