@@ -1,9 +1,9 @@
 //! A place at work.
 
+ghost use Rattle.std.specs.Prelude.{ℕ, IfOk};
 ghost use Rattle.js_model.specs.declared.stream.State.{State};
-ghost use Rattle.server_program.specs.Places.{IsBuilt};
-ghost use Rattle.std.specs.Prelude.{IfOk};
 ghost use Rattle.js_model.specs.declared.stream.State.TheVariants.{Vacant};
+ghost use Rattle.server_program.specs.Places.{IsBuilt};
 
 use super::*;
 use js_base::List;
