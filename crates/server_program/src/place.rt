@@ -1,6 +1,6 @@
 //! A place for one stream, in memory.
 
-ghost use Rattle.std.specs.Prelude.{◌≡◌, IfOk, IfErr, OnErr, Option};
+ghost use Rattle.std.specs.Prelude.{◌≡◌, ◌≤◌, ◌^◌, IfOk, IfErr, OnErr, Option};
 ghost use Rattle.std.specs.Option.{option_copied};
 ghost use Rattle.js_base.specs.Bytes.{Bytes};
 ghost use Rattle.js_model.specs.declared.stream.State.TheVariants.{Vacant};
@@ -62,9 +62,10 @@ impl Place {
         }
     }
 
-    /// The incarnation of the stream, or the one that the next stream will have.
+    /// The incarnation of the stream, or the one that the next stream will have. 2^62 is given to no stream.
     pub fn incarnation(&self) -> u64
         ensures value { result ≡ kept_incarnation self.now }
+        ensures bound { result ≤ 2 ^ 62 }
     {
         match &self.held {
             Held::Nothing(last) => *last + 1,

@@ -67,6 +67,7 @@ impl PlainStream {
     /// The number of the stream among those of its place.
     pub fn incarnation(&self) -> u64
         ensures value { result ≡ self.now.incarnation }
+        ensures bound { result < 2 ^ 62 }
     {
         self.incarnation
     }
