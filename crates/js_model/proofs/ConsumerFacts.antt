@@ -92,6 +92,10 @@ in_with name P Q s new own other h = stands-map (in_place_of new) (in_place_of-n
         go true e = own (sym (same_is c.name new.name e) ∙ named)
         go false e = other c e p
 
+-- a new consumer in the place of the one of the name
+pub in_replaced : (name : Bytes) (P Q : Consumer → Type 0) (s : Stream) (new : Consumer) → new.name ≡ name → Q new → InStream name P s → InStream name Q (with_consumer s new)
+in_replaced name P Q s new e q h = stands-map (in_place_of new) (in_place_of-names new) (λ c named p. subst Q (sym (placed_same new c (named ∙ sym e))) q) h
+
 module _ (name : Bytes) (P : Consumer → Type 0) (k : IsKept P) where
   pub after_ack-kept : (now : ℕ) (reply : Option Bytes) (n : ℕ) (kind : AckKind) (c : Consumer) → P c → P (after_ack now reply n kind c)
   after_ack-kept now reply n kind c h = go (next_ask kind)

@@ -27,3 +27,4 @@ pub mod Consecutive
 pub mod StartOrder
 pub mod StoredBefore
 pub mod Ordering
+pub mod Redelivery

@@ -109,7 +109,7 @@ count_waiting c n p e = ap (λ (o : Option Pending). count_or_zero o) e
     count_or_zero None = 0
     count_or_zero (Some q) = q.count
 
-count_absent : (c : Consumer) (n : ℕ) → has (pending_seqs c) n ≡ false → count_of c n ≡ 0
+pub count_absent : (c : Consumer) (n : ℕ) → has (pending_seqs c) n ≡ false → count_of c n ≡ 0
 count_absent c n e = ap (λ (o : Option Pending). count_or_zero o) (find_none (λ p. p.seq == n) c.pending (any_of_seqs c.pending e))
   where
     count_or_zero : Option Pending → ℕ

@@ -1,5 +1,5 @@
 -- What holds of each run of a place.
-use Rattle.std.specs.Prelude.{◌≡◌, ◌<◌, ◌≤◌, ◌+◌, ◌++◌, map, filter, if◌then◌else◌, max, Contains, ◌||◌, ◌&&◌, ◌==◌, Bool, true, false, ℕ, List, [], ◌∷◌, Option, Some, None, ⊤, MatchBool}
+use Rattle.std.specs.Prelude.{◌≡◌, ◌<◌, ◌≤◌, ◌+◌, ◌++◌, map, filter, find, option_map, if◌then◌else◌, max, Contains, ◌||◌, ◌&&◌, ◌==◌, Bool, true, false, ℕ, List, [], ◌∷◌, Option, Some, None, ⊤, MatchBool}
 use Rattle.std.specs.List.{list_any}
 use Rattle.js_base.specs.Bytes.{Bytes, is_empty, same, has}
 use Rattle.js_base.specs.Moments.{plus}
@@ -9,11 +9,13 @@ use Rattle.js_model.specs.declared.stream.Stream.{Stream}
 use Rattle.js_model.specs.declared.stream.State.{State}
 use Rattle.js_model.specs.declared.stream.State.TheVariants.{Vacant, Live}
 use Rattle.js_model.specs.declared.consumer.Consumer.{Consumer}
+use Rattle.js_model.specs.declared.ack.AckKind.{AckKind}
+use Rattle.js_model.specs.declared.ack.AckKind.TheVariants.{Ack as Acknowledge, Nak, Wpi, Next, Term}
 use Rattle.js_model.specs.declared.event.Event.{Event}
 use Rattle.js_model.specs.declared.event.What.{What}
 use Rattle.js_model.specs.declared.event.What.TheVariants.{Change, Drop as DropStream, Publish as PublishIt, Purge, Delete, DropConsumer, Ack as AckIt}
 use Rattle.js_model.specs.declared.reply.Reply.{Reply}
-use Rattle.js_model.specs.declared.reply.Reply.TheVariants.{Published, Duplicate, Refused}
+use Rattle.js_model.specs.declared.reply.Reply.TheVariants.{Published, Duplicate, Confirmed, Refused}
 use Rattle.js_model.specs.declared.entry.Delivered.{Delivered}
 use Rattle.js_model.specs.declared.entry.Delivered.TheVariants.{Sent, TooSmall, Emptied}
 use Rattle.js_model.specs.declared.entry.Delivery.{Delivery}
@@ -252,3 +254,56 @@ pub record IsInOrder (name : Bytes) (old : State) (c : Consumer) (entries : List
 abbrev pub LawOrder : Type 0
 LawOrder = (name : Bytes) (count : ℕ) (old new : State) (entries : List PlaceEntry) (c : Consumer)
     → IsSound old → consumer_of name old ≡ Some c → RunFrom count old entries new → IsInOrder name old c entries
+
+-- ---- a delivery is made again only when it is due
+
+-- what is known of a sequence: how often it was sent, and from which moment on it may be sent again
+abbrev pub Due : Type 0
+Due = Option (ℕ × ℕ)
+
+-- the entry of the sequence that stands at first
+abbrev pub due_first : ℕ → Consumer → Due
+due_first n c = option_map (λ p. (p.count, p.due)) (find (λ p. p.seq == n) c.pending)
+
+-- a NAK sets its own moment, and a WPI the ack wait anew
+abbrev pub due_by : ℕ → ℕ → AckKind → ℕ × ℕ → ℕ × ℕ
+due_by wait now (Nak delay) x = (x.0, plus now delay)
+due_by wait now Wpi x = (x.0, plus now wait)
+due_by wait now _ x = x
+
+-- what is known after an event: an acknowledgement of the sequence that was confirmed may move its moment
+abbrev pub due_after_event : Bytes → ℕ → ℕ → ℕ → What → Reply → Due → Due
+due_after_event name n wait now (AckIt asked ack) Confirmed due = if same ack.consumer name && ack.seq == n then option_map (due_by wait now ack.kind) due else due
+due_after_event name n wait now _ _ due = due
+
+abbrev pub due_after_sent : ℕ → ℕ → ℕ → Delivered → Due → Due
+due_after_sent n wait now (Sent seq count dseq) due = if seq == n then Some (count, plus now wait) else due
+due_after_sent n wait now TooSmall due = due
+due_after_sent n wait now Emptied due = due
+
+-- what is known after a delivery: it waits for as long as the ack wait
+abbrev pub due_after : Bytes → ℕ → ℕ → ℕ → Delivery → Due → Due
+due_after name n wait now d due = if same d.consumer name then due_after_sent n wait now d.what due else due
+
+-- once more than before, and not before its moment
+abbrev pub IsAgain : ℕ → ℕ → Due → Type 0
+IsAgain now count None = ⊥
+IsAgain now count (Some x) = (count ≡ x.0 + 1) × (x.1 ≤ now)
+
+abbrev pub IsDueSending : ℕ → ℕ → Due → List Sending → Type 0
+IsDueSending n now due [] = ⊤
+IsDueSending n now due (x ∷ xs) = (x.seq ≡ n → 2 ≤ x.count → IsAgain now x.count due) × IsDueSending n now due xs
+
+-- each redelivery of the sequence to the consumer is so, where `clock` is the stream's moment
+abbrev pub Redelivers : Bytes → ℕ → ℕ → ℕ → Due → List PlaceEntry → Type 0
+Redelivers name n wait clock due [] = ⊤
+Redelivers name n wait clock due (Step seat e now reply outs unsaid ∷ entries) =
+    MatchBool (drops name e.what) ⊤ (Redelivers name n wait (max clock now) (due_after_event name n wait (max clock now) e.what reply due) entries)
+Redelivers name n wait clock due (Deliver seat now listening d outs ∷ entries) =
+    IsDueSending n (max clock now) due (sending_to name d) × Redelivers name n wait (max clock now) (due_after name n wait (max clock now) d due) entries
+Redelivers name n wait clock due (Broken seat now (StepOf e) ∷ entries) = ⊤
+Redelivers name n wait clock due (Broken seat now (DeliverOf listening d) ∷ entries) = IsDueSending n (max clock now) due (sending_to name d)
+
+abbrev pub LawRedelivery : Type 0
+LawRedelivery = (name : Bytes) (n count : ℕ) (old new : State) (entries : List PlaceEntry) (c : Consumer)
+    → IsSound old → consumer_of name old ≡ Some c → RunFrom count old entries new → Redelivers name n c.config.ack_wait (moment_of old) (due_first n c) entries
