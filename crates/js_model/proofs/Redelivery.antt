@@ -471,10 +471,10 @@ module _ (name : Bytes) (n : ℕ) (due : Due) (config : ConsumerConfig) where
   own_due a listening c after (Sent seq count dseq) outs x k e h = (
     (λ q g. sent_again n due a c x.message count k h (candidate_is a c x.message x.candidate).reason x.count_is (sym x.seq_is ∙ q) g, tt),
     subst (IsTracked n (due_after_sent n config.ack_wait a.moment (Sent seq count dseq) due)) (sym x.after_is)
-    (subst (λ (v : ConsumerConfig). IsTracked n (due_after_sent n v.ack_wait a.moment (Sent seq count dseq) due) (sent_to a.moment x.message c)) e
-    (subst (λ (l : ℕ). IsTracked n (due_after_sent n c.config.ack_wait a.moment (Sent l count dseq) due) (sent_to a.moment x.message c)) (sym x.seq_is)
-    (subst (λ (l : ℕ). IsTracked n (due_after_sent n c.config.ack_wait a.moment (Sent x.message.seq l dseq) due) (sent_to a.moment x.message c)) (sym x.count_is)
-    (tracked_sent n due a.messages a.last a.moment x.message c k h)))),
+        (subst (λ (v : ConsumerConfig). IsTracked n (due_after_sent n v.ack_wait a.moment (Sent seq count dseq) due) (sent_to a.moment x.message c)) e
+        (subst (λ (l : ℕ). IsTracked n (due_after_sent n c.config.ack_wait a.moment (Sent l count dseq) due) (sent_to a.moment x.message c)) (sym x.seq_is)
+        (subst (λ (l : ℕ). IsTracked n (due_after_sent n c.config.ack_wait a.moment (Sent x.message.seq l dseq) due) (sent_to a.moment x.message c)) (sym x.count_is)
+        (tracked_sent n due a.messages a.last a.moment x.message c k h)))),
   )
   own_due a listening c after TooSmall outs x k e h = (tt, subst (IsTracked n due) (sym x.after_is) (tracked_same n due c _ refl h))
   own_due a listening c after Emptied outs x k e h = (tt, subst (IsTracked n due) (sym x.after_is) (tracked_same n due c _ refl h))
@@ -501,14 +501,18 @@ module _ (name : Bytes) (n : ℕ) (due : Due) (config : ConsumerConfig) where
 
       go : (b : Bool) → same d.consumer name ≡ b → IsDueSending n (advance s now).moment due (cond b (sending_of d.what) []) × InState name (IsTracked n (cond b (due_after_sent n config.ack_wait (advance s now).moment d.what due) due)) new
       go true e =
-          let n_is = same_is d.consumer name e in
-          ((itself n_is).0, subst (InState name (IsTracked n (due_after_sent n config.ack_wait (advance s now).moment d.what due))) (sym x.new_is)
-          (settle (due_after_sent n config.ack_wait (advance s now).moment d.what due) (with_consumer (advance s now) x.after)
-          (in_replaced name (IsTracked n due) (IsTracked n (due_after_sent n config.ack_wait (advance s now).moment d.what due)) (advance s now) x.after (after_named n_is) (itself n_is).1 (tracked_time name n due s now h))))
-      go false e =
-          (tt, subst (InState name (IsTracked n due)) (sym x.new_is)
-          (settle due (with_consumer (advance s now) x.after)
-          (in_with name (IsTracked n due) (IsTracked n due) (advance s now) x.after (λ q. absurd (true≢false (sym (self q) ∙ e))) (λ c w p. p) (tracked_time name n due s now h))))
+          let n_is = same_is d.consumer name e in (
+            (itself n_is).0,
+            subst (InState name (IsTracked n (due_after_sent n config.ack_wait (advance s now).moment d.what due))) (sym x.new_is)
+                (settle (due_after_sent n config.ack_wait (advance s now).moment d.what due) (with_consumer (advance s now) x.after)
+                (in_replaced name (IsTracked n due) (IsTracked n (due_after_sent n config.ack_wait (advance s now).moment d.what due)) (advance s now) x.after (after_named n_is) (itself n_is).1 (tracked_time name n due s now h))),
+          )
+      go false e = (
+        tt,
+        subst (InState name (IsTracked n due)) (sym x.new_is)
+            (settle due (with_consumer (advance s now) x.after)
+            (in_with name (IsTracked n due) (IsTracked n due) (advance s now) x.after (λ q. absurd (true≢false (sym (self q) ∙ e))) (λ c w p. p) (tracked_time name n due s now h))),
+      )
         where
           self : x.after.name ≡ name → same d.consumer name ≡ true
           self q = subst (λ (m : Bytes). same d.consumer m ≡ true) (sym (found_named (advance s now).consumers d.consumer x.consumer x.found) ∙ sym (after_name (advance s now) listening x.consumer x.after d.what x.own x.delivers) ∙ q) (same_self d.consumer)
@@ -539,10 +543,12 @@ redelivers name n config clock due count (Live t) (Step seat e now reply outs un
     unless_dropped true q f = tt
     unless_dropped false q f = f q
 redelivers name n config clock due count (Live t) (Deliver seat now listening d outs ∷ entries) new s g h m (mid, x, rest) =
-    let k = at_clock (λ (u : ℕ). IsDueSending n u due (sending_to name d) × InState name (IsTracked n (due_after name n config.ack_wait u d due)) mid) t now clock m (delivery_due name n due config t mid now listening d outs x.delivered s g h) in
-    (k.0, redelivers name n config (max clock now) (due_after name n config.ack_wait (max clock now) d due) (count + length (new_messages (Live t) mid)) mid entries new (sound_delivery (Live t) mid now listening d outs x.delivered s)
-    (config_delivery name config t mid now listening d outs x.delivered g) k.1
-    (clock_of name (IsTracked n (due_after name n config.ack_wait (max clock now) d due)) (Live t) mid now clock t.moment m k.1 (moment_delivery t mid now listening d outs x.delivered)) rest)
+    let k = at_clock (λ (u : ℕ). IsDueSending n u due (sending_to name d) × InState name (IsTracked n (due_after name n config.ack_wait u d due)) mid) t now clock m (delivery_due name n due config t mid now listening d outs x.delivered s g h) in (
+      k.0,
+      redelivers name n config (max clock now) (due_after name n config.ack_wait (max clock now) d due) (count + length (new_messages (Live t) mid)) mid entries new (sound_delivery (Live t) mid now listening d outs x.delivered s)
+          (config_delivery name config t mid now listening d outs x.delivered g) k.1
+          (clock_of name (IsTracked n (due_after name n config.ack_wait (max clock now) d due)) (Live t) mid now clock t.moment m k.1 (moment_delivery t mid now listening d outs x.delivered)) rest,
+    )
 redelivers name n config clock due count (Live t) (Broken seat now (StepOf e) ∷ entries) new s g h m r = tt
 redelivers name n config clock due count (Live t) (Broken seat now (DeliverOf listening d) ∷ []) new s g h m (outs, x) =
     at_clock (λ (u : ℕ). IsDueSending n u due (sending_to name d)) t now clock m (delivery_due name n due config t new now listening d outs x.delivered s g h).0

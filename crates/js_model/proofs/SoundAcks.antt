@@ -40,8 +40,8 @@ sound_with s new k h = record {
   config = h.config;
   messages = h.messages;
   consumers =
-    All-map (IsSoundConsumer s.messages s.last) (in_place_of new) s.consumers
-    (All-weaker (IsSoundConsumer s.messages s.last) (λ c. IsSoundConsumer s.messages s.last (in_place_of new c)) either s.consumers h.consumers);
+      All-map (IsSoundConsumer s.messages s.last) (in_place_of new) s.consumers
+      (All-weaker (IsSoundConsumer s.messages s.last) (λ c. IsSoundConsumer s.messages s.last (in_place_of new c)) either s.consumers h.consumers);
   ordered = ordered_map (in_place_of new) (λ c. (in_place_of-names new).name c) s.consumers h.ordered;
   ids = h.ids;
 }
@@ -112,8 +112,8 @@ due_sound messages last n due c k = record {
   picks_given_up = k.picks_given_up;
   pending_given_up = subst (λ (l : List ℕ). Apart l c.given_up) (sym (moved-seqs n due c.pending)) k.pending_given_up;
   counts =
-    All-map (IsCounted c.dseq c.config.max_deliver) (moved n due) c.pending
-    (All-weaker (IsCounted c.dseq c.config.max_deliver) (λ p. IsCounted c.dseq c.config.max_deliver (moved n due p)) (λ p q. moved_counted c.dseq c.config.max_deliver n due p q) c.pending k.counts);
+      All-map (IsCounted c.dseq c.config.max_deliver) (moved n due) c.pending
+      (All-weaker (IsCounted c.dseq c.config.max_deliver) (λ p. IsCounted c.dseq c.config.max_deliver (moved n due p)) (λ p q. moved_counted c.dseq c.config.max_deliver n due p q) c.pending k.counts);
   unacknowledged_pending = λ e. ap (map (moved n due)) (k.unacknowledged_pending e);
   unacknowledged_given_up = k.unacknowledged_given_up;
   push = k.push;

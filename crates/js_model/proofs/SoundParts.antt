@@ -128,8 +128,8 @@ sound_only s messages p h = record {
   config = h.config;
   messages = part_between (λ m. m.seq) 1 (s.last + 1) p h.messages;
   consumers =
-    All-map (IsSoundConsumer messages s.last) (confined (seqs messages)) s.consumers
-    (All-weaker (IsSoundConsumer s.messages s.last) (λ c. IsSoundConsumer messages s.last (confined (seqs messages) c)) (λ c k. confined_sound s.last c p h.messages k) s.consumers h.consumers);
+      All-map (IsSoundConsumer messages s.last) (confined (seqs messages)) s.consumers
+      (All-weaker (IsSoundConsumer s.messages s.last) (λ c. IsSoundConsumer messages s.last (confined (seqs messages) c)) (λ c k. confined_sound s.last c p h.messages k) s.consumers h.consumers);
   ordered = ordered_map (confined (seqs messages)) (λ c. refl) s.consumers h.ordered;
   ids = h.ids;
 }

@@ -185,8 +185,8 @@ sound_time s now h = let t = max s.moment now in let a = aged s (max s.moment no
   config = k.config;
   messages = k.messages;
   consumers =
-    All-map (IsSoundConsumer a.messages a.last) (consumer_at t) a.consumers
-    (All-weaker (IsSoundConsumer a.messages a.last) (λ c. IsSoundConsumer a.messages a.last (consumer_at t c)) (λ c q. consumer_at_sound a.messages a.last t c q) a.consumers k.consumers);
+      All-map (IsSoundConsumer a.messages a.last) (consumer_at t) a.consumers
+      (All-weaker (IsSoundConsumer a.messages a.last) (λ c. IsSoundConsumer a.messages a.last (consumer_at t c)) (λ c q. consumer_at_sound a.messages a.last t c q) a.consumers k.consumers);
   ordered = ordered_map (consumer_at t) (λ c. refl) a.consumers k.ordered;
   ids = k.ids;
 }

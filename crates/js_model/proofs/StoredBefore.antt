@@ -231,7 +231,7 @@ sends_stored name config known count (Live t) (Step seat e now reply outs unsaid
 sends_stored name config known count (Live t) (Deliver seat now listening d outs ∷ entries) new s h k (mid, x, rest) = (
   delivery_stored name config known t mid now listening d outs x.delivered s h k,
   sends_stored name config known (count + length (new_messages (Live t) mid)) mid entries new (sound_delivery (Live t) mid now listening d outs x.delivered s)
-  (config_delivery name config t mid now listening d outs x.delivered h) (known_delivery known (Live t) mid now listening d outs x.delivered k) rest,
+      (config_delivery name config t mid now listening d outs x.delivered h) (known_delivery known (Live t) mid now listening d outs x.delivered k) rest,
 )
 sends_stored name config known count (Live t) (Broken seat now (StepOf e) ∷ entries) new s h k r = tt
 sends_stored name config known count (Live t) (Broken seat now (DeliverOf listening d) ∷ []) new s h k (outs, x) = delivery_stored name config known t new now listening d outs x.delivered s h k
