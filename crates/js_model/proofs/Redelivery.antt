@@ -1,7 +1,6 @@
 -- A delivery is made again only when it is due.
-use Rattle.std.proofs.Common.{◌≡◌, ℕ, ◌+◌, ◌≤◌, ◌<◌, Bool, true, false, ◌&&◌, ◌||◌, not, cond, List, [], ◌∷◌, ◌++◌, map, max, length, refl, sym, ap, ◌∙◌, subst, arith, ◌⊎◌, inl, inr}
-use Rattle.std.specs.Prelude.{Option, Some, None, option_map, find, filter, nat_lt, nat_le, ◌==◌, ⊤, MatchBool}
-use Rattle.std.specs.List.{list_any}
+use Rattle.std.proofs.Common.{◌≡◌, ℕ, ◌+◌, ◌≤◌, ◌<◌, Bool, true, false, ◌&&◌, not, cond, List, [], ◌∷◌, ◌++◌, map, max, length, refl, sym, ap, ◌∙◌, subst, arith, ◌⊎◌, inl, inr}
+use Rattle.std.specs.Prelude.{Option, Some, None, option_map, find, filter, nat_lt, ◌==◌, ⊤, MatchBool}
 use Rattle.std.proofs.lemmas.Bool.{true≢false, eqb-true, eqb-false, eq-eqb, ne_eqb, leb-true, and_parts, and_from, or_left, ltb-true, ltb-false}
 use Rattle.js_base.specs.Bytes.{Bytes, same, has}
 use Rattle.js_base.specs.Moments.{plus}
@@ -30,31 +29,30 @@ use Rattle.js_model.specs.declared.entry.PlaceEntry.{PlaceEntry}
 use Rattle.js_model.specs.declared.entry.PlaceEntry.TheVariants.{Step, Deliver, Broken}
 use Rattle.js_model.specs.declared.entry.Call.TheVariants.{Step as StepOf, Deliver as DeliverOf}
 use Rattle.js_model.specs.Lists.{Between}
-use Rattle.js_model.specs.Streams.{confined, only, seqs, by_name, with_consumer, pending_seqs, is_unacknowledged, in_place_of}
+use Rattle.js_model.specs.Streams.{confined, only, seqs, by_name, with_consumer, pending_seqs, is_unacknowledged}
 use Rattle.js_model.specs.Advance.{advance, consumer_at, is_spent, young}
 use Rattle.js_model.specs.Retention.{kept}
 use Rattle.js_model.specs.Verdict.{message_of}
 use Rattle.js_model.specs.Consumers.{new_consumer}
-use Rattle.js_model.specs.Acknowledge.{acknowledged, without, with_due, moved, is_no_delivery}
+use Rattle.js_model.specs.Acknowledge.{acknowledged, with_due, moved, is_no_delivery}
 use Rattle.js_model.specs.Pulls.{pulled}
 use Rattle.js_model.specs.Events.{Answer, answered, IsEvent, settled_state, stream_answer, ack_answer, ack_done, ack_reply, after_ack, pulled_next, next_ask, quietly, with_message, with_id}
-use Rattle.js_model.specs.Deliver.{Delivers, IsDelivery, IsDelivered, sent_to, pending_after, with_pending, count_of, is_due}
-use Rattle.js_model.specs.Runs.{RunFrom, IsStep, new_messages}
+use Rattle.js_model.specs.Deliver.{Delivers, IsDelivery, sent_to, with_pending, count_of, is_due}
+use Rattle.js_model.specs.Runs.{RunFrom, new_messages}
 use Rattle.js_model.specs.Firm.{moment_of}
 use Rattle.js_model.specs.Sound.{IsSoundConsumer, IsSoundStream, IsSound}
-use Rattle.js_model.specs.Laws.{LawRedelivery, Due, due_first, due_by, due_after_event, due_after_sent, due_after, IsAgain, IsDueSending, Redelivers, Sending, sending_of, sending_to, drops, consumer_of}
-use Rattle.js_model.proofs.Named.{Stands, stands-map, stands-found, stands-at, stands-with_new, stands-without, found_named, same_is, same_self, none_some, some_is, in_place_of-names}
+use Rattle.js_model.specs.Laws.{LawRedelivery, Due, due_first, due_by, due_after_event, due_after_sent, due_after, IsAgain, IsDueSending, Redelivers, sending_of, sending_to, drops, consumer_of}
+use Rattle.js_model.proofs.Named.{stands-map, stands-found, stands-with_new, stands-without, found_named, same_is, same_self, none_some}
 use Rattle.js_model.proofs.Members.{IsIn, here, there, in_cons, in_filter, in_bounds, find_one, found_in}
 use Rattle.js_model.proofs.Facts.{IsChangeFact, IsStreamFact, IfLive, change_time, change_kept, at_settled, at_kept, at_event}
 use Rattle.js_model.proofs.Candidates.{IsReason, again, picked, onward, candidate_is}
-use Rattle.js_model.proofs.SoundTime.{sound_time}
 use Rattle.js_model.proofs.SoundAcks.{moved-seq, All-by_name}
 use Rattle.js_model.proofs.SoundSent.{count_waiting, count_absent, none_above, seqs_between}
 use Rattle.js_model.proofs.Sounding.{sound_step, sound_delivery, sound_found}
 use Rattle.js_model.proofs.Settled.{picks_pulled}
 use Rattle.js_model.proofs.StoredBefore.{HasConfig, config_kept, config_delivery}
 use Rattle.js_model.proofs.Ordering.{stands_of}
-use Rattle.js_model.proofs.ConsumerFacts.{IsKept, InStream, InState, in_with, in_replaced, in_event, in_time, in_delivery, its, after_name, after_ack-name, pulled-name}
+use Rattle.js_model.proofs.ConsumerFacts.{InStream, InState, in_with, in_replaced, in_event, in_time, its, after_name, after_ack-name, pulled-name}
 
 -- ---- an entry of the sequence is known
 

@@ -1,5 +1,5 @@
 -- A sound stream stays sound where an acknowledgement or a pull changes one of its consumers.
-use Rattle.std.proofs.Common.{◌≡◌, ℕ, ◌+◌, Bool, true, false, ◌||◌, not, cond, List, [], ◌∷◌, map, refl, sym, ap, ◌∙◌, subst}
+use Rattle.std.proofs.Common.{◌≡◌, ℕ, ◌+◌, Bool, true, false, not, cond, List, [], ◌∷◌, map, refl, sym, ap, ◌∙◌, subst}
 use Rattle.std.specs.Prelude.{Option, Some, None, filter, ◌==◌, All, nat_le, length}
 use Rattle.std.proofs.lemmas.Bool.{true≢false}
 use Rattle.std.proofs.lemmas.List.Elements.{All-filter, All-map, All-weaker, All-head, All-tail}
@@ -13,17 +13,16 @@ use Rattle.js_model.specs.declared.consumer.Consumer.{Consumer}
 use Rattle.js_model.specs.declared.ack.Ask.{Ask}
 use Rattle.js_model.specs.declared.ack.AckKind.{AckKind}
 use Rattle.js_model.specs.declared.ack.AckKind.TheVariants.{Ack as Acknowledge, Nak, Wpi, Next, Term}
-use Rattle.js_model.specs.Streams.{by_name, with_consumer, in_place_of, pending_seqs, is_push, is_unacknowledged}
+use Rattle.js_model.specs.Streams.{by_name, with_consumer, in_place_of, is_push}
 use Rattle.js_model.specs.Acknowledge.{acknowledged, without, with_due, moved}
-use Rattle.js_model.specs.Pulls.{pulled, pulled_unless, with_pull, pull_refusal, push_based, bad_request, exceeded_waiting}
+use Rattle.js_model.specs.Pulls.{pulled, pulled_unless, with_pull, pull_refusal, push_based, exceeded_waiting}
 use Rattle.js_model.specs.Events.{after_ack, pulled_next, next_ask}
-use Rattle.js_model.specs.Sound.{IsStored, AreStored, IsCounted, IsSoundConsumer, IsSoundStream}
+use Rattle.js_model.specs.Sound.{AreStored, IsCounted, IsSoundConsumer, IsSoundStream}
 use Rattle.js_model.proofs.Named.{none_some, some_is, in_place_of-names}
-use Rattle.js_model.proofs.Parts.{filter_part, part_between, between_map, all_part}
+use Rattle.js_model.proofs.Parts.{filter_part, part_between, all_part}
 use Rattle.js_model.proofs.Lacking.{apart-parts, has-part}
 use Rattle.js_model.proofs.SoundTime.{part_map}
 use Rattle.js_model.proofs.SoundParts.{ordered_map}
-use Rattle.js_model.proofs.ConsumerFacts.{after_ack-name, pulled-name}
 
 -- ---- one consumer of a stream
 

@@ -1,29 +1,27 @@
 -- A sound stream that delivers is sound.
 use Rattle.std.proofs.Common.{◌≡◌, ℕ, ◌+◌, ◌-◌, ◌^◌, ◌<◌, ◌≤◌, Bool, true, false, ◌&&◌, ◌||◌, not, cond, List, [], ◌∷◌, map, max, refl, sym, ap, ◌∙◌, subst, arith, ◌⊎◌, inl, inr}
-use Rattle.std.specs.Prelude.{Option, Some, None, filter, find, nat_lt, nat_le, ◌==◌, All, IfSome, IsTrue}
+use Rattle.std.specs.Prelude.{Option, Some, None, filter, find, nat_lt, ◌==◌, All, IfSome, IsTrue}
 use Rattle.std.specs.List.{list_any}
-use Rattle.std.proofs.lemmas.Bool.{true≢false, and_parts, or_cases, or_left, or_right, ltb-true, ltb-false, leb-true, eqb-true, eqb-false, ne_eqb, eq-eqb, false_from_ne_true, not-true, not_from_false, or_from, or_parts, and_from}
-use Rattle.std.proofs.lemmas.List.Elements.{All-cons, All-head, All-tail, All-weaker, All-nil}
+use Rattle.std.proofs.lemmas.Bool.{true≢false, and_parts, or_cases, or_left, or_right, ltb-true, ltb-false, eqb-true, eqb-false, ne_eqb, eq-eqb, false_from_ne_true, not-true, or_from, or_parts, and_from}
+use Rattle.std.proofs.lemmas.List.Elements.{All-cons, All-head, All-tail, All-weaker}
 use Rattle.js_base.specs.Bytes.{Bytes, has}
 use Rattle.js_base.specs.Moments.{plus}
 use Rattle.js_base.specs.declared.out.Out.{Out}
-use Rattle.js_model.specs.Lists.{Apart, Between, IsPart}
+use Rattle.js_model.specs.Lists.{Apart, Between}
 use Rattle.js_model.specs.declared.consumer_config.ConsumerConfig.{ConsumerConfig}
 use Rattle.js_model.specs.declared.stream.Message.{Message}
 use Rattle.js_model.specs.declared.stream.Stream.{Stream}
 use Rattle.js_model.specs.declared.consumer.Pending.{Pending}
-use Rattle.js_model.specs.declared.consumer.Pull.{Pull}
 use Rattle.js_model.specs.declared.consumer.Consumer.{Consumer}
 use Rattle.js_model.specs.declared.entry.Delivered.{Delivered}
 use Rattle.js_model.specs.declared.entry.Delivered.TheVariants.{Sent, TooSmall, Emptied}
-use Rattle.js_model.specs.Streams.{takes, passes_filter, pending_seqs, is_push, is_unacknowledged, sent_size, below_limit}
+use Rattle.js_model.specs.Streams.{passes_filter, pending_seqs, is_unacknowledged, sent_size, below_limit}
 use Rattle.js_model.specs.Configs.{is_consumer_config, is_limit}
 use Rattle.js_model.specs.Deliver.{sent_to, pending_after, with_pending, count_of, front_served, is_due, without_first, Delivers}
-use Rattle.js_model.specs.Sound.{IsStored, AreStored, IsCounted, IsSoundConsumer, IsSoundStream}
+use Rattle.js_model.specs.Sound.{IsStored, AreStored, IsCounted, IsSoundConsumer}
 use Rattle.js_model.proofs.Parts.{filter_part, all_part, part_between, between_higher, between_bounds, between_map}
 use Rattle.js_model.proofs.Lacking.{apart-parts, has-part}
 use Rattle.js_model.proofs.SoundParts.{has-filter}
-use Rattle.js_model.proofs.SoundTime.{has_between}
 use Rattle.js_model.proofs.SoundAcks.{waiting_sound}
 use Rattle.js_model.proofs.Members.{IsIn, here, there, in_bounds, any_in, find_one, found_in, find_none, all_in}
 use Rattle.js_model.proofs.Candidates.{IsReason, again, picked, onward, IsCandidate, candidate_is}

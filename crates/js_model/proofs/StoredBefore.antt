@@ -1,6 +1,6 @@
 -- What is sent to a consumer was stored before, and its filter matches it.
 use Rattle.std.proofs.Common.{◌≡◌, ℕ, ◌+◌, Bool, true, false, ◌&&◌, cond, List, [], ◌∷◌, ◌++◌, map, max, length, refl, sym, ap, ◌∙◌, subst, ◌⊎◌, inl, inr}
-use Rattle.std.specs.Prelude.{Option, Some, None, ◌==◌, ⊤, MatchBool, filter}
+use Rattle.std.specs.Prelude.{Option, Some, None, ◌==◌, ⊤, MatchBool}
 use Rattle.std.proofs.lemmas.Bool.{true≢false, eq-eqb, and_from}
 use Rattle.js_base.specs.Bytes.{Bytes, same}
 use Rattle.js_base.specs.declared.out.Out.{Out}
@@ -27,17 +27,17 @@ use Rattle.js_model.specs.declared.entry.PlaceEntry.{PlaceEntry}
 use Rattle.js_model.specs.declared.entry.PlaceEntry.TheVariants.{Step, Deliver, Broken}
 use Rattle.js_model.specs.declared.entry.Call.TheVariants.{Step as StepOf, Deliver as DeliverOf}
 use Rattle.js_model.specs.Lists.{IsPart, Between}
-use Rattle.js_model.specs.Streams.{passes_filter, with_consumer}
+use Rattle.js_model.specs.Streams.{passes_filter}
 use Rattle.js_model.specs.Advance.{advance, young}
 use Rattle.js_model.specs.Verdict.{verdict, message_of}
 use Rattle.js_model.specs.Acknowledge.{acknowledged}
 use Rattle.js_model.specs.Pulls.{pulled, pulled_unless, pull_refusal}
 use Rattle.js_model.specs.Events.{Answer, answered, published, with_id, IsEvent, settled_state, stream_answer}
 use Rattle.js_model.specs.Deliver.{Delivers, IsDelivery, IsDelivered}
-use Rattle.js_model.specs.Runs.{RunFrom, IsStep, messages_of, new_messages}
+use Rattle.js_model.specs.Runs.{RunFrom, new_messages}
 use Rattle.js_model.specs.Sound.{IsSoundConsumer, IsSoundStream, IsSound}
-use Rattle.js_model.specs.Laws.{Stored, stored_first, stored_by, was_stored, WereStored, SendsStored, Sending, sending_of, sending_to, drops}
-use Rattle.js_model.proofs.Named.{same_is, same_self}
+use Rattle.js_model.specs.Laws.{Stored, stored_first, stored_by, was_stored, WereStored, SendsStored, sending_of, sending_to, drops}
+use Rattle.js_model.proofs.Named.{same_is}
 use Rattle.js_model.proofs.Members.{IsIn, here, there, in_part, in_append, in_cons, any_in, holds_of_one}
 use Rattle.js_model.proofs.Facts.{IsStreamFact, IfLive, at_event, at_settled, at_delivery}
 use Rattle.js_model.proofs.Candidates.{candidate_is}
