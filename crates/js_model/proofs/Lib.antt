@@ -28,3 +28,5 @@ pub mod StartOrder
 pub mod StoredBefore
 pub mod Ordering
 pub mod Redelivery
+pub mod AllConsumers
+pub mod Within
