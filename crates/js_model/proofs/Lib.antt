@@ -30,3 +30,6 @@ pub mod Ordering
 pub mod Redelivery
 pub mod AllConsumers
 pub mod Within
+pub mod Quotas
+pub mod Sharing
+pub mod Limiting

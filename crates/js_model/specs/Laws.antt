@@ -30,7 +30,7 @@ use Rattle.js_model.specs.Streams.{by_name, pending_seqs, seqs, size, is_push, p
 use Rattle.js_model.specs.Advance.{advance}
 use Rattle.js_model.specs.Retention.{is_kept}
 use Rattle.js_model.specs.Trim.{trim, max_messages}
-use Rattle.js_model.specs.Events.{purge_list, stream_answer}
+use Rattle.js_model.specs.Events.{purge_list, next_ask, stream_answer}
 use Rattle.js_model.specs.Deliver.{count_of}
 use Rattle.js_model.specs.Runs.{RunFrom, IsStep, messages_of}
 use Rattle.js_model.specs.Firm.{moment_of}
@@ -341,14 +341,10 @@ abbrev pub allowance_for : Option Bytes → Option Ask → List Allowance
 allowance_for (Some reply) (Some ask) = record { to = reply; batch = ask.batch; bytes = ask.max_bytes } ∷ []
 allowance_for _ _ = []
 
-abbrev pub ask_in : AckKind → Option Ask
-ask_in (Next ask) = Some ask
-ask_in _ = None
-
 -- what an event asks the consumer of this name for
 abbrev pub asked_by : Bytes → What → List Allowance
 asked_by name (PullIt reply other ask) = if same other name then allowance_for reply ask else []
-asked_by name (AckIt reply ack) = if same ack.consumer name then allowance_for reply (ask_in ack.kind) else []
+asked_by name (AckIt reply ack) = if same ack.consumer name then allowance_for reply (next_ask ack.kind) else []
 asked_by name _ = []
 
 -- what the entries ask it for, until it or the stream is dropped
@@ -382,11 +378,14 @@ parcels name (Step seat e now reply outs unsaid ∷ entries) = if drops name e.w
 parcels name (Deliver seat now listening d outs ∷ entries) = (if same d.consumer name then parcel_in d.what outs else []) ++ parcels name entries
 parcels name (Broken seat now call ∷ entries) = []
 
+abbrev pub total_bytes : List Parcel → ℕ
+total_bytes xs = sum_by (λ x. x.1) xs
+
 -- what one pull gets: all of it goes to its reply subject, at most its batch and at most its bytes
 pub record IsAllowed (a : Allowance) (own : List Parcel) : Type 0 where
   pub to : All (λ x. x.0 ≡ a.to) own
   pub batch : 1 ≤ a.batch → length own ≤ a.batch
-  pub bytes : IfSome a.bytes (λ limit. sum_by (λ x. x.1) own ≤ limit)
+  pub bytes : IfSome a.bytes (λ limit. total_bytes own ≤ limit)
 
 -- the parcels in their order are what the first pull gets, then what the next one gets, and so on
 abbrev pub AreShared : List Allowance → List Parcel → Type 0
