@@ -89,7 +89,7 @@ spares name (ConsumerNames reply offset) e = refl
 spares name (ConsumerList reply offset) e = refl
 
 -- a sequence with an entry was delivered
-entry_passed : (messages : List Message) (last n : ℕ) (c : Consumer) → IsSoundConsumer messages last c → has_entry n (Some c) ≡ true → IsPassed n c
+pub entry_passed : (messages : List Message) (last n : ℕ) (c : Consumer) → IsSoundConsumer messages last c → has_entry n (Some c) ≡ true → IsPassed n c
 entry_passed messages last n c k e = go (or_cases (has (pending_seqs c) n) (has c.given_up n) e)
   where
     below : (xs : List ℕ) → Between (λ n. n) 1 c.cursor xs → has xs n ≡ true → n < c.cursor

@@ -65,7 +65,7 @@ tracked_same n due c d e h = record { tracked = λ p i q. h.tracked p (subst (Is
 tracked_filter : (n : ℕ) (due : Due) (t : Pending → Bool) (c d : Consumer) → d.pending ≡ filter t c.pending → IsTracked n due c → IsTracked n due d
 tracked_filter n due t c d e h = record { tracked = λ p i q. h.tracked p (in_filter t p c.pending (subst (IsIn p) e i)).0 q }
 
-in_map : {X Y : Type 0} (f : X → Y) (y : Y) (xs : List X) → IsIn y (map f xs) → (x : X) × IsIn x xs × (f x ≡ y)
+pub in_map : {X Y : Type 0} (f : X → Y) (y : Y) (xs : List X) → IsIn y (map f xs) → (x : X) × IsIn x xs × (f x ≡ y)
 in_map f y [] i = elim i [ ]
 in_map {X} f y (x ∷ xs) i = go (in_map f y xs) (in_cons i)
   where
@@ -385,7 +385,7 @@ moment_delivery s new now listening d outs x = subst (IfLive ⊤ (λ t. t.moment
 -- ---- a delivery
 
 -- an entry is the new one, or an old one of another sequence
-in_with_pending : (low high : ℕ) (new p : Pending) (ps : List Pending) → Between (λ p. p.seq) low high ps → IsIn p (with_pending ps new) → (p ≡ new) ⊎ (IsIn p ps × (p.seq ≡ new.seq → ⊥))
+pub in_with_pending : (low high : ℕ) (new p : Pending) (ps : List Pending) → Between (λ p. p.seq) low high ps → IsIn p (with_pending ps new) → (p ≡ new) ⊎ (IsIn p ps × (p.seq ≡ new.seq → ⊥))
 in_with_pending low high new p [] h i = go (in_cons i)
   where
     go : (new ≡ p) ⊎ IsIn p [] → (p ≡ new) ⊎ (IsIn p [] × (p.seq ≡ new.seq → ⊥))
@@ -552,17 +552,18 @@ redelivers name n config clock due count (Live t) (Broken seat now (DeliverOf li
     at_clock (λ (u : ℕ). IsDueSending n u due (sending_to name d)) t now clock m (delivery_due name n due config t new now listening d outs x.delivered s g h).0
 redelivers name n config clock due count (Live t) (Broken seat now (DeliverOf listening d) ∷ entry ∷ entries) new s g h m r = absurd r
 
+-- an entry is found by its sequence
+pub pending_found : (low high n : ℕ) (ps : List Pending) → Between (λ p. p.seq) low high ps → (p : Pending) → IsIn p ps → p.seq ≡ n → find (λ p. p.seq == n) ps ≡ Some p
+pending_found low high n [] h p i q = elim i [ ]
+pending_found low high n (x ∷ ps) h p i q = go (pending_found (x.seq + 1) high n ps h.1 p) (in_cons i)
+  where
+    go : (IsIn p ps → p.seq ≡ n → find (λ p. p.seq == n) ps ≡ Some p) → (x ≡ p) ⊎ IsIn p ps → cond (x.seq == n) (Some x) (find (λ p. p.seq == n) ps) ≡ Some p
+    go f (inl e) = ap (λ (b : Bool). cond b (Some x) (find (λ p. p.seq == n) ps)) (eq-eqb x.seq n (ap (λ (z : Pending). z.seq) e ∙ q)) ∙ ap Some e
+    go f (inr e) = ap (λ (b : Bool). cond b (Some x) (find (λ p. p.seq == n) ps)) (ne_eqb x.seq n (λ r. let l : x.seq + 1 ≤ p.seq = (in_bounds (λ p. p.seq) (x.seq + 1) high p ps h.1 e).0 in absurd (omega arith))) ∙ f e q
+
 -- the entry that stands at first is known
 tracked_first : (n : ℕ) (messages : List Message) (last : ℕ) (c : Consumer) → IsSoundConsumer messages last c → IsTracked n (due_first n c) c
-tracked_first n messages last c k = record { tracked = λ p i q. ap (option_map (λ (p : Pending). (p.count, p.due))) (find_it 1 c.pending k.pending p i q) }
-  where
-    find_it : (low : ℕ) (ps : List Pending) → Between (λ p. p.seq) low c.cursor ps → (p : Pending) → IsIn p ps → p.seq ≡ n → find (λ p. p.seq == n) ps ≡ Some p
-    find_it low [] h p i q = elim i [ ]
-    find_it low (x ∷ ps) h p i q = go (find_it (x.seq + 1) ps h.1 p) (in_cons i)
-      where
-        go : (IsIn p ps → p.seq ≡ n → find (λ p. p.seq == n) ps ≡ Some p) → (x ≡ p) ⊎ IsIn p ps → cond (x.seq == n) (Some x) (find (λ p. p.seq == n) ps) ≡ Some p
-        go f (inl e) = ap (λ (b : Bool). cond b (Some x) (find (λ p. p.seq == n) ps)) (eq-eqb x.seq n (ap (λ (z : Pending). z.seq) e ∙ q)) ∙ ap Some e
-        go f (inr e) = ap (λ (b : Bool). cond b (Some x) (find (λ p. p.seq == n) ps)) (ne_eqb x.seq n (λ r. let l : x.seq + 1 ≤ p.seq = (in_bounds (λ p. p.seq) (x.seq + 1) c.cursor p ps h.1 e).0 in absurd (omega arith))) ∙ f e q
+tracked_first n messages last c k = record { tracked = λ p i q. ap (option_map (λ (p : Pending). (p.count, p.due))) (pending_found 1 c.cursor n c.pending k.pending p i q) }
 
 sound_of : (name : Bytes) (s : State) (c : Consumer) (n : ℕ) → IsSound s → consumer_of name s ≡ Some c → IsTracked n (due_first n c) c
 sound_of name (Vacant i) c n s e = absurd (none_some e)

@@ -92,11 +92,11 @@ pub record IsDeliverable (a : Stream) (c : Consumer) (m : Message) : Type 0 wher
   pub within : IfSome c.config.max_deliver (λ limit. count_of c m.seq + 1 ≤ limit)
 
 -- a limit on deliveries is at least one
-one_at_least : (greatest : ℕ) (limit : Option ℕ) → is_limit greatest limit ≡ true → IfSome limit (λ n. 1 ≤ n)
+pub one_at_least : (greatest : ℕ) (limit : Option ℕ) → is_limit greatest limit ≡ true → IfSome limit (λ n. 1 ≤ n)
 one_at_least greatest None h = tt
 one_at_least greatest (Some n) h = let q : 0 < n = ltb-true 0 n (and_parts _ _ h).0 in omega arith
 
-limit_of : (config : ConsumerConfig) → IsTrue (is_consumer_config config) → is_limit (2 ^ 62 - 1) config.max_deliver ≡ true
+pub limit_of : (config : ConsumerConfig) → IsTrue (is_consumer_config config) → is_limit (2 ^ 62 - 1) config.max_deliver ≡ true
 limit_of config h = (and_parts _ _ (and_parts _ _ (and_parts _ _ (and_parts _ _ (and_parts _ _ (and_parts _ _ (and_parts _ _ (and_parts _ _ (and_parts _ _ h).0).0).0).0).0).0).0).0).1
 
 -- a sequence that waits is counted; another one is not

@@ -160,7 +160,7 @@ config_acknowledged now n Wpi c = refl
 config_acknowledged now n (Next ask) c = refl
 config_acknowledged now n Term c = refl
 
-config_pulled : (now : ℕ) (reply : Option Bytes) (ask : Option Ask) (c : Consumer) → (pulled now reply ask c).config ≡ c.config
+pub config_pulled : (now : ℕ) (reply : Option Bytes) (ask : Option Ask) (c : Consumer) → (pulled now reply ask c).config ≡ c.config
 config_pulled now None ask c = refl
 config_pulled now (Some reply) ask c = go ask (pull_refusal c ask)
   where
