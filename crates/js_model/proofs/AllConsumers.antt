@@ -1,6 +1,6 @@
 -- A fact of each consumer that each of its changes keeps holds after each event and each delivery.
-use Rattle.std.proofs.Common.{◌≡◌, ℕ, ◌+◌, Bool, true, false, not, cond, List, [], ◌∷◌, ◌++◌, map, max, refl, sym, subst}
-use Rattle.std.specs.Prelude.{Option, Some, None, filter, All, ⊤}
+use Rattle.std.proofs.Common.{ℕ, ◌+◌, Bool, true, false, not, cond, List, [], ◌∷◌, ◌++◌, max, sym, subst}
+use Rattle.std.specs.Prelude.{All, ⊤}
 use Rattle.std.proofs.lemmas.List.Elements.{All-map, All-weaker, All-filter, All-nil}
 use Rattle.js_base.specs.Bytes.{Bytes, same}
 use Rattle.js_base.specs.declared.out.Out.{Out}
@@ -8,7 +8,6 @@ use Rattle.js_model.specs.declared.consumer_config.ConsumerConfig.{ConsumerConfi
 use Rattle.js_model.specs.declared.stream.Message.{Message}
 use Rattle.js_model.specs.declared.stream.Stream.{Stream}
 use Rattle.js_model.specs.declared.stream.State.{State}
-use Rattle.js_model.specs.declared.stream.State.TheVariants.{Vacant, Live}
 use Rattle.js_model.specs.declared.consumer.Consumer.{Consumer}
 use Rattle.js_model.specs.declared.event.Publish.{Publish}
 use Rattle.js_model.specs.declared.entry.Delivery.{Delivery}
@@ -16,8 +15,8 @@ use Rattle.js_model.specs.Streams.{only, seqs, confined, with_consumer, in_place
 use Rattle.js_model.specs.Advance.{advance, young, consumer_at}
 use Rattle.js_model.specs.Verdict.{message_of}
 use Rattle.js_model.specs.Consumers.{new_consumer}
-use Rattle.js_model.specs.Events.{with_message, with_id}
-use Rattle.js_model.specs.Deliver.{IsDelivery, IsDelivered}
+use Rattle.js_model.specs.Events.{with_id}
+use Rattle.js_model.specs.Deliver.{IsDelivery}
 use Rattle.js_model.proofs.Facts.{IsStreamFact, IfLive, at_kept}
 use Rattle.js_model.proofs.NameOrder.{All-with_new}
 use Rattle.js_model.proofs.SoundAcks.{All-by_name}

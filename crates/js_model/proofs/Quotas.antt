@@ -1,8 +1,8 @@
 -- A message is sent at most max_deliver times.
-use Rattle.std.proofs.Common.{◌≡◌, ℕ, zero, suc, ◌+◌, ◌-◌, ◌<◌, ◌≤◌, Bool, true, false, ◌≢◌, ◌^◌, ◌&&◌, ◌||◌, not, cond, List, [], ◌∷◌, ◌++◌, map, max, length, refl, sym, ap, ◌∙◌, subst, arith, ◌⊎◌, inl, inr}
-use Rattle.std.specs.Prelude.{Option, Some, None, filter, find, nat_lt, nat_le, ◌==◌, IfSome, ⊤}
+use Rattle.std.proofs.Common.{◌≡◌, ℕ, ◌+◌, ◌-◌, ◌<◌, ◌≤◌, Bool, true, false, ◌≢◌, ◌^◌, ◌&&◌, ◌||◌, not, cond, List, [], ◌∷◌, ◌++◌, map, length, refl, sym, ap, ◌∙◌, subst, arith, ◌⊎◌, inl, inr}
+use Rattle.std.specs.Prelude.{Option, Some, None, filter, nat_le, ◌==◌, IfSome}
 use Rattle.std.specs.List.{list_any}
-use Rattle.std.proofs.lemmas.Bool.{true≢false, eqb-true, eqb-false, eq-eqb, ne_eqb, ltb-true, and_parts, false_from_ne_true, not-true, or_left}
+use Rattle.std.proofs.lemmas.Bool.{true≢false, eqb-true, eqb-false, ltb-true, and_parts, false_from_ne_true, not-true, or_left}
 use Rattle.js_base.specs.Bytes.{Bytes, same, has}
 use Rattle.js_base.specs.Moments.{plus}
 use Rattle.js_base.specs.declared.out.Out.{Out}
@@ -13,7 +13,6 @@ use Rattle.js_model.specs.declared.stream.State.{State}
 use Rattle.js_model.specs.declared.stream.State.TheVariants.{Vacant, Live}
 use Rattle.js_model.specs.declared.consumer.Pending.{Pending}
 use Rattle.js_model.specs.declared.consumer.Consumer.{Consumer}
-use Rattle.js_model.specs.declared.ack.Ask.{Ask}
 use Rattle.js_model.specs.declared.ack.AckKind.{AckKind}
 use Rattle.js_model.specs.declared.ack.AckKind.TheVariants.{Ack as Acknowledge, Nak, Wpi, Next, Term}
 use Rattle.js_model.specs.declared.entry.Delivered.{Delivered}
@@ -22,22 +21,22 @@ use Rattle.js_model.specs.declared.entry.Delivery.{Delivery}
 use Rattle.js_model.specs.declared.entry.PlaceEntry.{PlaceEntry}
 use Rattle.js_model.specs.declared.entry.PlaceEntry.TheVariants.{Step, Deliver, Broken}
 use Rattle.js_model.specs.declared.entry.Call.TheVariants.{Step as StepOf, Deliver as DeliverOf}
-use Rattle.js_model.specs.Lists.{Lacks, Between}
+use Rattle.js_model.specs.Lists.{Lacks}
 use Rattle.js_model.specs.Streams.{confined, pending_seqs, is_unacknowledged, below_limit}
 use Rattle.js_model.specs.Advance.{advance, consumer_at, is_spent}
 use Rattle.js_model.specs.Acknowledge.{acknowledged, moved}
 use Rattle.js_model.specs.Pulls.{pulled}
-use Rattle.js_model.specs.Deliver.{Delivers, IsDelivery, IsDelivered, sent_to, with_pending, count_of, is_due, without_first}
+use Rattle.js_model.specs.Deliver.{Delivers, IsDelivery, sent_to, with_pending, count_of, is_due, without_first}
 use Rattle.js_model.specs.Runs.{RunFrom, new_messages}
 use Rattle.js_model.specs.Sound.{IsCounted, IsSoundConsumer, IsSoundStream, IsSound}
-use Rattle.js_model.specs.Laws.{Sending, sending_of, sending_to, sendings, times_sent, drops, consumer_of, has_entry}
+use Rattle.js_model.specs.Laws.{Sending, sending_of, sending_to, sendings, times_sent, drops, consumer_of}
 use Rattle.js_model.proofs.Named.{same_is, same_self, none_some}
 use Rattle.js_model.proofs.Lacking.{lacks-head}
 use Rattle.js_model.proofs.SoundParts.{has-filter}
 use Rattle.js_model.proofs.Members.{IsIn, in_filter, find_one, found_in, all_in}
 use Rattle.js_model.proofs.Candidates.{IsReason, again, picked, onward, candidate_is}
 use Rattle.js_model.proofs.SoundAcks.{moved-seq, All-by_name}
-use Rattle.js_model.proofs.SoundSent.{count_waiting, count_absent, one_at_least, limit_of, has_seq}
+use Rattle.js_model.proofs.SoundSent.{count_waiting, count_absent, one_at_least, limit_of}
 use Rattle.js_model.proofs.Sounding.{sound_step, sound_delivery, sound_found}
 use Rattle.js_model.proofs.Settled.{IsPassed, passed_kept, passed_sent, picks_pulled}
 use Rattle.js_model.proofs.Acked.{entry_passed}

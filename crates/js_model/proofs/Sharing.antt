@@ -1,11 +1,11 @@
 -- A pull gets at most what it asks for.
-use Rattle.std.proofs.Common.{◌≡◌, ℕ, ◌+◌, ◌-◌, ◌<◌, ◌≤◌, Bool, true, false, ◌&&◌, ◌||◌, not, cond, List, [], ◌∷◌, ◌++◌, map, max, length, refl, sym, ap, ◌∙◌, subst, arith, ◌⊎◌, inl, inr, append_assoc}
-use Rattle.std.specs.Prelude.{Option, Some, None, filter, find, nat_lt, nat_le, ◌==◌, All, IfSome, ⊤, sum_by}
+use Rattle.std.proofs.Common.{◌≡◌, ℕ, ◌+◌, ◌-◌, ◌<◌, ◌≤◌, Bool, true, false, not, cond, List, [], ◌∷◌, ◌++◌, map, max, length, refl, sym, ap, ◌∙◌, subst, arith, append_assoc}
+use Rattle.std.specs.Prelude.{Option, Some, None, nat_le, IfSome}
 use Rattle.std.specs.List.{last_or}
 use Rattle.std.proofs.lemmas.Bool.{true≢false, leb-true, leb-false}
 use Rattle.std.proofs.lemmas.List.Elements.{All-nil, All-cons}
 use Rattle.std.proofs.lemmas.List.Sums.{sum_by-cons}
-use Rattle.js_base.specs.Bytes.{Bytes, same, has, is_empty}
+use Rattle.js_base.specs.Bytes.{Bytes, same, is_empty}
 use Rattle.js_base.specs.declared.out.Out.{Out}
 use Rattle.js_model.specs.declared.consumer_config.ConsumerConfig.{ConsumerConfig}
 use Rattle.js_model.specs.declared.stream.Message.{Message}
@@ -23,13 +23,12 @@ use Rattle.js_model.specs.declared.event.Publish.{Publish}
 use Rattle.js_model.specs.declared.event.What.{What}
 use Rattle.js_model.specs.declared.event.What.TheVariants.{Make, Change, Drop as DropStream, Publish as PublishIt, Purge, Delete, MakeConsumer, DropConsumer, Ack as AckIt, Pull as PullIt, Tick, StreamInfo as AskStream, MessageGet, ConsumerInfo as AskConsumer, ConsumerNames, ConsumerList}
 use Rattle.js_model.specs.declared.reply.Reply.{Reply}
-use Rattle.js_model.specs.declared.reply.Reply.TheVariants.{Silent, Nobody}
+use Rattle.js_model.specs.declared.reply.Reply.TheVariants.{Silent}
 use Rattle.js_model.specs.declared.entry.Delivered.{Delivered}
 use Rattle.js_model.specs.declared.entry.Delivered.TheVariants.{Sent, TooSmall, Emptied}
 use Rattle.js_model.specs.declared.entry.Delivery.{Delivery}
 use Rattle.js_model.specs.declared.entry.PlaceEntry.{PlaceEntry}
 use Rattle.js_model.specs.declared.entry.PlaceEntry.TheVariants.{Step, Deliver, Broken}
-use Rattle.js_model.specs.declared.entry.Call.TheVariants.{Step as StepOf, Deliver as DeliverOf}
 use Rattle.js_model.specs.Lists.{IsPart, none, keep, skip}
 use Rattle.js_model.specs.Streams.{confined, only, seqs, by_name, with_consumer, is_push, sent_size}
 use Rattle.js_model.specs.Advance.{advance, advance_outs, consumer_at, running, beaten, pull_comes, is_over, young}
@@ -37,21 +36,20 @@ use Rattle.js_model.specs.Retention.{kept}
 use Rattle.js_model.specs.Verdict.{message_of}
 use Rattle.js_model.specs.Consumers.{new_consumer}
 use Rattle.js_model.specs.Acknowledge.{acknowledged, is_no_delivery}
-use Rattle.js_model.specs.Pulls.{pulled, pulled_unless, with_pull, pull_of, pull_refusal}
+use Rattle.js_model.specs.Pulls.{pulled, pulled_unless, pull_of, pull_refusal}
 use Rattle.js_model.specs.Events.{Answer, answered, IsEvent, settled_state, stream_answer, pull_answer, ack_answer, ack_done, after_ack, pulled_next, next_ask, quietly, with_message, with_id}
-use Rattle.js_model.specs.Deliver.{Delivers, IsDelivery, IsDelivered, sent_to, front_served, served, front_allows, fits, is_wanted, is_listened, address, without_first, delivery_out}
+use Rattle.js_model.specs.Deliver.{Delivers, IsDelivery, sent_to, front_served, served, front_allows, fits, is_listened, address, without_first, delivery_out}
 use Rattle.js_model.specs.Runs.{RunFrom, new_messages}
-use Rattle.js_model.specs.Sound.{IsSound}
-use Rattle.js_model.specs.Laws.{Allowance, allowance_of, allowance_for, asked_by, asked, Parcel, parcel_of, parcel_in, parcel_or_none, parcels, total_bytes, IsAllowed, AreShared, drops, consumer_of}
+use Rattle.js_model.specs.Laws.{Allowance, allowance_of, allowance_for, asked_by, asked, Parcel, parcel_in, parcel_or_none, parcels, total_bytes, IsAllowed, AreShared, drops, consumer_of}
 use Rattle.js_model.proofs.Parts.{all_part, filter_part, no_part}
 use Rattle.js_model.proofs.Leaving.{part_trans}
 use Rattle.js_model.proofs.SoundTime.{part_map}
-use Rattle.js_model.proofs.Named.{Stands, stands-map, stands-found, stands-with_new, stands-without, found_named, same_is, same_self}
+use Rattle.js_model.proofs.Named.{stands-map, stands-found, stands-with_new, stands-without, found_named, same_is, same_self}
 use Rattle.js_model.proofs.Facts.{IsStreamFact, IfLive, at_event, at_settled, at_kept}
 use Rattle.js_model.proofs.Consecutive.{append_nil}
 use Rattle.js_model.proofs.StoredBefore.{HasConfig, config_kept, config_delivery}
 use Rattle.js_model.proofs.Ordering.{stands_of}
-use Rattle.js_model.proofs.ConsumerFacts.{IsKept, InStream, InState, in_with, in_replaced, in_event, in_time, its, after_name, after_ack-name, pulled-name}
+use Rattle.js_model.proofs.ConsumerFacts.{InStream, InState, in_with, in_replaced, in_event, its, after_name, after_ack-name, pulled-name}
 
 -- ---- sharing
 

@@ -1,10 +1,8 @@
 -- A state within its limits stays so.
-use Rattle.std.proofs.Common.{◌≡◌, ℕ, ◌+◌, ◌-◌, ◌^◌, ◌<◌, ◌≤◌, Bool, true, false, ◌||◌, not, cond, List, [], ◌∷◌, ◌++◌, map, length, drop, min, max, refl, sym, ap, ◌∙◌, subst, arith, ◌⊎◌, inl, inr, length-drop}
+use Rattle.std.proofs.Common.{◌≡◌, ℕ, ◌+◌, ◌-◌, ◌<◌, ◌≤◌, Bool, true, false, ◌||◌, not, cond, List, [], ◌∷◌, map, length, drop, max, refl, sym, ap, ◌∙◌, subst, arith, ◌⊎◌, inl, inr, length-drop}
 use Rattle.std.proofs.lemmas.List.{length-map}
-use Rattle.std.specs.Prelude.{Option, Some, None, unwrap_or, filter, nat_lt, nat_le, ◌==◌, count_by, sum_by, All, IfSome, ⊤, IsTrue}
-use Rattle.std.specs.List.{list_any}
-use Rattle.std.proofs.lemmas.Bool.{true≢false, ltb-true, ltb-false, leb-true, eqb-true, eqb-false, eq-eqb, or_cases, or_left, or_right, and_parts, false_from_ne_true}
-use Rattle.std.proofs.lemmas.List.Elements.{All-map, All-weaker, All-filter, All-nil}
+use Rattle.std.specs.Prelude.{Option, Some, None, unwrap_or, filter, nat_lt, nat_le, ◌==◌, count_by, sum_by, All, IfSome, ⊤}
+use Rattle.std.proofs.lemmas.Bool.{true≢false, ltb-true, ltb-false, leb-true, eqb-true, or_cases}
 use Rattle.std.proofs.lemmas.List.Sums.{sum_by-cons}
 use Rattle.js_base.specs.Bytes.{Bytes, same, has, last_of}
 use Rattle.js_base.specs.Moments.{plus}
@@ -16,11 +14,9 @@ use Rattle.js_model.specs.declared.stream.State.{State}
 use Rattle.js_model.specs.declared.stream.State.TheVariants.{Vacant, Live}
 use Rattle.js_model.specs.declared.consumer.Pending.{Pending}
 use Rattle.js_model.specs.declared.consumer.Consumer.{Consumer}
-use Rattle.js_model.specs.declared.ack.Ask.{Ask}
 use Rattle.js_model.specs.declared.ack.AckKind.{AckKind}
 use Rattle.js_model.specs.declared.ack.AckKind.TheVariants.{Ack as Acknowledge, Nak, Wpi, Next, Term}
 use Rattle.js_model.specs.declared.event.Event.{Event}
-use Rattle.js_model.specs.declared.event.Publish.{Publish}
 use Rattle.js_model.specs.declared.reply.Reply.{Reply}
 use Rattle.js_model.specs.declared.entry.Delivered.{Delivered}
 use Rattle.js_model.specs.declared.entry.Delivered.TheVariants.{Sent, TooSmall, Emptied}
@@ -29,21 +25,21 @@ use Rattle.js_model.specs.declared.entry.PlaceEntry.{PlaceEntry}
 use Rattle.js_model.specs.declared.entry.PlaceEntry.TheVariants.{Step, Deliver, Broken}
 use Rattle.js_model.specs.declared.entry.Call.TheVariants.{Step as StepOf, Deliver as DeliverOf}
 use Rattle.js_model.specs.Lists.{IsPart, Between}
-use Rattle.js_model.specs.Streams.{only, size, confined, seqs, with_consumer, in_place_of, by_name, pending_seqs, is_unacknowledged}
-use Rattle.js_model.specs.Advance.{advance, aged, young, consumer_at, is_spent}
+use Rattle.js_model.specs.Streams.{size, confined, with_consumer, pending_seqs, is_unacknowledged}
+use Rattle.js_model.specs.Advance.{advance, consumer_at, is_spent}
 use Rattle.js_model.specs.Retention.{kept}
-use Rattle.js_model.specs.Trim.{trim, trim_subjects, trim_count, trim_bytes, newest, newest_at, fitting, fitting_at, max_messages}
+use Rattle.js_model.specs.Trim.{trim, newest, newest_at, fitting, fitting_at, max_messages}
 use Rattle.js_model.specs.Acknowledge.{acknowledged, moved}
 use Rattle.js_model.specs.Consumers.{new_consumer}
 use Rattle.js_model.specs.Runs.{RunFrom, IsStep, new_messages}
 use Rattle.js_model.specs.Pulls.{pulled}
-use Rattle.js_model.specs.Events.{Answer, answered, IsEvent, settled_state, stream_answer, vacant_answer, after_ack, pulled_next, next_ask, with_message, with_id}
+use Rattle.js_model.specs.Events.{Answer, answered, IsEvent, settled_state, stream_answer, vacant_answer}
 use Rattle.js_model.specs.Deliver.{Delivers, IsDelivery, IsDelivered, sent_to, with_pending, count_of, may_wait, is_due}
-use Rattle.js_model.specs.Sound.{IsSoundConsumer, IsSoundStream, IsSound}
-use Rattle.js_model.specs.Laws.{IsWithin, IsWithinLimits}
+use Rattle.js_model.specs.Sound.{IsSoundConsumer, IsSound}
+use Rattle.js_model.specs.Laws.{IsWithin}
 use Rattle.js_model.proofs.Parts.{filter_part, drop_part, part-length, part-sum, newest_part, fitting_at_part}
 use Rattle.js_model.proofs.Leaving.{part_trans}
-use Rattle.js_model.proofs.Named.{same_is, same_self}
+use Rattle.js_model.proofs.Named.{same_is}
 use Rattle.js_model.proofs.Parts.{between_map}
 use Rattle.js_model.proofs.Members.{find_one, found_in}
 use Rattle.js_model.proofs.Facts.{IfLive, at_event}
