@@ -1,16 +1,14 @@
 -- A sequence whose entry an acknowledgement ended is not sent again.
-use Rattle.std.proofs.Common.{◌≡◌, ℕ, ◌+◌, ◌<◌, ◌≤◌, Bool, true, false, ◌&&◌, ◌||◌, List, [], ◌∷◌, map, length, refl, sym, ap, ◌∙◌, subst, arith, ◌⊎◌, inl, inr}
-use Rattle.std.specs.Prelude.{Option, Some, None, ◌==◌, ⊤, MatchBool, nat_le}
-use Rattle.std.specs.List.{list_any}
+use Rattle.std.proofs.Common.{◌≡◌, ℕ, ◌+◌, ◌<◌, Bool, true, false, List, [], ◌∷◌, length, refl, sym, ◌∙◌, subst, ◌⊎◌, inl, inr}
+use Rattle.std.specs.Prelude.{Option, Some, None, ⊤, MatchBool, nat_le}
 use Rattle.std.proofs.lemmas.Bool.{true≢false, or_cases, or_parts, and_left, and_right, leb-true, leb-false}
 use Rattle.js_base.specs.Bytes.{Bytes, same, has}
 use Rattle.js_base.specs.declared.out.Out.{Out}
-use Rattle.js_model.specs.Lists.{Between, Lacks}
+use Rattle.js_model.specs.Lists.{Between}
 use Rattle.js_model.specs.declared.stream.Message.{Message}
 use Rattle.js_model.specs.declared.stream.Stream.{Stream}
 use Rattle.js_model.specs.declared.stream.State.{State}
 use Rattle.js_model.specs.declared.stream.State.TheVariants.{Vacant, Live}
-use Rattle.js_model.specs.declared.consumer.Pending.{Pending}
 use Rattle.js_model.specs.declared.consumer.Consumer.{Consumer}
 use Rattle.js_model.specs.declared.event.Event.{Event}
 use Rattle.js_model.specs.declared.event.What.{What}
@@ -26,7 +24,7 @@ use Rattle.js_model.specs.Deliver.{IsDelivery, IsDelivered}
 use Rattle.js_model.specs.Runs.{RunFrom, IsStep, new_messages}
 use Rattle.js_model.specs.Sound.{IsSoundConsumer, IsSoundStream, IsSound}
 use Rattle.js_model.specs.Laws.{LawAcked, NeverSent, EndsEntry, drops, acknowledges, sends, has_entry, consumer_of}
-use Rattle.js_model.proofs.Named.{Stands, stands-found, stands-at, none_some, same_is}
+use Rattle.js_model.proofs.Named.{stands-at, same_is}
 use Rattle.js_model.proofs.Lacking.{lacks-from_map, apart-swapped}
 use Rattle.js_model.proofs.SoundTime.{sound_time}
 use Rattle.js_model.proofs.SoundSent.{none_above, seqs_between}
@@ -91,7 +89,7 @@ spares name (ConsumerNames reply offset) e = refl
 spares name (ConsumerList reply offset) e = refl
 
 -- a sequence with an entry was delivered
-entry_passed : (messages : List Message) (last n : ℕ) (c : Consumer) → IsSoundConsumer messages last c → has_entry n (Some c) ≡ true → IsPassed n c
+pub entry_passed : (messages : List Message) (last n : ℕ) (c : Consumer) → IsSoundConsumer messages last c → has_entry n (Some c) ≡ true → IsPassed n c
 entry_passed messages last n c k e = go (or_cases (has (pending_seqs c) n) (has c.given_up n) e)
   where
     below : (xs : List ℕ) → Between (λ n. n) 1 c.cursor xs → has xs n ≡ true → n < c.cursor

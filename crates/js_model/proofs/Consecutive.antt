@@ -1,6 +1,6 @@
 -- The consumer sequences of a consumer follow one after the other.
 use Rattle.std.proofs.Common.{◌≡◌, ℕ, ◌+◌, Bool, true, false, cond, List, [], ◌∷◌, ◌++◌, length, refl, sym, ap, ◌∙◌, subst}
-use Rattle.std.specs.Prelude.{Option, Some, None, ⊤}
+use Rattle.std.specs.Prelude.{Option, Some, None}
 use Rattle.std.proofs.lemmas.Bool.{true≢false}
 use Rattle.js_base.specs.Bytes.{Bytes, same}
 use Rattle.js_base.specs.declared.out.Out.{Out}

@@ -1,21 +1,19 @@
 -- A fact of a consumer that each of its changes keeps holds after each event and each delivery, until it is dropped.
-use Rattle.std.proofs.Common.{◌≡◌, ℕ, Bool, true, false, not, cond, List, [], ◌∷◌, ◌++◌, ◌+◌, refl, sym, ap, ◌∙◌, subst, max}
+use Rattle.std.proofs.Common.{◌≡◌, ℕ, Bool, true, false, cond, List, [], ◌∷◌, ◌++◌, ◌+◌, refl, sym, ap, ◌∙◌, subst, max}
 use Rattle.std.specs.Prelude.{Option, Some, None}
 use Rattle.std.proofs.lemmas.Bool.{true≢false}
 use Rattle.js_base.specs.Bytes.{Bytes, same}
 use Rattle.js_base.specs.declared.out.Out.{Out}
-use Rattle.js_model.specs.declared.consumer_config.ConsumerConfig.{ConsumerConfig}
 use Rattle.js_model.specs.declared.stream.Message.{Message}
 use Rattle.js_model.specs.declared.stream.Stream.{Stream}
 use Rattle.js_model.specs.declared.stream.State.{State}
-use Rattle.js_model.specs.declared.stream.State.TheVariants.{Vacant, Live}
+use Rattle.js_model.specs.declared.stream.State.TheVariants.{Live}
 use Rattle.js_model.specs.declared.consumer.Consumer.{Consumer}
 use Rattle.js_model.specs.declared.ack.Ask.{Ask}
 use Rattle.js_model.specs.declared.ack.AckKind.{AckKind}
 use Rattle.js_model.specs.declared.ack.AckKind.TheVariants.{Ack as Acknowledge, Nak, Wpi, Next, Term}
 use Rattle.js_model.specs.declared.event.Event.{Event}
 use Rattle.js_model.specs.declared.event.Publish.{Publish}
-use Rattle.js_model.specs.declared.event.What.{What}
 use Rattle.js_model.specs.declared.reply.Reply.{Reply}
 use Rattle.js_model.specs.declared.entry.Delivered.{Delivered}
 use Rattle.js_model.specs.declared.entry.Delivered.TheVariants.{Sent, TooSmall, Emptied}
@@ -25,12 +23,12 @@ use Rattle.js_model.specs.Advance.{advance, consumer_at, young}
 use Rattle.js_model.specs.Retention.{kept}
 use Rattle.js_model.specs.Verdict.{message_of}
 use Rattle.js_model.specs.Acknowledge.{acknowledged}
-use Rattle.js_model.specs.Pulls.{pulled, pulled_unless, with_pull, pull_refusal}
+use Rattle.js_model.specs.Pulls.{pulled, pulled_unless, pull_refusal}
 use Rattle.js_model.specs.Consumers.{new_consumer}
 use Rattle.js_model.specs.Events.{with_message, with_id, after_ack, pulled_next, next_ask, IsEvent}
 use Rattle.js_model.specs.Deliver.{Delivers, IsDelivery}
 use Rattle.js_model.specs.Laws.{drops}
-use Rattle.js_model.proofs.Named.{Stands, stands-map, stands-found, stands-with_new, stands-without, KeepsNames, same_is, found_named, same_self, in_place_of-names, placed_same, placed_other}
+use Rattle.js_model.proofs.Named.{Stands, stands-map, stands-found, stands-with_new, stands-without, KeepsNames, same_is, found_named, same_self, in_place_of-names, placed_same}
 use Rattle.js_model.proofs.Facts.{IsStreamFact, IfLive, at_event, at_time, at_kept}
 
 -- a fact of a consumer that its stream's steps keep
@@ -91,6 +89,10 @@ in_with name P Q s new own other h = stands-map (in_place_of new) (in_place_of-n
         go : (b : Bool) → same c.name new.name ≡ b → Q (cond b new c)
         go true e = own (sym (same_is c.name new.name e) ∙ named)
         go false e = other c e p
+
+-- a new consumer in the place of the one of the name
+pub in_replaced : (name : Bytes) (P Q : Consumer → Type 0) (s : Stream) (new : Consumer) → new.name ≡ name → Q new → InStream name P s → InStream name Q (with_consumer s new)
+in_replaced name P Q s new e q h = stands-map (in_place_of new) (in_place_of-names new) (λ c named p. subst Q (sym (placed_same new c (named ∙ sym e))) q) h
 
 module _ (name : Bytes) (P : Consumer → Type 0) (k : IsKept P) where
   pub after_ack-kept : (now : ℕ) (reply : Option Bytes) (n : ℕ) (kind : AckKind) (c : Consumer) → P c → P (after_ack now reply n kind c)

@@ -1,6 +1,6 @@
 -- A publish of an id within its window is told the first sequence.
-use Rattle.std.proofs.Common.{◌≡◌, ℕ, ◌+◌, ◌<◌, ◌≤◌, ◌^◌, Bool, true, false, cond, List, [], ◌∷◌, ◌++◌, length, max, refl, sym, ap, ◌∙◌, subst, arith, ◌⊎◌, inl, inr}
-use Rattle.std.specs.Prelude.{Option, Some, None, filter, find, nat_lt, ◌==◌, IfSome, ⊤, is_some, unwrap_or}
+use Rattle.std.proofs.Common.{◌≡◌, ℕ, ◌+◌, ◌<◌, Bool, true, false, cond, List, [], ◌∷◌, ◌++◌, length, max, refl, sym, ap, ◌∙◌, subst, arith}
+use Rattle.std.specs.Prelude.{Option, Some, None, filter, find, nat_lt, is_some, unwrap_or}
 use Rattle.std.proofs.lemmas.Bool.{lt-ltb, true≢false}
 use Rattle.js_base.specs.Bytes.{Bytes, same, is_empty, has}
 use Rattle.js_base.specs.Moments.{plus}
@@ -31,7 +31,7 @@ use Rattle.js_model.specs.Verdict.{verdict, known, text_differs, first_of_all, e
 use Rattle.js_model.specs.Events.{Answer, answered, published, with_message, with_id, vacant_answer, IsEvent, settled_state, stream_answer}
 use Rattle.js_model.specs.Runs.{RunFrom, IsStep, new_messages}
 use Rattle.js_model.specs.Firm.{moment_of}
-use Rattle.js_model.specs.Laws.{LawDuplicate, IsRepeatReply, Repeats, EachEvent, keeps_window, window_of, id_of, state_at}
+use Rattle.js_model.specs.Laws.{LawDuplicate, IsRepeatReply, EachEvent, keeps_window, window_of, id_of, state_at}
 use Rattle.js_model.proofs.Named.{none_some, some_is, same_self}
 use Rattle.js_model.proofs.SoundStored.{taken_is_new}
 use Rattle.js_model.proofs.Facts.{IsStreamFact, IfLive, at_event, at_settled, at_delivery}

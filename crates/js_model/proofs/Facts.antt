@@ -1,8 +1,7 @@
 -- A fact of a stream that each change of the machine keeps holds after each event and each delivery.
-use Rattle.std.proofs.Common.{◌≡◌, ℕ, ◌+◌, ◌^◌, Bool, true, false, not, cond, List, [], ◌∷◌, ◌++◌, refl, sym, ap, ◌∙◌, subst}
-use Rattle.std.specs.Prelude.{Option, Some, None, filter, nat_lt, ◌==◌}
+use Rattle.std.proofs.Common.{◌≡◌, ℕ, ◌+◌, ◌^◌, Bool, true, false, not, cond, List, refl, sym, ap, subst}
+use Rattle.std.specs.Prelude.{Option, Some, None, filter, ◌==◌}
 use Rattle.js_base.specs.Bytes.{Bytes, same}
-use Rattle.js_base.specs.Moments.{plus}
 use Rattle.js_base.specs.declared.out.Out.{Out}
 use Rattle.js_base.specs.declared.out.ApiError.{ApiError}
 use Rattle.js_model.specs.Lists.{IsPart}
@@ -34,7 +33,7 @@ use Rattle.js_model.specs.Verdict.{verdict}
 use Rattle.js_model.specs.Acknowledge.{is_no_delivery}
 use Rattle.js_model.specs.Pulls.{pulled}
 use Rattle.js_model.specs.Consumers.{empty_stream, new_consumer, with_new, making_checks}
-use Rattle.js_model.specs.Events.{Answer, stream_answer, vacant_answer, answered, settled, settled_state, made_again, changed, published, with_message, deleted, message_at, message_told, message_by, told_of, consumer_made, consumer_asked, consumer_dropped, pull_answer, ack_answer, ack_done, after_ack, quietly, IsEvent}
+use Rattle.js_model.specs.Events.{Answer, stream_answer, vacant_answer, answered, settled, settled_state, published, with_message, deleted, message_at, message_told, message_by, told_of, consumer_made, consumer_asked, consumer_dropped, pull_answer, ack_answer, ack_done, after_ack, quietly, IsEvent}
 use Rattle.js_model.specs.Deliver.{IsDelivered}
 use Rattle.js_model.proofs.Parts.{filter_part, drop_part, newest_at_part, fitting_at_part}
 

@@ -1,11 +1,10 @@
 -- Why a stored message is gone after an event or a delivery.
 use Rattle.std.proofs.Common.{◌≡◌, ℕ, ◌+◌, Bool, true, false, ◌||◌, not, cond, List, [], ◌∷◌, ◌++◌, refl, sym, ap, ◌∙◌, subst, ◌⊎◌, inl, inr}
-use Rattle.std.specs.Prelude.{Option, Some, None, filter, ◌==◌, find, ⊤, IsTrue}
-use Rattle.std.proofs.lemmas.Bool.{true≢false, eqb-true, and_parts, or_cases, not_from_false}
+use Rattle.std.specs.Prelude.{Option, Some, None, filter, ◌==◌, ⊤, IsTrue}
+use Rattle.std.proofs.lemmas.Bool.{eqb-true, and_parts}
 use Rattle.js_base.specs.Bytes.{Bytes, has}
 use Rattle.js_base.specs.declared.out.Out.{Out}
 use Rattle.js_base.specs.declared.out.ApiError.{ApiError}
-use Rattle.js_model.specs.Lists.{Between}
 use Rattle.js_model.specs.declared.consumer_config.ConsumerConfig.{ConsumerConfig}
 use Rattle.js_model.specs.declared.stream.Message.{Message}
 use Rattle.js_model.specs.declared.stream.Stream.{Stream}
@@ -30,14 +29,13 @@ use Rattle.js_model.specs.Refusals.{first_refusal}
 use Rattle.js_model.specs.Configs.{same_stream_config, same_consumer_config, same_retention}
 use Rattle.js_model.specs.Proper.{is_proper_what}
 use Rattle.js_model.specs.Advance.{advance}
-use Rattle.js_model.specs.Retention.{kept}
 use Rattle.js_model.specs.Trim.{trim}
 use Rattle.js_model.specs.Verdict.{verdict, message_of}
 use Rattle.js_model.specs.Acknowledge.{is_no_delivery}
 use Rattle.js_model.specs.Consumers.{making_checks, with_new, new_consumer}
-use Rattle.js_model.specs.Events.{Answer, stream_answer, answered, settled, settled_state, published, with_message, with_id, purge_list, deleted, message_at, message_told, message_by, told_of, consumer_made, consumer_asked, consumer_dropped, pull_answer, ack_answer, ack_done, quietly, IsEvent}
+use Rattle.js_model.specs.Events.{Answer, stream_answer, answered, settled, settled_state, published, with_id, purge_list, deleted, message_at, message_told, message_by, told_of, consumer_made, consumer_asked, consumer_dropped, pull_answer, ack_answer, IsEvent}
 use Rattle.js_model.specs.Deliver.{IsDelivery}
-use Rattle.js_model.specs.Runs.{RunFrom, IsStep, messages_of}
+use Rattle.js_model.specs.Runs.{RunFrom, messages_of}
 use Rattle.js_model.specs.Sound.{IsSoundStream, IsSound}
 use Rattle.js_model.specs.Laws.{LawKept, IsAged, IsTrimmed, Leaves, LeavesOnEvent, aged, purged, deleted as deleted_it, dropped, trimmed, unneeded, LeavesOnDelivery, aged_by_then, not_needed}
 use Rattle.js_model.proofs.Facts.{IfLive, at_answer}

@@ -1,13 +1,12 @@
 -- Lists in which nothing passes a test, and numbers in lists.
-use Rattle.std.proofs.Common.{◌≡◌, ℕ, zero, suc, Bool, true, false, ◌||◌, ◌&&◌, not, cond, List, [], ◌∷◌, ◌++◌, map, drop, refl, sym, ◌∙◌, ap, ◌⊎◌, inl, inr}
-use Rattle.std.specs.Prelude.{filter, fold, nat_lt, ◌==◌, All}
+use Rattle.std.proofs.Common.{◌≡◌, ℕ, Bool, true, false, ◌&&◌, cond, List, [], ◌∷◌, ◌++◌, map, refl, sym, ◌∙◌, ◌⊎◌, inl, inr}
+use Rattle.std.specs.Prelude.{fold, nat_lt, ◌==◌}
 use Rattle.std.specs.List.{list_any}
-use Rattle.std.proofs.lemmas.Bool.{or_parts, or_left, or_right, or_cases, or_from, true≢false, eqb-true, eq-eqb, and_from, and_parts}
-use Rattle.std.proofs.lemmas.List.Elements.{All-head, All-tail}
+use Rattle.std.proofs.lemmas.Bool.{or_parts, or_left, or_right, or_cases, or_from, true≢false, eqb-true, eq-eqb}
 use Rattle.js_base.specs.Bytes.{has}
 use Rattle.js_model.specs.Lists.{Apart, IsPart, Lacks}
 use Rattle.js_model.specs.Advance.{placed}
-use Rattle.js_model.proofs.Parts.{part_any, filter_part, drop_part}
+use Rattle.js_model.proofs.Parts.{part_any}
 
 pub lacks-cons : {X : Type 0} {t : X → Bool} {x : X} {xs : List X} → t x ≡ false → Lacks t xs → Lacks t (x ∷ xs)
 lacks-cons {t = t} {x = x} {xs = xs} h k = record { none = or_from (t x) (list_any t xs) h k.none }

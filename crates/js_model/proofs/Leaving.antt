@@ -1,31 +1,25 @@
 -- A stored message leaves only by age, a purge, a delete, a drop, a limit or its retention.
-use Rattle.std.proofs.Common.{◌≡◌, ℕ, ◌+◌, ◌<◌, ◌≤◌, ◌^◌, Bool, true, false, ◌&&◌, ◌||◌, not, cond, List, [], ◌∷◌, ◌++◌, map, length, max, refl, sym, ap, ◌∙◌, subst, arith, ◌⊎◌, inl, inr}
-use Rattle.std.specs.Prelude.{Option, Some, None, filter, nat_lt, nat_le, ◌==◌}
+use Rattle.std.proofs.Common.{◌≡◌, ℕ, ◌+◌, ◌<◌, ◌≤◌, Bool, true, false, ◌||◌, not, cond, List, [], ◌∷◌, map, max, refl, sym, ap, ◌∙◌, subst, arith, ◌⊎◌, inl, inr}
+use Rattle.std.specs.Prelude.{filter, nat_lt, nat_le, ◌==◌}
 use Rattle.std.specs.List.{list_any}
-use Rattle.std.proofs.lemmas.Bool.{true≢false, ltb-false, eq-eqb, eqb-true, ne_eqb, or_left, or_right, or_parts, or_from, and_right, and_left, and_cases, not-true, not-false}
-use Rattle.js_base.specs.Bytes.{Bytes, has}
+use Rattle.std.proofs.lemmas.Bool.{true≢false, ltb-false, eq-eqb, eqb-true, ne_eqb, or_left, or_right, or_parts, or_from, and_right, and_left, and_cases}
+use Rattle.js_base.specs.Bytes.{has}
 use Rattle.js_base.specs.Moments.{plus}
-use Rattle.js_base.specs.declared.out.Out.{Out}
-use Rattle.js_base.specs.declared.out.ApiError.{ApiError}
 use Rattle.js_model.specs.Lists.{Between, IsPart, keep, none, skip}
 use Rattle.js_model.specs.declared.stream_config.Retention.{Retention}
 use Rattle.js_model.specs.declared.stream_config.Retention.TheVariants.{Limits, Interest, WorkQueue}
 use Rattle.js_model.specs.declared.stream.Message.{Message}
 use Rattle.js_model.specs.declared.stream.Stream.{Stream}
-use Rattle.js_model.specs.declared.stream.State.{State}
-use Rattle.js_model.specs.declared.stream.State.TheVariants.{Vacant, Live}
 use Rattle.js_model.specs.declared.consumer.Consumer.{Consumer}
-use Rattle.js_model.specs.Streams.{only, seqs, confined, takes, pending_seqs}
-use Rattle.js_model.specs.Advance.{advance, young}
+use Rattle.js_model.specs.Streams.{seqs, confined, takes, pending_seqs}
+use Rattle.js_model.specs.Advance.{advance}
 use Rattle.js_model.specs.Retention.{kept, is_kept, needs}
 use Rattle.js_model.specs.Trim.{trim, trim_subjects, trim_count}
-use Rattle.js_model.specs.Sound.{IsSoundStream, IsSound}
 use Rattle.js_model.specs.Laws.{IsAged}
-use Rattle.js_model.proofs.Parts.{all_part, filter_part, drop_part, newest_at_part, fitting_at_part, part_between}
+use Rattle.js_model.proofs.Parts.{filter_part, drop_part, newest_at_part, fitting_at_part}
 use Rattle.js_model.proofs.Lacking.{has-not, has-part}
-use Rattle.js_model.proofs.SoundParts.{none_below}
-use Rattle.js_model.proofs.SoundTime.{sound_time, part_map}
-use Rattle.js_model.proofs.Members.{IsIn, here, there, in_from_contains, in_cons, in_bounds}
+use Rattle.js_model.proofs.SoundTime.{part_map}
+use Rattle.js_model.proofs.Members.{IsIn, here, there, in_cons, in_bounds}
 
 -- ---- parts and members
 

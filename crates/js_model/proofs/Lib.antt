@@ -27,3 +27,9 @@ pub mod Consecutive
 pub mod StartOrder
 pub mod StoredBefore
 pub mod Ordering
+pub mod Redelivery
+pub mod AllConsumers
+pub mod Within
+pub mod Quotas
+pub mod Sharing
+pub mod Limiting

@@ -1,10 +1,10 @@
 -- Parts of a list, in order: what each filter of the machine leaves.
-use Rattle.std.proofs.Common.{◌≡◌, ℕ, zero, suc, ◌+◌, ◌≤◌, ◌<◌, Bool, true, false, ◌||◌, cond, List, [], ◌∷◌, ◌++◌, length, drop, take, map, arith, refl}
-use Rattle.std.specs.Prelude.{Option, Some, None, filter, nat_lt, nat_le, count_by, sum_by, ◌==◌, ◌-◌}
-use Rattle.std.proofs.lemmas.Bool.{or_left, or_right, or_cases, eq-eqb}
+use Rattle.std.proofs.Common.{◌≡◌, ℕ, zero, suc, ◌+◌, ◌≤◌, Bool, true, false, ◌||◌, cond, List, [], ◌∷◌, ◌++◌, length, drop, take, map, arith, refl}
+use Rattle.std.specs.Prelude.{Option, Some, None, filter, nat_lt, nat_le, count_by, sum_by}
+use Rattle.std.proofs.lemmas.Bool.{or_right}
 use Rattle.std.proofs.lemmas.List.Sums.{sum_by-cons}
 use Rattle.std.specs.List.{list_any}
-use Rattle.js_base.specs.Bytes.{same, has}
+use Rattle.js_base.specs.Bytes.{same}
 use Rattle.js_model.specs.Lists.{Between, IsPart, keep, none, skip}
 use Rattle.js_model.specs.declared.stream.Message.{Message}
 use Rattle.js_model.specs.Trim.{newest, newest_at, fitting, fitting_at}

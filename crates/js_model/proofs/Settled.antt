@@ -1,8 +1,8 @@
 -- A sequence that a consumer has delivered, and that waits for no acknowledgement, stays so and is not sent.
-use Rattle.std.proofs.Common.{◌≡◌, ◌≢◌, ℕ, ◌+◌, ◌<◌, ◌≤◌, Bool, true, false, ◌&&◌, ◌||◌, not, cond, List, [], ◌∷◌, map, max, refl, sym, ap, ◌∙◌, subst, arith}
-use Rattle.std.specs.Prelude.{Option, Some, None, filter, nat_lt, ◌==◌}
+use Rattle.std.proofs.Common.{◌≡◌, ◌≢◌, ℕ, ◌+◌, ◌<◌, Bool, true, false, ◌&&◌, not, cond, List, [], ◌∷◌, map, refl, sym, ap, ◌∙◌, subst, arith}
+use Rattle.std.specs.Prelude.{Option, Some, None, nat_lt, ◌==◌}
 use Rattle.std.specs.List.{list_any}
-use Rattle.std.proofs.lemmas.Bool.{true≢false, ne_eqb, eq-eqb, eqb-false}
+use Rattle.std.proofs.lemmas.Bool.{true≢false, ne_eqb, eqb-false}
 use Rattle.js_base.specs.Bytes.{Bytes, has}
 use Rattle.js_base.specs.Moments.{plus}
 use Rattle.js_base.specs.declared.out.Out.{Out}
@@ -17,16 +17,16 @@ use Rattle.js_model.specs.declared.ack.AckKind.TheVariants.{Ack as Acknowledge, 
 use Rattle.js_model.specs.declared.entry.Delivered.{Delivered}
 use Rattle.js_model.specs.declared.entry.Delivered.TheVariants.{Sent, TooSmall, Emptied}
 use Rattle.js_model.specs.Streams.{confined, is_unacknowledged}
-use Rattle.js_model.specs.Advance.{consumer_at, is_spent}
-use Rattle.js_model.specs.Acknowledge.{acknowledged, without, with_due, moved}
-use Rattle.js_model.specs.Pulls.{pulled, pulled_unless, with_pull, pull_refusal}
-use Rattle.js_model.specs.Deliver.{candidates, is_due, sent_to, pending_after, with_pending, count_of, Delivers}
+use Rattle.js_model.specs.Advance.{is_spent}
+use Rattle.js_model.specs.Acknowledge.{acknowledged, moved}
+use Rattle.js_model.specs.Pulls.{pulled, pulled_unless, pull_refusal}
+use Rattle.js_model.specs.Deliver.{is_due, sent_to, with_pending, count_of, Delivers}
 use Rattle.js_model.specs.Laws.{is_sent}
 use Rattle.js_model.proofs.Parts.{filter_part}
 use Rattle.js_model.proofs.Lacking.{lacks-cons, lacks-head, lacks-tail, lacks-part, lacks-both}
 use Rattle.js_model.proofs.SoundAcks.{moved-seq}
 use Rattle.js_model.proofs.ConsumerFacts.{IsKept}
-use Rattle.js_model.proofs.Candidates.{IsReason, again, picked, onward, IsCandidate, candidate_is}
+use Rattle.js_model.proofs.Candidates.{IsReason, again, picked, onward, candidate_is}
 
 -- the consumer has delivered the sequence
 pub record IsPassed (n : ℕ) (c : Consumer) : Type 0 where

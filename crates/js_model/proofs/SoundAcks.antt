@@ -1,5 +1,5 @@
 -- A sound stream stays sound where an acknowledgement or a pull changes one of its consumers.
-use Rattle.std.proofs.Common.{◌≡◌, ℕ, ◌+◌, Bool, true, false, ◌||◌, not, cond, List, [], ◌∷◌, map, refl, sym, ap, ◌∙◌, subst}
+use Rattle.std.proofs.Common.{◌≡◌, ℕ, ◌+◌, Bool, true, false, not, cond, List, [], ◌∷◌, map, refl, sym, ap, ◌∙◌, subst}
 use Rattle.std.specs.Prelude.{Option, Some, None, filter, ◌==◌, All, nat_le, length}
 use Rattle.std.proofs.lemmas.Bool.{true≢false}
 use Rattle.std.proofs.lemmas.List.Elements.{All-filter, All-map, All-weaker, All-head, All-tail}
@@ -13,17 +13,16 @@ use Rattle.js_model.specs.declared.consumer.Consumer.{Consumer}
 use Rattle.js_model.specs.declared.ack.Ask.{Ask}
 use Rattle.js_model.specs.declared.ack.AckKind.{AckKind}
 use Rattle.js_model.specs.declared.ack.AckKind.TheVariants.{Ack as Acknowledge, Nak, Wpi, Next, Term}
-use Rattle.js_model.specs.Streams.{by_name, with_consumer, in_place_of, pending_seqs, is_push, is_unacknowledged}
+use Rattle.js_model.specs.Streams.{by_name, with_consumer, in_place_of, is_push}
 use Rattle.js_model.specs.Acknowledge.{acknowledged, without, with_due, moved}
-use Rattle.js_model.specs.Pulls.{pulled, pulled_unless, with_pull, pull_refusal, push_based, bad_request, exceeded_waiting}
+use Rattle.js_model.specs.Pulls.{pulled, pulled_unless, with_pull, pull_refusal, push_based, exceeded_waiting}
 use Rattle.js_model.specs.Events.{after_ack, pulled_next, next_ask}
-use Rattle.js_model.specs.Sound.{IsStored, AreStored, IsCounted, IsSoundConsumer, IsSoundStream}
+use Rattle.js_model.specs.Sound.{AreStored, IsCounted, IsSoundConsumer, IsSoundStream}
 use Rattle.js_model.proofs.Named.{none_some, some_is, in_place_of-names}
-use Rattle.js_model.proofs.Parts.{filter_part, part_between, between_map, all_part}
+use Rattle.js_model.proofs.Parts.{filter_part, part_between, all_part}
 use Rattle.js_model.proofs.Lacking.{apart-parts, has-part}
 use Rattle.js_model.proofs.SoundTime.{part_map}
 use Rattle.js_model.proofs.SoundParts.{ordered_map}
-use Rattle.js_model.proofs.ConsumerFacts.{after_ack-name, pulled-name}
 
 -- ---- one consumer of a stream
 
@@ -40,8 +39,8 @@ sound_with s new k h = record {
   config = h.config;
   messages = h.messages;
   consumers =
-    All-map (IsSoundConsumer s.messages s.last) (in_place_of new) s.consumers
-    (All-weaker (IsSoundConsumer s.messages s.last) (λ c. IsSoundConsumer s.messages s.last (in_place_of new c)) either s.consumers h.consumers);
+      All-map (IsSoundConsumer s.messages s.last) (in_place_of new) s.consumers
+      (All-weaker (IsSoundConsumer s.messages s.last) (λ c. IsSoundConsumer s.messages s.last (in_place_of new c)) either s.consumers h.consumers);
   ordered = ordered_map (in_place_of new) (λ c. (in_place_of-names new).name c) s.consumers h.ordered;
   ids = h.ids;
 }
@@ -112,8 +111,8 @@ due_sound messages last n due c k = record {
   picks_given_up = k.picks_given_up;
   pending_given_up = subst (λ (l : List ℕ). Apart l c.given_up) (sym (moved-seqs n due c.pending)) k.pending_given_up;
   counts =
-    All-map (IsCounted c.dseq c.config.max_deliver) (moved n due) c.pending
-    (All-weaker (IsCounted c.dseq c.config.max_deliver) (λ p. IsCounted c.dseq c.config.max_deliver (moved n due p)) (λ p q. moved_counted c.dseq c.config.max_deliver n due p q) c.pending k.counts);
+      All-map (IsCounted c.dseq c.config.max_deliver) (moved n due) c.pending
+      (All-weaker (IsCounted c.dseq c.config.max_deliver) (λ p. IsCounted c.dseq c.config.max_deliver (moved n due p)) (λ p q. moved_counted c.dseq c.config.max_deliver n due p q) c.pending k.counts);
   unacknowledged_pending = λ e. ap (map (moved n due)) (k.unacknowledged_pending e);
   unacknowledged_given_up = k.unacknowledged_given_up;
   push = k.push;

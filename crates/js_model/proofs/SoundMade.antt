@@ -1,23 +1,22 @@
 -- A sound stream that makes or drops a consumer is sound.
-use Rattle.std.proofs.Common.{◌≡◌, ℕ, ◌+◌, ◌<◌, ◌≤◌, Bool, true, false, ◌&&◌, ◌||◌, not, cond, List, [], ◌∷◌, refl, sym, ap, ◌∙◌, subst, arith, min, max}
-use Rattle.std.specs.Prelude.{Option, Some, None, IsTrue, ◌==◌, All, find, filter, nat_le}
+use Rattle.std.proofs.Common.{◌≡◌, ℕ, ◌+◌, ◌≤◌, Bool, true, false, ◌&&◌, ◌||◌, not, cond, List, [], ◌∷◌, refl, sym, arith}
+use Rattle.std.specs.Prelude.{Option, Some, None, IsTrue, ◌==◌, find, filter, nat_le}
 use Rattle.std.specs.List.{list_any, last_or}
-use Rattle.std.proofs.lemmas.Bool.{true≢false, and_parts, or_cases, or_right, or_left}
+use Rattle.std.proofs.lemmas.Bool.{true≢false, or_right, or_left}
 use Rattle.std.proofs.lemmas.List.Elements.{All-filter, All-nil}
 use Rattle.js_base.specs.Bytes.{Bytes, same, has}
-use Rattle.js_model.specs.Lists.{Between, IsPart, keep, none, skip}
+use Rattle.js_model.specs.Lists.{Between}
 use Rattle.js_model.specs.declared.consumer_config.DeliverPolicy.{DeliverPolicy}
 use Rattle.js_model.specs.declared.consumer_config.DeliverPolicy.TheVariants.{All as FromAll, Last as FromLast, New as FromNew, ByStartSequence, ByStartTime, LastPerSubject}
 use Rattle.js_model.specs.declared.consumer_config.ConsumerConfig.{ConsumerConfig}
 use Rattle.js_model.specs.declared.stream.Message.{Message}
 use Rattle.js_model.specs.declared.stream.Stream.{Stream}
-use Rattle.js_model.specs.declared.consumer.Consumer.{Consumer}
 use Rattle.js_model.specs.Streams.{passes_filter, first_seq, seqs, by_name}
 use Rattle.js_model.specs.Configs.{is_consumer_config}
 use Rattle.js_model.specs.Trim.{newest}
 use Rattle.js_model.specs.Start.{matching, seq_or_next, picks_at, cursor_at}
 use Rattle.js_model.specs.Consumers.{new_consumer, with_new}
-use Rattle.js_model.specs.Sound.{IsStored, AreStored, IsCounted, IsSoundConsumer, IsSoundStream}
+use Rattle.js_model.specs.Sound.{AreStored, IsCounted, IsSoundConsumer, IsSoundStream}
 use Rattle.js_model.proofs.Parts.{filter_part, newest_part, part_between, between_map, between_bounds, part_any}
 use Rattle.js_model.proofs.NameOrder.{ordered_filter, ordered_with_new, All-with_new}
 

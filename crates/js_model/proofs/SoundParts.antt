@@ -1,17 +1,17 @@
 -- A sound stream with only a part of its messages is sound.
-use Rattle.std.proofs.Common.{◌≡◌, ℕ, zero, suc, ◌+◌, ◌<◌, ◌≤◌, Bool, true, false, ◌&&◌, ◌||◌, cond, List, [], ◌∷◌, map, refl, sym, ap, ◌∙◌, subst, arith}
-use Rattle.std.specs.Prelude.{filter, ◌==◌, All}
+use Rattle.std.proofs.Common.{◌≡◌, ℕ, ◌+◌, ◌<◌, ◌≤◌, Bool, true, false, ◌&&◌, ◌||◌, cond, List, [], ◌∷◌, map, refl, sym, ap, ◌∙◌, subst, arith}
+use Rattle.std.specs.Prelude.{filter, ◌==◌}
 use Rattle.std.specs.List.{list_any}
-use Rattle.std.proofs.lemmas.Bool.{true≢false, and_left, and_right, or_from, or_cases, or_left, or_right, ne_eqb, eqb-true, and_parts}
-use Rattle.std.proofs.lemmas.List.Elements.{All-filter, All-map, All-weaker, All-head, All-tail, All-nil, All-cons}
+use Rattle.std.proofs.lemmas.Bool.{true≢false, and_left, or_from, ne_eqb, eqb-true}
+use Rattle.std.proofs.lemmas.List.Elements.{All-filter, All-map, All-weaker}
 use Rattle.js_base.specs.Bytes.{Bytes, has}
-use Rattle.js_model.specs.Lists.{Apart, Between, IsPart, keep, none, skip}
+use Rattle.js_model.specs.Lists.{Between, IsPart, keep, none, skip}
 use Rattle.js_model.specs.declared.stream.Message.{Message}
 use Rattle.js_model.specs.declared.stream.Stream.{Stream}
 use Rattle.js_model.specs.declared.consumer.Consumer.{Consumer}
-use Rattle.js_model.specs.Streams.{confined, only, seqs, passes_filter, pending_seqs, is_unacknowledged, is_push}
+use Rattle.js_model.specs.Streams.{confined, only, seqs, passes_filter, pending_seqs}
 use Rattle.js_model.specs.Consumers.{is_before}
-use Rattle.js_model.specs.Sound.{IsStored, AreStored, IsCounted, IsSoundConsumer, IsSoundStream, AreOrdered}
+use Rattle.js_model.specs.Sound.{AreStored, IsCounted, IsSoundConsumer, IsSoundStream, AreOrdered}
 use Rattle.js_model.proofs.Parts.{filter_part, part_between}
 use Rattle.js_model.proofs.Lacking.{apart-parts, has-part}
 
@@ -128,8 +128,8 @@ sound_only s messages p h = record {
   config = h.config;
   messages = part_between (λ m. m.seq) 1 (s.last + 1) p h.messages;
   consumers =
-    All-map (IsSoundConsumer messages s.last) (confined (seqs messages)) s.consumers
-    (All-weaker (IsSoundConsumer s.messages s.last) (λ c. IsSoundConsumer messages s.last (confined (seqs messages) c)) (λ c k. confined_sound s.last c p h.messages k) s.consumers h.consumers);
+      All-map (IsSoundConsumer messages s.last) (confined (seqs messages)) s.consumers
+      (All-weaker (IsSoundConsumer s.messages s.last) (λ c. IsSoundConsumer messages s.last (confined (seqs messages) c)) (λ c k. confined_sound s.last c p h.messages k) s.consumers h.consumers);
   ordered = ordered_map (confined (seqs messages)) (λ c. refl) s.consumers h.ordered;
   ids = h.ids;
 }

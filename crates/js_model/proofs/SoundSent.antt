@@ -1,29 +1,27 @@
 -- A sound stream that delivers is sound.
 use Rattle.std.proofs.Common.{◌≡◌, ℕ, ◌+◌, ◌-◌, ◌^◌, ◌<◌, ◌≤◌, Bool, true, false, ◌&&◌, ◌||◌, not, cond, List, [], ◌∷◌, map, max, refl, sym, ap, ◌∙◌, subst, arith, ◌⊎◌, inl, inr}
-use Rattle.std.specs.Prelude.{Option, Some, None, filter, find, nat_lt, nat_le, ◌==◌, All, IfSome, IsTrue}
+use Rattle.std.specs.Prelude.{Option, Some, None, filter, find, nat_lt, ◌==◌, All, IfSome, IsTrue}
 use Rattle.std.specs.List.{list_any}
-use Rattle.std.proofs.lemmas.Bool.{true≢false, and_parts, or_cases, or_left, or_right, ltb-true, ltb-false, leb-true, eqb-true, eqb-false, ne_eqb, eq-eqb, false_from_ne_true, not-true, not_from_false, or_from, or_parts, and_from}
-use Rattle.std.proofs.lemmas.List.Elements.{All-cons, All-head, All-tail, All-weaker, All-nil}
+use Rattle.std.proofs.lemmas.Bool.{true≢false, and_parts, or_cases, or_left, or_right, ltb-true, ltb-false, eqb-true, eqb-false, ne_eqb, eq-eqb, false_from_ne_true, not-true, or_from, or_parts, and_from}
+use Rattle.std.proofs.lemmas.List.Elements.{All-cons, All-head, All-tail, All-weaker}
 use Rattle.js_base.specs.Bytes.{Bytes, has}
 use Rattle.js_base.specs.Moments.{plus}
 use Rattle.js_base.specs.declared.out.Out.{Out}
-use Rattle.js_model.specs.Lists.{Apart, Between, IsPart}
+use Rattle.js_model.specs.Lists.{Apart, Between}
 use Rattle.js_model.specs.declared.consumer_config.ConsumerConfig.{ConsumerConfig}
 use Rattle.js_model.specs.declared.stream.Message.{Message}
 use Rattle.js_model.specs.declared.stream.Stream.{Stream}
 use Rattle.js_model.specs.declared.consumer.Pending.{Pending}
-use Rattle.js_model.specs.declared.consumer.Pull.{Pull}
 use Rattle.js_model.specs.declared.consumer.Consumer.{Consumer}
 use Rattle.js_model.specs.declared.entry.Delivered.{Delivered}
 use Rattle.js_model.specs.declared.entry.Delivered.TheVariants.{Sent, TooSmall, Emptied}
-use Rattle.js_model.specs.Streams.{takes, passes_filter, pending_seqs, is_push, is_unacknowledged, sent_size, below_limit}
+use Rattle.js_model.specs.Streams.{passes_filter, pending_seqs, is_unacknowledged, sent_size, below_limit}
 use Rattle.js_model.specs.Configs.{is_consumer_config, is_limit}
 use Rattle.js_model.specs.Deliver.{sent_to, pending_after, with_pending, count_of, front_served, is_due, without_first, Delivers}
-use Rattle.js_model.specs.Sound.{IsStored, AreStored, IsCounted, IsSoundConsumer, IsSoundStream}
+use Rattle.js_model.specs.Sound.{IsStored, AreStored, IsCounted, IsSoundConsumer}
 use Rattle.js_model.proofs.Parts.{filter_part, all_part, part_between, between_higher, between_bounds, between_map}
 use Rattle.js_model.proofs.Lacking.{apart-parts, has-part}
 use Rattle.js_model.proofs.SoundParts.{has-filter}
-use Rattle.js_model.proofs.SoundTime.{has_between}
 use Rattle.js_model.proofs.SoundAcks.{waiting_sound}
 use Rattle.js_model.proofs.Members.{IsIn, here, there, in_bounds, any_in, find_one, found_in, find_none, all_in}
 use Rattle.js_model.proofs.Candidates.{IsReason, again, picked, onward, IsCandidate, candidate_is}
@@ -94,11 +92,11 @@ pub record IsDeliverable (a : Stream) (c : Consumer) (m : Message) : Type 0 wher
   pub within : IfSome c.config.max_deliver (λ limit. count_of c m.seq + 1 ≤ limit)
 
 -- a limit on deliveries is at least one
-one_at_least : (greatest : ℕ) (limit : Option ℕ) → is_limit greatest limit ≡ true → IfSome limit (λ n. 1 ≤ n)
+pub one_at_least : (greatest : ℕ) (limit : Option ℕ) → is_limit greatest limit ≡ true → IfSome limit (λ n. 1 ≤ n)
 one_at_least greatest None h = tt
 one_at_least greatest (Some n) h = let q : 0 < n = ltb-true 0 n (and_parts _ _ h).0 in omega arith
 
-limit_of : (config : ConsumerConfig) → IsTrue (is_consumer_config config) → is_limit (2 ^ 62 - 1) config.max_deliver ≡ true
+pub limit_of : (config : ConsumerConfig) → IsTrue (is_consumer_config config) → is_limit (2 ^ 62 - 1) config.max_deliver ≡ true
 limit_of config h = (and_parts _ _ (and_parts _ _ (and_parts _ _ (and_parts _ _ (and_parts _ _ (and_parts _ _ (and_parts _ _ (and_parts _ _ (and_parts _ _ h).0).0).0).0).0).0).0).0).1
 
 -- a sequence that waits is counted; another one is not
@@ -109,7 +107,7 @@ count_waiting c n p e = ap (λ (o : Option Pending). count_or_zero o) e
     count_or_zero None = 0
     count_or_zero (Some q) = q.count
 
-count_absent : (c : Consumer) (n : ℕ) → has (pending_seqs c) n ≡ false → count_of c n ≡ 0
+pub count_absent : (c : Consumer) (n : ℕ) → has (pending_seqs c) n ≡ false → count_of c n ≡ 0
 count_absent c n e = ap (λ (o : Option Pending). count_or_zero o) (find_none (λ p. p.seq == n) c.pending (any_of_seqs c.pending e))
   where
     count_or_zero : Option Pending → ℕ

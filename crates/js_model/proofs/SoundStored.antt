@@ -1,24 +1,22 @@
 -- A sound stream that stores a message is sound.
-use Rattle.std.proofs.Common.{◌≡◌, ℕ, ◌+◌, ◌≤◌, Bool, true, false, ◌||◌, cond, List, [], ◌∷◌, ◌++◌, refl, sym, ap, ◌∙◌, subst, arith}
-use Rattle.std.specs.Prelude.{Option, Some, None, ◌==◌, ◌&&◌, All, find}
+use Rattle.std.proofs.Common.{◌≡◌, ℕ, ◌+◌, ◌≤◌, Bool, true, false, ◌||◌, cond, List, [], ◌∷◌, ◌++◌, refl, sym, ◌∙◌, subst, arith}
+use Rattle.std.specs.Prelude.{Option, Some, None, find}
 use Rattle.std.specs.List.{list_any}
-use Rattle.std.proofs.lemmas.Bool.{true≢false, or_right, or_left, false_from_ne_true}
+use Rattle.std.proofs.lemmas.Bool.{true≢false, false_from_ne_true}
 use Rattle.std.proofs.lemmas.List.Elements.{All-weaker}
-use Rattle.js_base.specs.Bytes.{Bytes, same, is_empty}
+use Rattle.js_base.specs.Bytes.{Bytes, same}
 use Rattle.js_base.specs.declared.out.ApiError.{ApiError}
-use Rattle.js_model.specs.Lists.{Between, Lacks}
 use Rattle.js_model.specs.declared.stream.Message.{Message}
 use Rattle.js_model.specs.declared.stream.Id.{Id}
 use Rattle.js_model.specs.declared.stream.Stream.{Stream}
 use Rattle.js_model.specs.declared.consumer.Consumer.{Consumer}
 use Rattle.js_model.specs.declared.event.Publish.{Publish}
-use Rattle.js_model.specs.declared.reply.Verdict.{Verdict}
-use Rattle.js_model.specs.declared.reply.Verdict.TheVariants.{Take, Duplicate as TakenBefore, Refused as RefusedBy}
-use Rattle.js_model.specs.Streams.{passes_filter, pending_seqs}
+use Rattle.js_model.specs.declared.reply.Verdict.TheVariants.{Take}
+use Rattle.js_model.specs.Streams.{pending_seqs}
 use Rattle.js_model.specs.Refusals.{first_refusal}
 use Rattle.js_model.specs.Verdict.{verdict, message_of, known, first_of_all, early_checks, late_checks}
 use Rattle.js_model.specs.Events.{with_message, with_id}
-use Rattle.js_model.specs.Sound.{IsStored, AreStored, IsSoundConsumer, IsSoundStream, AreDifferent}
+use Rattle.js_model.specs.Sound.{AreStored, IsSoundConsumer, IsSoundStream, AreDifferent}
 use Rattle.js_model.proofs.Named.{none_some, same_is, same_self}
 use Rattle.js_model.proofs.Parts.{between_push}
 use Rattle.js_model.proofs.Lacking.{lacks-push}

@@ -1,21 +1,20 @@
 -- A sound stream at a later moment is sound.
-use Rattle.std.proofs.Common.{◌≡◌, ℕ, zero, suc, ◌+◌, ◌-◌, ◌<◌, ◌≤◌, Bool, true, false, ◌&&◌, ◌||◌, not, cond, List, [], ◌∷◌, map, length, drop, refl, sym, ap, ◌∙◌, subst, arith, max, ◌⊎◌, inl, inr}
-use Rattle.std.specs.Prelude.{filter, fold, nat_lt, ◌==◌, All}
-use Rattle.std.specs.List.{list_any}
+use Rattle.std.proofs.Common.{◌≡◌, ℕ, ◌+◌, ◌<◌, ◌≤◌, Bool, true, false, not, cond, List, [], ◌∷◌, map, refl, sym, ap, ◌∙◌, subst, arith, max, ◌⊎◌, inl, inr}
+use Rattle.std.specs.Prelude.{filter, fold, nat_lt, ◌==◌}
 use Rattle.std.proofs.lemmas.Bool.{true≢false, or_cases, or_from, ltb-true, ltb-false, eqb-true, ne_eqb, or_parts, eqb-false, false_from_ne_true, or_right, or_left}
 use Rattle.std.proofs.lemmas.List.Elements.{All-filter, All-map, All-weaker}
-use Rattle.js_base.specs.Bytes.{Bytes, has, same, last_of}
+use Rattle.js_base.specs.Bytes.{has, last_of}
 use Rattle.js_base.specs.Moments.{plus}
-use Rattle.js_model.specs.Lists.{Apart, Between, IsPart, Lacks, keep, none, skip}
+use Rattle.js_model.specs.Lists.{Apart, Between, IsPart, keep, none, skip}
 use Rattle.js_model.specs.declared.stream.Message.{Message}
 use Rattle.js_model.specs.declared.stream.Id.{Id}
 use Rattle.js_model.specs.declared.stream.Stream.{Stream}
 use Rattle.js_model.specs.declared.consumer.Pending.{Pending}
 use Rattle.js_model.specs.declared.consumer.Pull.{Pull}
 use Rattle.js_model.specs.declared.consumer.Consumer.{Consumer}
-use Rattle.js_model.specs.Streams.{only, pending_seqs, is_unacknowledged, is_push}
-use Rattle.js_model.specs.Advance.{advance, aged, young, remembered, consumer_at, placed, is_spent, all_given_up, beaten, running, is_over}
-use Rattle.js_model.specs.Sound.{IsStored, AreStored, IsCounted, IsSoundConsumer, IsSoundStream, AreDifferent}
+use Rattle.js_model.specs.Streams.{pending_seqs}
+use Rattle.js_model.specs.Advance.{advance, aged, young, consumer_at, placed, is_spent, all_given_up, beaten, is_over}
+use Rattle.js_model.specs.Sound.{IsStored, IsCounted, IsSoundConsumer, IsSoundStream, AreDifferent}
 use Rattle.js_model.proofs.Parts.{all_part, filter_part, drop_part, part_between, between_lower, between_map}
 use Rattle.js_model.proofs.Lacking.{apart-parts, has-part, has-placed, has-all_placed, lacks-part}
 use Rattle.js_model.proofs.SoundParts.{sound_only, ordered_map}
@@ -185,8 +184,8 @@ sound_time s now h = let t = max s.moment now in let a = aged s (max s.moment no
   config = k.config;
   messages = k.messages;
   consumers =
-    All-map (IsSoundConsumer a.messages a.last) (consumer_at t) a.consumers
-    (All-weaker (IsSoundConsumer a.messages a.last) (λ c. IsSoundConsumer a.messages a.last (consumer_at t c)) (λ c q. consumer_at_sound a.messages a.last t c q) a.consumers k.consumers);
+      All-map (IsSoundConsumer a.messages a.last) (consumer_at t) a.consumers
+      (All-weaker (IsSoundConsumer a.messages a.last) (λ c. IsSoundConsumer a.messages a.last (consumer_at t c)) (λ c q. consumer_at_sound a.messages a.last t c q) a.consumers k.consumers);
   ordered = ordered_map (consumer_at t) (λ c. refl) a.consumers k.ordered;
   ids = k.ids;
 }

@@ -1,5 +1,5 @@
 -- Soundness is kept.
-use Rattle.std.proofs.Common.{◌≡◌, ℕ, ◌+◌, Bool, List, [], ◌∷◌, length, refl, sym, subst, arith}
+use Rattle.std.proofs.Common.{ℕ, ◌+◌, List, [], ◌∷◌, length, sym, subst, arith}
 use Rattle.std.specs.Prelude.{IsTrue, ⊤}
 use Rattle.std.proofs.lemmas.Bool.{and_parts}
 use Rattle.std.proofs.lemmas.List.Elements.{All-nil}
@@ -9,22 +9,19 @@ use Rattle.js_model.specs.declared.stream_config.StreamConfig.{StreamConfig}
 use Rattle.js_model.specs.declared.stream.Stream.{Stream}
 use Rattle.js_model.specs.declared.stream.State.{State}
 use Rattle.js_model.specs.declared.stream.State.TheVariants.{Vacant, Live}
-use Rattle.js_model.specs.declared.consumer.Consumer.{Consumer}
 use Rattle.js_model.specs.declared.event.Event.{Event}
 use Rattle.js_model.specs.declared.event.What.{What}
 use Rattle.js_model.specs.declared.reply.Reply.{Reply}
 use Rattle.js_model.specs.declared.entry.Delivery.{Delivery}
-use Rattle.js_model.specs.declared.entry.PlaceEntry.{PlaceEntry}
 use Rattle.js_model.specs.declared.entry.PlaceEntry.TheVariants.{Step, Deliver, Broken}
 use Rattle.js_model.specs.declared.entry.Call.TheVariants.{Step as StepOf, Deliver as DeliverOf}
 use Rattle.js_model.specs.Streams.{with_consumer}
 use Rattle.js_model.specs.Configs.{is_stream_config}
 use Rattle.js_model.specs.Consumers.{empty_stream}
-use Rattle.js_model.specs.Proper.{is_proper_what, is_proper}
+use Rattle.js_model.specs.Proper.{is_proper_what}
 use Rattle.js_model.specs.Advance.{advance}
-use Rattle.js_model.specs.Retention.{kept}
 use Rattle.js_model.specs.Deliver.{IsDelivery, IsDelivered}
-use Rattle.js_model.specs.Runs.{RunFrom, IsStep, IsDeliverStep, new_messages}
+use Rattle.js_model.specs.Runs.{IsStep, new_messages}
 use Rattle.js_model.specs.Sound.{IsSoundConsumer, IsSoundStream, IsSound}
 use Rattle.js_model.specs.Laws.{LawSound}
 use Rattle.js_model.proofs.Facts.{IsStreamFact, IfLive, at_event, at_kept}

@@ -1,17 +1,15 @@
 -- The first deliveries of a consumer are picks of its start in order, and then sequences that rise from its cursor on.
-use Rattle.std.proofs.Common.{◌≡◌, ℕ, ◌+◌, ◌<◌, ◌≤◌, Bool, true, false, not, cond, List, [], ◌∷◌, ◌++◌, map, length, max, refl, sym, ap, ◌∙◌, subst, arith}
-use Rattle.std.specs.Prelude.{Option, Some, None, filter, ◌==◌, ◌&&◌, ⊤}
+use Rattle.std.proofs.Common.{◌≡◌, ℕ, ◌+◌, ◌≤◌, Bool, true, false, not, cond, List, [], ◌∷◌, ◌++◌, map, length, max, refl, sym, ap, ◌∙◌, subst, arith}
+use Rattle.std.specs.Prelude.{filter, ◌==◌, ◌&&◌}
 use Rattle.std.specs.List.{list_any}
-use Rattle.std.proofs.lemmas.Bool.{true≢false, ne_eqb, eq-eqb, false_from_ne_true, eqb-true, and_parts}
+use Rattle.std.proofs.lemmas.Bool.{true≢false, eq-eqb, eqb-true}
 use Rattle.js_base.specs.Bytes.{Bytes, same, has}
 use Rattle.js_base.specs.declared.out.Out.{Out}
 use Rattle.js_model.specs.declared.stream.Message.{Message}
 use Rattle.js_model.specs.declared.stream.Stream.{Stream}
 use Rattle.js_model.specs.declared.stream.State.{State}
 use Rattle.js_model.specs.declared.stream.State.TheVariants.{Vacant, Live}
-use Rattle.js_model.specs.declared.consumer.Pending.{Pending}
 use Rattle.js_model.specs.declared.consumer.Consumer.{Consumer}
-use Rattle.js_model.specs.declared.ack.Ask.{Ask}
 use Rattle.js_model.specs.declared.ack.AckKind.{AckKind}
 use Rattle.js_model.specs.declared.ack.AckKind.TheVariants.{Ack as Acknowledge, Nak, Wpi, Next, Term}
 use Rattle.js_model.specs.declared.entry.Delivered.{Delivered}
@@ -24,7 +22,7 @@ use Rattle.js_model.specs.Lists.{IsPart, none, keep, skip, Ascends}
 use Rattle.js_model.specs.Advance.{advance}
 use Rattle.js_model.specs.Acknowledge.{acknowledged}
 use Rattle.js_model.specs.Pulls.{pulled}
-use Rattle.js_model.specs.Deliver.{Delivers, IsDelivery, IsDelivered, count_of, is_due, sent_to}
+use Rattle.js_model.specs.Deliver.{Delivers, IsDelivery, IsDelivered, count_of, is_due}
 use Rattle.js_model.specs.Runs.{RunFrom, new_messages}
 use Rattle.js_model.specs.Sound.{IsCounted, IsSoundConsumer, IsSoundStream, IsSound}
 use Rattle.js_model.specs.Laws.{IsStartOrder, firsts, Sending, sending_of, sending_to, sendings, drops}

@@ -1,6 +1,6 @@
 -- What is sent to a consumer was stored before, and its filter matches it.
 use Rattle.std.proofs.Common.{◌≡◌, ℕ, ◌+◌, Bool, true, false, ◌&&◌, cond, List, [], ◌∷◌, ◌++◌, map, max, length, refl, sym, ap, ◌∙◌, subst, ◌⊎◌, inl, inr}
-use Rattle.std.specs.Prelude.{Option, Some, None, ◌==◌, ⊤, MatchBool, filter}
+use Rattle.std.specs.Prelude.{Option, Some, None, ◌==◌, ⊤, MatchBool}
 use Rattle.std.proofs.lemmas.Bool.{true≢false, eq-eqb, and_from}
 use Rattle.js_base.specs.Bytes.{Bytes, same}
 use Rattle.js_base.specs.declared.out.Out.{Out}
@@ -27,17 +27,17 @@ use Rattle.js_model.specs.declared.entry.PlaceEntry.{PlaceEntry}
 use Rattle.js_model.specs.declared.entry.PlaceEntry.TheVariants.{Step, Deliver, Broken}
 use Rattle.js_model.specs.declared.entry.Call.TheVariants.{Step as StepOf, Deliver as DeliverOf}
 use Rattle.js_model.specs.Lists.{IsPart, Between}
-use Rattle.js_model.specs.Streams.{passes_filter, with_consumer}
+use Rattle.js_model.specs.Streams.{passes_filter}
 use Rattle.js_model.specs.Advance.{advance, young}
 use Rattle.js_model.specs.Verdict.{verdict, message_of}
 use Rattle.js_model.specs.Acknowledge.{acknowledged}
 use Rattle.js_model.specs.Pulls.{pulled, pulled_unless, pull_refusal}
 use Rattle.js_model.specs.Events.{Answer, answered, published, with_id, IsEvent, settled_state, stream_answer}
 use Rattle.js_model.specs.Deliver.{Delivers, IsDelivery, IsDelivered}
-use Rattle.js_model.specs.Runs.{RunFrom, IsStep, messages_of, new_messages}
+use Rattle.js_model.specs.Runs.{RunFrom, new_messages}
 use Rattle.js_model.specs.Sound.{IsSoundConsumer, IsSoundStream, IsSound}
-use Rattle.js_model.specs.Laws.{Stored, stored_first, stored_by, was_stored, WereStored, SendsStored, Sending, sending_of, sending_to, drops}
-use Rattle.js_model.proofs.Named.{same_is, same_self}
+use Rattle.js_model.specs.Laws.{Stored, stored_first, stored_by, was_stored, WereStored, SendsStored, sending_of, sending_to, drops}
+use Rattle.js_model.proofs.Named.{same_is}
 use Rattle.js_model.proofs.Members.{IsIn, here, there, in_part, in_append, in_cons, any_in, holds_of_one}
 use Rattle.js_model.proofs.Facts.{IsStreamFact, IfLive, at_event, at_settled, at_delivery}
 use Rattle.js_model.proofs.Candidates.{candidate_is}
@@ -160,7 +160,7 @@ config_acknowledged now n Wpi c = refl
 config_acknowledged now n (Next ask) c = refl
 config_acknowledged now n Term c = refl
 
-config_pulled : (now : ℕ) (reply : Option Bytes) (ask : Option Ask) (c : Consumer) → (pulled now reply ask c).config ≡ c.config
+pub config_pulled : (now : ℕ) (reply : Option Bytes) (ask : Option Ask) (c : Consumer) → (pulled now reply ask c).config ≡ c.config
 config_pulled now None ask c = refl
 config_pulled now (Some reply) ask c = go ask (pull_refusal c ask)
   where
@@ -231,7 +231,7 @@ sends_stored name config known count (Live t) (Step seat e now reply outs unsaid
 sends_stored name config known count (Live t) (Deliver seat now listening d outs ∷ entries) new s h k (mid, x, rest) = (
   delivery_stored name config known t mid now listening d outs x.delivered s h k,
   sends_stored name config known (count + length (new_messages (Live t) mid)) mid entries new (sound_delivery (Live t) mid now listening d outs x.delivered s)
-  (config_delivery name config t mid now listening d outs x.delivered h) (known_delivery known (Live t) mid now listening d outs x.delivered k) rest,
+      (config_delivery name config t mid now listening d outs x.delivered h) (known_delivery known (Live t) mid now listening d outs x.delivered k) rest,
 )
 sends_stored name config known count (Live t) (Broken seat now (StepOf e) ∷ entries) new s h k r = tt
 sends_stored name config known count (Live t) (Broken seat now (DeliverOf listening d) ∷ []) new s h k (outs, x) = delivery_stored name config known t new now listening d outs x.delivered s h k

@@ -1,6 +1,6 @@
 -- What holds of each run of a place.
-use Rattle.std.specs.Prelude.{◌≡◌, ◌<◌, ◌≤◌, ◌+◌, ◌++◌, map, filter, if◌then◌else◌, max, Contains, ◌||◌, ◌&&◌, ◌==◌, Bool, true, false, ℕ, List, [], ◌∷◌, Option, Some, None, ⊤, MatchBool}
-use Rattle.std.specs.List.{list_any}
+use Rattle.std.specs.Prelude.{◌≡◌, ◌<◌, ◌≤◌, ◌+◌, ◌++◌, map, filter, find, option_map, unwrap_or, count_by, sum_by, length, All, IfSome, if◌then◌else◌, max, Contains, ◌||◌, ◌&&◌, ◌==◌, Bool, true, false, ℕ, List, [], ◌∷◌, Option, Some, None, ⊤, MatchBool}
+use Rattle.std.specs.List.{list_any, last_or}
 use Rattle.js_base.specs.Bytes.{Bytes, is_empty, same, has}
 use Rattle.js_base.specs.Moments.{plus}
 use Rattle.js_base.specs.declared.out.Out.{Out}
@@ -8,25 +8,29 @@ use Rattle.js_model.specs.declared.stream.Message.{Message}
 use Rattle.js_model.specs.declared.stream.Stream.{Stream}
 use Rattle.js_model.specs.declared.stream.State.{State}
 use Rattle.js_model.specs.declared.stream.State.TheVariants.{Vacant, Live}
+use Rattle.js_model.specs.declared.consumer.Pull.{Pull}
 use Rattle.js_model.specs.declared.consumer.Consumer.{Consumer}
+use Rattle.js_model.specs.declared.ack.Ask.{Ask}
+use Rattle.js_model.specs.declared.ack.AckKind.{AckKind}
+use Rattle.js_model.specs.declared.ack.AckKind.TheVariants.{Nak, Wpi}
 use Rattle.js_model.specs.declared.event.Event.{Event}
 use Rattle.js_model.specs.declared.event.What.{What}
-use Rattle.js_model.specs.declared.event.What.TheVariants.{Change, Drop as DropStream, Publish as PublishIt, Purge, Delete, DropConsumer, Ack as AckIt}
+use Rattle.js_model.specs.declared.event.What.TheVariants.{Change, Drop as DropStream, Publish as PublishIt, Purge, Delete, DropConsumer, Ack as AckIt, Pull as PullIt}
 use Rattle.js_model.specs.declared.reply.Reply.{Reply}
-use Rattle.js_model.specs.declared.reply.Reply.TheVariants.{Published, Duplicate, Refused}
+use Rattle.js_model.specs.declared.reply.Reply.TheVariants.{Published, Duplicate, Confirmed, Refused}
 use Rattle.js_model.specs.declared.entry.Delivered.{Delivered}
 use Rattle.js_model.specs.declared.entry.Delivered.TheVariants.{Sent, TooSmall, Emptied}
 use Rattle.js_model.specs.declared.entry.Delivery.{Delivery}
-use Rattle.js_model.specs.declared.entry.Call.{Call}
 use Rattle.js_model.specs.declared.entry.Call.TheVariants.{Step as StepOf, Deliver as DeliverOf}
 use Rattle.js_model.specs.declared.entry.PlaceEntry.{PlaceEntry}
 use Rattle.js_model.specs.declared.entry.PlaceEntry.TheVariants.{Step, Deliver, Broken}
 use Rattle.js_model.specs.Lists.{Ascends, IsPart}
-use Rattle.js_model.specs.Streams.{by_name, pending_seqs, seqs, passes_filter}
+use Rattle.js_model.specs.Streams.{by_name, pending_seqs, seqs, size, is_push, passes_filter}
 use Rattle.js_model.specs.Advance.{advance}
 use Rattle.js_model.specs.Retention.{is_kept}
-use Rattle.js_model.specs.Trim.{trim}
-use Rattle.js_model.specs.Events.{purge_list, stream_answer}
+use Rattle.js_model.specs.Trim.{trim, max_messages}
+use Rattle.js_model.specs.Events.{purge_list, next_ask, stream_answer}
+use Rattle.js_model.specs.Deliver.{count_of}
 use Rattle.js_model.specs.Runs.{RunFrom, IsStep, messages_of}
 use Rattle.js_model.specs.Firm.{moment_of}
 use Rattle.js_model.specs.Sound.{IsSound}
@@ -252,3 +256,145 @@ pub record IsInOrder (name : Bytes) (old : State) (c : Consumer) (entries : List
 abbrev pub LawOrder : Type 0
 LawOrder = (name : Bytes) (count : ℕ) (old new : State) (entries : List PlaceEntry) (c : Consumer)
     → IsSound old → consumer_of name old ≡ Some c → RunFrom count old entries new → IsInOrder name old c entries
+
+-- ---- a delivery is made again only when it is due
+
+-- what is known of a sequence: how often it was sent, and from which moment on it may be sent again
+abbrev pub Due : Type 0
+Due = Option (ℕ × ℕ)
+
+-- the entry of the sequence that stands at first
+abbrev pub due_first : ℕ → Consumer → Due
+due_first n c = option_map (λ p. (p.count, p.due)) (find (λ p. p.seq == n) c.pending)
+
+-- a NAK sets its own moment, and a WPI the ack wait anew
+abbrev pub due_by : ℕ → ℕ → AckKind → ℕ × ℕ → ℕ × ℕ
+due_by wait now (Nak delay) x = (x.0, plus now delay)
+due_by wait now Wpi x = (x.0, plus now wait)
+due_by wait now _ x = x
+
+-- what is known after an event: an acknowledgement of the sequence that was confirmed may move its moment
+abbrev pub due_after_event : Bytes → ℕ → ℕ → ℕ → What → Reply → Due → Due
+due_after_event name n wait now (AckIt asked ack) Confirmed due = if same ack.consumer name && ack.seq == n then option_map (due_by wait now ack.kind) due else due
+due_after_event name n wait now _ _ due = due
+
+abbrev pub due_after_sent : ℕ → ℕ → ℕ → Delivered → Due → Due
+due_after_sent n wait now (Sent seq count dseq) due = if seq == n then Some (count, plus now wait) else due
+due_after_sent n wait now TooSmall due = due
+due_after_sent n wait now Emptied due = due
+
+-- what is known after a delivery: it waits for as long as the ack wait
+abbrev pub due_after : Bytes → ℕ → ℕ → ℕ → Delivery → Due → Due
+due_after name n wait now d due = if same d.consumer name then due_after_sent n wait now d.what due else due
+
+-- once more than before, and not before its moment
+abbrev pub IsAgain : ℕ → ℕ → Due → Type 0
+IsAgain now count None = ⊥
+IsAgain now count (Some x) = (count ≡ x.0 + 1) × (x.1 ≤ now)
+
+abbrev pub IsDueSending : ℕ → ℕ → Due → List Sending → Type 0
+IsDueSending n now due [] = ⊤
+IsDueSending n now due (x ∷ xs) = (x.seq ≡ n → 2 ≤ x.count → IsAgain now x.count due) × IsDueSending n now due xs
+
+-- each redelivery of the sequence to the consumer is so, where `clock` is the stream's moment
+abbrev pub Redelivers : Bytes → ℕ → ℕ → ℕ → Due → List PlaceEntry → Type 0
+Redelivers name n wait clock due [] = ⊤
+Redelivers name n wait clock due (Step seat e now reply outs unsaid ∷ entries) =
+    MatchBool (drops name e.what) ⊤ (Redelivers name n wait (max clock now) (due_after_event name n wait (max clock now) e.what reply due) entries)
+Redelivers name n wait clock due (Deliver seat now listening d outs ∷ entries) =
+    IsDueSending n (max clock now) due (sending_to name d) × Redelivers name n wait (max clock now) (due_after name n wait (max clock now) d due) entries
+Redelivers name n wait clock due (Broken seat now (StepOf e) ∷ entries) = ⊤
+Redelivers name n wait clock due (Broken seat now (DeliverOf listening d) ∷ entries) = IsDueSending n (max clock now) due (sending_to name d)
+
+abbrev pub LawRedelivery : Type 0
+LawRedelivery = (name : Bytes) (n count : ℕ) (old new : State) (entries : List PlaceEntry) (c : Consumer)
+    → IsSound old → consumer_of name old ≡ Some c → RunFrom count old entries new → Redelivers name n c.config.ack_wait (moment_of old) (due_first n c) entries
+
+-- ---- limits hold
+
+-- a stream within the limits of its configuration, and its consumers within theirs
+pub record IsWithinLimits (s : Stream) : Type 0 where
+  pub per_subject : IfSome s.config.max_msgs_per_subject (λ limit. (subject : Bytes) → count_by (λ m. same m.subject subject) s.messages ≤ limit)
+  pub messages : length s.messages ≤ max_messages s
+  pub bytes : IfSome s.config.max_bytes (λ limit. sum_by size s.messages ≤ limit)
+  pub pending : All (λ c. length c.pending ≤ unwrap_or c.config.max_ack_pending 65536) s.consumers
+
+abbrev pub IsWithin : State → Type 0
+IsWithin (Vacant i) = ⊤
+IsWithin (Live s) = IsWithinLimits s
+
+-- how often a sequence is sent
+abbrev pub times_sent : ℕ → List Sending → ℕ
+times_sent n xs = length (filter (λ x. x.seq == n) xs)
+
+-- what a pull asks for: where to, how many messages, and how many bytes
+pub record Allowance : Type 0 where
+  pub to : Bytes
+  pub batch : ℕ
+  pub bytes : Option ℕ
+
+abbrev pub allowance_of : Pull → Allowance
+allowance_of p = record { to = p.reply; batch = p.batch; bytes = p.bytes }
+
+abbrev pub allowance_for : Option Bytes → Option Ask → List Allowance
+allowance_for (Some reply) (Some ask) = record { to = reply; batch = ask.batch; bytes = ask.max_bytes } ∷ []
+allowance_for _ _ = []
+
+-- what an event asks the consumer of this name for
+abbrev pub asked_by : Bytes → What → List Allowance
+asked_by name (PullIt reply other ask) = if same other name then allowance_for reply ask else []
+asked_by name (AckIt reply ack) = if same ack.consumer name then allowance_for reply (next_ask ack.kind) else []
+asked_by name _ = []
+
+-- what the entries ask it for, until it or the stream is dropped
+abbrev pub asked : Bytes → List PlaceEntry → List Allowance
+asked name [] = []
+asked name (Step seat e now reply outs unsaid ∷ entries) = if drops name e.what then [] else asked_by name e.what ++ asked name entries
+asked name (Deliver seat now listening d outs ∷ entries) = asked name entries
+asked name (Broken seat now call ∷ entries) = []
+
+-- where a message went, and its bytes
+abbrev pub Parcel : Type 0
+Parcel = Bytes × ℕ
+
+abbrev pub parcel_of : Out → Parcel
+parcel_of o = (o.to, length o.subject + length o.headers + length o.payload)
+
+abbrev pub parcel_or_none : Option Out → List Parcel
+parcel_or_none None = []
+parcel_or_none (Some o) = parcel_of o ∷ []
+
+-- a message that is sent is the last output of its entry
+abbrev pub parcel_in : Delivered → List Out → List Parcel
+parcel_in (Sent seq count dseq) outs = parcel_or_none (last_or None outs)
+parcel_in TooSmall outs = []
+parcel_in Emptied outs = []
+
+-- what goes to the consumer of this name, until it or the stream is dropped
+abbrev pub parcels : Bytes → List PlaceEntry → List Parcel
+parcels name [] = []
+parcels name (Step seat e now reply outs unsaid ∷ entries) = if drops name e.what then [] else parcels name entries
+parcels name (Deliver seat now listening d outs ∷ entries) = (if same d.consumer name then parcel_in d.what outs else []) ++ parcels name entries
+parcels name (Broken seat now call ∷ entries) = []
+
+abbrev pub total_bytes : List Parcel → ℕ
+total_bytes xs = sum_by (λ x. x.1) xs
+
+-- what one pull gets: all of it goes to its reply subject, at most its batch and at most its bytes
+pub record IsAllowed (a : Allowance) (own : List Parcel) : Type 0 where
+  pub to : All (λ x. x.0 ≡ a.to) own
+  pub batch : 1 ≤ a.batch → length own ≤ a.batch
+  pub bytes : IfSome a.bytes (λ limit. total_bytes own ≤ limit)
+
+-- the parcels in their order are what the first pull gets, then what the next one gets, and so on
+abbrev pub AreShared : List Allowance → List Parcel → Type 0
+AreShared [] xs = xs ≡ []
+AreShared (a ∷ more) xs = (own : List Parcel) × (others : List Parcel) × (xs ≡ own ++ others) × IsAllowed a own × AreShared more others
+
+pub record AreLimited (old new : State) (entries : List PlaceEntry) : Type 0 where
+  pub within : IsWithin old → IsWithin new
+  pub deliveries : (name : Bytes) (n : ℕ) (c : Consumer) → consumer_of name old ≡ Some c → IfSome c.config.max_deliver (λ limit. count_of c n + times_sent n (sendings name entries) ≤ limit)
+  pub pulls : (name : Bytes) (c : Consumer) → consumer_of name old ≡ Some c → is_push c ≡ false → AreShared (map allowance_of c.waiting ++ asked name entries) (parcels name entries)
+
+abbrev pub LawLimits : Type 0
+LawLimits = (count : ℕ) (old new : State) (entries : List PlaceEntry) → IsSound old → RunFrom count old entries new → AreLimited old new entries

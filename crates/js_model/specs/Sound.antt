@@ -1,5 +1,5 @@
 -- What holds of each state that a run reaches.
-use Rattle.std.specs.Prelude.{◌≡◌, ℕ, ◌+◌, ◌≤◌, Bool, true, false, ◌&&◌, IsTrue, ◌==◌, List, [], ◌∷◌, Option, ⊤, IfSome, All}
+use Rattle.std.specs.Prelude.{◌≡◌, ℕ, ◌+◌, ◌≤◌, true, ◌&&◌, IsTrue, ◌==◌, List, [], ◌∷◌, Option, ⊤, IfSome, All}
 use Rattle.std.specs.List.{list_any}
 use Rattle.js_base.specs.Bytes.{Bytes, same, has}
 use Rattle.js_model.specs.declared.stream.Message.{Message}

@@ -1,6 +1,6 @@
 //! A consumer: what it has delivered, what waits for acknowledgement, and who asks for more.
 
-use crate::consumer_config::ConsumerConfig;
+use crate::consumer_config::{AckPolicy, ConsumerConfig};
 use js_base::{Blob, List, Moment};
 
 /// A delivery that waits for its acknowledgement.
@@ -52,4 +52,26 @@ pub struct Consumer {
     pub waiting: List<Pull>,
     /// The moment of its making, its last message or its last heartbeat.
     pub mark: Moment,
+}
+
+impl Consumer {
+    ghost use Rattle.std.specs.Prelude.{◌≡◌};
+    ghost use Rattle.js_model.specs.Streams.{is_push, is_unacknowledged};
+
+    /// Whether it is a push consumer, whose messages go to a subject of its own.
+    pub fn is_push(&self) -> bool
+        ensures value { result ≡ is_push self.now }
+    {
+        !self.config.deliver_subject.is_empty()
+    }
+
+    /// Whether its deliveries wait for no acknowledgement.
+    pub fn is_unacknowledged(&self) -> bool
+        ensures value { result ≡ is_unacknowledged self.now }
+    {
+        match self.config.ack_policy {
+            AckPolicy::None => true,
+            AckPolicy::All | AckPolicy::Explicit => false,
+        }
+    }
 }

@@ -1,6 +1,6 @@
 //! What holds of each run of a place, by the definitions alone.
 
-ghost use Rattle.js_model.specs.Laws.{LawSound, LawAcked, LawDuplicate, LawKept, LawOrder};
+ghost use Rattle.js_model.specs.Laws.{LawSound, LawAcked, LawDuplicate, LawKept, LawOrder, LawRedelivery, LawLimits};
 
 /// Soundness is kept: each state that a run reaches from a sound one is sound.
 pub fn law_sound()
@@ -27,4 +27,15 @@ pub fn law_kept()
 /// first deliveries are its picks in order, and then sequences that rise from its cursor on.
 pub fn law_order()
     ensures law { LawOrder }
+{}
+
+/// A sequence is sent again once more than before, and not before the moment that its last delivery, a NAK or a WPI set.
+pub fn law_redelivery()
+    ensures law { LawRedelivery }
+{}
+
+/// A state within its limits stays so, a message is sent at most `max_deliver` times, and a pull gets at most its batch
+/// and its bytes.
+pub fn law_limits()
+    ensures law { LawLimits }
 {}

@@ -17,6 +17,18 @@ pub struct Message {
     pub payload: Blob,
 }
 
+impl Message {
+    ghost use Rattle.std.specs.Prelude.{◌≡◌};
+    ghost use Rattle.js_model.specs.Streams.{size};
+
+    /// The size that counts against its stream's `max_bytes`: the bytes of subject, header block and payload, and 40.
+    pub fn size(&self) -> u128
+        ensures value { result ≡ size self.now }
+    {
+        self.subject.len() as u128 + self.headers.len() as u128 + self.payload.len() as u128 + 40
+    }
+}
+
 /// A message id of the duplicate window, with the sequence and the moment at which it was added.
 #[derive(Drop, Debug, PartialEq, Eq)]
 pub struct Id {

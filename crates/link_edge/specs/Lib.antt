@@ -11,3 +11,4 @@ pub mod Script
 pub mod MemLink
 pub mod MemDoor
 pub mod MemSink
+pub mod SystemClock

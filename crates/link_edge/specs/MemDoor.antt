@@ -3,14 +3,14 @@ use Rattle.std.specs.Prelude.{ℕ, Bool, true, false, ◌+◌, List, [], ◌∷�
 use Rattle.link_edge.specs.declared.answers.Accept.{Accept}
 use Rattle.link_edge.specs.declared.answers.Accept.TheVariants as accepts
 use Rattle.link_edge.specs.declared.answers.Accepted.{Accepted}
+use Rattle.link_edge.specs.declared.answers.Accepted.TheVariants as accepted
 use Rattle.link_edge.specs.declared.mem_door.Knock.{Knock}
 use Rattle.link_edge.specs.declared.mem_door.Knock.TheVariants as knocks
-use Rattle.link_edge.specs.Accepts.{accepted_of}
 use Rattle.link_edge.specs.Reports.{Report}
 use Rattle.link_edge.specs.Calls.{CallState, calls_of, next_fails, with_pass, with_failure}
 use Rattle.link_edge.specs.MemLink.{LinkState, link_of}
 
--- who is still to knock, the accepts so far and what they answered, how many links were given out, and which came back
+-- who is still to knock, the accepts and their answers, how many links were given out, and which came back
 pub record DoorState : Type 0 where
   pub knocks : List Knock
   pub calls : CallState
@@ -20,7 +20,8 @@ pub record DoorState : Type 0 where
 
 -- a door with a script, of whose accepts those with these numbers fail
 abbrev pub door_of : List Knock → List ℕ → DoorState
-door_of knocks failing = record { knocks = knocks; calls = calls_of failing; answered = []; gave = 0; back = [] }
+door_of knocks failing =
+    record { knocks = knocks; calls = calls_of failing; answered = []; gave = 0; back = [] }
 
 -- whether it is a link that comes
 abbrev pub is_link : Knock → Bool
@@ -46,12 +47,20 @@ abbrev pub knocks_after : List Knock → List Knock
 knocks_after [] = []
 knocks_after (knock ∷ more) = more
 
+-- the door after the script's next answer
+abbrev pub after_knock : DoorState → Accepted → DoorState
+after_knock door answer = record door {
+  knocks = knocks_after door.knocks;
+  calls = with_pass door.calls;
+  answered = door.answered ++ answer ∷ [];
+}
+
 -- the door after an accept that was answered so
 abbrev pub after_accept : DoorState → Accept LinkState → DoorState
 after_accept door accepts.NoMemory = door
 after_accept door accepts.Failed =
-    record door { calls = with_failure door.calls; answered = door.answered ++ accepted_of {L = LinkState} accepts.Failed }
+    record door { calls = with_failure door.calls; answered = door.answered ++ accepted.Failed ∷ [] }
 after_accept door (accepts.Got link) =
-    record door { knocks = knocks_after door.knocks; calls = with_pass door.calls; answered = door.answered ++ accepted_of (accepts.Got link); gave = door.gave + 1 }
-after_accept door accept =
-    record door { knocks = knocks_after door.knocks; calls = with_pass door.calls; answered = door.answered ++ accepted_of accept }
+    record (after_knock door accepted.Got) { gave = door.gave + 1 }
+after_accept door accepts.Quiet = after_knock door accepted.Quiet
+after_accept door accepts.Closed = after_knock door accepted.Closed

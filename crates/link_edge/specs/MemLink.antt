@@ -30,8 +30,11 @@ abbrev pub after_take : LinkState → Take → List ℕ → LinkState
 after_take link takes.NoMemory room = link
 after_take link takes.Failed room =
     record link { calls = with_failure link.calls; answered = link.answered ++ answers_of takes.Failed room }
-after_take link take room =
-    record link { script = script_after link.script (length room); calls = with_pass link.calls; answered = link.answered ++ answers_of take room }
+after_take link take room = record link {
+  script = script_after link.script (length room);
+  calls = with_pass link.calls;
+  answered = link.answered ++ answers_of take room;
+}
 
 -- what a give of so many bytes answers, where memory suffices
 abbrev pub give_of : LinkState → ℕ → Give
@@ -41,4 +44,5 @@ give_of link len = if next_fails link.calls then gives.Failed else gives.Gave le
 abbrev pub after_give : LinkState → Give → List ℕ → LinkState
 after_give link gives.NoMemory bytes = link
 after_give link gives.Failed bytes = record link { calls = with_failure link.calls }
-after_give link (gives.Gave n) bytes = record link { calls = with_pass link.calls; given = link.given ++ take n bytes }
+after_give link (gives.Gave n) bytes =
+    record link { calls = with_pass link.calls; given = link.given ++ take n bytes }

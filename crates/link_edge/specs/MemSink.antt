@@ -24,7 +24,9 @@ after_failed sink bytes = record { written = sink.written ++ bytes; calls = with
 abbrev pub half : List ℕ → List ℕ
 half bytes = take (length bytes / 2) bytes
 
--- What a put does: where it is not to fail, it writes all of the piece; where it is, half of it. A put that finds no memory fails and writes nothing.
+-- Where a put is not to fail, it writes all of the piece; where it is, half of it. One that finds no
+-- memory fails and writes nothing.
 abbrev pub IsPut : SinkState → SinkState → Put → List ℕ → Type 0
 IsPut old new Done bytes = (next_fails old.calls ≡ false) × (new ≡ after_done old bytes)
-IsPut old new Failed bytes = ((next_fails old.calls ≡ true) × (new ≡ after_failed old (half bytes))) ⊎ (new ≡ after_failed old [])
+IsPut old new Failed bytes =
+    ((next_fails old.calls ≡ true) × (new ≡ after_failed old (half bytes))) ⊎ (new ≡ after_failed old [])

@@ -20,4 +20,5 @@ pub record ReadsMoment (old : Option (List ℕ)) (moment : ℕ) (new : Option (L
 -- moments were read one after another
 abbrev pub ReadsMoments : Option (List ℕ) → List ℕ → Option (List ℕ) → Type 0
 ReadsMoments old [] new = new ≡ old
-ReadsMoments old (moment ∷ moments) new = IsFirst old moment × ReadsMoments (option_map moments_after old) moments new
+ReadsMoments old (moment ∷ moments) new =
+    IsFirst old moment × ReadsMoments (option_map moments_after old) moments new

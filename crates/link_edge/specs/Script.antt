@@ -38,10 +38,12 @@ rest_from script next offset = without offset (drop next script)
 abbrev pub next_take : List Said → ℕ → Take
 next_take [] room = takes.Ended
 next_take (Quiet ∷ more) room = takes.Quiet
-next_take (Piece bytes ∷ more) room = if is_empty bytes then takes.Quiet else takes.Got (min (length bytes) room)
+next_take (Piece bytes ∷ more) room =
+    if is_empty bytes then takes.Quiet else takes.Got (min (length bytes) room)
 
 -- what is left after it
 abbrev pub script_after : List Said → ℕ → List Said
 script_after [] room = []
 script_after (Quiet ∷ more) room = more
-script_after (Piece bytes ∷ more) room = if nat_le (length bytes) room then more else (Piece (drop room bytes) ∷ more)
+script_after (Piece bytes ∷ more) room =
+    if nat_le (length bytes) room then more else (Piece (drop room bytes) ∷ more)

@@ -1,8 +1,8 @@
 //! Where a worker may be held.
 
-/// A gate holds workers in tests, so that one of two threads comes first, and lets each pass in the program.
+/// A gate lets each worker pass in the program. In tests it holds one, so that another comes first.
 pub trait Gate {
-    /// A worker passes. It does so before it serves its link number k, counted from 0, with the call 2k, and after that with 2k + 1. No
-    /// promise is made of when it returns.
+    /// A worker passes: with the call 2k before it serves its link number k, counted from 0, and with
+    /// 2k + 1 after that. When it returns is not promised.
     fn pass(&self, worker: u32, call: u64);
 }

@@ -14,9 +14,9 @@ impl Gate for OpenGate {
     fn pass(&self, _worker: u32, _call: u64) {}
 }
 
-/// A gate that holds each call of one worker until it is open. It opens once another worker has served a link, or where the flag that it
-/// shares is set elsewhere, and then stays open. It holds a call for so many turns at most, in each of which other threads may run, so
-/// nobody is held for good.
+/// A gate that holds each call of one worker until it is open, but for a stated number of turns at most,
+/// in each of which other threads may run. It opens once another worker has served a link, or where the
+/// flag that it shares is set elsewhere.
 #[derive(Drop)]
 pub struct HoldGate {
     held: u32,

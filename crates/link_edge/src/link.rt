@@ -1,4 +1,4 @@
-//! Connections.
+//! Links to clients.
 
 ghost use Rattle.std.specs.Prelude.{◌≡◌, ◌<◌, ℕ, List, Option, length};
 ghost use Rattle.link_edge.specs.declared.answers.Answer.{Answer};
@@ -9,7 +9,8 @@ ghost use Rattle.link_edge.specs.Causes.{HasCause};
 
 use crate::answers::{Give, Take};
 
-/// A connection to a client: bytes come in pieces, and bytes go out.
+/// A client's connection, on which the NATS client protocol is spoken: bytes come in pieces, and bytes
+/// go out.
 pub trait Link {
     /// The bytes that are left to take, where they are told.
     ghost left: { Self → Option (List ℕ) };
@@ -23,7 +24,7 @@ pub trait Link {
     /// How often it failed so far.
     ghost faults: { Self → ℕ };
 
-    /// Takes the next piece of the input, as far as there is room. What stands in the room behind the piece is free.
+    /// Takes the next piece of the input, as far as there is room. The room behind it may hold anything.
     fn take(&mut self, into: &mut [u8]) -> Take
         requires room { 0 < length into.old }
         ensures within { IsTakeWithin result (length into.new) }

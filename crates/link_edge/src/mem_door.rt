@@ -2,7 +2,7 @@
 
 ghost use Rattle.std.specs.Prelude.{◌≡◌, ◌≢◌, ◌≤◌, ◌++◌, ◌∷◌, [], Some, map, count_by, IfOk};
 ghost use Rattle.link_edge.specs.Reports.{HasOut};
-ghost use Rattle.link_edge.specs.Accepts.{IfGot, accepted_of};
+ghost use Rattle.link_edge.specs.Accepts.{accepted_of};
 ghost use Rattle.link_edge.specs.MemDoor.{is_link, next_accept, knocks_after};
 ghost use Rattle.link_edge.specs.Causes.{HasCause};
 
@@ -19,7 +19,7 @@ use std::marker::Model;
 /// A member of a door's script.
 #[derive(Drop, Debug)]
 pub enum Knock {
-    /// A link comes that plays the script, and whose calls with these numbers fail, counted from 0.
+    /// A link comes that plays the script, and whose calls with these numbers fail.
     Link {
         script: List<Said>,
         failing: List<u64>,
@@ -28,8 +28,9 @@ pub enum Knock {
     Quiet,
 }
 
-/// A door that plays a script and then is closed. Of its accepts, counted from 0, those fail whose numbers it was given. It remembers
-/// what it answered, and keeps the links that came back. An accept that finds no memory for that counts for nothing.
+/// A door that plays a script and then is closed. It remembers what it answered, and keeps the links
+/// that came back. Accepts are numbered from 0, and those with stated numbers fail. One that is answered
+/// `NoMemory` changes nothing and has no number.
 #[derive(Drop, Debug)]
 pub struct MemDoor {
     alloc: Global,

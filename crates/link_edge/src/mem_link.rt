@@ -1,9 +1,7 @@
-//! A connection in memory.
+//! A link in memory.
 
 ghost use Rattle.std.specs.Prelude.{◌≡◌, ◌≢◌, ◌<◌, ◌++◌, Some, [], length, IfOk, OnOk, OnErr, option_to_list, if◌then◌else◌};
-ghost use Rattle.link_edge.specs.Told.{grown, Loses};
-ghost use Rattle.link_edge.specs.Takes.{IsTakeWithin, EndsAtEnd, taken_bytes, answers_of};
-ghost use Rattle.link_edge.specs.Gives.{IsGiveWithin, given_bytes};
+ghost use Rattle.link_edge.specs.Takes.{IsTakeWithin, taken_bytes, answers_of};
 ghost use Rattle.link_edge.specs.Causes.{HasCause};
 ghost use Rattle.link_edge.specs.Script.{script_bytes, next_take, script_after};
 ghost use Rattle.link_edge.specs.Calls.{next_fails};
@@ -16,8 +14,9 @@ use js_base::{List, NoMemory};
 use std::alloc::Global;
 use std::marker::Model;
 
-/// A link that plays a script and then is at its end. Of its takes and gives, numbered together from 0, those fail whose numbers it was
-/// given. It remembers what it answered and what it was given. A call that finds no memory for that counts for nothing.
+/// A link that plays a script and then is at its end. It remembers what its takes answered and what it
+/// was given. Takes and gives are numbered together from 0, and those with stated numbers fail. A call
+/// that is answered `NoMemory` changes nothing and has no number.
 #[derive(Drop, Debug)]
 pub struct MemLink {
     alloc: Global,
@@ -32,7 +31,12 @@ impl Model for MemLink {
 
     ghost Value = { LinkState };
 
-    ghost view = { λ s. record { script = s.script; calls = s.calls; answered = s.answers; given = s.output.items } };
+    ghost view = { λ s. record {
+      script = s.script;
+      calls = s.calls;
+      answered = s.answers;
+      given = s.output.items;
+    } };
 }
 
 impl MemLink {
@@ -83,9 +87,10 @@ impl MemLink {
 /// What the next take answers. Nothing goes on by it.
 fn next_take(calls: &Calls, script: &Script, into: &mut [u8]) -> Take
     requires room { 0 < length into.old }
-    ensures value { result ≡ (if next_fails calls.now then Take.Failed else next_take script.now (length into.new)) }
-    ensures bytes { script_bytes script.now ≡ taken_bytes result into.new
-        ++ script_bytes (if next_fails calls.now then script.now else script_after script.now (length into.new)) }
+    ensures value { result
+        ≡ (if next_fails calls.now then Take.Failed else next_take script.now (length into.new)) }
+    ensures bytes { script_bytes script.now ≡ taken_bytes result into.new ++ script_bytes
+        (if next_fails calls.now then script.now else script_after script.now (length into.new)) }
 {
     if calls.next_fails() {
         return Take::Failed;
@@ -145,7 +150,8 @@ impl Link for MemLink {
         ensures answer { result ≢ Take.NoMemory → result ≡ take_of self.old (length into.new) }
         ensures after { self.new ≡ after_take self.old result into.new }
         ensures within { IsTakeWithin result (length into.new) }
-        ensures bytes { script_bytes self.old.script ≡ taken_bytes result into.new ++ script_bytes self.new.script }
+        ensures bytes { script_bytes self.old.script
+            ≡ taken_bytes result into.new ++ script_bytes self.new.script }
         ensures cause { HasCause self.old.calls.failed self.new.calls.failed (result ≡ Take.Failed) }
     {
         let take = next_take(&self.calls, &self.script, into);

@@ -10,8 +10,8 @@ use js_base::List;
 use std::alloc::Global;
 use std::marker::Model;
 
-/// A sink that keeps what is written. Of its puts, counted from 0, those fail whose numbers it was given: they write the first half of the
-/// piece. A put that finds no memory is a fault too, and writes nothing.
+/// A sink that keeps what is written. Puts are numbered from 0, and those with stated numbers fail after
+/// the first half of the piece. A put that finds no memory fails too, and writes nothing.
 #[derive(Drop, Debug)]
 pub struct MemSink {
     bytes: Vec<u8>,

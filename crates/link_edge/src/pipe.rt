@@ -1,14 +1,16 @@
-//! Connections over a reader and a writer.
+//! Links over readers and writers.
 
-ghost use Rattle.std.specs.Prelude.{◌≡◌, IsTrue, None};
+ghost use Rattle.std.specs.Prelude.{◌≡◌, ◌∷◌, [], None, if◌then◌else◌};
+ghost use Rattle.link_edge.specs.Accepts.{IfGot, accepted_of};
 
-use crate::answers::{Accept, Give, Take};
+use crate::answers::{Accept, Accepted, Give, Take};
 use crate::door::Door;
 use crate::link::Link;
 use std::io::{ErrorKind, Read, Write};
 use std::marker::Model;
 
-/// A connection over a reader and a writer. It tells nothing of contents. Each take and each give that fails is counted.
+/// A connection over a reader and a writer. It tells nothing of contents. Contracts see how often it
+/// failed.
 #[derive(Drop)]
 pub struct PipeLink<R: Read + Drop, W: Write + Drop> {
     input: R,
@@ -77,15 +79,28 @@ impl<R: Read + Drop, W: Write + Drop> Link for PipeLink<R, W> {
     }
 }
 
-/// A door with one connection, over a reader and a writer, after which it is closed. It tells nothing of its links and never fails.
+/// A door with one connection, after which it is closed. It tells nothing of its link, and never fails.
+/// Contracts see whether the connection is still to come.
 #[derive(Drop)]
 pub struct PipeDoor<R: Read + Drop, W: Write + Drop> {
     ends: Option<(R, W)>,
 }
 
+impl<R: Read + Drop, W: Write + Drop> Model for PipeDoor<R, W> {
+    ghost use Rattle.std.specs.Prelude.{Bool, is_some};
+
+    ghost Value = { Bool };
+
+    ghost view = { λ s. is_some s.ends };
+}
+
 impl<R: Read + Drop, W: Write + Drop> PipeDoor<R, W> {
+    ghost use Rattle.std.specs.Prelude.{true};
+
     /// A door whose connection is still to come.
-    pub fn new(input: R, output: W) -> PipeDoor<R, W> {
+    pub fn new(input: R, output: W) -> PipeDoor<R, W>
+        ensures fresh { result ≡ true }
+    {
         PipeDoor {
             ends: Some((input, output)),
         }
@@ -93,6 +108,8 @@ impl<R: Read + Drop, W: Write + Drop> PipeDoor<R, W> {
 }
 
 impl<R: Read + Drop, W: Write + Drop> Door for PipeDoor<R, W> {
+    ghost use Rattle.std.specs.Prelude.{false};
+
     type Link = PipeLink<R, W>;
 
     ghost answered = { λ _. None };
@@ -103,7 +120,12 @@ impl<R: Read + Drop, W: Write + Drop> Door for PipeDoor<R, W> {
 
     ghost faults = { λ _. 0 };
 
-    fn accept(&mut self) -> Accept<PipeLink<R, W>> {
+    /// Gives the connection, and then is closed.
+    fn accept(&mut self) -> Accept<PipeLink<R, W>>
+        ensures answer { accepted_of result ≡ (if self.old then Accepted.Got else Accepted.Closed) ∷ [] }
+        ensures after { self.new ≡ false }
+        ensures unfailed { IfGot result (λ link. link ≡ 0) }
+    {
         match self.ends.take() {
             Some((input, output)) => Accept::Got(PipeLink::new(input, output)),
             None => Accept::Closed,

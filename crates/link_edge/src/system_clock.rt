@@ -1,6 +1,6 @@
 //! The clock of the system.
 
-ghost use Rattle.std.specs.Prelude.{◌≡◌, None};
+ghost use Rattle.std.specs.Prelude.{◌≡◌, None, IfOk};
 
 use crate::clock::Clock;
 use js_base::{Moment, NoMemory};
@@ -8,8 +8,9 @@ use std::marker::Model;
 use std::rt;
 use std::time::{SystemTime, UNIX_EPOCH};
 
-/// The clock of the system. It tells nothing of the moments to come. Where the system fails to tell the time, or tells one that is no
-/// moment, that is counted and the last moment stays, which is at first the beginning of 1970.
+/// The clock of the system. It tells nothing of the moments to come. Where the system tells no time, or
+/// one that is no moment, that is counted and the last moment stays, which at first is the beginning of
+/// 1970.
 #[derive(Drop)]
 pub struct SystemClock<R: rt::Clock + Clone + Drop> {
     rt: R,
@@ -18,17 +19,17 @@ pub struct SystemClock<R: rt::Clock + Clone + Drop> {
 }
 
 impl<R: rt::Clock + Clone + Drop> Model for SystemClock<R> {
-    ghost use Rattle.std.specs.Prelude.{ℕ};
+    ghost use Rattle.link_edge.specs.SystemClock.{ClockState};
 
-    ghost Value = { ℕ };
+    ghost Value = { ClockState };
 
-    ghost view = { λ s. s.faults };
+    ghost view = { λ s. record { last = s.last; faults = s.faults } };
 }
 
 impl<R: rt::Clock + Clone + Drop> SystemClock<R> {
     /// A clock that has not been read yet.
     pub fn new(rt: R) -> SystemClock<R>
-        ensures unfailed { result ≡ 0 }
+        ensures fresh { result ≡ record { last = 0; faults = 0 } }
     {
         SystemClock {
             rt,
@@ -39,7 +40,7 @@ impl<R: rt::Clock + Clone + Drop> SystemClock<R> {
 
     /// How often the system failed to tell a moment. The count stands still at its type's end.
     pub fn faults(&self) -> u64
-        ensures value { result ≡ self.now }
+        ensures value { result ≡ self.now.faults }
     {
         self.faults
     }
@@ -53,9 +54,13 @@ fn read<R: rt::Clock>(rt: &R) -> Option<Moment> {
 }
 
 impl<R: rt::Clock + Clone + Drop> Clock for SystemClock<R> {
+    ghost use Rattle.link_edge.specs.SystemClock.{Tells};
+
     ghost to_come = { λ _. None };
 
-    fn now(&mut self) -> Moment {
+    fn now(&mut self) -> Moment
+        ensures told { Tells self.old result self.new }
+    {
         match read(&self.rt) {
             Some(moment) => self.last = moment,
             None => self.faults = self.faults.saturating_add(1),
@@ -64,7 +69,9 @@ impl<R: rt::Clock + Clone + Drop> Clock for SystemClock<R> {
     }
 
     /// A clock over the same system, which has counted no fault.
-    fn twin(&self) -> Result<SystemClock<R>, NoMemory> {
+    fn twin(&self) -> Result<SystemClock<R>, NoMemory>
+        ensures twin { IfOk result (λ twin. twin ≡ record { last = self.now.last; faults = 0 }) }
+    {
         let rt = self.rt.clone()?;
         Ok(SystemClock {
             rt,

@@ -7,7 +7,7 @@ use crate::sink::Sink;
 use std::io::Write;
 use std::marker::Model;
 
-/// A sink over a writer. It tells nothing of what was written. Each put that fails is counted.
+/// A sink over a writer. It tells nothing of what was written. Contracts see how often it failed.
 #[derive(Drop)]
 pub struct WriterSink<W: Write + Drop> {
     output: W,

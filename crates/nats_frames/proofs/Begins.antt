@@ -1,6 +1,6 @@
 -- What a line begins that ends at a place.
-use Rattle.std.proofs.Common.{ℕ, zero, suc, ◌≡◌, ◌+◌, ◌-◌, ◌<◌, ◌≤◌, List, [], ◌∷◌, ◌++◌, length, take, drop, get_or, cond, refl, sym, ◌∙◌, ap, subst, arith, Option, Some, None, inl, inr, add-one, length-append, append_assoc}
-use Rattle.std.proofs.lemmas.List.{append-nil, append_cancel_right, take_at, drop_at, take-append-drop, length-take-le, length-drop, drop-drop, nil_from_length}
+use Rattle.std.proofs.Common.{ℕ, ◌≡◌, ◌+◌, ◌<◌, ◌≤◌, [], ◌∷◌, ◌++◌, length, take, drop, get_or, cond, refl, sym, ◌∙◌, ap, subst, arith, Option, Some, None, length-append, append_assoc}
+use Rattle.std.proofs.lemmas.List.{append-nil, append_cancel_right, take_at, take-append-drop, length-take-le, length-drop, drop-drop, nil_from_length}
 use Rattle.std.proofs.lemmas.Bool.{lt-ltb}
 use Rattle.js_base.specs.Bytes.{Bytes, crlf}
 use Rattle.nats_frames.specs.declared.op.Op.{Op}
@@ -11,12 +11,12 @@ use Rattle.nats_frames.specs.declared.shape.Shape.{Shape}
 use Rattle.nats_frames.specs.declared.look.Look.TheVariants as looks
 use Rattle.nats_frames.specs.declared.look.Ending.TheVariants as endings
 use Rattle.nats_frames.specs.Grammar.{Lacks, pub_line, Spells}
-use Rattle.nats_frames.specs.Reading.{split_at, Line, ConnectLine, PingLine, PubLine, SubLine, seen, line_at, Reading, Whole, Partial, Broken, ended, payload_at, behind_line, at_line, op_at}
+use Rattle.nats_frames.specs.Reading.{split_at, Line, ConnectLine, PingLine, PubLine, SubLine, seen, line_at, Whole, Partial, Broken, payload_at, behind_line, at_line, op_at}
 use Rattle.nats_frames.specs.Shapes.{op_in, Fits, shape_at, IsSmall}
-use Rattle.nats_frames.specs.Looking.{IsScanned, IsQuiet, IsLine, Looks, Ends}
+use Rattle.nats_frames.specs.Looking.{IsLine, Looks, Ends}
 use Rattle.nats_frames.proofs.Splits.{split_found, split_lacking, lacks_from}
 use Rattle.nats_frames.proofs.Lines.{Says, line_found}
-use Rattle.nats_frames.proofs.Readings.{Found, op_found, behind, no_line_broken}
+use Rattle.nats_frames.proofs.Readings.{op_found, behind, no_line_broken}
 use Rattle.nats_frames.proofs.Parts.{Shaped, connect_shaped, ping_shaped, sub_shaped, pub_shaped, small}
 
 -- the line, and what stands behind it

@@ -1,5 +1,5 @@
 -- Which bytes the fields of a line lack.
-use Rattle.std.proofs.Common.{ℕ, zero, suc, ◌≡◌, ◌<◌, ◌≤◌, Bool, true, false, ◌&&◌, ◌||◌, not, cond, List, [], ◌∷◌, length, get_or, nat_lt, nat_eq, codes, refl, sym, ◌∙◌, ap, arith, Option, Some, None, Result, Ok, Err, inl, inr}
+use Rattle.std.proofs.Common.{ℕ, ◌≡◌, ◌<◌, ◌≤◌, Bool, true, false, ◌&&◌, not, cond, List, [], ◌∷◌, length, get_or, nat_lt, nat_eq, codes, refl, sym, ◌∙◌, ap, arith, Option, Some, None, Ok, inl, inr}
 use Rattle.std.proofs.lemmas.Bool.{and_parts, or_cases, not-false, ltb-true, leb-true, ltb-false, false≢true}
 use Rattle.std.proofs.lemmas.List.Sums.{fails_before_first}
 use Rattle.std.specs.List.{list_all, position, position_or_len, starts_with}

@@ -3,6 +3,7 @@ pub mod Fields
 pub mod Lines
 pub mod Readings
 pub mod Runs
+pub mod Framing
 pub mod Scans
 pub mod Parts
 pub mod Begins

@@ -1,20 +1,20 @@
 -- What a line says is how it is spelled, both ways.
-use Rattle.std.proofs.Common.{ℕ, zero, suc, ◌≡◌, ◌==◌, not, lit≤, ◌+◌, ◌-◌, ◌<◌, ◌≤◌, Bool, true, false, ◌&&◌, cond, List, [], ◌∷◌, ◌++◌, length, take, drop, codes, nat_le, refl, sym, ◌∙◌, ap, subst, arith, Option, Some, None, IfSome, Result, Ok, Err, ◌⊎◌, inl, inr, length-append, append_assoc}
-use Rattle.std.proofs.lemmas.Bool.{and_parts, and_from, leb-true, le-leb, lt-ltb}
-use Rattle.std.proofs.lemmas.List.{append-nil, take-append-drop, take_at, drop_at}
+use Rattle.std.proofs.Common.{ℕ, ◌≡◌, ◌==◌, not, lit≤, ◌-◌, ◌<◌, ◌≤◌, Bool, true, false, ◌&&◌, cond, [], ◌∷◌, ◌++◌, length, take, drop, codes, nat_le, refl, sym, ◌∙◌, ap, subst, arith, Option, Some, None, IfSome, Result, Ok, Err, ◌⊎◌, inl, inr, length-append, append_assoc}
+use Rattle.std.proofs.lemmas.Bool.{and_parts, and_from, leb-true, le-leb}
+use Rattle.std.proofs.lemmas.List.{take-append-drop, take_at, drop_at}
 use Rattle.std.proofs.lemmas.Option.{cond_some, none-some, same_Some, option_and_then_some}
 use Rattle.std.proofs.lemmas.Slice.Eq.{bytes_eq-Decides}
 use Rattle.std.specs.List.{list_all}
 use Rattle.std.specs.Option.{option_and_then}
 use Rattle.js_base.specs.Bytes.{Bytes, crlf, same}
 use Rattle.js_base.specs.Decimal.{number_of}
-use Rattle.js_base.specs.Framing.{spaced, optional}
+use Rattle.js_base.specs.Framing.{spaced}
 use Rattle.js_base.specs.Subjects.{is_pattern_text, is_subject_text, is_publish_text}
 use Rattle.js_base.specs.declared.decimal.DecFault.{DecFault}
 use Rattle.nats_frames.specs.Grammar.{Lacks, options, is_sid, IsSub, IsPub, connect_line, ping_line, sub_line, pub_line}
 use Rattle.nats_frames.specs.Reading.{split_at, after, before_cr, Line, ConnectLine, PingLine, PubLine, SubLine, connect_at, sub_of, sub_at, sized, replied, pub_of, pub_at, named, words_at, line_at}
-use Rattle.nats_frames.proofs.Splits.{Split, split_found, split_again, split_lacking, lacks_append}
-use Rattle.nats_frames.proofs.Fields.{IsText, pattern_is_text, subject_is_text, publish_is_text, lacks_failing, text_lacks, sid_lacks, digits_lack, number_some}
+use Rattle.nats_frames.proofs.Splits.{split_found, split_again, split_lacking, lacks_append}
+use Rattle.nats_frames.proofs.Fields.{pattern_is_text, subject_is_text, publish_is_text, lacks_failing, text_lacks, sid_lacks, digits_lack}
 
 -- the bytes are a line that says this
 abbrev pub Says : Line → Bytes → Type 0

@@ -1,5 +1,5 @@
 -- Where the parts of an operation stand in its bytes.
-use Rattle.std.proofs.Common.{ℕ, true, ◌≡◌, ◌+◌, ◌-◌, ◌<◌, ◌≤◌, List, [], ◌∷◌, ◌++◌, length, take, drop, codes, refl, sym, ◌∙◌, ap, subst, arith, Option, Some, None, IfSome, option_map, length-append, append_assoc}
+use Rattle.std.proofs.Common.{ℕ, true, ◌≡◌, ◌+◌, ◌-◌, ◌<◌, ◌≤◌, [], ◌∷◌, ◌++◌, length, take, drop, codes, refl, ◌∙◌, ap, arith, Option, Some, None, IfSome, option_map, length-append, append_assoc}
 use Rattle.std.proofs.lemmas.List.{take_at, drop_at}
 use Rattle.js_base.specs.Bytes.{Bytes, crlf}
 use Rattle.js_base.specs.Framing.{spaced, optional}
@@ -8,11 +8,11 @@ use Rattle.nats_frames.specs.declared.op.Op.{Op}
 use Rattle.nats_frames.specs.declared.op.Op.TheVariants as op
 use Rattle.nats_frames.specs.declared.shape.Span.{Span}
 use Rattle.nats_frames.specs.declared.shape.Shape.{Shape}
-use Rattle.nats_frames.specs.Grammar.{connect_line, ping_line, sub_line, pub_line, IsSub, IsPub}
+use Rattle.nats_frames.specs.Grammar.{connect_line, sub_line, pub_line}
 use Rattle.nats_frames.specs.Reading.{Line, ConnectLine, PingLine, PubLine, SubLine}
 use Rattle.nats_frames.specs.Shapes.{part, IsWithin, op_in, Fits, span, shape_at, IsSmall}
 use Rattle.nats_frames.proofs.Lines.{Says, sid_short}
-use Rattle.nats_frames.proofs.Fields.{IsText, pattern_is_text, subject_is_text, publish_is_text}
+use Rattle.nats_frames.proofs.Fields.{pattern_is_text, subject_is_text, publish_is_text}
 
 -- the text stands there
 pub record Stands (bytes : Bytes) (at : Span) (text : Bytes) : Type 0 where

@@ -1,14 +1,14 @@
 -- What is read at the front is what the grammar says, both ways.
-use Rattle.std.proofs.Common.{ℕ, zero, suc, ◌≡◌, ◌==◌, ◌+◌, ◌<◌, ◌≤◌, Bool, true, false, ◌&&◌, cond, List, [], ◌∷◌, ◌++◌, length, take, drop, replicate, get_or, nat_lt, refl, sym, ◌∙◌, ap, subst, arith, Option, Some, None, ◌⊎◌, inl, inr, ◌↔◌, length-append, append_assoc}
-use Rattle.std.proofs.lemmas.Bool.{and_parts, and_from, and_cases, eqb-true, eqb-false, eq-eqb, ne_eqb, lt-ltb, le-ltb, ltb-true, ltb-false, cases_lt, and_left, and_right}
-use Rattle.std.proofs.lemmas.List.{append-nil, append_cancel_right, take-append-drop, take_at, drop_at, length-take-le, length-replicate, get_or_append_left, get_or_at}
+use Rattle.std.proofs.Common.{ℕ, ◌≡◌, ◌==◌, ◌<◌, ◌≤◌, false, ◌&&◌, cond, [], ◌∷◌, ◌++◌, length, take, drop, replicate, get_or, nat_lt, refl, sym, ◌∙◌, ap, subst, arith, Option, Some, None, ◌⊎◌, inl, inr, length-append, append_assoc}
+use Rattle.std.proofs.lemmas.Bool.{and_parts, and_cases, eqb-true, eqb-false, ne_eqb, lt-ltb, le-ltb, ltb-true, ltb-false, cases_lt, and_left, and_right}
+use Rattle.std.proofs.lemmas.List.{append-nil, take-append-drop, take_at, drop_at, length-take-le, length-replicate, get_or_append_left, get_or_at}
 use Rattle.js_base.specs.Bytes.{Bytes, crlf}
 use Rattle.nats_frames.specs.declared.op.Op.{Op}
 use Rattle.nats_frames.specs.declared.op.Op.TheVariants.{Connect, Ping, Pub, Sub}
-use Rattle.nats_frames.specs.Grammar.{Lacks, Spells, IsSub, IsPub, pub_line, BeginsNone, Fronts, Ops, HasNoLine, HasBadLine, IsNoEnd, HasBadEnd, IsFaulty}
+use Rattle.nats_frames.specs.Grammar.{Lacks, Spells, IsSub, IsPub, pub_line, HasNoLine, HasBadLine, IsNoEnd, HasBadEnd, IsFaulty}
 use Rattle.nats_frames.specs.Reading.{split_at, Line, ConnectLine, PingLine, PubLine, SubLine, line_at, Reading, Whole, Partial, Broken, ended, payload_at, behind_line, at_line, op_at}
-use Rattle.nats_frames.proofs.Splits.{Split, split_found, split_again, lacking_split, lacks_at, lacks_append}
-use Rattle.nats_frames.proofs.Lines.{Says, chosen, line_found, AreWords, words_of, line_again}
+use Rattle.nats_frames.proofs.Splits.{split_found, split_again, lacking_split, lacks_at, lacks_append}
+use Rattle.nats_frames.proofs.Lines.{Says, chosen, line_found, words_of, line_again}
 
 -- ---- behind the first line
 

@@ -1,12 +1,12 @@
 -- Laws of whole inputs.
-use Rattle.std.proofs.Common.{ℕ, ◌≡◌, ◌<◌, ◌≤◌, List, [], ◌∷◌, ◌++◌, length, get_or, refl, sym, ◌∙◌, ap, subst, arith, inl, inr, length-append, append_assoc}
+use Rattle.std.proofs.Common.{◌≡◌, List, [], ◌∷◌, ◌++◌, refl, sym, ◌∙◌, ap, subst, arith, inl, inr, length-append, append_assoc}
 use Rattle.std.proofs.lemmas.List.{append_cancel_right, get_or_append_left}
 use Rattle.js_base.specs.Bytes.{Bytes}
 use Rattle.nats_frames.specs.declared.op.Op.{Op}
-use Rattle.nats_frames.specs.Grammar.{Spells, pub_line, BeginsNone, Fronts, Ops, HasNoLine, HasBadLine, IsNoEnd, HasBadEnd, IsFaulty}
+use Rattle.nats_frames.specs.Grammar.{pub_line, BeginsNone, Fronts, HasNoLine, HasBadLine, IsNoEnd, HasBadEnd, IsFaulty}
 use Rattle.nats_frames.specs.Reading.{Reading, Whole, Partial, Broken, op_at}
 use Rattle.nats_frames.specs.Laws.{LawRead, LawSpelled, LawFaulty, LawOne, LawApart, LawWhole, LawBroken, LawPartial, LawOps, LawJoin}
-use Rattle.nats_frames.proofs.Readings.{Found, op_found, op_again, faulty_found, faulty_again}
+use Rattle.nats_frames.proofs.Readings.{op_found, op_again, faulty_found, faulty_again}
 
 pub read : LawRead
 read bytes op rest e = let found = op_found bytes op rest e in (found.front, found.spelled, found.whole)

@@ -1,10 +1,9 @@
 -- The search of a line's end goes on where it stopped.
-use Rattle.std.proofs.Common.{ℕ, zero, suc, ◌≡◌, ◌==◌, ◌+◌, ◌-◌, ◌<◌, ◌≤◌, Bool, true, false, List, [], ◌∷◌, ◌++◌, length, take, drop, get_or, min, refl, sym, ◌∙◌, ap, arith, Some, None, add-one, inl, inr, length-append}
+use Rattle.std.proofs.Common.{ℕ, ◌≡◌, ◌==◌, ◌+◌, ◌-◌, ◌<◌, ◌≤◌, true, length, take, drop, get_or, sym, ◌∙◌, ap, arith, Some, None, add-one, inl, inr}
 use Rattle.std.proofs.lemmas.Bool.{eqb-true, eq-eqb, ne_eqb, cases_lt}
 use Rattle.std.proofs.lemmas.List.{get_or-drop, get_or-take, length-take-le, length-drop}
 use Rattle.memchr.specs.Find.{IsFirstByte, is_byte}
 use Rattle.js_base.specs.Bytes.{Bytes}
-use Rattle.nats_frames.specs.Looking.{IsScanned}
 use Rattle.nats_frames.specs.Reading.{split_at}
 use Rattle.nats_frames.proofs.Splits.{split_first}
 

@@ -1,5 +1,5 @@
 -- What several writes leave, one after the other.
-use Rattle.std.proofs.Common.{ℕ, ◌≡◌, ◌+◌, ◌<◌, List, [], ◌∷◌, ◌++◌, length, codes, decimal, refl, sym, ◌∙◌, ap, Option, arith, append_assoc}
+use Rattle.std.proofs.Common.{◌≡◌, ◌+◌, ◌<◌, [], ◌∷◌, ◌++◌, length, codes, decimal, ◌∙◌, ap, Option, arith, append_assoc}
 use Rattle.js_base.specs.Bytes.{Bytes, crlf}
 use Rattle.js_base.specs.Framing.{message, spaced, optional}
 use Rattle.nats_frames.specs.Writing.{sizes}

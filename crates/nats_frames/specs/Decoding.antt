@@ -18,9 +18,15 @@ pub record Held : Type 0 where
 abbrev pub total : Held → ℕ
 total held = held.before + length held.bytes
 
+-- the bytes are a spelling of the operation, and then the rest
+pub record IsFront (op : Op) (bytes rest : Bytes) : Type 0 where
+  pub front : Bytes
+  pub spelled : Spells op front
+  pub whole : bytes ≡ front ++ rest
+
 -- what was given of the bytes held before, and which are held now
 abbrev pub Gives : Result (Option Op) FrameFault → Held → Held → Type 0
-Gives (Ok (Some op)) old new = op_at old.bytes ≡ Whole op new.bytes
+Gives (Ok (Some op)) old new = (op_at old.bytes ≡ Whole op new.bytes) × IsFront op old.bytes new.bytes
 Gives (Ok None) old new = (op_at old.bytes ≡ Partial) × (new ≡ old)
 Gives (Err NotBuilt) old new = (op_at old.bytes ≡ Broken) × (new ≡ old)
 Gives (Err NoMemory) old new = new ≡ old

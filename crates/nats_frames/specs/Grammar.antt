@@ -1,6 +1,6 @@
 -- How operations are spelled, by the NATS client protocol: a line of fields with one space between two of them and CR LF at its end, and
 -- behind the line of a publish its payload and CR LF.
-use Rattle.std.specs.Prelude.{ℕ, ◌≡◌, ◌≢◌, ◌<◌, ◌≤◌, ◌+◌, Bool, ◌&&◌, not, nat_lt, nat_le, IsTrue, ◌⊎◌, List, [], ◌∷◌, ◌++◌, length, slice_index, codes, Option, None, Some, IfSome, Ok}
+use Rattle.std.specs.Prelude.{ℕ, ◌≡◌, ◌≢◌, ◌<◌, ◌≤◌, Bool, ◌&&◌, not, nat_lt, nat_le, IsTrue, ◌⊎◌, List, [], ◌∷◌, ◌++◌, length, slice_index, codes, Option, None, IfSome, Ok}
 use Rattle.std.specs.List.{list_all}
 use Rattle.js_base.specs.Bytes.{Bytes, crlf, has}
 use Rattle.js_base.specs.Decimal.{number_of}

@@ -5,3 +5,4 @@ pub mod Looking
 pub mod Decoding
 pub mod Writing
 pub mod Laws
+pub mod Pieces

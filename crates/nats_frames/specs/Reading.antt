@@ -1,5 +1,5 @@
 -- What is read at the front of bytes: a function, which decides for all bytes what the grammar says by relations.
-use Rattle.std.specs.Prelude.{ℕ, nat_lt, nat_le, ◌-◌, ◌==◌, ◌&&◌, if◌then◌else◌, List, [], ◌∷◌, length, take, drop, codes, Option, None, Some, option_map, option_and_then, Result, Ok, Err}
+use Rattle.std.specs.Prelude.{ℕ, nat_lt, nat_le, ◌-◌, ◌==◌, ◌&&◌, if◌then◌else◌, [], ◌∷◌, length, take, drop, codes, Option, None, Some, option_map, option_and_then, Result, Ok, Err}
 use Rattle.std.specs.Borrow.{Bor}
 use Rattle.js_base.specs.Bytes.{Bytes, same}
 use Rattle.js_base.specs.Decimal.{number_of}

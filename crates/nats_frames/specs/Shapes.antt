@@ -1,5 +1,5 @@
 -- Where the parts of an operation stand in its bytes.
-use Rattle.std.specs.Prelude.{ℕ, ◌+◌, ◌<◌, ◌≤◌, length, slice_range, Option, None, Some, option_map, IfSome}
+use Rattle.std.specs.Prelude.{ℕ, ◌+◌, ◌<◌, ◌≤◌, length, slice_range, None, option_map, IfSome}
 use Rattle.js_base.specs.Bytes.{Bytes}
 use Rattle.nats_frames.specs.declared.op.Op.{Op}
 use Rattle.nats_frames.specs.declared.op.Op.TheVariants as op

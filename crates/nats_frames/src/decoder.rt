@@ -13,7 +13,7 @@ use std::marker::Model;
 
 /// A decoder of a client's input, by the NATS client protocol. Contracts see it as how many bytes were taken off the front of the input, and
 /// the bytes that were fed since, so that it does not matter in which pieces they came.
-#[derive(Drop)]
+#[derive(Drop, Debug)]
 pub struct Decoder {
     front: Front,
     /// An operation that was taken off and could not be given yet.

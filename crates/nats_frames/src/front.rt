@@ -11,7 +11,7 @@ use std::alloc::Global;
 use std::marker::Model;
 
 /// The bytes of one operation, and where its parts stand in them.
-#[derive(Drop)]
+#[derive(Drop, Debug)]
 pub(crate) struct Ready {
     pub(crate) bytes: Bytes,
     pub(crate) shape: Shape,
@@ -19,7 +19,7 @@ pub(crate) struct Ready {
 
 /// Bytes that were fed and not taken yet, which contracts see as their list. What was found out about them is kept, so that no line is
 /// searched twice for its end, and none is read again before its payload is there.
-#[derive(Drop)]
+#[derive(Drop, Debug)]
 pub(crate) struct Front {
     bytes: BytesMut,
     scanned: usize,

@@ -1,6 +1,7 @@
 //! Laws of the definitions: what the reading function, the grammar and the cutting of an input have to do with one another.
 
 ghost use Rattle.nats_frames.specs.Laws.{LawRead, LawSpelled, LawFaulty, LawPartial, LawOne, LawApart, LawWhole, LawBroken, LawOps, LawJoin};
+ghost use Rattle.nats_frames.specs.Pieces.{LawFraming};
 
 /// What is read is spelled so, and what is spelled so is read, whatever follows.
 pub fn law_spelling()
@@ -30,4 +31,9 @@ pub fn law_cut()
 pub fn law_ops()
     ensures one { LawOps }
     ensures join { LawJoin }
+{}
+
+/// However an input is cut into pieces, the operations that a decoder gives are those of the whole input, and then its fault.
+pub fn law_framing()
+    ensures framed { LawFraming }
 {}

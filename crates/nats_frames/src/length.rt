@@ -1,6 +1,6 @@
 //! How long the server's answers are.
 
-ghost use Rattle.std.specs.Prelude.{◌≡◌, ◌<◌, ◌≤◌, ◌^◌, ◌+◌, length, decimal, min, option_map};
+ghost use Rattle.std.specs.Prelude.{◌≡◌, ◌<◌, ◌≤◌, ◌^◌, ◌+◌, length, decimal};
 ghost use Rattle.js_base.specs.Framing.{frame as bytes_of, message};
 
 use crate::write::{BEFORE_CLIENT, BEFORE_HOST, BEFORE_PORT, INFO_END};
@@ -58,9 +58,9 @@ fn info_len(client_id: u64, host: &Blob, port: u16) -> u128
     fixed as u128 + digits(client_id) + bytes(host) + digits(u64::from(port))
 }
 
-/// The length of a frame.
-fn exact_len(frame: &Frame) -> u128
-    ensures { result ≡ length (bytes_of frame.now) }
+/// How many bytes `write_frame` adds for the frame. It takes no memory.
+pub fn frame_len(frame: &Frame) -> u128
+    ensures length { result ≡ length (bytes_of frame.now) }
 {
     match frame {
         Frame::Info {
@@ -79,11 +79,4 @@ fn exact_len(frame: &Frame) -> u128
         Frame::Ok => 5,
         Frame::Err { text } => 9 + bytes(text),
     }
-}
-
-/// How many bytes `write_frame` adds for the frame, or the greatest `usize` where they are more. It takes no memory.
-pub fn frame_len(frame: &Frame) -> usize
-    ensures length { result ≡ min (length (bytes_of frame.now)) usize.MAX }
-{
-    usize::try_from(exact_len(frame)).unwrap_or(usize::MAX)
 }

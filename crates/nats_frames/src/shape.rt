@@ -8,7 +8,7 @@ use bytes::Bytes;
 use js_base::{Blob, NoMemory};
 
 /// Neighbouring bytes, from `start` up to `end`.
-#[derive(Clone, Copy, Debug, PartialEq, Eq)]
+#[derive(Clone, Copy, Debug)]
 pub(crate) struct Span {
     pub(crate) start: usize,
     pub(crate) end: usize,
@@ -28,7 +28,7 @@ impl Span {
 }
 
 /// The parts of an operation.
-#[derive(Clone, Copy, Debug, PartialEq, Eq)]
+#[derive(Clone, Copy, Debug)]
 pub(crate) enum Shape {
     Connect {
         text: Span,

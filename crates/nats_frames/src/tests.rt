@@ -173,7 +173,7 @@ fn assert_written(
     let written = into.as_slice();
     assert!(rt; written.len() >= 5);
     assert_eq!(rt; &written[5..], text.as_bytes());
-    assert_eq!(rt; frame_len(&frame), text.len());
+    assert_eq!(rt; frame_len(&frame), text.len() as u128);
     Ok(())
 }
 

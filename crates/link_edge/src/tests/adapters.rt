@@ -8,7 +8,6 @@ use crate::pipe::{PipeDoor, PipeLink};
 use crate::sink::Sink;
 use crate::system_clock::SystemClock;
 use crate::writer_sink::WriterSink;
-use std::alloc::Global;
 use std::cell::Cell;
 use std::io::{Error, ErrorKind, Read, Write};
 use std::test::Fail;

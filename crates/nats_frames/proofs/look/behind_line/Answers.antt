@@ -1,4 +1,4 @@
-use Rattle.std.proofs.Common.{ℕ, List, Option, ◌≡◌, ◌+◌, ◌<◌, ◌≤◌, option_map, ap, subst, sym, ◌∙◌, drop, arith}
+use Rattle.std.proofs.Common.{ℕ, Option, ◌≡◌, ◌+◌, ◌≤◌, option_map, subst, sym, arith}
 use Rattle.js_base.specs.Bytes.{Bytes}
 use Rattle.nats_frames.specs.declared.line.Line.{Line as Lent}
 use Rattle.nats_frames.specs.declared.look.Look.TheVariants as looks

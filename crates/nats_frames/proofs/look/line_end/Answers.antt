@@ -1,4 +1,4 @@
-use Rattle.std.proofs.Common.{List, ℕ, ◌≡◌, ◌∙◌, ◌<◌, ◌≤◌, length, ap, take, drop, subst, arith, Some}
+use Rattle.std.proofs.Common.{List, ℕ, ◌≡◌, ◌∙◌, ◌≤◌, length, ap, take, drop, subst, arith, Some}
 use Rattle.memchr.specs.Find.{IsFirstByte, is_byte}
 use Rattle.nats_frames.proofs.Scans.{end_scanned, end_split}
 use Rattle.nats_frames.proofs.look.line_end.Goals as goal

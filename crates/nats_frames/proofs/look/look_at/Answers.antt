@@ -1,5 +1,5 @@
-use Rattle.std.proofs.Common.{◌≡◌, ◌<◌, ◌≤◌, length, take, None, Option, option_map, ap, sym, ◌∙◌, arith}
-use Rattle.nats_frames.specs.Reading.{seen, line_at}
+use Rattle.std.proofs.Common.{◌≡◌, take, None, ap, sym, ◌∙◌, arith}
+use Rattle.nats_frames.specs.Reading.{line_at}
 use Rattle.nats_frames.proofs.Begins.{nothing_said, never_ended, not_ended}
 use Rattle.nats_frames.proofs.look.look_at.Goals as goal
 

@@ -1,4 +1,4 @@
-use Rattle.std.proofs.Common.{◌≡◌, ◌++◌, List, ℕ, subst, sym, ◌∙◌, ap}
+use Rattle.std.proofs.Common.{List, ℕ, subst, sym, ◌∙◌}
 use Rattle.nats_frames.specs.declared.look.Look.TheVariants as looks
 use Rattle.nats_frames.specs.Looking.{Looks}
 use Rattle.nats_frames.proofs.Begins.{taken}
