@@ -17,7 +17,7 @@ pub returns-in-Err-clause-answers : goal.returns-in-Err-clause-answers
 returns-in-Err-clause-answers g c =
     let i = c.loop-op.invariant in
     let n = rw c.in-Ok-Some.field-0-is at c.in-Ok-Some.ensures.gives in
-    cut_begun _ g.met.D.Desk.made_more _ _ _ _ _ _ _ _ _ _ _ _ _ _ c.in-Ok-Some.op i.answering n.2.spelled n.2.whole (rw i.session at c.in-Err.ensures.carries)
+    cut_begun _ g.met.D.Desk.made_more _ _ _ _ _ _ _ _ _ _ _ _ _ _ c.in-Ok-Some.op i.answering n.1.spelled n.1.whole (rw i.session at c.in-Err.ensures.carries)
 
 pub returns-in-Ok-None-clause-answers : goal.returns-in-Ok-None-clause-answers
 returns-in-Ok-None-clause-answers g c =
@@ -38,10 +38,10 @@ pub loop-op-preserved-in-Ok-flush : goal.loop-op-preserved-in-Ok-flush
 loop-op-preserved-in-Ok-flush g c =
     let i = c.loop-op.invariant in
     let n = rw c.in-Ok-Some.field-0-is at c.in-Ok-Some.ensures.gives in
-    let next = answering_more _ g.met.D.Desk.made_more _ _ _ _ _ _ _ _ _ _ _ _ _ _ _ _ c.in-Ok-Some.op i.answering n.2.spelled n.2.whole (rw i.session at c.in-Ok.ensures.carries) c.in-Ok.ensures.verbose in
+    let next = answering_more _ g.met.D.Desk.made_more _ _ _ _ _ _ _ _ _ _ _ _ _ _ _ _ c.in-Ok-Some.op i.answering n.1.spelled n.1.whole (rw i.session at c.in-Ok.ensures.carries) c.in-Ok.ensures.verbose in
     record {
       answering = answering_flushed _ _ _ _ _ _ _ _ _ _ _ _ _ _ next c.in-Ok-flush.ensures.given c.in-Ok-flush.ensures.emptied;
-      fed = n.1 ∙ i.fed;
+      fed = c.in-Ok-Some.ensures.total ∙ i.fed;
       session = c.in-Ok.ensures.session ∙ i.session;
       is_open = c.in-Ok.ensures.is_open;
       answered = c.in-Ok-flush.ensures.answered ∙ i.answered;
@@ -52,7 +52,7 @@ pub returns-in-Err-flush-clause-answers : goal.returns-in-Err-flush-clause-answe
 returns-in-Err-flush-clause-answers g c =
     let i = c.loop-op.invariant in
     let n = rw c.in-Ok-Some.field-0-is at c.in-Ok-Some.ensures.gives in
-    let next = answering_more _ g.met.D.Desk.made_more _ _ _ _ _ _ _ _ _ _ _ _ _ _ _ _ c.in-Ok-Some.op i.answering n.2.spelled n.2.whole (rw i.session at c.in-Ok.ensures.carries) c.in-Ok.ensures.verbose in
+    let next = answering_more _ g.met.D.Desk.made_more _ _ _ _ _ _ _ _ _ _ _ _ _ _ _ _ c.in-Ok-Some.op i.answering n.1.spelled n.1.whole (rw i.session at c.in-Ok.ensures.carries) c.in-Ok.ensures.verbose in
     cut_given c.in-Err-flush.stop _ _ _ _ _ _ _ _ _ _ _ _ _ next c.in-Err-flush.ensures.given
 
 pub loop-op-preserved : goal.loop-op-preserved
@@ -60,8 +60,8 @@ loop-op-preserved g c =
     let i = c.loop-op.invariant in
     let n = rw c.in-Ok-Some.field-0-is at c.in-Ok-Some.ensures.gives in
     record {
-      answering = answering_more _ g.met.D.Desk.made_more _ _ _ _ _ _ _ _ _ _ _ _ _ _ _ _ c.in-Ok-Some.op i.answering n.2.spelled n.2.whole (rw i.session at c.in-Ok.ensures.carries) c.in-Ok.ensures.verbose;
-      fed = n.1 ∙ i.fed;
+      answering = answering_more _ g.met.D.Desk.made_more _ _ _ _ _ _ _ _ _ _ _ _ _ _ _ _ c.in-Ok-Some.op i.answering n.1.spelled n.1.whole (rw i.session at c.in-Ok.ensures.carries) c.in-Ok.ensures.verbose;
+      fed = c.in-Ok-Some.ensures.total ∙ i.fed;
       session = c.in-Ok.ensures.session ∙ i.session;
       is_open = c.in-Ok.ensures.is_open;
       answered = i.answered;
