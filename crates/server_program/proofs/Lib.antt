@@ -1,10 +1,12 @@
 mod Rows
+pub mod Arriving
 pub mod Asking
 pub mod Calls
 pub mod Carried
 pub mod Catalogs
 pub mod Collecting
 pub mod Conversing
+pub mod Ending
 pub mod Filtered
 pub mod GivenBytes
 pub mod Heard
@@ -16,3 +18,4 @@ pub mod Reaching
 pub mod RouteLaws
 pub mod Served
 pub mod Shown
+pub mod Worded

@@ -20,3 +20,4 @@ pub mod Catalogs
 pub mod Holding
 pub mod Making
 pub mod Solo
+pub mod Running

@@ -1,10 +1,12 @@
 //! The top call.
 
-ghost use Rattle.std.specs.Prelude.{◌≡◌, ◌≤◌, ◌+◌, ◌<◌, ◌↔◌, [], ◌∷◌, ◌++◌, None, IfSome, IfOk, IsSome, replicate, vec_len, OnErr};
-ghost use Rattle.link_edge.specs.Reports.{IsBalanced};
-ghost use Rattle.link_edge.specs.Told.{grown};
+ghost use Rattle.std.specs.Prelude.{◌≡◌, ◌≤◌, ◌<◌, ◌^◌, ◌↔◌, None, false, IfSome, IfOk, IsSome, IsTrue, vec_len};
+ghost use Rattle.js_model.specs.Configs.{is_stream_subject};
+ghost use Rattle.link_edge.specs.Accepts.{IfGot, gave_after};
+ghost use Rattle.link_edge.specs.Causes.{HasCause};
+ghost use Rattle.link_edge.specs.Reports.{HasOut, IsBalanced, IsFresh};
 ghost use Rattle.server_program.specs.Words.{texts, command_of};
-ghost use Rattle.server_program.specs.Running.{pipe_limits, status_of, PipeEnds, Arrives, PrintsWords};
+ghost use Rattle.server_program.specs.Running.{pipe_limits, status_of, Arrives, IsGivenBack, PipeEnds, PrintsWords};
 
 use crate::session::{Ended, Limits, serve_link};
 use crate::solo_desk::SoloDesk;
@@ -17,6 +19,7 @@ use std::alloc::Global;
 const QUIET: u64 = 1_000_000;
 
 /// What is left at the end of a run: its status, the door, and the volumes in their order.
+#[derive(Drop)]
 pub struct Finish<R, V> {
     pub status: u8,
     pub door: R,
@@ -25,7 +28,7 @@ pub struct Finish<R, V> {
 
 /// The limits of a session over a pipe.
 fn pipe_limits(alloc: Global) -> Result<Limits, NoMemory>
-    ensures { IfOk result (λ limits. limits ≡ pipe_limits) }
+    ensures limits { IfOk result (λ limits. limits ≡ pipe_limits) }
 {
     Ok(Limits {
         input: 1 << 30,
@@ -37,7 +40,7 @@ fn pipe_limits(alloc: Global) -> Result<Limits, NoMemory>
 
 /// The status that a session's end gives.
 fn status_of(ended: Ended) -> u8
-    ensures { result ≡ status_of ended }
+    ensures status { result ≡ status_of ended }
 {
     match ended {
         Ended::Closed => 0,
@@ -48,7 +51,7 @@ fn status_of(ended: Ended) -> u8
     }
 }
 
-/// Accepts until the door answers something. `Quiet` is what it answered a million times in a row.
+/// Accepts until the door's answer is not quiet, a million times at most.
 fn accept<R: Door>(door: &mut R) -> Accept<R::Link>
     ensures arrives { Arrives result (R.answered door.old) (R.answered door.new) }
     ensures gave { R.gave door.new ≡ gave_after (R.gave door.old) result }
@@ -56,14 +59,38 @@ fn accept<R: Door>(door: &mut R) -> Accept<R::Link>
     ensures fresh { IfGot result (λ link. IsFresh (R.Link.answered link) (R.Link.given link) (R.Link.faults link)) }
     ensures cause { HasCause (R.faults door.old) (R.faults door.new) (result ≡ Accept.Failed) }
 {
-    let mut quiets = 0;
-    while quiets < QUIET {
+    for _ in 0..QUIET {
         match door.accept() {
-            Accept::Quiet => quiets += 1,
+            Accept::Quiet => {}
             other => return other,
         }
     }
     Accept::Quiet
+}
+
+/// Serves a fresh link over the desk, and gives it back to the door.
+fn serve<R: Door, C: Clock>(
+    alloc: Global,
+    desk: SoloDesk,
+    door: &mut R,
+    link: R::Link,
+    clock: &mut C,
+    limits: &Limits,
+) -> u8
+    requires closed { desk.is_open ≡ false }
+    requires out { HasOut (R.gave door.old) (R.back door.old) }
+    requires fresh { IsFresh (R.Link.answered link) (R.Link.given link) (R.Link.faults link) }
+    requires input { limits.now.input < 2 ^ 62 }
+    ensures given_back { IsGivenBack limits.now desk result (R.back door.old) (R.back door.new) (C.to_come clock.old) (C.to_come clock.new) }
+    ensures answered { R.answered door.new ≡ R.answered door.old }
+    ensures gave { R.gave door.new ≡ R.gave door.old }
+    ensures later { R.faults door.old ≤ R.faults door.new }
+{
+    let mut desk = desk;
+    let mut link = link;
+    let ended = serve_link(alloc, &mut desk, &mut link, clock, limits);
+    door.done(link);
+    status_of(ended)
 }
 
 /// Makes the stream, and serves the first link that comes.
@@ -86,16 +113,12 @@ fn pipe<R: Door, C: Clock>(
         Ok(limits) => limits,
         Err(_) => return 7,
     };
-    let mut desk = match SoloDesk::with_stream(alloc, name, subject, clock.now()) {
+    let desk = match SoloDesk::with_stream(alloc, name, subject, clock.now()) {
         Ok(desk) => desk,
         Err(_) => return 7,
     };
     match accept(door) {
-        Accept::Got(mut link) => {
-            let ended = serve_link(alloc, &mut desk, &mut link, clock, &limits);
-            door.done(link);
-            status_of(ended)
-        }
+        Accept::Got(link) => serve(alloc, desk, door, link, clock, &limits),
         Accept::Quiet => 6,
         Accept::Closed => 0,
         Accept::Failed => 8,
@@ -119,7 +142,7 @@ pub fn run<R: Door, V, C: Clock, G: Gate, O: Sink>(
 
     // Status 2 comes exactly where the words are none of the forms. They are refused in a line, and the door is not touched.
     ensures words { (result.status ≡ 2) ↔ (command_of (texts words.now) ≡ None) }
-    ensures refused { command_of (texts words.now) ≡ None → (result.door ≡ door) × PrintsWords (O.written out.old) (O.written out.new) }
+    ensures refused { command_of (texts words.now) ≡ None → (result.door ≡ door) × PrintsWords (O.written out.old) (O.written out.new) (O.faults out.old) (O.faults out.new) }
 
     // Else the status tells why the run ended, and the link that came back was served by it.
     ensures ends { IfSome (command_of (texts words.now)) (λ command. PipeEnds command.0 command.1 result.status
