@@ -1,9 +1,12 @@
 mod Rows
+pub mod Arriving
 pub mod Asking
 pub mod Carried
 pub mod Catalogs
 pub mod Collecting
 pub mod Conversing
+pub mod Ending
+pub mod Filtered
 pub mod GivenBytes
 pub mod Heard
 pub mod Places
@@ -11,3 +14,5 @@ pub mod Plain
 pub mod Routing
 pub mod Sent
 pub mod Served
+pub mod Shown
+pub mod Worded

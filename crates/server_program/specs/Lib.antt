@@ -16,3 +16,4 @@ pub mod Catalogs
 pub mod Holding
 pub mod Making
 pub mod Solo
+pub mod Running

@@ -1,4 +1,4 @@
-//! The server.
+//! The server: one connection over standard input and output.
 #![tactic(auto)]
 
 mod catalog;
@@ -12,13 +12,99 @@ mod plain_stream;
 mod publish_text;
 mod refusals;
 mod router;
+mod running;
 mod session;
 mod solo_desk;
+#[cfg(test)]
+mod tests;
 mod words;
 
-use std::io;
+use link_edge::{OpenGate, PipeDoor, SystemClock, WriterSink};
+use running::{Finish, run};
+use std::alloc::AllocError;
+use std::env;
+use std::io::{self, ErrorKind, Write};
+use std::process::ExitCode;
 
-fn main(rt: HostRuntime) -> io::Result<()> {
-    let _ = rt;
-    Ok(())
+/// How many volumes the program has.
+const VOLUMES: usize = 32;
+
+/// The status where standard output fails for a text that was asked for.
+const UNWRITTEN: u8 = 9;
+
+/// The status where memory runs out.
+const STARVED: u8 = 7;
+
+/// What `--version` prints.
+const VERSION: &[u8] = b"jsblock 0.1.0\n";
+
+/// What `--help` prints.
+const HELP: &[u8] = b"\
+jsblock serves one NATS connection over standard input and output, over a stream that lies in memory.
+
+usage: jsblock pipe --stream NAME --subject PATTERN
+       jsblock --help
+       jsblock --version
+
+NAME is the name of the stream, and PATTERN the subjects that it takes.
+";
+
+/// The words after the program's name. Where one of them is not UTF-8 they are none of the forms, as no words are.
+fn words_of(rt: &HostRuntime) -> io::Result<Vec<String>> {
+    let mut words = Vec::new(rt.alloc());
+    match env::args(rt) {
+        Ok(args) => {
+            for word in args.skip(1) {
+                words.push(word)?;
+            }
+            Ok(words)
+        }
+        Err(error) if error.kind() == ErrorKind::InvalidData => Ok(words),
+        Err(error) => Err(error),
+    }
+}
+
+/// The text that the words ask for, if they ask for one.
+fn text_of(words: &[String]) -> Option<&'static [u8]> {
+    match words {
+        [word] if word.as_str() == "--help" => Some(HELP),
+        [word] if word.as_str() == "--version" => Some(VERSION),
+        _ => None,
+    }
+}
+
+/// Prints the text to standard output, and answers the status.
+fn print(rt: &HostRuntime, text: &[u8]) -> u8 {
+    let mut output = io::writer(rt);
+    if output.write_all(text).is_ok() && output.flush().is_ok() {
+        0
+    } else {
+        UNWRITTEN
+    }
+}
+
+/// Runs over standard input and output, and answers the status.
+fn serve(rt: &HostRuntime, words: &[String]) -> Result<u8, AllocError> {
+    let alloc = rt.alloc();
+    let vols = vec![in alloc; (); VOLUMES]?;
+    let door = PipeDoor::new(rt.stdin(), rt.stdout());
+    let mut clock = SystemClock::new(rt);
+    let mut out = WriterSink::new(rt.stderr());
+    let finish: Finish<_, ()> = run(alloc, words, door, vols, &mut clock, &OpenGate, &mut out);
+    Ok(finish.status)
+}
+
+/// The status for the words.
+fn status(rt: &HostRuntime) -> u8 {
+    let Ok(words) = words_of(rt) else {
+        return STARVED;
+    };
+    match text_of(&words) {
+        Some(text) => print(rt, text),
+        None => serve(rt, &words).unwrap_or(STARVED),
+    }
+}
+
+fn main(rt: HostRuntime) -> ExitCode {
+    ExitCode::from(status(&rt))
 }
