@@ -194,7 +194,7 @@ module _ {D : Type 0} (made : D → List DeskEntry → D → Type 0) (more_led :
   front_of spoken out k = (
     k.0,
     append_assoc (heard_bytes true (flat_map turn_spoken h.turns)) out k.0 ∙ ap (λ (bytes : Bytes). heard_bytes true (flat_map turn_spoken h.turns) ++ bytes) k.1
-    ∙ heard-more verbose (flat_map turn_spoken h.turns) spoken h.verbose_is,
+        ∙ heard-more verbose (flat_map turn_spoken h.turns) spoken h.verbose_is,
   )
 
   front_given : (out : Bytes) (g1 g2 : Option Bytes) → g1 ≡ g → g2 ≡ grown g1 out → g2 ≡ grown g0 (heard_bytes true (flat_map turn_spoken h.turns) ++ out)

@@ -9,10 +9,13 @@ pub mod Ending
 pub mod Filtered
 pub mod GivenBytes
 pub mod Heard
+pub mod Holds
 pub mod Places
 pub mod Plain
+pub mod Published
 pub mod Routing
 pub mod Sent
 pub mod Served
 pub mod Shown
+pub mod Solos
 pub mod Worded

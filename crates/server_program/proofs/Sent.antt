@@ -7,20 +7,13 @@ use Rattle.js_base.specs.declared.memory.NoMemory.{NoMemory}
 use Rattle.js_model.specs.declared.stream.State.{State}
 use Rattle.js_model.specs.Catalog.{Catalog}
 use Rattle.js_model.specs.Routes as routes
-use Rattle.server_program.specs.Desks.{DeskEntry, World, DeskRun, Routed, Looked, Held}
+use Rattle.server_program.specs.Desks.{DeskEntry, DeskRun, Routed}
+use Rattle.server_program.specs.Following.{run_append}
 use Rattle.server_program.specs.Calls.{AreRouted, AreCut}
 use Rattle.server_program.specs.declared.router.fault.RouteFault.{RouteFault}
 use Rattle.server_program.specs.declared.router.fault.RouteFault.TheVariants as faults
 use Rattle.server_program.specs.Routing.{fault_told, publish_told}
 use Rattle.server_program.specs.Holding.{world_of, Leads, Routes}
-
--- ---- runs of a desk
-
-pub run_append : (a b c : World) (first more : List DeskEntry) → DeskRun a first b → DeskRun b more c → DeskRun a (first ++ more) c
-run_append a b c [] more h k = subst (λ (w : World). DeskRun w more c) (sym h) k
-run_append a b c (Routed call told ∷ first) more h k = (h.0, h.1, run_append (record a { router = h.0 }) b c first more h.2 k)
-run_append a b c (Looked call told ∷ first) more h k = (h.0, h.1, run_append (record a { catalog = h.0 }) b c first more h.2 k)
-run_append a b c (Held place before entries ∷ first) more h k = (h.0, h.1, h.2, run_append _ b c first more h.3 k)
 
 -- ---- outputs
 
@@ -42,17 +35,29 @@ cut_push (first ∷ front) out rest entries h =
     inr (h.0, h.1 ++ Routed (routes.Publish out None) routes.NoMemory ∷ [], ap (λ (es : List DeskEntry). es ++ Routed (routes.Publish out None) routes.NoMemory ∷ []) h.2, cut_push front out rest h.1 h.3)
 
 impossible : {X : Type 0} → zero ≡ suc zero → X
-impossible e = absurd (omega e)
+impossible e = absurd (omega (arith, e))
+
+taken_not_refused : (count latest : ℕ) → routes.Taken count ≡ routes.NoSession latest → zero ≡ suc zero
+taken_not_refused count latest e = cc
+
+refused_not_starved : (latest : ℕ) → routes.NoSession latest ≡ routes.NoMemory → zero ≡ suc zero
+refused_not_starved latest e = cc
+
+taken_not_worn : (count : ℕ) → routes.Taken count ≡ routes.Worn → zero ≡ suc zero
+taken_not_worn count e = cc
+
+worn_not_starved : routes.Worn ≡ routes.NoMemory → zero ≡ suc zero
+worn_not_starved e = cc
 
 -- a message of the server itself is refused for want of memory alone
 unrouted : (r new : routes.Router) (out : Out) (fault : RouteFault) → routes.IsRoute r (routes.Publish out None) (fault_told fault) new
     → routes.IsRoute r (routes.Publish out None) routes.NoMemory new
 unfolding routes.route
 unrouted r new out faults.NoMemory h = h
-unrouted r new out (faults.NoSession latest) (inl e) = impossible cc
-unrouted r new out (faults.NoSession latest) (inr e) = let told = e.0 in impossible cc
-unrouted r new out faults.Worn (inl e) = impossible cc
-unrouted r new out faults.Worn (inr e) = let told = e.0 in impossible cc
+unrouted r new out (faults.NoSession latest) (inl e) = impossible (taken_not_refused (length (routes.listeners r out.to None)) latest (ap (λ (x : routes.Routed). x.told) e))
+unrouted r new out (faults.NoSession latest) (inr e) = impossible (refused_not_starved latest e.0)
+unrouted r new out faults.Worn (inl e) = impossible (taken_not_worn (length (routes.listeners r out.to None)) (ap (λ (x : routes.Routed). x.told) e))
+unrouted r new out faults.Worn (inr e) = impossible (worn_not_starved e.0)
 
 -- what is left begins with the next one
 pub next_left : (outs : List Out) (i : ℕ) (out : Out) → i < length outs → out ≡ get_or outs i out → drop i outs ≡ out ∷ drop (i + 1) outs
@@ -61,8 +66,8 @@ next_left outs i out within is = drop-cons outs i out within ∙ ap (λ (o : Out
 pub none_left : (outs : List Out) (i : ℕ) → length outs ≤ i → drop i outs ≡ []
 none_left [] zero h = refl
 none_left [] (suc i) h = refl
-none_left (out ∷ outs) zero h = absurd (omega h)
-none_left (out ∷ outs) (suc i) h = none_left outs i (omega h)
+none_left (out ∷ outs) zero h = absurd (omega (arith, h))
+none_left (out ∷ outs) (suc i) h = none_left outs i (omega (arith, h))
 
 -- the front of the outputs was routed
 pub record Sent (outs rest : List Out) (old new : routes.Router) : Type 0 where

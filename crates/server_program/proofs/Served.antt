@@ -114,7 +114,7 @@ served made more_led limits session d0 d1 d2 d3 a0 a1 g0 g1 c0 c1 ended m h k =
     let turns_led = flat_map entries_of_turn h.turns in
     let closing = subst (λ (es : List DeskEntry). made d2 es d3) (sym (append-nil k.entries)) k.led in
     let after = subst (λ (es : List DeskEntry). made d1 es d3) (append_assoc turns_led (entries_of_last h.last) (entries_of_calls (closed ∷ [])))
-        (more_led d1 d2 d3 (turns_led ++ entries_of_last h.last) (entries_of_calls (closed ∷ [])) h.led closing) in
+    (more_led d1 d2 d3 (turns_led ++ entries_of_last h.last) (entries_of_calls (closed ∷ [])) h.led closing) in
     record {
       journal = record { opened = opened; turns = h.turns; last = h.last; closed = closed ∷ [] };
       bytes = h.bytes;

@@ -1,5 +1,6 @@
 pub mod Words
 pub mod Desks
+pub mod Following
 pub mod Outputs
 pub mod Calls
 pub mod Answers

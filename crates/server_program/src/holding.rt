@@ -6,7 +6,7 @@ ghost use Rattle.js_model.specs.Proper.{is_proper};
 ghost use Rattle.server_program.specs.Outputs.{answer_of, stream_name, said};
 ghost use Rattle.server_program.specs.Places.{IsBuilt};
 ghost use Rattle.server_program.specs.Routing.{KeepsOpen};
-ghost use Rattle.server_program.specs.Holding.{listed, Routes, Holds};
+ghost use Rattle.server_program.specs.Holding.{listed, Routes, MakesEvent, Sends, Holds};
 
 use crate::place::Place;
 use crate::publish_text::publish_text;
@@ -80,25 +80,12 @@ fn route_all(router: &mut Router, outs: &[Out]) -> Result<(), NoMemory>
     Ok(())
 }
 
-/// Makes the event on the place, and routes what it sends: its outputs, and its answer where one is asked for. After `Unmade` nothing changed.
-pub fn hold(alloc: Global, place: &mut Place, router: &mut Router, event: &Event, now: Moment) -> Result<(), HoldFault>
-    requires built { IsBuilt place.old event.now }
-    requires proper { IsTrue (is_proper event.now) }
-    ensures holds { Holds result event.now now place.old place.new router.old router.new }
-    ensures incarnation { kept_incarnation place.new ≡ kept_incarnation place.old }
+/// Routes what an event sent, whose answer could not be told where it is `unsaid`.
+fn send(router: &mut Router, outs: &[Out], unsaid: bool) -> Result<(), HoldFault>
+    ensures sends { Sends result unsaid outs.now router.old router.new }
     ensures stay { KeepsOpen router.old router.new }
 {
-    let stream = match stream_name(place) {
-        Ok(stream) => stream,
-        Err(_) => return Err(HoldFault::Unmade),
-    };
-    let mut outs = List::new(alloc);
-    let reply = match place.step(event, now, &mut outs) {
-        Ok(reply) => reply,
-        Err(_) => return Err(HoldFault::Unmade),
-    };
-    let unsaid = add_answer(alloc, stream.as_slice(), &event.what, &reply, &mut outs);
-    match route_all(router, outs.as_slice()) {
+    match route_all(router, outs) {
         Ok(()) => {
             if unsaid {
                 Err(HoldFault::Unsaid)
@@ -108,4 +95,35 @@ pub fn hold(alloc: Global, place: &mut Place, router: &mut Router, event: &Event
         }
         Err(_) => Err(HoldFault::Unrouted),
     }
+}
+
+/// Makes the event on the place, and adds its outputs, and its answer where one is asked for. `true` where memory ran out for that answer
+/// alone. An `Err` changes nothing.
+fn make(alloc: Global, place: &mut Place, event: &Event, now: Moment, outs: &mut Outs) -> Result<bool, NoMemory>
+    requires built { IsBuilt place.old event.now }
+    ensures makes { MakesEvent result event.now now place.old place.new outs.old outs.new }
+    ensures incarnation { kept_incarnation place.new ≡ kept_incarnation place.old }
+{
+    let stream = stream_name(place)?;
+    match place.step(event, now, outs) {
+        Ok(reply) => Ok(add_answer(alloc, stream.as_slice(), &event.what, &reply, outs)),
+        Err(_) => Err(NoMemory),
+    }
+}
+
+/// Makes the event on the place, and routes what it sends: its outputs, and its answer where one is asked for. After `Unmade` nothing changed.
+pub fn hold(alloc: Global, place: &mut Place, router: &mut Router, event: &Event, now: Moment) -> Result<(), HoldFault>
+    requires built { IsBuilt place.old event.now }
+    requires proper { IsTrue (is_proper event.now) }
+    ensures holds { Holds result event.now now place.old place.new router.old router.new }
+    ensures incarnation { kept_incarnation place.new ≡ kept_incarnation place.old }
+    ensures stay { KeepsOpen router.old router.new }
+{
+    // that a moment is in its range is what the proof takes from this call
+    let _ = now.as_nanos();
+    let mut outs = List::new(alloc);
+    let Ok(unsaid) = make(alloc, place, event, now, &mut outs) else {
+        return Err(HoldFault::Unmade);
+    };
+    send(router, outs.as_slice(), unsaid)
 }

@@ -157,3 +157,6 @@ impl Router {
         Ok(collect(&mut self.queue, session, max)?)
     }
 }
+
+#[cfg(test)]
+mod tests;

@@ -63,7 +63,12 @@ fn ended_by(stop: Stop) -> Ended
 
 /// Adds the server's information.
 #[tactic(auto, unfolding(crate::specs::Talk::greeting))]
-fn write_greeting(alloc: Global, limits: &Limits, session: u64, into: &mut Vec<u8>) -> Result<(), NoMemory>
+fn write_greeting(
+    alloc: Global,
+    limits: &Limits,
+    session: u64,
+    into: &mut Vec<u8>,
+) -> Result<(), NoMemory>
     ensures { OnOk result (into.new.items ≡ into.old.items ++ greeting limits.now session) }
 {
     let information = Frame::Info {
@@ -114,7 +119,15 @@ fn converse<D: Desk, L: Link, C: Clock>(
         match link.take(&mut room[..most]) {
             Take::Got(count) => {
                 let now = clock.now();
-                match hear(alloc, desk, link, &mut decoder, &mut verbose, &room[..count], now) {
+                match hear(
+                    alloc,
+                    desk,
+                    link,
+                    &mut decoder,
+                    &mut verbose,
+                    &room[..count],
+                    now,
+                ) {
                     Ok(()) => {}
                     Err(stop) => return ended_by(stop),
                 }

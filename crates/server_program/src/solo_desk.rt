@@ -1,14 +1,18 @@
 //! The desk of one caller, who owns the router, the catalog and the one place.
 
-ghost use Rattle.std.specs.Prelude.{◌≡◌, ◌∷◌, [], IfOk, IsTrue, refl};
+ghost use Rattle.std.specs.Prelude.{◌≡◌, ◌≤◌, ◌^◌, ◌∷◌, [], IfOk, IsTrue, false, refl};
 ghost use Rattle.js_model.specs.Configs.{is_stream_subject};
-ghost use Rattle.server_program.specs.Calls.{is_reserved, published_event};
+ghost use Rattle.js_model.specs.Events.{kept_incarnation};
+ghost use Rattle.server_program.specs.Calls.{IsPlain, is_reserved, published_event};
+ghost use Rattle.server_program.specs.Holding.{Holds};
+ghost use Rattle.server_program.specs.Routing.{KeepsOpen};
+ghost use Rattle.server_program.specs.Following.{run_append};
 ghost use Rattle.server_program.specs.Making.{default_config};
 ghost use Rattle.server_program.specs.Solo.{SoloRun, frames_left, IsMade};
 
 use crate::catalog::Catalog;
 use crate::desk::{Desk, OpenFault};
-use crate::holding::hold;
+use crate::holding::{HoldFault, hold};
 use crate::place::Place;
 use crate::router::{RouteFault, Router};
 use js_base::{Blob, List, Moment, Name, NoMemory, Out};
@@ -137,6 +141,21 @@ impl SoloDesk {
     }
 }
 
+/// Stores a message in the stream of a place, and routes what that sends.
+fn store(alloc: Global, place: &mut Place, router: &mut Router, at: PlaceAt, message: &Out, now: Moment) -> Result<(), HoldFault>
+    requires plain { IsPlain message.now }
+    requires unreserved { is_reserved message.now.to ≡ false }
+    requires incarnation { at.incarnation ≤ 2 ^ 62 }
+    ensures holds { Holds result (published_event at.incarnation message.now) now place.old place.new router.old router.new }
+    ensures incarnation { kept_incarnation place.new ≡ kept_incarnation place.old }
+    ensures stay { KeepsOpen router.old router.new }
+{
+    match published_event(at, message) {
+        Ok(event) => hold(alloc, place, router, &event, now),
+        Err(_) => Err(HoldFault::Unmade),
+    }
+}
+
 impl Desk for SoloDesk {
     ghost session = { λ desk. desk.session };
 
@@ -153,15 +172,17 @@ impl Desk for SoloDesk {
                 Ok(session)
             }
             Err(RouteFault::Worn) => Err(OpenFault::Worn(LAST_SESSION)),
-            Err(_) => Err(OpenFault::NoMemory),
+            Err(RouteFault::NoMemory) => Err(OpenFault::NoMemory),
+            Err(RouteFault::NoSession(_)) => unreachable!(),
         }
     }
 
     fn options(&mut self, echo: bool, headers: bool, no_responders: bool) {
         let _ = no_responders;
-        if let Some(session) = self.session {
-            self.router.options(session, echo, headers);
-        }
+        let Some(session) = self.session else {
+            unreachable!()
+        };
+        self.router.options(session, echo, headers);
     }
 
     fn sub(&mut self, subject: &[u8], sid: &[u8]) -> Result<(), NoMemory> {
@@ -181,18 +202,28 @@ impl Desk for SoloDesk {
                 other: false,
             });
         }
-        let Ok(subscriptions) = self.router.publish(message, self.session) else {
-            return Err(NoMemory);
+        let Some(session) = self.session else {
+            unreachable!()
         };
-        match self.catalog.find(message.to.as_slice()) {
-            Some(at) => {
-                let event = published_event(at, message)?;
-                match hold(self.alloc, &mut self.place, &mut self.router, &event, now) {
-                    Ok(()) => Ok(Taken { subscriptions, other: true }),
-                    Err(_) => Err(NoMemory),
-                }
+        let subscriptions = match self.router.publish(message, Some(session)) {
+            Ok(subscriptions) => subscriptions,
+            Err(_) => return Err(NoMemory),
+        };
+        let at = match self.catalog.find(message.to.as_slice()) {
+            Some(at) => at,
+            None => {
+                return Ok(Taken {
+                    subscriptions,
+                    other: false,
+                });
             }
-            None => Ok(Taken { subscriptions, other: false }),
+        };
+        match store(self.alloc, &mut self.place, &mut self.router, at, message, now) {
+            Ok(()) => Ok(Taken {
+                subscriptions,
+                other: true,
+            }),
+            Err(_) => Err(NoMemory),
         }
     }
 
@@ -207,13 +238,14 @@ impl Desk for SoloDesk {
     }
 
     fn close(&mut self) {
-        if let Some(session) = self.session {
-            self.router.close(session);
-            self.session = None;
-        }
+        let Some(session) = self.session else {
+            unreachable!()
+        };
+        self.router.close(session);
+        self.session = None;
     }
 
     ghost made_nothing = { λ desk. refl };
 
-    ghost made_more = { λ a b c first more h k. run_append first more h k };
+    ghost made_more = { λ a b c first more h k. run_append a.world b.world c.world first more h k };
 }

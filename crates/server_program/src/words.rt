@@ -44,7 +44,10 @@ fn values_of(words: &[String]) -> Option<(&[u8], &[u8])>
 {
     match words {
         [command, stream, name, subject, pattern] => {
-            if command.as_str() == "pipe" && stream.as_str() == "--stream" && subject.as_str() == "--subject" {
+            if command.as_str() == "pipe"
+                && stream.as_str() == "--stream"
+                && subject.as_str() == "--subject"
+            {
                 Some((name.as_bytes(), pattern.as_bytes()))
             } else {
                 None

@@ -1,16 +1,7 @@
+use Rattle.std.proofs.Common.{◌≡◌, ◌∙◌}
+use Rattle.server_program.proofs.Holds.{holds}
 use Rattle.server_program.proofs.holding.hold.Goals as goal
 
-pub returns-in-Err-clause-holds : goal.returns-in-Err-clause-holds
-returns-in-Err-clause-holds c = ?
-
-pub returns-in-Err-clause-stay : goal.returns-in-Err-clause-stay
-returns-in-Err-clause-stay c = ?
-
-pub returns-in-Ok-clause-holds : goal.returns-in-Ok-clause-holds
-returns-in-Ok-clause-holds c = ?
-
-pub returns-in-Ok-then-unsaid-clause-holds : goal.returns-in-Ok-then-unsaid-clause-holds
-returns-in-Ok-then-unsaid-clause-holds c = ?
-
 pub returns-clause-holds : goal.returns-clause-holds
-returns-clause-holds c = ?
+returns-clause-holds c =
+    holds c.send.result c.in-Ok.unsaid _ _ _ _ _ _ _ (rw c.new-outs.ensures at c.in-Ok.ensures.makes) c.requires.proper (rw c.as_nanos.ensures.value at c.as_nanos.ensures.bound) (rw c.as_slice.ensures at c.send.ensures.sends)

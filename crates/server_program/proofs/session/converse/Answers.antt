@@ -1,6 +1,6 @@
 use Rattle.std.proofs.Common.{◌≡◌, ◌≤◌, ap, sym, ◌∙◌, arith, subst, refl, length, take, drop, ◌+◌, ◌++◌, ℕ, List, length-append, length-drop}
 use Rattle.std.proofs.lemmas.List.{take-append-le, length-take-le}
-use Rattle.server_program.proofs.Conversing.{conversing_heard, conversing_quiet, converses_failed, converses_cut}
+use Rattle.server_program.proofs.Conversing.{conversing_heard, conversing_quiet, converses_closed, converses_failed, converses_cut}
 use Rattle.server_program.proofs.session.converse.Goals as goal
 
 -- the front of the room was filled, and the room is as large as before
@@ -60,4 +60,11 @@ returns-in-Failed-clause-converses g c =
     let i = c.loop-taken.invariant in
     let e = c.in-Failed.ensures in
     converses_failed _ g.met.D.Desk.made_more g.met.D.Desk.made_nothing _ _ _ _ _ _ _ _ _ _ _ (g.C.Clock.to_come c.loop-taken.clock) _ _ i.conversing
+    (record { input = c.loop-taken-test.true; quiet = c.if-quiets-limits.true }) _ e.answered e.given
+
+pub returns-in-Ended-clause-converses : goal.returns-in-Ended-clause-converses
+returns-in-Ended-clause-converses g c =
+    let i = c.loop-taken.invariant in
+    let e = c.in-Ended.ensures in
+    converses_closed _ g.met.D.Desk.made_more g.met.D.Desk.made_nothing _ _ _ _ _ _ _ _ _ _ _ (g.C.Clock.to_come c.loop-taken.clock) _ _ i.conversing
     (record { input = c.loop-taken-test.true; quiet = c.if-quiets-limits.true }) _ e.answered e.given

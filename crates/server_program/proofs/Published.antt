@@ -1,0 +1,38 @@
+-- A message that a client may publish is a proper event for its stream.
+use Rattle.std.proofs.Common.{◌≡◌, ℕ, zero, suc, if◌then◌else◌, arith, ◌+◌, ◌≤◌, ◌^◌, Bool, true, false, ◌&&◌, ◌||◌, List, [], length, Option, None, Some, refl, sym, ap, subst, IsTrue}
+use Rattle.std.specs.Prelude.{IfSome, nat_le}
+use Rattle.std.proofs.lemmas.Bool.{le-leb}
+use Rattle.js_base.specs.Bytes.{Bytes}
+use Rattle.js_base.specs.Subjects.{is_publish_text, is_subject_text}
+use Rattle.js_base.specs.declared.out.Out.{Out}
+use Rattle.js_model.specs.Proper.{is_proper, if_given}
+use Rattle.server_program.proofs.Solos.{impossible}
+use Rattle.server_program.specs.Calls.{IsPlain, is_reserved, published_event}
+
+false_is_true : {X : Type 0} → false ≡ true → X
+false_is_true e = impossible (ap (λ (b : Bool). if b then suc zero else zero) e)
+
+both : (a b : Bool) → a ≡ true → b ≡ true → (a && b) ≡ true
+both true b h k = k
+both false b h k = false_is_true h
+
+-- a plain subject is none of the server's own
+plain_of : (a b other p : Bool) → IsTrue (a || (b && p)) → (b || other) ≡ false → IsTrue a
+plain_of true b other p h e = refl
+plain_of false true other p h e = false_is_true (sym e)
+plain_of false false other p h e = false_is_true h
+
+given : (reply : Option Bytes) → IfSome reply (λ text. IsTrue (is_subject_text text)) → IsTrue (if_given is_subject_text reply)
+given None h = refl
+given (Some text) h = h
+
+small : (headers payload : Bytes) → headers ≡ [] → length payload ≤ 1048576 → length headers + length payload ≤ 1048576
+small headers payload e h =
+    let none : length headers ≡ 0 = ap length e in
+    omega (arith, none, h)
+
+pub proper_publish : (incarnation : ℕ) (message : Out) → incarnation ≤ 2 ^ 62 → IsPlain message → is_reserved message.to ≡ false → IsTrue (is_proper (published_event incarnation message))
+proper_publish incarnation message h plain unreserved =
+    let subject : IsTrue (is_subject_text message.subject) = subst (λ (text : Bytes). IsTrue (is_subject_text text)) (sym plain.same_subject) (plain_of _ _ _ _ plain.to_text unreserved) in
+    let sized = le-leb _ _ (small message.headers message.payload plain.no_headers plain.small) in
+    both _ _ (both _ _ (le-leb _ _ h) (given message.reply plain.reply_text)) (both _ _ (both _ _ (both _ _ subject sized) refl) refl)

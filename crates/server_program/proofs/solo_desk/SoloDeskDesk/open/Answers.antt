@@ -1,0 +1,18 @@
+use Rattle.std.proofs.Common.{◌≡◌, refl, false}
+use Rattle.server_program.proofs.Solos.{makes_one, open_is, opens_or_starves}
+use Rattle.server_program.proofs.solo_desk.SoloDeskDesk.open.Goals as goal
+
+pub returns-in-Ok-clause-made : goal.returns-in-Ok-clause-made
+returns-in-Ok-clause-made c =
+    makes_one _ _ _ _ _ _ _ _ _ _ _ _ _ _ c.self.view_is (rw c.in-Ok.is at c.open.ensures.routes) (refl, refl)
+
+pub returns-in-Err-Worn-clause-made : goal.returns-in-Err-Worn-clause-made
+returns-in-Err-Worn-clause-made c =
+    makes_one _ _ _ _ _ _ _ _ _ _ _ _ _ _ c.self.view_is (rw (c.in-Err-Worn.is, c.in-Err-Worn.field-0-is) at c.open.ensures.routes) refl
+
+pub returns-in-Err-NoMemory-clause-made : goal.returns-in-Err-NoMemory-clause-made
+returns-in-Err-NoMemory-clause-made c =
+    makes_one _ _ _ _ _ _ _ _ _ _ _ _ _ _ c.self.view_is (rw (c.in-Err-NoMemory.is, c.in-Err-NoMemory.field-0-is) at c.open.ensures.routes) refl
+
+pub unreachable-requires : goal.unreachable-requires
+unreachable-requires c = opens_or_starves _ _ _ (rw (c.in-Err-NoSession.is, c.in-Err-NoSession.field-0-is) at c.open.ensures.routes)
