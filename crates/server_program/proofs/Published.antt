@@ -1,9 +1,11 @@
 -- A message that a client may publish is a proper event for its stream.
 use Rattle.std.proofs.Common.{◌≡◌, ℕ, zero, suc, if◌then◌else◌, arith, ◌+◌, ◌≤◌, ◌^◌, Bool, true, false, ◌&&◌, ◌||◌, List, [], length, Option, None, Some, refl, sym, ap, subst, IsTrue}
-use Rattle.std.specs.Prelude.{IfSome, nat_le}
+use Rattle.std.specs.Prelude.{IfSome, nat_le, nat_eq, codes}
+use Rattle.std.specs.List.{starts_with}
 use Rattle.std.proofs.lemmas.Bool.{le-leb}
-use Rattle.js_base.specs.Bytes.{Bytes}
-use Rattle.js_base.specs.Subjects.{is_publish_text, is_subject_text}
+use Rattle.js_base.specs.Bytes.{Bytes, is_empty}
+use Rattle.js_base.specs.Headers.{is_block}
+use Rattle.js_base.specs.Subjects.{is_publish_text, is_subject_text, is_pattern_text}
 use Rattle.js_base.specs.declared.out.Out.{Out}
 use Rattle.js_model.specs.Proper.{is_proper, if_given}
 use Rattle.server_program.proofs.Solos.{impossible}
@@ -33,6 +35,7 @@ small headers payload e h =
 
 pub proper_publish : (incarnation : ℕ) (message : Out) → incarnation ≤ 2 ^ 62 → IsPlain message → is_reserved message.to ≡ false → IsTrue (is_proper (published_event incarnation message))
 proper_publish incarnation message h plain unreserved =
-    let subject : IsTrue (is_subject_text message.subject) = subst (λ (text : Bytes). IsTrue (is_subject_text text)) (sym plain.same_subject) (plain_of _ _ _ _ plain.to_text unreserved) in
+    let subject : IsTrue (is_subject_text message.subject) = subst (λ (text : Bytes). IsTrue (is_subject_text text)) (sym plain.same_subject) (plain_of (is_subject_text message.to) (starts_with nat_eq message.to (codes "$JS.API.")) (starts_with nat_eq message.to (codes "$JS.ACK.")) (is_pattern_text message.to) plain.to_text unreserved) in
     let sized = le-leb _ _ (small message.headers message.payload plain.no_headers plain.small) in
-    both _ _ (both _ _ (le-leb _ _ h) (given message.reply plain.reply_text)) (both _ _ (both _ _ (both _ _ subject sized) refl) refl)
+    let block : (is_empty message.headers || is_block message.headers) ≡ true = ap (λ (bytes : Bytes). is_empty bytes || is_block bytes) plain.no_headers in
+    both _ _ (both _ _ (le-leb _ _ h) (given message.reply plain.reply_text)) (both _ _ (both _ _ (both _ _ (both _ _ subject block) sized) refl) refl)

@@ -12,7 +12,12 @@ returns-in-Err-clause-made c =
     unrouted_made c.self.inside.router c.self.inside.catalog c.self.inside.place _ _ _ _ _ _ e _ _ _ plain (rw s at h)
 
 pub returns-in-None-clause-made : goal.returns-in-None-clause-made
-returns-in-None-clause-made c = ?
+returns-in-None-clause-made c =
+    let e = c.self.view_is in
+    let s = session_eq _ _ _ _ _ _ _ e c.in-Some.is in
+    let plain = rw c.as_slice.ensures at (sym c.is_reserved.ensures ∙ c.if-is_reserved.false) in
+    let h = rw (c.in-Ok.is, s) at c.publish.ensures.routes in
+    unfound_made c.self.inside.router c.self.inside.catalog c.self.inside.place _ _ _ _ _ _ e _ _ _ _ plain h (rw (c.in-None.is, c.as_slice-2.ensures) at c.find.ensures.found)
 
 pub store-requires-clause-incarnation : goal.store-requires-clause-incarnation
 store-requires-clause-incarnation c =
@@ -27,7 +32,7 @@ returns-clause-made c =
     let plain = rw c.as_slice.ensures at (sym c.is_reserved.ensures ∙ c.if-is_reserved.false) in
     let h = rw (c.in-Ok.is, s) at c.publish.ensures.routes in
     let i = c.self.invariant in
-    let k = rw c.in-Some-find.is at c.find.ensures.found in
+    let k = rw (c.in-Some-find.is, c.as_slice-2.ensures) at c.find.ensures.found in
     let f = found_at _ i.entry _ _ i.catalog_is k in
     elim c.match-store.branch [
       in-Ok-store w ↦ rw w.result-is (stored_made c.self.inside.router c.self.inside.catalog c.self.inside.place _ _ _ _ _ _ e _ _ _ _ plain h c.in-Some-find.at _ _ f.0 k (rw w.in-Ok-store.is at c.store.ensures.holds))
