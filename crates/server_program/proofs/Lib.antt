@@ -10,6 +10,7 @@ pub mod Filtered
 pub mod GivenBytes
 pub mod Heard
 pub mod Holds
+pub mod Made
 pub mod Places
 pub mod Plain
 pub mod Published

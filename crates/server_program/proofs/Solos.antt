@@ -25,10 +25,10 @@ use Rattle.server_program.specs.Calls as answers
 use Rattle.server_program.specs.Holding.{world_of, Leads, Holds}
 use Rattle.server_program.specs.Solo.{Solo, SoloRun}
 
-some_same : (x y : PlaceAt) → Some x ≡ Some y → x ≡ y
+pub some_same : (x y : PlaceAt) → Some x ≡ Some y → x ≡ y
 some_same x y e = cc
 
-at_same : (x y : Option PlaceAt) → catalog.At x ≡ catalog.At y → x ≡ y
+pub at_same : (x y : Option PlaceAt) → catalog.At x ≡ catalog.At y → x ≡ y
 at_same x y e = cc
 
 -- ---- one call of the router

@@ -12,6 +12,7 @@ use Rattle.js_model.specs.Routes.{empty_router}
 use Rattle.js_model.specs.Catalog as catalog
 use Rattle.server_program.specs.Desks.{DeskEntry, Looked, World}
 use Rattle.server_program.specs.Calls.{IsHold, AreRouted}
+use Rattle.server_program.specs.Catalogs.{new_place}
 
 -- a stream of this name and this one subject, with every default of JetStream
 abbrev pub default_config : Bytes → Bytes → StreamConfig
@@ -45,6 +46,15 @@ pub record IsMaking (name subject : Bytes) (now : ℕ) (entries : List DeskEntry
 abbrev pub opening : World
 opening = record {
   router = empty_router;
-  catalog = record { incarnation = 1; used = None } ∷ [];
+  catalog = new_place ∷ [];
   places = Vacant 0 ∷ [];
 }
+
+-- the one place was taken for the stream
+pub record IsAdded (name subject : Bytes) (at : PlaceAt) (new : catalog.Catalog) : Type 0 where
+  pub call : catalog.IsCatalogCall (new_place ∷ []) (catalog.Add name (subject ∷ [])) (catalog.At (Some at)) new
+  pub place : at.place ≡ 0
+  pub incarnation : at.incarnation ≡ 1
+  pub entry : catalog.Place
+  pub catalog_is : new ≡ entry ∷ []
+  pub kept : entry.incarnation ≡ 1

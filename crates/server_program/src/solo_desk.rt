@@ -1,13 +1,15 @@
 //! The desk of one caller, who owns the router, the catalog and the one place.
 
-ghost use Rattle.std.specs.Prelude.{◌≡◌, ◌≤◌, ◌^◌, ◌∷◌, [], IfOk, IsTrue, false, refl};
+ghost use Rattle.std.specs.Prelude.{◌≡◌, ◌≤◌, ◌^◌, ◌∷◌, [], IfOk, OnOk, IsTrue, false, refl};
 ghost use Rattle.js_model.specs.Configs.{is_stream_subject};
 ghost use Rattle.js_model.specs.Events.{kept_incarnation};
-ghost use Rattle.server_program.specs.Calls.{IsPlain, is_reserved, published_event};
-ghost use Rattle.server_program.specs.Holding.{Holds};
+ghost use Rattle.server_program.specs.Calls.{IsPlain, IsHold, AreRouted, is_reserved, published_event};
+ghost use Rattle.server_program.specs.Holding.{Holds, Leads};
 ghost use Rattle.server_program.specs.Routing.{KeepsOpen};
 ghost use Rattle.server_program.specs.Following.{run_append};
-ghost use Rattle.server_program.specs.Making.{default_config};
+ghost use Rattle.server_program.specs.Making.{default_config, making, IsAdded};
+ghost use Rattle.server_program.specs.Catalogs.{new_place};
+ghost use Rattle.js_model.specs.declared.stream.State.TheVariants.{Vacant};
 ghost use Rattle.server_program.specs.Solo.{SoloRun, frames_left, IsMade};
 
 use crate::catalog::Catalog;
@@ -118,26 +120,56 @@ impl SoloDesk {
         let mut catalog = Catalog::new(alloc, PLACES)?;
         let mut place = Place::new(alloc);
         let _ = catalog.by_name(name.as_slice());
-        let Ok(at) = catalog.add(name.as_blob().clone()?, one_subject(alloc, &subject)?) else {
-            return Err(NoMemory);
-        };
-        let event = Event {
-            incarnation: at.incarnation,
-            what: What::Make {
-                reply: None,
-                config: default_config(alloc, &name, &subject)?,
-            },
-        };
-        match hold(alloc, &mut place, &mut router, &event, now) {
-            Ok(()) => Ok(SoloDesk {
-                alloc,
-                router,
-                catalog,
-                place,
-                session: None,
-            }),
-            Err(_) => Err(NoMemory),
-        }
+        let at = add(alloc, &mut catalog, &name, &subject)?;
+        make(alloc, &mut place, &mut router, at, &name, &subject, now)?;
+        Ok(SoloDesk {
+            alloc,
+            router,
+            catalog,
+            place,
+            session: None,
+        })
+    }
+}
+
+/// Takes a place for a stream of this name and this one subject.
+fn add(alloc: Global, catalog: &mut Catalog, name: &Name, subject: &Blob) -> Result<PlaceAt, NoMemory>
+    requires new { catalog.old ≡ new_place ∷ [] }
+    ensures added { IfOk result (λ at. IsAdded name.now subject.now at catalog.new) }
+{
+    match catalog.add(name.as_blob().clone()?, one_subject(alloc, subject)?) {
+        Ok(at) => Ok(at),
+        Err(_) => Err(NoMemory),
+    }
+}
+
+/// Makes a stream of this name and this one subject on a place that never had one.
+fn make(
+    alloc: Global,
+    place: &mut Place,
+    router: &mut Router,
+    at: PlaceAt,
+    name: &Name,
+    subject: &Blob,
+    now: Moment,
+) -> Result<(), NoMemory>
+    requires vacant { place.old ≡ Vacant 0 }
+    requires first { at.incarnation ≡ 1 }
+    requires subject { IsTrue (is_stream_subject subject.now) }
+    ensures makes { OnOk result (Leads (IsHold 0 (making at.incarnation name.now subject.now) now false AreRouted) place.old place.new router.old router.new) }
+    ensures incarnation { kept_incarnation place.new ≡ 1 }
+{
+    let event = Event {
+        incarnation: at.incarnation,
+        what: What::Make {
+            reply: None,
+            config: default_config(alloc, name, subject)?,
+        },
+    };
+    let _ = name.as_slice();
+    match hold(alloc, place, router, &event, now) {
+        Ok(()) => Ok(()),
+        Err(_) => Err(NoMemory),
     }
 }
 
