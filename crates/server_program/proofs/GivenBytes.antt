@@ -1,0 +1,17 @@
+-- Laws of what a link was given.
+use Rattle.std.proofs.Common.{◌≡◌, ◌+◌, ℕ, List, [], ◌++◌, Option, ap, sym, ◌∙◌, take, drop}
+use Rattle.std.proofs.Math.Seq.{take-add}
+use Rattle.std.proofs.lemmas.List.{append-nil, take-append-drop}
+use Rattle.js_base.specs.Bytes.{Bytes}
+use Rattle.link_edge.specs.Told.{grown}
+use Rattle.link_edge.proofs.Told.{grown-nil, grown_on}
+use Rattle.server_program.specs.Talk.{IsFrontOf}
+use Rattle.server_program.specs.Giving.{GivesFront}
+
+-- a part of the bytes, and a part more
+pub given_more : (a b c : Option Bytes) (bytes : Bytes) (at n : ℕ) → b ≡ grown a (take at bytes) → c ≡ grown b (take n (drop at bytes)) → c ≡ grown a (take (at + n) bytes)
+given_more a b c bytes at n e f = grown_on a b c (take at bytes) (take n (drop at bytes)) e f ∙ ap (grown a) (sym (take-add at n bytes))
+
+-- the bytes so far, and nothing more
+pub front_given : (a b c : Option Bytes) (bytes : Bytes) (at : ℕ) → b ≡ grown a (take at bytes) → c ≡ grown b [] → GivesFront a c bytes
+front_given a b c bytes at e f = (take at bytes, (drop at bytes, take-append-drop at bytes), f ∙ grown-nil b ∙ e)

@@ -1,0 +1,15 @@
+pub mod Words
+pub mod Desks
+pub mod Outputs
+pub mod Calls
+pub mod Answers
+pub mod Talk
+pub mod Giving
+pub mod Carrying
+pub mod Hearing
+pub mod Session
+pub mod Plain
+pub mod Places
+pub mod Held
+pub mod Routing
+pub mod Catalogs
