@@ -6,7 +6,6 @@ pub mod Catalogs
 pub mod Collecting
 pub mod Conversing
 pub mod Ending
-pub mod Filtered
 pub mod GivenBytes
 pub mod Heard
 pub mod Holds
@@ -17,6 +16,5 @@ pub mod Published
 pub mod Routing
 pub mod Sent
 pub mod Served
-pub mod Shown
 pub mod Solos
 pub mod Worded
