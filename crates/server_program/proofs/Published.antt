@@ -14,7 +14,7 @@ use Rattle.server_program.specs.Calls.{IsPlain, is_reserved, published_event}
 false_is_true : {X : Type 0} → false ≡ true → X
 false_is_true e = impossible (ap (λ (b : Bool). if b then suc zero else zero) e)
 
-both : (a b : Bool) → a ≡ true → b ≡ true → (a && b) ≡ true
+pub both : (a b : Bool) → a ≡ true → b ≡ true → (a && b) ≡ true
 both true b h k = k
 both false b h k = false_is_true h
 

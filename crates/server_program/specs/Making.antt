@@ -15,7 +15,7 @@ use Rattle.server_program.specs.Calls.{IsHold, AreRouted}
 use Rattle.server_program.specs.Catalogs.{new_place}
 
 -- a stream of this name and this one subject, with every default of JetStream
-abbrev pub default_config : Bytes → Bytes → StreamConfig
+unfoldable pub default_config : Bytes → Bytes → StreamConfig
 default_config name subject = record {
   description = [];
   discard = Old;
@@ -32,7 +32,7 @@ default_config name subject = record {
 }
 
 -- making it, without an answer
-abbrev pub making : ℕ → Bytes → Bytes → Event
+unfoldable pub making : ℕ → Bytes → Bytes → Event
 making incarnation name subject = record { incarnation = incarnation; what = Make None (default_config name subject) }
 
 -- the name is not there, a place is taken for it, and the stream is made there

@@ -59,6 +59,7 @@ fn is_reserved(subject: &[u8]) -> bool
 }
 
 /// The configuration of a stream of this name and this one subject, with every default of JetStream.
+#[tactic(auto, unfolding(crate::specs::Making::default_config))]
 fn default_config(alloc: Global, name: &Name, subject: &Blob) -> Result<StreamConfig, NoMemory>
     ensures config { IfOk result (λ config. config ≡ default_config name.now subject.now) }
 {
@@ -121,7 +122,10 @@ impl SoloDesk {
         let mut place = Place::new(alloc);
         let _ = catalog.by_name(name.as_slice());
         let at = add(alloc, &mut catalog, &name, &subject)?;
-        make(alloc, &mut place, &mut router, at, &name, &subject, now)?;
+        match make(alloc, &mut place, &mut router, at, &name, &subject, now) {
+            Ok(()) => {}
+            Err(_) => return Err(NoMemory),
+        }
         Ok(SoloDesk {
             alloc,
             router,
@@ -143,6 +147,20 @@ fn add(alloc: Global, catalog: &mut Catalog, name: &Name, subject: &Blob) -> Res
     }
 }
 
+/// The event that makes a stream of this name and this one subject.
+#[tactic(auto, unfolding(crate::specs::Making::making))]
+fn making(alloc: Global, at: PlaceAt, name: &Name, subject: &Blob) -> Result<Event, NoMemory>
+    ensures event { IfOk result (λ event. event ≡ making at.incarnation name.now subject.now) }
+{
+    Ok(Event {
+        incarnation: at.incarnation,
+        what: What::Make {
+            reply: None,
+            config: default_config(alloc, name, subject)?,
+        },
+    })
+}
+
 /// Makes a stream of this name and this one subject on a place that never had one.
 fn make(
     alloc: Global,
@@ -152,24 +170,18 @@ fn make(
     name: &Name,
     subject: &Blob,
     now: Moment,
-) -> Result<(), NoMemory>
+) -> Result<(), HoldFault>
     requires vacant { place.old ≡ Vacant 0 }
     requires first { at.incarnation ≡ 1 }
     requires subject { IsTrue (is_stream_subject subject.now) }
-    ensures makes { OnOk result (Leads (IsHold 0 (making at.incarnation name.now subject.now) now false AreRouted) place.old place.new router.old router.new) }
-    ensures incarnation { kept_incarnation place.new ≡ 1 }
+    ensures holds { Holds result (making at.incarnation name.now subject.now) now place.old place.new router.old router.new }
+    ensures incarnation { kept_incarnation place.new ≡ kept_incarnation place.old }
 {
-    let event = Event {
-        incarnation: at.incarnation,
-        what: What::Make {
-            reply: None,
-            config: default_config(alloc, name, subject)?,
-        },
-    };
+    // that the bytes are those of a name is what the proof takes from this call
     let _ = name.as_slice();
-    match hold(alloc, place, router, &event, now) {
-        Ok(()) => Ok(()),
-        Err(_) => Err(NoMemory),
+    match making(alloc, at, name, subject) {
+        Ok(event) => hold(alloc, place, router, &event, now),
+        Err(_) => Err(HoldFault::Unmade),
     }
 }
 

@@ -1,5 +1,8 @@
-use Rattle.server_program.proofs.Made.{added}
+use Rattle.server_program.proofs.Made.{proper_making, built_making}
 use Rattle.server_program.proofs.solo_desk.make.Goals as goal
 
-pub nothing : goal.nothing
-nothing c = ?
+pub hold-requires-clause-built : goal.hold-requires-clause-built
+hold-requires-clause-built c = rw c.in-Ok.ensures.event (built_making _ _ _ _ c.requires.vacant)
+
+pub hold-requires-clause-proper : goal.hold-requires-clause-proper
+hold-requires-clause-proper c = rw c.in-Ok.ensures.event (proper_making _ _ _ c.requires.first c.as_slice.ensures.name c.requires.subject)
