@@ -87,6 +87,9 @@ added name subject at new (inr e) = impossible (ap starved_number e.0)
 
 -- ---- the desk
 
+pub one_is_small : (n : ℕ) → n ≡ 1 → n ≤ 2 ^ 62
+one_is_small n e = omega (arith, e)
+
 pub made : (name subject : Bytes) (now : ℕ) (at : PlaceAt) (c : catalog.Catalog) (p : State) (r : routes.Router) → IsAdded name subject at c
     → Leads (IsHold 0 (making at.incarnation name subject) now false AreRouted) (Vacant 0) p routes.empty_router r → IsMade name subject now (solo_of r c p 0 false)
 unfolding catalog.catalog_call
