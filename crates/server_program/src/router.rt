@@ -6,7 +6,6 @@ ghost use Rattle.server_program.specs.Routing.{open_told, sub_told, publish_told
 
 mod delivery;
 mod fault;
-mod length;
 mod queue;
 mod reach;
 mod session;
@@ -157,6 +156,3 @@ impl Router {
         Ok(collect(&mut self.queue, session, max)?)
     }
 }
-
-#[cfg(test)]
-mod tests;

@@ -4,8 +4,8 @@ ghost use Rattle.std.specs.Prelude.{◌≡◌, ◌≤◌, length, take, nat_lt};
 ghost use Rattle.js_model.specs.Routes.{collected};
 ghost use Rattle.server_program.specs.Routing.Queue.{frames_of};
 
-use crate::router::length::frame_len;
 use crate::router::queue::Waiting;
+use nats_frames::frame_len;
 use std::collections::VecDeque;
 
 /// What a collect takes of the queue.
