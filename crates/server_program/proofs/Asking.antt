@@ -5,7 +5,7 @@ use Rattle.std.proofs.lemmas.List.{append-nil}
 use Rattle.nats_frames.specs.declared.op.Op.{Op}
 use Rattle.server_program.specs.Desks.{DeskEntry}
 use Rattle.server_program.specs.Calls.{DeskCall, DeskAnswer, NoMemory, Makes}
-use Rattle.server_program.specs.Talk.{Called, AreAsked, IsAnswered, IsBegun, Unanswered, IsMade, call_of, entries_of_calls}
+use Rattle.server_program.specs.Talk.{Called, AreAsked, IsAnswered, IsBegun, Unanswered, call_of}
 use Rattle.server_program.specs.Carrying.{Led, Asks, IsSpelled}
 use Rattle.server_program.specs.Calls.{IsPlain}
 use Rattle.js_base.specs.Subjects.{is_pattern_text}

@@ -6,7 +6,7 @@ use Rattle.js_base.specs.Bytes.{Bytes}
 use Rattle.js_base.specs.declared.memory.NoMemory.{NoMemory}
 use Rattle.nats_frames.specs.declared.op.Op.{Op}
 use Rattle.server_program.specs.Desks.{DeskEntry}
-use Rattle.server_program.specs.Talk.{Called, Spoken, AreAsked, AreStopped, IsBegun, Stopped, call_of, collected, verbose_after, answer_bytes, direct_answer, spoken_bytes, entries_of_calls}
+use Rattle.server_program.specs.Talk.{Called, Spoken, AreAsked, IsBegun, Stopped, call_of, collected, verbose_after, answer_bytes, direct_answer, entries_of_calls}
 use Rattle.server_program.specs.Carrying.{Led, Collects, Carries}
 
 pub entries-append : (calls others : List Called) → entries_of_calls (calls ++ others) ≡ entries_of_calls calls ++ entries_of_calls others

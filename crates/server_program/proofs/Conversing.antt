@@ -1,5 +1,5 @@
 -- Laws of a session between its turns.
-use Rattle.std.proofs.Common.{◌≡◌, ℕ, ◌+◌, ◌<◌, ◌≤◌, Bool, true, List, [], ◌∷◌, ◌++◌, length, Option, refl, sym, ap, subst, ◌∙◌, append_assoc, inl, inr}
+use Rattle.std.proofs.Common.{◌≡◌, ℕ, ◌+◌, Bool, true, List, [], ◌∷◌, ◌++◌, length, Option, refl, sym, ap, subst, ◌∙◌, append_assoc, inl, inr}
 use Rattle.std.specs.Prelude.{map}
 use Rattle.std.specs.List.{flat_map}
 use Rattle.std.proofs.lemmas.List.{append-nil}
@@ -14,7 +14,7 @@ use Rattle.link_edge.proofs.Moments.{reads_push}
 use Rattle.nats_frames.specs.declared.op.Op.{Op}
 use Rattle.nats_frames.specs.Grammar.{Fronts}
 use Rattle.server_program.specs.Desks.{DeskEntry}
-use Rattle.server_program.specs.Talk.{Turn, Called, AreSpoken, AreBegun, ops_of, Last, Nothing, Told, Within, Spoken, Stage, start, Goes, Hears, IsUnspent, IsSpent, AreTurns, IsEnd, IsWithin, IsWritten, IsFrontOf, heard_bytes, spoken_bytes, verbose_after, turn_spoken, last_spoken, verbose_at_end, entries_of_all, entries_of_calls, entries_of_turn, entries_of_last, last_answers, last_moments}
+use Rattle.server_program.specs.Talk.{Turn, Called, AreSpoken, AreBegun, ops_of, Nothing, Told, Within, Spoken, Stage, start, Goes, IsUnspent, IsSpent, AreTurns, IsEnd, IsWithin, IsWritten, IsFrontOf, heard_bytes, spoken_bytes, verbose_after, turn_spoken, verbose_at_end, entries_of_all, entries_of_calls, entries_of_turn}
 use Rattle.server_program.specs.Hearing.{IsAnswered, IsCut}
 use Rattle.server_program.specs.Session.{Converses, end_of}
 use Rattle.server_program.specs.declared.giving.Stop.{Stop}

@@ -1,11 +1,10 @@
 -- Laws of what a link was given.
-use Rattle.std.proofs.Common.{◌≡◌, ◌+◌, ℕ, List, [], ◌++◌, Option, ap, sym, ◌∙◌, take, drop}
+use Rattle.std.proofs.Common.{◌≡◌, ◌+◌, ℕ, [], Option, ap, sym, ◌∙◌, take, drop}
 use Rattle.std.proofs.Math.Seq.{take-add}
-use Rattle.std.proofs.lemmas.List.{append-nil, take-append-drop}
+use Rattle.std.proofs.lemmas.List.{take-append-drop}
 use Rattle.js_base.specs.Bytes.{Bytes}
 use Rattle.link_edge.specs.Told.{grown}
 use Rattle.link_edge.proofs.Told.{grown-nil, grown_on}
-use Rattle.server_program.specs.Talk.{IsFrontOf}
 use Rattle.server_program.specs.Giving.{GivesFront}
 
 -- a part of the bytes, and a part more

@@ -1,6 +1,5 @@
 -- Laws of the operations that a session hears.
-use Rattle.std.proofs.Common.{◌≡◌, ℕ, ◌+◌, ◌<◌, Bool, List, [], ◌∷◌, ◌++◌, length, Option, Result, Ok, Err, refl, sym, ap, subst, ◌∙◌, append_assoc, length-append, arith}
-use Rattle.std.specs.Prelude.{map}
+use Rattle.std.proofs.Common.{◌≡◌, ℕ, ◌<◌, Bool, List, [], ◌∷◌, ◌++◌, length, Option, Result, Ok, Err, refl, sym, ap, subst, ◌∙◌, append_assoc, arith}
 use Rattle.std.proofs.lemmas.List.{append-nil}
 use Rattle.std.proofs.lemmas.Grind.{flat_map-append}
 use Rattle.js_base.specs.Bytes.{Bytes}
@@ -11,7 +10,7 @@ use Rattle.nats_frames.specs.declared.op.Op.TheVariants.{Connect, Ping, Sub, Pub
 use Rattle.nats_frames.specs.Grammar.{Spells, Fronts}
 use Rattle.nats_frames.specs.Reading.{op_at, Partial, Broken}
 use Rattle.server_program.specs.Desks.{DeskEntry}
-use Rattle.server_program.specs.Talk.{Called, Spoken, IsSpoken, AreSpoken, AreBegun, IsBegun, IsFrontOf, ops_of, heard_bytes, spoken_bytes, verbose_after, verbose_at_end, entries_of_all, entries_of_spoken, entries_of_calls}
+use Rattle.server_program.specs.Talk.{Spoken, IsSpoken, AreSpoken, IsBegun, ops_of, heard_bytes, spoken_bytes, verbose_after, verbose_at_end, entries_of_all, entries_of_spoken, entries_of_calls}
 use Rattle.server_program.specs.Giving.{Gives, GivesFront}
 use Rattle.server_program.specs.Carrying.{IsCarried, Led}
 use Rattle.server_program.specs.Hearing.{IsAnswered, IsCut, Stops, Refuses, Answers}

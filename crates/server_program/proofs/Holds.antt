@@ -1,6 +1,5 @@
 -- An event that was made, and the routing of what it sends, are one hold.
-use Rattle.std.proofs.Common.{◌≡◌, ℕ, ◌+◌, ◌<◌, ◌^◌, Bool, true, false, List, [], ◌∷◌, ◌++◌, Result, Ok, Err, refl, sym, ap, subst, ◌∙◌, append_assoc, IsTrue, length}
-use Rattle.std.specs.Prelude.{slice_get, slice_set, Some}
+use Rattle.std.proofs.Common.{◌≡◌, ℕ, ◌<◌, ◌^◌, Bool, true, List, [], ◌∷◌, ◌++◌, Result, Ok, Err, refl, ap, subst, ◌∙◌, append_assoc, IsTrue}
 use Rattle.js_base.specs.Bytes.{Bytes}
 use Rattle.js_base.specs.declared.out.Out.{Out}
 use Rattle.js_model.specs.declared.reply.Reply.{Reply}
@@ -11,14 +10,13 @@ use Rattle.js_model.specs.declared.entry.PlaceEntry.TheVariants.{Step}
 use Rattle.js_model.specs.Proper.{is_proper}
 use Rattle.js_model.specs.Runs.{RunFrom}
 use Rattle.js_model.specs.Routes.{Router}
-use Rattle.js_model.specs.Catalog.{Catalog}
-use Rattle.server_program.specs.Desks.{DeskEntry, World, DeskRun, Held}
+use Rattle.server_program.specs.Desks.{DeskEntry, Held}
 use Rattle.server_program.specs.Calls.{AreRouted, AreCut, IsHold}
 use Rattle.server_program.specs.Places.{Steps}
 use Rattle.server_program.specs.Outputs.{answer_of, stream_name, said}
 use Rattle.server_program.specs.declared.holding.HoldFault.{HoldFault}
 use Rattle.server_program.specs.declared.holding.HoldFault.TheVariants as faults
-use Rattle.server_program.specs.Holding.{world_of, Leads, EventMade, Sends, Holds}
+use Rattle.server_program.specs.Holding.{Leads, EventMade, Sends, Holds}
 
 -- the event was made, and its answer was added
 pub made_event : (unsaid : Bool) (event : Event) (now : ℕ) (old new : State) (reply : Reply) (outs mid all : List Out) (stream : Bytes) → Steps old event now reply outs mid new
@@ -44,10 +42,11 @@ module _ (unsaid : Bool) (event : Event) (now : ℕ) (old new : State) (outs : L
   -- the step, and then the routing
   pub held : (routing : List Out → List DeskEntry → Type 0) (r_old r_new : Router) → IsTrue (is_proper event) → now < 2 ^ 62 → Leads (routing outs) new new r_old r_new
       → Leads (IsHold 0 event now unsaid routing) old new r_old r_new
-  held routing r_old r_new proper within h =
-      (Held 0 old (entry ∷ []) ∷ h.0,
-       record { seat = 0; before = old; reply = m.reply; outs = m.added; routed = h.0; entries_are = refl; routing_is = subst (λ (os : List Out). routing os h.0) m.outs h.1 },
-       λ catalog. (new, refl, made proper within, h.2 catalog))
+  held routing r_old r_new proper within h = (
+    Held 0 old (entry ∷ []) ∷ h.0,
+    record { seat = 0; before = old; reply = m.reply; outs = m.added; routed = h.0; entries_are = refl; routing_is = subst (λ (os : List Out). routing os h.0) m.outs h.1 },
+    λ catalog. (new, refl, made proper within, h.2 catalog),
+  )
 
 pub holds : (result : Result (Unit {0}) HoldFault) (unsaid : Bool) (event : Event) (now : ℕ) (old new : State) (outs : List Out) (r_old r_new : Router)
     → EventMade unsaid event now old new [] outs → IsTrue (is_proper event) → now < 2 ^ 62 → Sends result unsaid outs r_old r_new → Holds result event now old new r_old r_new

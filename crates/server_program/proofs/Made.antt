@@ -1,8 +1,7 @@
 -- The making of the one stream.
-use Rattle.std.proofs.Common.{◌≡◌, ℕ, zero, suc, ◌+◌, ◌≤◌, ◌^◌, Bool, true, false, List, [], ◌∷◌, Option, None, Some, refl, sym, ap, subst, ◌∙◌, inl, inr, arith}
-use Rattle.std.specs.List.{list_all}
+use Rattle.std.proofs.Common.{◌≡◌, ℕ, zero, suc, ◌≤◌, ◌^◌, Bool, true, false, [], ◌∷◌, Option, None, Some, refl, sym, ap, subst, ◌∙◌, inl, inr, arith}
 use Rattle.std.specs.Str.{is_utf8, chars}
-use Rattle.std.specs.Prelude.{is_none, nat_lt, nat_le, if◌then◌else◌, ◌&&◌, Result, Ok, Err, length, IsTrue}
+use Rattle.std.specs.Prelude.{is_none, nat_lt, nat_le, if◌then◌else◌, Result, Ok, Err, length, IsTrue}
 use Rattle.std.proofs.lemmas.Bool.Decides.{nat_tests}
 use Rattle.js_base.specs.Bytes.{Bytes}
 use Rattle.js_base.specs.Names.{name_of, unless_bad, first_bad, is_name_byte}
@@ -18,11 +17,11 @@ use Rattle.js_model.specs.declared.stream.State.TheVariants.{Vacant}
 use Rattle.js_model.specs.Routes as routes
 use Rattle.js_model.specs.Catalog as catalog
 use Rattle.server_program.specs.Catalogs.{new_place}
-use Rattle.server_program.specs.Desks.{DeskEntry, DeskRun, Looked}
+use Rattle.server_program.specs.Desks.{DeskRun, Looked}
 use Rattle.server_program.specs.Calls.{IsHold, AreRouted}
 use Rattle.server_program.specs.Holding.{world_of, Leads}
-use Rattle.server_program.specs.Making.{IsAdded, IsMaking, default_config, making, opening}
-use Rattle.server_program.specs.Solo.{Solo, IsMade}
+use Rattle.server_program.specs.Making.{IsAdded, default_config, making, opening}
+use Rattle.server_program.specs.Solo.{IsMade}
 use Rattle.server_program.proofs.Solos.{impossible, solo_of, some_same, at_same}
 use Rattle.server_program.proofs.Published.{both}
 

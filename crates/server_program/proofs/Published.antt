@@ -1,11 +1,11 @@
 -- A message that a client may publish is a proper event for its stream.
-use Rattle.std.proofs.Common.{◌≡◌, ℕ, zero, suc, if◌then◌else◌, arith, ◌+◌, ◌≤◌, ◌^◌, Bool, true, false, ◌&&◌, ◌||◌, List, [], length, Option, None, Some, refl, sym, ap, subst, IsTrue}
-use Rattle.std.specs.Prelude.{IfSome, nat_le, nat_eq, codes}
+use Rattle.std.proofs.Common.{◌≡◌, ℕ, zero, suc, if◌then◌else◌, arith, ◌+◌, ◌≤◌, ◌^◌, Bool, true, false, ◌&&◌, ◌||◌, [], length, Option, None, Some, refl, sym, ap, subst, IsTrue}
+use Rattle.std.specs.Prelude.{IfSome, nat_eq, codes}
 use Rattle.std.specs.List.{starts_with}
 use Rattle.std.proofs.lemmas.Bool.{le-leb}
 use Rattle.js_base.specs.Bytes.{Bytes, is_empty}
 use Rattle.js_base.specs.Headers.{is_block}
-use Rattle.js_base.specs.Subjects.{is_publish_text, is_subject_text, is_pattern_text}
+use Rattle.js_base.specs.Subjects.{is_subject_text, is_pattern_text}
 use Rattle.js_base.specs.declared.out.Out.{Out}
 use Rattle.js_model.specs.Proper.{is_proper, if_given}
 use Rattle.server_program.proofs.Solos.{impossible}

@@ -1,9 +1,8 @@
 -- Outputs that are sent one after another, and where that leads.
-use Rattle.std.proofs.Common.{◌≡◌, ℕ, zero, suc, ◌+◌, ◌<◌, ◌≤◌, length, drop, get_or, add-one, arith, List, [], ◌∷◌, ◌++◌, Option, None, Result, Ok, Err, refl, sym, ap, subst, ◌∙◌, append_assoc, inl, inr}
+use Rattle.std.proofs.Common.{◌≡◌, ℕ, zero, suc, ◌+◌, ◌<◌, ◌≤◌, length, drop, get_or, add-one, arith, List, [], ◌∷◌, ◌++◌, None, refl, sym, ap, subst, ◌∙◌, append_assoc, inl, inr}
 use Rattle.std.proofs.lemmas.List.{append-nil}
 use Rattle.std.proofs.Math.Seq.{drop-cons}
 use Rattle.js_base.specs.declared.out.Out.{Out}
-use Rattle.js_base.specs.declared.memory.NoMemory.{NoMemory}
 use Rattle.js_model.specs.declared.stream.State.{State}
 use Rattle.js_model.specs.Catalog.{Catalog}
 use Rattle.js_model.specs.Routes as routes
@@ -12,8 +11,8 @@ use Rattle.server_program.specs.Following.{run_append}
 use Rattle.server_program.specs.Calls.{AreRouted, AreCut}
 use Rattle.server_program.specs.declared.router.fault.RouteFault.{RouteFault}
 use Rattle.server_program.specs.declared.router.fault.RouteFault.TheVariants as faults
-use Rattle.server_program.specs.Routing.{fault_told, publish_told}
-use Rattle.server_program.specs.Holding.{world_of, Leads, Routes}
+use Rattle.server_program.specs.Routing.{fault_told}
+use Rattle.server_program.specs.Holding.{world_of, Leads}
 
 -- ---- outputs
 
@@ -96,7 +95,8 @@ all_sent outs rest old new h e place =
 
 pub cut_sent : (outs : List Out) (out : Out) (rest : List Out) (fault : RouteFault) (old mid new : routes.Router) → Sent outs (out ∷ rest) old mid
     → routes.IsRoute mid (routes.Publish out None) (fault_told fault) new → (place : State) → Leads (AreCut outs) place place old new
-cut_sent outs out rest fault old mid new h k place =
-    (h.entries ++ Routed (routes.Publish out None) routes.NoMemory ∷ [],
-     subst (λ (os : List Out). AreCut os (h.entries ++ Routed (routes.Publish out None) routes.NoMemory ∷ [])) (sym h.whole) (cut_push h.front out rest h.entries h.are),
-     λ catalog. run_append (world_of old catalog place) (world_of mid catalog place) (world_of new catalog place) h.entries _ (h.led place catalog) (new, unrouted mid new out fault k, refl))
+cut_sent outs out rest fault old mid new h k place = (
+  h.entries ++ Routed (routes.Publish out None) routes.NoMemory ∷ [],
+  subst (λ (os : List Out). AreCut os (h.entries ++ Routed (routes.Publish out None) routes.NoMemory ∷ [])) (sym h.whole) (cut_push h.front out rest h.entries h.are),
+  λ catalog. run_append (world_of old catalog place) (world_of mid catalog place) (world_of new catalog place) h.entries _ (h.led place catalog) (new, unrouted mid new out fault k, refl),
+)

@@ -1,18 +1,17 @@
 -- Laws of a whole session: its opening and its greeting, its turns, and its close.
-use Rattle.std.proofs.Common.{◌≡◌, ◌≤◌, ℕ, true, List, [], ◌∷◌, ◌++◌, Option, Result, Err, refl, sym, ap, subst, ◌∙◌, append_assoc, inl}
+use Rattle.std.proofs.Common.{◌≡◌, ℕ, true, List, [], ◌∷◌, ◌++◌, Option, Err, refl, sym, ap, subst, ◌∙◌, append_assoc, inl}
 use Rattle.std.specs.Prelude.{map}
 use Rattle.std.specs.List.{flat_map}
 use Rattle.std.proofs.lemmas.List.{append-nil}
 use Rattle.js_base.specs.Bytes.{Bytes}
 use Rattle.link_edge.specs.Told.{grown}
 use Rattle.link_edge.specs.Causes.{HasCause}
-use Rattle.link_edge.specs.Moments.{ReadsMoments}
 use Rattle.link_edge.specs.declared.answers.Answer.{Answer}
 use Rattle.link_edge.proofs.Told.{grown-nil, grown_on}
 use Rattle.server_program.specs.Desks.{DeskEntry}
 use Rattle.server_program.specs.Calls.{Open, Close, Opened, Done, Worn, NoMemory, DeskAnswer, Makes}
-use Rattle.server_program.specs.Talk.{Called, Journal, Nothing, Spoken, Turn, IsWritten, IsFrontOf, IsMade, IsTalk, IsSilent, TalksBy, start, greeting, heard_bytes, turn_spoken, last_spoken, last_answers, entries_of_calls, entries_of_turn, entries_of_last}
-use Rattle.server_program.specs.Giving.{Gives, GivesFront, IsLinkFault}
+use Rattle.server_program.specs.Talk.{Called, Nothing, Turn, IsWritten, IsFrontOf, IsSilent, TalksBy, start, greeting, heard_bytes, turn_spoken, last_spoken, last_answers, entries_of_calls, entries_of_turn, entries_of_last}
+use Rattle.server_program.specs.Giving.{Gives, IsLinkFault}
 use Rattle.server_program.specs.Session.{Converses, Serves, end_of}
 use Rattle.server_program.specs.declared.giving.Stop.{Stop}
 use Rattle.server_program.specs.declared.giving.Stop.TheVariants as stops

@@ -1,16 +1,14 @@
 -- What each call of the desk of one caller makes.
-use Rattle.std.proofs.Common.{◌≡◌, ℕ, zero, suc, ◌+◌, ◌<◌, ◌≤◌, ◌^◌, Bool, true, false, List, [], ◌∷◌, ◌++◌, length, Option, None, Some, Result, Ok, Err, refl, sym, ap, subst, ◌∙◌, IsTrue, inl, inr, if◌then◌else◌, arith}
+use Rattle.std.proofs.Common.{◌≡◌, ℕ, zero, suc, ◌+◌, ◌^◌, Bool, true, false, List, [], ◌∷◌, length, Option, None, Some, Ok, Err, refl, sym, ap, subst, ◌∙◌, inl, inr, if◌then◌else◌, arith}
 use Rattle.std.specs.Prelude.{MatchBool, is_some, ◌==◌, ◌||◌, IfSome, unwrap_or, find}
 use Rattle.std.specs.List.{list_any}
 use Rattle.js_base.specs.Bytes.{Bytes}
 use Rattle.js_base.specs.declared.out.Out.{Out}
-use Rattle.js_base.specs.declared.memory.NoMemory.{NoMemory}
 use Rattle.js_model.specs.declared.desk.Taken.{Taken}
 use Rattle.js_model.specs.declared.desk.Collected.{Collected}
 use Rattle.js_model.specs.declared.desk.Collected.TheVariants.{Frames, Slow}
 use Rattle.js_model.specs.declared.desk.PlaceAt.{PlaceAt}
 use Rattle.js_model.specs.declared.stream.State.{State}
-use Rattle.js_model.specs.declared.event.Event.{Event}
 use Rattle.js_model.specs.Routes as routes
 use Rattle.js_model.specs.Catalog as catalog
 use Rattle.server_program.specs.Desks.{DeskEntry, World, DeskRun, Routed, Looked}
@@ -19,10 +17,10 @@ use Rattle.server_program.specs.declared.router.fault.RouteFault.{RouteFault}
 use Rattle.server_program.specs.declared.router.fault.RouteFault.TheVariants as faults
 use Rattle.server_program.specs.declared.holding.HoldFault.{HoldFault}
 use Rattle.server_program.specs.declared.holding.HoldFault.TheVariants as hold_faults
-use Rattle.server_program.specs.Routing.{fault_told, open_told, sub_told, publish_told, Collects}
+use Rattle.server_program.specs.Routing.{fault_told, Collects}
 use Rattle.server_program.specs.Answers.{gave}
 use Rattle.server_program.specs.Calls as answers
-use Rattle.server_program.specs.Holding.{world_of, Leads, Holds}
+use Rattle.server_program.specs.Holding.{world_of, Holds}
 use Rattle.server_program.specs.Solo.{Solo, SoloRun}
 
 pub some_same : (x y : PlaceAt) → Some x ≡ Some y → x ≡ y

@@ -1,6 +1,6 @@
 -- The calls of a desk, and which entries each of them makes.
-use Rattle.std.specs.Prelude.{◌≡◌, ◌≤◌, length, IsTrue, IfSome, ℕ, Bool, true, false, ◌||◌, ◌⊎◌, List, [], ◌∷◌, ◌++◌, Option, Some, None, is_some, Result, Ok, Err, MatchBool, MatchOption, codes, nat_eq, map}
-use Rattle.std.specs.List.{starts_with, flat_map}
+use Rattle.std.specs.Prelude.{◌≡◌, ◌≤◌, length, IsTrue, IfSome, ℕ, Bool, true, false, ◌||◌, ◌⊎◌, List, [], ◌∷◌, Option, Some, None, is_some, MatchBool, MatchOption, codes, nat_eq}
+use Rattle.std.specs.List.{starts_with}
 use Rattle.js_base.specs.Bytes.{Bytes}
 use Rattle.js_base.specs.Subjects.{is_publish_text, is_subject_text}
 use Rattle.js_base.specs.declared.out.Out.{Out}

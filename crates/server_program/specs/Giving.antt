@@ -1,5 +1,5 @@
 -- What a link was given of some bytes.
-use Rattle.std.specs.Prelude.{◌≡◌, Result, Ok, Err, Option, List, ℕ, ◌++◌}
+use Rattle.std.specs.Prelude.{◌≡◌, Result, Ok, Err, Option}
 use Rattle.js_base.specs.Bytes.{Bytes}
 use Rattle.link_edge.specs.Told.{grown}
 use Rattle.server_program.specs.Talk.{IsFrontOf}

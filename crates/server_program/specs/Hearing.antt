@@ -7,7 +7,7 @@ use Rattle.nats_frames.specs.Grammar.{Fronts}
 use Rattle.nats_frames.specs.Reading.{op_at, Partial, Broken}
 use Rattle.server_program.specs.Desks.{DeskEntry}
 use Rattle.server_program.specs.Talk.{Spoken, Called, AreSpoken, AreBegun, ops_of, heard_bytes, verbose_at_end, entries_of_all, entries_of_calls}
-use Rattle.server_program.specs.Giving.{Gives, GivesFront}
+use Rattle.server_program.specs.Giving.{GivesFront}
 use Rattle.server_program.specs.declared.giving.Stop.{Stop}
 use Rattle.server_program.specs.declared.giving.Stop.TheVariants.{NotBuilt, LinkFault, NoMemory}
 

@@ -7,7 +7,7 @@ use Rattle.link_edge.specs.Moments.{ReadsMoments}
 use Rattle.link_edge.specs.declared.answers.Answer.{Answer}
 use Rattle.nats_frames.specs.declared.op.FrameFault.TheVariants as faults
 use Rattle.server_program.specs.Desks.{DeskEntry}
-use Rattle.server_program.specs.Talk.{Journal, Talk, Turn, Last, Stage, start, AreTurns, IsEnd, IsWritten, greeting, heard_bytes, turn_spoken, last_spoken, entries_of, entries_of_turn, entries_of_last, answers_of, last_answers, moments_of, last_moments}
+use Rattle.server_program.specs.Talk.{Journal, Talk, Turn, Last, Stage, start, AreTurns, IsEnd, IsWritten, heard_bytes, turn_spoken, last_spoken, entries_of, entries_of_turn, entries_of_last, answers_of, last_answers, moments_of, last_moments}
 use Rattle.server_program.specs.declared.giving.Stop.{Stop}
 use Rattle.server_program.specs.declared.giving.Stop.TheVariants as stops
 use Rattle.server_program.specs.declared.session.Limits.{Limits}

@@ -1,10 +1,9 @@
 -- What contracts see of the desk of one caller.
-use Rattle.std.specs.Prelude.{◌≡◌, ℕ, ◌≤◌, ◌^◌, Bool, true, false, List, [], ◌∷◌, Option, IfSome, is_some, unwrap_or}
+use Rattle.std.specs.Prelude.{◌≡◌, ℕ, ◌≤◌, ◌^◌, Bool, true, false, List, [], ◌∷◌, IfSome, is_some, unwrap_or}
 use Rattle.js_base.specs.Bytes.{Bytes}
-use Rattle.js_model.specs.declared.stream.State.{State}
 use Rattle.js_model.specs.Events.{kept_incarnation}
-use Rattle.js_model.specs.Routes.{Router, is_open}
-use Rattle.js_model.specs.Catalog.{Catalog, Place}
+use Rattle.js_model.specs.Routes.{is_open}
+use Rattle.js_model.specs.Catalog.{Place}
 use Rattle.server_program.specs.Desks.{World, DeskEntry, DeskRun}
 use Rattle.server_program.specs.Routing.{waiting_for}
 use Rattle.server_program.specs.Holding.{world_of}

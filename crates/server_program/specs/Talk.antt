@@ -1,9 +1,8 @@
 -- What a session says for what it hears: the turns of a connection, the operations in each, the desk calls of each operation, and the bytes.
-use Rattle.std.specs.Prelude.{◌≡◌, ◌≢◌, ℕ, ◌+◌, ◌<◌, ◌≤◌, Bool, true, false, ◌⊎◌, List, [], ◌∷◌, ◌++◌, length, map, Option, Some, None, if◌then◌else◌, MatchOption}
+use Rattle.std.specs.Prelude.{◌≡◌, ℕ, ◌+◌, ◌<◌, ◌≤◌, Bool, true, false, ◌⊎◌, List, [], ◌∷◌, ◌++◌, length, map, Option, Some, None}
 use Rattle.std.specs.List.{flat_map}
 use Rattle.js_base.specs.Bytes.{Bytes}
 use Rattle.js_base.specs.Framing.{frame}
-use Rattle.js_base.specs.declared.out.Out.{Out}
 use Rattle.js_base.specs.declared.frame.Frame.{Frame}
 use Rattle.js_base.specs.declared.frame.Frame.TheVariants.{Info, Pong, Ok as Fine}
 use Rattle.link_edge.specs.declared.answers.Answer.{Answer}
@@ -13,7 +12,7 @@ use Rattle.nats_frames.specs.declared.op.Op.TheVariants.{Connect, Ping, Sub as S
 use Rattle.nats_frames.specs.Grammar.{Fronts}
 use Rattle.nats_frames.specs.Reading.{op_at, Partial, Broken}
 use Rattle.server_program.specs.Desks.{DeskEntry}
-use Rattle.server_program.specs.Calls.{DeskCall, Open, Options, Sub, Publish, Collect, Close, DeskAnswer, Opened, Done, Took, Gave, Worn, NoMemory, Does, plain_message}
+use Rattle.server_program.specs.Calls.{DeskCall, Open, Options, Sub, Publish, Collect, Close, DeskAnswer, Opened, Done, Gave, Worn, NoMemory, Does, plain_message}
 use Rattle.server_program.specs.declared.session.Limits.{Limits}
 use Rattle.server_program.specs.declared.session.Ended.{Ended}
 use Rattle.server_program.specs.declared.session.Ended.TheVariants as ends

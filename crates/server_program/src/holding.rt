@@ -37,10 +37,21 @@ fn stream_name(place: &Place) -> Result<Blob, NoMemory>
 }
 
 /// The message that tells a publisher what became of the event, where one is asked for.
-fn answer_of(alloc: Global, stream: &[u8], what: &What, reply: &Reply) -> Result<Option<Out>, NoMemory>
+fn answer_of(
+    alloc: Global,
+    stream: &[u8],
+    what: &What,
+    reply: &Reply,
+) -> Result<Option<Out>, NoMemory>
     ensures answer { IfOk result (λ answer. listed answer ≡ answer_of stream.now what.now reply.now) }
 {
-    let What::Publish(Publish { reply: Some(to), .. }) = what else {
+    let What::Publish(
+        Publish {
+            reply: Some(to),
+            ..
+        },
+    ) = what
+    else {
         return Ok(None);
     };
     match publish_text(alloc, stream, reply)? {
@@ -99,7 +110,13 @@ fn send(router: &mut Router, outs: &[Out], unsaid: bool) -> Result<(), HoldFault
 
 /// Makes the event on the place, and adds its outputs, and its answer where one is asked for. `true` where memory ran out for that answer
 /// alone. An `Err` changes nothing.
-fn make(alloc: Global, place: &mut Place, event: &Event, now: Moment, outs: &mut Outs) -> Result<bool, NoMemory>
+fn make(
+    alloc: Global,
+    place: &mut Place,
+    event: &Event,
+    now: Moment,
+    outs: &mut Outs,
+) -> Result<bool, NoMemory>
     requires built { IsBuilt place.old event.now }
     ensures makes { MakesEvent result event.now now place.old place.new outs.old outs.new }
     ensures incarnation { kept_incarnation place.new ≡ kept_incarnation place.old }
@@ -112,7 +129,13 @@ fn make(alloc: Global, place: &mut Place, event: &Event, now: Moment, outs: &mut
 }
 
 /// Makes the event on the place, and routes what it sends: its outputs, and its answer where one is asked for. After `Unmade` nothing changed.
-pub fn hold(alloc: Global, place: &mut Place, router: &mut Router, event: &Event, now: Moment) -> Result<(), HoldFault>
+pub fn hold(
+    alloc: Global,
+    place: &mut Place,
+    router: &mut Router,
+    event: &Event,
+    now: Moment,
+) -> Result<(), HoldFault>
     requires built { IsBuilt place.old event.now }
     requires proper { IsTrue (is_proper event.now) }
     ensures holds { Holds result event.now now place.old place.new router.old router.new }

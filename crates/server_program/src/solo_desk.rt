@@ -18,7 +18,9 @@ use crate::holding::{HoldFault, hold};
 use crate::place::Place;
 use crate::router::{RouteFault, Router};
 use js_base::{Blob, List, Moment, Name, NoMemory, Out};
-use js_model::{Collected, Discard, Event, PlaceAt, Publish, Retention, StreamConfig, Taken, Wants, What};
+use js_model::{
+    Collected, Discard, Event, PlaceAt, Publish, Retention, StreamConfig, Taken, Wants, What,
+};
 use std::alloc::Global;
 use std::marker::Model;
 
@@ -113,7 +115,12 @@ fn published_event(at: PlaceAt, message: &Out) -> Result<Event, NoMemory>
 
 impl SoloDesk {
     /// A desk whose one place has a stream of this name and this one subject, made at the moment, with every default.
-    pub fn with_stream(alloc: Global, name: Name, subject: Blob, now: Moment) -> Result<SoloDesk, NoMemory>
+    pub fn with_stream(
+        alloc: Global,
+        name: Name,
+        subject: Blob,
+        now: Moment,
+    ) -> Result<SoloDesk, NoMemory>
         requires subject { IsTrue (is_stream_subject subject) }
         ensures made { IfOk result (IsMade name subject now) }
     {
@@ -137,7 +144,12 @@ impl SoloDesk {
 }
 
 /// Takes a place for a stream of this name and this one subject.
-fn add(alloc: Global, catalog: &mut Catalog, name: &Name, subject: &Blob) -> Result<PlaceAt, NoMemory>
+fn add(
+    alloc: Global,
+    catalog: &mut Catalog,
+    name: &Name,
+    subject: &Blob,
+) -> Result<PlaceAt, NoMemory>
     requires new { catalog.old ≡ new_place ∷ [] }
     ensures added { IfOk result (λ at. IsAdded name.now subject.now at catalog.new) }
 {
@@ -186,7 +198,14 @@ fn make(
 }
 
 /// Stores a message in the stream of a place, and routes what that sends.
-fn store(alloc: Global, place: &mut Place, router: &mut Router, at: PlaceAt, message: &Out, now: Moment) -> Result<(), HoldFault>
+fn store(
+    alloc: Global,
+    place: &mut Place,
+    router: &mut Router,
+    at: PlaceAt,
+    message: &Out,
+    now: Moment,
+) -> Result<(), HoldFault>
     requires plain { IsPlain message.now }
     requires unreserved { is_reserved message.now.to ≡ false }
     requires incarnation { at.incarnation ≤ 2 ^ 62 }
@@ -262,7 +281,14 @@ impl Desk for SoloDesk {
                 });
             }
         };
-        match store(self.alloc, &mut self.place, &mut self.router, at, message, now) {
+        match store(
+            self.alloc,
+            &mut self.place,
+            &mut self.router,
+            at,
+            message,
+            now,
+        ) {
             Ok(()) => Ok(Taken {
                 subscriptions,
                 other: true,

@@ -1,6 +1,5 @@
-use Rattle.std.proofs.Common.{◌≡◌, ap, sym, ◌∙◌, arith, Result, Ok, Err, subst, refl, List, ℕ}
-use Rattle.server_program.specs.Giving.{Gives}
-use Rattle.server_program.proofs.Heard.{Answering, answering_first, answering_more, answering_flushed, cut_begun, cut_given, cut_unread, cut_refused, answers_given, spelled_some}
+use Rattle.std.proofs.Common.{◌∙◌, arith, refl}
+use Rattle.server_program.proofs.Heard.{answering_first, answering_more, answering_flushed, cut_begun, cut_given, cut_unread, cut_refused, answers_given}
 use Rattle.server_program.proofs.conversation.answer_all.Goals as goal
 
 pub loop-op-init : goal.loop-op-init

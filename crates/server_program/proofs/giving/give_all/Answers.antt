@@ -1,6 +1,6 @@
-use Rattle.std.proofs.Common.{arith, ap, ◌∙◌, sym, take, length}
+use Rattle.std.proofs.Common.{arith, ap, ◌∙◌, take, length}
 use Rattle.link_edge.specs.Told.{grown}
-use Rattle.server_program.proofs.GivenBytes.{given_more, front_given}
+use Rattle.server_program.proofs.GivenBytes.{given_more}
 use Rattle.server_program.proofs.giving.give_all.Goals as goal
 
 pub loop-at-preserved : goal.loop-at-preserved

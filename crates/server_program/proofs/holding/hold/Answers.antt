@@ -1,4 +1,3 @@
-use Rattle.std.proofs.Common.{◌≡◌, ◌∙◌}
 use Rattle.server_program.proofs.Holds.{holds}
 use Rattle.server_program.proofs.holding.hold.Goals as goal
 

@@ -1,4 +1,4 @@
-use Rattle.std.proofs.Common.{◌≡◌, ◌∙◌}
+use Rattle.std.proofs.Common.{◌∙◌}
 use Rattle.server_program.proofs.Holds.{made_event}
 use Rattle.server_program.proofs.holding.make.Goals as goal
 

@@ -1,5 +1,5 @@
-use Rattle.std.proofs.Common.{◌≡◌, ◌∙◌, subst, drop}
-use Rattle.server_program.proofs.Sent.{Sent, next_left, none_left, one_sent, all_sent, cut_sent}
+use Rattle.std.proofs.Common.{◌∙◌}
+use Rattle.server_program.proofs.Sent.{next_left, none_left, one_sent, all_sent, cut_sent}
 use Rattle.server_program.proofs.holding.route_all.Goals as goal
 
 pub returns-in-Err-clause-routes : goal.returns-in-Err-clause-routes

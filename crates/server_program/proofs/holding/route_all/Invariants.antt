@@ -1,4 +1,4 @@
-use Rattle.std.proofs.Common.{◌≡◌, drop}
+use Rattle.std.proofs.Common.{drop}
 use Rattle.server_program.specs.Routing.{KeepsOpen}
 use Rattle.server_program.proofs.Sent.{Sent}
 use Rattle.server_program.proofs.holding.route_all.Given as goal

@@ -1,5 +1,4 @@
-use Rattle.std.proofs.Common.{refl, ap, subst, sym, ◌∙◌}
-use Rattle.server_program.proofs.Asking.{asked_one, begun_one, asks_sub, asks_pub, unasks_pub, spelled_pattern, spelled_plain}
+use Rattle.server_program.proofs.Asking.{asked_one, asks_sub, asks_pub, unasks_pub, spelled_pattern, spelled_plain}
 use Rattle.server_program.proofs.operation.ask.Goals as goal
 
 pub returns-in-Connect-clause-asks : goal.returns-in-Connect-clause-asks

@@ -1,6 +1,5 @@
-use Rattle.std.proofs.Common.{◌≡◌, ap, sym, ◌∙◌, ◌++◌}
-use Rattle.server_program.specs.Talk.{frames}
-use Rattle.server_program.proofs.Collecting.{collecting_first, collecting_more, collecting_last, collecting_unwritten, collecting_failed}
+use Rattle.std.proofs.Common.{◌∙◌}
+use Rattle.server_program.proofs.Collecting.{collecting_more, collecting_last, collecting_unwritten, collecting_failed}
 use Rattle.server_program.proofs.operation.collect_all.Goals as goal
 
 pub returns-in-Err-write_frames-clause-collects : goal.returns-in-Err-write_frames-clause-collects

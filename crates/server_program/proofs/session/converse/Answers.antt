@@ -1,4 +1,4 @@
-use Rattle.std.proofs.Common.{◌≡◌, ◌≤◌, ap, sym, ◌∙◌, arith, subst, refl, length, take, drop, ◌+◌, ◌++◌, ℕ, List, length-append, length-drop}
+use Rattle.std.proofs.Common.{◌≡◌, ◌≤◌, ap, sym, ◌∙◌, arith, refl, length, take, drop, ◌+◌, ◌++◌, ℕ, List, length-append, length-drop}
 use Rattle.std.proofs.lemmas.List.{take-append-le, length-take-le}
 use Rattle.server_program.proofs.Conversing.{conversing_heard, conversing_quiet, converses_closed, converses_failed, converses_cut}
 use Rattle.server_program.proofs.session.converse.Goals as goal

@@ -1,4 +1,4 @@
-use Rattle.std.proofs.Common.{◌≡◌, ◌∙◌, ◌≤◌, ◌^◌, ℕ, sym, subst, arith}
+use Rattle.std.proofs.Common.{◌∙◌, sym}
 use Rattle.server_program.proofs.Made.{made, one_is_small}
 use Rattle.server_program.proofs.solo_desk.SoloDesk.with_stream.Goals as goal
 

@@ -1,5 +1,5 @@
-use Rattle.std.proofs.Common.{◌≡◌, refl}
-use Rattle.server_program.proofs.Solos.{makes_for, session_eq, open_now}
+use Rattle.std.proofs.Common.{refl}
+use Rattle.server_program.proofs.Solos.{makes_for, session_eq}
 use Rattle.server_program.proofs.solo_desk.SoloDeskDesk.close.Goals as goal
 
 pub returns-clause-made : goal.returns-clause-made

@@ -1,5 +1,5 @@
-use Rattle.std.proofs.Common.{◌≡◌, refl, false}
-use Rattle.server_program.proofs.Solos.{makes_one, open_is, opens_or_starves}
+use Rattle.std.proofs.Common.{refl}
+use Rattle.server_program.proofs.Solos.{makes_one, opens_or_starves}
 use Rattle.server_program.proofs.solo_desk.SoloDeskDesk.open.Goals as goal
 
 pub returns-in-Ok-clause-made : goal.returns-in-Ok-clause-made

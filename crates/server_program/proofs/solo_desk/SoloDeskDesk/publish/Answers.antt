@@ -1,4 +1,4 @@
-use Rattle.std.proofs.Common.{◌≡◌, ◌∙◌, ◌≤◌, ◌^◌, refl, sym, subst, ℕ}
+use Rattle.std.proofs.Common.{◌∙◌, ◌≤◌, ◌^◌, sym, subst, ℕ}
 use Rattle.server_program.proofs.Solos.{session_eq, open_now, publish_starves, unrouted_made, unfound_made, stored_made, cut_made, found_at}
 use Rattle.server_program.proofs.solo_desk.SoloDeskDesk.publish.Goals as goal
 use Rattle.server_program.proofs.solo_desk.SoloDeskDesk.publish.Goals.{in-Ok-store, in-Err-store}
@@ -35,6 +35,6 @@ returns-clause-made c =
     let k = rw (c.in-Some-find.is, c.as_slice-2.ensures) at c.find.ensures.found in
     let f = found_at _ i.entry _ _ i.catalog_is k in
     elim c.match-store.branch [
-      in-Ok-store w ↦ rw w.result-is (stored_made c.self.inside.router c.self.inside.catalog c.self.inside.place _ _ _ _ _ _ e _ _ _ _ plain h c.in-Some-find.at _ _ f.0 k (rw w.in-Ok-store.is at c.store.ensures.holds))
-    | in-Err-store w ↦ rw w.result-is (cut_made c.self.inside.router c.self.inside.catalog c.self.inside.place _ _ _ _ _ _ e _ _ _ _ plain h c.in-Some-find.at w.in-Err-store.field-0 _ _ f.0 k (rw w.in-Err-store.is at c.store.ensures.holds))
+      | in-Ok-store w ↦ rw w.result-is (stored_made c.self.inside.router c.self.inside.catalog c.self.inside.place _ _ _ _ _ _ e _ _ _ _ plain h c.in-Some-find.at _ _ f.0 k (rw w.in-Ok-store.is at c.store.ensures.holds))
+      | in-Err-store w ↦ rw w.result-is (cut_made c.self.inside.router c.self.inside.catalog c.self.inside.place _ _ _ _ _ _ e _ _ _ _ plain h c.in-Some-find.at w.in-Err-store.field-0 _ _ f.0 k (rw w.in-Err-store.is at c.store.ensures.holds))
     ]

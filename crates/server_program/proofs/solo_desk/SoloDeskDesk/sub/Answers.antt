@@ -1,4 +1,4 @@
-use Rattle.std.proofs.Common.{◌≡◌, refl}
+use Rattle.std.proofs.Common.{refl}
 use Rattle.server_program.proofs.Solos.{makes_for, session_eq, open_now, sub_starves}
 use Rattle.server_program.proofs.solo_desk.SoloDeskDesk.sub.Goals as goal
 use Rattle.server_program.proofs.solo_desk.SoloDeskDesk.sub.Goals.{in-Ok, in-Err}
@@ -8,7 +8,7 @@ returns-clause-made c =
     let e = c.self.view_is in
     let s = session_eq _ _ _ _ _ _ _ e c.in-Some.is in
     elim c.match-sub.branch [
-      in-Ok w ↦ rw w.result-is (makes_for _ _ _ _ _ _ _ _ _ _ _ _ _ _ _ e s (rw w.in-Ok.is at c.sub.ensures.routes) refl)
-    | in-Err w ↦ rw w.result-is (makes_for _ _ _ _ _ _ _ _ _ _ _ _ _ _ _ e s
+      | in-Ok w ↦ rw w.result-is (makes_for _ _ _ _ _ _ _ _ _ _ _ _ _ _ _ e s (rw w.in-Ok.is at c.sub.ensures.routes) refl)
+      | in-Err w ↦ rw w.result-is (makes_for _ _ _ _ _ _ _ _ _ _ _ _ _ _ _ e s
           (sub_starves c.self.inside.router _ _ _ _ _ (open_now c.self.inside.router _ _ c.in-Some.is c.self.invariant.opened) (rw w.in-Err.is at c.sub.ensures.routes)) refl)
     ]
