@@ -15,7 +15,7 @@ entries-append calls others = flat_map-append (λ (c : Called). c.entries) calls
 -- there was no memory for the direct answer
 pub begun_unwritten : {D : Type 0} (made : D → List DeskEntry → D → Type 0) (session now : ℕ) (op : Op) (old new : D) → Led made old new (AreAsked session (call_of now op))
     → Led made old new (IsBegun session now op)
-begun_unwritten made session now op old new h = record { calls = h.calls; are = Stopped h.calls [] (sym (append-nil h.calls)) h.are (inl tt); led = h.led }
+begun_unwritten made session now op old new h = record { calls = h.calls; are = Stopped h.calls [] (sym (append-nil h.calls)) h.are (inl refl); led = h.led }
 
 -- the direct answer, and then what was collected
 both_written : (verbose after : Bool) (op : Op) (a b c more : Bytes) → after ≡ verbose_after verbose op → b ≡ a ++ answer_bytes after op → c ≡ b ++ more

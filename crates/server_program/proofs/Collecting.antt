@@ -6,7 +6,7 @@ use Rattle.js_base.specs.Bytes.{Bytes}
 use Rattle.js_base.specs.declared.frame.Frame.{Frame}
 use Rattle.server_program.specs.Desks.{DeskEntry}
 use Rattle.server_program.specs.Calls.{Collect, Gave, NoMemory, Makes}
-use Rattle.server_program.specs.Talk.{Called, IsCollect, AreCollecting, AreCollected, AreCollects, AreStopped, collected, frames, given_by, entries_of_calls}
+use Rattle.server_program.specs.Talk.{Called, IsCollect, AreCollecting, AreCollects, AreStopped, collected, frames, given_by, entries_of_calls}
 use Rattle.server_program.specs.Carrying.{Led}
 
 entries : Called → List DeskEntry
@@ -25,14 +25,6 @@ collected-push calls called =
 collecting-push : (session : ℕ) (calls : List Called) (called : Called) → AreCollecting session calls → IsCollect session true called → AreCollecting session (calls ++ called ∷ [])
 collecting-push session [] called h k = (k, tt)
 collecting-push session (first ∷ calls) called h k = (h.0, collecting-push session calls called h.1 k)
-
-collected_of : (session : ℕ) (calls : List Called) → AreCollecting session calls → AreCollected session calls
-collected_of session [] h = tt
-collected_of session (first ∷ calls) h = ((true, h.0), collected_of session calls h.1)
-
-collected_push : (session : ℕ) (more : Bool) (calls : List Called) (called : Called) → AreCollected session calls → IsCollect session more called → AreCollected session (calls ++ called ∷ [])
-collected_push session more [] called h k = ((more, k), tt)
-collected_push session more (first ∷ calls) called h k = (h.0, collected_push session more calls called h.1 k)
 
 -- collects that each left more, and their bytes
 pub record Collecting {D : Type 0} (made : D → List DeskEntry → D → Type 0) (session : ℕ) (old new : D) (out_old out_new : Bytes) : Type 0 where
@@ -91,7 +83,7 @@ module _ {D : Type 0} (made : D → List DeskEntry → D → Type 0) (more_led :
       let called = made_collect mid new max list more m in
       record {
         calls = h.calls ++ called ∷ [];
-        are = inl (collected_push session more h.calls called (collected_of session h.calls h.are) (is_collect mid new max list more m));
+        are = inr (h.calls, called, refl, h.are, inl (more, is_collect mid new max list more m));
         led = led_push old mid new h.calls called h.led m.led;
       }
 
@@ -102,6 +94,6 @@ module _ {D : Type 0} (made : D → List DeskEntry → D → Type 0) (more_led :
       let called : Called = record { call = Collect max; answer = NoMemory; entries = m.entries } in
       record {
         calls = h.calls ++ called ∷ [];
-        are = inr (h.calls, called, max, refl, h.are, refl, refl, m.does);
+        are = inr (h.calls, called, refl, h.are, inr (max, refl, refl, m.does));
         led = led_push old mid new h.calls called h.led m.led;
       }

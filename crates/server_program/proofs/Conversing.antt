@@ -133,37 +133,36 @@ module _ {D : Type 0} (made : D → List DeskEntry → D → Type 0) (more_led :
 
   -- ---- the end
 
+  all_heard : heard_bytes true (flat_map turn_spoken h.turns) ≡ heard_bytes true (flat_map turn_spoken h.turns ++ [])
+  all_heard = ap (heard_bytes true) (sym (append-nil (flat_map turn_spoken h.turns)))
+
   told_end : (ended : Ended) (last : Answer) (g1 : Option Bytes) → IsEnd limits session stage (Told last) ended
-      → IsWritten ended (heard_bytes true (flat_map turn_spoken h.turns)) (heard_bytes true (flat_map turn_spoken h.turns ++ []))
       → a1 ≡ grown a (last ∷ []) → g1 ≡ g → Converses made limits session [] d0 d a0 a1 g0 g1 c0 c ended
-  told_end ended last g1 end w said kept = record {
+  told_end ended last g1 end said kept = record {
     turns = h.turns;
     last = Told last;
     stage = stage;
     bytes = heard_bytes true (flat_map turn_spoken h.turns);
     are_turns = h.are_turns;
     ends = end;
-    written = w;
+    written = all_heard;
     answered = grown_on a0 a a1 (map answer h.turns) (last ∷ []) h.answered said;
     moments = subst (λ (ms : List ℕ). ReadsMoments c0 ms c) (sym (append-nil (map moment h.turns))) h.moments;
     led = subst (λ (es : List DeskEntry). made d0 es d) (sym (append-nil (flat_map entries_of_turn h.turns))) h.led;
     given = kept ∙ h.given;
   }
 
-  all_heard : heard_bytes true (flat_map turn_spoken h.turns) ≡ heard_bytes true (flat_map turn_spoken h.turns ++ [])
-  all_heard = ap (heard_bytes true) (sym (append-nil (flat_map turn_spoken h.turns)))
-
   pub converses_closed : (g1 : Option Bytes) → a1 ≡ grown a (answers.Ended ∷ []) → g1 ≡ g → Converses made limits session [] d0 d a0 a1 g0 g1 c0 c ends.Closed
-  converses_closed g1 said kept = told_end ends.Closed answers.Ended g1 (unspent, refl) all_heard said kept
+  converses_closed g1 said kept = told_end ends.Closed answers.Ended g1 (unspent, refl) said kept
 
   pub converses_failed : (g1 : Option Bytes) → a1 ≡ grown a (answers.Failed ∷ []) → g1 ≡ g → Converses made limits session [] d0 d a0 a1 g0 g1 c0 c ends.LinkFault
   converses_failed g1 said kept =
-      told_end ends.LinkFault answers.Failed g1 (inr (inl (unspent, refl))) ([], append-nil (heard_bytes true (flat_map turn_spoken h.turns)) ∙ all_heard) said kept
+      told_end ends.LinkFault answers.Failed g1 (inr (inl (unspent, refl))) said kept
 
   -- the session ended within a turn
   within_end : (ended : Ended) (now : ℕ) (piece : Bytes) (spoken : List Spoken) (begun : List Op) (calls : List Called) (bytes : Bytes) (d1 : D) (a2 : Option (List Answer)) (g2 : Option Bytes)
       → IsEnd limits session stage (Within (record { answer = answers.Piece piece; moment = now; spoken = spoken }) begun calls) ended
-      → IsWritten ended bytes (heard_bytes true (flat_map turn_spoken h.turns ++ spoken)) → a1 ≡ grown a (answers.Piece piece ∷ []) → a2 ≡ a1 → ReadsMoment c now c1
+      → IsWritten (Within (record { answer = answers.Piece piece; moment = now; spoken = spoken }) begun calls) ended bytes (heard_bytes true (flat_map turn_spoken h.turns ++ spoken)) → a1 ≡ grown a (answers.Piece piece ∷ []) → a2 ≡ a1 → ReadsMoment c now c1
       → made d (entries_of_all spoken ++ entries_of_calls calls) d1 → g2 ≡ grown g0 bytes → Converses made limits session [] d0 d1 a0 a2 g0 g2 c0 c1 ended
   within_end ended now piece spoken begun calls bytes d1 a2 g2 end w said same read led given = record {
     turns = h.turns;
@@ -236,7 +235,7 @@ module _ {D : Type 0} (made : D → List DeskEntry → D → Type 0) (more_led :
 -- no further answer came
 module _ {D : Type 0} (made : D → List DeskEntry → D → Type 0) (limits : Limits) (session : ℕ) (d0 d : D) (a0 a a1 : Option (List Answer)) (g0 g g1 : Option Bytes) (c0 c : Option (List ℕ)) (stage : Stage)
     (verbose : Bool) (h : Conversing made limits session d0 d a0 a g0 g c0 c stage verbose) where
-  last_end : (ended : Ended) → IsEnd limits session stage Nothing ended → IsWritten ended (heard_bytes true (flat_map turn_spoken h.turns)) (heard_bytes true (flat_map turn_spoken h.turns ++ []))
+  last_end : (ended : Ended) → IsEnd limits session stage Nothing ended → IsWritten Nothing ended (heard_bytes true (flat_map turn_spoken h.turns)) (heard_bytes true (flat_map turn_spoken h.turns ++ []))
       → a1 ≡ a → g1 ≡ g → Converses made limits session [] d0 d a0 a1 g0 g1 c0 c ended
   last_end ended end w same kept = record {
     turns = h.turns;

@@ -16,7 +16,7 @@ use Rattle.link_edge.proofs.Told.{grown-nil}
 use Rattle.server_program.specs.Solo.{Solo, SoloRun, IsMade}
 use Rattle.server_program.specs.Session.{Serves}
 use Rattle.server_program.specs.Talk.{answers_of}
-use Rattle.server_program.specs.Running.{DoorTold, IsAccepted, IsUnserved, IsGivenBack, PipeEnds, PrintsWords, refusal, pipe_limits, status_of, WasClosed, HasFailed, WasQuiet, HasStarved}
+use Rattle.server_program.specs.Running.{DoorTold, IsAccepted, IsQuiet, IsUnserved, ReadsOnce, IsGivenBack, PipeEnds, PrintsWords, refusal, pipe_limits, status_of, WasClosed, HasFailed, WasQuiet, HasStarved}
 use Rattle.server_program.specs.declared.session.Limits.{Limits}
 use Rattle.server_program.specs.declared.session.Ended.{Ended}
 use Rattle.server_program.specs.declared.session.Ended.TheVariants as ends
@@ -40,15 +40,15 @@ ended_by_link ends.LinkFault e = refl
 ended_by_link ends.InputLimit e = cc
 ended_by_link ends.NoMemory e = cc
 
-unserved_otherwise : (status : ℕ) (old new : DoorTold) → IsUnserved status old new → status ≡ 2 → ⊥
-unserved_otherwise status old new (WasClosed s a) e = omega arith
-unserved_otherwise status old new (HasFailed s r a) e = omega arith
-unserved_otherwise status old new (WasQuiet s a) e = omega arith
-unserved_otherwise status old new (HasStarved s a) e = omega arith
+unserved_otherwise : (status : ℕ) (old new : DoorTold) (c0 c1 : Option (List ℕ)) → IsUnserved status old new c0 c1 → status ≡ 2 → ⊥
+unserved_otherwise status old new c0 c1 (WasClosed s t a) e = omega (arith, s, e)
+unserved_otherwise status old new c0 c1 (HasFailed s t r a) e = omega (arith, s, e)
+unserved_otherwise status old new c0 c1 (WasQuiet s t a) e = omega (arith, s, e)
+unserved_otherwise status old new c0 c1 (HasStarved s t a) e = omega (arith, s, e)
 
 -- no run of the one command ends with the status of words that are none of the forms
 pipe_otherwise : (name pattern : Bytes) (status : ℕ) (old new : DoorTold) (c0 c1 : Option (List ℕ)) → PipeEnds name pattern status old new c0 c1 → status ≡ 2 → ⊥
-pipe_otherwise name pattern status old new c0 c1 (inl h) e = unserved_otherwise status old new h.unserved e
+pipe_otherwise name pattern status old new c0 c1 (inl h) e = unserved_otherwise status old new c0 c1 h.unserved e
 pipe_otherwise name pattern status old new c0 c1 (inr h) e = ended_otherwise h.given_back.served.ended (sym h.given_back.served.status_is ∙ e)
 
 -- ---- the link
@@ -94,11 +94,34 @@ module _ (name pattern : Bytes) (status : ℕ) (a0 a1 a2 : Option (List Accepted
         (subst (λ (most : Limits). IsGivenBack most desk status b1 b2 c1 c2) l given);
   })
 
--- nothing was answered for want of memory
-pub starved : (name pattern : Bytes) (a : Option (List Accepted)) (g : Option ℕ) (b : Option (List Report)) (f : ℕ) (c0 c1 : Option (List ℕ))
-    → PipeEnds name pattern 7 (record { answered = a; gave = g; back = b; faults = f }) (record { answered = a; gave = g; back = b; faults = f }) c0 c1
-starved name pattern a g b f c0 c1 =
-    inl (record { gave = refl; back = refl; unserved = HasStarved refl (record { quiets = 0; few = omega arith; answered = sym (grown-nil a) }) })
+-- no link came
+module _ (name pattern : Bytes) (a0 a1 : Option (List Accepted)) (g0 g1 : Option ℕ) (b0 b1 : Option (List Report)) (f0 f1 : ℕ) (c0 c1 : Option (List ℕ)) (gave : g1 ≡ g0) (back : b1 ≡ b0) where
+  abbrev Unlinked : ℕ → Type 0
+  Unlinked status = PipeEnds name pattern status (record { answered = a0; gave = g0; back = b0; faults = f0 }) (record { answered = a1; gave = g1; back = b1; faults = f1 }) c0 c1
+
+  module _ (now : ℕ) (read : ReadsMoment c0 now c1) where
+    once : ReadsOnce c0 c1
+    once = (now, (read.first, read.rest))
+
+    pub was_closed : IsAccepted a0 a1 (accepted.Closed ∷ []) → Unlinked 0
+    was_closed a = inl (record { gave = gave; back = back; unserved = WasClosed refl once a })
+
+    pub has_failed : Rose f0 f1 → IsAccepted a0 a1 (accepted.Failed ∷ []) → Unlinked 8
+    has_failed r a = inl (record { gave = gave; back = back; unserved = HasFailed refl once r a })
+
+    pub was_quiet : IsQuiet a0 a1 → Unlinked 6
+    was_quiet a = inl (record { gave = gave; back = back; unserved = WasQuiet refl once a })
+
+    pub has_starved : IsAccepted a0 a1 [] → Unlinked 7
+    has_starved a = inl (record { gave = gave; back = back; unserved = HasStarved refl (inr once) a })
+
+  -- before the clock was read
+  pub starved_unread : c1 ≡ c0 → IsAccepted a0 a1 [] → Unlinked 7
+  starved_unread unread a = inl (record { gave = gave; back = back; unserved = HasStarved refl (inl unread) a })
+
+-- nothing was accepted
+pub none_accepted : (a : Option (List Accepted)) → IsAccepted a a []
+none_accepted a = record { quiets = 0; few = omega arith; answered = sym (grown-nil a) }
 
 -- ---- the words
 
@@ -114,10 +137,10 @@ module _ (read : Option (Bytes × Bytes)) (name pattern : Bytes) (e : read ≡ S
       subst (λ (o : Option (Bytes × Bytes)). IfSome o (λ command. PipeEnds command.0 command.1 status old new c0 c1)) (sym e) h
 
 -- nothing was run for want of memory
-pub ends_starved : (read : Option (Bytes × Bytes)) (a : Option (List Accepted)) (g : Option ℕ) (b : Option (List Report)) (f : ℕ) (c0 c1 : Option (List ℕ))
-    → IfSome read (λ command. PipeEnds command.0 command.1 7 (record { answered = a; gave = g; back = b; faults = f }) (record { answered = a; gave = g; back = b; faults = f }) c0 c1)
-ends_starved None a g b f c0 c1 = tt
-ends_starved (Some command) a g b f c0 c1 = starved command.0 command.1 a g b f c0 c1
+pub ends_starved : (read : Option (Bytes × Bytes)) (a : Option (List Accepted)) (g : Option ℕ) (b : Option (List Report)) (f : ℕ) (c : Option (List ℕ))
+    → IfSome read (λ command. PipeEnds command.0 command.1 7 (record { answered = a; gave = g; back = b; faults = f }) (record { answered = a; gave = g; back = b; faults = f }) c c)
+ends_starved None a g b f c = tt
+ends_starved (Some command) a g b f c = starved_unread command.0 command.1 a a g g b b f f c c refl refl refl (none_accepted a)
 
 -- the line was put to the sink
 pub printed : (put : Put) (w0 w1 : Option Bytes) (f0 f1 : ℕ) → Writes w0 w1 put refusal → HasCause f0 f1 (put ≡ puts.Failed) → PrintsWords w0 w1 f0 f1

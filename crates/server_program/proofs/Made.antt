@@ -4,12 +4,15 @@ use Rattle.std.specs.Str.{is_utf8, chars}
 use Rattle.std.specs.Prelude.{is_none, nat_lt, nat_le, if◌then◌else◌, Result, Ok, Err, length, IsTrue}
 use Rattle.std.proofs.lemmas.Bool.Decides.{nat_tests}
 use Rattle.js_base.specs.Bytes.{Bytes}
+use Rattle.js_base.specs.declared.out.ApiError.{ApiError}
 use Rattle.js_base.specs.Names.{name_of, unless_bad, first_bad, is_name_byte}
 use Rattle.js_base.specs.declared.name.NameFault.{NameFault}
 use Rattle.js_base.specs.declared.name.NameFault.TheVariants.{TooLong}
 use Rattle.js_base.proofs.Places.{none_fails}
 use Rattle.js_model.specs.Configs.{is_name, is_stream_subject, is_stream_config}
 use Rattle.js_model.specs.Proper.{is_proper}
+use Rattle.js_model.specs.Events.{kept_incarnation}
+use Rattle.js_model.specs.declared.event.Event.{Event}
 use Rattle.server_program.specs.Places.{IsBuilt}
 use Rattle.js_model.specs.declared.desk.PlaceAt.{PlaceAt}
 use Rattle.js_model.specs.declared.stream.State.{State}
@@ -57,6 +60,12 @@ unfolding making
 proper_making incarnation name subject first n s =
     both _ _ (both _ _ (ap (λ (i : ℕ). nat_le i (2 ^ 62)) first) refl) (default_is name subject (name_is name n) s)
 
+-- it is for the first stream of a vacant place
+pub first_making : (event : Event) (old : State) (incarnation : ℕ) (name subject : Bytes) → event ≡ making incarnation name subject → incarnation ≡ 1 → old ≡ Vacant 0
+    → event.incarnation ≡ kept_incarnation old
+unfolding making
+first_making event old incarnation name subject e first vacant = ap (λ (x : Event). x.incarnation) e ∙ first ∙ sym (ap kept_incarnation vacant)
+
 -- and one that a vacant place takes
 pub built_making : (old : State) (incarnation : ℕ) (name subject : Bytes) → old ≡ Vacant 0 → IsBuilt old (making incarnation name subject)
 unfolding making default_config
@@ -69,6 +78,17 @@ built_making old incarnation name subject e = subst (λ (state : State). IsBuilt
 abbrev starved_number : catalog.CatTold → ℕ
 starved_number catalog.NoMemory = suc zero
 starved_number _ = zero
+
+-- one for a refusal
+abbrev refused_number : catalog.CatTold → ℕ
+refused_number (catalog.Refused error) = suc zero
+refused_number _ = zero
+
+-- where there is no stream yet, none is refused
+pub not_refused : (name subject : Bytes) (error : ApiError) (new : catalog.Catalog) → catalog.IsCatalogCall (new_place ∷ []) (catalog.Add name (subject ∷ [])) (catalog.Refused error) new → ⊥
+unfolding catalog.catalog_call
+not_refused name subject error new (inl e) = impossible (ap (λ (x : catalog.Cataloged). refused_number x.told) e)
+not_refused name subject error new (inr e) = impossible (sym (ap refused_number e.0))
 
 pub added : (name subject : Bytes) (at : PlaceAt) (new : catalog.Catalog) → catalog.IsCatalogCall (new_place ∷ []) (catalog.Add name (subject ∷ [])) (catalog.At (Some at)) new → IsAdded name subject at new
 unfolding catalog.catalog_call

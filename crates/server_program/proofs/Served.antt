@@ -10,7 +10,7 @@ use Rattle.link_edge.specs.declared.answers.Answer.{Answer}
 use Rattle.link_edge.proofs.Told.{grown-nil, grown_on}
 use Rattle.server_program.specs.Desks.{DeskEntry}
 use Rattle.server_program.specs.Calls.{Open, Close, Opened, Done, Worn, NoMemory, DeskAnswer, Makes}
-use Rattle.server_program.specs.Talk.{Called, Nothing, Turn, IsWritten, IsFrontOf, IsSilent, TalksBy, start, greeting, heard_bytes, turn_spoken, last_spoken, last_answers, entries_of_calls, entries_of_turn, entries_of_last}
+use Rattle.server_program.specs.Talk.{Called, Last, Nothing, Told, Within, Turn, IsWritten, IsFrontOf, IsSilent, TalksBy, start, greeting, heard_bytes, turn_spoken, last_spoken, last_answers, entries_of_calls, entries_of_turn, entries_of_last}
 use Rattle.server_program.specs.Giving.{Gives, IsLinkFault}
 use Rattle.server_program.specs.Session.{Converses, Serves, end_of}
 use Rattle.server_program.specs.declared.giving.Stop.{Stop}
@@ -25,12 +25,21 @@ use Rattle.server_program.specs.declared.session.Refusal.TheVariants as refusals
 front_behind : (front bytes whole : Bytes) → IsFrontOf bytes whole → IsFrontOf (front ++ bytes) (front ++ whole)
 front_behind front bytes whole h = (h.0, append_assoc front bytes h.0 ∙ ap (λ (more : Bytes). front ++ more) h.1)
 
-written_behind : (ended : Ended) (front bytes whole : Bytes) → IsWritten ended bytes whole → IsWritten ended (front ++ bytes) (front ++ whole)
-written_behind ends.Closed front bytes whole h = ap (λ (more : Bytes). front ++ more) h
-written_behind (ends.Refused refusal) front bytes whole h = ap (λ (more : Bytes). front ++ more) h
-written_behind ends.LinkFault front bytes whole h = front_behind front bytes whole h
-written_behind ends.InputLimit front bytes whole h = ap (λ (more : Bytes). front ++ more) h
-written_behind ends.NoMemory front bytes whole h = front_behind front bytes whole h
+whole_behind : (front bytes whole : Bytes) → bytes ≡ whole → front ++ bytes ≡ front ++ whole
+whole_behind front bytes whole h = ap (λ (more : Bytes). front ++ more) h
+
+written_behind : (last : Last) (ended : Ended) (front bytes whole : Bytes) → IsWritten last ended bytes whole → IsWritten last ended (front ++ bytes) (front ++ whole)
+written_behind (Told answer) ended front bytes whole h = whole_behind front bytes whole h
+written_behind Nothing ends.Closed front bytes whole h = whole_behind front bytes whole h
+written_behind Nothing (ends.Refused refusal) front bytes whole h = whole_behind front bytes whole h
+written_behind Nothing ends.LinkFault front bytes whole h = front_behind front bytes whole h
+written_behind Nothing ends.InputLimit front bytes whole h = whole_behind front bytes whole h
+written_behind Nothing ends.NoMemory front bytes whole h = front_behind front bytes whole h
+written_behind (Within turn begun calls) ends.Closed front bytes whole h = whole_behind front bytes whole h
+written_behind (Within turn begun calls) (ends.Refused refusal) front bytes whole h = whole_behind front bytes whole h
+written_behind (Within turn begun calls) ends.LinkFault front bytes whole h = front_behind front bytes whole h
+written_behind (Within turn begun calls) ends.InputLimit front bytes whole h = whole_behind front bytes whole h
+written_behind (Within turn begun calls) ends.NoMemory front bytes whole h = front_behind front bytes whole h
 
 pub greeted : {D : Type 0} (made : D → List DeskEntry → D → Type 0) (limits : Limits) (session : ℕ) (front : Bytes) (d0 d1 : D) (a0 a1 a2 : Option (List Answer)) (g0 g1 g2 : Option Bytes) (c0 c1 : Option (List ℕ)) (ended : Ended)
     → g1 ≡ grown g0 front → a1 ≡ a0 → Converses made limits session [] d0 d1 a1 a2 g1 g2 c0 c1 ended → Converses made limits session front d0 d1 a0 a2 g0 g2 c0 c1 ended
@@ -41,7 +50,7 @@ greeted made limits session front d0 d1 a0 a1 a2 g0 g1 g2 c0 c1 ended e same h =
   bytes = front ++ h.bytes;
   are_turns = h.are_turns;
   ends = h.ends;
-  written = written_behind ended front h.bytes (heard_bytes true (flat_map turn_spoken h.turns ++ last_spoken h.last)) h.written;
+  written = written_behind h.last ended front h.bytes (heard_bytes true (flat_map turn_spoken h.turns ++ last_spoken h.last)) h.written;
   answered = h.answered ∙ ap (λ (o : Option (List Answer)). grown o (map (λ (turn : Turn). turn.answer) h.turns ++ last_answers h.last)) same;
   moments = h.moments;
   led = h.led;

@@ -1,5 +1,5 @@
 -- The calls of a desk, and which entries each of them makes.
-use Rattle.std.specs.Prelude.{◌≡◌, ◌≤◌, length, IsTrue, IfSome, ℕ, Bool, true, false, ◌||◌, ◌⊎◌, List, [], ◌∷◌, Option, Some, None, is_some, MatchBool, MatchOption, codes, nat_eq}
+use Rattle.std.specs.Prelude.{◌≡◌, ◌≤◌, ◌-◌, ◌^◌, length, IsTrue, IfSome, ℕ, Bool, true, false, ◌||◌, ◌⊎◌, List, [], ◌∷◌, Option, Some, None, is_some, MatchBool, MatchOption, codes, nat_eq}
 use Rattle.std.specs.List.{starts_with}
 use Rattle.js_base.specs.Bytes.{Bytes}
 use Rattle.js_base.specs.Subjects.{is_publish_text, is_subject_text}
@@ -118,7 +118,7 @@ nobody = record { subscriptions = 0; other = false }
 -- the entries that a call of this session makes with this answer
 abbrev pub Does : ℕ → DeskCall → DeskAnswer → List DeskEntry → Type 0
 Does session Open (Opened number) entries = (number ≡ session) × (entries ≡ Routed routes.Open (routes.Opened number) ∷ [])
-Does session Open (Worn kept) entries = entries ≡ Routed routes.Open routes.Worn ∷ []
+Does session Open (Worn kept) entries = (kept ≡ 2 ^ 62 - 1) × (entries ≡ Routed routes.Open routes.Worn ∷ [])
 Does session Open NoMemory entries = entries ≡ Routed routes.Open routes.NoMemory ∷ []
 Does session (Options echo headers no_responders) Done entries = entries ≡ Routed (routes.Options session echo headers) routes.Done ∷ []
 Does session (Sub subject sid) Done entries = entries ≡ Routed (routes.Sub session subject sid) routes.Done ∷ []

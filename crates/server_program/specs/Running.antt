@@ -90,23 +90,30 @@ pub record IsLinkServed (name pattern : Bytes) (status : ℕ) (old new : DoorTol
   pub gave : new.gave ≡ option_map (λ n. n + 1) old.gave
   pub given_back : IsGivenBack pipe_limits desk status old.back new.back rest clock_new
 
+-- the clock was read once, for the making of the stream
+abbrev pub ReadsOnce : Option (List ℕ) → Option (List ℕ) → Type 0
+ReadsOnce clock_old clock_new = (now : ℕ) × ReadsMoments clock_old (now ∷ []) clock_new
+
 -- why no link was served: the door was closed, it failed, it was quiet a million times, or memory ran out
-pub data IsUnserved (status : ℕ) (old new : DoorTold) : Type 0 where
-  WasClosed : status ≡ 0 → IsAccepted old.answered new.answered (accepted.Closed ∷ []) → IsUnserved status old new
-  HasFailed : status ≡ 8 → Rose old.faults new.faults → IsAccepted old.answered new.answered (accepted.Failed ∷ []) → IsUnserved status old new
-  WasQuiet : status ≡ 6 → IsQuiet old.answered new.answered → IsUnserved status old new
-  HasStarved : status ≡ 7 → IsAccepted old.answered new.answered [] → IsUnserved status old new
+pub data IsUnserved (status : ℕ) (old new : DoorTold) (clock_old clock_new : Option (List ℕ)) : Type 0 where
+  WasClosed : status ≡ 0 → ReadsOnce clock_old clock_new → IsAccepted old.answered new.answered (accepted.Closed ∷ [])
+      → IsUnserved status old new clock_old clock_new
+  HasFailed : status ≡ 8 → ReadsOnce clock_old clock_new → Rose old.faults new.faults → IsAccepted old.answered new.answered (accepted.Failed ∷ [])
+      → IsUnserved status old new clock_old clock_new
+  WasQuiet : status ≡ 6 → ReadsOnce clock_old clock_new → IsQuiet old.answered new.answered → IsUnserved status old new clock_old clock_new
+  HasStarved : status ≡ 7 → (clock_new ≡ clock_old) ⊎ ReadsOnce clock_old clock_new → IsAccepted old.answered new.answered []
+      → IsUnserved status old new clock_old clock_new
 
 -- no link was given out
-pub record NoLink (status : ℕ) (old new : DoorTold) : Type 0 where
+pub record NoLink (status : ℕ) (old new : DoorTold) (clock_old clock_new : Option (List ℕ)) : Type 0 where
   pub gave : new.gave ≡ old.gave
   pub back : new.back ≡ old.back
-  pub unserved : IsUnserved status old new
+  pub unserved : IsUnserved status old new clock_old clock_new
 
 -- how a run of the one command ends: without a link, or with one that was served
 abbrev pub PipeEnds : Bytes → Bytes → ℕ → DoorTold → DoorTold → Option (List ℕ) → Option (List ℕ) → Type 0
 PipeEnds name pattern status old new clock_old clock_new =
-    NoLink status old new ⊎ IsLinkServed name pattern status old new clock_old clock_new
+    NoLink status old new clock_old clock_new ⊎ IsLinkServed name pattern status old new clock_old clock_new
 
 -- the line that refuses the words
 abbrev pub refusal : Bytes

@@ -28,7 +28,7 @@ pub record Converses {D : Type 0} (made : D → List DeskEntry → D → Type 0)
   pub bytes : Bytes
   pub are_turns : AreTurns limits session start turns stage
   pub ends : IsEnd limits session stage last ended
-  pub written : IsWritten ended bytes (front ++ heard_bytes true (flat_map turn_spoken turns ++ last_spoken last))
+  pub written : IsWritten last ended bytes (front ++ heard_bytes true (flat_map turn_spoken turns ++ last_spoken last))
   pub answered : answered_new ≡ grown answered_old (map (λ (turn : Turn). turn.answer) turns ++ last_answers last)
   pub moments : ReadsMoments clock_old (map (λ (turn : Turn). turn.moment) turns ++ last_moments last) clock_new
   pub led : made desk_old (flat_map entries_of_turn turns ++ entries_of_last last) desk_new

@@ -140,17 +140,16 @@ abbrev pub AreSpoken : ℕ → ℕ → List Spoken → Type 0
 AreSpoken session now [] = Unit {0}
 AreSpoken session now (spoken ∷ more) = IsSpoken session now spoken × AreSpoken session now more
 
--- collects that were answered by frames
-abbrev pub AreCollected : ℕ → List Called → Type 0
-AreCollected session [] = Unit {0}
-AreCollected session (called ∷ others) = ((more : Bool) × IsCollect session more called) × AreCollected session others
+-- a collect that found no memory
+abbrev pub IsStarved : ℕ → Called → Type 0
+IsStarved session called = (max : ℕ) × (called.call ≡ Collect max) × (called.answer ≡ NoMemory) × IsMade session called
 
--- collects of which the last found no memory, or the writing of what they gave
+-- no collects, or some that each left more and a last one: it found no memory, or the writing of what it gave
 abbrev pub AreStopped : ℕ → List Called → Type 0
 AreStopped session calls =
-    AreCollected session calls
-    ⊎ ((front : List Called) × (called : Called) × (max : ℕ) × (calls ≡ front ++ called ∷ []) × AreCollecting session front × (called.call ≡ Collect max)
-    × (called.answer ≡ NoMemory) × IsMade session called)
+    (calls ≡ [])
+    ⊎ ((front : List Called) × (called : Called) × (calls ≡ front ++ called ∷ []) × AreCollecting session front
+    × (((more : Bool) × IsCollect session more called) ⊎ IsStarved session called))
 
 -- the calls of an operation that found no memory: before its own call, in it, or after it
 pub data IsBegun (session now : ℕ) (op : Op) (calls : List Called) : Type 0 where
@@ -295,11 +294,13 @@ bytes_of limits session journal = greeting limits session ++ heard_bytes true (s
 abbrev pub IsFrontOf : Bytes → Bytes → Type 0
 IsFrontOf front whole = (more : Bytes) × (front ++ more ≡ whole)
 
--- all bytes were written, or a front of them where the link failed or memory ran out
-abbrev pub IsWritten : Ended → Bytes → Bytes → Type 0
-IsWritten ends.LinkFault bytes whole = IsFrontOf bytes whole
-IsWritten ends.NoMemory bytes whole = IsFrontOf bytes whole
-IsWritten _ bytes whole = bytes ≡ whole
+-- all bytes were written, or a front of them where a writing failed or memory ran out. What a link answers last finds all written, and each
+-- of its answers can be the last one: so all is written before the link is asked again
+abbrev pub IsWritten : Last → Ended → Bytes → Bytes → Type 0
+IsWritten (Told answer) ended bytes whole = bytes ≡ whole
+IsWritten last ends.LinkFault bytes whole = IsFrontOf bytes whole
+IsWritten last ends.NoMemory bytes whole = IsFrontOf bytes whole
+IsWritten last _ bytes whole = bytes ≡ whole
 
 abbrev pub IsClosedBy : ℕ → List Called → Type 0
 IsClosedBy session calls = (called : Called) × (calls ≡ called ∷ []) × (called.call ≡ Close) × (called.answer ≡ Done) × IsMade session called
@@ -310,7 +311,7 @@ pub record IsTalk (limits : Limits) (session : ℕ) (journal : Journal) (bytes :
   pub turns : AreTurns limits session start journal.turns stage
   pub ends : IsEnd limits session stage journal.last ended
   pub closed : IsClosedBy session journal.closed
-  pub written : IsWritten ended bytes (bytes_of limits session journal)
+  pub written : IsWritten journal.last ended bytes (bytes_of limits session journal)
 
 -- a session that was not
 pub record IsSilent (journal : Journal) (bytes : Bytes) : Type 0 where

@@ -8,7 +8,7 @@ ghost use Rattle.server_program.specs.Places.{IsBuilt};
 ghost use Rattle.server_program.specs.Routing.{KeepsOpen};
 ghost use Rattle.server_program.specs.Holding.{listed, Routes, MakesEvent, Sends, Holds};
 
-use crate::place::Place;
+use crate::place::{Place, PlaceFault};
 use crate::publish_text::publish_text;
 use crate::router::Router;
 use js_base::{Blob, List, Moment, NoMemory, Out, Outs};
@@ -117,6 +117,7 @@ fn make(
     now: Moment,
     outs: &mut Outs,
 ) -> Result<bool, NoMemory>
+    requires kept { event.now.incarnation ≡ kept_incarnation place.old }
     requires built { IsBuilt place.old event.now }
     ensures makes { MakesEvent result event.now now place.old place.new outs.old outs.new }
     ensures incarnation { kept_incarnation place.new ≡ kept_incarnation place.old }
@@ -124,7 +125,8 @@ fn make(
     let stream = stream_name(place)?;
     match place.step(event, now, outs) {
         Ok(reply) => Ok(add_answer(alloc, stream.as_slice(), &event.what, &reply, outs)),
-        Err(_) => Err(NoMemory),
+        Err(PlaceFault::NoMemory) => Err(NoMemory),
+        Err(PlaceFault::Gone(_)) => unreachable!(),
     }
 }
 
@@ -136,6 +138,7 @@ pub fn hold(
     event: &Event,
     now: Moment,
 ) -> Result<(), HoldFault>
+    requires kept { event.now.incarnation ≡ kept_incarnation place.old }
     requires built { IsBuilt place.old event.now }
     requires proper { IsTrue (is_proper event.now) }
     ensures holds { Holds result event.now now place.old place.new router.old router.new }

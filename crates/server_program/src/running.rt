@@ -140,9 +140,9 @@ pub fn run<R: Door, V, C: Clock, G: Gate, O: Sink>(
     requires volumes { vec_len vols ≤ 32 }
     requires links { IsBalanced (R.gave door) (R.back door) }
 
-    // Status 2 comes exactly where the words are none of the forms. They are refused in a line, and the door is not touched.
+    // Status 2 comes exactly where the words are none of the forms. They are refused in a line, the door is not touched and the clock not read.
     ensures words { (result.status ≡ 2) ↔ (command_of (texts words.now) ≡ None) }
-    ensures refused { command_of (texts words.now) ≡ None → (result.door ≡ door) × PrintsWords (O.written out.old) (O.written out.new) (O.faults out.old) (O.faults out.new) }
+    ensures refused { command_of (texts words.now) ≡ None → (result.door ≡ door) × (C.to_come clock.new ≡ C.to_come clock.old) × PrintsWords (O.written out.old) (O.written out.new) (O.faults out.old) (O.faults out.new) }
 
     // Else the status tells why the run ended, and the link that came back was served by it.
     ensures ends { IfSome (command_of (texts words.now)) (λ command. PipeEnds command.0 command.1 result.status

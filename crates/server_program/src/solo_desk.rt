@@ -12,7 +12,7 @@ ghost use Rattle.server_program.specs.Catalogs.{new_place};
 ghost use Rattle.js_model.specs.declared.stream.State.TheVariants.{Vacant};
 ghost use Rattle.server_program.specs.Solo.{SoloRun, frames_left, IsMade};
 
-use crate::catalog::Catalog;
+use crate::catalog::{Catalog, CatalogFault};
 use crate::desk::{Desk, OpenFault};
 use crate::holding::{HoldFault, hold};
 use crate::place::Place;
@@ -155,7 +155,8 @@ fn add(
 {
     match catalog.add(name.as_blob().clone()?, one_subject(alloc, subject)?) {
         Ok(at) => Ok(at),
-        Err(_) => Err(NoMemory),
+        Err(CatalogFault::NoMemory) => Err(NoMemory),
+        Err(CatalogFault::Refused(_)) => unreachable!(),
     }
 }
 
@@ -209,6 +210,7 @@ fn store(
     requires plain { IsPlain message.now }
     requires unreserved { is_reserved message.now.to ≡ false }
     requires incarnation { at.incarnation ≤ 2 ^ 62 }
+    requires kept { at.incarnation ≡ kept_incarnation place.old }
     ensures holds { Holds result (published_event at.incarnation message.now) now place.old place.new router.old router.new }
     ensures incarnation { kept_incarnation place.new ≡ kept_incarnation place.old }
     ensures stay { KeepsOpen router.old router.new }

@@ -11,7 +11,7 @@ pipe-status-requires-clause-subject g c =
     grind (arith, common_steps)
 
 pub returns-in-Err-Words-clause-refused : goal.returns-in-Err-Words-clause-refused
-returns-in-Err-Words-clause-refused g c = λ none. (refl, printed c.put.result _ _ _ _ c.put.ensures.written c.put.ensures.cause)
+returns-in-Err-Words-clause-refused g c = λ none. (refl, refl, printed c.put.result _ _ _ _ c.put.ensures.written c.put.ensures.cause)
 
 pub returns-in-Err-NoMemory-clause-ends : goal.returns-in-Err-NoMemory-clause-ends
-returns-in-Err-NoMemory-clause-ends g c = ends_starved (command_of (texts c.args.words.now)) _ _ _ _ _ _
+returns-in-Err-NoMemory-clause-ends g c = ends_starved (command_of (texts c.args.words.now)) _ _ _ _ _

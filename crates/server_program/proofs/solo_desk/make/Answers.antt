@@ -1,5 +1,8 @@
-use Rattle.server_program.proofs.Made.{proper_making, built_making}
+use Rattle.server_program.proofs.Made.{first_making, proper_making, built_making}
 use Rattle.server_program.proofs.solo_desk.make.Goals as goal
+
+pub hold-requires-clause-kept : goal.hold-requires-clause-kept
+hold-requires-clause-kept c = first_making _ _ _ _ _ c.in-Ok.ensures.event c.requires.first c.requires.vacant
 
 pub hold-requires-clause-built : goal.hold-requires-clause-built
 hold-requires-clause-built c = rw c.in-Ok.ensures.event (built_making _ _ _ _ c.requires.vacant)

@@ -8,7 +8,7 @@ returns-in-Ok-clause-made c =
 
 pub returns-in-Err-Worn-clause-made : goal.returns-in-Err-Worn-clause-made
 returns-in-Err-Worn-clause-made c =
-    makes_one _ _ _ _ _ _ _ _ _ _ _ _ _ _ c.self.view_is (rw (c.in-Err-Worn.is, c.in-Err-Worn.field-0-is) at c.open.ensures.routes) refl
+    makes_one _ _ _ _ _ _ _ _ _ _ _ _ _ _ c.self.view_is (rw (c.in-Err-Worn.is, c.in-Err-Worn.field-0-is) at c.open.ensures.routes) (refl, refl)
 
 pub returns-in-Err-NoMemory-clause-made : goal.returns-in-Err-NoMemory-clause-made
 returns-in-Err-NoMemory-clause-made c =

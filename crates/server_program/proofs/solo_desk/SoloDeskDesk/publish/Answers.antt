@@ -25,6 +25,12 @@ store-requires-clause-incarnation c =
     let f = found_at _ i.entry _ _ i.catalog_is (rw c.in-Some-find.is at c.find.ensures.found) in
     subst (λ (n : ℕ). n ≤ 2 ^ 62) (sym f.1) i.small
 
+pub store-requires-clause-kept : goal.store-requires-clause-kept
+store-requires-clause-kept c =
+    let i = c.self.invariant in
+    let f = found_at _ i.entry _ _ i.catalog_is (rw c.in-Some-find.is at c.find.ensures.found) in
+    f.1 ∙ i.kept
+
 pub returns-clause-made : goal.returns-clause-made
 returns-clause-made c =
     let e = c.self.view_is in
