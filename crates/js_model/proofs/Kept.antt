@@ -29,6 +29,7 @@ use Rattle.js_model.specs.Refusals.{first_refusal}
 use Rattle.js_model.specs.Configs.{same_stream_config, same_consumer_config, same_retention}
 use Rattle.js_model.specs.Proper.{is_proper_what}
 use Rattle.js_model.specs.Advance.{advance}
+use Rattle.js_model.specs.Retention.{kept, is_kept}
 use Rattle.js_model.specs.Trim.{trim}
 use Rattle.js_model.specs.Verdict.{verdict, message_of}
 use Rattle.js_model.specs.Acknowledge.{is_no_delivery}
@@ -37,10 +38,10 @@ use Rattle.js_model.specs.Events.{Answer, stream_answer, answered, settled, sett
 use Rattle.js_model.specs.Deliver.{IsDelivery}
 use Rattle.js_model.specs.Runs.{RunFrom, messages_of}
 use Rattle.js_model.specs.Sound.{IsSoundStream, IsSound}
-use Rattle.js_model.specs.Laws.{LawKept, IsAged, IsTrimmed, Leaves, LeavesOnEvent, aged, purged, deleted as deleted_it, dropped, trimmed, unneeded, LeavesOnDelivery, aged_by_then, not_needed}
+use Rattle.js_model.specs.Laws.{LawKept, IsAged, IsTrimmed, IsUnneededWithinLimits, Leaves, LeavesOnEvent, aged, purged, deleted as deleted_it, dropped, trimmed, unneeded, LeavesOnDelivery, aged_by_then, not_needed}
 use Rattle.js_model.proofs.Facts.{IfLive, at_answer}
-use Rattle.js_model.proofs.Members.{IsIn, in_push, found_in, in_from_contains}
-use Rattle.js_model.proofs.Leaving.{young_or_aged, trim_part, in_part_by_seq, kept_or_unneeded, in_passing, seq_there}
+use Rattle.js_model.proofs.Members.{IsIn, in_push, found_in, in_from_contains, contains_from_in}
+use Rattle.js_model.proofs.Leaving.{young_or_aged, trim_part, in_part_by_seq, kept_or_unneeded, in_passing}
 use Rattle.js_model.proofs.SoundTime.{sound_time}
 use Rattle.js_model.proofs.Sounding.{IsProperWhat, sound_fact, law_sound}
 
@@ -94,97 +95,102 @@ module _ (m : Message) where
 
   -- ---- the events that remove messages
 
-  if_purged : (s : Stream) (now : ℕ) (new : State) (reply : Option Bytes) (pattern : Bytes) (below keep : Option ℕ) (room : Bool) → IsIn m (advance s now).messages
-      → LeavesOnEvent s (Purge reply pattern below keep) now new m ⊎ Holds m (stream_answer (advance s now) (Purge reply pattern below keep) room).state
-  if_purged s now new reply pattern below keep room h = go (has (seqs (purge_list (advance s now) pattern below keep)) m.seq) refl
+  if_purged : (s : Stream) (now : ℕ) (new : State) (e : Event) (reply : Option Bytes) (pattern : Bytes) (below keep : Option ℕ) (room : Bool) → e.what ≡ Purge reply pattern below keep → IsIn m (advance s now).messages
+      → LeavesOnEvent s e now new m ⊎ Holds m (stream_answer (advance s now) (Purge reply pattern below keep) room).state
+  if_purged s now new e reply pattern below keep room is h = go (has (seqs (purge_list (advance s now) pattern below keep)) m.seq) refl
     where
-      go : (b : Bool) → has (seqs (purge_list (advance s now) pattern below keep)) m.seq ≡ b → LeavesOnEvent s (Purge reply pattern below keep) now new m ⊎ IsIn m (filter (λ x. not (has (seqs (purge_list (advance s now) pattern below keep)) x.seq)) (advance s now).messages)
-      go true e = inl (purged reply pattern below keep refl e)
-      go false e = inr (in_passing (λ x. not (has (seqs (purge_list (advance s now) pattern below keep)) x.seq)) m (advance s now).messages h (ap not e))
+      go : (b : Bool) → has (seqs (purge_list (advance s now) pattern below keep)) m.seq ≡ b → LeavesOnEvent s e now new m ⊎ IsIn m (filter (λ x. not (has (seqs (purge_list (advance s now) pattern below keep)) x.seq)) (advance s now).messages)
+      go true q = inl (purged reply pattern below keep is q)
+      go false q = inr (in_passing (λ x. not (has (seqs (purge_list (advance s now) pattern below keep)) x.seq)) m (advance s now).messages h (ap not q))
 
-  if_deleted : (s : Stream) (now : ℕ) (new : State) (reply : Option Bytes) (n : ℕ) (room : Bool) → IsIn m (advance s now).messages
-      → LeavesOnEvent s (Delete reply n) now new m ⊎ Holds m (stream_answer (advance s now) (Delete reply n) room).state
-  if_deleted s now new reply n room h = go (message_at (advance s now) n) refl
+  if_deleted : (s : Stream) (now : ℕ) (new : State) (e : Event) (reply : Option Bytes) (n : ℕ) (room : Bool) → e.what ≡ Delete reply n → IsIn m (advance s now).messages
+      → LeavesOnEvent s e now new m ⊎ Holds m (stream_answer (advance s now) (Delete reply n) room).state
+  if_deleted s now new e reply n room is h = go (message_at (advance s now) n) refl
     where
-      gone : (d : Message) → message_at (advance s now) n ≡ Some d → (b : Bool) → (d.seq == m.seq) ≡ b → LeavesOnEvent s (Delete reply n) now new m ⊎ IsIn m (filter (λ x. not (has (d.seq ∷ []) x.seq)) (advance s now).messages)
-      gone d e true q = inl (deleted_it reply (ap (Delete reply) (sym (eqb-true d.seq n (found_in (λ x. x.seq == n) d (advance s now).messages e).1) ∙ eqb-true d.seq m.seq q)))
-      gone d e false q = inr (in_passing (λ x. not (has (d.seq ∷ []) x.seq)) m (advance s now).messages h (ap (λ (b : Bool). not (b || false)) q))
+      gone : (d : Message) → message_at (advance s now) n ≡ Some d → (b : Bool) → (d.seq == m.seq) ≡ b → LeavesOnEvent s e now new m ⊎ IsIn m (filter (λ x. not (has (d.seq ∷ []) x.seq)) (advance s now).messages)
+      gone d f true q = inl (deleted_it reply (is ∙ ap (Delete reply) (sym (eqb-true d.seq n (found_in (λ x. x.seq == n) d (advance s now).messages f).1) ∙ eqb-true d.seq m.seq q)))
+      gone d f false q = inr (in_passing (λ x. not (has (d.seq ∷ []) x.seq)) m (advance s now).messages h (ap (λ (b : Bool). not (b || false)) q))
 
-      go : (o : Option Message) → message_at (advance s now) n ≡ o → LeavesOnEvent s (Delete reply n) now new m ⊎ Holds m (deleted (advance s now) o).state
-      go None e = inr h
-      go (Some d) e = gone d e (d.seq == m.seq) refl
+      go : (o : Option Message) → message_at (advance s now) n ≡ o → LeavesOnEvent s e now new m ⊎ Holds m (deleted (advance s now) o).state
+      go None f = inr h
+      go (Some d) f = gone d f (d.seq == m.seq) refl
 
   -- the event removes the message, or what it leaves holds it
-  removed_or_held : (s : Stream) (now : ℕ) (new : State) (what : What) (room : Bool) → IsIn m (advance s now).messages → LeavesOnEvent s what now new m ⊎ Holds m (stream_answer (advance s now) what room).state
-  removed_or_held s now new (Make reply config) room h = inr (if_either (same_stream_config config (advance s now).config) _ _ h h)
-  removed_or_held s now new (Change reply config) room h = inr (if_either (same_retention config.retention (advance s now).config.retention) _ _ h h)
-  removed_or_held s now new (DropStream reply) room h = inl (dropped reply refl)
-  removed_or_held s now new (PublishIt p) room h = inr (if_published (advance s now) p (verdict (advance s now) p room) h)
-  removed_or_held s now new (Purge reply pattern below keep) room h = if_purged s now new reply pattern below keep room h
-  removed_or_held s now new (Delete reply n) room h = if_deleted s now new reply n room h
-  removed_or_held s now new (MakeConsumer reply name config update) room h = inr (if_asked (advance s now) name config update (by_name (advance s now).consumers name) h)
-  removed_or_held s now new (DropConsumer reply name) room h = inr (if_dropped (advance s now) (by_name (advance s now).consumers name) h)
-  removed_or_held s now new (AckIt reply ack) room h = inr (if_acked (advance s now) reply ack.seq ack.kind (by_name (advance s now).consumers ack.consumer) h)
-  removed_or_held s now new (PullIt reply name ask) room h = inr (if_pulled (advance s now) reply ask (by_name (advance s now).consumers name) h)
-  removed_or_held s now new Tick room h = inr h
-  removed_or_held s now new (AskStream reply) room h = inr h
-  removed_or_held s now new (MessageGet reply by) room h = inr (if_message (advance s now) (message_by (advance s now) by) h)
-  removed_or_held s now new (AskConsumer reply name) room h = inr (if_told (advance s now) (by_name (settled (advance s now)).consumers name) h)
-  removed_or_held s now new (ConsumerNames reply offset) room h = inr h
-  removed_or_held s now new (ConsumerList reply offset) room h = inr h
+  removed_or_held : (s : Stream) (now : ℕ) (new : State) (e : Event) (what : What) (room : Bool) → e.what ≡ what → IsIn m (advance s now).messages → LeavesOnEvent s e now new m ⊎ Holds m (stream_answer (advance s now) what room).state
+  removed_or_held s now new e (Make reply config) room is h = inr (if_either (same_stream_config config (advance s now).config) _ _ h h)
+  removed_or_held s now new e (Change reply config) room is h = inr (if_either (same_retention config.retention (advance s now).config.retention) _ _ h h)
+  removed_or_held s now new e (DropStream reply) room is h = inl (dropped reply is)
+  removed_or_held s now new e (PublishIt p) room is h = inr (if_published (advance s now) p (verdict (advance s now) p room) h)
+  removed_or_held s now new e (Purge reply pattern below keep) room is h = if_purged s now new e reply pattern below keep room is h
+  removed_or_held s now new e (Delete reply n) room is h = if_deleted s now new e reply n room is h
+  removed_or_held s now new e (MakeConsumer reply name config update) room is h = inr (if_asked (advance s now) name config update (by_name (advance s now).consumers name) h)
+  removed_or_held s now new e (DropConsumer reply name) room is h = inr (if_dropped (advance s now) (by_name (advance s now).consumers name) h)
+  removed_or_held s now new e (AckIt reply ack) room is h = inr (if_acked (advance s now) reply ack.seq ack.kind (by_name (advance s now).consumers ack.consumer) h)
+  removed_or_held s now new e (PullIt reply name ask) room is h = inr (if_pulled (advance s now) reply ask (by_name (advance s now).consumers name) h)
+  removed_or_held s now new e Tick room is h = inr h
+  removed_or_held s now new e (AskStream reply) room is h = inr h
+  removed_or_held s now new e (MessageGet reply by) room is h = inr (if_message (advance s now) (message_by (advance s now) by) h)
+  removed_or_held s now new e (AskConsumer reply name) room is h = inr (if_told (advance s now) (by_name (settled (advance s now)).consumers name) h)
+  removed_or_held s now new e (ConsumerNames reply offset) room is h = inr h
+  removed_or_held s now new e (ConsumerList reply offset) room is h = inr h
 
   -- ---- limits and retention
 
-  settling : (s : Stream) (now : ℕ) (what : What) (room : Bool) (st : State) → (stream_answer (advance s now) what room).state ≡ st → Holds m st → IfLive ⊤ IsSoundStream st → has (seqs (messages_of (settled_state st))) m.seq ≡ false → LeavesOnEvent s what now (settled_state st) m
-  settling s now what room (Vacant i) e h k gone = absurd h
-  settling s now what room (Live t) e h k gone = go (has (seqs (trim t).messages) m.seq) refl
+  settling : (s : Stream) (now : ℕ) (new : State) (e : Event) (room : Bool) (st : State) → (answered (Live s) e now room).state ≡ new → (stream_answer (advance s now) e.what room).state ≡ st → settled_state st ≡ new
+      → Holds m st → IfLive ⊤ IsSoundStream st → (IsIn m (messages_of new) → ⊥) → LeavesOnEvent s e now new m
+  settling s now new e room (Vacant i) own is left h k gone = absurd h
+  settling s now new e room (Live t) own is left h k gone = go (has (seqs (trim t).messages) m.seq) refl
     where
-      go : (b : Bool) → has (seqs (trim t).messages) m.seq ≡ b → LeavesOnEvent s what now (settled_state (Live t)) m
-      go true q = unneeded (kept_or_unneeded (trim t) m (in_part_by_seq 1 (t.last + 1) m (trim_part t) k.messages h q) gone)
-      go false q = trimmed room (subst (λ (z : State). IsTrimmed z m) (sym e) (seq_there m t.messages h, q))
+      within : IsIn m (trim t).messages → IsIn m (kept (trim t)).messages ⊎ (is_kept (trim t).config.retention (trim t).consumers m ≡ false) → LeavesOnEvent s e now new m
+      within i (inl w) = absurd (gone (subst (λ (z : State). IsIn m (messages_of z)) left w))
+      within i (inr w) = unneeded room own (subst (λ (z : State). IsUnneededWithinLimits z m) (sym is) (contains_from_in (trim t).messages m i, w))
+
+      go : (b : Bool) → has (seqs (trim t).messages) m.seq ≡ b → LeavesOnEvent s e now new m
+      go true q = let i = in_part_by_seq 1 (t.last + 1) m (trim_part t) k.messages h q in within i (kept_or_unneeded (trim t) m i)
+      go false q = trimmed room own (subst (λ (z : State). IsTrimmed z m) (sym is) (contains_from_in t.messages m h, q))
 
   after_event : (s : Stream) (new : State) (e : Event) (now : ℕ) (reply : Reply) (outs : List Out) → IsSoundStream s → IsEvent (Live s) e now reply outs new → IsTrue (is_proper_what e.what)
-      → IsIn m s.messages → has (seqs (messages_of new)) m.seq ≡ false → LeavesOnEvent s e.what now new m
+      → IsIn m s.messages → (IsIn m (messages_of new) → ⊥) → LeavesOnEvent s e now new m
   unfolding answered
   after_event s new e now reply outs k x proper h gone = either (young_or_aged s now m h)
     where
-      new_is : settled_state (stream_answer (advance s now) e.what x.room).state ≡ new
-      new_is = ap (λ (a : Answer). a.state) x.answers
+      own : (answered (Live s) e now x.room).state ≡ new
+      own = ap (λ (a : Answer). a.state) x.answers
 
-      held : Holds m (stream_answer (advance s now) e.what x.room).state → LeavesOnEvent s e.what now new m
-      held w = subst (λ (z : State). LeavesOnEvent s e.what now z m) new_is
-          (settling s now e.what x.room (stream_answer (advance s now) e.what x.room).state refl w
-          (at_answer IsProperWhat ⊤ IsSoundStream sound_fact (advance s now) e.what x.room proper (sound_time s now k))
-          (subst (λ (z : State). has (seqs (messages_of z)) m.seq ≡ false) (sym new_is) gone))
-
-      young : LeavesOnEvent s e.what now new m ⊎ Holds m (stream_answer (advance s now) e.what x.room).state → LeavesOnEvent s e.what now new m
+      young : LeavesOnEvent s e now new m ⊎ Holds m (stream_answer (advance s now) e.what x.room).state → LeavesOnEvent s e now new m
       young (inl w) = w
-      young (inr w) = held w
+      young (inr w) = settling s now new e x.room _ own refl own w (at_answer IsProperWhat ⊤ IsSoundStream sound_fact (advance s now) e.what x.room proper (sound_time s now k)) gone
 
-      either : IsIn m (advance s now).messages ⊎ IsAged s now m → LeavesOnEvent s e.what now new m
-      either (inl w) = young (removed_or_held s now new e.what x.room w)
+      either : IsIn m (advance s now).messages ⊎ IsAged s now m → LeavesOnEvent s e now new m
+      either (inl w) = young (removed_or_held s now new e e.what x.room refl w)
       either (inr w) = aged w
 
   after_delivery : (s : Stream) (new : State) (now : ℕ) (listening : List Bytes) (d : Delivery) (outs : List Out) → IsDelivery s now listening d outs new
-      → IsIn m s.messages → has (seqs (messages_of new)) m.seq ≡ false → LeavesOnDelivery s now new m
+      → IsIn m s.messages → (IsIn m (messages_of new) → ⊥) → LeavesOnDelivery s now listening d new m
   after_delivery s new now listening d outs x h gone = either (young_or_aged s now m h)
     where
-      either : IsIn m (advance s now).messages ⊎ IsAged s now m → LeavesOnDelivery s now new m
-      either (inl w) =
-          subst (λ (z : State). LeavesOnDelivery s now z m) (sym x.new_is)
-          (not_needed (kept_or_unneeded (with_consumer (advance s now) x.after) m w (subst (λ (z : State). has (seqs (messages_of z)) m.seq ≡ false) x.new_is gone)))
+      after : Stream
+      after = with_consumer (advance s now) x.after
+
+      young : IsIn m (advance s now).messages → IsIn m (kept after).messages ⊎ (is_kept after.config.retention after.consumers m ≡ false) → LeavesOnDelivery s now listening d new m
+      young i (inl w) = absurd (gone (subst (λ (z : State). IsIn m (messages_of z)) (sym x.new_is) w))
+      young i (inr w) = not_needed outs x (contains_from_in after.messages m i, w)
+
+      either : IsIn m (advance s now).messages ⊎ IsAged s now m → LeavesOnDelivery s now listening d new m
+      either (inl w) = young w (kept_or_unneeded after m w)
       either (inr w) = aged_by_then w
 
-  leaving : (later : ℕ) (old new : State) (entry : PlaceEntry) → IsSound old → RunFrom later old (entry ∷ []) new → IsIn m (messages_of old) → has (seqs (messages_of new)) m.seq ≡ false → Leaves old entry new m
+  leaving : (later : ℕ) (old new : State) (entry : PlaceEntry) → IsSound old → RunFrom later old (entry ∷ []) new → IsIn m (messages_of old) → (IsIn m (messages_of new) → ⊥) → Leaves old entry new m
   leaving later (Vacant i) new entry k r h gone = elim h [ ]
   leaving later (Live s) new (Step seat e now reply outs unsaid) k (mid, x, q) h gone =
-      subst (λ (z : State). LeavesOnEvent s e.what now z m) q
-      (after_event s mid e now reply outs k x.event (and_parts _ _ x.proper).1 h (subst (λ (z : State). has (seqs (messages_of z)) m.seq ≡ false) (sym q) gone))
+      subst (λ (z : State). LeavesOnEvent s e now z m) q
+      (after_event s mid e now reply outs k x.event (and_parts _ _ x.proper).1 h (λ i. gone (subst (λ (z : State). IsIn m (messages_of z)) q i)))
   leaving later (Live s) new (Deliver seat now listening d outs) k (mid, x, q) h gone =
-      subst (λ (z : State). LeavesOnDelivery s now z m) q
-      (after_delivery s mid now listening d outs x.delivered h (subst (λ (z : State). has (seqs (messages_of z)) m.seq ≡ false) (sym q) gone))
+      subst (λ (z : State). LeavesOnDelivery s now listening d z m) q
+      (after_delivery s mid now listening d outs x.delivered h (λ i. gone (subst (λ (z : State). IsIn m (messages_of z)) q i)))
   leaving later (Live s) new (Broken seat now (StepOf e)) k (reply, outs, x) h gone = after_event s new e now reply outs k x.event (and_parts _ _ x.proper).1 h gone
   leaving later (Live s) new (Broken seat now (DeliverOf listening d)) k (outs, x) h gone = after_delivery s new now listening d outs x.delivered h gone
 
 pub law_kept : LawKept
-law_kept count later first old new entries entry m h r q there gone = leaving m later old new entry (law_sound count first old entries h r) q (in_from_contains (messages_of old) m there) gone
+law_kept count later first old new entries entry m h r q there gone =
+    leaving m later old new entry (law_sound count first old entries h r) q (in_from_contains (messages_of old) m there) (λ i. gone (contains_from_in (messages_of new) m i))

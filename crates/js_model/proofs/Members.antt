@@ -3,7 +3,7 @@ use Rattle.std.proofs.Common.{◌≡◌, ℕ, zero, suc, ◌+◌, ◌<◌, ◌�
 use Rattle.std.specs.Prelude.{Some, None, filter, find, Contains, ◌==◌, All}
 use Rattle.std.specs.List.{list_any}
 use Rattle.std.proofs.lemmas.Bool.{true≢false, or_cases, or_left, or_right, eqb-true, and_parts, or_parts}
-use Rattle.std.proofs.lemmas.List.Elements.{All-head, All-tail}
+use Rattle.std.proofs.lemmas.List.Elements.{All-head, All-tail, All-contains_itself}
 use Rattle.js_model.specs.Lists.{Between, IsPart, keep, none, skip}
 use Rattle.js_model.proofs.Parts.{between_bounds}
 use Rattle.js_model.proofs.SoundParts.{none_below}
@@ -49,6 +49,9 @@ pub all_in : {X : Type 0} (P : X → Type 0) {x : X} (xs : List X) → All P xs 
 all_in P [] h k = elim k [ ]
 all_in P (y ∷ ys) h here = All-head P y ys h
 all_in P (y ∷ ys) h (there k) = all_in P ys (All-tail P y ys h) k
+
+pub contains_from_in : {X : Type 0} (xs : List X) (x : X) → IsIn x xs → Contains xs x
+contains_from_in xs x h = all_in (Contains xs) xs (All-contains_itself xs) h
 
 pub any_in : {X : Type 0} (t : X → Bool) (x : X) (xs : List X) → IsIn x xs → t x ≡ true → list_any t xs ≡ true
 any_in t x [] k e = elim k [ ]

@@ -25,12 +25,12 @@ use Rattle.js_model.specs.declared.entry.Call.TheVariants.{Step as StepOf, Deliv
 use Rattle.js_model.specs.declared.entry.PlaceEntry.{PlaceEntry}
 use Rattle.js_model.specs.declared.entry.PlaceEntry.TheVariants.{Step, Deliver, Broken}
 use Rattle.js_model.specs.Lists.{Ascends, IsPart}
-use Rattle.js_model.specs.Streams.{by_name, pending_seqs, seqs, size, is_push, passes_filter}
+use Rattle.js_model.specs.Streams.{by_name, pending_seqs, seqs, size, is_push, passes_filter, with_consumer}
 use Rattle.js_model.specs.Advance.{advance}
 use Rattle.js_model.specs.Retention.{is_kept}
 use Rattle.js_model.specs.Trim.{trim, max_messages}
-use Rattle.js_model.specs.Events.{purge_list, next_ask, stream_answer}
-use Rattle.js_model.specs.Deliver.{count_of}
+use Rattle.js_model.specs.Events.{purge_list, next_ask, stream_answer, answered}
+use Rattle.js_model.specs.Deliver.{count_of, IsDelivery}
 use Rattle.js_model.specs.Runs.{RunFrom, IsStep, messages_of}
 use Rattle.js_model.specs.Firm.{moment_of}
 use Rattle.js_model.specs.Sound.{IsSound}
@@ -143,41 +143,46 @@ pub record IsAged (s : Stream) (now : ℕ) (m : Message) : Type 0 where
   pub limited : (s.config.max_age == 0) ≡ false
   pub old : plus m.at s.config.max_age ≤ max s.moment now
 
--- a limit drops it from what the event leaves
+-- what the event leaves has it, and the limits drop it from that
 abbrev pub IsTrimmed : State → Message → Type 0
 IsTrimmed (Vacant i) m = ⊥
-IsTrimmed (Live s) m = (has (seqs s.messages) m.seq ≡ true) × (has (seqs (trim s).messages) m.seq ≡ false)
+IsTrimmed (Live s) m = Contains s.messages m × (has (seqs (trim s).messages) m.seq ≡ false)
 
--- the retention of the state after it does not ask for it
-abbrev pub IsUnneeded : State → Message → Type 0
-IsUnneeded (Vacant i) m = ⊥
-IsUnneeded (Live s) m = is_kept s.config.retention s.consumers m ≡ false
+-- the stream has it, and its retention does not ask for it by the consumers as they stand
+abbrev pub IsUnneeded : Stream → Message → Type 0
+IsUnneeded s m = Contains s.messages m × (is_kept s.config.retention s.consumers m ≡ false)
 
--- why a message of the stream is gone after an event
-pub data LeavesOnEvent (s : Stream) (what : What) (now : ℕ) (new : State) (m : Message) : Type 0 where
-  aged : IsAged s now m → LeavesOnEvent s what now new m
-  purged : (reply : Option Bytes) (pattern : Bytes) (below keep : Option ℕ) → what ≡ Purge reply pattern below keep → has (seqs (purge_list (advance s now) pattern below keep)) m.seq ≡ true → LeavesOnEvent s what now new m
-  deleted : (reply : Option Bytes) → what ≡ Delete reply m.seq → LeavesOnEvent s what now new m
-  dropped : (reply : Option Bytes) → what ≡ DropStream reply → LeavesOnEvent s what now new m
-  trimmed : (room : Bool) → IsTrimmed (stream_answer (advance s now) what room).state m → LeavesOnEvent s what now new m
-  unneeded : IsUnneeded new m → LeavesOnEvent s what now new m
+-- the limits keep it of what the event leaves, and the retention does not ask for it
+abbrev pub IsUnneededWithinLimits : State → Message → Type 0
+IsUnneededWithinLimits (Vacant i) m = ⊥
+IsUnneededWithinLimits (Live s) m = IsUnneeded (trim s) m
 
--- why a message of the stream is gone after a delivery
-pub data LeavesOnDelivery (s : Stream) (now : ℕ) (new : State) (m : Message) : Type 0 where
-  aged_by_then : IsAged s now m → LeavesOnDelivery s now new m
-  not_needed : IsUnneeded new m → LeavesOnDelivery s now new m
+-- why a message of the stream is gone after an event that left `new`: a reason's `room` is one with which the event leaves just that
+pub data LeavesOnEvent (s : Stream) (e : Event) (now : ℕ) (new : State) (m : Message) : Type 0 where
+  aged : IsAged s now m → LeavesOnEvent s e now new m
+  purged : (reply : Option Bytes) (pattern : Bytes) (below keep : Option ℕ) → e.what ≡ Purge reply pattern below keep → has (seqs (purge_list (advance s now) pattern below keep)) m.seq ≡ true → LeavesOnEvent s e now new m
+  deleted : (reply : Option Bytes) → e.what ≡ Delete reply m.seq → LeavesOnEvent s e now new m
+  dropped : (reply : Option Bytes) → e.what ≡ DropStream reply → LeavesOnEvent s e now new m
+  trimmed : (room : Bool) → (answered (Live s) e now room).state ≡ new → IsTrimmed (stream_answer (advance s now) e.what room).state m → LeavesOnEvent s e now new m
+  unneeded : (room : Bool) → (answered (Live s) e now room).state ≡ new → IsUnneededWithinLimits (stream_answer (advance s now) e.what room).state m → LeavesOnEvent s e now new m
+
+-- why a message of the stream is gone after a delivery that left `new`: the retention is asked with the consumer as it is after the delivery
+pub data LeavesOnDelivery (s : Stream) (now : ℕ) (listening : List Bytes) (d : Delivery) (new : State) (m : Message) : Type 0 where
+  aged_by_then : IsAged s now m → LeavesOnDelivery s now listening d new m
+  not_needed : (outs : List Out) (x : IsDelivery s now listening d outs new) → IsUnneeded (with_consumer (advance s now) x.after) m → LeavesOnDelivery s now listening d new m
 
 abbrev pub Leaves : State → PlaceEntry → State → Message → Type 0
 Leaves (Vacant i) entry new m = ⊥
-Leaves (Live s) (Step seat e now reply outs unsaid) new m = LeavesOnEvent s e.what now new m
-Leaves (Live s) (Deliver seat now listening d outs) new m = LeavesOnDelivery s now new m
-Leaves (Live s) (Broken seat now (StepOf e)) new m = LeavesOnEvent s e.what now new m
-Leaves (Live s) (Broken seat now (DeliverOf listening d)) new m = LeavesOnDelivery s now new m
+Leaves (Live s) (Step seat e now reply outs unsaid) new m = LeavesOnEvent s e now new m
+Leaves (Live s) (Deliver seat now listening d outs) new m = LeavesOnDelivery s now listening d new m
+Leaves (Live s) (Broken seat now (StepOf e)) new m = LeavesOnEvent s e now new m
+Leaves (Live s) (Broken seat now (DeliverOf listening d)) new m = LeavesOnDelivery s now listening d new m
 
+-- the message itself is gone: another one of its sequence does not stand for it
 abbrev pub LawKept : Type 0
 LawKept = (count later : ℕ) (first old new : State) (entries : List PlaceEntry) (entry : PlaceEntry) (m : Message)
     → IsSound first → RunFrom count first entries old → RunFrom later old (entry ∷ []) new
-    → Contains (messages_of old) m → has (seqs (messages_of new)) m.seq ≡ false → Leaves old entry new m
+    → Contains (messages_of old) m → (Contains (messages_of new) m → ⊥) → Leaves old entry new m
 
 -- ---- deliveries come in order
 

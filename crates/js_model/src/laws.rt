@@ -18,7 +18,9 @@ pub fn law_duplicate()
     ensures law { LawDuplicate }
 {}
 
-/// A stored message leaves only by its age, a purge, a delete, a drop of the stream, a limit or the retention.
+/// A stored message leaves by an event or a delivery only where it was too old by then, the event purged it, deleted it
+/// or dropped the stream, a limit dropped it from what the event left, or the retention did not ask for it. The retention
+/// goes by the consumers as the event or the delivery left them, while they still had the message.
 pub fn law_kept()
     ensures law { LawKept }
 {}
