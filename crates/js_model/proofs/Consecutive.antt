@@ -42,10 +42,10 @@ dseq_pulled now (Some reply) ask c = go ask (pull_refusal c ask)
     go (Some ask) None = refl
     go ask (Some block) = refl
 
-abbrev HasDseq : ℕ → Consumer → Type 0
+abbrev pub HasDseq : ℕ → Consumer → Type 0
 HasDseq d c = c.dseq ≡ d
 
-dseq_kept : (d : ℕ) → IsKept (HasDseq d)
+pub dseq_kept : (d : ℕ) → IsKept (HasDseq d)
 dseq_kept d = record {
   confined = λ ns c h. h;
   time = λ now c h. h;

@@ -26,6 +26,7 @@ pub mod Kept
 pub mod Consecutive
 pub mod StartOrder
 pub mod StoredBefore
+pub mod Making
 pub mod Ordering
 pub mod Redelivery
 pub mod AllConsumers

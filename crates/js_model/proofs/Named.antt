@@ -97,6 +97,17 @@ stands-with_new {name} {cs = cs} new e h = record { consumer = h.consumer; found
     apart true q = absurd (none_some (sym e ∙ ap (by_name cs) (same_is new.name name q) ∙ h.found))
     apart false q = q
 
+-- a consumer that was made is found
+pub by_name-made : (cs : List Consumer) (new : Consumer) → by_name cs new.name ≡ None → by_name (with_new cs new) new.name ≡ Some new
+by_name-made [] new h = rw (same_self new.name) refl
+by_name-made (c ∷ cs) new h = go (is_before c.name new.name) (same c.name new.name) refl h (by_name-made cs new)
+  where
+    go : (a b : Bool) → same c.name new.name ≡ b → cond b (Some c) (by_name cs new.name) ≡ None → (by_name cs new.name ≡ None → by_name (with_new cs new) new.name ≡ Some new)
+        → by_name (cond a (c ∷ with_new cs new) (new ∷ c ∷ cs)) new.name ≡ Some new
+    go a true e k r = absurd (none_some (sym k))
+    go true false e k r = ap (λ (b : Bool). cond b (Some c) (by_name (with_new cs new) new.name)) e ∙ r k
+    go false false e k r = rw (same_self new.name) refl
+
 by_name-without : (cs : List Consumer) (other name : Bytes) → same name other ≡ false → by_name (filter (λ d. not (same d.name other)) cs) name ≡ by_name cs name
 by_name-without [] other name h = refl
 by_name-without (c ∷ cs) other name h = go (same c.name other) (same c.name name) refl refl (by_name-without cs other name h)

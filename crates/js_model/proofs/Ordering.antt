@@ -5,12 +5,17 @@ use Rattle.js_base.specs.Bytes.{Bytes}
 use Rattle.js_model.specs.declared.stream.State.{State}
 use Rattle.js_model.specs.declared.stream.State.TheVariants.{Vacant, Live}
 use Rattle.js_model.specs.declared.consumer.Consumer.{Consumer}
-use Rattle.js_model.specs.Laws.{LawOrder, consumer_of}
+use Rattle.js_model.specs.Advance.{advance}
+use Rattle.js_model.specs.Consumers.{new_consumer}
+use Rattle.js_model.specs.Sound.{IsSound}
+use Rattle.js_model.specs.Laws.{LawOrder, LawStart, consumer_of}
 use Rattle.js_model.proofs.Named.{none_some, stands-at}
 use Rattle.js_model.proofs.ConsumerFacts.{InState}
-use Rattle.js_model.proofs.Consecutive.{follow}
-use Rattle.js_model.proofs.StartOrder.{start_order_of}
-use Rattle.js_model.proofs.StoredBefore.{stored_before}
+use Rattle.js_model.proofs.Making.{in_made}
+use Rattle.js_model.proofs.Sounding.{sound_step}
+use Rattle.js_model.proofs.Consecutive.{HasDseq, dseq_kept, follow}
+use Rattle.js_model.proofs.StartOrder.{IsFrom, from_kept, from_itself, start_order, start_order_of}
+use Rattle.js_model.proofs.StoredBefore.{HasConfig, config_kept, stored_before}
 
 -- the consumer of a state stands in it
 pub stands_of : (name : Bytes) (s : State) (c : Consumer) (P : Consumer → Type 0) → consumer_of name s ≡ Some c → P c → InState name P s
@@ -23,3 +28,16 @@ law_order name count old new entries c s e r = record {
   start = start_order_of name count old entries new c s (stands_of name old c (λ d. d ≡ c) e refl) r;
   stored = stored_before name count old entries new c s (stands_of name old c (λ d. d.config ≡ c.config) e refl) r;
 }
+
+pub law_start : LawStart
+law_start name config count later old made new e now reply outs entries s x m r =
+    let c = new_consumer (advance old now) name config in record {
+      consecutive = follow name 0 later made entries new (in_made name config (HasDseq 0) (dseq_kept 0) old made e now reply outs x.event m refl) r;
+      start =
+          start_order name c.picks c.cursor later made entries new sound
+          (in_made name config (IsFrom c.picks c.cursor) (from_kept c.picks c.cursor) old made e now reply outs x.event m (from_itself c)) r;
+      stored = stored_before name later made entries new c sound (in_made name config (HasConfig config) (config_kept config) old made e now reply outs x.event m refl) r;
+    }
+  where
+    sound : IsSound made
+    sound = sound_step count (Live old) made e now reply outs x s

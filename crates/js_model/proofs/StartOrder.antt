@@ -68,9 +68,9 @@ order_nil qs k = record { picked = []; rising = []; split = refl; part = no_part
 
 -- ---- a consumer that is still to deliver some of these, or from here on
 
-record IsFrom (ps : List ℕ) (k : ℕ) (c : Consumer) : Type 0 where
-  part : IsPart c.picks ps
-  cursor : k ≤ c.cursor
+pub record IsFrom (ps : List ℕ) (k : ℕ) (c : Consumer) : Type 0 where
+  pub part : IsPart c.picks ps
+  pub cursor : k ≤ c.cursor
 
 picks_acknowledged : (now n : ℕ) (kind : AckKind) (c : Consumer) → ((acknowledged now n kind c).picks ≡ c.picks) × ((acknowledged now n kind c).cursor ≡ c.cursor)
 picks_acknowledged now n Acknowledge c = (refl, refl)
@@ -82,7 +82,11 @@ picks_acknowledged now n Term c = (refl, refl)
 from_same : (ps : List ℕ) (k : ℕ) (c d : Consumer) → d.picks ≡ c.picks → d.cursor ≡ c.cursor → IsFrom ps k c → IsFrom ps k d
 from_same ps k c d e f h = record { part = subst (λ (l : List ℕ). IsPart l ps) (sym e) h.part; cursor = let q : k ≤ c.cursor = h.cursor in omega arith }
 
-from_kept : (ps : List ℕ) (k : ℕ) → IsKept (IsFrom ps k)
+-- a consumer is to deliver its own
+pub from_itself : (c : Consumer) → IsFrom c.picks c.cursor c
+from_itself c = record { part = all_part c.picks; cursor = omega arith }
+
+pub from_kept : (ps : List ℕ) (k : ℕ) → IsKept (IsFrom ps k)
 from_kept ps k = record {
   confined = λ ns c h. record { part = part_trans (filter_part (has ns) c.picks) h.part; cursor = h.cursor };
   time = λ now c h. record { part = h.part; cursor = h.cursor };
@@ -166,7 +170,7 @@ delivered_order name more ps k (Live t) new now listening v outs x s h f = deliv
 
 -- ---- the induction
 
-start_order : (name : Bytes) (ps : List ℕ) (k count : ℕ) (old : State) (entries : List PlaceEntry) (new : State) → IsSound old → InState name (IsFrom ps k) old → RunFrom count old entries new → IsStartOrder ps k (firsts (sendings name entries))
+pub start_order : (name : Bytes) (ps : List ℕ) (k count : ℕ) (old : State) (entries : List PlaceEntry) (new : State) → IsSound old → InState name (IsFrom ps k) old → RunFrom count old entries new → IsStartOrder ps k (firsts (sendings name entries))
 start_order name ps k count old [] new s h r = order_nil ps k
 start_order name ps k count old (Step seat e now reply outs unsaid ∷ entries) new s h (mid, x, rest) =
     unless_dropped (drops name e.what) refl
@@ -184,8 +188,8 @@ start_order name ps k count old (Broken seat now (DeliverOf listening v) ∷ [])
 start_order name ps k count old (Broken seat now (DeliverOf listening v) ∷ entry ∷ entries) new s h r = absurd r
 
 pub start_order_of : (name : Bytes) (count : ℕ) (old : State) (entries : List PlaceEntry) (new : State) (c : Consumer) → IsSound old → InState name (λ d. d ≡ c) old → RunFrom count old entries new → IsStartOrder c.picks c.cursor (firsts (sendings name entries))
-start_order_of name count old entries new c s h r = start_order name c.picks c.cursor count old entries new s (from_itself old h) r
+start_order_of name count old entries new c s h r = start_order name c.picks c.cursor count old entries new s (from_first old h) r
   where
-    from_itself : (old : State) → InState name (λ d. d ≡ c) old → InState name (IsFrom c.picks c.cursor) old
-    from_itself (Vacant i) h = absurd h
-    from_itself (Live t) h = record { consumer = h.consumer; found = h.found; holds = subst (IsFrom c.picks c.cursor) (sym h.holds) (record { part = all_part c.picks; cursor = omega arith }) }
+    from_first : (old : State) → InState name (λ d. d ≡ c) old → InState name (IsFrom c.picks c.cursor) old
+    from_first (Vacant i) h = absurd h
+    from_first (Live t) h = record { consumer = h.consumer; found = h.found; holds = subst (IsFrom c.picks c.cursor) (sym h.holds) (from_itself c) }

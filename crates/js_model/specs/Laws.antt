@@ -8,6 +8,7 @@ use Rattle.js_model.specs.declared.stream.Message.{Message}
 use Rattle.js_model.specs.declared.stream.Stream.{Stream}
 use Rattle.js_model.specs.declared.stream.State.{State}
 use Rattle.js_model.specs.declared.stream.State.TheVariants.{Vacant, Live}
+use Rattle.js_model.specs.declared.consumer_config.ConsumerConfig.{ConsumerConfig}
 use Rattle.js_model.specs.declared.consumer.Pull.{Pull}
 use Rattle.js_model.specs.declared.consumer.Consumer.{Consumer}
 use Rattle.js_model.specs.declared.ack.Ask.{Ask}
@@ -15,9 +16,10 @@ use Rattle.js_model.specs.declared.ack.AckKind.{AckKind}
 use Rattle.js_model.specs.declared.ack.AckKind.TheVariants.{Nak, Wpi}
 use Rattle.js_model.specs.declared.event.Event.{Event}
 use Rattle.js_model.specs.declared.event.What.{What}
-use Rattle.js_model.specs.declared.event.What.TheVariants.{Change, Drop as DropStream, Publish as PublishIt, Purge, Delete, DropConsumer, Ack as AckIt, Pull as PullIt}
+use Rattle.js_model.specs.declared.event.What.TheVariants.{Change, Drop as DropStream, Publish as PublishIt, Purge, Delete, MakeConsumer, DropConsumer, Ack as AckIt, Pull as PullIt}
+use Rattle.js_model.specs.declared.reply.ConsumerInfo.{ConsumerInfo}
 use Rattle.js_model.specs.declared.reply.Reply.{Reply}
-use Rattle.js_model.specs.declared.reply.Reply.TheVariants.{Published, Duplicate, Confirmed, Refused}
+use Rattle.js_model.specs.declared.reply.Reply.TheVariants.{Published, Duplicate, ConsumerInfo as ConsumerTold, Confirmed, Refused}
 use Rattle.js_model.specs.declared.entry.Delivered.{Delivered}
 use Rattle.js_model.specs.declared.entry.Delivered.TheVariants.{Sent, TooSmall, Emptied}
 use Rattle.js_model.specs.declared.entry.Delivery.{Delivery}
@@ -29,6 +31,7 @@ use Rattle.js_model.specs.Streams.{by_name, pending_seqs, seqs, size, is_push, p
 use Rattle.js_model.specs.Advance.{advance}
 use Rattle.js_model.specs.Retention.{is_kept}
 use Rattle.js_model.specs.Trim.{trim, max_messages}
+use Rattle.js_model.specs.Start.{picks_at, cursor_at}
 use Rattle.js_model.specs.Events.{purge_list, next_ask, stream_answer, answered}
 use Rattle.js_model.specs.Deliver.{count_of, IsDelivery}
 use Rattle.js_model.specs.Runs.{RunFrom, IsStep, messages_of}
@@ -261,6 +264,26 @@ pub record IsInOrder (name : Bytes) (old : State) (c : Consumer) (entries : List
 abbrev pub LawOrder : Type 0
 LawOrder = (name : Bytes) (count : ℕ) (old new : State) (entries : List PlaceEntry) (c : Consumer)
     → IsSound old → consumer_of name old ≡ Some c → RunFrom count old entries new → IsInOrder name old c entries
+
+-- the event makes the consumer of this name, which was not there
+pub record Makes (old : State) (e : Event) (reply : Reply) (name : Bytes) (config : ConsumerConfig) : Type 0 where
+  pub asked : Option Bytes
+  pub update : Bool
+  pub info : ConsumerInfo
+  pub event : e.what ≡ MakeConsumer asked name config update
+  pub absent : consumer_of name old ≡ None
+  pub told : reply ≡ ConsumerTold info
+
+-- what is sent to a consumer that was made on the stream begins where its deliver policy does in that stream
+pub record IsFromStart (name : Bytes) (config : ConsumerConfig) (s : Stream) (made : State) (entries : List PlaceEntry) : Type 0 where
+  pub consecutive : Follow 0 (sendings name entries)
+  pub start : IsStartOrder (picks_at config.deliver_policy config.filter_subject s) (cursor_at config.deliver_policy config.filter_subject s) (firsts (sendings name entries))
+  pub stored : SendsStored name config.filter_subject (stored_first made) entries
+
+abbrev pub LawStart : Type 0
+LawStart = (name : Bytes) (config : ConsumerConfig) (count later : ℕ) (old : Stream) (made new : State) (e : Event) (now : ℕ) (reply : Reply) (outs : List Out) (entries : List PlaceEntry)
+    → IsSound (Live old) → IsStep count (Live old) e now reply outs made → Makes (Live old) e reply name config → RunFrom later made entries new
+    → IsFromStart name config (advance old now) made entries
 
 -- ---- a delivery is made again only when it is due
 

@@ -1,6 +1,6 @@
 //! What holds of each run of a place, by the definitions alone.
 
-ghost use Rattle.js_model.specs.Laws.{LawSound, LawAcked, LawDuplicate, LawKept, LawOrder, LawRedelivery, LawLimits};
+ghost use Rattle.js_model.specs.Laws.{LawSound, LawAcked, LawDuplicate, LawKept, LawOrder, LawStart, LawRedelivery, LawLimits};
 
 /// Soundness is kept: each state that a run reaches from a sound one is sound.
 pub fn law_sound()
@@ -26,9 +26,11 @@ pub fn law_kept()
 {}
 
 /// What is sent to a consumer has consumer sequences one after the other, was stored before and matches its filter;
-/// first deliveries are its picks in order, and then sequences that rise from its cursor on.
+/// first deliveries are its picks in order, and then sequences that rise from its cursor on. A consumer that is made
+/// begins at the picks and the cursor of its deliver policy, with consumer sequence 1.
 pub fn law_order()
     ensures law { LawOrder }
+    ensures start { LawStart }
 {}
 
 /// A sequence is sent again once more than before, and not before the moment that its last delivery, a NAK or a WPI set.
