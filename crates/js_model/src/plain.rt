@@ -1,8 +1,10 @@
 //! The definitions as programs over whole lists, each slow and obvious: what a faster body is compared with, and a first body.
 
 mod confining;
+mod limits;
 mod lists;
 mod retention;
 
 pub use confining::only;
+pub use limits::trim;
 pub use retention::{is_kept, keep, needs};
