@@ -1,8 +1,11 @@
 //! The definitions as programs over whole lists, each slow and obvious: what a faster body is compared with, and a first body.
 
 mod confining;
+mod copies;
+mod expectations;
 mod limits;
 mod lists;
+mod refusals;
 mod retention;
 
 pub use confining::only;

@@ -1,8 +1,10 @@
 //! What the programs do with lists.
 
-ghost use Rattle.std.specs.Prelude.{◌≡◌, []};
+ghost use Rattle.std.specs.Prelude.{◌≡◌, [], None};
 ghost use Rattle.std.specs.Fn.{CalledAt};
+ghost use Rattle.std.specs.List.{last_or};
 ghost use Rattle.std.specs.List.Retain.{IsFiltered};
+ghost use Rattle.std.specs.Option.{option_copied};
 
 use js_base::List;
 use std::alloc::Global;
@@ -24,4 +26,11 @@ pub fn retain<T: Drop, F: FnMut(&T) -> bool>(alloc: Global, list: &mut List<T>, 
     let mut items = take_all(alloc, list);
     items.retain(keep);
     *list = List::from_vec(items);
+}
+
+/// The last item, if there is one.
+pub fn last<T>(items: &[T]) -> Option<&T>
+    ensures value { option_copied result ≡ last_or None items.now }
+{
+    items.iter().last()
 }
