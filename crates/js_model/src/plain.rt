@@ -7,7 +7,9 @@ mod limits;
 mod lists;
 mod refusals;
 mod retention;
+mod verdicts;
 
 pub use confining::only;
 pub use limits::trim;
 pub use retention::{is_kept, keep, needs};
+pub use verdicts::verdict;
