@@ -3,17 +3,25 @@
 mod ageing;
 mod confining;
 mod copies;
+mod counts;
 mod expectations;
 mod limits;
 mod lists;
 mod publishing;
+mod reading;
 mod refusals;
+mod removing;
 mod retention;
+mod starting;
 mod verdicts;
 
 pub use ageing::age;
 pub use confining::only;
+pub use counts::{consumer_info, info_of, pending_count, stream_info};
 pub use limits::trim;
 pub use publishing::publish;
+pub use reading::{get_message, message_by};
+pub use removing::{delete, message_at, purge, purge_list};
 pub use retention::{is_kept, keep, needs};
+pub use starting::{cursor_at, picks_at};
 pub use verdicts::verdict;

@@ -16,10 +16,10 @@ use std::alloc::Global;
 use subject_match::matches;
 
 /// Whether a filter matches a subject, by NATS' subject matching. An empty filter matches all.
-pub fn passes_filter(filter: &Blob, subject: &Blob) -> bool
-    ensures value { result ≡ passes_filter filter.now subject.now }
+pub fn passes_filter(pattern: &Blob, subject: &Blob) -> bool
+    ensures value { result ≡ passes_filter pattern.now subject.now }
 {
-    filter.is_empty() || matches(filter.as_slice(), subject.as_slice())
+    pattern.is_empty() || matches(pattern.as_slice(), subject.as_slice())
 }
 
 /// Whether the consumer's filter matches the message.
