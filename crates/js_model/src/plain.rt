@@ -18,7 +18,7 @@ mod verdicts;
 pub use ageing::age;
 pub use confining::only;
 pub use counts::{consumer_info, info_of, pending_count, stream_info};
-pub use limits::trim;
+pub use limits::{fits, trim};
 pub use publishing::publish;
 pub use reading::{get_message, message_by};
 pub use removing::{delete, message_at, purge, purge_list};

@@ -22,7 +22,11 @@ fn confine(alloc: Global, consumer: &mut Consumer, kept: &[Message])
     ensures value { consumer.new ≡ confined (seqs kept.now) consumer.old }
 {
     retain(alloc, &mut consumer.picks, |seq| has_seq(kept, *seq));
-    retain(alloc, &mut consumer.pending, |delivery| has_seq(kept, delivery.seq));
+    retain(
+        alloc,
+        &mut consumer.pending,
+        |delivery| has_seq(kept, delivery.seq),
+    );
     retain(alloc, &mut consumer.given_up, |seq| has_seq(kept, *seq));
 }
 

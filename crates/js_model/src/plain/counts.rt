@@ -73,10 +73,7 @@ pub fn info_of(stream: &Stream, consumer: &Consumer) -> Info
 }
 
 /// The consumer's information.
-pub fn consumer_info(
-    stream: &Stream,
-    consumer: &Consumer,
-) -> Result<ConsumerInfo, NoMemory>
+pub fn consumer_info(stream: &Stream, consumer: &Consumer) -> Result<ConsumerInfo, NoMemory>
     ensures value { IfOk result (λ info. info ≡ consumer_info stream.now consumer.now) }
 {
     Ok(ConsumerInfo {
@@ -112,7 +109,11 @@ pub fn stream_info(alloc: Global, stream: &Stream) -> Result<StreamInfo, NoMemor
         made: stream.made,
         messages: messages.len() as u64,
         bytes: total_size(messages),
-        first_seq: if stream.last == 0 { 0 } else { first_seq(stream) },
+        first_seq: if stream.last == 0 {
+            0
+        } else {
+            first_seq(stream)
+        },
         first_at: messages.first().map(|message| message.at),
         last_seq: stream.last,
         last_at: last(messages).map(|message| message.at),

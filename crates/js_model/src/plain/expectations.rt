@@ -50,7 +50,10 @@ pub fn last_on<'a>(stream: &'a Stream, subject: &Blob) -> Option<&'a Message>
 {
     let subject = subject.as_slice();
     let messages = stream.messages.as_slice();
-    messages.iter().filter(|message| message.subject.as_slice() == subject).last()
+    messages
+        .iter()
+        .filter(|message| message.subject.as_slice() == subject)
+        .last()
 }
 
 /// Its sequence, or 0.
@@ -110,7 +113,11 @@ pub fn message_of(stream: &Stream, publish: &Publish) -> Result<Message, NoMemor
 }
 
 /// What the stream would hold after the publish, as far as the limit of each subject goes.
-pub fn held_after(alloc: Global, stream: &Stream, publish: &Publish) -> Result<Vec<Message>, NoMemory>
+pub fn held_after(
+    alloc: Global,
+    stream: &Stream,
+    publish: &Publish,
+) -> Result<Vec<Message>, NoMemory>
     requires numbers { stream.now.last < 2 ^ 62 }
     ensures value { IfOk result (λ held. held.items ≡ held_after stream.now publish.now) }
 {

@@ -61,7 +61,9 @@ fn first_from(stream: &Stream, at: Moment) -> Option<&Message>
     ensures value { option_copied result ≡ find (λ m. nat_le at m.at) stream.now.messages }
 {
     let messages = stream.messages.as_slice();
-    messages.iter().find(|message| at.as_nanos() <= message.at.as_nanos())
+    messages
+        .iter()
+        .find(|message| at.as_nanos() <= message.at.as_nanos())
 }
 
 /// The last message that the filter matches.

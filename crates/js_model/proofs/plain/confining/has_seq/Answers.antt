@@ -8,6 +8,6 @@ use Rattle.js_model.proofs.plain.confining.has_seq.Goals as goal
 pub returns : goal.returns
 returns c = record {
   value =
-    any_from_yields_List (λ (m : Message). m.seq == c.args.seq) _ _ _ c.any.ensures.ran (YieldsList-from_slice c.args.messages.now cc) (λ x b q k. search (rules, tests))
-    ∙ sym (has-map (λ (m : Message). m.seq) c.args.messages.now c.args.seq);
+      any_from_yields_List (λ (m : Message). m.seq == c.args.seq) _ _ _ c.any.ensures.ran (YieldsList-from_slice c.args.messages.now cc) (λ x b q k. search (rules, tests))
+      ∙ sym (has-map (λ (m : Message). m.seq) c.args.messages.now c.args.seq);
 }

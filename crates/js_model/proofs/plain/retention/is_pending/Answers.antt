@@ -8,6 +8,6 @@ use Rattle.js_model.proofs.plain.retention.is_pending.Goals as goal
 pub returns : goal.returns
 returns c = record {
   value =
-    any_from_yields_List (λ (p : Pending). p.seq == c.args.seq) _ _ _ c.any.ensures.ran (YieldsList-from_slice c.args.consumer.now.pending cc) (λ x b q k. search (rules, tests))
-    ∙ sym (has-map (λ (p : Pending). p.seq) c.args.consumer.now.pending c.args.seq);
+      any_from_yields_List (λ (p : Pending). p.seq == c.args.seq) _ _ _ c.any.ensures.ran (YieldsList-from_slice c.args.consumer.now.pending cc) (λ x b q k. search (rules, tests))
+      ∙ sym (has-map (λ (p : Pending). p.seq) c.args.consumer.now.pending c.args.seq);
 }

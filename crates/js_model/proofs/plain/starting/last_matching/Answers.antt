@@ -9,6 +9,6 @@ use Rattle.js_model.proofs.plain.starting.last_matching.Goals as goal
 pub returns : goal.returns
 returns c = record {
   value =
-    option_copied_last c.last.result c.last.ensures.ran
-    (YieldsList-from_filter _ (λ (m : Message). passes_filter c.args.pattern.now m.subject) (YieldsList-from_slice c.args.stream.now.messages cc) c.filter.ensures.closure (λ x b q k. search (rules, tests)));
+      option_copied_last c.last.result c.last.ensures.ran
+      (YieldsList-from_filter _ (λ (m : Message). passes_filter c.args.pattern.now m.subject) (YieldsList-from_slice c.args.stream.now.messages cc) c.filter.ensures.closure (λ x b q k. search (rules, tests)));
 }
