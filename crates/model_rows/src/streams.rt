@@ -1,5 +1,6 @@
 //! A stream at work, by its plain programs.
 
+use js_base::{Blob, List, Moment, NoMemory};
 use js_model::plain::{
     age, consumer_info, cursor_at, delete, fits, get_message, keep, picks_at, publish, purge,
     purge_list, stream_info, trim, verdict,
@@ -8,7 +9,6 @@ use js_model::{
     AckPolicy, Consumer, ConsumerConfig, DeliverPolicy, Discard, GetBy, Message, Pending, Publish,
     Reply, Retention, Stream, StreamConfig, Wants,
 };
-use js_base::{Blob, List, Moment, NoMemory};
 use std::alloc::{AllocError, Global};
 use std::test::Fail;
 
@@ -167,9 +167,23 @@ fn left(alloc: Global, messages: &[Message]) -> Result<String, AllocError> {
     listed(alloc, seqs.as_slice())
 }
 
+/// What limits leave of three messages.
+fn limited(
+    alloc: Global,
+    count: Option<u64>,
+    per_subject: Option<u64>,
+    bytes: Option<u64>,
+) -> Result<String, Fail> {
+    let mut stream = empty(alloc)?;
+    stream.config.max_msgs = count;
+    stream.config.max_msgs_per_subject = per_subject;
+    stream.config.max_bytes = bytes;
+    publish_three(alloc, &mut stream)?;
+    Ok(left(alloc, stream.messages.as_slice())?)
+}
+
 #[test]
 fn limits_keep_the_newest(rt: HostRuntime) -> Result<(), Fail> {
-    let alloc = rt.alloc();
     let table = [
         (None, None, None, "1 2 3 "),
         (Some(2), None, None, "2 3 "),
@@ -179,20 +193,61 @@ fn limits_keep_the_newest(rt: HostRuntime) -> Result<(), Fail> {
         (Some(1), Some(1), None, "3 "),
     ];
     for (count, per_subject, bytes, want) in table {
-        let mut stream = empty(alloc)?;
-        stream.config.max_msgs = count;
-        stream.config.max_msgs_per_subject = per_subject;
-        stream.config.max_bytes = bytes;
-        publish_three(alloc, &mut stream)?;
-        let text = left(alloc, stream.messages.as_slice())?;
+        let text = limited(rt.alloc(), count, per_subject, bytes)?;
         assert_eq!(rt; text.as_str(), want);
     }
     Ok(())
 }
 
+/// What a stream that discards new messages says to a fourth one, within the limits.
+fn answer_at_limits(
+    alloc: Global,
+    count: Option<u64>,
+    per_subject: Option<u64>,
+    bytes: Option<u64>,
+) -> Result<String, Fail> {
+    let mut stream = empty(alloc)?;
+    stream.config.discard = Discard::New;
+    stream.config.max_msgs = count;
+    stream.config.max_msgs_per_subject = per_subject;
+    stream.config.max_bytes = bytes;
+    publish_three(alloc, &mut stream)?;
+    answer(alloc, &mut stream, 40, &hello(alloc, b"orders.a")?)
+}
+
+#[test]
+fn new_messages_are_refused_at_the_limits(rt: HostRuntime) -> Result<(), Fail> {
+    let table = [
+        (Some(3), None, None, "refused 20019"),
+        (None, None, Some(159), "refused 20020"),
+        (Some(3), Some(2), None, "stored 4"),
+        (Some(4), None, Some(212), "stored 4"),
+    ];
+    for (count, per_subject, bytes, want) in table {
+        let text = answer_at_limits(rt.alloc(), count, per_subject, bytes)?;
+        assert_eq!(rt; text.as_str(), want);
+    }
+    Ok(())
+}
+
+/// What a retention leaves of three messages that two consumers were delivered, where a delivery of each may wait.
+fn retained(
+    alloc: Global,
+    retention: Retention,
+    one: Option<u64>,
+    other: Option<u64>,
+) -> Result<String, Fail> {
+    let mut stream = empty(alloc)?;
+    publish_three(alloc, &mut stream)?;
+    stream.config.retention = retention;
+    stream.consumers.push(consumer(alloc, 4, one)?)?;
+    stream.consumers.push(consumer(alloc, 4, other)?)?;
+    keep(alloc, &mut stream);
+    Ok(left(alloc, stream.messages.as_slice())?)
+}
+
 #[test]
 fn retention_keeps_what_is_needed(rt: HostRuntime) -> Result<(), Fail> {
-    let alloc = rt.alloc();
     let table = [
         (Retention::Limits, None, None, "1 2 3 "),
         (Retention::Interest, Some(1), Some(3), "1 3 "),
@@ -201,77 +256,47 @@ fn retention_keeps_what_is_needed(rt: HostRuntime) -> Result<(), Fail> {
         (Retention::WorkQueue, Some(2), None, "2 "),
     ];
     for (retention, one, other, want) in table {
-        let mut stream = empty(alloc)?;
-        publish_three(alloc, &mut stream)?;
-        stream.config.retention = retention;
-        stream.consumers.push(consumer(alloc, 4, one)?)?;
-        stream.consumers.push(consumer(alloc, 4, other)?)?;
-        keep(alloc, &mut stream);
-        let text = left(alloc, stream.messages.as_slice())?;
+        let text = retained(rt.alloc(), retention, one, other)?;
         assert_eq!(rt; text.as_str(), want);
     }
     Ok(())
 }
 
-#[test]
-fn a_message_that_nobody_needs_takes_a_sequence(rt: HostRuntime) -> Result<(), Fail> {
-    let alloc = rt.alloc();
+/// What is left at a moment of three messages that stay for 20 nanoseconds.
+fn aged(alloc: Global, nanos: u64) -> Result<String, Fail> {
     let mut stream = empty(alloc)?;
-    stream.config.retention = Retention::Interest;
-    let said = answer(alloc, &mut stream, 0, &hello(alloc, b"orders.a")?)?;
-    assert_eq!(rt; said.as_str(), "stored 1");
-    let text = left(alloc, stream.messages.as_slice())?;
-    assert_eq!(rt; text.as_str(), "");
-    Ok(())
+    stream.config.max_age = 20;
+    publish_three(alloc, &mut stream)?;
+    age(alloc, &mut stream, Moment::of(nanos).ok_or("no moment")?);
+    Ok(left(alloc, stream.messages.as_slice())?)
 }
 
 #[test]
 fn messages_go_with_age(rt: HostRuntime) -> Result<(), Fail> {
-    let alloc = rt.alloc();
-    let table = [(39, "2 3 "), (40, "3 "), (50, "")];
-    for (nanos, want) in table {
-        let mut stream = empty(alloc)?;
-        stream.config.max_age = 20;
-        publish_three(alloc, &mut stream)?;
-        age(alloc, &mut stream, Moment::of(nanos).ok_or("no moment")?);
-        let text = left(alloc, stream.messages.as_slice())?;
+    for (nanos, want) in [(39, "2 3 "), (40, "3 "), (50, "")] {
+        let text = aged(rt.alloc(), nanos)?;
         assert_eq!(rt; text.as_str(), want);
     }
     Ok(())
 }
 
-#[test]
-fn a_repeat_does_not_refresh_the_window(rt: HostRuntime) -> Result<(), Fail> {
-    let alloc = rt.alloc();
+/// What the publishes of one id are answered at these moments.
+fn repeated(alloc: Global, moments: &[u64]) -> Result<String, Fail> {
     let mut stream = empty(alloc)?;
     let mut message = hello(alloc, b"orders.a")?;
     message.wants.id = Blob::of(alloc, b"k")?;
-    for (nanos, want) in [(0, "stored 1"), (119, "had 1"), (120, "stored 2")] {
-        let said = answer(alloc, &mut stream, nanos, &message)?;
-        assert_eq!(rt; said.as_str(), want);
+    let mut said = String::new(alloc);
+    for nanos in moments {
+        said.push_str(answer(alloc, &mut stream, *nanos, &message)?.as_str())?;
+        said.push_str(", ")?;
     }
-    Ok(())
+    Ok(said)
 }
 
 #[test]
-fn new_messages_are_refused_at_the_limits(rt: HostRuntime) -> Result<(), Fail> {
-    let alloc = rt.alloc();
-    let table = [
-        (Some(3), None, None, "refused 20019"),
-        (None, None, Some(159), "refused 20020"),
-        (Some(3), Some(2), None, "stored 4"),
-        (Some(4), None, Some(212), "stored 4"),
-    ];
-    for (count, per_subject, bytes, want) in table {
-        let mut stream = empty(alloc)?;
-        stream.config.discard = Discard::New;
-        stream.config.max_msgs = count;
-        stream.config.max_msgs_per_subject = per_subject;
-        stream.config.max_bytes = bytes;
-        publish_three(alloc, &mut stream)?;
-        let said = answer(alloc, &mut stream, 40, &hello(alloc, b"orders.a")?)?;
-        assert_eq!(rt; said.as_str(), want);
-    }
+fn a_repeat_does_not_refresh_the_window(rt: HostRuntime) -> Result<(), Fail> {
+    let said = repeated(rt.alloc(), &[0, 119, 120])?;
+    assert_eq!(rt; said.as_str(), "stored 1, had 1, stored 2, ");
     Ok(())
 }
 
@@ -287,9 +312,10 @@ enum Want {
     OtherLastId,
 }
 
-/// What a publish of the id `k` wants.
-fn wants(alloc: Global, want: Want) -> Result<Wants, NoMemory> {
-    let mut wants = hello(alloc, b"")?.wants;
+/// A publish of the id `k` that wants it.
+fn wanting(alloc: Global, want: Want) -> Result<Publish, NoMemory> {
+    let mut message = hello(alloc, b"orders.b")?;
+    let wants = &mut message.wants;
     wants.id = Blob::of(alloc, b"k")?;
     match want {
         Want::Nothing => {}
@@ -300,145 +326,157 @@ fn wants(alloc: Global, want: Want) -> Result<Wants, NoMemory> {
         Want::OtherLastOnSubject => wants.subject_last = Some(3),
         Want::OtherLastId => wants.last_id = Some(Blob::of(alloc, b"j")?),
     }
-    Ok(wants)
+    Ok(message)
+}
+
+/// What a publish is answered that wants it, where its id was stored before, or not.
+fn wanted(alloc: Global, want: Want, before: bool) -> Result<String, Fail> {
+    let mut stream = empty(alloc)?;
+    publish_three(alloc, &mut stream)?;
+    if before {
+        let _ = answer(alloc, &mut stream, 40, &wanting(alloc, Want::Nothing)?)?;
+    }
+    answer(alloc, &mut stream, 50, &wanting(alloc, want)?)
 }
 
 #[test]
 fn expectations_are_met(rt: HostRuntime) -> Result<(), Fail> {
-    let alloc = rt.alloc();
     let table = [
-        (Want::Nothing, "stored 4", "had 4"),
-        (Want::BadHeader, "refused 20021", "refused 20021"),
-        (Want::LongId, "refused 20014", "refused 20014"),
-        (Want::OtherStream, "refused 10060", "refused 10060"),
-        (Want::OtherLast, "refused 10071", "had 4"),
-        (Want::OtherLastOnSubject, "refused 10071", "had 4"),
-        (Want::OtherLastId, "refused 10070", "had 4"),
+        (Want::Nothing, false, "stored 4"),
+        (Want::BadHeader, false, "refused 20021"),
+        (Want::LongId, false, "refused 20014"),
+        (Want::OtherStream, true, "refused 10060"),
+        (Want::OtherLast, false, "refused 10071"),
+        (Want::OtherLast, true, "had 4"),
+        (Want::OtherLastOnSubject, false, "refused 10071"),
+        (Want::OtherLastId, false, "refused 10070"),
     ];
-    for (want, first, repeat) in table {
-        let mut stream = empty(alloc)?;
-        publish_three(alloc, &mut stream)?;
-        let mut message = hello(alloc, b"orders.b")?;
-        message.wants = wants(alloc, want)?;
-        let said = answer(alloc, &mut stream, 40, &message)?;
-        assert_eq!(rt; said.as_str(), first);
-        message.wants = wants(alloc, Want::Nothing)?;
-        let _ = answer(alloc, &mut stream, 50, &message)?;
-        message.wants = wants(alloc, want)?;
-        let said = answer(alloc, &mut stream, 60, &message)?;
-        assert_eq!(rt; said.as_str(), repeat);
+    for (want, before, said) in table {
+        let text = wanted(rt.alloc(), want, before)?;
+        assert_eq!(rt; text.as_str(), said);
     }
     Ok(())
 }
 
-#[test]
-fn messages_are_removed(rt: HostRuntime) -> Result<(), Fail> {
-    let alloc = rt.alloc();
-    let table: [(&[u8], Option<u64>, Option<u64>, &str, &str); 4] = [
-        (b"", None, Some(1), "purged 2", "3 "),
-        (b"orders.a", Some(3), None, "purged 1", "2 3 "),
-        (b"orders.a", None, None, "purged 2", "2 "),
-        (b"", Some(3), Some(9), "purged 0", "1 2 3 "),
-    ];
-    for (pattern, below, keep, said, want) in table {
-        let mut stream = empty(alloc)?;
-        publish_three(alloc, &mut stream)?;
-        let gone = purge_list(alloc, &stream, &Blob::of(alloc, pattern)?, below, keep)?;
-        let reply = purge(alloc, &mut stream, gone.as_slice());
-        assert_eq!(rt; shown(alloc, &reply)?.as_str(), said);
-        assert_eq!(rt; left(alloc, stream.messages.as_slice())?.as_str(), want);
-    }
-    Ok(())
-}
-
-#[test]
-fn one_message_is_removed_or_read(rt: HostRuntime) -> Result<(), Fail> {
-    let alloc = rt.alloc();
+/// What a purge of three messages is answered, and what it leaves.
+fn purged(
+    alloc: Global,
+    pattern: &str,
+    below: Option<u64>,
+    keep: Option<u64>,
+) -> Result<String, Fail> {
     let mut stream = empty(alloc)?;
     publish_three(alloc, &mut stream)?;
-    for (seq, said) in [(2, "done"), (2, "refused 10037"), (4, "refused 10037")] {
-        let reply = delete(alloc, &mut stream, seq)?;
-        assert_eq!(rt; shown(alloc, &reply)?.as_str(), said);
-        assert_eq!(rt; left(alloc, stream.messages.as_slice())?.as_str(), "1 3 ");
-    }
-    let asked = [
-        (GetBy::Seq(1), "message 1"),
-        (GetBy::Seq(2), "refused 10037"),
-        (
-            GetBy::LastBySubject(Blob::of(alloc, b"orders.a")?),
-            "message 3",
-        ),
-        (
-            GetBy::LastBySubject(Blob::of(alloc, b"orders.b")?),
-            "refused 10037",
-        ),
+    let pattern = Blob::of(alloc, pattern.as_bytes())?;
+    let gone = purge_list(alloc, &stream, &pattern, below, keep)?;
+    let mut text = shown(alloc, &purge(alloc, &mut stream, gone.as_slice()))?;
+    text.push_str(", ")?;
+    text.push_str(left(alloc, stream.messages.as_slice())?.as_str())?;
+    Ok(text)
+}
+
+#[test]
+fn a_purge_removes_what_it_names(rt: HostRuntime) -> Result<(), Fail> {
+    let table = [
+        ("", None, Some(1), "purged 2, 3 "),
+        ("orders.a", Some(3), None, "purged 1, 2 3 "),
+        ("orders.a", None, None, "purged 2, 2 "),
+        ("", Some(3), Some(9), "purged 0, 1 2 3 "),
     ];
-    for (by, said) in &asked {
-        let reply = get_message(alloc, &stream, by)?;
-        assert_eq!(rt; shown(alloc, &reply)?.as_str(), *said);
+    for (pattern, below, keep, want) in table {
+        let text = purged(rt.alloc(), pattern, below, keep)?;
+        assert_eq!(rt; text.as_str(), want);
     }
     Ok(())
 }
 
+/// What a delete of a sequence and then a read are answered, of three messages.
+fn deleted(alloc: Global, seq: u64, by: &GetBy) -> Result<String, Fail> {
+    let mut stream = empty(alloc)?;
+    publish_three(alloc, &mut stream)?;
+    let mut text = shown(alloc, &delete(alloc, &mut stream, seq)?)?;
+    text.push_str(", ")?;
+    let read = get_message(alloc, &stream, by)?;
+    text.push_str(shown(alloc, &read)?.as_str())?;
+    Ok(text)
+}
+
 #[test]
-fn consumers_begin_by_their_policies(rt: HostRuntime) -> Result<(), Fail> {
-    let alloc = rt.alloc();
-    let at = Moment::of(15).ok_or("no moment")?;
-    let table: [(DeliverPolicy, &[u8], &str, u64); 8] = [
-        (DeliverPolicy::All, b"orders.b", "", 1),
-        (DeliverPolicy::Last, b"orders.b", "", 2),
-        (DeliverPolicy::Last, b"orders.c", "", 4),
-        (DeliverPolicy::New, b"", "", 4),
-        (DeliverPolicy::ByStartSequence(2), b"", "", 2),
-        (DeliverPolicy::ByStartSequence(9), b"", "", 4),
-        (DeliverPolicy::ByStartTime(at), b"", "", 2),
-        (DeliverPolicy::LastPerSubject, b"", "2 3 ", 4),
+fn messages_are_deleted_and_read(rt: HostRuntime) -> Result<(), Fail> {
+    let on_a = GetBy::LastBySubject(Blob::of(rt.alloc(), b"orders.a")?);
+    let table = [
+        (2, GetBy::Seq(2), "done, refused 10037"),
+        (4, GetBy::Seq(2), "refused 10037, message 2"),
+        (3, on_a, "done, message 1"),
     ];
+    for (seq, by, want) in &table {
+        let text = deleted(rt.alloc(), *seq, by)?;
+        assert_eq!(rt; text.as_str(), *want);
+    }
+    Ok(())
+}
+
+/// What a new consumer picks of three messages, and where it begins.
+fn start(alloc: Global, policy: DeliverPolicy, pattern: &str) -> Result<String, Fail> {
     let mut stream = empty(alloc)?;
     publish_three(alloc, &mut stream)?;
     if stream.last > 3 {
         return Err(Fail::new("too many messages"));
     }
-    for (policy, pattern, picked, from) in table {
-        let pattern = Blob::of(alloc, pattern)?;
-        let picks = picks_at(alloc, &stream, policy, &pattern)?;
-        assert_eq!(rt; listed(alloc, picks.as_slice())?.as_str(), picked);
-        assert_eq!(rt; cursor_at(&stream, policy, &pattern), from);
+    let pattern = Blob::of(alloc, pattern.as_bytes())?;
+    let mut from = picks_at(alloc, &stream, policy, &pattern)?;
+    from.push(cursor_at(&stream, policy, &pattern))?;
+    Ok(listed(alloc, from.as_slice())?)
+}
+
+#[test]
+fn consumers_begin_by_their_policies(rt: HostRuntime) -> Result<(), Fail> {
+    let at = Moment::of(15).ok_or("no moment")?;
+    let table = [
+        (DeliverPolicy::All, "orders.b", "1 "),
+        (DeliverPolicy::Last, "orders.b", "2 "),
+        (DeliverPolicy::Last, "orders.c", "4 "),
+        (DeliverPolicy::New, "", "4 "),
+        (DeliverPolicy::ByStartSequence(2), "", "2 "),
+        (DeliverPolicy::ByStartSequence(9), "", "4 "),
+        (DeliverPolicy::ByStartTime(at), "", "2 "),
+        (DeliverPolicy::LastPerSubject, "", "2 3 4 "),
+    ];
+    for (policy, pattern, want) in table {
+        let text = start(rt.alloc(), policy, pattern)?;
+        assert_eq!(rt; text.as_str(), want);
     }
     Ok(())
 }
 
-#[test]
-fn streams_and_consumers_show_their_numbers(rt: HostRuntime) -> Result<(), Fail> {
-    let alloc = rt.alloc();
+/// The numbers that three messages and a consumer show.
+fn numbers(alloc: Global) -> Result<String, Fail> {
     let mut stream = empty(alloc)?;
     publish_three(alloc, &mut stream)?;
-    stream.consumers.push(consumer(alloc, 3, Some(2))?)?;
     if stream.last > 3 || !fits(stream.messages.as_slice(), u64::MAX) {
         return Err(Fail::new("too many messages"));
     }
-    let info = stream_info(alloc, &stream)?;
-    let numbers = [
-        info.messages,
-        info.bytes,
-        info.first_seq,
-        info.last_seq,
-        info.consumers,
-    ];
-    assert_eq!(rt; listed(alloc, &numbers)?.as_str(), "3 159 1 3 1 ");
-    assert_eq!(rt;
-        (info.first_at, info.last_at),
-        (Moment::of(10), Moment::of(30))
-    );
-    let told = consumer_info(&stream, &consumer(alloc, 3, Some(2))?)?.info;
-    let numbers = [
-        told.consumer_seq,
-        told.stream_seq,
-        told.ack_floor,
-        told.ack_pending,
-        told.pending,
-        told.redelivered,
-    ];
-    assert_eq!(rt; listed(alloc, &numbers)?.as_str(), "3 2 1 1 1 1 ");
+    let told = stream_info(alloc, &stream)?;
+    let info = consumer_info(&stream, &consumer(alloc, 3, Some(2))?)?.info;
+    let mut list = List::new(alloc);
+    for number in [told.messages, told.bytes, told.first_seq, told.last_seq] {
+        list.push(number)?;
+    }
+    for number in [
+        info.stream_seq,
+        info.ack_floor,
+        info.ack_pending,
+        info.pending,
+        info.redelivered,
+    ] {
+        list.push(number)?;
+    }
+    Ok(listed(alloc, list.as_slice())?)
+}
+
+#[test]
+fn streams_and_consumers_show_their_numbers(rt: HostRuntime) -> Result<(), Fail> {
+    let text = numbers(rt.alloc())?;
+    assert_eq!(rt; text.as_str(), "3 159 1 3 2 1 1 1 1 ");
     Ok(())
 }
