@@ -102,3 +102,26 @@ pub fn numbers_used_up(alloc: Global) -> Result<ApiError, NoMemory>
 {
     refusal(alloc, 503, 20008, b"number range used up")
 }
+
+/// A rule of work queues is broken by a field of the consumer's configuration.
+pub fn work_queue_rule(alloc: Global, field: &[u8]) -> Result<ApiError, NoMemory>
+    ensures value { IfOk result (λ error. error ≡ refusals.work_queue_rule field.now) }
+{
+    let mut text = Vec::from_slice(alloc, b"work queue rule: ")?;
+    text.extend_from_slice(field)?;
+    refusal(alloc, 400, 20004, text.as_slice())
+}
+
+/// More sequences would be picked out for a new consumer than there may be.
+pub fn too_many_subjects(alloc: Global) -> Result<ApiError, NoMemory>
+    ensures value { IfOk result (λ error. error ≡ refusals.too_many_subjects) }
+{
+    refusal(alloc, 400, 20015, b"too many subjects")
+}
+
+/// The stream has as many consumers as it may have.
+pub fn max_consumers_reached(alloc: Global) -> Result<ApiError, NoMemory>
+    ensures value { IfOk result (λ error. error ≡ refusals.max_consumers_reached) }
+{
+    refusal(alloc, 400, 20017, b"maximum consumers reached")
+}
