@@ -7,7 +7,7 @@ use js_model::plain::{
 };
 use js_model::{
     AckPolicy, Consumer, ConsumerConfig, DeliverPolicy, Discard, GetBy, Message, Pending, Publish,
-    Reply, Retention, Stream, StreamConfig, Wants,
+    Reply, Retention, Stream, StreamConfig, StreamInfo, Wants,
 };
 use std::alloc::{AllocError, Global};
 use std::test::Fail;
@@ -358,6 +358,27 @@ fn expectations_are_met(rt: HostRuntime) -> Result<(), Fail> {
     Ok(())
 }
 
+/// An answer, and the sequences that are left.
+fn outcome(alloc: Global, reply: &Reply, stream: &Stream) -> Result<String, AllocError> {
+    let mut text = shown(alloc, reply)?;
+    text.push_str(", ")?;
+    text.push_str(left(alloc, stream.messages.as_slice())?.as_str())?;
+    Ok(text)
+}
+
+/// Purges a stream.
+fn purge_named(
+    alloc: Global,
+    stream: &mut Stream,
+    pattern: &str,
+    below: Option<u64>,
+    keep: Option<u64>,
+) -> Result<Reply, Fail> {
+    let pattern = Blob::of(alloc, pattern.as_bytes())?;
+    let gone = purge_list(alloc, stream, &pattern, below, keep)?;
+    Ok(purge(alloc, stream, gone.as_slice()))
+}
+
 /// What a purge of three messages is answered, and what it leaves.
 fn purged(
     alloc: Global,
@@ -367,12 +388,8 @@ fn purged(
 ) -> Result<String, Fail> {
     let mut stream = empty(alloc)?;
     publish_three(alloc, &mut stream)?;
-    let pattern = Blob::of(alloc, pattern.as_bytes())?;
-    let gone = purge_list(alloc, &stream, &pattern, below, keep)?;
-    let mut text = shown(alloc, &purge(alloc, &mut stream, gone.as_slice()))?;
-    text.push_str(", ")?;
-    text.push_str(left(alloc, stream.messages.as_slice())?.as_str())?;
-    Ok(text)
+    let reply = purge_named(alloc, &mut stream, pattern, below, keep)?;
+    Ok(outcome(alloc, &reply, &stream)?)
 }
 
 #[test]
@@ -390,29 +407,40 @@ fn a_purge_removes_what_it_names(rt: HostRuntime) -> Result<(), Fail> {
     Ok(())
 }
 
-/// What a delete of a sequence and then a read are answered, of three messages.
-fn deleted(alloc: Global, seq: u64, by: &GetBy) -> Result<String, Fail> {
+/// What a delete of a sequence is answered, and what it leaves of three messages.
+fn deleted(alloc: Global, seq: u64) -> Result<String, Fail> {
     let mut stream = empty(alloc)?;
     publish_three(alloc, &mut stream)?;
-    let mut text = shown(alloc, &delete(alloc, &mut stream, seq)?)?;
-    text.push_str(", ")?;
-    let read = get_message(alloc, &stream, by)?;
-    text.push_str(shown(alloc, &read)?.as_str())?;
-    Ok(text)
+    let reply = delete(alloc, &mut stream, seq)?;
+    Ok(outcome(alloc, &reply, &stream)?)
 }
 
 #[test]
-fn messages_are_deleted_and_read(rt: HostRuntime) -> Result<(), Fail> {
-    let on_a = GetBy::LastBySubject(Blob::of(rt.alloc(), b"orders.a")?);
-    let table = [
-        (2, GetBy::Seq(2), "done, refused 10037"),
-        (4, GetBy::Seq(2), "refused 10037, message 2"),
-        (3, on_a, "done, message 1"),
-    ];
-    for (seq, by, want) in &table {
-        let text = deleted(rt.alloc(), *seq, by)?;
-        assert_eq!(rt; text.as_str(), *want);
+fn one_message_is_deleted(rt: HostRuntime) -> Result<(), Fail> {
+    for (seq, want) in [(2, "done, 1 3 "), (4, "refused 10037, 1 2 3 ")] {
+        let text = deleted(rt.alloc(), seq)?;
+        assert_eq!(rt; text.as_str(), want);
     }
+    Ok(())
+}
+
+/// What a read is answered, of three messages.
+fn read(alloc: Global, by: &GetBy) -> Result<String, Fail> {
+    let mut stream = empty(alloc)?;
+    publish_three(alloc, &mut stream)?;
+    let reply = get_message(alloc, &stream, by)?;
+    Ok(shown(alloc, &reply)?)
+}
+
+#[test]
+fn messages_are_read(rt: HostRuntime) -> Result<(), Fail> {
+    for (seq, want) in [(2, "message 2"), (4, "refused 10037")] {
+        let text = read(rt.alloc(), &GetBy::Seq(seq))?;
+        assert_eq!(rt; text.as_str(), want);
+    }
+    let last = GetBy::LastBySubject(Blob::of(rt.alloc(), b"orders.a")?);
+    let text = read(rt.alloc(), &last)?;
+    assert_eq!(rt; text.as_str(), "message 3");
     Ok(())
 }
 
@@ -449,34 +477,42 @@ fn consumers_begin_by_their_policies(rt: HostRuntime) -> Result<(), Fail> {
     Ok(())
 }
 
-/// The numbers that three messages and a consumer show.
-fn numbers(alloc: Global) -> Result<String, Fail> {
-    let mut stream = empty(alloc)?;
-    publish_three(alloc, &mut stream)?;
+/// The information of a small stream.
+fn information(alloc: Global, stream: &Stream) -> Result<StreamInfo, Fail> {
     if stream.last > 3 || !fits(stream.messages.as_slice(), u64::MAX) {
         return Err(Fail::new("too many messages"));
     }
-    let told = stream_info(alloc, &stream)?;
-    let info = consumer_info(&stream, &consumer(alloc, 3, Some(2))?)?.info;
-    let mut list = List::new(alloc);
-    for number in [told.messages, told.bytes, told.first_seq, told.last_seq] {
-        list.push(number)?;
-    }
-    for number in [
-        info.stream_seq,
-        info.ack_floor,
-        info.ack_pending,
-        info.pending,
-        info.redelivered,
-    ] {
-        list.push(number)?;
-    }
-    Ok(listed(alloc, list.as_slice())?)
+    Ok(stream_info(alloc, stream)?)
+}
+
+/// The numbers that a stream of three messages shows.
+fn stream_numbers(alloc: Global) -> Result<String, Fail> {
+    let mut stream = empty(alloc)?;
+    publish_three(alloc, &mut stream)?;
+    let told = information(alloc, &stream)?;
+    let numbers = [told.messages, told.bytes, told.first_seq, told.last_seq];
+    Ok(listed(alloc, &numbers)?)
+}
+
+/// The numbers that its consumer shows.
+fn consumer_numbers(alloc: Global) -> Result<String, Fail> {
+    let mut stream = empty(alloc)?;
+    publish_three(alloc, &mut stream)?;
+    let reader = consumer(alloc, 3, Some(2))?;
+    let told = consumer_info(&stream, &reader)?.info;
+    let numbers = [
+        told.stream_seq,
+        told.ack_floor,
+        told.ack_pending,
+        told.pending,
+        told.redelivered,
+    ];
+    Ok(listed(alloc, &numbers)?)
 }
 
 #[test]
 fn streams_and_consumers_show_their_numbers(rt: HostRuntime) -> Result<(), Fail> {
-    let text = numbers(rt.alloc())?;
-    assert_eq!(rt; text.as_str(), "3 159 1 3 2 1 1 1 1 ");
+    assert_eq!(rt; stream_numbers(rt.alloc())?.as_str(), "3 159 1 3 ");
+    assert_eq!(rt; consumer_numbers(rt.alloc())?.as_str(), "2 1 1 1 1 ");
     Ok(())
 }
