@@ -34,3 +34,5 @@ pub mod Within
 pub mod Quotas
 pub mod Sharing
 pub mod Limiting
+pub mod PlainLists
+pub mod PlainLimits

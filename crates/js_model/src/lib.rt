@@ -8,6 +8,7 @@ mod desk;
 mod entry;
 mod event;
 pub mod laws;
+pub mod plain;
 mod reply;
 mod stream;
 mod stream_config;
