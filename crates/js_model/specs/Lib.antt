@@ -23,3 +23,4 @@ pub mod Routes
 pub mod Catalog
 pub mod Legal
 pub mod Laws
+pub mod Fields

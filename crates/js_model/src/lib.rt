@@ -8,7 +8,9 @@ mod desk;
 mod entry;
 mod event;
 pub mod laws;
+pub mod plain;
 mod reply;
+mod status;
 mod stream;
 mod stream_config;
 

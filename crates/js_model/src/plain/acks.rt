@@ -1,0 +1,91 @@
+//! What an acknowledgement does to its consumer, by JetStream's acknowledgement kinds and ack policies.
+
+ghost use Rattle.std.specs.Prelude.{◌≡◌, map};
+ghost use Rattle.js_model.specs.Acknowledge.{ends, without, moved, with_due, is_no_delivery, acknowledged};
+
+use crate::ack::AckKind;
+use crate::consumer::{Consumer, Pending};
+use crate::consumer_config::AckPolicy;
+use crate::plain::lists::{has, take_items};
+use js_base::{List, Moment};
+use std::alloc::Global;
+
+/// Whether an ACK of the sequence ends the entry of another, or the same one: its own, or under the policy `all` each one up to it.
+pub fn ends(policy: AckPolicy, seq: u64, other: u64) -> bool
+    ensures value { result ≡ ends policy seq other }
+{
+    match policy {
+        AckPolicy::None | AckPolicy::Explicit => other == seq,
+        AckPolicy::All => other <= seq,
+    }
+}
+
+/// Takes out of the consumer what an ACK of the sequence ends under a policy.
+fn end_entries(alloc: Global, consumer: &mut Consumer, policy: AckPolicy, seq: u64)
+    ensures value { consumer.new ≡ without (ends policy seq) consumer.old }
+{
+    let mut pending = take_items(alloc, &mut consumer.pending);
+    pending.retain(|entry| !ends(policy, seq, entry.seq));
+    consumer.pending = List::from_vec(pending);
+    let mut given_up = take_items(alloc, &mut consumer.given_up);
+    given_up.retain(|other| !ends(policy, seq, *other));
+    consumer.given_up = List::from_vec(given_up);
+}
+
+/// The entry, due at another moment where it is the one of the sequence.
+fn moved(entry: Pending, seq: u64, due: Moment) -> Pending
+    ensures value { result ≡ moved seq due entry }
+{
+    if entry.seq == seq {
+        Pending { due, ..entry }
+    } else {
+        entry
+    }
+}
+
+/// Sets when the entry of the sequence is due.
+fn move_entry(pending: &mut [Pending], seq: u64, due: Moment)
+    ensures value { pending.new ≡ map (moved seq due) pending.old }
+{
+    for entry in pending.iter_mut() {
+        *entry = moved(*entry, seq, due);
+    }
+}
+
+/// Sets when the consumer's entry of the sequence is due.
+fn set_due(alloc: Global, consumer: &mut Consumer, seq: u64, due: Moment)
+    ensures value { consumer.new ≡ with_due seq due consumer.old }
+{
+    let mut pending = take_items(alloc, &mut consumer.pending);
+    move_entry(&mut pending, seq, due);
+    consumer.pending = List::from_vec(pending);
+}
+
+/// Whether the sequence is none that the consumer delivered, or its deliveries wait for no acknowledgement. Then an acknowledgement
+/// of it does nothing.
+pub fn is_no_delivery(consumer: &Consumer, seq: u64) -> bool
+    ensures value { result ≡ is_no_delivery consumer.now seq }
+{
+    seq == 0
+        || has(consumer.picks.as_slice(), seq)
+        || consumer.cursor <= seq
+        || consumer.is_unacknowledged()
+}
+
+/// Makes an acknowledgement of a sequence at a moment, by JetStream's acknowledgement kinds: an ACK, also one that asks for the next
+/// message, ends what the ack policy says, a NAK makes the entry due after its delay, a WPI after the ack wait, and a TERM ends the entry.
+pub fn acknowledge(alloc: Global, consumer: &mut Consumer, now: Moment, seq: u64, kind: AckKind)
+    ensures value { consumer.new ≡ acknowledged now seq kind consumer.old }
+{
+    match kind {
+        AckKind::Ack | AckKind::Next(_) => end_entries(
+            alloc,
+            consumer,
+            consumer.config.ack_policy,
+            seq,
+        ),
+        AckKind::Nak(delay) => set_due(alloc, consumer, seq, now.plus(delay)),
+        AckKind::Wpi => set_due(alloc, consumer, seq, now.plus(consumer.config.ack_wait)),
+        AckKind::Term => end_entries(alloc, consumer, AckPolicy::Explicit, seq),
+    }
+}
