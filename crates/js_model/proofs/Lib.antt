@@ -33,3 +33,4 @@ pub mod Within
 pub mod Quotas
 pub mod Sharing
 pub mod Limiting
+pub mod PlainLists

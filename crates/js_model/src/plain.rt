@@ -1,10 +1,14 @@
 //! Plain programs: for a definition that computes, a program over lists that gives its value. They are slow and obvious.
 
 mod acks;
+mod copies;
 mod lists;
 mod next;
+mod offers;
 mod pulls;
 
 pub use acks::{acknowledge, ends, is_no_delivery};
+pub use copies::copy_message;
 pub use next::{ack_reply, take_ack};
+pub use offers::{candidates, is_due, takes};
 pub use pulls::{pull, pull_of, pull_outs, pull_refusal};
