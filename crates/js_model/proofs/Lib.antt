@@ -34,3 +34,4 @@ pub mod Quotas
 pub mod Sharing
 pub mod Limiting
 pub mod PlainLists
+pub mod PlainPlaces

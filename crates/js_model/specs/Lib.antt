@@ -24,3 +24,4 @@ pub mod Catalog
 pub mod Legal
 pub mod Laws
 pub mod Fields
+pub mod Plain
