@@ -13,6 +13,7 @@ mod reply;
 mod status;
 mod stream;
 mod stream_config;
+mod text;
 
 pub use ack::{Ack, AckKind, Ask};
 pub use consumer::{Consumer, Pending, Pull};

@@ -2,15 +2,19 @@
 
 mod acks;
 mod copies;
+mod counts;
 mod entries;
 mod lists;
 mod next;
 mod offers;
 mod pulls;
+mod sending;
 
 pub use acks::{acknowledge, ends, is_no_delivery};
 pub use copies::copy_message;
+pub use counts::pending_count;
 pub use entries::{count_of, pending_after, with_pending};
 pub use next::{ack_reply, take_ack};
 pub use offers::{candidates, is_due, takes};
 pub use pulls::{pull, pull_of, pull_outs, pull_refusal};
+pub use sending::{send_to, sent_size};

@@ -1,28 +1,13 @@
 //! The blocks of status messages, by JetStream's status headers.
 
-ghost use Rattle.std.specs.Prelude.{◌≡◌, ◌++◌, IfOk, OnOk, decimal, map};
+ghost use Rattle.std.specs.Prelude.{◌≡◌, ◌++◌, IfOk, OnOk, map};
 ghost use Rattle.std.specs.List.{flat_map};
 ghost use Rattle.js_base.specs.Status.{status, status_text, status_field};
 ghost use Rattle.js_model.specs.Fields.{field_now};
 
-use itoa::Buffer;
+use crate::text::{put, put_number};
 use js_base::{Blob, NoMemory};
 use std::alloc::Global;
-
-/// Adds bytes at the end.
-fn put(into: &mut Vec<u8>, bytes: &[u8]) -> Result<(), NoMemory>
-    ensures ok { OnOk result (into.new.items ≡ into.old.items ++ bytes.now) }
-{
-    into.extend_from_slice(bytes)?;
-    Ok(())
-}
-
-/// Adds a number.
-fn put_number(into: &mut Vec<u8>, n: u64) -> Result<(), NoMemory>
-    ensures ok { OnOk result (into.new.items ≡ into.old.items ++ decimal n) }
-{
-    put(into, Buffer::new().format(n).as_bytes())
-}
 
 /// Adds the text behind the code, after a blank.
 fn put_text(into: &mut Vec<u8>, text: &[u8]) -> Result<(), NoMemory>

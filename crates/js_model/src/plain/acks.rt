@@ -1,6 +1,6 @@
 //! What an acknowledgement does to its consumer, by JetStream's acknowledgement kinds and ack policies.
 
-ghost use Rattle.std.specs.Prelude.{◌≡◌, map};
+ghost use Rattle.std.specs.Prelude.{◌≡◌, filter, map, not};
 ghost use Rattle.js_model.specs.Acknowledge.{ends, without, moved, with_due, is_no_delivery, acknowledged};
 
 use crate::ack::AckKind;
@@ -20,16 +20,30 @@ pub fn ends(policy: AckPolicy, seq: u64, other: u64) -> bool
     }
 }
 
-/// Takes out of the consumer what an ACK of the sequence ends under a policy.
+/// Takes out the entries that an ACK of the sequence ends under a policy.
+fn end_pending(alloc: Global, pending: &mut List<Pending>, policy: AckPolicy, seq: u64)
+    ensures value { pending.new ≡ filter (λ p. not (ends policy seq p.seq)) pending.old }
+{
+    let mut left = take_items(alloc, pending);
+    left.retain(|entry| !ends(policy, seq, entry.seq));
+    *pending = List::from_vec(left);
+}
+
+/// Takes out the given-up sequences that it ends.
+fn end_given_up(alloc: Global, given_up: &mut List<u64>, policy: AckPolicy, seq: u64)
+    ensures value { given_up.new ≡ filter (λ n. not (ends policy seq n)) given_up.old }
+{
+    let mut left = take_items(alloc, given_up);
+    left.retain(|other| !ends(policy, seq, *other));
+    *given_up = List::from_vec(left);
+}
+
+/// Takes out of the consumer what it ends.
 fn end_entries(alloc: Global, consumer: &mut Consumer, policy: AckPolicy, seq: u64)
     ensures value { consumer.new ≡ without (ends policy seq) consumer.old }
 {
-    let mut pending = take_items(alloc, &mut consumer.pending);
-    pending.retain(|entry| !ends(policy, seq, entry.seq));
-    consumer.pending = List::from_vec(pending);
-    let mut given_up = take_items(alloc, &mut consumer.given_up);
-    given_up.retain(|other| !ends(policy, seq, *other));
-    consumer.given_up = List::from_vec(given_up);
+    end_pending(alloc, &mut consumer.pending, policy, seq);
+    end_given_up(alloc, &mut consumer.given_up, policy, seq);
 }
 
 /// The entry, due at another moment where it is the one of the sequence.
