@@ -1,9 +1,11 @@
 //! Plain programs: for a definition that computes, a program over lists that gives its value. They are slow and obvious.
 
 mod acks;
+mod asking;
 mod copies;
 mod counts;
 mod entries;
+mod letter;
 mod lists;
 mod next;
 mod offers;
@@ -11,9 +13,11 @@ mod pulls;
 mod sending;
 
 pub use acks::{acknowledge, ends, is_no_delivery};
+pub use asking::{is_listened, is_wanted};
 pub use copies::copy_message;
 pub use counts::pending_count;
 pub use entries::{count_of, pending_after, with_pending};
+pub use letter::{ack_subject, address, delivery_out};
 pub use next::{ack_reply, take_ack};
 pub use offers::{candidates, is_due, takes};
 pub use pulls::{pull, pull_of, pull_outs, pull_refusal};
