@@ -1,0 +1,76 @@
+//! One delivery to a consumer of a stream, by JetStream's pull and push consumers.
+
+ghost use Rattle.std.specs.Prelude.{◌≡◌, ◌+◌, ◌-◌, ◌<◌, ◌^◌, [], ◌∷◌, All, Contains, IfOk, IfSome, IfNone, OnOk, OnErr, is_some, drop, find};
+ghost use Rattle.js_model.specs.declared.entry.Delivered.TheVariants.{Sent};
+ghost use Rattle.js_model.specs.Advance.{status_out};
+ghost use Rattle.js_model.specs.Deliver.{candidates, count_of, sent_to, delivery_out, small_block, empty_block, without_first, Delivers};
+ghost use Rattle.js_model.specs.Ready.{is_ready, is_ready_with};
+
+use crate::consumer::{Consumer, Pull};
+use crate::entry::Delivered;
+use crate::plain::asking::{is_listened, is_wanted};
+use crate::plain::copies::copy_consumer;
+use crate::plain::entries::count_of;
+use crate::plain::letter::delivery_out;
+use crate::plain::lists::take_items;
+use crate::plain::offers::candidates;
+use crate::plain::pulls::status_out;
+use crate::plain::sending::{send_to, sent_size};
+use crate::status::status;
+use crate::stream::{Message, Stream};
+use js_base::{Blob, List, NoMemory, Out};
+use std::alloc::Global;
+use std::mem;
+
+/// A delivery that was made: what it was, and the message that it sends.
+#[derive(Drop, Debug, PartialEq, Eq)]
+pub struct Sending {
+    pub what: Delivered,
+    pub out: Out,
+}
+
+/// The delivery of a message to the consumer, and the consumer after it.
+fn sent(
+    alloc: Global,
+    stream: &Stream,
+    consumer: &Consumer,
+    message: &Message,
+) -> Result<(Sending, Consumer), NoMemory>
+    requires seq { message.now.seq < 2 ^ 62 }
+    requires count { count_of consumer.now message.now.seq < 2 ^ 62 }
+    requires dseq { consumer.now.dseq < 2 ^ 62 }
+    ensures what { IfOk result (λ made. made.0.what ≡ Sent message.now.seq (count_of consumer.now message.now.seq + 1) (consumer.now.dseq + 1)) }
+    ensures out { IfOk result (λ made. made.0.out ≡ delivery_out stream.now consumer.now made.1 message.now (count_of consumer.now message.now.seq + 1)) }
+    ensures after { IfOk result (λ made. made.1 ≡ sent_to stream.now.moment message.now consumer.now) }
+{
+    let count = count_of(consumer, message.seq) + 1;
+    let mut after = copy_consumer(alloc, consumer)?;
+    send_to(alloc, &mut after, stream.moment, message)?;
+    let out = delivery_out(alloc, stream, consumer, &after, message, count)?;
+    let what = Delivered::Sent {
+        seq: message.seq,
+        count,
+        dseq: after.dseq,
+    };
+    Ok((Sending { what, out }, after))
+}
+
+/// Sends a message to the consumer. An `Err` changes nothing.
+fn send(
+    alloc: Global,
+    stream: &Stream,
+    consumer: &mut Consumer,
+    message: &Message,
+) -> Result<Sending, NoMemory>
+    requires seq { message.now.seq < 2 ^ 62 }
+    requires count { count_of consumer.old message.now.seq < 2 ^ 62 }
+    requires dseq { consumer.old.dseq < 2 ^ 62 }
+    ensures what { IfOk result (λ sending. sending.what ≡ Sent message.now.seq (count_of consumer.old message.now.seq + 1) (consumer.old.dseq + 1)) }
+    ensures out { IfOk result (λ sending. sending.out ≡ delivery_out stream.now consumer.old consumer.new message.now (count_of consumer.old message.now.seq + 1)) }
+    ensures after { OnOk result (consumer.new ≡ sent_to stream.now.moment message.now consumer.old) }
+    ensures err { OnErr result (consumer.new ≡ consumer.old) }
+{
+    let (sending, after) = sent(alloc, stream, consumer, message)?;
+    let _before = mem::replace(consumer, after);
+    Ok(sending)
+}
