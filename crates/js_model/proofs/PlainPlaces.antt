@@ -1,10 +1,10 @@
 -- Where an element stands in an ascending list: behind those that are less.
-use Rattle.std.proofs.Common.{◌≡◌, ℕ, ◌+◌, suc, Bool, true, false, cond, List, [], ◌∷◌, ◌++◌, take, drop, refl, ap, arith}
+use Rattle.std.proofs.Common.{◌≡◌, ℕ, ◌+◌, suc, Bool, true, false, cond, List, [], ◌∷◌, ◌++◌, take, drop, length, ◌≤◌, not, refl, ap, arith}
 use Rattle.std.specs.Prelude.{nat_lt, ◌==◌}
-use Rattle.std.specs.List.{prefix_len, insert}
+use Rattle.std.specs.List.{prefix_len, insert, remove}
 use Rattle.js_model.specs.declared.consumer.Pending.{Pending}
 use Rattle.js_model.specs.Advance.{placed}
-use Rattle.js_model.specs.Deliver.{with_pending}
+use Rattle.js_model.specs.Deliver.{with_pending, without_first}
 use Rattle.js_model.specs.Plain.{but_first}
 
 one_more : (n : ℕ) → 1 + n ≡ suc n
@@ -37,3 +37,27 @@ pending_at new (p ∷ ps) = go (nat_lt p.seq new.seq) (pending_at new ps)
         → cond b (p ∷ with_pending ps new) (cond (p.seq == new.seq) (new ∷ ps) (new ∷ p ∷ ps)) ≡ take (cond b (1 + k) 0) (p ∷ ps) ++ new ∷ but_first new.seq (drop (cond b (1 + k) 0) (p ∷ ps))
     go true h = rw one_more (ap (λ (ns : List Pending). p ∷ ns) h)
     go false h = here (p.seq == new.seq)
+
+-- the list without its first element that passes: those in front of it, and those behind
+pub without_at : {X : Type 0} (t : X → Bool) (xs : List X) → without_first t xs ≡ remove xs (prefix_len (λ x. not (t x)) xs)
+without_at t [] = refl
+without_at {X} t (x ∷ xs) = go (t x) (without_at t xs)
+  where
+    k : ℕ
+    k = prefix_len (λ x. not (t x)) xs
+
+    go : (b : Bool) → without_first t xs ≡ remove xs k → cond b xs (x ∷ without_first t xs) ≡ remove (x ∷ xs) (cond (not b) (1 + k) 0)
+    go true h = refl
+    go false h = rw one_more (ap (λ (ys : List X). x ∷ ys) h)
+
+-- where none passes nothing goes
+pub without_none : {X : Type 0} (t : X → Bool) (xs : List X) → length xs ≤ prefix_len (λ x. not (t x)) xs → without_first t xs ≡ xs
+without_none t [] h = refl
+without_none {X} t (x ∷ xs) h = go (t x) (without_none t xs) h
+  where
+    k : ℕ
+    k = prefix_len (λ x. not (t x)) xs
+
+    go : (b : Bool) → (length xs ≤ k → without_first t xs ≡ xs) → suc (length xs) ≤ cond (not b) (1 + k) 0 → cond b xs (x ∷ without_first t xs) ≡ x ∷ xs
+    go true f l = absurd (omega arith)
+    go false f l = ap (λ (ys : List X). x ∷ ys) (f (omega arith))

@@ -5,6 +5,7 @@ mod asking;
 mod copies;
 mod counts;
 mod deliveries;
+mod endings;
 mod entries;
 mod letter;
 mod lists;

@@ -1,24 +1,25 @@
 //! One delivery to a consumer of a stream, by JetStream's pull and push consumers.
 
-ghost use Rattle.std.specs.Prelude.{◌≡◌, ◌+◌, ◌-◌, ◌<◌, ◌^◌, [], ◌∷◌, All, Contains, IfOk, IfSome, IfNone, OnOk, OnErr, is_some, drop, find};
+ghost use Rattle.std.specs.Prelude.{◌≡◌, ◌+◌, ◌-◌, ◌<◌, ◌^◌, [], ◌∷◌, All, Contains, IfOk, IfSome, IfNone, OnOk, OnErr, is_some, drop, find, not};
+ghost use Rattle.std.specs.List.{prefix_len};
+ghost use Rattle.std.specs.Option.{option_copied};
 ghost use Rattle.js_model.specs.declared.entry.Delivered.TheVariants.{Sent};
 ghost use Rattle.js_model.specs.Advance.{status_out};
 ghost use Rattle.js_model.specs.Deliver.{candidates, count_of, sent_to, delivery_out, small_block, empty_block, without_first, Delivers};
+ghost use Rattle.js_model.specs.Plain.{too_small, emptied};
 ghost use Rattle.js_model.specs.Ready.{is_ready, is_ready_with};
 
-use crate::consumer::{Consumer, Pull};
+use crate::consumer::Consumer;
 use crate::entry::Delivered;
 use crate::plain::asking::{is_listened, is_wanted};
 use crate::plain::copies::copy_consumer;
+use crate::plain::endings::{end_hasty, end_small};
 use crate::plain::entries::count_of;
 use crate::plain::letter::delivery_out;
-use crate::plain::lists::take_items;
 use crate::plain::offers::candidates;
-use crate::plain::pulls::status_out;
 use crate::plain::sending::{send_to, sent_size};
-use crate::status::status;
 use crate::stream::{Message, Stream};
-use js_base::{Blob, List, NoMemory, Out};
+use js_base::{Blob, NoMemory, Out};
 use std::alloc::Global;
 use std::mem;
 
@@ -73,4 +74,30 @@ fn send(
     let (sending, after) = sent(alloc, stream, consumer, message)?;
     let _before = mem::replace(consumer, after);
     Ok(sending)
+}
+
+/// Delivers one candidate to the consumer: it is sent where somebody asks for it, and ends a front pull that is too small for it.
+fn deliver_one(
+    alloc: Global,
+    stream: &Stream,
+    listening: &[Blob],
+    consumer: &mut Consumer,
+    message: &Message,
+) -> Result<Option<Sending>, NoMemory>
+    requires candidate { Contains (candidates stream.now consumer.old) message.now }
+    requires seq { message.now.seq < 2 ^ 62 }
+    requires count { count_of consumer.old message.now.seq < 2 ^ 62 }
+    requires dseq { consumer.old.dseq < 2 ^ 62 }
+    ensures delivers { IfOk result (λ given. IfSome given (λ sending. Delivers stream.now listening.now consumer.old sending.what (sending.out ∷ []) consumer.new)) }
+    ensures ready { IfOk result (λ given. is_some given ≡ is_ready_with (message.now ∷ []) listening.now consumer.old) }
+    ensures idle { IfOk result (λ given. IfNone given (consumer.new ≡ consumer.old)) }
+    ensures err { OnErr result (consumer.new ≡ consumer.old) }
+{
+    if is_wanted(listening, consumer, sent_size(message)) {
+        return Ok(Some(send(alloc, stream, consumer, message)?));
+    }
+    if consumer.is_push() {
+        return Ok(None);
+    }
+    end_small(alloc, consumer)
 }

@@ -2,7 +2,8 @@
 
 ghost use Rattle.std.specs.Prelude.{◌≡◌, IfOk, OnOk, OnErr, codes, [], ◌∷◌};
 ghost use Rattle.std.specs.Option.{option_copied};
-ghost use Rattle.js_model.specs.Advance.{status_out};
+ghost use Rattle.js_base.specs.Status.{status};
+ghost use Rattle.js_model.specs.Advance.{status_out, left_fields};
 ghost use Rattle.js_model.specs.Pulls.{pull_of, pull_refusal, refusal_outs, pulled, pull_outs};
 
 use crate::ack::Ask;
@@ -79,6 +80,21 @@ pub fn pull(
         }
         _ => Ok(()),
     }
+}
+
+/// The status block that tells what a pull is still owed.
+pub(super) fn left_block(
+    alloc: Global,
+    code: u64,
+    text: &[u8],
+    pull: &Pull,
+) -> Result<Blob, NoMemory>
+    ensures value { IfOk result (λ block. block ≡ status code text.now (left_fields pull.now)) }
+{
+    let bytes = pull.bytes.unwrap_or(0);
+    let messages: (&[u8], u64) = (b"Nats-Pending-Messages", pull.batch);
+    let fields = [messages, (b"Nats-Pending-Bytes", bytes)];
+    status(alloc, code, text, &fields)
 }
 
 /// A message without a payload that shows a status block.
