@@ -35,3 +35,5 @@ pub mod Sharing
 pub mod Limiting
 pub mod PlainLists
 pub mod PlainPlaces
+pub mod PlainEndings
+pub mod PlainDeliveries

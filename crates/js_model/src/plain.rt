@@ -18,7 +18,7 @@ pub use acks::{acknowledge, ends, is_no_delivery};
 pub use asking::{is_listened, is_wanted};
 pub use copies::{copy_consumer, copy_consumer_config, copy_message};
 pub use counts::pending_count;
-pub use deliveries::Sending;
+pub use deliveries::{Sending, deliver, is_ready};
 pub use entries::{count_of, pending_after, with_pending};
 pub use letter::{ack_subject, address, delivery_out};
 pub use next::{ack_reply, take_ack};

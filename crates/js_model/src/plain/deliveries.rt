@@ -13,7 +13,7 @@ use crate::consumer::Consumer;
 use crate::entry::Delivered;
 use crate::plain::asking::{is_listened, is_wanted};
 use crate::plain::copies::copy_consumer;
-use crate::plain::endings::{end_hasty, end_small};
+use crate::plain::endings::{end_hasty, end_small, is_some_hasty};
 use crate::plain::entries::count_of;
 use crate::plain::letter::delivery_out;
 use crate::plain::offers::candidates;
@@ -100,4 +100,49 @@ fn deliver_one(
         return Ok(None);
     }
     end_small(alloc, consumer)
+}
+
+/// Makes some delivery to a consumer of a stream, at the stream's moment, where the push consumers of these names are listened to:
+/// the first candidate is sent, or it ends a pull that is too small for it; where there is no candidate, the first pull that does not
+/// wait ends. `None` exactly where nothing can be delivered. An `Err` changes nothing.
+pub fn deliver(
+    alloc: Global,
+    stream: &Stream,
+    listening: &[Blob],
+    consumer: &mut Consumer,
+) -> Result<Option<Sending>, NoMemory>
+    requires sequences { All (λ m. m.seq < 2 ^ 62) stream.now.messages }
+    requires counts { All (λ p. p.count < 2 ^ 62) consumer.old.pending }
+    ensures delivers { IfOk result (λ given. IfSome given (λ sending. Delivers stream.now listening.now consumer.old sending.what (sending.out ∷ []) consumer.new)) }
+    ensures ready { IfOk result (λ given. is_some given ≡ is_ready stream.now listening.now consumer.old) }
+    ensures idle { IfOk result (λ given. IfNone given (consumer.new ≡ consumer.old)) }
+    ensures err { OnErr result (consumer.new ≡ consumer.old) }
+{
+    let list = candidates(alloc, stream, consumer)?;
+    match list.as_slice() {
+        [] => end_hasty(alloc, consumer),
+        [message, ..] => deliver_one(alloc, stream, listening, consumer, message),
+    }
+}
+
+/// Whether something can be delivered to the consumer: somebody asks where there is a candidate, and where there is none, some pull
+/// does not wait.
+pub fn is_ready(
+    alloc: Global,
+    stream: &Stream,
+    listening: &[Blob],
+    consumer: &Consumer,
+) -> Result<bool, NoMemory>
+    ensures value { IfOk result (λ ready. ready ≡ is_ready stream.now listening.now consumer.now) }
+{
+    let list = candidates(alloc, stream, consumer)?;
+    let waiting = consumer.waiting.as_slice();
+    if list.is_empty() {
+        return Ok(is_some_hasty(waiting));
+    }
+    if consumer.is_push() {
+        Ok(is_listened(listening, consumer))
+    } else {
+        Ok(!waiting.is_empty())
+    }
 }

@@ -1,7 +1,7 @@
 //! The pulls that a delivery ends, by JetStream's pull consumers: one that is too small for a message, and one that does not wait.
 
-ghost use Rattle.std.specs.Prelude.{◌≡◌, IfOk, OnOk, OnErr, drop, find, not};
-ghost use Rattle.std.specs.List.{prefix_len};
+ghost use Rattle.std.specs.Prelude.{◌≡◌, IfOk, IfNone, OnOk, OnErr, is_some, drop, find, not};
+ghost use Rattle.std.specs.List.{prefix_len, list_any};
 ghost use Rattle.std.specs.Option.{option_copied};
 ghost use Rattle.js_model.specs.Deliver.{without_first};
 ghost use Rattle.js_model.specs.Plain.{too_small, emptied};
@@ -49,6 +49,13 @@ fn drop_front(alloc: Global, waiting: &mut List<Pull>)
         let _front = left.remove(0);
     }
     *waiting = List::from_vec(left);
+}
+
+/// Whether some pull does not wait.
+pub(super) fn is_some_hasty(waiting: &[Pull]) -> bool
+    ensures value { result ≡ list_any (λ p. p.no_wait) waiting.now }
+{
+    waiting.iter().any(|pull| pull.no_wait)
 }
 
 /// The first pull that does not wait.
@@ -102,6 +109,8 @@ fn drop_hasty(alloc: Global, waiting: &mut List<Pull>)
 pub(super) fn end_hasty(alloc: Global, consumer: &mut Consumer) -> Result<Option<Sending>, NoMemory>
     ensures given { IfOk result (λ given. given ≡ emptied (find (λ p. p.no_wait) consumer.old.waiting)) }
     ensures after { OnOk result (consumer.new ≡ record consumer.old { waiting = without_first (λ p. p.no_wait) consumer.old.waiting }) }
+    ensures ready { IfOk result (λ given. is_some given ≡ list_any (λ p. p.no_wait) consumer.old.waiting) }
+    ensures idle { IfOk result (λ given. IfNone given (consumer.new ≡ consumer.old)) }
     ensures err { OnErr result (consumer.new ≡ consumer.old) }
 {
     let given = emptied_told(alloc, consumer.waiting.as_slice())?;

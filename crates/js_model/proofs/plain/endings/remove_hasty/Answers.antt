@@ -1,4 +1,4 @@
-use Rattle.std.proofs.Common.{◌≡◌, ◌≤◌, Bool, not, length, sym, ap, arith}
+use Rattle.std.proofs.Common.{◌≤◌, not, length, sym, ap, arith}
 use Rattle.std.specs.List.{prefix_len}
 use Rattle.js_model.specs.declared.consumer.Pull.{Pull}
 use Rattle.js_model.proofs.PlainPlaces.{without_at, without_none}
