@@ -11,6 +11,7 @@ mod letter;
 mod lists;
 mod next;
 mod offers;
+mod passing;
 mod pulls;
 mod sending;
 
@@ -23,5 +24,6 @@ pub use entries::{count_of, pending_after, with_pending};
 pub use letter::{ack_subject, address, delivery_out};
 pub use next::{ack_reply, take_ack};
 pub use offers::{candidates, is_due, takes};
+pub use passing::{all_given_up, pass};
 pub use pulls::{pull, pull_of, pull_outs, pull_refusal};
 pub use sending::{send_to, sent_size};
