@@ -2,6 +2,7 @@
 
 mod acks;
 mod asking;
+mod beats;
 mod copies;
 mod counts;
 mod deliveries;
@@ -17,6 +18,7 @@ mod sending;
 
 pub use acks::{acknowledge, ends, is_no_delivery};
 pub use asking::{is_listened, is_wanted};
+pub use beats::consumer_outs;
 pub use copies::{copy_consumer, copy_consumer_config, copy_message};
 pub use counts::pending_count;
 pub use deliveries::{Sending, deliver, is_ready};

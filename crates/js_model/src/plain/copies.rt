@@ -28,7 +28,8 @@ fn copy_items<T: Copy>(alloc: Global, items: &[T]) -> Result<List<T>, NoMemory>
     Ok(List::from_vec(Vec::from_slice(alloc, items)?))
 }
 
-fn copy_pull(pull: &Pull) -> Result<Pull, NoMemory>
+/// A copy of a pull.
+pub(super) fn copy_pull(pull: &Pull) -> Result<Pull, NoMemory>
     ensures copy { IfOk result (λ copy. copy ≡ pull.now) }
 {
     Ok(Pull {
