@@ -33,7 +33,7 @@ pub mod Within
 pub mod Quotas
 pub mod Sharing
 pub mod Limiting
-pub mod PlainLists
+pub mod PlainLoops
 pub mod PlainPlaces
 pub mod PlainEndings
 pub mod PlainDeliveries

@@ -6,7 +6,8 @@ ghost use Rattle.js_model.specs.Acknowledge.{ends, without, moved, with_due, is_
 use crate::ack::AckKind;
 use crate::consumer::{Consumer, Pending};
 use crate::consumer_config::AckPolicy;
-use crate::plain::lists::{has, take_items};
+use crate::plain::lists::take_all;
+use crate::plain::retention::has;
 use js_base::{List, Moment};
 use std::alloc::Global;
 
@@ -24,7 +25,7 @@ pub fn ends(policy: AckPolicy, seq: u64, other: u64) -> bool
 fn end_pending(alloc: Global, pending: &mut List<Pending>, policy: AckPolicy, seq: u64)
     ensures value { pending.new ≡ filter (λ p. not (ends policy seq p.seq)) pending.old }
 {
-    let mut left = take_items(alloc, pending);
+    let mut left = take_all(alloc, pending);
     left.retain(|entry| !ends(policy, seq, entry.seq));
     *pending = List::from_vec(left);
 }
@@ -33,7 +34,7 @@ fn end_pending(alloc: Global, pending: &mut List<Pending>, policy: AckPolicy, se
 fn end_given_up(alloc: Global, given_up: &mut List<u64>, policy: AckPolicy, seq: u64)
     ensures value { given_up.new ≡ filter (λ n. not (ends policy seq n)) given_up.old }
 {
-    let mut left = take_items(alloc, given_up);
+    let mut left = take_all(alloc, given_up);
     left.retain(|other| !ends(policy, seq, *other));
     *given_up = List::from_vec(left);
 }
@@ -70,7 +71,7 @@ fn move_entry(pending: &mut [Pending], seq: u64, due: Moment)
 fn set_due(alloc: Global, consumer: &mut Consumer, seq: u64, due: Moment)
     ensures value { consumer.new ≡ with_due seq due consumer.old }
 {
-    let mut pending = take_items(alloc, &mut consumer.pending);
+    let mut pending = take_all(alloc, &mut consumer.pending);
     move_entry(&mut pending, seq, due);
     consumer.pending = List::from_vec(pending);
 }

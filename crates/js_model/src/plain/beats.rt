@@ -5,7 +5,7 @@ ghost use Rattle.js_base.specs.Status.{status};
 ghost use Rattle.js_model.specs.Advance.{timeout, pull_beat, push_beat, is_over, pull_comes, push_comes, running, consumer_outs};
 
 use crate::consumer::{Consumer, Pull};
-use crate::plain::copies::copy_pull;
+use crate::plain::consumer_copies::copy_pull;
 use crate::plain::passing::{is_over, pull_comes, push_comes};
 use crate::plain::pulls::{left_block, status_out};
 use crate::status::status;

@@ -12,7 +12,7 @@ ghost use Rattle.js_model.specs.Ready.{is_ready, is_ready_with};
 use crate::consumer::Consumer;
 use crate::entry::Delivered;
 use crate::plain::asking::{is_listened, is_wanted};
-use crate::plain::copies::copy_consumer;
+use crate::plain::consumer_copies::copy_consumer;
 use crate::plain::endings::{end_hasty, end_small, is_some_hasty};
 use crate::plain::entries::count_of;
 use crate::plain::letter::delivery_out;

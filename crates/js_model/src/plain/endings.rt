@@ -9,7 +9,7 @@ ghost use Rattle.js_model.specs.Plain.{too_small, emptied};
 use crate::consumer::{Consumer, Pull};
 use crate::entry::Delivered;
 use crate::plain::deliveries::Sending;
-use crate::plain::lists::take_items;
+use crate::plain::lists::take_all;
 use crate::plain::pulls::{left_block, status_out};
 use crate::status::status;
 use js_base::{List, NoMemory};
@@ -44,7 +44,7 @@ fn small_told(alloc: Global, waiting: &[Pull]) -> Result<Option<Sending>, NoMemo
 fn drop_front(alloc: Global, waiting: &mut List<Pull>)
     ensures left { waiting.new ≡ drop 1 waiting.old }
 {
-    let mut left = take_items(alloc, waiting);
+    let mut left = take_all(alloc, waiting);
     if !left.is_empty() {
         let _front = left.remove(0);
     }
@@ -100,7 +100,7 @@ fn remove_hasty(pulls: &mut Vec<Pull>)
 fn drop_hasty(alloc: Global, waiting: &mut List<Pull>)
     ensures left { waiting.new ≡ without_first (λ p. p.no_wait) waiting.old }
 {
-    let mut left = take_items(alloc, waiting);
+    let mut left = take_all(alloc, waiting);
     remove_hasty(&mut left);
     *waiting = List::from_vec(left);
 }

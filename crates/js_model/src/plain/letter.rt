@@ -60,7 +60,7 @@ fn put_ack_subject(
 ) -> Result<(), NoMemory>
     ensures ok { OnOk result (into.new.items ≡ into.old.items ++ ack_subject stream.now consumer.now message.now count) }
 {
-    let pending = pending_count(stream, consumer) as u64;
+    let pending = pending_count(stream, consumer);
     put_names(
         into,
         stream.config.name.as_slice(),

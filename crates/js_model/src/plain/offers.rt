@@ -8,24 +8,16 @@ ghost use Rattle.js_model.specs.Deliver.{is_due, next_message, may_wait, candida
 
 use crate::consumer::{Consumer, Pending};
 use crate::plain::copies::copy_message;
+use crate::plain::retention::takes;
 use crate::stream::{Message, Stream};
 use js_base::{List, Moment, NoMemory};
 use std::alloc::Global;
-use subject_match::matches;
 
 /// The greatest consumer sequence.
 const LAST_SEQUENCE: u64 = (1 << 62) - 1;
 
 /// How many deliveries may wait, where the configuration gives no limit.
 const MAX_PENDING: u64 = 65536;
-
-/// Whether the consumer's filter matches the message. The empty filter matches all.
-pub fn takes(consumer: &Consumer, message: &Message) -> bool
-    ensures value { result ≡ takes consumer.now message.now }
-{
-    let filter = &consumer.config.filter_subject;
-    filter.is_empty() || matches(filter.as_slice(), message.subject.as_slice())
-}
 
 /// Whether a count is below the limit, where there is one.
 fn below_limit(count: u64, limit: Option<u64>) -> bool

@@ -6,7 +6,7 @@ ghost use Rattle.js_model.specs.Streams.{at_limit};
 ghost use Rattle.js_model.specs.Advance.{is_over, has_come, pull_comes, push_comes, is_spent, placed, beaten, all_given_up, consumer_at};
 
 use crate::consumer::{Consumer, Pending, Pull};
-use crate::plain::lists::take_items;
+use crate::plain::lists::take_all;
 use js_base::{List, Moment, NoMemory};
 use std::alloc::Global;
 
@@ -115,7 +115,7 @@ pub fn all_given_up(alloc: Global, consumer: &Consumer, now: Moment) -> Result<L
 fn drop_spent(alloc: Global, pending: &mut List<Pending>, now: Moment, limit: Option<u64>)
     ensures left { pending.new ≡ filter (λ p. not (nat_le p.due now && at_limit p.count limit)) pending.old }
 {
-    let mut left = take_items(alloc, pending);
+    let mut left = take_all(alloc, pending);
     left.retain(|entry| !is_spent(*entry, now, limit));
     *pending = List::from_vec(left);
 }
@@ -142,7 +142,7 @@ fn beat_all(pulls: &mut [Pull], now: Moment)
 fn drop_over(alloc: Global, waiting: &mut List<Pull>, now: Moment)
     ensures left { waiting.new ≡ filter (λ p. not (is_over now p)) waiting.old }
 {
-    let mut left = take_items(alloc, waiting);
+    let mut left = take_all(alloc, waiting);
     left.retain(|pull| !is_over(pull, now));
     *waiting = List::from_vec(left);
 }
@@ -152,7 +152,7 @@ fn pass_pulls(alloc: Global, waiting: &mut List<Pull>, now: Moment)
     ensures left { waiting.new ≡ map (beaten now) (filter (λ p. not (is_over now p)) waiting.old) }
 {
     drop_over(alloc, waiting, now);
-    let mut pulls = take_items(alloc, waiting);
+    let mut pulls = take_all(alloc, waiting);
     beat_all(&mut pulls, now);
     *waiting = List::from_vec(pulls);
 }

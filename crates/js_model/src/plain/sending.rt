@@ -6,7 +6,7 @@ ghost use Rattle.js_model.specs.Deliver.{count_of, served, front_served, sent_to
 
 use crate::consumer::{Consumer, Pull};
 use crate::plain::entries::pending_after;
-use crate::plain::lists::take_items;
+use crate::plain::lists::take_all;
 use crate::stream::Message;
 use js_base::{List, Moment, NoMemory};
 use std::alloc::Global;
@@ -52,7 +52,7 @@ fn serve_front(waiting: &mut Vec<Pull>, now: Moment, bytes: u128)
 fn remove_pick(alloc: Global, picks: &mut List<u64>, seq: u64)
     ensures value { picks.new ≡ filter (λ n. not (n == seq)) picks.old }
 {
-    let mut left = take_items(alloc, picks);
+    let mut left = take_all(alloc, picks);
     left.retain(|pick| *pick != seq);
     *picks = List::from_vec(left);
 }
@@ -66,7 +66,7 @@ fn note_sent(alloc: Global, consumer: &mut Consumer, now: Moment, message: &Mess
     remove_pick(alloc, &mut consumer.picks, message.seq);
     consumer.cursor = consumer.cursor.max(message.seq + 1);
     consumer.dseq += 1;
-    let mut waiting = take_items(alloc, &mut consumer.waiting);
+    let mut waiting = take_all(alloc, &mut consumer.waiting);
     serve_front(&mut waiting, now, sent_size(message));
     consumer.waiting = List::from_vec(waiting);
     if consumer.is_push() {

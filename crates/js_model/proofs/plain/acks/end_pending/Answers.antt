@@ -7,4 +7,4 @@ use Rattle.js_model.proofs.plain.acks.end_pending.Goals as goal
 pub returns : goal.returns
 returns c =
     let left = filter_same _ (λ (p : Pending). not (ends c.args.policy c.args.seq p.seq)) _ (λ x b f' k. search (rules, tests)) _ _ c.retain.ensures.filtered in
-    record { value = rw (c.from_vec.ensures, left, c.take_items-left.ensures.items) }
+    record { value = rw (c.from_vec.ensures, left, c.take_all-left.ensures.items) }

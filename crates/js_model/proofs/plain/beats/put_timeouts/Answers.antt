@@ -1,6 +1,6 @@
 use Rattle.std.proofs.Common.{◌∙◌, sym, arith}
 use Rattle.js_model.specs.Advance.{timeout, is_over}
-use Rattle.js_model.proofs.PlainLists.{made_more, made_same}
+use Rattle.js_model.proofs.PlainLoops.{made_more, made_same}
 use Rattle.js_model.proofs.plain.beats.put_timeouts.Goals as goal
 use Rattle.js_model.proofs.plain.beats.put_timeouts.Goals.{then-is_over+in_ok-timeout+in_ok-push, else-is_over}
 

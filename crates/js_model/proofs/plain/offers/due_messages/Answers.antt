@@ -3,7 +3,7 @@ use Rattle.std.specs.Prelude.{◌==◌}
 use Rattle.std.specs.List.{list_any}
 use Rattle.js_model.specs.declared.stream.Message.{Message}
 use Rattle.js_model.specs.Deliver.{is_due}
-use Rattle.js_model.proofs.PlainLists.{keep_more, skip_more}
+use Rattle.js_model.proofs.PlainLoops.{keep_more, skip_more}
 use Rattle.js_model.proofs.plain.offers.due_messages.Goals as goal
 use Rattle.js_model.proofs.plain.offers.due_messages.Goals.{then-is_due_again+in_ok-copy_message+in_ok-push, else-is_due_again}
 

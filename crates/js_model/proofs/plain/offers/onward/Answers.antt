@@ -2,7 +2,7 @@ use Rattle.std.proofs.Common.{◌&&◌, Bool, sym}
 use Rattle.std.specs.Prelude.{nat_le}
 use Rattle.js_model.specs.declared.stream.Message.{Message}
 use Rattle.js_model.specs.Streams.{takes}
-use Rattle.js_model.proofs.PlainLists.{first_found, none_found}
+use Rattle.js_model.proofs.PlainLoops.{first_found, none_found}
 use Rattle.js_model.proofs.plain.offers.onward.Goals as goal
 
 pub returns-in-Some : goal.returns-in-Some

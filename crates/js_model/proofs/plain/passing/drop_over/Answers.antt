@@ -7,4 +7,4 @@ use Rattle.js_model.proofs.plain.passing.drop_over.Goals as goal
 pub returns : goal.returns
 returns c =
     let left = filter_same _ (λ (p : Pull). not (is_over c.args.now p)) _ (λ x b f' k. search (rules, tests)) _ _ c.retain.ensures.filtered in
-    record { left = rw (c.from_vec.ensures, left, c.take_items-left.ensures.items) }
+    record { left = rw (c.from_vec.ensures, left, c.take_all-left.ensures.items) }

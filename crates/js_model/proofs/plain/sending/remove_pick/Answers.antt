@@ -5,4 +5,4 @@ use Rattle.js_model.proofs.plain.sending.remove_pick.Goals as goal
 pub returns : goal.returns
 returns c =
     let left = filter_same _ (λ n. not (n == c.args.seq)) _ (λ x b f' k. search (rules, tests)) _ _ c.retain.ensures.filtered in
-    record { value = rw (c.from_vec.ensures, left, c.take_items-left.ensures.items) }
+    record { value = rw (c.from_vec.ensures, left, c.take_all-left.ensures.items) }

@@ -1,5 +1,5 @@
 use Rattle.std.proofs.Common.{◌≡◌, take}
-use Rattle.js_model.proofs.plain.copies.copy_pulls.Given as goal
+use Rattle.js_model.proofs.plain.consumer_copies.copy_pulls.Given as goal
 
 -- the pulls so far were copied
 abbrev pub invariant-loop-pull : goal.invariant-loop-pull
