@@ -67,25 +67,52 @@ fn stream(alloc: Global, payloads: &[&[u8]]) -> Result<Stream, Fail> {
     })
 }
 
-/// A new pull consumer W of all messages, with an ack wait of 30 seconds.
-fn worker(alloc: Global) -> Result<Consumer, Fail> {
+/// How the consumer W is set up. A push consumer sends to `D`.
+#[derive(Clone, Copy)]
+struct Setup {
+    ack_policy: AckPolicy,
+    idle_heartbeat: u64,
+    max_ack_pending: Option<u64>,
+    max_deliver: Option<u64>,
+    max_waiting: u64,
+    pushes: bool,
+}
+
+/// A pull consumer without limits.
+fn plain() -> Setup {
+    Setup {
+        ack_policy: AckPolicy::Explicit,
+        idle_heartbeat: 0,
+        max_ack_pending: None,
+        max_deliver: None,
+        max_waiting: 512,
+        pushes: false,
+    }
+}
+
+fn config(alloc: Global, setup: Setup) -> Result<ConsumerConfig, NoMemory> {
+    Ok(ConsumerConfig {
+        ack_policy: setup.ack_policy,
+        ack_wait: 30 * S,
+        deliver_group: Blob::empty(),
+        deliver_policy: DeliverPolicy::All,
+        deliver_subject: Blob::of(alloc, if setup.pushes { b"D" } else { b"" })?,
+        description: Blob::empty(),
+        filter_subject: Blob::empty(),
+        idle_heartbeat: setup.idle_heartbeat,
+        max_ack_pending: setup.max_ack_pending,
+        max_deliver: setup.max_deliver,
+        max_waiting: setup.max_waiting,
+        name: Blob::of(alloc, b"W")?,
+    })
+}
+
+/// The new consumer W of all messages, with an ack wait of 30 seconds.
+fn worker(alloc: Global, setup: Setup) -> Result<Consumer, Fail> {
     Ok(Consumer {
         name: Blob::of(alloc, b"W")?,
         made: moment(T0)?,
-        config: ConsumerConfig {
-            ack_policy: AckPolicy::Explicit,
-            ack_wait: 30 * S,
-            deliver_group: Blob::empty(),
-            deliver_policy: DeliverPolicy::All,
-            deliver_subject: Blob::empty(),
-            description: Blob::empty(),
-            filter_subject: Blob::empty(),
-            idle_heartbeat: 0,
-            max_ack_pending: None,
-            max_deliver: None,
-            max_waiting: 512,
-            name: Blob::of(alloc, b"W")?,
-        },
+        config: config(alloc, setup)?,
         picks: List::new(alloc),
         cursor: 1,
         dseq: 0,
@@ -187,6 +214,8 @@ enum Step {
     Pass,
     /// A delivery, where whoever has the name is listened to.
     Deliver(&'static str),
+    /// A pull of so many messages, and as many deliveries.
+    Serve(u64),
     Show,
 }
 
@@ -243,6 +272,22 @@ fn delivered(
     Ok(text)
 }
 
+/// Pulls so many messages, and delivers them.
+fn serve(alloc: Global, stream: &Stream, consumer: &mut Consumer, batch: u64) -> Result<(), Fail> {
+    let reply = Blob::of(alloc, b"_P")?;
+    pull(
+        alloc,
+        consumer,
+        stream.moment,
+        Some(&reply),
+        Some(ask(batch)),
+    )?;
+    for _ in 0..batch {
+        let _ = delivered(alloc, stream, consumer, "")?;
+    }
+    Ok(())
+}
+
 /// Makes a step at a moment, and shows what it did. What time sends and does comes first.
 fn take_step(
     alloc: Global,
@@ -265,62 +310,61 @@ fn take_step(
         }
         Step::Ack(seq, kind) => acknowledged(alloc, consumer, now, seq, kind),
         Step::Deliver(listener) => delivered(alloc, stream, consumer, listener),
+        Step::Serve(batch) => {
+            serve(alloc, stream, consumer, batch)?;
+            Ok(String::new(alloc))
+        }
         Step::Show => consumer_text(alloc, consumer),
     }
 }
 
-/// Makes the steps one after the other, and compares what each one shows.
+/// Makes the steps one after the other on a new consumer of a stream with messages of these payloads, and compares what each one shows.
 fn play(
     rt: &impl Abort,
     alloc: Global,
-    stream: &mut Stream,
-    consumer: &mut Consumer,
+    payloads: &[&[u8]],
+    setup: Setup,
     rows: &[(u64, Step, &str)],
 ) -> Result<(), Fail> {
+    let mut stream = stream(alloc, payloads)?;
+    let mut consumer = worker(alloc, setup)?;
     for (nanos, made, want) in rows {
-        let text = take_step(alloc, stream, consumer, *nanos, *made)?;
+        let text = take_step(alloc, &mut stream, &mut consumer, *nanos, *made)?;
         assert_eq!(rt; text.as_str(), *want);
     }
     Ok(())
 }
 
+/// What the first delivery of `hello` shows.
+const FIRST: &str = "1 1 1: _P $JS.ACK.ORDERS.W.1.1.1.1700000000000000000.0 hello";
+
 #[test]
 fn a_pull_that_does_not_wait_is_served_and_emptied(rt: HostRuntime) -> Result<(), Fail> {
-    let mut stream = stream(rt.alloc(), &[b"hello"])?;
-    let mut consumer = worker(rt.alloc())?;
     let hasty = Ask {
         no_wait: true,
         ..ask(3)
     };
-    play(
-        &rt,
-        rt.alloc(),
-        &mut stream,
-        &mut consumer,
-        &[
-            (T0, Step::Deliver(""), "idle"),
-            (T0, Step::Pull(Some(hasty)), ""),
-            (
-                T0,
-                Step::Deliver(""),
-                "1 1 1: _P $JS.ACK.ORDERS.W.1.1.1.1700000000000000000.0 hello",
-            ),
-            (T0, Step::Show, "1x1 up at 2 pulls 1"),
-            (
-                T0,
-                Step::Deliver(""),
-                "emptied: _P NATS/1.0 404 No Messages\r\n\r\n",
-            ),
-            (T0, Step::Show, "1x1 up at 2 pulls 0"),
-        ],
-    )
+    let rows = [
+        (T0, Step::Deliver(""), "idle"),
+        (T0, Step::Pull(Some(hasty)), ""),
+        (T0, Step::Deliver(""), FIRST),
+        (T0, Step::Show, "1x1 up at 2 pulls 1"),
+        (
+            T0,
+            Step::Deliver(""),
+            "emptied: _P NATS/1.0 404 No Messages\r\n\r\n",
+        ),
+        (T0, Step::Show, "1x1 up at 2 pulls 0"),
+    ];
+    play(&rt, rt.alloc(), &[b"hello"], plain(), &rows)
 }
 
 #[test]
 fn pulls_are_refused(rt: HostRuntime) -> Result<(), Fail> {
-    let mut stream = stream(rt.alloc(), &[b"hello"])?;
-    let mut consumer = worker(rt.alloc())?;
-    consumer.config.max_waiting = 1;
+    let setup = Setup {
+        max_waiting: 1,
+        ..plain()
+    };
     let rows = [
         (T0, Step::Pull(None), "_P NATS/1.0 400 Bad Request\r\n\r\n"),
         (T0, Step::Pull(Some(ask(1))), ""),
@@ -331,219 +375,163 @@ fn pulls_are_refused(rt: HostRuntime) -> Result<(), Fail> {
         ),
         (T0, Step::Show, "up at 1 pulls 1"),
     ];
-    play(&rt, rt.alloc(), &mut stream, &mut consumer, &rows)
+    play(&rt, rt.alloc(), &[b"hello"], setup, &rows)
+}
+
+/// A pull of three messages, and of so many bytes.
+fn within(bytes: u64) -> Step {
+    Step::Pull(Some(Ask {
+        max_bytes: Some(bytes),
+        ..ask(3)
+    }))
 }
 
 #[test]
 fn bytes_are_limited(rt: HostRuntime) -> Result<(), Fail> {
-    let mut stream = stream(rt.alloc(), &[b"hello"])?;
-    let mut consumer = worker(rt.alloc())?;
-    let within = |bytes| Ask {
-        max_bytes: Some(bytes),
-        ..ask(3)
-    };
-    play(
-        &rt,
-        rt.alloc(),
-        &mut stream,
-        &mut consumer,
-        &[
-            (T0, Step::Pull(Some(within(12))), ""),
-            (
-                T0,
-                Step::Deliver(""),
-                "too small: _P NATS/1.0 409 Message Size Exceeds MaxBytes\r\nNats-Pending-Messages: 3\r\nNats-Pending-Bytes: 12\r\n\r\n",
-            ),
-            (T0, Step::Show, "up at 1 pulls 0"),
-            (T0, Step::Pull(Some(within(13))), ""),
-            (
-                T0,
-                Step::Deliver(""),
-                "1 1 1: _P $JS.ACK.ORDERS.W.1.1.1.1700000000000000000.0 hello",
-            ),
-            (T0, Step::Show, "1x1 up at 2 pulls 1"),
-        ],
-    )
+    let small =
+        "too small: _P NATS/1.0 409 Message Size Exceeds MaxBytes\r\nNats-Pending-Messages: 3\r\nNats-Pending-Bytes: 12\r\n\r\n";
+    let rows = [
+        (T0, within(12), ""),
+        (T0, Step::Deliver(""), small),
+        (T0, Step::Show, "up at 1 pulls 0"),
+        (T0, within(13), ""),
+        (T0, Step::Deliver(""), FIRST),
+        (T0, Step::Show, "1x1 up at 2 pulls 1"),
+    ];
+    play(&rt, rt.alloc(), &[b"hello"], plain(), &rows)
 }
 
 #[test]
 fn a_pull_ends(rt: HostRuntime) -> Result<(), Fail> {
-    let mut stream = stream(rt.alloc(), &[b"hello"])?;
-    let mut consumer = worker(rt.alloc())?;
     let brief = Ask {
         expires: S,
         heartbeat: S / 2,
         ..ask(3)
     };
-    play(
-        &rt,
-        rt.alloc(),
-        &mut stream,
-        &mut consumer,
-        &[
-            (T0, Step::Pull(Some(brief)), ""),
-            (T0 + S / 2 - 1, Step::Pass, ""),
-            (
-                T0 + S / 2,
-                Step::Pass,
-                "_P NATS/1.0 100 Idle Heartbeat\r\n\r\n",
-            ),
-            (T0 + S - 1, Step::Pass, ""),
-            (
-                T0 + S,
-                Step::Pass,
-                "_P NATS/1.0 408 Request Timeout\r\nNats-Pending-Messages: 3\r\nNats-Pending-Bytes: 0\r\n\r\n",
-            ),
-            (T0 + S, Step::Show, "up at 1 pulls 0"),
-        ],
-    )
+    let timeout =
+        "_P NATS/1.0 408 Request Timeout\r\nNats-Pending-Messages: 3\r\nNats-Pending-Bytes: 0\r\n\r\n";
+    let rows = [
+        (T0, Step::Pull(Some(brief)), ""),
+        (T0 + S / 2 - 1, Step::Pass, ""),
+        (
+            T0 + S / 2,
+            Step::Pass,
+            "_P NATS/1.0 100 Idle Heartbeat\r\n\r\n",
+        ),
+        (T0 + S - 1, Step::Pass, ""),
+        (T0 + S, Step::Pass, timeout),
+        (T0 + S, Step::Show, "up at 1 pulls 0"),
+    ];
+    play(&rt, rt.alloc(), &[b"hello"], plain(), &rows)
 }
 
 #[test]
 fn one_delivery_waits_at_a_time(rt: HostRuntime) -> Result<(), Fail> {
-    let mut stream = stream(rt.alloc(), &[b"a", b"b"])?;
-    let mut consumer = worker(rt.alloc())?;
-    consumer.config.max_ack_pending = Some(1);
-    play(
-        &rt,
-        rt.alloc(),
-        &mut stream,
-        &mut consumer,
-        &[
-            (T0, Step::Ack(1, AckKind::Ack), "nothing"),
-            (T0, Step::Pull(Some(ask(1))), ""),
-            (
-                T0,
-                Step::Deliver(""),
-                "1 1 1: _P $JS.ACK.ORDERS.W.1.1.1.1700000000000000000.1 a",
-            ),
-            (T0, Step::Pull(Some(ask(1))), ""),
-            (T0, Step::Deliver(""), "idle"),
-            (T0, Step::Ack(1, AckKind::Next(ask(1))), "silent "),
-            (T0, Step::Show, "up at 2 pulls 2"),
-            (
-                T0,
-                Step::Deliver(""),
-                "2 1 2: _P $JS.ACK.ORDERS.W.1.2.2.1700000000000000000.0 b",
-            ),
-        ],
-    )
+    let setup = Setup {
+        max_ack_pending: Some(1),
+        ..plain()
+    };
+    let rows = [
+        (T0, Step::Ack(1, AckKind::Ack), "nothing"),
+        (T0, Step::Pull(Some(ask(2))), ""),
+        (
+            T0,
+            Step::Deliver(""),
+            "1 1 1: _P $JS.ACK.ORDERS.W.1.1.1.1700000000000000000.1 a",
+        ),
+        (T0, Step::Deliver(""), "idle"),
+        (T0, Step::Ack(1, AckKind::Next(ask(1))), "silent "),
+        (T0, Step::Show, "up at 2 pulls 2"),
+        (
+            T0,
+            Step::Deliver(""),
+            "2 1 2: _P $JS.ACK.ORDERS.W.1.2.2.1700000000000000000.0 b",
+        ),
+    ];
+    play(&rt, rt.alloc(), &[b"a", b"b"], setup, &rows)
 }
 
 #[test]
 fn a_delivery_is_made_again_after_its_wait(rt: HostRuntime) -> Result<(), Fail> {
-    let alloc = rt.alloc();
     let again = "1 2 2: _P $JS.ACK.ORDERS.W.2.1.2.1700000000000000000.0 hello";
     for (asked, kind, due) in [
         (T0, AckKind::Nak(30 * S), T0 + 30 * S),
         (T0, AckKind::Nak(S), T0 + S),
         (T0 + 20 * S, AckKind::Wpi, T0 + 50 * S),
     ] {
-        let mut stream = stream(alloc, &[b"hello"])?;
-        let mut consumer = worker(alloc)?;
         let rows = [
             (T0, Step::Pull(Some(ask(2))), ""),
-            (
-                T0,
-                Step::Deliver(""),
-                "1 1 1: _P $JS.ACK.ORDERS.W.1.1.1.1700000000000000000.0 hello",
-            ),
+            (T0, Step::Deliver(""), FIRST),
             (asked, Step::Ack(1, kind), "confirmed "),
-            (due - 1, Step::Deliver(""), "idle"),
+            (due.saturating_sub(1), Step::Deliver(""), "idle"),
             (due, Step::Deliver(""), again),
-            (due, Step::Show, "1x2 up at 2 pulls 0"),
             (due, Step::Ack(1, AckKind::Ack), "confirmed "),
             (due, Step::Show, "up at 2 pulls 0"),
         ];
-        play(&rt, rt.alloc(), &mut stream, &mut consumer, &rows)?;
-    }
-    Ok(())
-}
-
-/// Pulls three messages, and delivers them.
-fn deliver_three(alloc: Global, stream: &mut Stream, consumer: &mut Consumer) -> Result<(), Fail> {
-    let _ = take_step(alloc, stream, consumer, T0, Step::Pull(Some(ask(3))))?;
-    for _ in 0..3 {
-        let _ = take_step(alloc, stream, consumer, T0, Step::Deliver(""))?;
+        play(&rt, rt.alloc(), &[b"hello"], plain(), &rows)?;
     }
     Ok(())
 }
 
 #[test]
 fn acknowledgements_end_what_their_policy_says(rt: HostRuntime) -> Result<(), Fail> {
-    let alloc = rt.alloc();
-    for (policy, kind, want) in [
+    for (ack_policy, kind, want) in [
         (AckPolicy::All, AckKind::Ack, "3x1 up at 4 pulls 0"),
         (AckPolicy::All, AckKind::Term, "1x1 3x1 up at 4 pulls 0"),
         (AckPolicy::Explicit, AckKind::Ack, "1x1 3x1 up at 4 pulls 0"),
-        (AckPolicy::None, AckKind::Ack, "up at 4 pulls 0"),
     ] {
-        let mut stream = stream(alloc, &[b"a", b"b", b"c"])?;
-        let mut consumer = worker(alloc)?;
-        consumer.config.ack_policy = policy;
-        deliver_three(alloc, &mut stream, &mut consumer)?;
-        let _ = take_step(alloc, &mut stream, &mut consumer, T0, Step::Ack(2, kind))?;
-        let text = consumer_text(alloc, &consumer)?;
-        assert_eq!(rt; text.as_str(), want);
+        let setup = Setup {
+            ack_policy,
+            ..plain()
+        };
+        let rows = [
+            (T0, Step::Serve(3), ""),
+            (T0, Step::Ack(2, kind), "confirmed "),
+            (T0, Step::Show, want),
+        ];
+        play(&rt, rt.alloc(), &[b"a", b"b", b"c"], setup, &rows)?;
     }
     Ok(())
 }
 
 #[test]
 fn a_message_is_given_up(rt: HostRuntime) -> Result<(), Fail> {
-    let mut stream = stream(rt.alloc(), &[b"hello"])?;
-    let mut consumer = worker(rt.alloc())?;
-    consumer.config.max_deliver = Some(1);
-    play(
-        &rt,
-        rt.alloc(),
-        &mut stream,
-        &mut consumer,
-        &[
-            (T0, Step::Pull(Some(ask(2))), ""),
-            (
-                T0,
-                Step::Deliver(""),
-                "1 1 1: _P $JS.ACK.ORDERS.W.1.1.1.1700000000000000000.0 hello",
-            ),
-            (T0, Step::Ack(1, AckKind::Nak(0)), "confirmed "),
-            (T0, Step::Show, "up 1 at 2 pulls 1"),
-            (T0, Step::Deliver(""), "idle"),
-            (T0, Step::Ack(1, AckKind::Ack), "confirmed "),
-            (T0, Step::Show, "up at 2 pulls 1"),
-        ],
-    )
+    let setup = Setup {
+        max_deliver: Some(1),
+        ..plain()
+    };
+    let rows = [
+        (T0, Step::Pull(Some(ask(2))), ""),
+        (T0, Step::Deliver(""), FIRST),
+        (T0, Step::Ack(1, AckKind::Nak(0)), "confirmed "),
+        (T0, Step::Show, "up 1 at 2 pulls 1"),
+        (T0, Step::Deliver(""), "idle"),
+        (T0, Step::Ack(1, AckKind::Ack), "confirmed "),
+        (T0, Step::Show, "up at 2 pulls 1"),
+    ];
+    play(&rt, rt.alloc(), &[b"hello"], setup, &rows)
 }
 
 #[test]
 fn a_push_consumer_is_listened_to(rt: HostRuntime) -> Result<(), Fail> {
-    let mut stream = stream(rt.alloc(), &[b"hello"])?;
-    let mut consumer = worker(rt.alloc())?;
-    consumer.config.deliver_subject = Blob::of(rt.alloc(), b"D")?;
-    consumer.config.idle_heartbeat = 5 * S;
-    play(
-        &rt,
-        rt.alloc(),
-        &mut stream,
-        &mut consumer,
-        &[
-            (
-                T0,
-                Step::Pull(Some(ask(1))),
-                "_P NATS/1.0 409 Consumer is push based\r\n\r\n",
-            ),
-            (T0, Step::Deliver("V"), "idle"),
-            (
-                T0,
-                Step::Deliver("W"),
-                "1 1 1: D $JS.ACK.ORDERS.W.1.1.1.1700000000000000000.0 hello",
-            ),
-            (
-                T0 + 5 * S,
-                Step::Pass,
-                "D NATS/1.0 100 Idle Heartbeat\r\nNats-Last-Consumer: 1\r\nNats-Last-Stream: 1\r\n\r\n",
-            ),
-            (T0 + 5 * S, Step::Show, "1x1 up at 2 pulls 0"),
-        ],
-    )
+    let setup = Setup {
+        idle_heartbeat: 5 * S,
+        pushes: true,
+        ..plain()
+    };
+    let sent = "1 1 1: D $JS.ACK.ORDERS.W.1.1.1.1700000000000000000.0 hello";
+    let beat =
+        "D NATS/1.0 100 Idle Heartbeat\r\nNats-Last-Consumer: 1\r\nNats-Last-Stream: 1\r\n\r\n";
+    let rows = [
+        (
+            T0,
+            Step::Pull(Some(ask(1))),
+            "_P NATS/1.0 409 Consumer is push based\r\n\r\n",
+        ),
+        (T0, Step::Deliver("V"), "idle"),
+        (T0, Step::Deliver("W"), sent),
+        (T0 + 5 * S, Step::Pass, beat),
+        (T0 + 5 * S, Step::Show, "1x1 up at 2 pulls 0"),
+    ];
+    play(&rt, rt.alloc(), &[b"hello"], setup, &rows)
 }
