@@ -36,3 +36,7 @@ pub mod Sharing
 pub mod Limiting
 pub mod PlainLists
 pub mod PlainLimits
+pub mod PlainLoops
+pub mod PlainPlaces
+pub mod PlainEndings
+pub mod PlainDeliveries
