@@ -32,5 +32,5 @@ pub mod Redelivery
 pub mod AllConsumers
 pub mod Within
 pub mod Quotas
-pub mod Sharing
+pub mod Turns
 pub mod Limiting
