@@ -32,7 +32,7 @@ pub mod Redelivery
 pub mod AllConsumers
 pub mod Within
 pub mod Quotas
-pub mod Sharing
+pub mod Turns
 pub mod Limiting
 pub mod PlainLists
 pub mod PlainLimits

@@ -2,11 +2,11 @@
 use Rattle.js_model.specs.Laws.{LawLimits}
 use Rattle.js_model.proofs.Within.{stays_within}
 use Rattle.js_model.proofs.Quotas.{deliveries_limited}
-use Rattle.js_model.proofs.Sharing.{pulls_limited}
+use Rattle.js_model.proofs.Turns.{pulls_served}
 
 pub law_limits : LawLimits
 law_limits count old new entries s r = record {
   within = stays_within count old new entries s r;
   deliveries = λ name n c e. deliveries_limited name n count old entries new c s e r;
-  pulls = λ name c e pull. pulls_limited name count old entries new c e pull r;
+  pulls = λ name c e pull. pulls_served name count old entries new c e pull r;
 }

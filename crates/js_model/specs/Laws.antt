@@ -1,5 +1,5 @@
 -- What holds of each run of a place.
-use Rattle.std.specs.Prelude.{◌≡◌, ◌<◌, ◌≤◌, ◌+◌, ◌++◌, map, filter, find, option_map, unwrap_or, count_by, sum_by, length, All, IfSome, if◌then◌else◌, max, Contains, ◌||◌, ◌&&◌, ◌==◌, Bool, true, false, ℕ, List, [], ◌∷◌, Option, Some, None, ⊤, MatchBool}
+use Rattle.std.specs.Prelude.{◌≡◌, ◌<◌, ◌≤◌, ◌+◌, ◌++◌, map, filter, find, option_map, unwrap_or, count_by, sum_by, length, All, drop, not, nat_le, IfSome, if◌then◌else◌, max, Contains, ◌||◌, ◌&&◌, ◌==◌, Bool, true, false, ℕ, List, [], ◌∷◌, Option, Some, None, ⊤, MatchBool}
 use Rattle.std.specs.List.{list_any, last_or}
 use Rattle.js_base.specs.Bytes.{Bytes, is_empty, same, has}
 use Rattle.js_base.specs.Moments.{plus}
@@ -28,13 +28,15 @@ use Rattle.js_model.specs.declared.entry.PlaceEntry.{PlaceEntry}
 use Rattle.js_model.specs.declared.entry.PlaceEntry.TheVariants.{Step, Deliver, Broken}
 use Rattle.js_model.specs.Lists.{Ascends, IsPart}
 use Rattle.js_model.specs.Streams.{by_name, pending_seqs, seqs, size, is_push, passes_filter, with_consumer}
-use Rattle.js_model.specs.Advance.{advance}
+use Rattle.js_model.specs.Advance.{advance, is_over}
 use Rattle.js_model.specs.Retention.{is_kept}
 use Rattle.js_model.specs.Trim.{trim, max_messages}
 use Rattle.js_model.specs.Start.{picks_at, cursor_at}
+use Rattle.js_model.specs.Acknowledge.{is_no_delivery}
+use Rattle.js_model.specs.Pulls.{pull_of, pull_refusal}
 use Rattle.js_model.specs.Events.{purge_list, next_ask, stream_answer, answered}
-use Rattle.js_model.specs.Deliver.{count_of, IsDelivery}
-use Rattle.js_model.specs.Runs.{RunFrom, IsStep, messages_of}
+use Rattle.js_model.specs.Deliver.{count_of, without_first, IsDelivery}
+use Rattle.js_model.specs.Runs.{RunFrom, IsStep, messages_of, new_messages}
 use Rattle.js_model.specs.Firm.{moment_of}
 use Rattle.js_model.specs.Sound.{IsSound}
 
@@ -355,74 +357,91 @@ IsWithin (Live s) = IsWithinLimits s
 abbrev pub times_sent : ℕ → List Sending → ℕ
 times_sent n xs = length (filter (λ x. x.seq == n) xs)
 
--- what a pull asks for: where to, how many messages, and how many bytes
-pub record Allowance : Type 0 where
-  pub to : Bytes
-  pub batch : ℕ
-  pub bytes : Option ℕ
+-- a pull that waits, as it was asked or stood at first, and how many messages and bytes it got since
+pub record Turn : Type 0 where
+  pub pull : Pull
+  pub got : ℕ
+  pub bytes : ℕ
 
-abbrev pub allowance_of : Pull → Allowance
-allowance_of p = record { to = p.reply; batch = p.batch; bytes = p.bytes }
+abbrev pub turn_of : Pull → Turn
+turn_of p = record { pull = p; got = 0; bytes = 0 }
 
-abbrev pub allowance_for : Option Bytes → Option Ask → List Allowance
-allowance_for (Some reply) (Some ask) = record { to = reply; batch = ask.batch; bytes = ask.max_bytes } ∷ []
-allowance_for _ _ = []
+-- the turn of a pull, unless it was refused
+abbrev pub turn_unless : Option Bytes → ℕ → Bytes → Ask → List Turn
+turn_unless None now reply ask = turn_of (pull_of now reply ask) ∷ []
+turn_unless (Some block) now reply ask = []
 
--- what an event asks the consumer of this name for
-abbrev pub asked_by : Bytes → What → List Allowance
-asked_by name (PullIt reply other ask) = if same other name then allowance_for reply ask else []
-asked_by name (AckIt reply ack) = if same ack.consumer name then allowance_for reply (next_ask ack.kind) else []
-asked_by name _ = []
+-- the turn of a pull at the consumer: without a reply subject or a request there is none
+abbrev pub turn_for : ℕ → Option Bytes → Option Ask → Consumer → List Turn
+turn_for now None ask c = []
+turn_for now (Some reply) None c = []
+turn_for now (Some reply) (Some ask) c = turn_unless (pull_refusal c (Some ask)) now reply ask
 
--- what the entries ask it for, until it or the stream is dropped
-abbrev pub asked : Bytes → List PlaceEntry → List Allowance
-asked name [] = []
-asked name (Step seat e now reply outs unsaid ∷ entries) = if drops name e.what then [] else asked_by name e.what ++ asked name entries
-asked name (Deliver seat now listening d outs ∷ entries) = asked name entries
-asked name (Broken seat now call ∷ entries) = []
+-- the turn that an event adds to those of the consumer: by a pull, or by an acknowledgement that asks for the next message
+abbrev pub turn_by : Bytes → ℕ → Consumer → What → List Turn
+turn_by name now c (PullIt reply other ask) = if same other name then turn_for now reply ask c else []
+turn_by name now c (AckIt reply ack) = if same ack.consumer name && not (is_no_delivery c ack.seq) then turn_for now reply (next_ask ack.kind) c else []
+turn_by name now c _ = []
 
--- where a message went, and its bytes
-abbrev pub Parcel : Type 0
-Parcel = Bytes × ℕ
+abbrev pub turn_if_there : Bytes → ℕ → Option Consumer → What → List Turn
+turn_if_there name now None what = []
+turn_if_there name now (Some c) what = turn_by name now c what
 
-abbrev pub parcel_of : Out → Parcel
-parcel_of o = (o.to, length o.subject + length o.headers + length o.payload)
+-- the turns that have not ended by then
+abbrev pub turns_at : ℕ → List Turn → List Turn
+turns_at now turns = filter (λ t. not (is_over now t.pull)) turns
 
-abbrev pub parcel_or_none : Option Out → List Parcel
-parcel_or_none None = []
-parcel_or_none (Some o) = parcel_of o ∷ []
+-- the turns at an event's moment, and the one that it adds
+abbrev pub turns_after_event : Bytes → State → What → List Turn → List Turn
+turns_after_event name a what turns = turns_at (moment_of a) turns ++ turn_if_there name (moment_of a) (consumer_of name a) what
 
--- a message that is sent is the last output of its entry
-abbrev pub parcel_in : Delivered → List Out → List Parcel
-parcel_in (Sent seq count dseq) outs = parcel_or_none (last_or None outs)
-parcel_in TooSmall outs = []
-parcel_in Emptied outs = []
+abbrev pub bytes_of : Out → ℕ
+bytes_of o = length o.subject + length o.headers + length o.payload
 
--- what goes to the consumer of this name, until it or the stream is dropped
-abbrev pub parcels : Bytes → List PlaceEntry → List Parcel
-parcels name [] = []
-parcels name (Step seat e now reply outs unsaid ∷ entries) = if drops name e.what then [] else parcels name entries
-parcels name (Deliver seat now listening d outs ∷ entries) = (if same d.consumer name then parcel_in d.what outs else []) ++ parcels name entries
-parcels name (Broken seat now call ∷ entries) = []
+-- a message is charged to the front turn, which goes where its batch is reached
+abbrev pub charged : Option Out → List Turn → List Turn
+charged None turns = turns
+charged (Some o) [] = []
+charged (Some o) (t ∷ ts) = if nat_le t.pull.batch (t.got + 1) then ts else record t { got = t.got + 1; bytes = t.bytes + bytes_of o } ∷ ts
 
-abbrev pub total_bytes : List Parcel → ℕ
-total_bytes xs = sum_by (λ x. x.1) xs
+-- the turns after a delivery. A message that is sent is the last output of its entry
+abbrev pub turns_left : Delivered → List Out → List Turn → List Turn
+turns_left (Sent seq count dseq) outs turns = charged (last_or None outs) turns
+turns_left TooSmall outs turns = drop 1 turns
+turns_left Emptied outs turns = without_first (λ t. t.pull.no_wait) turns
 
--- what one pull gets: all of it goes to its reply subject, at most its batch and at most its bytes
-pub record IsAllowed (a : Allowance) (own : List Parcel) : Type 0 where
-  pub to : All (λ x. x.0 ≡ a.to) own
-  pub batch : 1 ≤ a.batch → length own ≤ a.batch
-  pub bytes : IfSome a.bytes (λ limit. total_bytes own ≤ limit)
+abbrev pub turns_after : Bytes → Delivery → List Out → List Turn → List Turn
+turns_after name d outs turns = if same d.consumer name then turns_left d.what outs turns else turns
 
--- the parcels in their order are what the first pull gets, then what the next one gets, and so on
-abbrev pub AreShared : List Allowance → List Parcel → Type 0
-AreShared [] xs = xs ≡ []
-AreShared (a ∷ more) xs = (own : List Parcel) × (others : List Parcel) × (xs ≡ own ++ others) × IsAllowed a own × AreShared more others
+-- the message goes to the pull, which gets at most its batch, or 1 where that is 0, and at most its bytes
+pub record IsWithinTurn (t : Turn) (o : Out) : Type 0 where
+  pub to : o.to ≡ t.pull.reply
+  pub batch : t.got + 1 ≤ max t.pull.batch 1
+  pub bytes : IfSome t.pull.bytes (λ limit. t.bytes + bytes_of o ≤ limit)
 
-pub record AreLimited (old new : State) (entries : List PlaceEntry) : Type 0 where
+abbrev pub IsForFront : Option Out → List Turn → Type 0
+IsForFront (Some o) (t ∷ ts) = IsWithinTurn t o
+IsForFront _ _ = ⊥
+
+abbrev pub IsServing : Delivered → List Out → List Turn → Type 0
+IsServing (Sent seq count dseq) outs turns = IsForFront (last_or None outs) turns
+IsServing TooSmall outs turns = ⊤
+IsServing Emptied outs turns = ⊤
+
+-- each message to the consumer of this name goes to the pull whose turn it is, until the consumer or the stream is dropped
+abbrev pub Serves : (name : Bytes) (turns : List Turn) (count : ℕ) (old : State) (entries : List PlaceEntry) (new : State) → RunFrom count old entries new → Type 0
+Serves name turns count old [] new r = ⊤
+Serves name turns count old (Step seat e now reply outs unsaid ∷ entries) new (mid, step, rest) =
+    MatchBool (drops name e.what) ⊤ (Serves name (turns_after_event name (state_at old now) e.what turns) (count + length (new_messages old mid)) mid entries new rest)
+Serves name turns count old (Deliver seat now listening d outs ∷ entries) new (mid, step, rest) =
+    MatchBool (same d.consumer name) (IsServing d.what outs (turns_at (moment_of (state_at old now)) turns)) ⊤
+    × Serves name (turns_after name d outs (turns_at (moment_of (state_at old now)) turns)) (count + length (new_messages old mid)) mid entries new rest
+Serves name turns count old (Broken seat now call ∷ entries) new r = ⊤
+
+pub record AreLimited (count : ℕ) (old new : State) (entries : List PlaceEntry) (r : RunFrom count old entries new) : Type 0 where
   pub within : IsWithin old → IsWithin new
   pub deliveries : (name : Bytes) (n : ℕ) (c : Consumer) → consumer_of name old ≡ Some c → IfSome c.config.max_deliver (λ limit. count_of c n + times_sent n (sendings name entries) ≤ limit)
-  pub pulls : (name : Bytes) (c : Consumer) → consumer_of name old ≡ Some c → is_push c ≡ false → AreShared (map allowance_of c.waiting ++ asked name entries) (parcels name entries)
+  pub pulls : (name : Bytes) (c : Consumer) → consumer_of name old ≡ Some c → is_push c ≡ false → Serves name (map turn_of c.waiting) count old entries new r
 
 abbrev pub LawLimits : Type 0
-LawLimits = (count : ℕ) (old new : State) (entries : List PlaceEntry) → IsSound old → RunFrom count old entries new → AreLimited old new entries
+LawLimits = (count : ℕ) (old new : State) (entries : List PlaceEntry) → IsSound old → (r : RunFrom count old entries new) → AreLimited count old new entries r

@@ -38,8 +38,8 @@ pub fn law_redelivery()
     ensures law { LawRedelivery }
 {}
 
-/// A state within its limits stays so, a message is sent at most `max_deliver` times, and a pull gets at most its batch
-/// and its bytes.
+/// A state within its limits stays so, and a message is sent at most `max_deliver` times. Each message to a pull consumer
+/// goes to the first pull that was taken and has not ended, within what is left of its batch and its bytes.
 pub fn law_limits()
     ensures law { LawLimits }
 {}
