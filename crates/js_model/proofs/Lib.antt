@@ -40,3 +40,4 @@ pub mod PlainLoops
 pub mod PlainPlaces
 pub mod PlainEndings
 pub mod PlainDeliveries
+pub mod Readiness

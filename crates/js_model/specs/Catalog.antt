@@ -185,9 +185,20 @@ catalog_call c (Keep place new) = telling Done (edited (on_used (keeping new)) p
 catalog_call c (Remove place dropped) = telling Done (edited (freed dropped) place c)
 catalog_call c (Stop place) = telling Done (edited (on_used stopping) place c)
 
+-- the call takes memory, and so may want it
+abbrev pub may_want : CatCall → Bool
+may_want (Find subject) = false
+may_want (ByName name) = false
+may_want (NextUsed after) = false
+may_want (Add name subjects) = true
+may_want (Change place subjects) = true
+may_want (Keep place new) = false
+may_want (Remove place dropped) = false
+may_want (Stop place) = false
+
 -- the call answers this and leaves this. Want of memory changes nothing
 abbrev pub IsCatalogCall : Catalog → CatCall → CatTold → Catalog → Type 0
-IsCatalogCall c call told new = (catalog_call c call ≡ telling told new) ⊎ ((told ≡ NoMemory) × (new ≡ c))
+IsCatalogCall c call told new = (catalog_call c call ≡ telling told new) ⊎ ((told ≡ NoMemory) × (new ≡ c) × (may_want call ≡ true))
 
 -- ---- runs
 

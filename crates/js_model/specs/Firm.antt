@@ -45,7 +45,7 @@ IsChange old reply new = (is_refusal reply ≡ false) × Changes old new
 abbrev pub IsFirmStep : State → What → Reply → State → Type 0
 IsFirmStep old (PublishIt p) reply new = IsTrue (is_some p.reply) × IsTrue (is_taken reply)
 IsFirmStep old (AckIt asked ack) reply new = IsTrue (is_some asked) × IsTrue (is_confirmed reply)
-IsFirmStep old (PullIt asked name ask) reply new = ⊥
+IsFirmStep old (PullIt asked name ask) reply new = IsChange old reply new
 IsFirmStep old Tick reply new = ⊥
 IsFirmStep old (Make asked config) reply new = IsChange old reply new
 IsFirmStep old (Change asked config) reply new = IsChange old reply new

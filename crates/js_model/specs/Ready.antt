@@ -1,5 +1,5 @@
 -- Whether something can be delivered to a consumer.
-use Rattle.std.specs.Prelude.{ℕ, Bool, false, not, List, [], ◌∷◌, if◌then◌else◌}
+use Rattle.std.specs.Prelude.{ℕ, Bool, false, not, IsTrue, ◌↔◌, List, [], ◌∷◌, if◌then◌else◌}
 use Rattle.std.specs.List.{list_any}
 use Rattle.js_base.specs.Bytes.{Bytes, is_empty}
 use Rattle.js_base.specs.declared.out.Out.{Out}
@@ -30,3 +30,7 @@ is_ready a listening c = is_ready_with (candidates a c) listening c
 abbrev pub some_ready : State → ℕ → List Bytes → Bool
 some_ready (Vacant i) now listening = false
 some_ready (Live s) now listening = list_any (is_ready (advance s now) listening) (advance s now).consumers
+
+-- a consumer is ready just where something can be delivered to it
+abbrev pub LawReady : Type 0
+LawReady = (a : Stream) (listening : List Bytes) (c : Consumer) → IsTrue (is_ready a listening c) ↔ CanDeliver a listening c

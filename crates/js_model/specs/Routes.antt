@@ -184,9 +184,19 @@ route r (Publish out from) = if_publisher_open r from (telling (Taken (length (l
 route r (Interest subject) = telling (Listens (is_interest r subject)) r
 route r (Collect n max) = if_open r n (telling (collect_told max r (session_of r n)) (emptied r n max))
 
+-- the call takes memory, and so may want it
+abbrev pub may_want : RouteCall → Bool
+may_want Open = true
+may_want (Close n) = false
+may_want (Options n echo headers) = false
+may_want (Sub n pattern sid) = true
+may_want (Publish out from) = true
+may_want (Interest subject) = false
+may_want (Collect n max) = true
+
 -- the call answers this and leaves this. Want of memory changes nothing
 abbrev pub IsRoute : Router → RouteCall → RouteTold → Router → Type 0
-IsRoute r call told new = (route r call ≡ telling told new) ⊎ ((told ≡ NoMemory) × (new ≡ r))
+IsRoute r call told new = (route r call ≡ telling told new) ⊎ ((told ≡ NoMemory) × (new ≡ r) × (may_want call ≡ true))
 
 -- ---- runs
 

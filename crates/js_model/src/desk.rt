@@ -7,7 +7,7 @@ use js_base::{Frame, List};
 pub struct Taken {
     /// How many subscriptions.
     pub subscriptions: u64,
-    /// Whether a stream or the API did.
+    /// Whether something other than a subscription did.
     pub other: bool,
 }
 

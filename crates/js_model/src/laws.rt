@@ -1,6 +1,7 @@
-//! What holds of each run of a place, by the definitions alone.
+//! What holds of each run of a place, and of what is ready there, by the definitions alone.
 
 ghost use Rattle.js_model.specs.Laws.{LawSound, LawAcked, LawDuplicate, LawKept, LawOrder, LawStart, LawRedelivery, LawLimits};
+ghost use Rattle.js_model.specs.Ready.{LawReady};
 
 /// Soundness is kept: each state that a run reaches from a sound one is sound.
 pub fn law_sound()
@@ -42,4 +43,10 @@ pub fn law_redelivery()
 /// goes to the first pull that was taken and has not ended, within what is left of its batch and its bytes.
 pub fn law_limits()
     ensures law { LawLimits }
+{}
+
+/// A consumer is ready just where something can be delivered to it: a candidate is sent, or it ends the front pull, which is
+/// too small for it, or there is no candidate and the first pull that does not wait ends.
+pub fn law_ready()
+    ensures law { LawReady }
 {}

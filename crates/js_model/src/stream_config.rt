@@ -23,8 +23,8 @@ pub enum Discard {
 }
 
 /// A stream's configuration, by the stream documentation of JetStream: one field for each name that its text
-/// prints, after the defaults. A limit of `None` is no limit and prints as -1. `num_replicas` and `storage` have one
-/// value each, 1 and `file`, and no field.
+/// prints, after the defaults. A limit of `None` prints as -1, and is no limit: but for `max_msgs` it is 2^24, and for
+/// `max_consumers` 256. `num_replicas` and `storage` have one value each, 1 and `file`, and no field.
 #[derive(Drop, Debug)]
 pub struct StreamConfig {
     /// At most 4,096 bytes.

@@ -41,7 +41,7 @@ pub refused_add : (c : Catalog) (name : Bytes) (subjects : List Bytes) (fault : 
     → IsCatalogCall c (Add name subjects) (add_told (Err fault)) c
 unfolding catalog_call
 refused_add c name subjects (faults.Refused error) h = inl (ap (λ (refused : Option ApiError). added name subjects c refused) h)
-refused_add c name subjects faults.NoMemory h = inr (refl, refl)
+refused_add c name subjects faults.NoMemory h = inr (refl, refl, refl)
 
 -- the entry that a new stream takes
 abbrev pub taken : Bytes → List Bytes → Entry → Entry

@@ -123,7 +123,7 @@ starves : (r new : routes.Router) (n : ℕ) (call : routes.RouteCall) (after : r
 starves r new n call after fault is fine opened (inl e) =
     let same = sym (if_true (routes.is_open r n) after (routes.telling (routes.NoSession r.latest) r) opened) ∙ sym is ∙ e in
     impossible (sym fine ∙ ap (λ (x : routes.Routed). fault_number x.told) same ∙ faulty fault)
-starves r new n call after fault is fine opened (inr e) = inr (refl, e.1)
+starves r new n call after fault is fine opened (inr e) = inr (refl, e.1, e.2)
 
 pub sub_starves : (r new : routes.Router) (n : ℕ) (pattern sid : Bytes) (fault : RouteFault) → routes.is_open r n ≡ true → routes.IsRoute r (routes.Sub n pattern sid) (fault_told fault) new
     → routes.IsRoute r (routes.Sub n pattern sid) routes.NoMemory new
