@@ -1,6 +1,7 @@
 pub mod Samples
 pub mod RowsOfStreams
 pub mod RowsOfConsumers
+pub mod RowsOfStarts
 pub mod RowsOfRoutes
 pub mod RowsOfCatalog
 pub mod Parts
