@@ -21,7 +21,7 @@ use Rattle.js_model.specs.Trim.{trim}
 use Rattle.js_model.specs.Verdict.{verdict}
 use Rattle.js_model.specs.Events.{answered}
 use Rattle.js_model.specs.Deliver.{candidates, IsDelivered}
-use Rattle.js_model.proofs.Samples.{t0, orders, worker, make, hello, say, make_consumer, ask_of, pull, ack, after, state_after, reply_to, outs_to, seqs_in, consumers_in, message, to_worker, delivered}
+use Rattle.js_model.proofs.Samples.{t0, orders, worker, make, hello, say, make_consumer, ask_of, pull, ack, after, state_after, reply_to, outs_to, seqs_in, consumers_in, pulls_in, message, to_worker, delivered}
 
 -- the sequences that wait for an acknowledgement, of each consumer
 abbrev pending_in : State → List (List ℕ)
@@ -29,10 +29,6 @@ pending_in s = map (λ c. map (λ p. p.seq) c.pending) (consumers_in s)
 
 abbrev given_up_in : State → List (List ℕ)
 given_up_in s = map (λ c. c.given_up) (consumers_in s)
-
--- the pulls that wait, of each consumer
-abbrev pulls_in : State → List (List Pull)
-pulls_in s = map (λ c. c.waiting) (consumers_in s)
 
 -- a pull of one message, asked for at t0
 abbrev one_for : Bytes → Pull

@@ -12,6 +12,7 @@ use Rattle.js_model.specs.declared.stream.Message.{Message}
 use Rattle.js_model.specs.declared.stream.State.{State}
 use Rattle.js_model.specs.declared.stream.State.TheVariants.{Vacant, Live}
 use Rattle.js_model.specs.declared.consumer.Consumer.{Consumer}
+use Rattle.js_model.specs.declared.consumer.Pull.{Pull}
 use Rattle.js_model.specs.declared.entry.Delivered.{Delivered}
 use Rattle.js_model.specs.declared.entry.Delivery.{Delivery}
 use Rattle.js_model.specs.declared.ack.Ask.{Ask}
@@ -121,6 +122,10 @@ seqs_in (Live s) = map (λ m. m.seq) s.messages
 abbrev pub consumers_in : State → List Consumer
 consumers_in (Vacant i) = []
 consumers_in (Live s) = s.consumers
+
+-- the pulls that wait, of each consumer
+abbrev pub pulls_in : State → List (List Pull)
+pulls_in s = map (λ c. c.waiting) (consumers_in s)
 
 abbrev pub message : ℕ → ℕ → Bytes → Message
 message seq at payload = record { seq = seq; at = at; subject = codes "orders.a"; headers = []; payload = payload }
