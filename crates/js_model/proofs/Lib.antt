@@ -1,6 +1,12 @@
 pub mod Samples
 pub mod RowsOfStreams
 pub mod RowsOfConsumers
+pub mod RowsOfStarts
+pub mod RowsOfAcks
+pub mod RowsOfPulls
+pub mod RowsOfMaking
+pub mod RowsOfPushes
+pub mod RowsOfPlaces
 pub mod RowsOfRoutes
 pub mod RowsOfCatalog
 pub mod Parts

@@ -1,39 +1,27 @@
 -- Worked rows of consumers: deliveries, acknowledgements, redelivery, pulls, heartbeats, retention.
-use Rattle.std.specs.Prelude.{ℕ, ◌≡◌, Bool, true, false, List, [], ◌∷◌, Option, Some, None, codes, refl, map}
+use Rattle.std.specs.Prelude.{ℕ, ◌≡◌, Bool, true, false, [], ◌∷◌, Some, None, codes, refl, map}
 use Rattle.std.proofs.Common.{lit<}
 use Rattle.std.specs.Fmt.{digits}
 use Rattle.js_base.specs.Bytes.{Bytes}
 use Rattle.js_base.specs.declared.out.Out.{Out}
 use Rattle.js_model.specs.declared.stream_config.Retention.TheVariants.{Interest, WorkQueue}
 use Rattle.js_model.specs.declared.consumer_config.AckPolicy.TheVariants.{All as AckAll}
-use Rattle.js_model.specs.declared.stream.Message.{Message}
 use Rattle.js_model.specs.declared.stream.State.{State}
-use Rattle.js_model.specs.declared.stream.State.TheVariants.{Vacant, Live}
-use Rattle.js_model.specs.declared.consumer.Consumer.{Consumer}
 use Rattle.js_model.specs.declared.ack.AckKind.TheVariants.{Ack as Acknowledge, Nak, Wpi}
 use Rattle.js_model.specs.declared.event.GetBy.TheVariants.{Seq}
 use Rattle.js_model.specs.declared.event.What.{What}
 use Rattle.js_model.specs.declared.event.What.TheVariants.{Ack as AckIt, Pull as PullIt, Tick, MessageGet, DropConsumer, ConsumerInfo as AskConsumer}
 use Rattle.js_model.specs.declared.reply.Reply.TheVariants.{ConsumerInfo as ConsumerTold, Confirmed, Refused}
-use Rattle.js_model.specs.declared.entry.Delivered.{Delivered}
 use Rattle.js_model.specs.declared.entry.Delivered.TheVariants.{Sent, TooSmall, Emptied}
-use Rattle.js_model.specs.declared.entry.Delivery.{Delivery}
 use Rattle.js_model.specs.Refusals.{refusal}
 use Rattle.js_model.specs.Advance.{advance, advance_outs}
 use Rattle.js_model.specs.Retention.{kept}
 use Rattle.js_model.specs.Trim.{trim}
 use Rattle.js_model.specs.Verdict.{verdict}
 use Rattle.js_model.specs.Events.{answered}
-use Rattle.js_model.specs.Deliver.{candidates, sent_to, IsDelivered}
+use Rattle.js_model.specs.Deliver.{candidates, IsDelivered}
 use Rattle.js_model.specs.Ready.{some_ready}
-use Rattle.js_model.specs.Streams.{by_name, with_consumer}
-use Rattle.js_model.proofs.Samples.{t0, orders, worker, make, publish, hello, make_consumer, ask_of, pull, ack, after, state_after, reply_to, outs_to, seqs_in, consumers_in, inbox, message, wants_nothing}
-
-abbrev to_worker : Delivered → Delivery
-to_worker what = record { consumer = codes "W"; what = what }
-
-abbrev say : Bytes → What
-say text = publish (codes "orders.a") text wants_nothing
+use Rattle.js_model.proofs.Samples.{t0, orders, worker, make, hello, say, make_consumer, ask_of, pull, ack, after, state_after, reply_to, outs_to, seqs_in, consumers_in, inbox, message, status_to, to_worker, delivered_to, delivered}
 
 abbrev pull_for : Bytes → What
 pull_for name = PullIt (Some (codes "_P")) name (Some (ask_of 1))
@@ -44,26 +32,6 @@ ack_of name n = AckIt inbox (record { stream = codes "ORDERS"; consumer = name; 
 -- what is sent to `_P` with this reply subject
 abbrev sent_out : Bytes → Bytes → Out
 sent_out reply payload = record { to = codes "_P"; subject = codes "orders.a"; reply = Some reply; headers = []; payload = payload }
-
--- a status message to `_P`
-abbrev status_to : Bytes → Out
-status_to block = record { to = codes "_P"; subject = codes "_P"; reply = None; headers = block; payload = [] }
-
--- the state after a delivery of the first candidate to the consumer of this name
-abbrev delivered_to : Bytes → State → ℕ → State
-delivered_to name (Vacant i) now = Vacant i
-delivered_to name (Live s) now = to_one (by_name (advance s now).consumers name)
-  where
-    sent : Consumer → List Message → State
-    sent c [] = Live (advance s now)
-    sent c (m ∷ _) = Live (kept (with_consumer (advance s now) (sent_to (advance s now).moment m c)))
-
-    to_one : Option Consumer → State
-    to_one None = Live (advance s now)
-    to_one (Some c) = sent c (candidates (advance s now) c)
-
-abbrev delivered : State → ℕ → State
-delivered s now = delivered_to (codes "W") s now
 
 abbrev is_ready_at : State → ℕ → Bool
 is_ready_at s now = some_ready s now []

@@ -12,6 +12,9 @@ use Rattle.js_model.specs.declared.stream.Message.{Message}
 use Rattle.js_model.specs.declared.stream.State.{State}
 use Rattle.js_model.specs.declared.stream.State.TheVariants.{Vacant, Live}
 use Rattle.js_model.specs.declared.consumer.Consumer.{Consumer}
+use Rattle.js_model.specs.declared.consumer.Pull.{Pull}
+use Rattle.js_model.specs.declared.entry.Delivered.{Delivered}
+use Rattle.js_model.specs.declared.entry.Delivery.{Delivery}
 use Rattle.js_model.specs.declared.ack.Ask.{Ask}
 use Rattle.js_model.specs.declared.ack.AckKind.{AckKind}
 use Rattle.js_model.specs.declared.event.Wants.{Wants}
@@ -19,6 +22,10 @@ use Rattle.js_model.specs.declared.event.Event.{Event}
 use Rattle.js_model.specs.declared.event.What.{What}
 use Rattle.js_model.specs.declared.event.What.TheVariants.{Make, Publish as PublishIt, MakeConsumer, Ack as AckIt, Pull as PullIt}
 use Rattle.js_model.specs.declared.reply.Reply.{Reply}
+use Rattle.js_model.specs.Streams.{by_name, with_consumer}
+use Rattle.js_model.specs.Advance.{advance}
+use Rattle.js_model.specs.Retention.{kept}
+use Rattle.js_model.specs.Deliver.{candidates, sent_to}
 use Rattle.js_model.specs.Events.{answered}
 
 -- 2023-11-14T22:13:20Z
@@ -74,6 +81,9 @@ publish subject payload wants = PublishIt (record { reply = inbox; subject = sub
 abbrev pub hello : What
 hello = publish (codes "orders.a") (codes "hello") wants_nothing
 
+abbrev pub say : Bytes → What
+say text = publish (codes "orders.a") text wants_nothing
+
 abbrev pub make_consumer : ConsumerConfig → What
 make_consumer config = MakeConsumer inbox config.name config false
 
@@ -113,5 +123,32 @@ abbrev pub consumers_in : State → List Consumer
 consumers_in (Vacant i) = []
 consumers_in (Live s) = s.consumers
 
+-- the pulls that wait, of each consumer
+abbrev pub pulls_in : State → List (List Pull)
+pulls_in s = map (λ c. c.waiting) (consumers_in s)
+
 abbrev pub message : ℕ → ℕ → Bytes → Message
 message seq at payload = record { seq = seq; at = at; subject = codes "orders.a"; headers = []; payload = payload }
+
+-- a status message to `_P`
+abbrev pub status_to : Bytes → Out
+status_to block = record { to = codes "_P"; subject = codes "_P"; reply = None; headers = block; payload = [] }
+
+abbrev pub to_worker : Delivered → Delivery
+to_worker what = record { consumer = codes "W"; what = what }
+
+-- the state after a delivery of the first candidate to the consumer of this name
+abbrev pub delivered_to : Bytes → State → ℕ → State
+delivered_to name (Vacant i) now = Vacant i
+delivered_to name (Live s) now = to_one (by_name (advance s now).consumers name)
+  where
+    sent : Consumer → List Message → State
+    sent c [] = Live (advance s now)
+    sent c (m ∷ _) = Live (kept (with_consumer (advance s now) (sent_to (advance s now).moment m c)))
+
+    to_one : Option Consumer → State
+    to_one None = Live (advance s now)
+    to_one (Some c) = sent c (candidates (advance s now) c)
+
+abbrev pub delivered : State → ℕ → State
+delivered s now = delivered_to (codes "W") s now
