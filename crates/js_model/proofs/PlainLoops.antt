@@ -1,7 +1,9 @@
 -- The steps of loops over lists, as the plain programs make them.
 use Rattle.std.proofs.Common.{◌≡◌, ℕ, ◌+◌, ◌<◌, Bool, true, false, cond, List, [], ◌∷◌, ◌++◌, length, take, get_or, map, refl, ap, sym, ◌∙◌, append-nil, append_assoc}
 use Rattle.std.proofs.lemmas.List.Elements.{filter_more}
-use Rattle.std.proofs.lemmas.List.{map-append}
+use Rattle.std.proofs.lemmas.List.{map-append, take_more}
+use Rattle.std.proofs.lemmas.List.Concat.{flat_map-append}
+use Rattle.std.specs.List.{flat_map}
 use Rattle.std.proofs.lemmas.List.Sums.{fold-append}
 use Rattle.std.specs.Prelude.{Some, None, filter, find, fold}
 use Rattle.js_model.proofs.Named.{none_some, some_is}
@@ -52,3 +54,8 @@ folded_more t f g old b xs i x l e r h =
 pub folded_same : {X Y B : Type 0} (t : X → Bool) (f : X → Y) (g : B → Y → B) (old b : B) (xs : List X) (i : ℕ) (x : X) → i < length xs → b ≡ fold g old (map f (filter t (take i xs))) → x ≡ get_or xs i x → t x ≡ false
     → b ≡ fold g old (map f (filter t (take (i + 1) xs)))
 folded_same t f g old b xs i x l e r h = e ∙ ap (λ ms. fold g old (map f ms)) (skip_more t xs (filter t (take i xs)) i x l refl r h)
+
+-- the same where a list is made of each
+pub joined_more : {X Y : Type 0} (f : X → List Y) (ys : List Y) (xs : List X) (i : ℕ) (x : X) → i < length xs → ys ≡ flat_map f (take i xs) → x ≡ get_or xs i x → ys ++ f x ≡ flat_map f (take (i + 1) xs)
+joined_more {X} f ys xs i x l e r =
+    rw (e, take_more xs i x l) (sym (flat_map-append f (take i xs) (get_or xs i x ∷ []) ∙ ap (λ zs. flat_map f (take i xs) ++ zs) (append-nil _ ∙ ap f (sym r))))

@@ -1,6 +1,7 @@
 //! The definitions as programs over whole lists, each slow and obvious: what a faster body is compared with, and a first body.
 
 mod acks;
+mod advancing;
 mod ageing;
 mod asking;
 mod beats;
@@ -31,6 +32,7 @@ mod starting;
 mod verdicts;
 
 pub use acks::{acknowledge, ends, is_no_delivery};
+pub use advancing::advance;
 pub use ageing::age;
 pub use asking::{is_listened, is_wanted};
 pub use beats::consumer_outs;
