@@ -2,6 +2,7 @@ pub mod Samples
 pub mod RowsOfStreams
 pub mod RowsOfConsumers
 pub mod RowsOfStarts
+pub mod RowsOfPicks
 pub mod RowsOfAcks
 pub mod RowsOfPulls
 pub mod RowsOfMaking

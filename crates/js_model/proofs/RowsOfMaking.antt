@@ -1,11 +1,14 @@
 -- Worked rows of making consumers: the one that is made, and each refusal in a small state that meets it.
-use Rattle.std.specs.Prelude.{◌≡◌, true, List, [], ◌∷◌, Some, None, codes, refl, map}
+use Rattle.std.specs.Prelude.{ℕ, zero, suc, ◌+◌, ◌≡◌, true, List, [], ◌∷◌, ◌++◌, length, Some, None, codes, decimal, refl, map}
+use Rattle.std.specs.Fmt.{digits}
 use Rattle.js_base.specs.Bytes.{Bytes}
 use Rattle.js_model.specs.declared.stream_config.Retention.TheVariants.{WorkQueue}
 use Rattle.js_model.specs.declared.consumer_config.AckPolicy.TheVariants.{None as NoAck, All as AckAll}
 use Rattle.js_model.specs.declared.consumer_config.DeliverPolicy.TheVariants.{New as FromNew}
 use Rattle.js_model.specs.declared.consumer_config.ConsumerConfig.{ConsumerConfig}
 use Rattle.js_model.specs.declared.stream.State.{State}
+use Rattle.js_model.specs.declared.stream.State.TheVariants.{Live}
+use Rattle.js_model.specs.declared.consumer.Consumer.{Consumer}
 use Rattle.js_model.specs.declared.event.What.{What}
 use Rattle.js_model.specs.declared.event.What.TheVariants.{MakeConsumer}
 use Rattle.js_model.specs.declared.reply.Reply.{Reply}
@@ -121,6 +124,27 @@ the_one_told = refl
 the_one_exists : reply_to for_one (make_consumer (record worker { ack_wait = 1 })) t0 ≡ Refused (refusal 400 20009 (codes "consumer already exists"))
 unfolding answered advance advance_outs kept trim verdict
 the_one_exists = refl
+
+-- without a limit of the stream's own, 256
+
+abbrev idle : Bytes → Consumer
+idle name = record { name = name; made = t0; config = record worker { name = name }; picks = []; cursor = 1; dseq = 0; pending = []; given_up = []; waiting = []; mark = t0 }
+
+-- so many consumers, from `C100` on
+abbrev consumers_from : ℕ → ℕ → List Consumer
+consumers_from from zero = []
+consumers_from from (suc n) = idle (codes "C" ++ decimal from) ∷ consumers_from (from + 1) n
+
+abbrev with_consumers : ℕ → State
+with_consumers n = Live (record { incarnation = 1; made = t0; config = orders; messages = []; last = 0; moment = t0; ids = []; consumers = consumers_from 100 n })
+
+greatest_number : length (consumers_in (after (with_consumers 255) (make_consumer worker, t0))) ≡ 256
+unfolding answered advance advance_outs kept trim verdict digits
+greatest_number = refl
+
+past_greatest_number : reply_to (with_consumers 256) (make_consumer worker) t0 ≡ Refused (refusal 400 20017 (codes "maximum consumers reached"))
+unfolding answered advance advance_outs kept trim verdict digits
+past_greatest_number = refl
 
 -- ---- work queues
 
