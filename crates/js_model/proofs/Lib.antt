@@ -41,10 +41,4 @@ pub mod Within
 pub mod Quotas
 pub mod Turns
 pub mod Limiting
-pub mod PlainLists
-pub mod PlainLimits
-pub mod PlainLoops
-pub mod PlainPlaces
-pub mod PlainEndings
-pub mod PlainDeliveries
 pub mod Readiness

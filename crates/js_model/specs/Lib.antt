@@ -23,5 +23,3 @@ pub mod Routes
 pub mod Catalog
 pub mod Legal
 pub mod Laws
-pub mod Fields
-pub mod Plain

@@ -8,12 +8,9 @@ mod desk;
 mod entry;
 mod event;
 pub mod laws;
-pub mod plain;
 mod reply;
-mod status;
 mod stream;
 mod stream_config;
-mod text;
 
 pub use ack::{Ack, AckKind, Ask};
 pub use consumer::{Consumer, Pending, Pull};
