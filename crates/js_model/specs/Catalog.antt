@@ -1,10 +1,11 @@
 -- The catalog: which place holds which stream, by name and by subjects. JetStream lets no two streams share a name or a subject.
-use Rattle.std.specs.Prelude.{◌⊎◌, ◌≡◌, ℕ, ◌+◌, Bool, true, false, not, ◌==◌, nat_lt, ◌&&◌, ◌||◌, List, [], ◌∷◌, ◌++◌, if◌then◌else◌, Option, Some, None}
+use Rattle.std.specs.Prelude.{◌⊎◌, ◌≡◌, ℕ, ◌+◌, Bool, true, false, not, ◌==◌, nat_lt, ◌&&◌, ◌||◌, List, [], ◌∷◌, ◌++◌, map, if◌then◌else◌, Option, Some, None, option_map}
 use Rattle.std.specs.List.{list_any}
 use Rattle.js_base.specs.Bytes.{Bytes, same}
 use Rattle.js_base.specs.Subjects.{tokens, matches, meets}
 use Rattle.js_base.specs.declared.out.ApiError.{ApiError}
 use Rattle.js_model.specs.declared.desk.PlaceAt.{PlaceAt}
+use Rattle.js_model.specs.declared.kept_place.KeptPlace.{KeptPlace}
 use Rattle.js_model.specs.Refusals.{Check, first_refusal, other_config, subjects_overlap, no_free_place}
 
 -- ---- what there is
@@ -24,6 +25,21 @@ pub record Place : Type 0 where
 -- the places in order of their numbers
 abbrev pub Catalog : Type 0
 Catalog = List Place
+
+-- a stream that was kept has its one list of subjects, and its place is not stopped
+abbrev pub kept_stream : Bytes × List Bytes → Used
+kept_stream stream = record { name = stream.0; subjects = stream.1; new_subjects = None; stopped = false }
+
+abbrev pub kept_place : KeptPlace → Place
+kept_place kept = record { incarnation = kept.incarnation; used = option_map kept_stream kept.stream }
+
+-- the catalog that begins with what each place kept
+abbrev pub catalog_of : List KeptPlace → Catalog
+catalog_of places = map kept_place places
+
+-- a place that never had a stream
+abbrev pub new_place : Place
+new_place = record { incarnation = 1; used = None }
 
 -- what the catalog is asked
 pub data CatCall : Type 0 where

@@ -24,6 +24,7 @@ use Rattle.js_model.specs.declared.event.What.TheVariants.{Make, Change, Drop as
 use Rattle.js_model.specs.declared.reply.Verdict.{Verdict}
 use Rattle.js_model.specs.declared.reply.Verdict.TheVariants.{Take, Duplicate as TakenBefore, Refused as RefusedBy}
 use Rattle.js_model.specs.declared.reply.Reply.{Reply}
+pub use Rattle.js_model.specs.declared.reply.Answer.{Answer}
 use Rattle.js_model.specs.declared.reply.Reply.TheVariants.{Info as StreamTold, Done, Published, Duplicate, Purged, ConsumerInfo as ConsumerTold, Message as MessageTold, Names, Infos, Confirmed, Silent, Nobody, Refused}
 use Rattle.js_model.specs.Streams.{only, by_name, with_consumer, passes_filter, seqs}
 use Rattle.js_model.specs.Refusals.{first_refusal, no_stream, other_config, numbers_used_up, retention_cannot_change, no_message, no_consumer, consumer_absent, consumer_exists}
@@ -36,12 +37,6 @@ use Rattle.js_model.specs.Counts.{stream_info, consumer_info}
 use Rattle.js_model.specs.Acknowledge.{acknowledged, is_no_delivery}
 use Rattle.js_model.specs.Pulls.{pulled, pull_outs}
 use Rattle.js_model.specs.Consumers.{empty_stream, new_consumer, with_new, making_checks, queue_checks}
-
--- what an event answers, what it sends, and what it leaves
-pub record Answer : Type 0 where
-  pub reply : Reply
-  pub outs : List Out
-  pub state : State
 
 abbrev pub quietly : Reply → Stream → Answer
 quietly reply s = record { reply = reply; outs = []; state = Live s }

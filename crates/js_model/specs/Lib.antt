@@ -20,6 +20,11 @@ pub mod Lasting
 pub mod Firm
 pub mod Sound
 pub mod Routes
+pub mod Router
+pub mod Routing
 pub mod Catalog
 pub mod Legal
 pub mod Laws
+pub mod Fields
+pub mod Plain
+pub mod PlainCatalog

@@ -1,9 +1,9 @@
 //! What a place answers.
 
 use crate::consumer_config::ConsumerConfig;
-use crate::stream::Message;
+use crate::stream::{Message, State};
 use crate::stream_config::StreamConfig;
-use js_base::{ApiError, Blob, List, Moment};
+use js_base::{ApiError, Blob, List, Moment, Outs};
 
 /// A stream's information.
 #[derive(Drop, Debug)]
@@ -82,6 +82,14 @@ pub enum Reply {
     /// Nobody took it.
     Nobody,
     Refused(ApiError),
+}
+
+/// What an event answers, what it sends, and what it leaves.
+#[derive(Drop, Debug)]
+pub struct Answer {
+    pub reply: Reply,
+    pub outs: Outs,
+    pub state: State,
 }
 
 /// What a stream says to a publish.

@@ -4,7 +4,8 @@ use Rattle.std.proofs.lemmas.List.{append-nil}
 use Rattle.js_base.specs.Bytes.{Bytes}
 use Rattle.nats_frames.specs.Grammar.{Fronts}
 use Rattle.nats_frames.specs.Pieces.{Call, Fed, Gave, input, given, Leads, LawFraming}
-use Rattle.nats_frames.proofs.Readings.{op_found, faulty_found}
+use Rattle.nats_frames.proofs.Founds.{op_found}
+use Rattle.nats_frames.proofs.Faulty.{faulty_found}
 use Rattle.nats_frames.proofs.Runs.{partial, apart}
 
 led : (held : Bytes) (calls : List Call) (last : Bytes) → Leads held calls last → Fronts (held ++ input calls) (given calls) last
@@ -25,5 +26,5 @@ framing calls last h =
     record {
       first = first;
       all = λ e. (first, ((partial last).0 e).0);
-      refused = λ e. let fault = faulty_found last e in ((first, apart last fault), fault);
+      refused = λ fault e. let faulty = faulty_found last fault e in ((first, apart last fault faulty), faulty);
     }

@@ -1,5 +1,7 @@
 pub mod Grammar
 pub mod Reading
+pub mod Faults
+pub mod Fields
 pub mod Shapes
 pub mod Looking
 pub mod Decoding

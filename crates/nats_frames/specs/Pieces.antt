@@ -2,6 +2,7 @@
 use Rattle.std.specs.Prelude.{◌≡◌, List, [], ◌∷◌, ◌++◌}
 use Rattle.js_base.specs.Bytes.{Bytes}
 use Rattle.nats_frames.specs.declared.op.Op.{Op}
+use Rattle.nats_frames.specs.declared.fault.Fault.{Fault}
 use Rattle.nats_frames.specs.Grammar.{Fronts, Ops, IsFaulty}
 use Rattle.nats_frames.specs.Reading.{Whole, Partial, Broken, op_at}
 
@@ -33,7 +34,7 @@ Leads held (Gave op ∷ calls) last = (rest : Bytes) × (op_at held ≡ Whole op
 pub record IsFramed (calls : List Call) (last : Bytes) : Type 0 where
   pub first : Fronts (input calls) (given calls) last
   pub all : op_at last ≡ Partial → Ops (input calls) (given calls) last
-  pub refused : op_at last ≡ Broken → Ops (input calls) (given calls) last × IsFaulty last
+  pub refused : (fault : Fault) → op_at last ≡ Broken fault → Ops (input calls) (given calls) last × IsFaulty fault last
 
 abbrev pub LawFraming : Type 0
 LawFraming = (calls : List Call) (last : Bytes) → Leads [] calls last → IsFramed calls last

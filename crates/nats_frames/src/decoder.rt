@@ -33,14 +33,19 @@ impl Model for Decoder {
 }
 
 /// The operation that was taken off before, or else the one at the front.
-fn take(ready: &mut Option<Ready>, front: &mut Front) -> Result<Option<Ready>, FrameFault>
-    requires { IfSome ready.old IsReady }
-    ensures takes { Takes result (kept ready.old ++ front.old) front.new }
+fn take(
+    ready: &mut Option<Ready>,
+    front: &mut Front,
+    before: u64,
+) -> Result<Option<Ready>, FrameFault>
+    requires ready { IfSome ready.old IsReady }
+    requires room { before + length (kept ready.old ++ front.old) < 2 ^ 62 }
+    ensures takes { Takes result before (kept ready.old ++ front.old) front.new }
     ensures none { ready.new ≡ None }
 {
     match ready.take() {
         Some(ready) => Ok(Some(ready)),
-        None => front.take(),
+        None => front.take(before),
     }
 }
 
@@ -79,14 +84,13 @@ impl Decoder {
         self.front.push(piece)
     }
 
-    /// The operation at the front of what was fed, which is taken off. `None` comes exactly where the bytes are less than an operation, and
-    /// `NotBuilt` exactly where no line ends among the first 4,098 bytes, where the first line is that of no operation, or where a payload
-    /// is not followed by CR LF. After `NotBuilt` it answers the same again. An `Err` changes nothing.
+    /// The operation at the front of what was fed, which is taken off. `None` comes exactly where the bytes are less than an operation and
+    /// have no fault. An `Err` changes nothing, so a fault comes again at the next call.
     pub fn next(&mut self) -> Result<Option<Op>, FrameFault>
         ensures gives { Gives result self.old self.new }
         ensures total { total self.new ≡ total self.old }
     {
-        let ready = match take(&mut self.ready, &mut self.front) {
+        let ready = match take(&mut self.ready, &mut self.front, self.before) {
             Ok(Some(ready)) => ready,
             Ok(None) => return Ok(None),
             Err(fault) => return Err(fault),

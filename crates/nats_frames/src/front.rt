@@ -1,7 +1,8 @@
 //! Bytes that were fed, of which operations are taken off the front.
 
-ghost use Rattle.std.specs.Prelude.{◌≡◌, [], ◌++◌, OnOk, OnErr};
+ghost use Rattle.std.specs.Prelude.{◌≡◌, ◌+◌, ◌<◌, ◌^◌, [], ◌++◌, length, OnOk, OnErr};
 
+use crate::fault::told;
 use crate::look::{Look, look_at};
 use crate::op::FrameFault;
 use crate::shape::Shape;
@@ -63,9 +64,10 @@ impl Front {
         }
     }
 
-    /// Takes the operation at the front. An `Err` leaves what was there.
-    pub(crate) fn take(&mut self) -> Result<Option<Ready>, FrameFault>
-        ensures { Takes result self.old self.new }
+    /// Takes the operation at the front, of an input of which so many bytes stood before. An `Err` leaves what was there.
+    pub(crate) fn take(&mut self, before: u64) -> Result<Option<Ready>, FrameFault>
+        requires room { before + length self.old < 2 ^ 62 }
+        ensures takes { Takes result before self.old self.new }
     {
         if self.bytes.len() < self.quiet {
             return Ok(None);
@@ -84,7 +86,7 @@ impl Front {
                 self.quiet = quiet;
                 Ok(None)
             }
-            Look::Broken => Err(FrameFault::NotBuilt),
+            Look::Broken(fault) => Err(told(fault, before)),
         }
     }
 }

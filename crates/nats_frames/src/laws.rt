@@ -1,6 +1,6 @@
 //! Laws of the definitions: what the reading function, the grammar and the cutting of an input have to do with one another.
 
-ghost use Rattle.nats_frames.specs.Laws.{LawRead, LawSpelled, LawFaulty, LawPartial, LawOne, LawApart, LawWhole, LawBroken, LawOps, LawJoin};
+ghost use Rattle.nats_frames.specs.Laws.{LawRead, LawSpelled, LawFaulty, LawPartial, LawOne, LawOneFault, LawApart, LawWhole, LawBroken, LawOps, LawJoin};
 ghost use Rattle.nats_frames.specs.Pieces.{LawFraming};
 
 /// What is read is spelled so, and what is spelled so is read, whatever follows.
@@ -18,6 +18,7 @@ pub fn law_reading()
 /// Of all operations and faults one at most is at the front of given bytes.
 pub fn law_one()
     ensures one { LawOne }
+    ensures one_fault { LawOneFault }
     ensures apart { LawApart }
 {}
 

@@ -2,6 +2,8 @@
 #![tactic(auto)]
 
 mod decoder;
+mod fault;
+mod field;
 mod front;
 pub mod laws;
 mod length;
@@ -9,9 +11,9 @@ mod line;
 mod look;
 mod op;
 mod shape;
-mod split;
 #[cfg(test)]
 mod tests;
+mod verb;
 mod write;
 
 pub use decoder::Decoder;

@@ -1,16 +1,21 @@
 //! What stands at the front of bytes of which more may come.
 
-ghost use Rattle.std.specs.Prelude.{◌≡◌, ◌≢◌, ◌+◌, ◌<◌, ◌≤◌, ℕ, List, ◌∷◌, ◌++◌, length, take, drop, slice_index, Option, IfSome, IfNone, Some};
-ghost use Rattle.nats_frames.specs.Looking.{IsScanned, IsLine, IsNear, Looks, Ends};
-ghost use Rattle.nats_frames.specs.Reading.{split_at, seen};
-ghost use Rattle.nats_frames.specs.Shapes.{shape_at, IsSmall};
+ghost use Rattle.std.specs.Prelude.{◌≡◌, ◌≢◌, ◌+◌, ◌<◌, ◌≤◌, ℕ, List, ◌∷◌, ◌++◌, length, take, drop, slice_index, IfSome, IfNone, Some};
+ghost use Rattle.nats_frames.specs.Grammar.{counted};
+ghost use Rattle.nats_frames.specs.Looking.{IsScanned, IsLineTo, Looks, Ends};
+ghost use Rattle.nats_frames.specs.Reading.{split_at, without_cr};
+ghost use Rattle.nats_frames.specs.Shapes.{seen};
 
-use crate::line::{Line, line_at};
-use crate::shape::{Shape, Span};
+use crate::fault::Fault;
+use crate::line::{Line, words_at};
+use crate::shape::Shape;
 use memchr::memchr;
 
 /// The greatest line, in bytes with its LF.
 const MOST_LINE: usize = 4098;
+
+/// The greatest payload, in bytes with its headers.
+const MOST_PAYLOAD: u64 = 1_048_576;
 
 /// What bytes begin with.
 pub(crate) enum Look {
@@ -18,8 +23,8 @@ pub(crate) enum Look {
     Whole { shape: Shape, len: usize },
     /// Less than an operation. No LF is among the first `scanned` bytes, and until `quiet` bytes are there nothing more can be told.
     Partial { scanned: usize, quiet: usize },
-    /// What is no operation.
-    Broken,
+    /// A fault.
+    Broken(Fault),
 }
 
 /// What stands behind the line of a publish.
@@ -28,8 +33,8 @@ enum Ending {
     Whole,
     /// Less than that. Until `quiet` bytes are there nothing more can be told.
     Partial { quiet: usize },
-    /// A payload without its CR LF.
-    Broken,
+    /// A payload without its CR LF: the place of the first wrong byte.
+    Wrong { place: usize },
 }
 
 /// The place of the first LF, where a line may end there.
@@ -46,11 +51,27 @@ fn line_end(bytes: &[u8], scanned: usize) -> Option<usize>
     Some(scanned + at)
 }
 
+/// A line without the CR at its end.
+fn without_cr(line: &[u8]) -> &[u8]
+    ensures { result.now ≡ without_cr line.now }
+{
+    line.strip_suffix(b"\r").unwrap_or(line)
+}
+
+/// How many bytes are counted that stand behind the line.
+fn counted(line: &Line) -> Option<u64>
+    ensures { (words : List ℕ) → result ≡ counted (seen words line.now) }
+{
+    match line {
+        Line::Pub { size, .. } | Line::HPub { size, .. } => Some(*size),
+        _ => None,
+    }
+}
+
 /// What stands behind a line that counts a payload of this size.
 fn behind_payload(bytes: &[u8], size: usize) -> Ending
     requires { size ≤ 1048576 }
-    ensures ends { (subject : List ℕ) (reply : Option (List ℕ)) → Ends subject reply size bytes.now result }
-    ensures near { IsNear size result }
+    ensures ends { Ends size bytes.now result }
 {
     if bytes.len() <= size {
         return Ending::Partial { quiet: size + 1 };
@@ -59,63 +80,36 @@ fn behind_payload(bytes: &[u8], size: usize) -> Ending
     match end {
         [b'\r', b'\n', ..] => Ending::Whole,
         [b'\r'] => Ending::Partial { quiet: size + 2 },
-        _ => Ending::Broken,
+        [b'\r', ..] => Ending::Wrong { place: size + 1 },
+        _ => Ending::Wrong { place: size },
     }
 }
 
-/// Where the parts stand of an operation whose line is of so many bytes.
-fn shape_of(line: &Line<'_>, len: usize) -> Shape
-    requires small { IsSmall (seen line.now) }
-    requires short { len ≤ 4098 }
-    ensures { result ≡ shape_at (seen line.now) len }
-{
-    match line {
-        Line::Connect { text } => Shape::Connect {
-            text: Span::of(8, text.len()),
-        },
-        Line::Ping => Shape::Ping,
-        Line::Pub {
-            subject,
-            reply,
-            size,
-        } => Shape::Pub {
-            subject: Span::of(4, subject.len()),
-            reply: match reply {
-                Some(text) => Some(Span::of(5 + subject.len(), text.len())),
-                None => None,
-            },
-            payload: Span::of(len, *size),
-        },
-        Line::Sub { pattern, sid } => Shape::Sub {
-            pattern: Span::of(4, pattern.len()),
-            sid: Span::of(5 + pattern.len(), sid.len()),
-        },
-    }
-}
-
-/// What a line begins that ends at the place.
-fn behind_line(bytes: &[u8], end: usize, line: Line<'_>) -> Look
-    requires { IsLine bytes.now end (seen line) }
+/// What a line begins whose LF stands at the place.
+fn behind_line(bytes: &[u8], end: usize, line: Line) -> Look
+    requires { IsLineTo bytes.now end line }
     ensures { Looks bytes.now result }
 {
-    let shape = shape_of(&line, end + 1);
-    let Line::Pub { size, .. } = line else {
-        return Look::Whole {
-            shape,
-            len: end + 1,
-        };
+    let len = end + 1;
+    let shape = Shape { line, len };
+    let Some(size) = counted(&line) else {
+        return Look::Whole { shape, len };
     };
-    let (_, rest) = bytes.split_at(end + 1);
+    if size > MOST_PAYLOAD {
+        return Look::Broken(Fault::PayloadTooBig(size));
+    }
+    let size = size as usize;
+    let (_, rest) = bytes.split_at(len);
     match behind_payload(rest, size) {
         Ending::Whole => Look::Whole {
             shape,
-            len: end + 1 + size + 2,
+            len: len + size + 2,
         },
         Ending::Partial { quiet } => Look::Partial {
             scanned: end,
-            quiet: end + 1 + quiet,
+            quiet: len + quiet,
         },
-        Ending::Broken => Look::Broken,
+        Ending::Wrong { place } => Look::Broken(Fault::BadEnd((len + place) as u64)),
     }
 }
 
@@ -127,15 +121,15 @@ pub(crate) fn look_at(bytes: &[u8], scanned: usize) -> Look
     match line_end(bytes, scanned) {
         Some(end) => {
             let (text, _) = bytes.split_at(end);
-            match line_at(text) {
-                Some(line) => behind_line(bytes, end, line),
-                None => Look::Broken,
+            match words_at(without_cr(text)) {
+                Ok(line) => behind_line(bytes, end, line),
+                Err(fault) => Look::Broken(fault),
             }
         }
         None if bytes.len() < MOST_LINE => Look::Partial {
             scanned: bytes.len(),
             quiet: bytes.len() + 1,
         },
-        None => Look::Broken,
+        None => Look::Broken(Fault::LineTooLong),
     }
 }

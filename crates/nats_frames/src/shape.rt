@@ -1,48 +1,20 @@
 //! Where the parts of an operation stand in its bytes.
 
-ghost use Rattle.std.specs.Prelude.{◌≡◌, ◌+◌, ◌<◌, ◌^◌, IfOk};
-ghost use Rattle.nats_frames.specs.Shapes.{part, span, IsWithin, op_in, Fits};
+ghost use Rattle.std.specs.Prelude.{◌≡◌, ◌+◌, ◌<◌, ◌≤◌, ◌^◌, length, option_map, IfOk, IfSome};
+ghost use Rattle.nats_frames.specs.Fields.{span, part, IsWithin};
+ghost use Rattle.nats_frames.specs.Shapes.{op_in, Fits};
 
+use crate::field::Span;
+use crate::line::Line;
 use crate::op::Op;
 use bytes::Bytes;
 use js_base::{Blob, NoMemory};
 
-/// Neighbouring bytes, from `start` up to `end`.
+/// What an operation's line says, and how many bytes it has.
 #[derive(Clone, Copy, Debug)]
-pub(crate) struct Span {
-    pub(crate) start: usize,
-    pub(crate) end: usize,
-}
-
-impl Span {
-    /// So many bytes from a place on.
-    pub(crate) fn of(start: usize, len: usize) -> Span
-        requires { start + len < 2 ^ 64 }
-        ensures { result ≡ span start len }
-    {
-        Span {
-            start,
-            end: start + len,
-        }
-    }
-}
-
-/// The parts of an operation.
-#[derive(Clone, Copy, Debug)]
-pub(crate) enum Shape {
-    Connect {
-        text: Span,
-    },
-    Ping,
-    Pub {
-        subject: Span,
-        reply: Option<Span>,
-        payload: Span,
-    },
-    Sub {
-        pattern: Span,
-        sid: Span,
-    },
+pub(crate) struct Shape {
+    pub(crate) line: Line,
+    pub(crate) len: usize,
 }
 
 /// The bytes of a part, shared.
@@ -56,32 +28,71 @@ fn cut(bytes: &Bytes, span: Span) -> Result<Blob, NoMemory>
     }
 }
 
+/// So many bytes from a place on, shared.
+fn cut_from(bytes: &Bytes, start: usize, len: u64) -> Result<Blob, NoMemory>
+    requires { start + len ≤ length bytes.now }
+    ensures ok { IfOk result (λ blob. blob ≡ part bytes.now (span start len)) }
+    ensures bound { start + len < 2 ^ 63 }
+{
+    prove!(start <= bytes.len());
+    cut(bytes, Span::of(start, len as usize))
+}
+
+/// The bytes of a part that may be left out, shared.
+fn cut_some(bytes: &Bytes, span: Option<Span>) -> Result<Option<Blob>, NoMemory>
+    requires { IfSome span (IsWithin bytes.now) }
+    ensures { IfOk result (λ blob. blob ≡ option_map (part bytes.now) span) }
+{
+    match span {
+        Some(span) => Ok(Some(cut(bytes, span)?)),
+        None => Ok(None),
+    }
+}
+
 /// The operation whose bytes these are.
 pub(crate) fn op_in(bytes: &Bytes, shape: Shape) -> Result<Op, NoMemory>
     requires { Fits bytes.now shape }
     ensures { IfOk result (λ op. op ≡ op_in bytes.now shape) }
 {
-    match shape {
-        Shape::Connect { text } => Ok(Op::Connect {
+    let len = shape.len;
+    match shape.line {
+        Line::Connect { text } => Ok(Op::Connect {
             text: cut(bytes, text)?,
         }),
-        Shape::Ping => Ok(Op::Ping),
-        Shape::Pub {
+        Line::Pub {
             subject,
             reply,
-            payload,
+            size,
         } => Ok(Op::Pub {
             subject: cut(bytes, subject)?,
-            reply: match reply {
-                Some(reply) => Some(cut(bytes, reply)?),
-                None => None,
-            },
-            payload: cut(bytes, payload)?,
+            reply: cut_some(bytes, reply)?,
+            payload: cut_from(bytes, len, size)?,
         }),
-        Shape::Sub { pattern, sid } => Ok(Op::Sub {
-            subject: cut(bytes, pattern)?,
-            queue: None,
+        Line::HPub {
+            subject,
+            reply,
+            header,
+            size,
+        } => Ok(Op::HPub {
+            subject: cut(bytes, subject)?,
+            reply: cut_some(bytes, reply)?,
+            headers: cut_from(bytes, len, header)?,
+            payload: cut_from(bytes, len + header as usize, size - header)?,
+        }),
+        Line::Sub {
+            subject,
+            queue,
+            sid,
+        } => Ok(Op::Sub {
+            subject: cut(bytes, subject)?,
+            queue: cut_some(bytes, queue)?,
             sid: cut(bytes, sid)?,
         }),
+        Line::Unsub { sid, max } => Ok(Op::Unsub {
+            sid: cut(bytes, sid)?,
+            max,
+        }),
+        Line::Ping => Ok(Op::Ping),
+        Line::Pong => Ok(Op::Pong),
     }
 }

@@ -13,13 +13,13 @@ use Rattle.link_edge.specs.declared.answers.Accepted.TheVariants as accepted
 use Rattle.link_edge.specs.declared.answers.Put.{Put}
 use Rattle.link_edge.specs.declared.answers.Put.TheVariants as puts
 use Rattle.link_edge.proofs.Told.{grown-nil}
-use Rattle.server_program.specs.Solo.{Solo, SoloRun, IsMade}
-use Rattle.server_program.specs.Session.{Serves}
-use Rattle.server_program.specs.Talk.{answers_of}
+use Rattle.js_desk.specs.Solo.{Solo, SoloRun, IsMade}
+use Rattle.session.specs.Session.{Serves}
+use Rattle.session.specs.Talk.{answers_of}
 use Rattle.server_program.specs.Running.{DoorTold, IsAccepted, IsQuiet, IsUnserved, ReadsOnce, IsGivenBack, PipeEnds, PrintsWords, refusal, pipe_limits, status_of, WasClosed, HasFailed, WasQuiet, HasStarved}
-use Rattle.server_program.specs.declared.session.Limits.{Limits}
-use Rattle.server_program.specs.declared.session.Ended.{Ended}
-use Rattle.server_program.specs.declared.session.Ended.TheVariants as ends
+use Rattle.session.specs.declared.ending.Limits.{Limits}
+use Rattle.session.specs.declared.ending.Ended.{Ended}
+use Rattle.session.specs.declared.ending.Ended.TheVariants as ends
 use Rattle.server_program.proofs.Arriving.{told_whole}
 
 -- ---- the status
@@ -28,6 +28,8 @@ use Rattle.server_program.proofs.Arriving.{told_whole}
 ended_otherwise : (ended : Ended) → status_of ended ≡ 2 → ⊥
 ended_otherwise ends.Closed e = cc
 ended_otherwise (ends.Refused refusal) e = cc
+ended_otherwise (ends.Slow size) e = cc
+ended_otherwise ends.Stale e = cc
 ended_otherwise ends.LinkFault e = cc
 ended_otherwise ends.InputLimit e = cc
 ended_otherwise ends.NoMemory e = cc
@@ -36,6 +38,8 @@ ended_otherwise ends.NoMemory e = cc
 ended_by_link : (ended : Ended) → status_of ended ≡ 3 → ended ≡ ends.LinkFault
 ended_by_link ends.Closed e = cc
 ended_by_link (ends.Refused refusal) e = cc
+ended_by_link (ends.Slow size) e = cc
+ended_by_link ends.Stale e = cc
 ended_by_link ends.LinkFault e = refl
 ended_by_link ends.InputLimit e = cc
 ended_by_link ends.NoMemory e = cc

@@ -1,20 +1,3 @@
-mod Rows
 pub mod Arriving
-pub mod Asking
-pub mod Carried
-pub mod Catalogs
-pub mod Collecting
-pub mod Conversing
 pub mod Ending
-pub mod GivenBytes
-pub mod Heard
-pub mod Holds
-pub mod Made
-pub mod Places
-pub mod Plain
-pub mod Published
-pub mod Routing
-pub mod Sent
-pub mod Served
-pub mod Solos
 pub mod Worded

@@ -10,12 +10,12 @@ use Rattle.link_edge.specs.declared.answers.Accept.{Accept}
 use Rattle.link_edge.specs.declared.answers.Accept.TheVariants as accepts
 use Rattle.link_edge.specs.declared.answers.Accepted.{Accepted}
 use Rattle.link_edge.specs.declared.answers.Accepted.TheVariants as accepted
-use Rattle.server_program.specs.Desks.{World, DeskRun}
-use Rattle.server_program.specs.Solo.{Solo, IsMade}
-use Rattle.server_program.specs.Talk.{Journal, Talk, entries_of, answers_of, moments_of}
-use Rattle.server_program.specs.declared.session.Limits.{Limits}
-use Rattle.server_program.specs.declared.session.Ended.{Ended}
-use Rattle.server_program.specs.declared.session.Ended.TheVariants as ends
+use Rattle.js_api.specs.Desks.{World, DeskRun}
+use Rattle.js_desk.specs.Solo.{Solo, IsMade}
+use Rattle.session.specs.Talk.{Journal, Talk, entries_of, answers_of, moments_of}
+use Rattle.session.specs.declared.ending.Limits.{Limits}
+use Rattle.session.specs.declared.ending.Ended.{Ended}
+use Rattle.session.specs.declared.ending.Ended.TheVariants as ends
 
 -- a gigabyte of input, and a million takes in a row that are quiet
 abbrev pub pipe_limits : Limits
@@ -24,6 +24,8 @@ pipe_limits = record { input = 1073741824; quiet = 1000000; host = codes "pipe";
 abbrev pub status_of : Ended → ℕ
 status_of ends.Closed = 0
 status_of (ends.Refused refusal) = 10
+status_of (ends.Slow size) = 10
+status_of ends.Stale = 10
 status_of ends.LinkFault = 3
 status_of ends.InputLimit = 6
 status_of ends.NoMemory = 7

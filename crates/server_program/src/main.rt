@@ -1,20 +1,7 @@
 //! The server: one connection over standard input and output.
 #![tactic(auto)]
 
-mod catalog;
-mod conversation;
-mod desk;
-mod giving;
-mod holding;
-mod operation;
-mod place;
-mod plain_stream;
-mod publish_text;
-mod refusals;
-mod router;
 mod running;
-mod session;
-mod solo_desk;
 #[cfg(test)]
 mod tests;
 mod words;

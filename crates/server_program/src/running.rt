@@ -8,11 +8,11 @@ ghost use Rattle.link_edge.specs.Reports.{HasOut, IsBalanced, IsFresh};
 ghost use Rattle.server_program.specs.Words.{texts, command_of};
 ghost use Rattle.server_program.specs.Running.{pipe_limits, status_of, Arrives, IsGivenBack, PipeEnds, PrintsWords};
 
-use crate::session::{Ended, Limits, serve_link};
-use crate::solo_desk::SoloDesk;
 use crate::words::{Command, WordsFault, read_words};
 use js_base::{Blob, Name, NoMemory};
+use js_desk::SoloDesk;
 use link_edge::{Accept, Clock, Door, Gate, Sink};
+use session::{Ended, Limits, serve_link};
 use std::alloc::Global;
 
 /// At how many accepts in a row that were quiet a run ends.
@@ -44,7 +44,7 @@ fn status_of(ended: Ended) -> u8
 {
     match ended {
         Ended::Closed => 0,
-        Ended::Refused(_) => 10,
+        Ended::Refused(_) | Ended::Slow(_) | Ended::Stale => 10,
         Ended::LinkFault => 3,
         Ended::InputLimit => 6,
         Ended::NoMemory => 7,

@@ -3,6 +3,7 @@
 ghost use Rattle.link_edge.specs.Reports.{IsBalanced};
 
 mod bad_input;
+mod keeping;
 mod limits;
 mod other_words;
 mod rows;
@@ -57,13 +58,50 @@ fn texts(alloc: Global, words: &[&str]) -> Result<Vec<String>, NoMemory> {
     Ok(texts)
 }
 
+/// When a run begins, in nanoseconds since 1970.
+const BEGIN: u64 = 1_700_000_000_000_000_000;
+
 /// A clock that stands still.
 fn still(alloc: Global) -> Option<MemClock> {
-    let moment = Moment::of(1_700_000_000_000_000_000)?;
-    Some(MemClock::new(List::new(alloc), moment))
+    Some(MemClock::new(List::new(alloc), Moment::of(BEGIN)?))
 }
 
-/// Runs with the words, over a door and a sink. The volumes have to come back in their order.
+/// A clock that tells the beginning, and then these seconds after it, the last a nanosecond less where it is `early`.
+fn moments(alloc: Global, seconds: &[u64], early: bool) -> Result<MemClock, Fail> {
+    let mut told = List::new(alloc);
+    let mut last = Moment::of(BEGIN).ok_or("no moment")?;
+    for second in seconds {
+        told.push(last)?;
+        last = Moment::of(BEGIN)
+            .ok_or("no moment")?
+            .plus(second.saturating_mul(1_000_000_000));
+    }
+    if early {
+        last = Moment::of(last.as_nanos().saturating_sub(1)).ok_or("no moment")?;
+    }
+    Ok(MemClock::new(told, last))
+}
+
+/// Runs with the words, over a door, a sink and a clock. The volumes have to come back in their order.
+fn finish_at<R: Door + Drop>(
+    alloc: Global,
+    words: &[&str],
+    door: R,
+    sink: &mut MemSink,
+    mut clock: MemClock,
+) -> Result<Finish<R, u8>, Fail>
+    requires links { IsBalanced (R.gave door) (R.back door) }
+{
+    let words = texts(alloc, words)?;
+    let vols = Vec::from_slice(alloc, VOLUMES)?;
+    let finish = run(alloc, &words, door, vols, &mut clock, &OpenGate, sink);
+    if finish.vols.as_slice() != VOLUMES {
+        return Err(Fail::from("other volumes"));
+    }
+    Ok(finish)
+}
+
+/// The same at one moment.
 fn finish<R: Door + Drop>(
     alloc: Global,
     words: &[&str],
@@ -72,14 +110,8 @@ fn finish<R: Door + Drop>(
 ) -> Result<Finish<R, u8>, Fail>
     requires links { IsBalanced (R.gave door) (R.back door) }
 {
-    let words = texts(alloc, words)?;
-    let vols = Vec::from_slice(alloc, VOLUMES)?;
-    let mut clock = still(alloc).ok_or("no clock")?;
-    let finish = run(alloc, &words, door, vols, &mut clock, &OpenGate, sink);
-    if finish.vols.as_slice() != VOLUMES {
-        return Err(Fail::from("other volumes"));
-    }
-    Ok(finish)
+    let clock = still(alloc).ok_or("no clock")?;
+    finish_at(alloc, words, door, sink, clock)
 }
 
 /// All bytes that the links were given.

@@ -6,22 +6,32 @@ use std::test::Fail;
 /// What goes in behind CONNECT, what comes out behind the server's information, and the status.
 const ROWS: &[(&[u8], &[u8], u8)] = &[
     // an operation that is not known ends the session behind the answers before it
-    (b"NOPE\r\n", b"", 10),
-    (b"PING\r\nNOPE\r\nPING\r\n", b"PONG\r\n", 10),
-    (b"\r\n", b"", 10),
-    (b"PING\n", b"", 10),
-    // a word too many, or too few
-    (b"PING now\r\n", b"", 10),
-    (b"SUB a g 1\r\n", b"", 10),
-    (b"SUB a\r\n", b"", 10),
-    (b"PUB orders.a b c 5\r\nhello\r\n", b"", 10),
-    (b"PUB orders.a\r\n", b"", 10),
-    (b"CONNECT {}\r\n", b"", 10),
-    // a payload without its CR LF
-    (b"PUB orders.a 5\r\nhelloXX", b"", 10),
-    (b"PUB orders.a 5\r\nhello\n", b"", 10),
-    (b"PUB orders.a 5\r\nhello\rX", b"", 10),
-    (b"PUB orders.a 1048577\r\n", b"", 10),
+    (b"NOPE\r\n", b"-ERR 'Unknown Protocol Operation'\r\n", 10),
+    (
+        b"PING\r\nNOPE\r\nPING\r\n",
+        b"PONG\r\n-ERR 'Unknown Protocol Operation'\r\n",
+        10,
+    ),
+    (b"\r\n", b"-ERR 'Unknown Protocol Operation'\r\n", 10),
+    // wrong fields
+    (b"PUB\r\n", b"-ERR 'Parser Error'\r\n", 10),
+    (b"PING now\r\n", b"-ERR 'Parser Error'\r\n", 10),
+    (b"SUB a g 1 2\r\n", b"-ERR 'Parser Error'\r\n", 10),
+    (b"HPUB a 2 1\r\n", b"-ERR 'Parser Error'\r\n", 10),
+    (b"CONNECT\r\n", b"-ERR 'Parser Error'\r\n", 10),
+    // a CONNECT and a header block that are none, before the subject is looked at
+    (b"CONNECT []\r\n", b"-ERR 'Parser Error'\r\n", 10),
+    (b"CONNECT {\"echo\":1}\r\n", b"-ERR 'Parser Error'\r\n", 10),
+    (b"HPUB a..b 4 4\r\nNATS\r\n", b"-ERR 'Parser Error'\r\n", 10),
+    (b"HPUB a 0 1\r\nx\r\n", b"-ERR 'Parser Error'\r\n", 10),
+    // a payload without its CR LF, and one that is too big
+    (b"PUB a 5\r\nhelloXX", b"-ERR 'Parser Error'\r\n", 10),
+    (b"PUB a 5\r\nhello\rX", b"-ERR 'Parser Error'\r\n", 10),
+    (
+        b"PUB a 1048577\r\n",
+        b"-ERR 'Maximum Payload Violation'\r\n",
+        10,
+    ),
     // an operation that is cut off is not done
     (b"SUB a 1\r\nPUB orders.a a 5\r\nhel", b"", 0),
     (b"SUB a 1\r\nPUB orders.a a 5\r\nhello\r", b"", 0),
@@ -46,10 +56,11 @@ fn bad_input_ends_the_session(rt: HostRuntime) -> Result<(), Fail> {
 #[test]
 fn line_without_its_end_is_refused_at_its_limit(rt: HostRuntime) -> Result<(), Fail> {
     let alloc = rt.alloc();
-    for (length, status) in [(4_097, 0), (4_098, 10), (4_099, 10)] {
+    let wanted = joined(alloc, INFO, b"-ERR 'Maximum Control Line Exceeded'\r\n")?;
+    for (length, status, given) in [(4_097, 0, INFO), (4_098, 10, wanted.as_slice())] {
         let line = vec![in alloc; b'A'; length]?;
         let ran = run_link(alloc, &line, 65_536, &[])?;
-        meet(&rt, &ran, status, INFO, length);
+        meet(&rt, &ran, status, given, length);
     }
     Ok(())
 }

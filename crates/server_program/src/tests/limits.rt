@@ -1,6 +1,6 @@
-//! The greatest input.
+//! The greatest input, and the most that may wait for a client.
 
-use super::{PIPE, finish, joined};
+use super::{CONNECT, INFO, PIPE, finish, joined, meet, run_link};
 use link_edge::{MemSink, PipeDoor};
 use std::io::{self, Read, Write};
 use std::test::Fail;
@@ -40,5 +40,22 @@ fn greatest_input_ends_the_run(rt: HostRuntime) -> Result<(), Fail> {
     let door = PipeDoor::new(Endless { text, at: 0 }, io::sink());
     let finish = finish(alloc, PIPE, door, &mut sink)?;
     assert_eq!(rt; finish.status, 6);
+    Ok(())
+}
+
+/// Sixteen subscriptions to one subject.
+const SIXTEEN: &[u8] =
+    b"SUB a 1\r\nSUB a 2\r\nSUB a 3\r\nSUB a 4\r\nSUB a 5\r\nSUB a 6\r\nSUB a 7\r\nSUB a 8\r\n\
+SUB a 9\r\nSUB a 10\r\nSUB a 11\r\nSUB a 12\r\nSUB a 13\r\nSUB a 14\r\nSUB a 15\r\nSUB a 16\r\nPUB a 1048576\r\n";
+
+#[test]
+fn client_for_whom_too_much_waits_is_slow(rt: HostRuntime) -> Result<(), Fail> {
+    let alloc = rt.alloc();
+    let mut input = joined(alloc, CONNECT, SIXTEEN)?;
+    input.extend_from_slice(&vec![in alloc; b'x'; 1_048_576]?)?;
+    input.extend_from_slice(b"\r\nPING\r\n")?;
+    let wanted = joined(alloc, INFO, b"-ERR 'Slow Consumer'\r\n")?;
+    let ran = run_link(alloc, &input, 65_536, &[])?;
+    meet(&rt, &ran, 10, &wanted, 0);
     Ok(())
 }

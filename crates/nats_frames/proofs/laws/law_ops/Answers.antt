@@ -1,4 +1,4 @@
-use Rattle.nats_frames.proofs.Runs.{ops, join}
+use Rattle.nats_frames.proofs.Runs.{join, ops}
 use Rattle.nats_frames.proofs.laws.law_ops.Goals as goal
 
 pub returns-clause-one : goal.returns-clause-one

@@ -1,6 +1,6 @@
 use Rattle.std.proofs.Common.{◌++◌, ap}
 use Rattle.nats_frames.specs.Decoding.{kept}
-use Rattle.nats_frames.proofs.Giving.{given}
+use Rattle.nats_frames.proofs.Taken.{given}
 use Rattle.nats_frames.proofs.decoder.Decoder.next.Goals as goal
 
 pub returns-in-Ok : goal.returns-in-Ok

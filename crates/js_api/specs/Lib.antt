@@ -1,0 +1,4 @@
+pub mod Desks
+pub mod Outputs
+pub mod Calls
+pub mod Answers

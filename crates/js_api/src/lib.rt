@@ -1,0 +1,8 @@
+//! What a session asks of the server, what that makes of its router, its catalog and its streams, and how publishes are answered.
+#![tactic(auto)]
+
+mod desk;
+mod pub_ack;
+
+pub use desk::{Desk, OpenFault, SubFault};
+pub use pub_ack::publish_text;

@@ -1,0 +1,9 @@
+pub mod Refused
+pub mod Holds
+pub mod Made
+pub mod Places
+pub mod Plain
+pub mod Published
+pub mod Sent
+pub mod Solos
+pub mod Told

@@ -1,0 +1,15 @@
+use Rattle.std.proofs.lemmas.Result.{IfOk-weaker}
+use Rattle.js_desk.proofs.Places.{publishes_nowhere, publishes_there}
+use Rattle.js_desk.proofs.place.Place.publish.Goals.{in-Nothing+in_ok-no_stream-in-Nothing, in-Stream}
+use Rattle.js_desk.proofs.place.Place.publish.Goals as goal
+
+pub returns-clause-answers : goal.returns-clause-answers
+returns-clause-answers c =
+    elim c.match-self.branch [
+      | in-Nothing+in_ok-no_stream-in-Nothing w ↦
+          rw (w.result-is, w.self-inside-is, ← c.self.view_is, w.in-Nothing.is, w.in_ok-no_stream-in-Nothing.ensures.value)
+          (publishes_nowhere w.in-Nothing.field-0 c.args.publish.now c.args.now)
+      | in-Stream w ↦
+          rw (w.result-is, w.self-inside-is, ← c.self.view_is, w.in-Stream.is)
+          (IfOk-weaker w.publish.result _ _ (λ reply answers. publishes_there w.in-Stream.stream c.args.publish.now c.args.now reply w.publish.new.self answers) w.publish.ensures.answers)
+    ]

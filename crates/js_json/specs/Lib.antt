@@ -1,0 +1,10 @@
+pub mod Objects
+pub mod Kinds
+pub mod Fields
+pub mod Members
+pub mod Answers
+pub mod Calendar
+pub mod Times
+pub mod TimeReading
+pub mod Civil
+pub mod Laws

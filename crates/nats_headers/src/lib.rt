@@ -1,0 +1,14 @@
+//! Header blocks of the NATS client protocol: they are checked and read where they lie, and those of status messages are written.
+#![tactic(auto)]
+
+mod fault;
+mod headers;
+pub mod laws;
+mod line;
+mod status;
+#[cfg(test)]
+mod tests;
+
+pub use fault::HeaderFault;
+pub use headers::{Headers, is_block, read_headers};
+pub use status::write_status;

@@ -1,0 +1,10 @@
+pub mod Numbers
+pub mod Under
+pub mod Fronts
+pub mod Parts
+pub mod Finding
+pub mod Going
+pub mod Rising
+pub mod Listing
+pub mod Whole
+pub mod Above

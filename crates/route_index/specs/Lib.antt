@@ -1,0 +1,3 @@
+pub mod Subs
+pub mod Ids
+pub mod Searching

@@ -1,0 +1,10 @@
+pub mod Asked
+pub mod Carried
+pub mod Connected
+pub mod Gathered
+pub mod GivenBytes
+pub mod Stopped
+pub mod Heard
+pub mod Turned
+pub mod Conversing
+pub mod Served

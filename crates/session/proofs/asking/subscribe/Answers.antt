@@ -1,0 +1,36 @@
+use Rattle.std.proofs.Common.{◌≡◌, ◌∙◌, true, sym}
+use Rattle.js_base.specs.Subjects.{is_pattern_text}
+use Rattle.session.proofs.Asked.{subscribing_right, asked_one, finished, unanswered, unsaid}
+use Rattle.session.proofs.asking.subscribe.Goals as goal
+
+pub returns-in_err-write_fine-in-Ok-clause-asks : goal.returns-in_err-write_fine-in-Ok-clause-asks
+returns-in_err-write_fine-in-Ok-clause-asks g c =
+    let right : is_pattern_text c.args.subject.now ≡ true = rw c.as_slice.ensures at (sym c.check_pattern.ensures.ok ∙ c.if-is_err.ensures.negation) in
+    finished _ _ _ _ _ _ _ _ c.from_residual-in_err-write_fine-in-Ok.result c.from_residual-in_err-write_fine-in-Ok.ensures.1
+    (unsaid _ _ _ _ _ _ _ (subscribing_right _ c.args.queue.now c.args.sid.now right) tt (rw (c.as_slice-2.ensures, c.text_of.ensures.value, c.as_slice-3.ensures) at c.in-Ok.ensures.made))
+
+pub returns-in_err-write_error-in-Err-TooManySubs-clause-asks : goal.returns-in_err-write_error-in-Err-TooManySubs-clause-asks
+returns-in_err-write_error-in-Err-TooManySubs-clause-asks g c =
+    let right : is_pattern_text c.args.subject.now ≡ true = rw c.as_slice.ensures at (sym c.check_pattern.ensures.ok ∙ c.if-is_err.ensures.negation) in
+    finished _ _ _ _ _ _ _ _ c.from_residual-in_err-write_error-in-Err-TooManySubs.result c.from_residual-in_err-write_error-in-Err-TooManySubs.ensures.1
+    (unsaid _ _ _ _ _ _ _ (subscribing_right _ c.args.queue.now c.args.sid.now right) tt
+    (rw (c.as_slice-2.ensures, c.text_of.ensures.value, c.as_slice-3.ensures, c.in-Err-TooManySubs.field-0-is) at c.in-Err-TooManySubs.ensures.made))
+
+pub returns-in_ok-write_fine-in-Ok-clause-asks : goal.returns-in_ok-write_fine-in-Ok-clause-asks
+returns-in_ok-write_fine-in-Ok-clause-asks g c =
+    let right : is_pattern_text c.args.subject.now ≡ true = rw c.as_slice.ensures at (sym c.check_pattern.ensures.ok ∙ c.if-is_err.ensures.negation) in
+    asked_one _ _ _ _ _ _ _ _ _ _ (subscribing_right _ c.args.queue.now c.args.sid.now right) tt
+    (rw (c.as_slice-2.ensures, c.text_of.ensures.value, c.as_slice-3.ensures) at c.in-Ok.ensures.made) c.in_ok-write_fine-in-Ok.ensures.ok
+
+pub returns-in_ok-write_error-in-Err-TooManySubs-clause-asks : goal.returns-in_ok-write_error-in-Err-TooManySubs-clause-asks
+returns-in_ok-write_error-in-Err-TooManySubs-clause-asks g c =
+    let right : is_pattern_text c.args.subject.now ≡ true = rw c.as_slice.ensures at (sym c.check_pattern.ensures.ok ∙ c.if-is_err.ensures.negation) in
+    asked_one _ _ _ _ _ _ _ _ _ _ (subscribing_right _ c.args.queue.now c.args.sid.now right) tt
+    (rw (c.as_slice-2.ensures, c.text_of.ensures.value, c.as_slice-3.ensures, c.in-Err-TooManySubs.field-0-is) at c.in-Err-TooManySubs.ensures.made)
+    c.in_ok-write_error-in-Err-TooManySubs.ensures.ok
+
+pub returns-in-Err-NoMemory-clause-asks : goal.returns-in-Err-NoMemory-clause-asks
+returns-in-Err-NoMemory-clause-asks g c =
+    let right : is_pattern_text c.args.subject.now ≡ true = rw c.as_slice.ensures at (sym c.check_pattern.ensures.ok ∙ c.if-is_err.ensures.negation) in
+    unanswered _ _ _ _ _ _ (subscribing_right _ c.args.queue.now c.args.sid.now right)
+    (rw (c.as_slice-2.ensures, c.text_of.ensures.value, c.as_slice-3.ensures, c.in-Err-NoMemory.field-0-is) at c.in-Err-NoMemory.ensures.made)

@@ -1,0 +1,16 @@
+use Rattle.std.proofs.Common.{◌≡◌, true}
+use Rattle.session.specs.Collecting.{Collecting}
+use Rattle.session.proofs.collecting.collect_all.Given as goal
+
+-- collects that each left more were made, and their bytes were added
+abbrev pub invariant-loop-stop : goal.invariant-loop-stop
+invariant-loop-stop g l =
+    let desk = g.D.Desk in
+    record {
+      collecting : Collecting desk.made (desk.client l.fn.desk) l.fn.desk l.desk l.fn.into.items l.into.items;
+      client : desk.client l.desk ≡ desk.client l.fn.desk;
+      is_open : desk.is_open l.desk ≡ true;
+    }
+
+abbrev pub decreases-loop-stop : goal.decreases-loop-stop
+decreases-loop-stop g l = g.D.Desk.to_collect l.desk

@@ -1,0 +1,15 @@
+use Rattle.session.proofs.Gathered.{gives_frames, tells_slow, stops_unwritten, stops_failed}
+use Rattle.session.proofs.collecting.collect_once.Goals as goal
+
+pub returns-in-Ok-clause-collects : goal.returns-in-Ok-clause-collects
+returns-in-Ok-clause-collects g c =
+    gives_frames _ _ _ _ _ _ _ _ c.in-Ok-Frames.more (rw c.in-Ok-Frames.field-0-is at c.in-Ok-Frames.ensures.made) (rw c.as_slice.ensures at c.in-Ok.ensures.ok)
+
+pub returns-in-Ok-Frames-clause-collects : goal.returns-in-Ok-Frames-clause-collects
+returns-in-Ok-Frames-clause-collects g c = stops_unwritten _ _ _ _ _ _ c.in-Ok-Frames.more (rw c.in-Ok-Frames.field-0-is at c.in-Ok-Frames.ensures.made)
+
+pub returns-in-Ok-Slow-clause-collects : goal.returns-in-Ok-Slow-clause-collects
+returns-in-Ok-Slow-clause-collects g c = tells_slow _ _ _ _ _ _ _ (rw c.in-Ok-Slow.field-0-is at c.in-Ok-Slow.ensures.made)
+
+pub returns-clause-collects : goal.returns-clause-collects
+returns-clause-collects g c = stops_failed _ _ _ _ _ c.in-Err.ensures.made

@@ -1,0 +1,53 @@
+use Rattle.std.proofs.Common.{ap, ◌∙◌, arith, refl}
+use Rattle.nats_frames.specs.Decoding.{Held}
+use Rattle.nats_frames.specs.Reading.{op_at}
+use Rattle.session.proofs.Heard.{answering_first, answering_more, answering_flushed, answering_idle, cut_halted, cut_given, heard_all}
+use Rattle.session.proofs.conversation.carry_all.Goals as goal
+
+pub loop-stop-init : goal.loop-stop-init
+loop-stop-init g c = record {
+  answering = answering_first _ _ _ _ _ _ _ (g.met.D.Desk.made_nothing c.args.desk.now) c.new-out.ensures.items;
+  fed = refl;
+  session = refl;
+  is_open = c.requires.is_open;
+  answered = refl;
+  later = omega arith;
+}
+
+pub returns-in-Err-clause-hears : goal.returns-in-Err-clause-hears
+returns-in-Err-clause-hears g c =
+    let i = c.loop-stop.invariant in
+    cut_halted _ g.met.D.Desk.made_more _ _ c.in-Err.stop _ _ _ _ _ _ _ _ _ _ _ _ _ i.answering c.in-Err.ensures.carries i.fed c.part_at.ensures.parts
+
+pub loop-stop-preserved : goal.loop-stop-preserved
+loop-stop-preserved g c =
+    let i = c.loop-stop.invariant in
+    let next = answering_more _ g.met.D.Desk.made_more _ _ _ _ _ _ _ _ _ _ _ _ _ _ i.answering (rw c.in-Ok-true.field-0-test at c.in-Ok-true.ensures.carries) in
+    record {
+      answering = answering_flushed _ _ _ _ _ _ _ _ _ _ _ _ _ next c.in-Ok.ensures.flushes;
+      fed = c.carry_next.ensures.total ∙ i.fed;
+      session = c.carry_next.ensures.session ∙ i.session;
+      is_open = c.carry_next.ensures.is_open;
+      answered = c.flush.ensures.answered ∙ i.answered;
+      later = omega (arith, i.later, c.flush.ensures.cause.later);
+    }
+
+pub returns-in-Err-flush-clause-hears : goal.returns-in-Err-flush-clause-hears
+returns-in-Err-flush-clause-hears g c =
+    let i = c.loop-stop.invariant in
+    let next = answering_more _ g.met.D.Desk.made_more _ _ _ _ _ _ _ _ _ _ _ _ _ _ i.answering (rw c.in-Ok-true.field-0-test at c.in-Ok-true.ensures.carries) in
+    cut_given _ g.met.D.Desk.made_more _ _ c.in-Err-flush.fault _ _ _ _ _ _ _ _ _ _ _ next (c.carry_next.ensures.total ∙ i.fed) c.in-Err-flush.ensures.flushes c.from.ensures
+
+pub returns-in-Ok-give_all-clause-hears : goal.returns-in-Ok-give_all-clause-hears
+returns-in-Ok-give_all-clause-hears g c =
+    let i = c.loop-stop.invariant in
+    let idle = rw c.in-Ok-false.field-0-test at c.in-Ok-false.ensures.carries in
+    let same = answering_idle _ _ _ _ _ _ _ _ _ _ _ _ _ _ _ i.answering idle in
+    heard_all _ g.met.D.Desk.made_more _ _ _ _ _ _ _ _ _ _ _ same (ap (λ (h : Held). op_at h.bytes) idle.held ∙ idle.partial) (rw c.as_slice.ensures.value at c.in-Ok-give_all.ensures.given)
+
+pub returns-clause-hears : goal.returns-clause-hears
+returns-clause-hears g c =
+    let i = c.loop-stop.invariant in
+    let same = answering_idle _ _ _ _ _ _ _ _ _ _ _ _ _ _ _ i.answering (rw c.in-Ok-false.field-0-test at c.in-Ok-false.ensures.carries) in
+    cut_given _ g.met.D.Desk.made_more _ _ c.in-Err-give_all.fault _ _ _ _ _ _ _ _ _ _ _ same (c.carry_next.ensures.total ∙ i.fed)
+    (rw c.as_slice.ensures.value at c.in-Err-give_all.ensures.given) c.from-in-Err-give_all.ensures

@@ -1,0 +1,13 @@
+use Rattle.session.proofs.Stopped.{carried_has_line, halted_op, halted_unread}
+use Rattle.session.proofs.conversation.carry_next.Goals as goal
+
+pub returns-in-Err-carry-clause-carries : goal.returns-in-Err-carry-clause-carries
+returns-in-Err-carry-clause-carries g c =
+    let n = rw c.in-Ok-Some.field-0-is at c.in-Ok-Some.ensures.gives in
+    halted_op _ _ _ _ _ _ _ _ _ c.in-Ok-Some.op c.in-Err-carry.stop n.1 c.in-Ok-Some.ensures.total c.in-Err-carry.ensures.carries
+
+pub returns-in-Err-NoMemory-clause-carries : goal.returns-in-Err-NoMemory-clause-carries
+returns-in-Err-NoMemory-clause-carries g c = halted_unread _ _ _ _ _ _ _ (g.met.D.Desk.made_nothing c.args.desk.now)
+
+pub returns-in-Err-carry-clause-line : goal.returns-in-Err-carry-clause-line
+returns-in-Err-carry-clause-line g c = carried_has_line _ _ _ _ _ _ _ c.in-Ok-Some.op c.in-Err-carry.stop c.in-Err-carry.ensures.carries

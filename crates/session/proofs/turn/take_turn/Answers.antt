@@ -1,0 +1,59 @@
+use Rattle.std.proofs.Common.{◌≤◌, ◌+◌, ap, sym, length, take, drop, arith}
+use Rattle.std.proofs.lemmas.List.{take-append-le, length-take-le}
+use Rattle.session.proofs.Turned.{turned_heard, turned_cut, turned_kept, turned_alone, turned_closed, turned_failed, turned_starved}
+use Rattle.session.proofs.turn.take_turn.Goals as goal
+
+pub returns-in-Ok-clause-turns : goal.returns-in-Ok-clause-turns
+returns-in-Ok-clause-turns g c =
+    let e = c.in-Got.ensures in
+    let w = c.room_within-most in
+    let count = c.in-Got.count in
+    let le : count ≤ length c.take.new.into = e.within.1 in
+    let piece = take-append-le count c.take.new.into (drop w.result c.args.room.now) le in
+    let len = length-take-le count c.take.new.into le in
+    let fits : c.args.course.now.taken + count ≤ c.args.limits.now.input =
+    omega (arith, le, c.take.auto.into, length-take-le w.result c.args.room.now w.ensures.room, w.ensures.left, c.requires.unspent.input) in
+    turned_heard _ _ _ _ _ _ _ _ _ _ _ _ _ _ _ _ _ _ c.requires.unspent e.answered e.given c.now-now.ensures.reads (rw piece at c.in-Ok.ensures.hears) c.in-Ok.ensures.answered
+    (ap (λ n. c.args.course.now.taken + n) (sym len)) fits
+
+pub returns-in-Err-clause-turns : goal.returns-in-Err-clause-turns
+returns-in-Err-clause-turns g c =
+    let e = c.in-Got.ensures in
+    let w = c.room_within-most in
+    let count = c.in-Got.count in
+    let le : count ≤ length c.take.new.into = e.within.1 in
+    let piece = take-append-le count c.take.new.into (drop w.result c.args.room.now) le in
+    let len = length-take-le count c.take.new.into le in
+    let fits : c.args.course.now.taken + length (take count c.take.new.into) ≤ c.args.limits.now.input =
+    omega (arith, le, len, c.take.auto.into, length-take-le w.result c.args.room.now w.ensures.room, w.ensures.left, c.requires.unspent.input) in
+    turned_cut _ _ _ _ c.in-Err.ended _ _ _ _ _ _ _ _ _ _ _ _ _ c.requires.unspent e.answered e.given c.now-now.ensures.reads (rw piece at c.in-Err.ensures.hears) c.in-Err.ensures.answered
+    (ap (λ n. n + length (take count c.take.new.into)) c.requires.fed) fits
+
+pub returns-in-Ok-keep_alive-clause-turns : goal.returns-in-Ok-keep_alive-clause-turns
+returns-in-Ok-keep_alive-clause-turns g c =
+    let e = c.in-Quiet.ensures in
+    let k = c.in-Ok-keep_alive.ensures in
+    turned_kept _ c.args.limits.now (g.D.Desk.client c.args.desk.now).session _ _ _ _ _ _ _ _ _ _ _ _ e.answered e.given c.now-now-in-Quiet.ensures.reads k.answered
+    (g.met.D.Desk.made_nothing c.args.desk.now) _ c.requires.unspent c.unwrap_or-came.ensures k.keeps
+
+pub returns-in-Err-keep_alive-clause-turns : goal.returns-in-Err-keep_alive-clause-turns
+returns-in-Err-keep_alive-clause-turns g c =
+    let e = c.in-Quiet.ensures in
+    let k = c.in-Err-keep_alive.ensures in
+    turned_alone _ _ _ _ _ _ _ _ _ _ _ _ _ _ _ e.answered e.given c.now-now-in-Quiet.ensures.reads k.answered
+    (g.met.D.Desk.made_nothing c.args.desk.now) c.in-Err-keep_alive.ended c.requires.unspent c.unwrap_or-came.ensures k.keeps
+
+pub returns-in-Ended-clause-turns : goal.returns-in-Ended-clause-turns
+returns-in-Ended-clause-turns g c =
+    let e = c.in-Ended.ensures in
+    turned_closed _ _ _ _ _ _ _ _ _ _ (g.met.D.Desk.made_nothing c.args.desk.now) e.given c.requires.unspent e.answered
+
+pub returns-in-Failed-clause-turns : goal.returns-in-Failed-clause-turns
+returns-in-Failed-clause-turns g c =
+    let e = c.in-Failed.ensures in
+    turned_failed _ _ _ _ _ _ _ _ _ _ (g.met.D.Desk.made_nothing c.args.desk.now) e.given c.requires.unspent e.answered
+
+pub returns-in-NoMemory-clause-turns : goal.returns-in-NoMemory-clause-turns
+returns-in-NoMemory-clause-turns g c =
+    let e = c.in-NoMemory.ensures in
+    turned_starved _ _ _ _ _ _ _ _ _ _ (g.met.D.Desk.made_nothing c.args.desk.now) e.given e.answered

@@ -1,0 +1,13 @@
+pub mod Connecting
+pub mod Keeping
+pub mod Peer
+pub mod Talk
+pub mod Manners
+pub mod Giving
+pub mod Parting
+pub mod Carrying
+pub mod Asking
+pub mod Collecting
+pub mod Hearing
+pub mod Turning
+pub mod Session

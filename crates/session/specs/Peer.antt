@@ -1,0 +1,94 @@
+-- What a session knows of its client, what an operation asks of the desk, and how it is answered, by the NATS client protocol.
+use Rattle.std.specs.Prelude.{ℕ, ◌≡◌, Bool, true, false, ◌&&◌, List, [], ◌∷◌, codes, if◌then◌else◌, Option, Some, None}
+use Rattle.js_base.specs.Bytes.{Bytes}
+use Rattle.js_base.specs.Headers.{is_block}
+use Rattle.js_base.specs.Subjects.{is_pattern_text, is_publish_text, is_subject_text}
+use Rattle.js_base.specs.Framing.{frame}
+use Rattle.js_base.specs.declared.out.Out.{Out}
+use Rattle.js_base.specs.declared.frame.Frame.TheVariants.{Pong as Answer, Ok as Fine, Err as Error}
+use Rattle.nats_frames.specs.declared.op.Op.{Op}
+use Rattle.nats_frames.specs.declared.op.Op.TheVariants.{Connect, Pub, HPub, Sub, Unsub, Ping, Pong}
+use Rattle.js_api.specs.Calls as desk
+use Rattle.session.specs.Connecting.{connect_options}
+use Rattle.session.specs.declared.connect.ConnectOptions.{ConnectOptions}
+use Rattle.session.specs.declared.ending.Refusal.{Refusal}
+use Rattle.session.specs.declared.ending.Refusal.TheVariants.{BadConnect, BadHeaders}
+
+-- the client as the desk has it, whether its operations are answered by `+OK`, and the moments of the PINGs that it has not answered
+pub record Peer : Type 0 where
+  pub client : desk.Client
+  pub verbose : Bool
+  pub pings : List ℕ
+
+-- before the first CONNECT each operation is answered
+abbrev pub new_peer : ℕ → Peer
+new_peer session = record { client = desk.new_client session; verbose = true; pings = [] }
+
+-- ---- what an operation asks
+
+-- a call of the desk, or none; an error line that leaves the connection open; or the end of the session
+pub data Request : Type 0 where
+  Calls : desk.DeskCall → Request
+  CallsNothing : Request
+  IsWrong : (text : Bytes) → Request
+  IsRefused : Refusal → Request
+
+abbrev pub connecting : Option ConnectOptions → Request
+connecting None = IsRefused BadConnect
+connecting (Some options) = Calls (desk.Options options.echo options.headers options.no_responders)
+
+abbrev pub is_reply : Option Bytes → Bool
+is_reply None = true
+is_reply (Some reply) = is_subject_text reply
+
+-- a message of a client, with its header block or none
+abbrev pub message : Bytes → Option Bytes → Bytes → Bytes → Out
+message subject reply headers payload = record { to = subject; subject = subject; reply = reply; headers = headers; payload = payload }
+
+abbrev pub publishing : ℕ → Out → Request
+publishing now out =
+    if is_publish_text out.to && is_reply out.reply then Calls (desk.Publish out now) else IsWrong (codes "Invalid Publish Subject")
+
+abbrev pub subscribing : Bytes → Option Bytes → Bytes → Request
+subscribing subject queue sid = if is_pattern_text subject then Calls (desk.Sub subject queue sid) else IsWrong (codes "Invalid Subject")
+
+-- what an operation asks at a moment. A header block is looked at before the subject
+abbrev pub request : ℕ → Op → Request
+request now (Connect text) = connecting (connect_options text)
+request now (Pub subject reply payload) = publishing now (message subject reply [] payload)
+request now (HPub subject reply headers payload) = if is_block headers then publishing now (message subject reply headers payload) else IsRefused BadHeaders
+request now (Sub subject queue sid) = subscribing subject queue sid
+request now (Unsub sid max) = Calls (desk.Unsub sid max)
+request now Ping = CallsNothing
+request now Pong = CallsNothing
+
+-- ---- the client after an operation
+
+abbrev pub connected : Peer → Option ConnectOptions → Peer
+connected peer None = peer
+connected peer (Some options) =
+    record peer { client = desk.with_options peer.client options.headers options.no_responders; verbose = options.verbose }
+
+abbrev pub peer_after : Peer → Op → Peer
+peer_after peer (Connect text) = connected peer (connect_options text)
+peer_after peer Pong = record peer { pings = [] }
+peer_after peer _ = peer
+
+-- ---- how it is answered
+
+abbrev pub error_line : Bytes → Bytes
+error_line text = frame (Error text)
+
+abbrev pub fine : Bool → Bytes
+fine true = frame Fine
+fine false = []
+
+-- a call of the desk that was answered
+abbrev pub called_bytes : Bool → desk.DeskAnswer → Bytes
+called_bytes verbose desk.TooManySubs = error_line (codes "maximum subscriptions exceeded")
+called_bytes verbose _ = fine verbose
+
+-- PING and PONG are not answered by `+OK`
+abbrev pub uncalled_bytes : Op → Bytes
+uncalled_bytes Ping = frame Answer
+uncalled_bytes _ = []

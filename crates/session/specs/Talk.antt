@@ -1,0 +1,509 @@
+-- What a session says for what it hears: the turns of a connection, the operations in each, the desk calls of each operation, and the bytes.
+use Rattle.std.specs.Prelude.{◌≡◌, ℕ, ◌+◌, ◌<◌, ◌≤◌, Bool, true, false, ◌⊎◌, List, [], ◌∷◌, ◌++◌, length, map, Option, Some, None, is_some, unwrap_or, codes}
+use Rattle.std.specs.List.{flat_map}
+use Rattle.js_base.specs.Bytes.{Bytes}
+use Rattle.js_base.specs.Framing.{frame}
+use Rattle.js_base.specs.declared.frame.Frame.{Frame}
+use Rattle.js_base.specs.declared.frame.Frame.TheVariants.{Info}
+use Rattle.link_edge.specs.declared.answers.Answer.{Answer}
+use Rattle.link_edge.specs.declared.answers.Answer.TheVariants as answers
+use Rattle.nats_frames.specs.declared.op.Op.{Op}
+use Rattle.nats_frames.specs.declared.op.FrameFault.{FrameFault}
+use Rattle.nats_frames.specs.declared.op.FrameFault.TheVariants as faults
+use Rattle.nats_frames.specs.Decoding.{IsRefused}
+use Rattle.nats_frames.specs.Grammar.{Fronts}
+use Rattle.nats_frames.specs.Reading.{op_at, Partial}
+use Rattle.js_api.specs.Desks.{DeskEntry}
+use Rattle.js_api.specs.Calls.{Client, new_client, DeskCall, Open, Collect, Close, DeskAnswer, Opened, Done, Gave, Slow, Worn, NoMemory, Does}
+use Rattle.session.specs.Peer.{Peer, new_peer, peer_after, Request, Calls, CallsNothing, IsWrong, IsRefused as Refuses, request, error_line, called_bytes, uncalled_bytes}
+use Rattle.session.specs.Keeping.{is_ping_due, is_stale, pinged, ping_bytes}
+use Rattle.session.specs.declared.ending.Limits.{Limits}
+use Rattle.session.specs.declared.ending.Ended.{Ended}
+use Rattle.session.specs.declared.ending.Ended.TheVariants as ends
+use Rattle.session.specs.declared.ending.Refusal.{Refusal}
+use Rattle.session.specs.declared.ending.Refusal.TheVariants as refusals
+
+-- ---- the journal
+
+-- a desk call with its answer, and the entries that it made
+pub record Called : Type 0 where
+  pub call : DeskCall
+  pub answer : DeskAnswer
+  pub entries : List DeskEntry
+
+-- an operation that was carried out: its one desk call or none, and the collects after it
+pub record Spoken : Type 0 where
+  pub op : Op
+  pub calls : List Called
+  pub collects : List Called
+
+-- one turn: what the link answered, the moment of it, and the operations whose last byte it brought
+pub record Turn : Type 0 where
+  pub answer : Answer
+  pub moment : ℕ
+  pub spoken : List Spoken
+
+-- how the turns end: within the server's information; with no further answer of the link; with one that ends them; within a turn, where an
+-- operation may have been begun, with these desk calls; or at a moment at which the link was quiet
+pub data Last : Type 0 where
+  Greeting : Last
+  Nothing : Last
+  Told : Answer → Last
+  Within : (turn : Turn) (begun : List Op) (calls : List Called) → Last
+  Waiting : (moment : ℕ) → Last
+
+pub record Journal : Type 0 where
+  pub opened : Called
+  pub turns : List Turn
+  pub last : Last
+  pub closed : List Called
+
+-- ---- an operation
+
+abbrev pub IsMade : Client → Called → Type 0
+IsMade client called = Does client called.call called.answer called.entries
+
+-- the answer is none of those that end a session
+abbrev pub IsAnswered : DeskAnswer → Type 0
+IsAnswered NoMemory = ⊥
+IsAnswered (Worn kept) = ⊥
+IsAnswered _ = Unit {0}
+
+-- the one call of the operation, or none
+abbrev pub AreAsked : Client → Request → List Called → Type 0
+AreAsked client (Calls call) calls = (called : Called) × (calls ≡ called ∷ []) × (called.call ≡ call) × IsAnswered called.answer × IsMade client called
+AreAsked client CallsNothing calls = calls ≡ []
+AreAsked client (IsWrong text) calls = calls ≡ []
+AreAsked client (Refuses refusal) calls = ⊥
+
+abbrev pub all_called_bytes : Bool → List Called → Bytes
+all_called_bytes verbose calls = flat_map (λ called. called_bytes verbose called.answer) calls
+
+-- what is written for the operation itself: its error line, `PONG`, or `+OK`
+abbrev pub direct_answer : Bool → Request → Op → List Called → Bytes
+direct_answer verbose (Calls call) op calls = all_called_bytes verbose calls
+direct_answer verbose CallsNothing op calls = uncalled_bytes op
+direct_answer verbose (IsWrong text) op calls = error_line text
+direct_answer verbose (Refuses refusal) op calls = []
+
+-- ---- collecting
+
+abbrev pub frames : List Frame → Bytes
+frames list = flat_map frame list
+
+abbrev pub given_by : DeskAnswer → Bytes
+given_by (Gave list more) = frames list
+given_by _ = []
+
+abbrev pub collected : List Called → Bytes
+collected calls = flat_map (λ called. given_by called.answer) calls
+
+-- a collect that was answered by frames
+pub record IsCollect (client : Client) (more : Bool) (called : Called) : Type 0 where
+  pub max : ℕ
+  pub list : List Frame
+  pub call_is : called.call ≡ Collect max
+  pub answer_is : called.answer ≡ Gave list more
+  pub made : IsMade client called
+
+-- collects that each left more
+abbrev pub AreCollecting : Client → List Called → Type 0
+AreCollecting client [] = Unit {0}
+AreCollecting client (called ∷ more) = IsCollect client true called × AreCollecting client more
+
+-- collects until nothing was left
+abbrev pub AreCollects : Client → List Called → Type 0
+AreCollects client calls = (front : List Called) × (called : Called) × (calls ≡ front ++ called ∷ []) × AreCollecting client front × IsCollect client false called
+
+-- a collect that was answered so
+pub record IsAnsweredBy (client : Client) (answer : DeskAnswer) (called : Called) : Type 0 where
+  pub max : ℕ
+  pub call_is : called.call ≡ Collect max
+  pub answer_is : called.answer ≡ answer
+  pub made : IsMade client called
+
+-- no collects, or some that each left more and a last one: it found no memory, or the writing of what it gave
+abbrev pub AreStopped : Client → List Called → Type 0
+AreStopped client calls =
+    (calls ≡ [])
+    ⊎ ((front : List Called) × (called : Called) × (calls ≡ front ++ called ∷ []) × AreCollecting client front
+    × (((more : Bool) × IsCollect client more called) ⊎ IsAnsweredBy client NoMemory called))
+
+-- ---- operations that were carried out
+
+pub record IsSpoken (peer : Peer) (now : ℕ) (spoken : Spoken) : Type 0 where
+  pub asked : AreAsked peer.client (request now spoken.op) spoken.calls
+  pub collects : AreCollects (peer_after peer spoken.op).client spoken.collects
+
+abbrev pub AreSpoken : Peer → ℕ → List Spoken → Type 0
+AreSpoken peer now [] = Unit {0}
+AreSpoken peer now (spoken ∷ more) = IsSpoken peer now spoken × AreSpoken (peer_after peer spoken.op) now more
+
+-- the bytes of an operation: its direct answer, and then what was collected after it
+abbrev pub spoken_bytes : Peer → ℕ → Spoken → Bytes
+spoken_bytes peer now spoken =
+    direct_answer (peer_after peer spoken.op).verbose (request now spoken.op) spoken.op spoken.calls ++ collected spoken.collects
+
+-- the bytes of operations one after the other
+abbrev pub heard_bytes : Peer → ℕ → List Spoken → Bytes
+heard_bytes peer now [] = []
+heard_bytes peer now (spoken ∷ more) = spoken_bytes peer now spoken ++ heard_bytes (peer_after peer spoken.op) now more
+
+abbrev pub peer_at_end : Peer → List Spoken → Peer
+peer_at_end peer [] = peer
+peer_at_end peer (spoken ∷ more) = peer_at_end (peer_after peer spoken.op) more
+
+abbrev pub ops_of : List Spoken → List Op
+ops_of spoken = map (λ (s : Spoken). s.op) spoken
+
+-- ---- turns
+
+-- between two turns: the bytes that are held, how many were taken, how many Quiets came in a row, the client, and the moment at which
+-- something came last, or of the first turn where nothing came yet
+pub record Stage : Type 0 where
+  pub held : Bytes
+  pub taken : ℕ
+  pub quiets : ℕ
+  pub peer : Peer
+  pub came : Option ℕ
+
+abbrev pub start : ℕ → Stage
+start session = record { held = []; taken = 0; quiets = 0; peer = new_peer session; came = None }
+
+-- a piece was taken, and the operations that are whole by then were carried out
+pub record Hears (old : Stage) (moment : ℕ) (spoken : List Spoken) (bytes : Bytes) (new : Stage) (said : Bytes) : Type 0 where
+  pub are_spoken : AreSpoken old.peer moment spoken
+  pub split : Fronts (old.held ++ bytes) (ops_of spoken) new.held
+  pub idle : op_at new.held ≡ Partial
+  pub taken : new.taken ≡ old.taken + length bytes
+  pub quiets : new.quiets ≡ 0
+  pub peer : new.peer ≡ peer_at_end old.peer spoken
+  pub came : new.came ≡ Some moment
+  pub said_is : said ≡ heard_bytes old.peer moment spoken
+
+abbrev pub is_due : Stage → ℕ → Bool
+is_due stage moment = is_ping_due (unwrap_or stage.came moment) stage.peer.pings moment
+
+abbrev pub after_quiet : Stage → ℕ → Stage
+after_quiet stage moment = record stage {
+  quiets = stage.quiets + 1;
+  peer = record stage.peer { pings = pinged (is_due stage moment) stage.peer.pings moment };
+  came = Some (unwrap_or stage.came moment);
+}
+
+-- nothing came, and a PING was written where one is due
+pub record Waits (old : Stage) (moment : ℕ) (spoken : List Spoken) (new : Stage) (said : Bytes) : Type 0 where
+  pub nothing : spoken ≡ []
+  pub alive : is_stale old.peer.pings moment ≡ false
+  pub after : new ≡ after_quiet old moment
+  pub said_is : said ≡ ping_bytes (is_due old moment)
+
+abbrev pub Goes : Stage → Turn → Answer → Stage → Bytes → Type 0
+Goes old turn (answers.Piece bytes) new said = Hears old turn.moment turn.spoken bytes new said
+Goes old turn answers.Quiet new said = Waits old turn.moment turn.spoken new said
+Goes old turn answers.Ended new said = ⊥
+Goes old turn answers.Failed new said = ⊥
+
+-- fewer bytes were taken than may be, and fewer Quiets came in a row
+pub record IsUnspent (limits : Limits) (stage : Stage) : Type 0 where
+  pub input : stage.taken < limits.input
+  pub quiet : stage.quiets < limits.quiet
+
+-- just so many were taken, or just so many came in a row
+abbrev pub IsSpent : Limits → Stage → Type 0
+IsSpent limits stage = (stage.taken ≡ limits.input) ⊎ (stage.quiets ≡ limits.quiet)
+
+-- a whole turn: it begins within the limits, and takes no more than may be
+pub record IsWhole (limits : Limits) (old : Stage) (turn : Turn) (new : Stage) (said : Bytes) : Type 0 where
+  pub unspent : IsUnspent limits old
+  pub goes : Goes old turn turn.answer new said
+  pub fits : new.taken ≤ limits.input
+
+-- whole turns, one after the other, and the bytes that they said
+abbrev pub AreTurns : Limits → Stage → List Turn → Stage → Bytes → Type 0
+AreTurns limits old [] new said = (old ≡ new) × (said ≡ [])
+AreTurns limits old (turn ∷ more) new said =
+    (mid : Stage) × (first rest : Bytes) × IsWhole limits old turn mid first × AreTurns limits mid more new rest × (said ≡ first ++ rest)
+
+-- ---- a turn that is not whole
+
+-- the calls of an operation that found no memory: before its own call, in it, or after it
+pub data IsBegun (peer : Peer) (now : ℕ) (op : Op) (calls : List Called) : Type 0 where
+  Unasked : calls ≡ [] → IsBegun peer now op calls
+  Unanswered : (called : Called) → calls ≡ called ∷ [] → request now op ≡ Calls called.call → called.answer ≡ NoMemory → IsMade peer.client called
+      → IsBegun peer now op calls
+  Stopped : (asked after : List Called) → calls ≡ asked ++ after → AreAsked peer.client (request now op) asked
+      → AreStopped (peer_after peer op).client after → IsBegun peer now op calls
+
+abbrev pub AreBegun : Peer → ℕ → List Op → List Called → Type 0
+AreBegun peer now [] calls = calls ≡ []
+AreBegun peer now (op ∷ []) calls = IsBegun peer now op calls
+AreBegun peer now (op ∷ next ∷ more) calls = ⊥
+
+-- an operation was carried out up to a collect that told that the session is slow
+pub record IsSlowed (peer : Peer) (now : ℕ) (op : Op) (size : ℕ) (calls : List Called) (said : Bytes) : Type 0 where
+  pub asked : List Called
+  pub front : List Called
+  pub slow : Called
+  pub calls_are : calls ≡ asked ++ (front ++ slow ∷ [])
+  pub are_asked : AreAsked peer.client (request now op) asked
+  pub are_collecting : AreCollecting (peer_after peer op).client front
+  pub is_slow : IsAnsweredBy (peer_after peer op).client (Slow size) slow
+  pub said_is : said ≡ direct_answer (peer_after peer op).verbose (request now op) op asked ++ collected front
+
+-- a piece was taken, these operations of it were carried out, one may have been begun, and this is the rest
+pub record IsWithin (limits : Limits) (stage : Stage) (turn : Turn) (begun : List Op) (bytes rest : Bytes) : Type 0 where
+  pub unspent : IsUnspent limits stage
+  pub answer_is : turn.answer ≡ answers.Piece bytes
+  pub fits : stage.taken + length bytes ≤ limits.input
+  pub are_spoken : AreSpoken stage.peer turn.moment turn.spoken
+  pub split : Fronts (stage.held ++ bytes) (ops_of turn.spoken ++ begun) rest
+
+abbrev pub heard_in : Stage → Turn → Bytes
+heard_in stage turn = heard_bytes stage.peer turn.moment turn.spoken
+
+abbrev pub peer_in : Stage → Turn → Peer
+peer_in stage turn = peer_at_end stage.peer turn.spoken
+
+-- behind the operations that were carried out stands no operation, but a fault: its place is counted from the start of the input
+pub record EndsWithFault (limits : Limits) (stage : Stage) (fault : FrameFault) (last : Last) (said : Bytes) : Type 0 where
+  pub turn : Turn
+  pub bytes : Bytes
+  pub rest : Bytes
+  pub before : ℕ
+  pub last_is : last ≡ Within turn [] []
+  pub within : IsWithin limits stage turn [] bytes rest
+  pub place : before + length rest ≡ stage.taken + length bytes
+  pub refused : IsRefused fault before rest
+  pub said_is : said ≡ heard_in stage turn
+
+-- the next operation is whole, and is refused
+pub record EndsRefused (limits : Limits) (stage : Stage) (refusal : Refusal) (last : Last) (said : Bytes) : Type 0 where
+  pub turn : Turn
+  pub op : Op
+  pub bytes : Bytes
+  pub rest : Bytes
+  pub last_is : last ≡ Within turn (op ∷ []) []
+  pub within : IsWithin limits stage turn (op ∷ []) bytes rest
+  pub refused : request turn.moment op ≡ Refuses refusal
+  pub said_is : said ≡ heard_in stage turn
+
+-- the session is slow after an operation
+pub record EndsSlow (limits : Limits) (stage : Stage) (size : ℕ) (last : Last) (said : Bytes) : Type 0 where
+  pub turn : Turn
+  pub op : Op
+  pub calls : List Called
+  pub bytes : Bytes
+  pub rest : Bytes
+  pub more : Bytes
+  pub last_is : last ≡ Within turn (op ∷ []) calls
+  pub within : IsWithin limits stage turn (op ∷ []) bytes rest
+  pub slowed : IsSlowed (peer_in stage turn) turn.moment op size calls more
+  pub said_is : said ≡ heard_in stage turn ++ more
+
+-- behind operations that were carried out
+pub record EndsBetween (limits : Limits) (stage : Stage) (last : Last) (said : Bytes) : Type 0 where
+  pub turn : Turn
+  pub bytes : Bytes
+  pub rest : Bytes
+  pub last_is : last ≡ Within turn [] []
+  pub within : IsWithin limits stage turn [] bytes rest
+  pub said_is : said ≡ heard_in stage turn
+
+-- behind operations that were carried out, or within one that was begun
+pub record EndsWithin (limits : Limits) (stage : Stage) (last : Last) (said : Bytes) : Type 0 where
+  pub turn : Turn
+  pub begun : List Op
+  pub calls : List Called
+  pub bytes : Bytes
+  pub rest : Bytes
+  pub last_is : last ≡ Within turn begun calls
+  pub within : IsWithin limits stage turn begun bytes rest
+  pub are_begun : AreBegun (peer_in stage turn) turn.moment begun calls
+  pub said_is : said ≡ heard_in stage turn
+
+-- in a quiet turn, at a moment at which the client is stale
+pub record EndsStale (limits : Limits) (stage : Stage) (last : Last) (said : Bytes) : Type 0 where
+  pub moment : ℕ
+  pub last_is : last ≡ Waiting moment
+  pub unspent : IsUnspent limits stage
+  pub stale : is_stale stage.peer.pings moment ≡ true
+  pub said_is : said ≡ []
+
+-- in a quiet turn, in which a PING is due
+pub record EndsPinging (limits : Limits) (stage : Stage) (last : Last) (said : Bytes) : Type 0 where
+  pub moment : ℕ
+  pub last_is : last ≡ Waiting moment
+  pub unspent : IsUnspent limits stage
+  pub alive : is_stale stage.peer.pings moment ≡ false
+  pub due : is_due stage moment ≡ true
+  pub said_is : said ≡ ping_bytes true
+
+-- in the server's information, before the first turn
+pub record EndsGreeting (stage first : Stage) (last : Last) (said greeting : Bytes) : Type 0 where
+  pub last_is : last ≡ Greeting
+  pub first_is : stage ≡ first
+  pub said_is : said ≡ greeting
+
+-- with no further answer of the link, or with this one
+pub record EndsTold (last is : Last) (said : Bytes) : Type 0 where
+  pub last_is : last ≡ is
+  pub said_is : said ≡ []
+
+-- ---- the end
+
+-- the cause of each end, in the order of the session's course, and what the last turn said before it
+abbrev pub IsCause : Limits → Stage → Stage → Bytes → Ended → Last → Bytes → Type 0
+IsCause limits first stage greeting ends.Closed last said = IsUnspent limits stage × EndsTold last (Told answers.Ended) said
+IsCause limits first stage greeting (ends.Refused (refusals.Frame fault)) last said = EndsWithFault limits stage fault last said
+IsCause limits first stage greeting (ends.Refused refusals.NumbersUsed) last said = ⊥
+IsCause limits first stage greeting (ends.Refused refusal) last said = EndsRefused limits stage refusal last said
+IsCause limits first stage greeting (ends.Slow size) last said = EndsSlow limits stage size last said
+IsCause limits first stage greeting ends.Stale last said = EndsStale limits stage last said
+IsCause limits first stage greeting ends.LinkFault last said =
+    (IsUnspent limits stage × EndsTold last (Told answers.Failed) said) ⊎ (EndsGreeting stage first last said greeting
+    ⊎ (EndsBetween limits stage last said ⊎ EndsPinging limits stage last said))
+IsCause limits first stage greeting ends.InputLimit last said = IsSpent limits stage × EndsTold last Nothing said
+IsCause limits first stage greeting ends.NoMemory last said =
+    EndsTold last Nothing said ⊎ (EndsGreeting stage first last said greeting
+    ⊎ (EndsWithin limits stage last said ⊎ EndsPinging limits stage last said))
+
+-- the text of the error line of a fault of the input
+abbrev pub fault_text : FrameFault → Option Bytes
+fault_text faults.UnknownOp = Some (codes "Unknown Protocol Operation")
+fault_text faults.LineTooLong = Some (codes "Maximum Control Line Exceeded")
+fault_text faults.BadArgs = Some (codes "Parser Error")
+fault_text (faults.PayloadTooBig size) = Some (codes "Maximum Payload Violation")
+fault_text (faults.BadEnd place) = Some (codes "Parser Error")
+fault_text faults.NoMemory = None
+
+abbrev pub refusal_text : Refusal → Option Bytes
+refusal_text (refusals.Frame fault) = fault_text fault
+refusal_text refusals.BadConnect = Some (codes "Parser Error")
+refusal_text refusals.BadHeaders = Some (codes "Parser Error")
+refusal_text refusals.NumbersUsed = None
+
+-- the text of the error line with which a session ends so
+abbrev pub last_text : Ended → Option Bytes
+last_text (ends.Refused refusal) = refusal_text refusal
+last_text (ends.Slow size) = Some (codes "Slow Consumer")
+last_text ends.Stale = Some (codes "Stale Connection")
+last_text _ = None
+
+abbrev pub line_of : Option Bytes → Bytes
+line_of None = []
+line_of (Some text) = error_line text
+
+abbrev pub last_line : Ended → Bytes
+last_line ended = line_of (last_text ended)
+
+-- the writing failed, or memory ran out for it
+abbrev pub IsUnwritten : Ended → Type 0
+IsUnwritten ended = (ended ≡ ends.LinkFault) ⊎ (ended ≡ ends.NoMemory)
+
+-- the session ends by its cause; but where the writing of the cause's error line fails, by that
+abbrev pub EndsBy : Ended → Ended → Type 0
+EndsBy cause ended = (ended ≡ cause) ⊎ ((is_some (last_text cause) ≡ true) × IsUnwritten ended)
+
+abbrev pub IsFrontOf : Bytes → Bytes → Type 0
+IsFrontOf front whole = (more : Bytes) × (front ++ more ≡ whole)
+
+-- all of it was written, or a front of it where a writing failed or memory ran out
+abbrev pub IsWritten : Ended → Bytes → Bytes → Type 0
+IsWritten ends.LinkFault bytes whole = IsFrontOf bytes whole
+IsWritten ends.NoMemory bytes whole = IsFrontOf bytes whole
+IsWritten _ bytes whole = bytes ≡ whole
+
+-- how a session ends behind its whole turns: its cause, what is said in the last turn, and the error line; and which bytes were written of it.
+-- All that the turns before said was written before the link was asked again
+pub record Ends (limits : Limits) (first stage : Stage) (greeting : Bytes) (last : Last) (ended : Ended) (bytes : Bytes) : Type 0 where
+  pub cause : Ended
+  pub said : Bytes
+  pub is_cause : IsCause limits first stage greeting cause last said
+  pub ends_by : EndsBy cause ended
+  pub written : IsWritten ended bytes (said ++ last_line cause)
+
+-- ---- the whole
+
+abbrev pub turn_spoken : Turn → List Spoken
+turn_spoken turn = turn.spoken
+
+abbrev pub entries_of_calls : List Called → List DeskEntry
+entries_of_calls calls = flat_map (λ (called : Called). called.entries) calls
+
+abbrev pub entries_of_spoken : Spoken → List DeskEntry
+entries_of_spoken spoken = entries_of_calls spoken.calls ++ entries_of_calls spoken.collects
+
+abbrev pub entries_of_all : List Spoken → List DeskEntry
+entries_of_all spoken = flat_map entries_of_spoken spoken
+
+abbrev pub entries_of_turn : Turn → List DeskEntry
+entries_of_turn turn = entries_of_all turn.spoken
+
+abbrev pub entries_of_last : Last → List DeskEntry
+entries_of_last (Within turn begun calls) = entries_of_turn turn ++ entries_of_calls calls
+entries_of_last _ = []
+
+-- the entries of all desk calls, in order
+abbrev pub entries_of : Journal → List DeskEntry
+entries_of journal = journal.opened.entries ++ (flat_map entries_of_turn journal.turns ++ (entries_of_last journal.last ++ entries_of_calls journal.closed))
+
+abbrev pub last_answers : Last → List Answer
+last_answers Greeting = []
+last_answers Nothing = []
+last_answers (Told answer) = answer ∷ []
+last_answers (Within turn begun calls) = turn.answer ∷ []
+last_answers (Waiting moment) = answers.Quiet ∷ []
+
+-- what the link answered
+abbrev pub answers_of : Journal → List Answer
+answers_of journal = map (λ (turn : Turn). turn.answer) journal.turns ++ last_answers journal.last
+
+abbrev pub last_moments : Last → List ℕ
+last_moments (Within turn begun calls) = turn.moment ∷ []
+last_moments (Waiting moment) = moment ∷ []
+last_moments _ = []
+
+-- the moments that were read: one a turn, after the link's answer
+abbrev pub moments_of : Journal → List ℕ
+moments_of journal = map (λ (turn : Turn). turn.moment) journal.turns ++ last_moments journal.last
+
+-- the server's information, with which each session begins
+unfoldable pub greeting : Limits → ℕ → Bytes
+greeting limits session = frame (Info session limits.host limits.port)
+
+-- the greeting, and what the turns said; but where the greeting itself was not written whole, nothing before it
+abbrev pub before_last : Bytes → Last → Bytes → Bytes
+before_last greeting Greeting said = []
+before_last greeting _ said = greeting ++ said
+
+abbrev pub IsClosedBy : Client → List Called → Type 0
+IsClosedBy client calls = (called : Called) × (calls ≡ called ∷ []) × (called.call ≡ Close) × (called.answer ≡ Done) × IsMade client called
+
+-- a session that was opened
+pub record IsTalk (limits : Limits) (session : ℕ) (journal : Journal) (bytes : Bytes) (ended : Ended) : Type 0 where
+  pub stage : Stage
+  pub said : Bytes
+  pub more : Bytes
+  pub turns : AreTurns limits (start session) journal.turns stage said
+  pub ends : Ends limits (start session) stage (greeting limits session) journal.last ended more
+  pub closed : IsClosedBy (new_client session) journal.closed
+  pub written : bytes ≡ before_last (greeting limits session) journal.last said ++ more
+
+-- a session that was not
+pub record IsSilent (journal : Journal) (bytes : Bytes) : Type 0 where
+  pub turns : journal.turns ≡ []
+  pub last : journal.last ≡ Nothing
+  pub closed : journal.closed ≡ []
+  pub bytes_are : bytes ≡ []
+
+abbrev pub TalksBy : DeskAnswer → Limits → Journal → Bytes → Ended → Type 0
+TalksBy (Opened session) limits journal bytes ended = IsMade (new_client session) journal.opened × IsTalk limits session journal bytes ended
+TalksBy (Worn kept) limits journal bytes ended = IsMade (new_client 0) journal.opened × IsSilent journal bytes × (ended ≡ ends.Refused refusals.NumbersUsed)
+TalksBy NoMemory limits journal bytes ended = IsMade (new_client 0) journal.opened × IsSilent journal bytes × (ended ≡ ends.NoMemory)
+TalksBy _ limits journal bytes ended = ⊥
+
+-- the journal is that of a session which wrote these bytes and ended so
+pub record Talk (limits : Limits) (journal : Journal) (bytes : Bytes) (ended : Ended) : Type 0 where
+  pub opened : journal.opened.call ≡ Open
+  pub talks : TalksBy journal.opened.answer limits journal bytes ended

@@ -1,0 +1,38 @@
+//! One operation of a session, from its desk call to what waits for the client after it.
+
+ghost use Rattle.std.specs.Prelude.{◌≡◌, true, OnOk};
+ghost use Rattle.session.specs.Carrying.{IsSpelled, Carries};
+ghost use Rattle.session.specs.Manners.{peer_of};
+ghost use Rattle.session.specs.Peer.{peer_after};
+
+use crate::asking::ask;
+use crate::collecting::collect_all;
+use crate::manners::Manners;
+use crate::stop::Stop;
+use js_api::Desk;
+use js_base::Moment;
+use nats_frames::Op;
+use std::alloc::Global;
+
+/// Carries an operation out, and adds the bytes that it gives: its direct answer, and then what waits for the session. An operation that is
+/// refused adds nothing; a slow session's last one adds what it gave until then. Where memory ran out, what was added is of no use.
+pub(crate) fn carry<D: Desk>(
+    alloc: Global,
+    desk: &mut D,
+    op: Op,
+    manners: &mut Manners,
+    now: Moment,
+    into: &mut Vec<u8>,
+) -> Result<(), Stop>
+    requires spelled { IsSpelled op }
+    requires is_open { D.is_open desk.old ≡ true }
+    ensures carries { Carries D.made (peer_of (D.client desk.old) manners.old) now op desk.old desk.new into.old.items into.new.items result }
+    ensures peer { OnOk result (peer_of (D.client desk.new) manners.new ≡ peer_after (peer_of (D.client desk.old) manners.old) op) }
+    ensures session { (D.client desk.new).session ≡ (D.client desk.old).session }
+    ensures is_open { D.is_open desk.new ≡ true }
+{
+    match ask(alloc, desk, op, manners, now, into) {
+        Ok(()) => collect_all(desk, into),
+        Err(stop) => Err(stop),
+    }
+}
