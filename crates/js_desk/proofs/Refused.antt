@@ -6,8 +6,8 @@ use Rattle.js_base.specs.Bytes.{Bytes}
 use Rattle.js_base.specs.declared.out.Out.{Out}
 use Rattle.js_model.specs.Router as routes
 use Rattle.js_model.specs.Routing.{fault_told}
-use Rattle.js_model.specs.declared.plain.router.fault.RouteFault.{RouteFault}
-use Rattle.js_model.specs.declared.plain.router.fault.RouteFault.TheVariants as faults
+use Rattle.js_model.specs.declared.route_fault.RouteFault.{RouteFault}
+use Rattle.js_model.specs.declared.route_fault.RouteFault.TheVariants as faults
 
 -- what a call came to: it was done, or why not
 pub data Kind : Type 0 where

@@ -10,8 +10,8 @@ use Rattle.js_api.specs.Desks.{DeskEntry, DeskRun, Routed}
 use Rattle.js_desk.specs.Following.{run_append}
 use Rattle.js_api.specs.Calls.{AreRouted, AreCut}
 use Rattle.js_model.specs.Routing.{fault_told}
-use Rattle.js_model.specs.declared.plain.router.fault.RouteFault.{RouteFault}
-use Rattle.js_model.specs.declared.plain.router.fault.RouteFault.TheVariants as faults
+use Rattle.js_model.specs.declared.route_fault.RouteFault.{RouteFault}
+use Rattle.js_model.specs.declared.route_fault.RouteFault.TheVariants as faults
 use Rattle.js_desk.proofs.Refused.{wants, sending_done}
 use Rattle.js_desk.specs.Holding.{world_of, Leads}
 

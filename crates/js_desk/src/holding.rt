@@ -11,8 +11,8 @@ ghost use Rattle.js_desk.specs.Holding.{listed, Routes, MakesEvent, Sends, Holds
 use crate::place::{Place, PlaceFault};
 use js_api::publish_text;
 use js_base::{Blob, List, Moment, NoMemory, Out, Outs};
-use js_model::plain::Router;
 use js_model::{Event, Publish, Reply, What};
+use route_core::Router;
 use std::alloc::Global;
 
 /// Where memory ran out in a hold.

@@ -10,8 +10,8 @@ ghost use Rattle.js_desk.specs.Plain.{IsPlainConfig, IsPlainPublish};
 
 use crate::plain_stream::{NUMBERS_END, PlainStream, info_of_new};
 use js_base::{Blob, Moment, NoMemory, Outs};
-use js_model::plain::{copy_stream_config, no_stream, numbers_used_up};
-use js_model::{Event, Publish, Reply, StreamConfig, What};
+use js_model::refusals::{no_stream, numbers_used_up};
+use js_model::{Event, Publish, Reply, StreamConfig, What, copy_stream_config};
 use std::alloc::Global;
 use std::marker::Model;
 use thiserror::Error;

@@ -7,8 +7,8 @@ ghost use Rattle.js_model.specs.Counts.{stream_info};
 ghost use Rattle.js_desk.specs.Plain.{IsPlainConfig, IsPlainPublish, Publishes, stored_message};
 
 use js_base::{Blob, Moment, NoMemory};
-use js_model::plain::{copy_stream_config, numbers_used_up};
-use js_model::{Message, Publish, Reply, StreamConfig, StreamInfo};
+use js_model::refusals::numbers_used_up;
+use js_model::{Message, Publish, Reply, StreamConfig, StreamInfo, copy_stream_config};
 use std::alloc::Global;
 use std::collections::VecDeque;
 use std::marker::Model;

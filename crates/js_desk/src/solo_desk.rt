@@ -17,10 +17,12 @@ use crate::place::Place;
 use crate::untaken::tell_untaken;
 use js_api::{Desk, OpenFault, SubFault};
 use js_base::{Blob, List, Moment, Name, NoMemory, Out};
-use js_model::plain::{CatalogFault, PlainCatalog, RouteFault, Router};
 use js_model::{
-    Collected, Discard, Event, PlaceAt, Publish, Retention, StreamConfig, Taken, Wants, What,
+    CatalogFault, Collected, Discard, Event, PlaceAt, Publish, Retention, RouteFault, StreamConfig,
+    Taken, Wants, What,
 };
+use plain_catalog::PlainCatalog;
+use route_core::Router;
 use std::alloc::Global;
 use std::marker::Model;
 

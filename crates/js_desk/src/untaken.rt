@@ -8,8 +8,8 @@ ghost use Rattle.js_model.specs.Routing.{KeepsOpen};
 use crate::holding::route_all;
 use js_base::{Blob, List, NoMemory, Out, Outs};
 use js_model::Taken;
-use js_model::plain::Router;
 use nats_headers::write_status;
+use route_core::Router;
 use std::alloc::Global;
 
 /// Whether neither a subscription nor anything else took a message.

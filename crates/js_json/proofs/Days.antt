@@ -1,7 +1,7 @@
 -- Counting days off by years and months leads to the day that lies so many days on.
-use Rattle.std.proofs.Common.{ℕ, zero, suc, ◌≡◌, ◌+◌, ◌-◌, ◌*◌, ◌<◌, ◌≤◌, ◌^◌, Bool, true, false, ◌==◌, ◌||◌, IsTrue, refl, sym, ap, ◌∙◌, arith, nat_lt, nat_le, ◌&&◌, subst, if◌then◌else◌, cond, add-one, lit≤}
+use Rattle.std.proofs.Common.{ℕ, zero, suc, ◌≡◌, ◌+◌, ◌-◌, ◌*◌, ◌<◌, ◌≤◌, Bool, true, false, IsTrue, refl, sym, ap, ◌∙◌, arith, nat_lt, nat_le, ◌&&◌, subst, if◌then◌else◌, cond, add-one, lit≤}
 use Rattle.std.proofs.lemmas.Bool.Decides.{nat_tests}
-use Rattle.js_json.specs.Calendar.{Day, is_day, is_leap, days_of_year, days_of_month, days_before, days_of_months, days_to, first_day, year_after, month_after, day_in_year, day_after}
+use Rattle.js_json.specs.Calendar.{Day, is_day, is_leap, days_of_year, days_of_month, days_before, days_of_months, days_to, first_day, year_after, month_after, day_after}
 
 year_len : (leap : Bool) → (365 ≤ cond leap 366 365) × (cond leap 366 365 ≤ 366)
 year_len true = (lit≤ tt, lit≤ tt)

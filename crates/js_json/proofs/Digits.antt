@@ -1,5 +1,5 @@
 -- Numbers in a fixed count of digits.
-use Rattle.std.proofs.Common.{ℕ, zero, suc, ◌≡◌, ◌+◌, ◌-◌, ◌*◌, ◌/◌, ◌%◌, ◌^◌, ◌<◌, ◌≤◌, Bool, true, false, ◌&&◌, [], ◌∷◌, ◌++◌, length, take, drop, Option, Some, None, is_none, option_map, Result, Ok, Err, refl, sym, ap, ◌∙◌, arith, cond, ltb, if◌then◌else◌, nat_lt, position, not, rules}
+use Rattle.std.proofs.Common.{ℕ, zero, suc, ◌≡◌, ◌+◌, ◌-◌, ◌*◌, ◌/◌, ◌%◌, ◌^◌, ◌<◌, Bool, true, false, ◌&&◌, [], ◌∷◌, length, Option, Some, None, is_none, Ok, refl, sym, ap, ◌∙◌, arith, ltb}
 use Rattle.std.specs.Char.{is_ascii_digit}
 use Rattle.std.specs.List.{list_all}
 use Rattle.std.specs.Result.{result_ok}

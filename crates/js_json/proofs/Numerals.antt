@@ -1,16 +1,14 @@
 -- Which numerals are read as integers.
-use Rattle.std.proofs.Common.{ℕ, suc, ◌≡◌, ◌^◌, ◌<◌, ◌≤◌, ◌&&◌, ℤ, pos, negsuc, neg_ℤ, Bool, true, false, Float, Some, None, Option, option_and_then, IsTrue, refl, sym, ap, ◌∙◌, arith, nat_lt, nat_le, true≢false, if◌then◌else◌}
+use Rattle.std.proofs.Common.{ℕ, ◌≡◌, ◌^◌, ◌<◌, ◌≤◌, ◌&&◌, ℤ, pos, negsuc, neg_ℤ, Bool, true, false, Float, Some, None, option_and_then, refl, sym, ap, arith, nat_lt, nat_le, true≢false, if◌then◌else◌}
 use Rattle.std.proofs.lemmas.Bool.Decides.{nat_tests}
-use Rattle.std.specs.Float.{binary64, float_is_finite}
-use Rattle.std.specs.Float.Numeral.{Parts, numeral_digits, nearest_float as nearest}
-use Rattle.std.specs.Fmt.{signed_decimal}
+use Rattle.std.specs.Float.{binary64}
+use Rattle.std.specs.Float.Numeral.{numeral_digits, nearest_float as nearest}
 use Rattle.jiff.proofs.SpanFacts.{signed_arith}
-use Rattle.serde_json.specs.Data.{Num, unsigned, negative, float}
+use Rattle.serde_json.specs.Data.{unsigned, negative, float}
 use Rattle.serde_json.specs.Find.{as_integer}
-use Rattle.serde_json.specs.Read.{is_integer, number_of, number_from, float_of}
+use Rattle.serde_json.specs.Read.{is_integer}
 use Rattle.serde_json.proofs.Numbers.{number_of-decimal, number_of-negative}
-use Rattle.js_json.specs.Kinds.{FitsWord}
-use Rattle.js_json.specs.Laws.{LawInteger, LawNumeral, IsWhole, value_of}
+use Rattle.js_json.specs.Laws.{LawInteger, LawNumeral}
 
 pub integers_read : LawInteger
 integers_read (pos n) fits = ap (option_and_then as_integer) (number_of-decimal n (omega (arith, signed_arith, fits.high)))

@@ -1,8 +1,8 @@
 -- What `serde_json` reads, and the object that its reading is.
-use Rattle.std.proofs.Common.{◌≡◌, ◌↔◌, ℕ, List, [], ◌∷◌, length, Bool, true, false, Option, Some, None, option_map, Err, String, Global, refl, sym, ap, ◌∙◌, arith, if◌then◌else◌, IsUtf8, ok_or}
+use Rattle.std.proofs.Common.{◌≡◌, ◌↔◌, List, [], ◌∷◌, length, Bool, true, false, Option, Some, None, option_map, Err, String, Global, refl, sym, ap, ◌∙◌, arith, if◌then◌else◌, IsUtf8, ok_or}
 use Rattle.std.proofs.lemmas.Str.{IsUtf8-from_is_utf8, is_utf8-from_IsUtf8}
 use Rattle.std.specs.Str.{is_utf8}
-use Rattle.serde_json.specs.Data.{Data, Members, no_members}
+use Rattle.serde_json.specs.Data.{Data, no_members}
 use Rattle.serde_json.specs.Read.{read}
 use Rattle.serde_json.specs.Find.{as_object}
 use Rattle.serde_json.specs.View.{members_view}

@@ -1,5 +1,5 @@
 -- What `jiff` prints of an instant is what is written of the moment.
-use Rattle.std.proofs.Common.{ℕ, zero, suc, ◌≡◌, ◌+◌, ◌-◌, ◌*◌, ◌/◌, ◌%◌, ◌^◌, ◌<◌, ◌≤◌, ℤ, pos, ◌-ℤ◌, ◌+ℤ◌, ◌*ℤ◌, IsTrue, List, [], ◌∷◌, ◌++◌, Some, Bool, false, Option, refl, sym, ap, ◌∙◌, arith, unsigned_abs}
+use Rattle.std.proofs.Common.{ℕ, zero, suc, ◌≡◌, ◌+◌, ◌/◌, ◌%◌, ◌^◌, ◌<◌, ℤ, pos, ◌-ℤ◌, [], ◌∷◌, ◌++◌, Some, false, refl, sym, ap, ◌∙◌, arith}
 use Rattle.std.proofs.Math.Nat.{pow-suc}
 use Rattle.jiff.specs.Types.{Date, Time, DateTime, Timestamp}
 use Rattle.jiff.specs.Words.{civil_nanos, epoch_day, time_nanos}
@@ -9,11 +9,11 @@ use Rattle.jiff_fmt.specs.Text.{pad2, pad4, year_text, places, fraction_part, da
 use Rattle.jiff_fmt.specs.Printer.{options, IsTimestampText}
 use Rattle.jiff_fmt.specs.declared.temporal.printer.DateTimePrinter.{DateTimePrinter}
 use Rattle.js_base.specs.Bytes.{Bytes}
-use Rattle.js_json.specs.Calendar.{Day, is_day, days_to, first_day, day_after}
-use Rattle.js_json.specs.Times.{in_digits, Clock, clock_of, time_text, written, utc}
+use Rattle.js_json.specs.Calendar.{Day, days_to, first_day, day_after}
+use Rattle.js_json.specs.Times.{in_digits, time_text}
 use Rattle.js_json.proofs.TimeParts.{DayFacts, day_facts}
-use Rattle.js_json.proofs.Days.{IsDayAfter, day_after-is}
-use Rattle.js_json.proofs.CivilDays.{day_of, epoch_day-is}
+use Rattle.js_json.proofs.Days.{day_after-is}
+use Rattle.js_json.proofs.CivilDays.{epoch_day-is}
 
 -- ---- digits
 

@@ -1,5 +1,5 @@
 -- From what the readers of the parts answer to the definitions.
-use Rattle.std.proofs.Common.{ℕ, zero, suc, ◌≡◌, ◌+◌, ◌-◌, ◌*◌, ◌^◌, ◌<◌, ◌≤◌, ℤ, pos, negsuc, neg_ℤ, ◌+ℤ◌, ◌-ℤ◌, ◌*ℤ◌, ◌≤ℤ◌, Bool, true, false, ◌&&◌, ◌==◌, IsTrue, List, [], ◌∷◌, ◌++◌, length, take, drop, Option, Some, None, option_map, Result, Ok, Err, refl, sym, ap, ◌∙◌, arith, if◌then◌else◌, nat_lt, nat_le, unsigned_abs, subst, w8, w16, w32, FitsSigned, to_z, of_z, inl, inr, length-take}
+use Rattle.std.proofs.Common.{ℕ, ◌≡◌, ◌+◌, ◌-◌, ◌*◌, ◌^◌, ◌<◌, ◌≤◌, ℤ, pos, negsuc, neg_ℤ, ◌+ℤ◌, ◌-ℤ◌, ◌*ℤ◌, ◌≤ℤ◌, Bool, true, false, ◌&&◌, ◌==◌, IsTrue, [], ◌∷◌, length, take, drop, Option, Some, None, option_map, Result, Ok, Err, refl, sym, ap, ◌∙◌, arith, if◌then◌else◌, nat_lt, nat_le, unsigned_abs, subst, w8, w16, w32, FitsSigned, to_z, of_z, inl, inr, length-take}
 use Rattle.std.specs.Char.{is_ascii_digit}
 use Rattle.std.specs.List.{list_all, prefix_len}
 use Rattle.std.specs.Int.{w128}
@@ -17,8 +17,8 @@ use Rattle.jiff.proofs.SpanFacts.{signed_arith}
 use Rattle.js_base.specs.Bytes.{Bytes}
 use Rattle.js_base.specs.Decimal.{value_of, number_of}
 use Rattle.js_json.specs.Calendar.{Day, is_day, days_of_month, first_day}
-use Rattle.js_json.specs.Times.{Clock, is_clock, is_fraction, Zone, utc, ahead, behind, is_zone, fraction_nanos, clock_nanos, nanos_ahead, nanos_behind, distance, day_nanos}
-use Rattle.js_json.specs.TimeReading.{◌>>=◌, number_at, past, two_behind, if_passed, day_at, few_digits, fraction_at, clock_at, at_end, distance_at, zone_at, difference, time_at}
+use Rattle.js_json.specs.Times.{Clock, is_clock, is_fraction, Zone, utc, ahead, behind, fraction_nanos, clock_nanos, nanos_ahead, nanos_behind, distance, day_nanos}
+use Rattle.js_json.specs.TimeReading.{◌>>=◌, number_at, past, two_behind, day_at, few_digits, fraction_at, clock_at, at_end, distance_at, zone_at, difference, time_at}
 use Rattle.js_json.specs.Civil.{IsSmall, day_read, fraction_read, clock_read, shift, moment_if}
 use Rattle.js_json.proofs.CivilDays.{day_of, epoch_day-nanos}
 use Rattle.js_json.proofs.Digits.{power, Spells, number_of-spells, number_of-from_spells, value_of-lt}

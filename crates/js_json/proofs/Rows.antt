@@ -1,5 +1,5 @@
 -- Worked rows of the definitions: each computes.
-use Rattle.std.proofs.Common.{◌≡◌, ℕ, ℤ, pos, neg_ℤ, ◌-◌, ◌^◌, codes, List, [], ◌∷◌, Bool, true, false, Option, Some, None, option_and_then, Result, Ok, Err, refl, ◌++◌}
+use Rattle.std.proofs.Common.{◌≡◌, ℕ, ℤ, pos, neg_ℤ, ◌-◌, ◌^◌, codes, Option, Some, None, Result, Ok, Err, refl, ◌++◌}
 use Rattle.std.specs.Str.{is_utf8, chars}
 use Rattle.serde_json.specs.Data.{Members, no_members}
 use Rattle.serde_json.proofs.OnLiterals.{serde_json_on_literals}
@@ -8,7 +8,7 @@ use Rattle.js_json.specs.Calendar.{days_before, days_of_months, days_to, first_d
 use Rattle.js_json.specs.Times.{time_text}
 use Rattle.js_json.specs.TimeReading.{number_at, past, two_behind, day_at, fraction_at, clock_at, distance_at, zone_at, time_at}
 use Rattle.js_json.specs.Objects.{object_of}
-use Rattle.js_json.specs.Fields.{flag_in, number_in, numbers_in, text_in, is_given}
+use Rattle.js_json.specs.Fields.{number_in}
 use Rattle.js_json.specs.declared.fault.JsonFault.{JsonFault}
 use Rattle.js_json.specs.declared.fault.JsonFault.TheVariants.{NotJson, NotObject, BadField}
 

@@ -1,16 +1,14 @@
 -- What stands at the front of a text of a time: each part is read exactly where it is spelled.
-use Rattle.std.proofs.Common.{ℕ, zero, suc, ◌≡◌, ◌+◌, ◌-◌, ◌*◌, ◌^◌, ◌<◌, ◌≤◌, Bool, true, false, ◌&&◌, ◌==◌, IsTrue, List, [], ◌∷◌, ◌++◌, length, take, drop, Option, Some, None, option_map, Ok, refl, sym, ap, ◌∙◌, arith, cond, ltb, if◌then◌else◌, nat_lt, nat_le, append_assoc, append-nil, rules, take-append-drop, length-take, subst, length-append}
+use Rattle.std.proofs.Common.{ℕ, ◌≡◌, ◌^◌, ◌<◌, ◌≤◌, Bool, true, false, ◌&&◌, ◌==◌, IsTrue, [], ◌∷◌, ◌++◌, length, take, drop, Option, Some, None, option_map, Ok, refl, sym, ap, ◌∙◌, arith, if◌then◌else◌, nat_lt, nat_le, take-append-drop, length-take, subst, length-append}
 use Rattle.std.proofs.Math.Nat.{pow-le-pow_right}
 use Rattle.std.proofs.Math.Seq.{take-append_seam, drop-append_seam}
-use Rattle.std.specs.Char.{is_ascii_digit}
-use Rattle.std.specs.List.{list_all, prefix_len}
 use Rattle.std.specs.Result.{result_ok}
 use Rattle.std.proofs.lemmas.Bool.Decides.{nat_tests}
 use Rattle.js_base.specs.Bytes.{Bytes}
-use Rattle.js_base.specs.Decimal.{value_of, number_of}
+use Rattle.js_base.specs.Decimal.{number_of}
 use Rattle.js_json.specs.Calendar.{Day, is_day, days_of_month}
-use Rattle.js_json.specs.Times.{in_digits, Clock, is_clock, is_fraction, Zone, utc, ahead, behind, is_zone, day_text, fraction_text, clock_text, zone_text}
-use Rattle.js_json.specs.TimeReading.{◌>>=◌, number_at, past, two_behind, if_passed, day_at, few_digits, fraction_at, clock_at, at_end, distance_at, zone_at}
+use Rattle.js_json.specs.Times.{in_digits, day_text}
+use Rattle.js_json.specs.TimeReading.{◌>>=◌, number_at, past, two_behind, if_passed, day_at}
 use Rattle.js_json.proofs.Digits.{digits-in_digits, length-in_digits, value_of-in_digits, value_of-lt, in_digits-value_of, Spells, number_of-spells, number_of-from_spells}
 
 -- ---- one reading after the other

@@ -1,15 +1,12 @@
 -- What is written of a moment is its text.
-use Rattle.std.proofs.Common.{ℕ, ◌≡◌, ◌+◌, ◌-◌, ◌*◌, ◌/◌, ◌%◌, ◌^◌, ◌<◌, ◌≤◌, Bool, true, ◌&&◌, IsTrue, [], ◌∷◌, Some, length, refl, sym, ap, ◌∙◌, arith, nat_lt, nat_le}
-use Rattle.std.specs.Char.{is_ascii_digit}
-use Rattle.std.specs.List.{list_all}
+use Rattle.std.proofs.Common.{ℕ, ◌≡◌, ◌+◌, ◌-◌, ◌*◌, ◌/◌, ◌%◌, ◌^◌, ◌<◌, ◌≤◌, Bool, true, ◌&&◌, IsTrue, length, refl, ap, ◌∙◌, arith, nat_lt, nat_le}
 use Rattle.std.proofs.lemmas.Bool.Decides.{nat_tests}
-use Rattle.js_base.specs.Bytes.{Bytes}
 use Rattle.js_base.specs.Decimal.{value_of}
-use Rattle.js_json.specs.Calendar.{Day, is_day, days_to, first_day, day_after}
-use Rattle.js_json.specs.Times.{in_digits, Clock, is_clock, is_fraction, Zone, utc, is_zone, fraction_nanos, clock_nanos, day_nanos, Shows, SpellsTime, clock_of, time_text}
+use Rattle.js_json.specs.Calendar.{day_after}
+use Rattle.js_json.specs.Times.{in_digits, is_clock, is_fraction, utc, fraction_nanos, clock_nanos, clock_of, time_text}
 use Rattle.js_json.specs.Laws.{LawTimeText, LawRoundTrip}
 use Rattle.js_json.proofs.Digits.{digits-in_digits, length-in_digits, value_of-in_digits}
-use Rattle.js_json.proofs.Days.{IsDayAfter, day_after-is}
+use Rattle.js_json.proofs.Days.{day_after-is}
 use Rattle.js_json.proofs.Moments.{time_read}
 
 -- digits behind the dot

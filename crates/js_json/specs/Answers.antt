@@ -1,5 +1,5 @@
 -- What a call answered, and the reading that its definition gives: they are the same, unless memory ran out.
-use Rattle.std.specs.Prelude.{◌≡◌, ◌≢◌, Option, Some, None, option_map, Result, Ok, Err, IsErr}
+use Rattle.std.specs.Prelude.{◌≡◌, ◌≢◌, Option, None, option_map, Result, Ok, Err, IsErr}
 use Rattle.serde_json.specs.Data.{Members}
 use Rattle.js_base.specs.Bytes.{Bytes}
 use Rattle.js_json.specs.Members.{members}

@@ -8,7 +8,6 @@ pub mod RowsOfPulls
 pub mod RowsOfMaking
 pub mod RowsOfPushes
 pub mod RowsOfPlaces
-pub mod RowsOfRoutes
 pub mod SamplesOfRouter
 pub mod RowsOfRouter
 pub mod RowsOfEndings
@@ -46,13 +45,4 @@ pub mod Within
 pub mod Quotas
 pub mod Turns
 pub mod Limiting
-pub mod PlainLists
-pub mod PlainLimits
-pub mod PlainLoops
-pub mod PlainPlaces
-pub mod PlainCatalogs
-pub mod PlainEndings
-pub mod PlainDeliveries
 pub mod Readiness
-pub mod Routing
-pub mod PlainRanges

@@ -5,7 +5,7 @@ use Rattle.js_model.specs.declared.stream.State.{State}
 use Rattle.js_model.specs.declared.entry.PlaceEntry.{PlaceEntry}
 use Rattle.js_model.specs.declared.entry.PlaceEntry.TheVariants.{Step, Deliver, Broken}
 use Rattle.js_model.specs.Runs.{Run}
-use Rattle.js_model.specs.Routes.{Router, RouteEntry, RouteRun}
+use Rattle.js_model.specs.Router.{Router, RouteEntry, RouteRun}
 use Rattle.js_model.specs.Catalog.{Catalog, CatEntry, CatRun}
 
 abbrev pub seat_of : PlaceEntry → ℕ

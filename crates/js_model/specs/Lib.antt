@@ -19,12 +19,9 @@ pub mod Runs
 pub mod Lasting
 pub mod Firm
 pub mod Sound
-pub mod Routes
 pub mod Router
 pub mod Routing
 pub mod Catalog
+pub mod Cataloging
 pub mod Legal
 pub mod Laws
-pub mod Fields
-pub mod Plain
-pub mod PlainCatalog

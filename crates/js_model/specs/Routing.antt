@@ -1,14 +1,10 @@
 -- What the calls of a router tell, and what its callers can count on, by the NATS client protocol.
-pub mod Queues
-pub mod Sessions
-pub mod Subscriptions
-pub mod Deliveries
 use Rattle.std.specs.Prelude.{◌≡◌, ◌==◌, ℕ, ◌<◌, true, false, Option, Some, None, Result, Ok, Err, length}
 use Rattle.js_model.specs.Router as router
 use Rattle.js_model.specs.declared.desk.Collected.{Collected}
 use Rattle.js_model.specs.declared.desk.Collected.TheVariants.{Frames, Slow}
-use Rattle.js_model.specs.declared.plain.router.fault.RouteFault.{RouteFault}
-use Rattle.js_model.specs.declared.plain.router.fault.RouteFault.TheVariants as faults
+use Rattle.js_model.specs.declared.route_fault.RouteFault.{RouteFault}
+use Rattle.js_model.specs.declared.route_fault.RouteFault.TheVariants as faults
 
 -- ---- what the calls tell
 

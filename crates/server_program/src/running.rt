@@ -1,10 +1,11 @@
 //! The top call.
 
-ghost use Rattle.std.specs.Prelude.{◌≡◌, ◌≤◌, ◌<◌, ◌^◌, ◌↔◌, None, false, IfSome, IfOk, IsSome, IsTrue, vec_len};
+ghost use Rattle.std.specs.Prelude.{◌≡◌, ◌≤◌, ◌<◌, ◌^◌, ◌↔◌, None, true, false, IfSome, IfOk, IsSome, IsTrue, vec_len};
 ghost use Rattle.js_model.specs.Configs.{is_stream_subject};
 ghost use Rattle.link_edge.specs.Accepts.{IfGot, gave_after};
 ghost use Rattle.link_edge.specs.Causes.{HasCause};
 ghost use Rattle.link_edge.specs.Reports.{HasOut, IsBalanced, IsFresh};
+ghost use Rattle.session.specs.Host.{is_plain};
 ghost use Rattle.server_program.specs.Words.{texts, command_of};
 ghost use Rattle.server_program.specs.Running.{pipe_limits, status_of, Arrives, IsGivenBack, PipeEnds, PrintsWords};
 
@@ -81,6 +82,7 @@ fn serve<R: Door, C: Clock>(
     requires out { HasOut (R.gave door.old) (R.back door.old) }
     requires fresh { IsFresh (R.Link.answered link) (R.Link.given link) (R.Link.faults link) }
     requires input { limits.now.input < 2 ^ 62 }
+    requires host { is_plain limits.now.host ≡ true }
     ensures given_back { IsGivenBack limits.now desk result (R.back door.old) (R.back door.new) (C.to_come clock.old) (C.to_come clock.new) }
     ensures answered { R.answered door.new ≡ R.answered door.old }
     ensures gave { R.gave door.new ≡ R.gave door.old }

@@ -11,11 +11,13 @@ use Rattle.link_edge.specs.declared.answers.Answer.{Answer}
 use Rattle.link_edge.proofs.Told.{grown-nil, grown_on}
 use Rattle.link_edge.proofs.Moments.{reads_push, reads_on}
 use Rattle.js_api.specs.Desks.{DeskEntry}
-use Rattle.session.specs.Talk.{Turn, Last, Greeting, Nothing, Told, Within, Waiting, Stage, start, IsWhole, IsSpent, AreTurns, Ends, IsFrontOf, greeting, before_last, entries_of_turn, entries_of_last, last_answers, last_moments}
-use Rattle.session.specs.Giving.{GivesFront, IsLinkFault, end_of}
+use Rattle.session.specs.Talk.{Turn, Last, Greeting, Nothing, Told, Within, Waiting, Stage, start, IsWhole, IsSpent, AreTurns, Ends, IsCutOff, greeting, before_last, entries_of_turn, entries_of_last, last_answers, last_moments}
+use Rattle.session.specs.Giving.{GivesPart, IsLinkFault, end_of}
 use Rattle.link_edge.specs.Causes.{HasCause}
 use Rattle.session.specs.Turning.{IsTurn, IsLastTurn, IsGreeted}
 use Rattle.session.specs.Session.{Converses}
+use Rattle.session.proofs.Framed.{greeting_cut}
+use Rattle.session.proofs.Heard.{front_of}
 use Rattle.session.specs.declared.giving.GiveFault.{GiveFault}
 use Rattle.session.specs.declared.giving.GiveFault.TheVariants as faults
 use Rattle.session.specs.declared.ending.Limits.{Limits}
@@ -142,7 +144,7 @@ converses_spent made limits session d0 d a0 a g0 g c0 c stage h spent = record {
   said = h.said;
   more = [];
   are_turns = h.are_turns;
-  ends = record { cause = ends.InputLimit; said = []; is_cause = (spent, record { last_is = refl; said_is = refl }); ends_by = inl refl; written = refl };
+  ends = record { cause = ends.InputLimit; said = []; is_cause = (spent, record { last_is = refl; said_is = refl }); ends_as = inl (refl, refl) };
   answered = h.answered ∙ ap (grown a0) (sym (append-nil (map answer h.turns)));
   moments = subst (λ (ms : List ℕ). ReadsMoments c0 ms c) (sym (append-nil (map moment h.turns))) h.moments;
   led = subst (λ (es : List DeskEntry). made d0 es d) (sym (append-nil (flat_map entries_of_turn h.turns))) h.led;
@@ -151,12 +153,12 @@ converses_spent made limits session d0 d a0 a g0 g c0 c stage h spent = record {
 
 -- the server's information was not given whole
 pub converses_ungreeted : {D : Type 0} (made : D → List DeskEntry → D → Type 0) (limits : Limits) (session : ℕ) (fault : GiveFault) (ended : Ended) (d : D) (a0 a : Option (List Answer)) (g0 g : Option Bytes) (c : Option (List ℕ))
-    → made d [] d → a ≡ a0 → GivesFront g0 g (greeting limits session) → ended ≡ end_of fault → Converses made limits session d d a0 a g0 g c c ended
+    → made d [] d → a ≡ a0 → GivesPart g0 g (greeting limits session) → ended ≡ end_of fault → Converses made limits session d d a0 a g0 g c c ended
 converses_ungreeted {D = D} made limits session fault ended d a0 a g0 g c h same k e =
     subst (λ (x : Ended). Converses made limits session d d a0 a g0 g c c x) (sym e) (go fault)
   where
-    front : IsFrontOf k.0 (greeting limits session ++ [])
-    front = (k.1.0, k.1.1 ∙ sym (append-nil (greeting limits session)))
+    cut : IsCutOff k.0 (greeting limits session ++ [])
+    cut = subst (IsCutOff k.0) (sym (append-nil (greeting limits session))) k.1
 
     ungreeted : (x : Ended) → Ends limits (start session) (start session) (greeting limits session) Greeting x k.0 → Converses made limits session d d a0 a g0 g c c x
     ungreeted x ends = record {
@@ -180,8 +182,7 @@ converses_ungreeted {D = D} made limits session fault ended d a0 a g0 g c h same
           cause = ends.LinkFault;
           said = greeting limits session;
           is_cause = inr (inl (record { last_is = refl; first_is = refl; said_is = refl }));
-          ends_by = inl refl;
-          written = front;
+          ends_as = inl (refl, cut);
         })
     go faults.NoMemory =
         ungreeted ends.NoMemory
@@ -189,15 +190,14 @@ converses_ungreeted {D = D} made limits session fault ended d a0 a g0 g c h same
           cause = ends.NoMemory;
           said = greeting limits session;
           is_cause = inr (inl (record { last_is = refl; first_is = refl; said_is = refl }));
-          ends_by = inl refl;
-          written = front;
+          ends_as = inl (refl, front_of k.0 (greeting limits session ++ []) cut);
         })
 
 -- there was no memory before the server's information
 pub converses_starved : {D : Type 0} (made : D → List DeskEntry → D → Type 0) (limits : Limits) (session : ℕ) (d : D) (a : Option (List Answer)) (g : Option Bytes) (c : Option (List ℕ))
     → made d [] d → Converses made limits session d d a a g g c c ends.NoMemory
 converses_starved made limits session d a g c h =
-    converses_ungreeted made limits session faults.NoMemory ends.NoMemory d a a g g c h refl ([], (greeting limits session, refl), sym (grown-nil g)) refl
+    converses_ungreeted made limits session faults.NoMemory ends.NoMemory d a a g g c h refl ([], greeting_cut limits session, sym (grown-nil g)) refl
 
 -- ---- the cause of an end that the link made
 

@@ -1,5 +1,5 @@
 -- Laws of the operations that a session hears.
-use Rattle.std.proofs.Common.{◌≡◌, ℕ, ◌+◌, List, [], ◌∷◌, ◌++◌, length, Option, refl, sym, ap, subst, ◌∙◌, append_assoc, inl, arith, length-append}
+use Rattle.std.proofs.Common.{◌≡◌, ℕ, ◌+◌, List, [], ◌∷◌, ◌++◌, length, Option, refl, sym, ap, subst, ◌∙◌, append_assoc, inl, inr, arith, length-append}
 use Rattle.std.proofs.lemmas.List.{append-nil}
 use Rattle.std.proofs.lemmas.Grind.{flat_map-append}
 use Rattle.js_base.specs.Bytes.{Bytes}
@@ -11,8 +11,8 @@ use Rattle.nats_frames.specs.Grammar.{Fronts}
 use Rattle.nats_frames.specs.Reading.{op_at, Partial}
 use Rattle.js_api.specs.Desks.{DeskEntry}
 use Rattle.session.specs.Peer.{Peer, peer_after}
-use Rattle.session.specs.Talk.{Spoken, IsSpoken, AreSpoken, EndsBy, IsWritten, IsFrontOf, last_line, ops_of, heard_bytes, spoken_bytes, peer_at_end, entries_of_all, entries_of_spoken, entries_of_calls}
-use Rattle.session.specs.Giving.{GivesFront, IsFlushed, end_of}
+use Rattle.session.specs.Talk.{Spoken, IsSpoken, AreSpoken, EndsBy, IsWritten, IsFrontOf, IsCutOff, last_line, ops_of, heard_bytes, spoken_bytes, peer_at_end, entries_of_all, entries_of_spoken, entries_of_calls}
+use Rattle.session.specs.Giving.{GivesPart, IsFlushed, end_of}
 use Rattle.session.specs.Parting.{Parts, PartsAt, cause_of}
 use Rattle.session.specs.Hearing.{IsNext, IsIdle, IsHalted, IsHeard, IsCut, Stops}
 use Rattle.session.specs.declared.ending.Ended.{Ended}
@@ -64,17 +64,27 @@ entries-push spoken s =
 front_behind : (front bytes whole : Bytes) → IsFrontOf bytes whole → IsFrontOf (front ++ bytes) (front ++ whole)
 front_behind front bytes whole h = (h.0, append_assoc front bytes h.0 ∙ ap (λ (more : Bytes). front ++ more) h.1)
 
+pub front_of : (front whole : Bytes) → IsCutOff front whole → IsFrontOf front whole
+front_of front whole h = (h.0 ∷ h.1, h.2)
+
+cut_behind : (front bytes whole : Bytes) → IsCutOff bytes whole → IsCutOff (front ++ bytes) (front ++ whole)
+cut_behind front bytes whole h = (h.0, h.1, append_assoc front bytes (h.0 ∷ h.1) ∙ ap (λ (more : Bytes). front ++ more) h.2)
+
 whole_behind : (front bytes whole : Bytes) → bytes ≡ whole → front ++ bytes ≡ front ++ whole
 whole_behind front bytes whole h = ap (λ (more : Bytes). front ++ more) h
 
-pub written_behind : (ended : Ended) (front bytes whole : Bytes) → IsWritten ended bytes whole → IsWritten ended (front ++ bytes) (front ++ whole)
+written_behind : (ended : Ended) (front bytes whole : Bytes) → IsWritten ended bytes whole → IsWritten ended (front ++ bytes) (front ++ whole)
 written_behind ends.Closed front bytes whole h = whole_behind front bytes whole h
 written_behind (ends.Refused refusal) front bytes whole h = whole_behind front bytes whole h
 written_behind (ends.Slow size) front bytes whole h = whole_behind front bytes whole h
 written_behind ends.Stale front bytes whole h = whole_behind front bytes whole h
-written_behind ends.LinkFault front bytes whole h = front_behind front bytes whole h
+written_behind ends.LinkFault front bytes whole h = cut_behind front bytes whole h
 written_behind ends.InputLimit front bytes whole h = whole_behind front bytes whole h
 written_behind ends.NoMemory front bytes whole h = front_behind front bytes whole h
+
+pub ends_behind : (cause ended : Ended) (front bytes whole : Bytes) → EndsBy cause ended bytes whole → EndsBy cause ended (front ++ bytes) (front ++ whole)
+ends_behind cause ended front bytes whole (inl h) = inl (h.0, written_behind ended front bytes whole h.1)
+ends_behind cause ended front bytes whole (inr h) = inr (h.0, h.1, cut_behind front bytes whole h.2)
 
 -- ---- between two operations
 
@@ -164,9 +174,9 @@ module _ {D : Type 0} (made : D → List DeskEntry → D → Type 0) (more_led :
   -- behind the operations one was begun, or none is there, and then the session parted
   cut_at : (stop : Stop) (ended : Ended) (peer_now : Peer) (old mid new : D) (bytes out : Bytes) (held : Held) (all : ℕ) (a b c : Option Bytes) (waiting more : Bytes)
       → (h : Answering made now peer peer_now old mid bytes held.bytes a b waiting) (k : IsHalted stop made now peer_now mid new held waiting more) → total held ≡ all
-      → EndsBy (cause_of stop) ended → IsWritten ended (h.sent ++ out) (heard_bytes peer now h.spoken ++ (k.said ++ last_line (cause_of stop)))
+      → EndsBy (cause_of stop) ended (h.sent ++ out) (heard_bytes peer now h.spoken ++ (k.said ++ last_line (cause_of stop)))
       → c ≡ grown b out → IsCut ended made now peer old new bytes all a c
-  cut_at stop ended peer_now old mid new bytes out held all a b c waiting more h k fed e w g = record {
+  cut_at stop ended peer_now old mid new bytes out held all a b c waiting more h k fed e g = record {
     spoken = h.spoken;
     begun = k.begun;
     calls = k.calls;
@@ -181,7 +191,6 @@ module _ {D : Type 0} (made : D → List DeskEntry → D → Type 0) (more_led :
     stops = subst (λ (p : Peer). Stops (cause_of stop) p now k.begun k.calls k.before k.rest k.said) h.peer_is k.stops;
     led = more_led old mid new (entries_of_all h.spoken) (entries_of_calls k.calls) h.led k.led;
     ends_by = e;
-    written = w;
     given = grown_on a b c h.sent out h.given g;
   }
 
@@ -194,8 +203,8 @@ module _ {D : Type 0} (made : D → List DeskEntry → D → Type 0) (more_led :
       let whole : h.sent ++ (more ++ line) ≡ heard_bytes peer now h.spoken ++ (k.said ++ line) =
       ap (λ (all : Bytes). h.sent ++ (all ++ line)) e ∙ ap (λ (all : Bytes). h.sent ++ all) (append_assoc waiting k.said line)
       ∙ both h.sent waiting (k.said ++ line) (heard_bytes peer now h.spoken) h.together in
-      cut_at stop ended peer_now old mid new bytes p.out held all a b c waiting more h k fed p.ends_by
-      (subst (IsWritten ended (h.sent ++ p.out)) whole (written_behind ended h.sent p.out (more ++ line) p.written)) p.given
+      cut_at stop ended peer_now old mid new bytes p.out held all a b c waiting more h k fed
+      (subst (EndsBy (cause_of stop) ended (h.sent ++ p.out)) whole (ends_behind (cause_of stop) ended h.sent p.out (more ++ line) p.ends_by)) p.given
 
   pub cut_halted : (stop : Stop) (ended : Ended) (peer_now : Peer) (old mid new : D) (bytes : Bytes) (held : Held) (all : ℕ) (a b c : Option Bytes) (waiting more : Bytes)
       → Answering made now peer peer_now old mid bytes held.bytes a b waiting → IsHalted stop made now peer_now mid new held waiting more → total held ≡ all
@@ -207,12 +216,12 @@ module _ {D : Type 0} (made : D → List DeskEntry → D → Type 0) (more_led :
   cut_halted stops.NoMemory ended peer_now old mid new bytes held all a b c waiting more h k fed p =
       let front : IsFrontOf (h.sent ++ []) (heard_bytes peer now h.spoken ++ (k.said ++ [])) =
       (waiting ++ (k.said ++ []), append_assoc h.sent [] (waiting ++ (k.said ++ [])) ∙ both h.sent waiting (k.said ++ []) (heard_bytes peer now h.spoken) h.together) in
-      cut_at stops.NoMemory ended peer_now old mid new bytes [] held all a b c waiting more h k fed (inl p.0)
-      (subst (λ (x : Ended). IsWritten x (h.sent ++ []) (heard_bytes peer now h.spoken ++ (k.said ++ []))) (sym p.0) front) (p.1 ∙ sym (grown-nil b))
+      cut_at stops.NoMemory ended peer_now old mid new bytes [] held all a b c waiting more h k fed
+      (inl (p.0, subst (λ (x : Ended). IsWritten x (h.sent ++ []) (heard_bytes peer now h.spoken ++ (k.said ++ []))) (sym p.0) front)) (p.1 ∙ sym (grown-nil b))
 
   -- what waited could not be given whole
   pub cut_given : (fault : GiveFault) (ended : Ended) (peer_now : Peer) (old new : D) (bytes : Bytes) (held : Held) (all : ℕ) (a b c : Option Bytes) (waiting : Bytes)
-      → Answering made now peer peer_now old new bytes held.bytes a b waiting → total held ≡ all → GivesFront b c waiting → ended ≡ end_of fault
+      → Answering made now peer peer_now old new bytes held.bytes a b waiting → total held ≡ all → GivesPart b c waiting → ended ≡ end_of fault
       → IsCut ended made now peer old new bytes all a c
   cut_given fault ended peer_now old new bytes held all a b c waiting h fed k e =
       subst (λ (x : Ended). IsCut x made now peer old new bytes all a c) (sym e) (go fault)
@@ -220,8 +229,8 @@ module _ {D : Type 0} (made : D → List DeskEntry → D → Type 0) (more_led :
       whole : heard_bytes peer now h.spoken ≡ heard_bytes peer now h.spoken ++ ([] ++ [])
       whole = sym (append-nil (heard_bytes peer now h.spoken))
 
-      front : IsFrontOf (h.sent ++ k.0) (heard_bytes peer now h.spoken ++ ([] ++ []))
-      front = (k.1.0, append_assoc h.sent k.0 k.1.0 ∙ ap (λ (bytes : Bytes). h.sent ++ bytes) k.1.1 ∙ h.together ∙ whole)
+      cut : IsCutOff (h.sent ++ k.0) (heard_bytes peer now h.spoken ++ ([] ++ []))
+      cut = subst (IsCutOff (h.sent ++ k.0)) (h.together ∙ whole) (cut_behind h.sent k.0 waiting k.1)
 
       led : made old (entries_of_all h.spoken ++ []) new
       led = subst (λ (es : List DeskEntry). made old es new) (sym (append-nil (entries_of_all h.spoken))) h.led
@@ -244,8 +253,7 @@ module _ {D : Type 0} (made : D → List DeskEntry → D → Type 0) (more_led :
         place = fed;
         stops = (refl, refl, refl);
         led = led;
-        ends_by = inl refl;
-        written = front;
+        ends_by = inl (refl, cut);
         given = grown_on a b c h.sent k.0 h.given k.2;
       }
       go faults.NoMemory = record {
@@ -262,8 +270,7 @@ module _ {D : Type 0} (made : D → List DeskEntry → D → Type 0) (more_led :
         place = fed;
         stops = (refl, refl);
         led = led;
-        ends_by = inl refl;
-        written = front;
+        ends_by = inl (refl, front_of (h.sent ++ k.0) (heard_bytes peer now h.spoken ++ ([] ++ [])) cut);
         given = grown_on a b c h.sent k.0 h.given k.2;
       }
 
@@ -297,7 +304,6 @@ module _ {D : Type 0} (made : D → List DeskEntry → D → Type 0) (more_led :
     place = omega (arith, length-append held.bytes piece);
     stops = (refl, refl);
     led = h;
-    ends_by = inl refl;
-    written = ([], refl);
+    ends_by = inl (refl, ([], refl));
     given = sym (grown-nil a);
   }

@@ -2,7 +2,9 @@ pub mod Asked
 pub mod Carried
 pub mod Connected
 pub mod Gathered
+pub mod Framed
 pub mod GivenBytes
+pub mod Parted
 pub mod Stopped
 pub mod Heard
 pub mod Turned

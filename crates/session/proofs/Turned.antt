@@ -14,8 +14,9 @@ use Rattle.nats_frames.specs.Grammar.{Fronts}
 use Rattle.js_api.specs.Desks.{DeskEntry}
 use Rattle.session.specs.Keeping.{is_ping_due, pinged, ping_bytes}
 use Rattle.session.specs.Peer.{Peer}
-use Rattle.session.specs.Talk.{Spoken, Called, AreSpoken, Stage, start, Turn, Within, Waiting, Told, Nothing, IsUnspent, IsWithin, IsCause, Ends, EndsPinging, IsWritten, IsUnwritten, IsFrontOf, last_line, is_due, greeting, ops_of, heard_bytes, peer_at_end}
+use Rattle.session.specs.Talk.{Spoken, Called, AreSpoken, Stage, start, Turn, Within, Waiting, Told, Nothing, IsUnspent, IsWithin, IsCause, Ends, EndsPinging, EndsBy, IsUnwritten, IsCutOff, last_line, is_due, greeting, ops_of, heard_bytes, peer_at_end}
 use Rattle.session.specs.Hearing.{IsHeard, IsCut, Stops}
+use Rattle.session.proofs.Heard.{front_of}
 use Rattle.session.specs.Turning.{IsTurn, IsLastTurn, IsKept, IsGivenUp, IsUnpinged}
 use Rattle.session.specs.declared.ending.Limits.{Limits}
 use Rattle.session.specs.declared.ending.Ended.{Ended}
@@ -158,8 +159,7 @@ turned_cut made limits session old ended now all piece d d1 a0 a1 a2 g0 g1 g2 c0
         cause = k.cause;
         said = heard ++ k.said;
         is_cause = cut_cause limits session old unspent piece fits now k.spoken k.are_spoken k.cause k.begun k.calls k.before k.rest k.said k.split (k.place ∙ t) k.stops;
-        ends_by = k.ends_by;
-        written = subst (IsWritten ended k.out) (sym (append_assoc heard k.said (last_line k.cause))) k.written;
+        ends_as = subst (EndsBy k.cause ended k.out) (sym (append_assoc heard k.said (last_line k.cause))) k.ends_by;
       };
       answered = same ∙ said;
       moments = reads_one c0 c1 now read;
@@ -221,8 +221,7 @@ module _ {D : Type 0} (made : D → List DeskEntry → D → Type 0) (limits : L
         cause = ends.Stale;
         said = [];
         is_cause = record { moment = now; last_is = refl; unspent = unspent; stale = k.stale; said_is = refl };
-        ends_by = k.parts.ends_by;
-        written = k.parts.written;
+        ends_as = k.parts.ends_by;
       })
       k.parts.given
 
@@ -244,14 +243,19 @@ module _ {D : Type 0} (made : D → List DeskEntry → D → Type 0) (limits : L
       → IsLastTurn made limits session ended old d d a0 a2 g0 g2 c0 c1
   unpinged ended unspent e k = go k.unwritten
     where
-      front : IsFrontOf k.given.0 (frame Ping ++ [])
-      front = (k.given.1.0, k.given.1.1 ∙ whole)
+      cut : IsCutOff k.given.0 (frame Ping ++ [])
+      cut = subst (IsCutOff k.given.0) whole k.given.1
 
       failed : Ends limits (start session) old (greeting limits session) (Waiting now) ends.LinkFault k.given.0
-      failed = record { cause = ends.LinkFault; said = frame Ping; is_cause = inr (inr (inr (pinging unspent e ended k))); ends_by = inl refl; written = front }
+      failed = record { cause = ends.LinkFault; said = frame Ping; is_cause = inr (inr (inr (pinging unspent e ended k))); ends_as = inl (refl, cut) }
 
       starved : Ends limits (start session) old (greeting limits session) (Waiting now) ends.NoMemory k.given.0
-      starved = record { cause = ends.NoMemory; said = frame Ping; is_cause = inr (inr (inr (pinging unspent e ended k))); ends_by = inl refl; written = front }
+      starved = record {
+        cause = ends.NoMemory;
+        said = frame Ping;
+        is_cause = inr (inr (inr (pinging unspent e ended k)));
+        ends_as = inl (refl, front_of k.given.0 (frame Ping ++ []) cut);
+      }
 
       ending : (x : Ended) → ended ≡ x → Ends limits (start session) old (greeting limits session) (Waiting now) x k.given.0 → IsLastTurn made limits session ended old d d a0 a2 g0 g2 c0 c1
       ending x f w = waiting_end ended k.given.0 (subst (λ (y : Ended). Ends limits (start session) old (greeting limits session) (Waiting now) y k.given.0) (sym f) w) k.given.2
@@ -285,19 +289,19 @@ module _ {D : Type 0} (made : D → List DeskEntry → D → Type 0) (limits : L
   pub turned_closed : IsUnspent limits old → a1 ≡ grown a0 (answers.Ended ∷ []) → IsLastTurn made limits session ends.Closed old d d a0 a1 g0 g1 c c
   turned_closed unspent said =
       told_end ends.Closed answers.Ended said
-      (record { cause = ends.Closed; said = []; is_cause = (unspent, record { last_is = refl; said_is = refl }); ends_by = inl refl; written = refl })
+      (record { cause = ends.Closed; said = []; is_cause = (unspent, record { last_is = refl; said_is = refl }); ends_as = (refl, refl) })
 
   pub turned_failed : IsUnspent limits old → a1 ≡ grown a0 (answers.Failed ∷ []) → IsLastTurn made limits session ends.LinkFault old d d a0 a1 g0 g1 c c
   turned_failed unspent said =
       told_end ends.LinkFault answers.Failed said
-      (record { cause = ends.LinkFault; said = []; is_cause = inl (unspent, record { last_is = refl; said_is = refl }); ends_by = inl refl; written = ([], refl) })
+      (record { cause = ends.LinkFault; said = []; is_cause = inl (unspent, record { last_is = refl; said_is = refl }); ends_as = (refl, refl) })
 
   pub turned_starved : a1 ≡ grown a0 [] → IsLastTurn made limits session ends.NoMemory old d d a0 a1 g0 g1 c c
   turned_starved said = record {
     last = Nothing;
     more = [];
     greeted = tt;
-    ends = record { cause = ends.NoMemory; said = []; is_cause = inl (record { last_is = refl; said_is = refl }); ends_by = inl refl; written = ([], refl) };
+    ends = record { cause = ends.NoMemory; said = []; is_cause = inl (record { last_is = refl; said_is = refl }); ends_as = inl (refl, ([], refl)) };
     answered = said;
     moments = refl;
     led = nothing_led;

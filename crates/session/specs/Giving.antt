@@ -2,20 +2,20 @@
 use Rattle.std.specs.Prelude.{◌≡◌, ◌++◌, Result, Ok, Err, Option}
 use Rattle.js_base.specs.Bytes.{Bytes}
 use Rattle.link_edge.specs.Told.{grown}
-use Rattle.session.specs.Talk.{IsFrontOf}
+use Rattle.session.specs.Talk.{IsCutOff}
 use Rattle.session.specs.declared.ending.Ended.{Ended}
 use Rattle.session.specs.declared.ending.Ended.TheVariants as ends
 use Rattle.session.specs.declared.giving.GiveFault.{GiveFault}
 use Rattle.session.specs.declared.giving.GiveFault.TheVariants.{LinkFault, NoMemory}
 
--- a front of the bytes was given
-abbrev pub GivesFront : Option Bytes → Option Bytes → Bytes → Type 0
-GivesFront old new bytes = (out : Bytes) × IsFrontOf out bytes × (new ≡ grown old out)
+-- a front of the bytes was given that lacks one of them or more
+abbrev pub GivesPart : Option Bytes → Option Bytes → Bytes → Type 0
+GivesPart old new bytes = (out : Bytes) × IsCutOff out bytes × (new ≡ grown old out)
 
--- all of the bytes were given, or a front of them
+-- all of the bytes were given, or not all of them
 abbrev pub Gives : {T : Type 0} → Result T GiveFault → Option Bytes → Option Bytes → Bytes → Type 0
 Gives (Ok x) old new bytes = new ≡ grown old bytes
-Gives (Err fault) old new bytes = GivesFront old new bytes
+Gives (Err fault) old new bytes = GivesPart old new bytes
 
 -- the bytes at the front were given, and the others wait
 pub record IsFlushed (given_old given_new : Option Bytes) (old new : Bytes) : Type 0 where
@@ -25,7 +25,7 @@ pub record IsFlushed (given_old given_new : Option Bytes) (old new : Bytes) : Ty
 
 abbrev pub Flushes : {T : Type 0} → Result T GiveFault → Option Bytes → Option Bytes → Bytes → Bytes → Type 0
 Flushes (Ok x) given_old given_new old new = IsFlushed given_old given_new old new
-Flushes (Err fault) given_old given_new old new = GivesFront given_old given_new old
+Flushes (Err fault) given_old given_new old new = GivesPart given_old given_new old
 
 abbrev pub IsLinkFault : {T : Type 0} → Result T GiveFault → Type 0
 IsLinkFault result = result ≡ Err LinkFault

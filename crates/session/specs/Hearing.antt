@@ -8,7 +8,7 @@ use Rattle.nats_frames.specs.Grammar.{Fronts}
 use Rattle.nats_frames.specs.Reading.{op_at, Partial}
 use Rattle.js_api.specs.Desks.{DeskEntry}
 use Rattle.session.specs.Peer.{Peer, peer_after, request, IsRefused as Refuses}
-use Rattle.session.specs.Talk.{Spoken, Called, AreSpoken, AreBegun, IsSlowed, EndsBy, IsWritten, last_line, ops_of, heard_bytes, peer_at_end, entries_of_all, entries_of_calls}
+use Rattle.session.specs.Talk.{Spoken, Called, AreSpoken, AreBegun, IsSlowed, EndsBy, last_line, ops_of, heard_bytes, peer_at_end, entries_of_all, entries_of_calls}
 use Rattle.session.specs.Carrying.{IsCarried}
 use Rattle.session.specs.Parting.{cause_of}
 use Rattle.session.specs.declared.ending.Ended.{Ended}
@@ -99,8 +99,7 @@ pub record IsCut {D : Type 0} (ended : Ended) (made : D → List DeskEntry → D
   pub place : before + length rest ≡ total
   pub stops : Stops cause (peer_at_end peer spoken) now begun calls before rest said
   pub led : made old (entries_of_all spoken ++ entries_of_calls calls) new
-  pub ends_by : EndsBy cause ended
-  pub written : IsWritten ended out (heard_bytes peer now spoken ++ (said ++ last_line cause))
+  pub ends_by : EndsBy cause ended out (heard_bytes peer now spoken ++ (said ++ last_line cause))
   pub given : given_new ≡ grown given_old out
 
 -- what was made of the bytes that were held and the piece, where so many bytes of the input were fed in all

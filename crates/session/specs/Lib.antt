@@ -1,4 +1,5 @@
 pub mod Connecting
+pub mod Host
 pub mod Keeping
 pub mod Peer
 pub mod Talk

@@ -2,17 +2,16 @@
 use Rattle.std.specs.Prelude.{◌≡◌, ◌++◌, true, is_some, Option}
 use Rattle.js_base.specs.Bytes.{Bytes}
 use Rattle.link_edge.specs.Told.{grown}
-use Rattle.session.specs.Talk.{EndsBy, IsWritten, last_line, last_text}
+use Rattle.session.specs.Talk.{EndsBy, last_line, last_text}
 use Rattle.session.specs.declared.ending.Ended.{Ended}
 use Rattle.session.specs.declared.ending.Ended.TheVariants as ends
 use Rattle.session.specs.declared.stop.Stop.{Stop}
 use Rattle.session.specs.declared.stop.Stop.TheVariants.{Refused, Slow, NoMemory}
 
--- the bytes and the error line of the cause were given, or a front of them where that failed
+-- the bytes and the error line of the cause were given, or a front of them that lacks something where that failed
 pub record Parts (cause ended : Ended) (given_old given_new : Option Bytes) (bytes : Bytes) : Type 0 where
   pub out : Bytes
-  pub ends_by : EndsBy cause ended
-  pub written : IsWritten ended out (bytes ++ last_line cause)
+  pub ends_by : EndsBy cause ended out (bytes ++ last_line cause)
   pub given : given_new ≡ grown given_old out
 
 -- the cause of an end that an operation makes

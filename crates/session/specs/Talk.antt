@@ -401,18 +401,28 @@ last_line ended = line_of (last_text ended)
 abbrev pub IsUnwritten : Ended → Type 0
 IsUnwritten ended = (ended ≡ ends.LinkFault) ⊎ (ended ≡ ends.NoMemory)
 
--- the session ends by its cause; but where the writing of the cause's error line fails, by that
-abbrev pub EndsBy : Ended → Ended → Type 0
-EndsBy cause ended = (ended ≡ cause) ⊎ ((is_some (last_text cause) ≡ true) × IsUnwritten ended)
-
 abbrev pub IsFrontOf : Bytes → Bytes → Type 0
 IsFrontOf front whole = (more : Bytes) × (front ++ more ≡ whole)
 
--- all of it was written, or a front of it where a writing failed or memory ran out
+-- a front of the bytes that lacks one of them or more
+abbrev pub IsCutOff : Bytes → Bytes → Type 0
+IsCutOff front whole = (next : ℕ) × (more : Bytes) × (front ++ next ∷ more ≡ whole)
+
+-- all of it was written; where a writing failed, a front that lacks something; where memory ran out, a front
 abbrev pub IsWritten : Ended → Bytes → Bytes → Type 0
-IsWritten ends.LinkFault bytes whole = IsFrontOf bytes whole
+IsWritten ends.LinkFault bytes whole = IsCutOff bytes whole
 IsWritten ends.NoMemory bytes whole = IsFrontOf bytes whole
 IsWritten _ bytes whole = bytes ≡ whole
+
+-- the session ends by its cause; but where the cause's error line could not be written whole, by that
+abbrev pub EndsBy : Ended → Ended → Bytes → Bytes → Type 0
+EndsBy cause ended bytes whole =
+    ((ended ≡ cause) × IsWritten ended bytes whole) ⊎ ((is_some (last_text cause) ≡ true) × IsUnwritten ended × IsCutOff bytes whole)
+
+-- where an answer of the link is the end, nothing is left to write, and no writing fails
+abbrev pub EndsAs : Last → Ended → Ended → Bytes → Bytes → Type 0
+EndsAs (Told answer) cause ended bytes whole = (ended ≡ cause) × (bytes ≡ whole)
+EndsAs last cause ended bytes whole = EndsBy cause ended bytes whole
 
 -- how a session ends behind its whole turns: its cause, what is said in the last turn, and the error line; and which bytes were written of it.
 -- All that the turns before said was written before the link was asked again
@@ -420,8 +430,7 @@ pub record Ends (limits : Limits) (first stage : Stage) (greeting : Bytes) (last
   pub cause : Ended
   pub said : Bytes
   pub is_cause : IsCause limits first stage greeting cause last said
-  pub ends_by : EndsBy cause ended
-  pub written : IsWritten ended bytes (said ++ last_line cause)
+  pub ends_as : EndsAs last cause ended bytes (said ++ last_line cause)
 
 -- ---- the whole
 

@@ -10,7 +10,7 @@ use Rattle.js_api.specs.Desks.{DeskEntry}
 use Rattle.js_api.specs.Calls.{Client}
 use Rattle.session.specs.Keeping.{is_ping_due, is_stale, pinged, ping_bytes}
 use Rattle.session.specs.Talk.{Stage, start, Turn, Last, Greeting, IsWhole, Ends, IsUnwritten, greeting, entries_of_turn, entries_of_last, last_answers, last_moments}
-use Rattle.session.specs.Giving.{GivesFront}
+use Rattle.session.specs.Giving.{GivesPart}
 use Rattle.session.specs.Manners.{peer_of}
 use Rattle.session.specs.Parting.{Parts}
 use Rattle.session.specs.declared.ending.Ended.{Ended}
@@ -50,7 +50,7 @@ pub record IsUnpinged (ended : Ended) (came now : ℕ) (old : List ℕ) (given_o
   pub alive : is_stale old now ≡ false
   pub due : is_ping_due came old now ≡ true
   pub unwritten : IsUnwritten ended
-  pub given : GivesFront given_old given_new (frame Ping)
+  pub given : GivesPart given_old given_new (frame Ping)
 
 abbrev pub Keeps : {T : Type 0} → Result T Ended → ℕ → ℕ → List ℕ → List ℕ → Option Bytes → Option Bytes → Type 0
 Keeps (Ok x) came now old new given_old given_new = IsKept came now old new given_old given_new

@@ -10,7 +10,7 @@ pub struct Limits {
     pub input: u64,
     /// At how many takes in a row that were quiet the session ends.
     pub quiet: u64,
-    /// The server's address, a text that needs no escape.
+    /// The server's address, a text that needs no escape in JSON.
     pub host: Blob,
     pub port: u16,
 }

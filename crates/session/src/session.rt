@@ -3,6 +3,7 @@
 ghost use Rattle.std.specs.Prelude.{◌≡◌, ◌<◌, ◌^◌, true, false, vec_len, IfOk};
 ghost use Rattle.link_edge.specs.Causes.{HasCause};
 ghost use Rattle.js_api.specs.Calls.{new_client};
+ghost use Rattle.session.specs.Host.{is_plain};
 ghost use Rattle.session.specs.Talk.{greeting};
 ghost use Rattle.session.specs.Giving.{Gives, IsLinkFault};
 ghost use Rattle.session.specs.Session.{Converses, Serves};
@@ -87,7 +88,8 @@ fn converse<D: Desk, L: Link, C: Clock>(
     Ended::InputLimit
 }
 
-/// Serves a link over a desk, from the session's opening to its end. At each end the session is closed in the desk.
+/// Serves a link over a desk, from the session's opening to its end. At each end the session is closed in the desk. The host of the limits is a
+/// text that needs no escape in JSON.
 pub fn serve_link<D: Desk, L: Link, C: Clock>(
     alloc: Global,
     desk: &mut D,
@@ -97,6 +99,7 @@ pub fn serve_link<D: Desk, L: Link, C: Clock>(
 ) -> Ended
     requires closed { D.is_open desk.old ≡ false }
     requires input { limits.now.input < 2 ^ 62 }
+    requires host { is_plain limits.now.host ≡ true }
     ensures serves { Serves D.made limits.now desk.old desk.new (L.answered link.old) (L.answered link.new)
         (L.given link.old) (L.given link.new) (C.to_come clock.old) (C.to_come clock.new) result }
     ensures closed { D.is_open desk.new ≡ false }

@@ -1,6 +1,3 @@
-use Rattle.std.proofs.Common.{◌≡◌, ◌-◌, ◌*◌, ◌^◌, ◌<◌, Some, option_map, ap, ◌∙◌}
-use Rattle.js_json.specs.TimeReading.{fraction_at}
-use Rattle.js_json.specs.Civil.{fraction_read}
 use Rattle.js_json.proofs.ReadParts.{no_fraction-read, many_digits-read, no_digits-read, fraction-read, fraction-lt}
 use Rattle.js_json.proofs.time.fraction_at.Goals as goal
 

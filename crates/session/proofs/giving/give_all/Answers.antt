@@ -1,6 +1,6 @@
 use Rattle.std.proofs.Common.{arith, ap, ◌∙◌, take, length}
 use Rattle.link_edge.specs.Told.{grown}
-use Rattle.session.proofs.GivenBytes.{given_more}
+use Rattle.session.proofs.GivenBytes.{given_more, given_part}
 use Rattle.session.proofs.giving.give_all.Goals as goal
 
 pub loop-at-preserved : goal.loop-at-preserved
@@ -15,3 +15,11 @@ loop-at-preserved g c =
       answered = e.answered ∙ i.answered;
       later = omega (arith, e.cause.later, i.later);
     }
+
+pub returns-in-Failed-clause-given : goal.returns-in-Failed-clause-given
+returns-in-Failed-clause-given g c =
+    given_part _ _ _ c.args.bytes.now c.loop-at.at c.loop-at.invariant.given c.in-Failed.ensures.given c.loop-at-test.true
+
+pub returns-in-NoMemory-clause-given : goal.returns-in-NoMemory-clause-given
+returns-in-NoMemory-clause-given g c =
+    given_part _ _ _ c.args.bytes.now c.loop-at.at c.loop-at.invariant.given c.in-NoMemory.ensures.given c.loop-at-test.true

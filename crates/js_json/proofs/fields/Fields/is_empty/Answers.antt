@@ -1,4 +1,3 @@
-use Rattle.std.proofs.Common.{◌∙◌}
 use Rattle.js_json.proofs.Objects.{no_entries}
 use Rattle.js_json.proofs.fields.Fields.is_empty.Goals as goal
 

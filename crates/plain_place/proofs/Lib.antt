@@ -1,0 +1,7 @@
+pub mod PlainLists
+pub mod PlainLimits
+pub mod PlainLoops
+pub mod PlainPlaces
+pub mod PlainEndings
+pub mod PlainDeliveries
+pub mod PlainRanges

@@ -1,0 +1,51 @@
+use Rattle.std.proofs.Common.{◌≡◌, ◌∙◌, ℕ, Option, List, true, length, ap}
+use Rattle.std.specs.List.{fold}
+use Rattle.js_base.specs.declared.out.Out.{Out}
+use Rattle.js_model.specs.Router.{Session, Subscription, Taken}
+use Rattle.route_parts.specs.declared.delivery.Delivery.{Delivery}
+use Rattle.route_parts.specs.Sessions.{is_publisher_open, deaf_of}
+use Rattle.route_parts.specs.Subscriptions.{takers_of}
+use Rattle.route_parts.specs.Deliveries.{deliveries_of, handed_over, counted_once}
+use Rattle.route_parts.proofs.Routing.Places.{lent_back}
+use Rattle.route_parts.proofs.Routing.Handing.{numbered_handed, length-handed}
+use Rattle.route_parts.proofs.Routing.Calls.{publish_refused, publish_routed}
+use Rattle.route_parts.proofs.Routing.Laws.{publish_keeps}
+use Rattle.plain_router.proofs.router.Router.publish.Goals as goal
+
+pub returns-then-not-is_publisher_open-clause-routes : goal.returns-then-not-is_publisher_open-clause-routes
+returns-then-not-is_publisher_open-clause-routes c =
+    let old = c.self.inside in
+    publish_refused old.sessions.items old.subscriptions.items old.latest c.args.self.now c.self.view_is c.args.out.now c.args.from (cc)
+
+handed_lists : (lent sessions : List Session) (list listed : List Delivery) → lent ≡ sessions → list ≡ listed → fold handed_over lent list ≡ fold handed_over sessions listed
+handed_lists lent sessions list listed e f = ap (λ ss. fold handed_over ss list) e ∙ ap (fold handed_over sessions) f
+
+-- the deliveries are those of the router's own lists
+of_the_lists : (list : List Delivery) (sessions asked heard : List Session) (subs listed : List Subscription) (out : Out) (from deaf : Option ℕ)
+    → list ≡ deliveries_of heard out (takers_of out.to deaf listed) → heard ≡ sessions → deaf ≡ deaf_of asked from → asked ≡ sessions → listed ≡ subs
+    → list ≡ deliveries_of sessions out (takers_of out.to (deaf_of sessions from) subs)
+of_the_lists list sessions asked heard subs listed out from deaf e f g h k =
+    e ∙ ap (λ s. deliveries_of s out (takers_of out.to deaf listed)) f ∙ ap (λ d. deliveries_of sessions out (takers_of out.to d listed)) (g ∙ ap (λ s. deaf_of s from) h)
+    ∙ ap (λ bs. deliveries_of sessions out (takers_of out.to (deaf_of sessions from) bs)) k
+
+pub invariant_of-self : goal.invariant_of-self
+invariant_of-self c =
+    let old = c.self.inside in
+    let all = takers_of c.args.out.now.to (deaf_of old.sessions.items c.args.from) old.subscriptions.items in
+    let listed = of_the_lists c.in_ok-list.list.items old.sessions.items c.deref-2.result.now c.deref-3.result.now old.subscriptions.items c.deref-4.result.now c.args.out.now c.args.from c.deaf_of-deaf.result
+    c.in_ok-list.ensures.value c.deref-3.ensures.value c.deaf_of-deaf.ensures.value c.deref-2.ensures.value c.deref-4.ensures.value in
+    let written = lent_back old.sessions.len old.sessions.items _ _ old.sessions.ok.0 (c.hand_over_all.ensures.sessions ∙ handed_lists _ _ _ _ c.deref_mut.ensures.value listed) (length-handed old.sessions.items (deliveries_of old.sessions.items c.args.out.now all)) in
+    rw written (numbered_handed old.sessions.items c.args.out.now old.latest all c.self.invariant)
+
+pub returns : goal.returns
+returns c =
+    let old = c.self.inside in
+    let all = takers_of c.args.out.now.to (deaf_of old.sessions.items c.args.from) old.subscriptions.items in
+    let listed = of_the_lists c.in_ok-list.list.items old.sessions.items c.deref-2.result.now c.deref-3.result.now old.subscriptions.items c.deref-4.result.now c.args.out.now c.args.from c.deaf_of-deaf.result
+    c.in_ok-list.ensures.value c.deref-3.ensures.value c.deaf_of-deaf.ensures.value c.deref-2.ensures.value c.deref-4.ensures.value in
+    let written = lent_back old.sessions.len old.sessions.items _ _ old.sessions.ok.0 (c.hand_over_all.ensures.sessions ∙ handed_lists _ _ _ _ c.deref_mut.ensures.value listed) (length-handed old.sessions.items (deliveries_of old.sessions.items c.args.out.now all)) in
+    let open' : is_publisher_open old.sessions.items c.args.from ≡ true = cc in
+    let routed = publish_routed old.sessions.items old.subscriptions.items old.latest c.args.self.now c.self.view_is c.args.out.now c.args.from c.self.invariant open'
+    _ c.hand_over_all.new.subscriptions.items c.len-count.result written (c.hand_over_all.ensures.subscriptions ∙ ap (fold counted_once old.subscriptions.items) listed)
+    (c.len-count.ensures ∙ c.in_ok-list.list.ok.0 ∙ ap length listed) in
+    record { routes = routed; stay = publish_keeps _ _ c.args.out.now c.args.from (Taken c.len-count.result) routed; err = tt }

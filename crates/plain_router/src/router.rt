@@ -1,0 +1,181 @@
+//! The router: it carries messages between the sessions of one owner, by the NATS client protocol.
+
+ghost use Rattle.std.specs.Prelude.{◌≡◌, ◌<◌, ◌^◌, IfOk, OnErr};
+ghost use Rattle.std.specs.Option.{option_copied};
+ghost use Rattle.js_model.specs.Router.{IsRoute, Open, Close, Options, Sub, Unsub, Publish, Interest, Collect, Done, Listens, empty_router};
+ghost use Rattle.js_model.specs.Routing.{open_told, done_told, publish_told, collected_told, StaysOpen, KeepsOpen, ClosesOne, Opens, waiting_for, LeavesFewer};
+
+mod delivery;
+mod sessions;
+mod subscriptions;
+
+use delivery::{deliveries, hand_over_all};
+use js_base::Out;
+use js_model::{Collected, RouteFault};
+use route_parts::{Session, Subscription};
+use sessions::{
+    add_session, deaf_of, is_open, is_publisher_open, place_of, remove_session, set_options,
+};
+use std::alloc::Global;
+use std::marker::Model;
+use subscriptions::{
+    is_full, is_in_use, is_interest, remove_subscriptions, subscribe, unsubscribe,
+};
+
+/// The first number that no session can have.
+const END: u64 = 1 << 62;
+
+/// The open sessions with what waits for them, and their subscriptions.
+#[derive(Drop, Debug)]
+pub struct Router {
+    /// In the order of their opening.
+    sessions: Vec<Session>,
+    /// In the order of their making.
+    subscriptions: Vec<Subscription>,
+    /// The last number that was given to a session, 0 for none.
+    latest: u64,
+}
+
+impl Model for Router {
+    ghost use Rattle.js_model.specs.Router.{Router as Machine};
+    ghost use Rattle.route_parts.specs.Sessions.{AreNumbered};
+
+    ghost Value = { Machine };
+
+    ghost view = { λ router. record { sessions = router.sessions.items; subscriptions = router.subscriptions.items; latest = router.latest } };
+
+    ghost invariant = { λ router. AreNumbered router.latest router.sessions.items };
+}
+
+impl Router {
+    /// A router without sessions. It takes no memory.
+    pub fn new(alloc: Global) -> Router
+        ensures empty { result ≡ empty_router }
+    {
+        Router {
+            sessions: Vec::new(alloc),
+            subscriptions: Vec::new(alloc),
+            latest: 0,
+        }
+    }
+
+    /// Opens a session, which hears its own messages and takes no header blocks, and answers its number: 1 for the first, and one more each
+    /// time, also after a session was closed. `Worn` comes exactly where that number would be 2^62. An `Err` changes nothing.
+    pub fn open(&mut self) -> Result<u64, RouteFault>
+        ensures routes { IsRoute self.old Open (open_told result) self.new }
+        ensures opens { IfOk result (Opens self.new) }
+        ensures number { IfOk result (λ session. session < 2 ^ 62) }
+        ensures stay { StaysOpen self.old self.new }
+        ensures err { OnErr result (self.new ≡ self.old) }
+    {
+        let number = self.latest + 1;
+        if number == END {
+            return Err(RouteFault::Worn);
+        }
+        add_session(&mut self.sessions, number)?;
+        self.latest = number;
+        Ok(number)
+    }
+
+    /// Closes the session: its subscriptions are gone, and so is what waits for it. It takes no memory.
+    pub fn close(&mut self, session: u64)
+        ensures routes { IsRoute self.old (Close session) Done self.new }
+        ensures closed { ClosesOne session self.old self.new }
+    {
+        remove_session(&mut self.sessions, session);
+        remove_subscriptions(&mut self.subscriptions, session);
+    }
+
+    /// Sets whether the session hears its own messages, and whether it takes header blocks. It takes no memory.
+    pub fn options(&mut self, session: u64, echo: bool, headers: bool)
+        ensures routes { IsRoute self.old (Options session echo headers) Done self.new }
+        ensures stay { KeepsOpen self.old self.new }
+    {
+        set_options(&mut self.sessions, session, echo, headers);
+    }
+
+    /// Subscribes the session to the subjects that match a pattern, under an identifier, and in a queue group where one is named. Where the
+    /// session uses the identifier already, that subscription stays and nothing changes. `NoSession` comes exactly where the session is not
+    /// open, and `TooManySubs` exactly where it has 65,536 subscriptions, none of them under the identifier. An `Err` changes nothing.
+    pub fn sub(
+        &mut self,
+        session: u64,
+        subject: &[u8],
+        queue: Option<&[u8]>,
+        sid: &[u8],
+    ) -> Result<(), RouteFault>
+        ensures routes { IsRoute self.old (Sub session subject.now (option_copied queue.entry) sid.now) (done_told result) self.new }
+        ensures stay { KeepsOpen self.old self.new }
+        ensures err { OnErr result (self.new ≡ self.old) }
+    {
+        if !is_open(&self.sessions, session) {
+            return Err(RouteFault::NoSession(self.latest));
+        }
+        if is_in_use(&self.subscriptions, session, sid) {
+            return Ok(());
+        }
+        if is_full(&self.subscriptions, session) {
+            return Err(RouteFault::TooManySubs);
+        }
+        subscribe(&mut self.subscriptions, session, subject, queue, sid)?;
+        Ok(())
+    }
+
+    /// Ends the session's subscription under an identifier: at once, or once it was sent so many messages since its SUB. Where there is none,
+    /// nothing changes. `NoSession` comes exactly where the session is not open, and changes nothing. It takes no memory.
+    pub fn unsub(&mut self, session: u64, sid: &[u8], max: Option<u64>) -> Result<(), RouteFault>
+        ensures routes { IsRoute self.old (Unsub session sid.now max) (done_told result) self.new }
+        ensures stay { KeepsOpen self.old self.new }
+        ensures err { OnErr result (self.new ≡ self.old) }
+    {
+        if !is_open(&self.sessions, session) {
+            return Err(RouteFault::NoSession(self.latest));
+        }
+        unsubscribe(&mut self.subscriptions, session, sid, max);
+        Ok(())
+    }
+
+    /// Hands a message to each subscription that is in no queue group and whose pattern matches its `to`, and to one of each queue group, and
+    /// answers how many there are. Their sessions find it behind what waits for them, once for each subscription and in the subscriptions'
+    /// order, the groups' last; a session without headers gets the block left off. A session for which more than 16 MiB would wait is
+    /// marked. Where a session publishes, `NoSession` comes exactly where it is not open, and its own subscriptions count only if it hears
+    /// itself. A subscription that was sent its last message ends. An `Err` changes nothing.
+    pub fn publish(&mut self, out: &Out, from: Option<u64>) -> Result<u64, RouteFault>
+        ensures routes { IsRoute self.old (Publish out.now from) (publish_told result) self.new }
+        ensures stay { KeepsOpen self.old self.new }
+        ensures err { OnErr result (self.new ≡ self.old) }
+    {
+        if !is_publisher_open(&self.sessions, from) {
+            return Err(RouteFault::NoSession(self.latest));
+        }
+        let alloc = *self.sessions.allocator();
+        let deaf = deaf_of(&self.sessions, from);
+        let list = deliveries(alloc, &self.sessions, &self.subscriptions, out, deaf)?;
+        let count = list.len() as u64;
+        hand_over_all(&mut self.sessions, &mut self.subscriptions, list);
+        Ok(count)
+    }
+
+    /// Whether some subscription matches the subject: any, or one of a queue group where one is named. It takes no memory.
+    pub fn interest(&self, subject: &[u8], group: Option<&[u8]>) -> bool
+        ensures routes { IsRoute self.now (Interest subject.now (option_copied group.entry)) (Listens result) self.now }
+    {
+        is_interest(&self.subscriptions, subject, group)
+    }
+
+    /// Takes frames that wait for the session, the first ones that have at most `max` bytes together, but one where any waits, and tells
+    /// whether more wait. `Slow` comes exactly where the session is marked, with how many bytes would have waited; the session stays marked.
+    /// `NoSession` comes exactly where the session is not open. An `Err` changes nothing.
+    pub fn collect(&mut self, session: u64, max: usize) -> Result<Collected, RouteFault>
+        ensures routes { IsRoute self.old (Collect session max) (collected_told result) self.new }
+        ensures left { LeavesFewer result (waiting_for self.old session) (waiting_for self.new session) }
+        ensures stay { KeepsOpen self.old self.new }
+        ensures err { OnErr result (self.new ≡ self.old) }
+    {
+        let Some(at) = place_of(&self.sessions, session) else {
+            return Err(RouteFault::NoSession(self.latest));
+        };
+        let session = &mut self.sessions[at];
+        Ok(session.collect(max)?)
+    }
+}

@@ -1,0 +1,5 @@
+pub mod Naming
+pub mod Entries
+pub mod Tables
+pub mod Taking
+pub mod Searching

@@ -1,0 +1,37 @@
+//! What a message becomes for a subscription.
+
+ghost use Rattle.std.specs.Prelude.{◌≡◌, IfOk};
+ghost use Rattle.route_parts.specs.Deliveries.{delivery_with};
+
+use crate::frame::MeasuredFrame;
+use crate::parcel::Parcel;
+use crate::subscription::Subscription;
+use js_base::{Blob, NoMemory, Out};
+use std::alloc::Global;
+
+/// A message for a subscription: its session, its identifier, and the frame.
+#[derive(Drop, Debug)]
+pub struct Delivery {
+    pub session: u64,
+    pub sid: Blob,
+    pub frame: Parcel,
+}
+
+impl Delivery {
+    /// The message for a subscription, whose client takes header blocks or none. All memory that handing it over needs is taken here.
+    pub fn of(
+        alloc: Global,
+        out: &Out,
+        sub: &Subscription,
+        headers: bool,
+    ) -> Result<Delivery, NoMemory>
+        ensures value { IfOk result (λ delivery. delivery ≡ delivery_with headers out.now sub.now) }
+    {
+        let frame = MeasuredFrame::message(out, sub.sid(), headers)?;
+        Ok(Delivery {
+            session: sub.session(),
+            sid: sub.sid().clone()?,
+            frame: Parcel::of(alloc, frame)?,
+        })
+    }
+}
