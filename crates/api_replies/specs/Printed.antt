@@ -1,0 +1,29 @@
+-- Which texts a reply shows that are not the server's own: each is UTF-8.
+use Rattle.std.specs.Prelude.{IsUtf8}
+use Rattle.std.specs.List.{All}
+use Rattle.js_model.specs.declared.stream_config.StreamConfig.{StreamConfig}
+use Rattle.js_model.specs.declared.reply.StreamInfo.{StreamInfo}
+use Rattle.api_replies.specs.declared.reply.ApiReply.{ApiReply}
+use Rattle.api_replies.specs.declared.reply.ApiReply.TheVariants as replies
+
+pub record ConfigIsText (c : StreamConfig) : Type 0 where
+  pub description : IsUtf8 c.description
+  pub name : IsUtf8 c.name
+  pub subjects : All IsUtf8 c.subjects
+
+abbrev pub InfoIsText : StreamInfo → Type 0
+InfoIsText info = ConfigIsText info.config
+
+abbrev pub IsText : ApiReply → Type 0
+IsText (replies.AccountInfo consumers storage streams) = Unit {0}
+IsText (replies.StreamCreate info) = InfoIsText info
+IsText (replies.StreamUpdate info) = InfoIsText info
+IsText (replies.StreamInfo info) = InfoIsText info
+IsText replies.StreamDelete = Unit {0}
+IsText (replies.StreamPurge purged) = Unit {0}
+IsText (replies.StreamNames offset streams total) = All IsUtf8 streams
+IsText (replies.StreamList offset streams total) = All InfoIsText streams
+IsText replies.StreamMsgDelete = Unit {0}
+IsText replies.ConsumerDelete = Unit {0}
+IsText (replies.ConsumerNames consumers offset total) = All IsUtf8 consumers
+IsText (replies.Refused name e) = IsUtf8 name × IsUtf8 e.text

@@ -1,0 +1,13 @@
+//! The replies of the JetStream API on streams, and their texts.
+#![tactic(auto)]
+
+mod config;
+mod object;
+mod printing;
+mod reply;
+mod stream_info;
+#[cfg(test)]
+mod tests;
+
+pub use printing::reply_text;
+pub use reply::ApiReply;

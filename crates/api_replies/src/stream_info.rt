@@ -1,0 +1,95 @@
+//! A stream's information as it is shown.
+
+ghost use Rattle.std.specs.Prelude.{◌≡◌, ◌<◌, ◌^◌, OnOk, IfOk, IsUtf8};
+ghost use Rattle.std.specs.List.{All};
+ghost use Rattle.serde_json.specs.Data.{object, string, put as with_member};
+ghost use Rattle.serde_json.specs.View.{items_view};
+ghost use Rattle.js_json.specs.Times.{time_text};
+ghost use Rattle.api_replies.specs.Shown.{shown};
+ghost use Rattle.api_replies.specs.Parts.{with_all};
+ghost use Rattle.api_replies.specs.Infos.{time_shown, ends_of, state_data, info_members, infos};
+ghost use Rattle.api_replies.specs.Printed.{InfoIsText};
+
+use crate::config::config_object;
+use crate::object::Object;
+use js_base::{Moment, NoMemory};
+use js_json::time_text;
+use js_model::StreamInfo;
+use serde_json::Value;
+use std::alloc::Global;
+
+/// Adds a moment.
+fn put_time(alloc: Global, into: &mut Object, key: &str, at: Moment) -> Result<(), NoMemory>
+    ensures ok { OnOk result (shown into.new ≡ with_member key.now (string (time_text at)) (shown into.old)) }
+{
+    js_json::laws::law_time_text();
+    // that a moment is in its range is what the proof takes from this call
+    let _ = at.as_nanos();
+    let text = time_text(alloc, at)?;
+    into.text(key, text.as_slice())
+}
+
+/// Adds a moment, or the text for none.
+fn put_time_shown(
+    alloc: Global,
+    into: &mut Object,
+    key: &str,
+    at: Option<Moment>,
+) -> Result<(), NoMemory>
+    ensures ok { OnOk result (shown into.new ≡ with_member key.now (string (time_shown at)) (shown into.old)) }
+{
+    match at {
+        Some(at) => put_time(alloc, into, key, at),
+        None => into.text(key, b"0001-01-01T00:00:00Z"),
+    }
+}
+
+/// Adds the first and the last sequence, and their moments.
+fn put_ends(alloc: Global, into: &mut Object, info: &StreamInfo) -> Result<(), NoMemory>
+    ensures ok { OnOk result (shown into.new ≡ with_all (ends_of info.now) (shown into.old)) }
+{
+    into.number("first_seq", info.first_seq)?;
+    put_time_shown(alloc, into, "first_ts", info.first_at)?;
+    into.number("last_seq", info.last_seq)?;
+    put_time_shown(alloc, into, "last_ts", info.last_at)
+}
+
+/// What the stream holds.
+#[tactic(auto, unfolding(crate::specs::Infos::state_data))]
+fn state_object(alloc: Global, info: &StreamInfo) -> Result<Object, NoMemory>
+    ensures value { IfOk result (λ made. object (shown made) ≡ state_data info.now) }
+{
+    let mut made = Object::new(alloc);
+    made.number("bytes", info.bytes)?;
+    made.number("consumer_count", info.consumers)?;
+    put_ends(alloc, &mut made, info)?;
+    made.number("messages", info.messages)?;
+    Ok(made)
+}
+
+/// The information as it is shown, without its kind.
+#[tactic(auto, unfolding(crate::specs::Infos::info_members))]
+pub(crate) fn info_object(alloc: Global, info: &StreamInfo) -> Result<Object, NoMemory>
+    requires texts { InfoIsText info.now }
+    ensures value { IfOk result (λ made. shown made ≡ info_members info.now) }
+{
+    let mut made = Object::new(alloc);
+    let config = config_object(alloc, &info.config)?;
+    made.part("config", config)?;
+    put_time(alloc, &mut made, "created", info.made)?;
+    let state = state_object(alloc, info)?;
+    made.part("state", state)?;
+    Ok(made)
+}
+
+/// The informations as values.
+pub(crate) fn info_values(alloc: Global, list: &[StreamInfo]) -> Result<Vec<Value>, NoMemory>
+    requires texts { All InfoIsText list.now }
+    ensures values { IfOk result (λ values. items_view values.items ≡ infos list.now) }
+{
+    let mut values = Vec::new(alloc);
+    for info in list {
+        values.push(info_object(alloc, info)?.into_value())?;
+    }
+    Ok(values)
+}

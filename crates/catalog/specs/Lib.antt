@@ -1,0 +1,5 @@
+pub mod Numbers
+pub mod Names
+pub mod Entries
+pub mod Apart
+pub mod Holding

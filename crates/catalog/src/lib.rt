@@ -1,0 +1,12 @@
+//! The catalog: which place holds which stream, by name and by subjects.
+#![tactic(auto)]
+
+mod catalog;
+mod entry;
+mod listing;
+mod names;
+
+pub use catalog::Catalog;
+
+#[cfg(test)]
+mod tests;

@@ -1,0 +1,5 @@
+pub mod PlainStreams
+pub mod Places
+pub mod Sizes
+pub mod Steps
+pub mod Literals

@@ -1,0 +1,15 @@
+use Rattle.js_model.specs.declared.stream.State.TheVariants.{Vacant}
+use Rattle.js_model.specs.declared.event.What.TheVariants.{Drop}
+use Rattle.js_model.specs.declared.reply.Reply.TheVariants.{Done}
+use Rattle.place_engine.proofs.Places.{drops_nothing, there}
+use Rattle.place_engine.proofs.slot.Slot.drop_stream.Goals as goal
+
+pub returns-in_ok-no_stream-in-Nothing-clause-answers :
+    goal.returns-in_ok-no_stream-in-Nothing-clause-answers
+returns-in_ok-no_stream-in-Nothing-clause-answers c = λ subject. λ now.
+    rw (← c.self.view_is, c.in-Nothing.is, c.in_ok-no_stream-in-Nothing.ensures.value) (drops_nothing c.in-Nothing.field-0 subject now)
+
+pub returns-in-Stream-clause-answers : goal.returns-in-Stream-clause-answers
+returns-in-Stream-clause-answers c = λ subject. λ now.
+    rw (← c.self.view_is, c.in-Stream.is)
+    (there c.in-Stream.stream (Drop subject) now Done (Vacant c.dropped-last.result) (c.dropped-last.ensures.answers subject now))

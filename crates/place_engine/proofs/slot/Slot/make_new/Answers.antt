@@ -1,0 +1,13 @@
+use Rattle.place_engine.proofs.Places.{makes, makes_none}
+use Rattle.place_engine.proofs.slot.Slot.make_new.Goals as goal
+
+pub returns-then-incarnation-eq-NUMBERS_END-clause-answers :
+    goal.returns-then-incarnation-eq-NUMBERS_END-clause-answers
+returns-then-incarnation-eq-NUMBERS_END-clause-answers c = λ subject. λ incarnation.
+    rw c.in_ok-numbers_used_up.ensures.value
+    (makes_none c.args.self.now subject c.args.config.now c.args.now c.requires.vacant (rw c.incarnation-incarnation.ensures.value at c.if-incarnation-eq-NUMBERS_END.true) incarnation)
+
+pub returns-clause-answers : goal.returns-clause-answers
+returns-clause-answers c = λ subject. λ incarnation.
+    rw (c.in_ok-info.ensures.value, c.in_ok-stream.ensures.made, c.incarnation-incarnation.ensures.value)
+    (makes c.args.self.now subject c.args.config.now c.args.now c.requires.vacant c.requires.plain (rw c.incarnation-incarnation.ensures.value at c.if-incarnation-eq-NUMBERS_END.false) incarnation)

@@ -1,0 +1,17 @@
+use Rattle.js_model.specs.declared.stream.State.TheVariants.{Live}
+use Rattle.js_model.specs.declared.event.What.TheVariants.{Tick}
+use Rattle.js_model.specs.declared.reply.Reply.TheVariants.{Silent}
+use Rattle.place_engine.proofs.Places.{ticks_nowhere, there}
+use Rattle.place_engine.proofs.slot.Slot.tick.Goals.{in-Nothing, in-Stream}
+use Rattle.place_engine.proofs.slot.Slot.tick.Goals as goal
+
+pub returns : goal.returns
+returns c = record {
+  answers =
+      elim c.match-self.branch [
+        | in-Nothing w ↦ rw (w.self-inside-is, ← c.self.view_is, w.in-Nothing.is) (ticks_nowhere w.in-Nothing.field-0 c.args.now)
+        | in-Stream w ↦
+            rw (w.self-inside-is, ← c.self.view_is, w.in-Stream.is)
+            (there w.in-Stream.stream Tick c.args.now Silent (Live w.tick.new.self) w.tick.ensures.answers)
+      ];
+}

@@ -1,0 +1,7 @@
+pub mod PlainConfigs
+pub mod PlainPublishes
+pub mod PlainStreams
+pub mod Stored
+pub mod Answers
+pub mod Held
+pub mod Places

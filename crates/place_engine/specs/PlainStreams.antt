@@ -1,0 +1,27 @@
+-- Streams of such configurations, without consumers and ids.
+use Rattle.std.specs.Prelude.{◌≡◌, ℕ, ◌^◌, ◌<◌, ◌≤◌, List, [], length}
+use Rattle.js_model.specs.declared.stream_config.StreamConfig.{StreamConfig}
+use Rattle.js_model.specs.declared.stream.Message.{Message}
+use Rattle.js_model.specs.declared.stream.Stream.{Stream}
+use Rattle.place_engine.specs.PlainConfigs.{IsPlainConfig}
+
+abbrev pub plain_stream : ℕ → ℕ → StreamConfig → List Message → ℕ → ℕ → Stream
+plain_stream incarnation made config messages last moment = record {
+  incarnation = incarnation;
+  made = made;
+  config = config;
+  messages = messages;
+  last = last;
+  moment = moment;
+  ids = [];
+  consumers = [];
+}
+
+-- its numbers are in their ranges, and it has no more messages than a stream may have
+pub record IsPlainStream (s : Stream) : Type 0 where
+  pub config : IsPlainConfig s.config
+  pub ids : s.ids ≡ []
+  pub consumers : s.consumers ≡ []
+  pub incarnation : s.incarnation < 2 ^ 62
+  pub last : s.last < 2 ^ 62
+  pub messages : length s.messages ≤ 2 ^ 24
