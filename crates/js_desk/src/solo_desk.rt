@@ -15,13 +15,13 @@ ghost use Rattle.js_desk.specs.Solo.{SoloRun, frames_left, IsMade};
 use crate::holding::{HoldFault, hold};
 use crate::place::Place;
 use crate::untaken::tell_untaken;
+use catalog::Catalog;
 use js_api::{Desk, OpenFault, SubFault};
 use js_base::{Blob, List, Moment, Name, NoMemory, Out};
 use js_model::{
     CatalogFault, Collected, Discard, Event, PlaceAt, Publish, Retention, RouteFault, StreamConfig,
     Taken, Wants, What,
 };
-use plain_catalog::PlainCatalog;
 use route_core::Router;
 use std::alloc::Global;
 use std::marker::Model;
@@ -46,7 +46,7 @@ const NOBODY: Taken = Taken {
 pub struct SoloDesk {
     alloc: Global,
     router: Router,
-    catalog: PlainCatalog,
+    catalog: Catalog,
     place: Place,
     session: Option<u64>,
     /// Whether the session's client is told where nobody took its message.
@@ -135,7 +135,7 @@ impl SoloDesk {
         ensures made { IfOk result (IsMade name subject now) }
     {
         let mut router = Router::new(alloc);
-        let mut catalog = PlainCatalog::new(alloc, PLACES)?;
+        let mut catalog = Catalog::new(alloc, PLACES)?;
         let mut place = Place::new(alloc);
         let _ = catalog.by_name(&name);
         let at = add(alloc, &mut catalog, &name, &subject)?;
@@ -157,7 +157,7 @@ impl SoloDesk {
 /// Takes a place for a stream of this name and this one subject.
 fn add(
     alloc: Global,
-    catalog: &mut PlainCatalog,
+    catalog: &mut Catalog,
     name: &Name,
     subject: &Blob,
 ) -> Result<PlaceAt, NoMemory>

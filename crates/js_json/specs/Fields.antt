@@ -1,8 +1,8 @@
 -- What is found in a field of an object: None where the field is absent or null, its value where it has the type and the range, and else that
 -- this field is wrong.
-use Rattle.std.specs.Prelude.{ℕ, ℤ, List, Bool, false, Option, Some, None, option_and_then, option_map, unwrap_or, Result, Ok, Err}
+use Rattle.std.specs.Prelude.{ℕ, ℤ, List, Bool, false, Option, Some, None, is_some, option_and_then, option_map, unwrap_or, Result, Ok, Err}
 use Rattle.serde_json.specs.Data.{Data, null, boolean, number, string, array, object, Members}
-use Rattle.serde_json.specs.Find.{get_member, as_bool, as_str, as_object}
+use Rattle.serde_json.specs.Find.{get_member, as_bool, as_number, as_str, as_object}
 use Rattle.js_base.specs.Bytes.{Bytes}
 use Rattle.js_json.specs.Kinds.{as_whole, as_wholes, as_texts, as_time, is_something}
 use Rattle.js_json.specs.declared.fault.JsonFault.{JsonFault}
@@ -57,6 +57,13 @@ time_in name members = taken as_time name (field name members)
 -- an object
 unfoldable pub part_in : Bytes → Members → Result (Option Members) JsonFault
 part_in name members = taken as_object name (field name members)
+
+abbrev pub is_some_number : Data → Bool
+is_some_number value = is_some (as_number value)
+
+-- whether the field is a number of any kind, an integer or not
+unfoldable pub is_number : Bytes → Members → Bool
+is_number name members = unwrap_or (option_map is_some_number (get_member name members)) false
 
 -- whether the field says something: it is there and not null, no empty text and no empty list
 unfoldable pub is_given : Bytes → Members → Bool

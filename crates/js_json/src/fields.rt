@@ -7,7 +7,7 @@ ghost use Rattle.serde_json.specs.Find.{as_object, get_member};
 ghost use Rattle.serde_json.specs.View.{view};
 ghost use Rattle.js_json.specs.Objects.{object_of};
 ghost use Rattle.js_json.specs.Kinds.{FitsWord};
-ghost use Rattle.js_json.specs.Fields.{field, flag_in, number_in, numbers_in, text_in, texts_in, time_in, part_in, is_given, or_bad};
+ghost use Rattle.js_json.specs.Fields.{field, flag_in, number_in, numbers_in, text_in, texts_in, time_in, part_in, is_number, is_given, or_bad};
 ghost use Rattle.js_json.specs.Members.{members};
 ghost use Rattle.js_json.specs.Answers.{ReadsObject, Tells, Copies, part_seen, IsWrong};
 ghost use Rattle.js_json.specs.declared.fault.JsonFault.TheVariants.{NoMemory as OutOfMemory};
@@ -135,6 +135,18 @@ impl Fields {
             Some(value) if value.is_object() => Ok(fields_of(self.alloc, value.clone()?)),
             Some(_) => Err(self.wrong(name)),
             None => Ok(None),
+        }
+    }
+
+    /// Whether the field is a number of any kind: also one with a fraction or an exponent, one that fits no 64 bits, and `-0`, which are all
+    /// no integer.
+    #[tactic(auto, unfolding(crate::specs::Fields::is_number))]
+    pub fn is_number(&self, name: &str) -> bool
+        ensures value { result ≡ is_number name.now (members self.now) }
+    {
+        match self.member(name) {
+            Some(value) => value.is_number(),
+            None => false,
         }
     }
 

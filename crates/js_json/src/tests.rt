@@ -307,6 +307,30 @@ fn given_fields_say_something(rt: HostRuntime) -> Result<(), Fail> {
 }
 
 #[test]
+fn numbers_of_any_kind_are_numbers(rt: HostRuntime) -> Result<(), Fail> {
+    for (value, is_number) in [
+        ("1", true),
+        ("-0", true),
+        ("1.5", true),
+        ("1e3", true),
+        ("18446744073709551616", true),
+        ("null", false),
+        ("true", false),
+        ("\"1\"", false),
+        ("[1,\"a\"]", false),
+        ("{}", false),
+    ] {
+        assert_eq!(rt;
+            with_value(rt.alloc(), value)?.is_number("f"),
+            is_number,
+            "{value}"
+        );
+    }
+    assert!(rt; !with_value(rt.alloc(), "1")?.is_number("g"));
+    Ok(())
+}
+
+#[test]
 fn times_are_read(rt: HostRuntime) -> Result<(), Fail> {
     let alloc = rt.alloc();
     for (text, seconds) in times() {

@@ -1,4 +1,4 @@
--- The refusals of a place and of the catalog, as JetStream's API errors: code, number and text. Codes, numbers and texts are this server's own.
+-- The refusals of requests, of a place and of the catalog, as JetStream's API errors: code, number and text. Codes, numbers and texts are this server's own.
 use Rattle.std.specs.Prelude.{ℕ, ◌++◌, Bool, List, [], ◌∷◌, Option, Some, None, codes, decimal, if◌then◌else◌}
 use Rattle.js_base.specs.Bytes.{Bytes}
 use Rattle.js_base.specs.declared.out.ApiError.{ApiError}
@@ -14,6 +14,24 @@ Check = Bool × ApiError
 abbrev pub first_refusal : List Check → Option ApiError
 first_refusal [] = None
 first_refusal (check ∷ checks) = if check.0 then Some check.1 else first_refusal checks
+
+-- ---- requests and configurations
+
+-- the body is no JSON object where one is needed
+abbrev pub invalid_json : ApiError
+invalid_json = refusal 400 10025 (codes "invalid JSON")
+
+-- a field, or the name in the subject, has a wrong type or is out of its range
+abbrev pub invalid_value : Bytes → ApiError
+invalid_value field = refusal 400 20001 (codes "invalid value: " ++ field)
+
+-- a field asks for what this server leaves out
+abbrev pub not_supported : Bytes → ApiError
+not_supported field = refusal 400 20002 (codes "not supported: " ++ field)
+
+-- the name in the body is another one than that in the subject
+abbrev pub name_mismatch : ApiError
+name_mismatch = refusal 400 20022 (codes "name mismatch")
 
 -- ---- streams
 

@@ -1,4 +1,4 @@
-//! The refusals of a stream and of the catalog.
+//! The refusals of requests, of a stream and of the catalog.
 
 ghost use Rattle.std.specs.Prelude.{◌≡◌, ◌++◌, IfOk, codes};
 ghost use Rattle.js_model.specs.Refusals as refusals;
@@ -14,6 +14,48 @@ fn refusal(alloc: Global, code: u16, err_code: u32, text: &[u8]) -> Result<ApiEr
         err_code,
         text: Blob::of(alloc, text)?,
     })
+}
+
+/// A refusal whose text ends with the name of a field or of a header.
+fn named_refusal(
+    alloc: Global,
+    err_code: u32,
+    text: &[u8],
+    name: &[u8],
+) -> Result<ApiError, NoMemory>
+    ensures value { IfOk result (λ error. error ≡ refusals.refusal 400 err_code (text.now ++ name.now)) }
+{
+    let mut whole = Vec::from_slice(alloc, text)?;
+    whole.extend_from_slice(name)?;
+    refusal(alloc, 400, err_code, whole.as_slice())
+}
+
+/// The body is no JSON object where one is needed.
+pub fn invalid_json(alloc: Global) -> Result<ApiError, NoMemory>
+    ensures value { IfOk result (λ error. error ≡ refusals.invalid_json) }
+{
+    refusal(alloc, 400, 10025, b"invalid JSON")
+}
+
+/// The field, or the name in the subject, has a wrong type or is out of its range.
+pub fn invalid_value(alloc: Global, field: &[u8]) -> Result<ApiError, NoMemory>
+    ensures value { IfOk result (λ error. error ≡ refusals.invalid_value field.now) }
+{
+    named_refusal(alloc, 20001, b"invalid value: ", field)
+}
+
+/// The field asks for what this server leaves out.
+pub fn not_supported(alloc: Global, field: &[u8]) -> Result<ApiError, NoMemory>
+    ensures value { IfOk result (λ error. error ≡ refusals.not_supported field.now) }
+{
+    named_refusal(alloc, 20002, b"not supported: ", field)
+}
+
+/// The name in the body is another one than that in the subject.
+pub fn name_mismatch(alloc: Global) -> Result<ApiError, NoMemory>
+    ensures value { IfOk result (λ error. error ≡ refusals.name_mismatch) }
+{
+    refusal(alloc, 400, 20022, b"name mismatch")
 }
 
 /// No message is stored under the sequence.
@@ -91,9 +133,7 @@ pub fn max_bytes_exceeded(alloc: Global) -> Result<ApiError, NoMemory>
 pub fn bad_header_number(alloc: Global, header: &[u8]) -> Result<ApiError, NoMemory>
     ensures value { IfOk result (λ error. error ≡ refusals.bad_header_number header.now) }
 {
-    let mut text = Vec::from_slice(alloc, b"invalid header number: ")?;
-    text.extend_from_slice(header)?;
-    refusal(alloc, 400, 20021, text.as_slice())
+    named_refusal(alloc, 20021, b"invalid header number: ", header)
 }
 
 /// No sequence below 2^62 is left.
@@ -107,9 +147,7 @@ pub fn numbers_used_up(alloc: Global) -> Result<ApiError, NoMemory>
 pub fn work_queue_rule(alloc: Global, field: &[u8]) -> Result<ApiError, NoMemory>
     ensures value { IfOk result (λ error. error ≡ refusals.work_queue_rule field.now) }
 {
-    let mut text = Vec::from_slice(alloc, b"work queue rule: ")?;
-    text.extend_from_slice(field)?;
-    refusal(alloc, 400, 20004, text.as_slice())
+    named_refusal(alloc, 20004, b"work queue rule: ", field)
 }
 
 /// More sequences would be picked out for a new consumer than there may be.

@@ -43,10 +43,10 @@ fn take(
     ensures takes { Takes result before (kept ready.old ++ front.old) front.new }
     ensures none { ready.new ≡ None }
 {
-    match ready.take() {
-        Some(ready) => Ok(Some(ready)),
-        None => front.take(before),
+    if ready.is_some() {
+        return Ok(ready.take());
     }
+    front.take(before)
 }
 
 /// The operation whose bytes these are. They come back where memory is short.

@@ -3,3 +3,4 @@ pub mod Entries
 pub mod Tables
 pub mod Taking
 pub mod Searching
+pub mod Groups

@@ -1,7 +1,7 @@
 -- What a change under one identifier means under all, and in one session means in all.
-use Rattle.std.proofs.Common.{◌≡◌, ℕ, ◌+◌, ◌==◌, ◌&&◌, Bool, true, false, cond, List, Option, Some, None, length, refl, sym, ap, ◌∙◌, arith}
+use Rattle.std.proofs.Common.{◌≡◌, ℕ, ◌+◌, ◌==◌, ◌&&◌, Bool, true, false, cond, List, Option, Some, None, refl, sym, ap, ◌∙◌, arith}
 use Rattle.std.specs.Prelude.{IfNone}
-use Rattle.std.specs.Ordering.{nat_cmp, is_eq, eq_by_cmp}
+use Rattle.std.specs.Ordering.{nat_cmp, is_eq}
 use Rattle.std.specs.Cmp.{eq_by_cmp_equiv}
 use Rattle.std.specs.Cmp.Lexicographic.{slice_cmp, nat_list_cmp_total, nat_list_eq_equiv}
 use Rattle.std.specs.Map.{lookup, IsKeyTest, AreApart, KeepsOthers}
@@ -13,7 +13,7 @@ use Rattle.js_base.proofs.Meeting.{same_is}
 use Rattle.route_index.proofs.Numbers.{at_number}
 use Rattle.route_core.specs.declared.identifiers.Identifiers.{Identifiers}
 use Rattle.route_core.specs.declared.names.Names.{Names}
-use Rattle.route_core.specs.Names.{number_in, count_in, Sets, PutsIn, RemovesIn, RemovesSome, KeepsIn, number_or_none, count_or_zero, number_of, count_of, AddsName, DropsName, DropsSome, KeepsNames}
+use Rattle.route_core.specs.Names.{number_in, Sets, PutsIn, RemovesIn, RemovesSome, KeepsIn, number_or_none, count_or_zero, number_of, count_of, AddsName, DropsName, DropsSome, KeepsNames}
 
 -- ---- under one identifier
 

@@ -18,11 +18,13 @@ use Rattle.js_model.specs.Router.{Subscription, is_sub, is_match, is_plain, limi
 use Rattle.js_model.proofs.Named.{some_is, none_some}
 use Rattle.route_index.specs.declared.sub.Sub.{Sub}
 use Rattle.route_index.specs.Subs.{id_of, is_match as index_match, matching_ids, IsAbove, without}
-use Rattle.route_parts.specs.Subscriptions.{is_number, hears, are_together, is_plain_taker, plain_takers, is_group_taker, passing, group_takers, takers_of}
+use Rattle.route_parts.specs.Subscriptions.{is_number, hears, are_together, plain_takers, is_group_taker, passing, takers_of}
+use Rattle.route_parts.proofs.Routing.Takers.{plain_are}
+use Rattle.route_core.specs.Heard.{heard_some, is_first_of_group, first_of_groups}
 use Rattle.route_core.specs.declared.names.Names.{Names}
 use Rattle.route_core.specs.Names.{number_of, count_of, KeepsNames, AddsName, DropsName}
-use Rattle.route_core.specs.Table.{Numbered, at_number, indexed, IsNamed, is_of, AreBelow, Holds}
-use Rattle.route_core.proofs.Entries.{at, at_is, at_self, at_same, each_entry, below_more, below_added, none_above, below_removed, removed, count_removed, changed, on_value, set_is_changed, none_changed, keys-changed, values-changed, below_changed, changed_option, lookup-changed, map-changed, count-changed}
+use Rattle.route_core.specs.Table.{Numbered, at_number, indexed, is_sub_some, is_of, AreBelow, AreNamed, Holds}
+use Rattle.route_core.proofs.Entries.{at, at_is, at_self, at_same, each_entry, below_added, none_above, below_removed, removed, count_removed, changed, set_is_changed, none_changed, keys-changed, values-changed, below_changed, changed_option, lookup-changed, map-changed, count-changed}
 
 abbrev pub subs_of : Numbered → List Subscription
 subs_of es = values_of es
@@ -33,8 +35,8 @@ pub record Found (es : Numbered) (n : ℕ) (sid : Bytes) (id : ℕ) : Type 0 whe
   pub found : at_number es id ≡ Some sub
   pub is : is_sub n sid sub ≡ true
 
-found_sub : (es : Numbered) (n : ℕ) (sid : Bytes) (id : ℕ) (o : Option Subscription) → at_number es id ≡ o → IsNamed o n sid → Found es n sid id
-found_sub es n sid id None e h = absurd h
+found_sub : (es : Numbered) (n : ℕ) (sid : Bytes) (id : ℕ) (o : Option Subscription) → at_number es id ≡ o → is_sub_some n sid o ≡ true → Found es n sid id
+found_sub es n sid id None e h = absurd (true≢false (sym h))
 found_sub es n sid id (Some x) e h = record { sub = x; found = e; is = h }
 
 session_is : (n : ℕ) (sid : Bytes) (x : Subscription) → is_sub n sid x ≡ true → x.session ≡ n
@@ -49,6 +51,18 @@ names_alike m n t sid e f = ap (λ b. b && same t sid) (eq-eqb m n e) ∙ ap (sa
 
 same_name : (m n : ℕ) (t sid : Bytes) → (m == n && same t sid) ≡ true → (m ≡ n) × (t ≡ sid)
 same_name m n t sid h = let parts = and_parts (m == n) (same t sid) h in (eqb-true m n parts.0, same_is t sid parts.1)
+
+-- its number is under the identifier
+named_number : (es : Numbered) (names : Names) → AreNamed es names → (n : ℕ) (sid : Bytes) (k : ℕ) (x : Subscription) → at_number es k ≡ Some x → is_sub n sid x ≡ true → number_of names n sid ≡ Some k
+named_number es names named n sid k x found h =
+    ap (λ m. number_of names m sid) (sym (session_is n sid x h)) ∙ ap (number_of names x.session) (sym (sid_is n sid x h)) ∙ named k x found
+
+pub named_there : (es : Numbered) (names : Names) → AreNamed es names → (n : ℕ) (sid : Bytes) (k : ℕ) → is_sub_some n sid (at_number es k) ≡ true → number_of names n sid ≡ Some k
+named_there es names named n sid k h = go (at_number es k) refl h
+  where
+    go : (o : Option Subscription) → at_number es k ≡ o → is_sub_some n sid o ≡ true → number_of names n sid ≡ Some k
+    go None e f = absurd (true≢false (sym f))
+    go (Some x) e f = named_number es names named n sid k x e f
 
 -- ---- lists of values
 
@@ -88,8 +102,7 @@ keep_all p (x ∷ xs) h = go (p x) (keep_all p xs) h
 module _ (es : Numbered) (names : Names) (index : List Sub) (next : ℕ) (holds : Holds es names index next) where
   module _ (n : ℕ) (sid : Bytes) where
     same_number : (k : ℕ) (x : Subscription) → at_number es k ≡ Some x → is_sub n sid x ≡ true → number_of names n sid ≡ Some k
-    same_number k x found h =
-        ap (λ m. number_of names m sid) (sym (session_is n sid x h)) ∙ ap (number_of names x.session) (sym (sid_is n sid x h)) ∙ holds.is_named k x found
+    same_number k x found h = named_number es names holds.is_named n sid k x found h
 
     pub found_under : (id : ℕ) → number_of names n sid ≡ Some id → Found es n sid id
     found_under id was = found_sub es n sid id (at_number es id) refl (holds.names_some n sid id was)
@@ -254,18 +267,18 @@ module _ (es : Numbered) (names : Names) (index : List Sub) (next : ℕ) (holds 
         numbers (e ∷ xs) = (at_is id e.0, numbers xs)
 
     module _ (names' : Names) (drops : DropsName names names' n sid) where
-      names_less : (m : ℕ) (t : Bytes) (k : ℕ) → number_of names' m t ≡ Some k → IsNamed (lookup (at k) less) m t
+      names_less : (m : ℕ) (t : Bytes) (k : ℕ) → number_of names' m t ≡ Some k → is_sub_some m t (lookup (at k) less) ≡ true
       names_less m t k h = go (n == m && same sid t) refl
         where
-          there : (n == m && same sid t) ≡ false → number_of names m t ≡ Some k → (c : Bool) → at id k ≡ c → IsNamed (lookup (at k) less) m t
+          there : (n == m && same sid t) ≡ false → number_of names m t ≡ Some k → (c : Bool) → at id k ≡ c → is_sub_some m t (lookup (at k) less) ≡ true
           there e h' true f =
               let other = found_under m t k h' in
               let same' : other.sub ≡ it.sub = some_is (sym other.found ∙ ap (at_number es) (at_same id k f) ∙ it.found) in
               let named = subst (λ x. is_sub m t x ≡ true) same' other.is in
               absurd (true≢false (sym (names_alike n m sid t (sym (session_is n sid it.sub it.is) ∙ session_is m t it.sub named) (sym (sid_is n sid it.sub it.is) ∙ sid_is m t it.sub named)) ∙ e))
-          there e h' false f = subst (λ o. IsNamed o m t) (sym (looked_other k f)) (holds.names_some m t k h')
+          there e h' false f = subst (λ o. is_sub_some m t o ≡ true) (sym (looked_other k f)) (holds.names_some m t k h')
 
-          go : (b : Bool) → (n == m && same sid t) ≡ b → IsNamed (lookup (at k) less) m t
+          go : (b : Bool) → (n == m && same sid t) ≡ b → is_sub_some m t (lookup (at k) less) ≡ true
           go true e = absurd (none_some (sym (drops.at m t ∙ ap (λ b. cond b None (number_of names m t)) e) ∙ h))
           go false e = there e (sym (drops.at m t ∙ ap (λ b. cond b None (number_of names m t)) e) ∙ h) (at id k) refl
 
@@ -320,12 +333,12 @@ module _ (es : Numbered) (names : Names) (index : List Sub) (next : ℕ) (holds 
       ordered = subst (λ ks. IsStrictlySortedBy nat_cmp ks) (sym (keys-changed f es)) holds.ordered;
       below = below_changed f next es holds.below;
       patterns = holds.patterns ∙ sym (map-changed f indexed (λ e. ap (λ p. record { id = e.0; pattern = p }) (pattern e.1)) es);
-      names_some = λ n t k h. subst (λ o. IsNamed o n t) (sym (lookup-changed f k es)) (named_too n t (at_number es k) (holds.names_some n t k h));
+      names_some = λ n t k h. subst (λ o. is_sub_some n t o ≡ true) (sym (lookup-changed f k es)) (named_too n t (at_number es k) (holds.names_some n t k h));
       is_named = λ k y h. back k y (at_number es k) refl (sym (lookup-changed f k es) ∙ h);
       counts = λ n. holds.counts n ∙ sym (count-changed f (is_of n) (λ x. ap (λ s. s == n) (session x)) es);
     }
       where
-        named_too : (n : ℕ) (t : Bytes) (o : Option Subscription) → IsNamed o n t → IsNamed (changed_option f o) n t
+        named_too : (n : ℕ) (t : Bytes) (o : Option Subscription) → is_sub_some n t o ≡ true → is_sub_some n t (changed_option f o) ≡ true
         named_too n t None h = h
         named_too n t (Some x) h = ap (λ s. s == n && same (f x).sid t) (session x) ∙ ap (λ u. x.session == n && same u t) (sid x) ∙ h
 
@@ -371,17 +384,17 @@ module _ (es : Numbered) (names names' : Names) (index : List Sub) (next : ℕ) 
   abbrev more : Numbered
   more = es ++ (next, sub) ∷ []
 
-  names_more : (m : ℕ) (t : Bytes) (k : ℕ) → number_of names' m t ≡ Some k → IsNamed (lookup (at k) more) m t
+  names_more : (m : ℕ) (t : Bytes) (k : ℕ) → number_of names' m t ≡ Some k → is_sub_some m t (lookup (at k) more) ≡ true
   names_more m t k h = go (n == m && same sid t) refl (sym (adds.at m t) ∙ h)
     where
-      go : (b : Bool) → (n == m && same sid t) ≡ b → cond b (Some next) (number_of names m t) ≡ Some k → IsNamed (lookup (at k) more) m t
+      go : (b : Bool) → (n == m && same sid t) ≡ b → cond b (Some next) (number_of names m t) ≡ Some k → is_sub_some m t (lookup (at k) more) ≡ true
       go true e h' =
           let here : lookup (at k) more ≡ Some sub = ap (λ j. lookup (at j) more) (sym (some_is h')) ∙ looked_new next sub es (none_above next es holds.below) in
           let named : is_sub m t sub ≡ true = ap (λ s. s == m && same sub.sid t) of ∙ ap (λ u. n == m && same u t) under ∙ e in
-          subst (λ o. IsNamed o m t) (sym here) named
+          subst (λ o. is_sub_some m t o ≡ true) (sym here) named
       go false e h' =
           let it = found_under es names index next holds m t k h' in
-          subst (λ o. IsNamed o m t) (sym (looked_old k (next, sub) it.sub es it.found)) it.is
+          subst (λ o. is_sub_some m t o ≡ true) (sym (looked_old k (next, sub) it.sub es it.found)) it.is
 
   named_more : (k : ℕ) (x : Subscription) → lookup (at k) more ≡ Some x → number_of names' x.session x.sid ≡ Some k
   named_more k x h = go (looked_back k next x sub es h)
@@ -572,68 +585,87 @@ numbers_more es found ids i d o within made is =
     ap (λ xs. xs ++ cons_option o []) made ∙ ap (λ p. at_numbers es (take i ids) ++ cons_option p []) is
     ∙ sym (ap (at_numbers es) (take_more ids i d within) ∙ filter_map-append (at_number es) (take i ids) (get_or ids i d ∷ []))
 
--- ---- those that hear are among those that match
+-- ---- those that may be sent a message, among those that match
 
-keep_both : {X : Type 0} (m q : X → Bool) → ((x : X) → q x ≡ true → m x ≡ true) → (xs : List X) → filter q (filter m xs) ≡ filter q xs
-keep_both m q only [] = refl
-keep_both {X} m q only (x ∷ xs) = go (m x) (q x) refl refl (keep_both m q only xs)
+filter_both : {X : Type 0} (p q : X → Bool) (xs : List X) → filter q (filter p xs) ≡ filter (λ x. p x && q x) xs
+filter_both p q [] = refl
+filter_both {X} p q (x ∷ xs) = go (p x) (filter_both p q xs)
   where
-    go : (a b : Bool) → m x ≡ a → q x ≡ b → filter q (filter m xs) ≡ filter q xs → filter q (cond a (x ∷ filter m xs) (filter m xs)) ≡ cond b (x ∷ filter q xs) (filter q xs)
-    go true b e f h = ap (λ c. cond c (x ∷ filter q (filter m xs)) (filter q (filter m xs))) f ∙ ap (λ (ys : List X). cond b (x ∷ ys) ys) h
-    go false true e f h = absurd (true≢false (sym (only x f) ∙ e))
-    go false false e f h = h
+    go : (a : Bool) → filter q (filter p xs) ≡ filter (λ y. p y && q y) xs → filter q (cond a (x ∷ filter p xs) (filter p xs)) ≡ cond (a && q x) (x ∷ filter (λ y. p y && q y) xs) (filter (λ y. p y && q y) xs)
+    go true h = ap (λ (ys : List X). cond (q x) (x ∷ ys) ys) h
+    go false h = h
 
-any_both : {X : Type 0} (m q : X → Bool) → ((x : X) → q x ≡ true → m x ≡ true) → (xs : List X) → list_any q (filter m xs) ≡ list_any q xs
-any_both m q only [] = refl
-any_both {X} m q only (x ∷ xs) = go (m x) (q x) refl refl (any_both m q only xs)
+any_both : {X : Type 0} (p q : X → Bool) (xs : List X) → list_any q (filter p xs) ≡ list_any (λ x. p x && q x) xs
+any_both p q [] = refl
+any_both {X} p q (x ∷ xs) = go (p x) (any_both p q xs)
   where
-    go : (a b : Bool) → m x ≡ a → q x ≡ b → list_any q (filter m xs) ≡ list_any q xs → list_any q (cond a (x ∷ filter m xs) (filter m xs)) ≡ (b || list_any q xs)
-    go true b e f h = ap (λ c. c || list_any q (filter m xs)) f ∙ ap (λ c. b || c) h
-    go false true e f h = absurd (true≢false (sym (only x f) ∙ e))
-    go false false e f h = h
+    go : (a : Bool) → list_any q (filter p xs) ≡ list_any (λ y. p y && q y) xs → list_any q (cond a (x ∷ filter p xs) (filter p xs)) ≡ ((a && q x) || list_any (λ y. p y && q y) xs)
+    go true h = ap (λ b. q x || b) h
+    go false h = h
+
+-- it is none of the deaf publisher's own
+abbrev pub is_reached : Option ℕ → Subscription → Bool
+is_reached deaf sub = not (is_number deaf sub.session)
+
+reached_one : (deaf : Option ℕ) (o : Option Subscription) → cons_option (heard_some deaf o) [] ≡ filter (is_reached deaf) (cons_option o [])
+reached_one deaf None = refl
+reached_one deaf (Some x) = go (is_number deaf x.session)
+  where
+    go : (b : Bool) → cons_option (cond b None (Some x)) [] ≡ cond (not b) (x ∷ []) []
+    go true = refl
+    go false = refl
+
+pub heard_more : (deaf : Option ℕ) (es : Numbered) (found : List Subscription) (ids : List ℕ) (i d : ℕ) (o : Option Subscription) → i < length ids → found ≡ filter (is_reached deaf) (at_numbers es (take i ids))
+    → o ≡ heard_some deaf (at_number es (get_or ids i d)) → found ++ cons_option o [] ≡ filter (is_reached deaf) (at_numbers es (take (i + 1) ids))
+heard_more deaf es found ids i d o within made is =
+    let so_far = at_numbers es (take i ids) in
+    let one = at_number es (get_or ids i d) in
+    ap (λ xs. xs ++ cons_option o []) made ∙ ap (λ p. filter (is_reached deaf) so_far ++ cons_option p []) is ∙ ap (λ xs. filter (is_reached deaf) so_far ++ xs) (reached_one deaf one)
+    ∙ sym (filter-append (is_reached deaf) so_far (cons_option one [])) ∙ ap (filter (is_reached deaf)) (numbers_more es so_far ids i d one within refl refl)
+
+pub all_heard : (deaf : Option ℕ) (es : Numbered) (subject : Bytes) (index : List Sub) → IsStrictlySortedBy nat_cmp (keys_of es) → index ≡ map indexed es
+    → filter (is_reached deaf) (at_numbers es (matching_ids subject index)) ≡ filter (hears subject deaf) (subs_of es)
+all_heard deaf es subject index rising e = ap (filter (is_reached deaf)) (gathers es subject index rising e) ∙ filter_both (is_match subject) (is_reached deaf) (subs_of es)
 
 module _ (subject : Bytes) (deaf : Option ℕ) where
-  matches_heard : (x : Subscription) → hears subject deaf x ≡ true → is_match subject x ≡ true
-  matches_heard x h = (and_parts (is_match subject x) (not (is_number deaf x.session)) h).0
+  abbrev heard : List Subscription → List Subscription
+  heard subs = filter (hears subject deaf) subs
 
-  plain_heard : (x : Subscription) → is_plain_taker subject deaf x ≡ true → is_match subject x ≡ true
-  plain_heard x h = matches_heard x (and_parts (hears subject deaf x) (is_plain x) h).0
+  group_alike : (earlier : List Subscription) (x : Subscription) → hears subject deaf x ≡ true → is_first_of_group (heard earlier) x ≡ is_group_taker subject deaf earlier x
+  group_alike earlier x h =
+      ap (λ b. not (is_plain x) && not b) (any_both (hears subject deaf) (are_together x) earlier)
+      ∙ ap (λ b. (b && not (is_plain x)) && not (list_any (λ other. hears subject deaf other && are_together x other) earlier)) (sym h)
 
-  together_heard : (sub x : Subscription) → (hears subject deaf x && are_together sub x) ≡ true → is_match subject x ≡ true
-  together_heard sub x h = matches_heard x (and_parts (hears subject deaf x) (are_together sub x) h).0
+  not_heard : (earlier : List Subscription) (x : Subscription) → hears subject deaf x ≡ false → is_group_taker subject deaf earlier x ≡ false
+  not_heard earlier x h = ap (λ b. (b && not (is_plain x)) && not (list_any (λ other. hears subject deaf other && are_together x other) earlier)) h
 
-  group_alike : (earlier : List Subscription) (x : Subscription) → is_group_taker subject deaf (filter (is_match subject) earlier) x ≡ is_group_taker subject deaf earlier x
-  group_alike earlier x =
-      ap (λ b. (hears subject deaf x && not (is_plain x)) && not b) (any_both (is_match subject) (λ other. hears subject deaf other && are_together x other) (together_heard x) earlier)
-
-  not_heard : (earlier : List Subscription) (x : Subscription) → is_match subject x ≡ false → is_group_taker subject deaf earlier x ≡ false
-  not_heard earlier x h =
-      ap (λ b. ((b && not (is_number deaf x.session)) && not (is_plain x)) && not (list_any (λ other. hears subject deaf other && are_together x other) earlier)) h
-
-  group_passing : (earlier xs : List Subscription) → passing (is_group_taker subject deaf) (filter (is_match subject) earlier) (filter (is_match subject) xs) ≡ passing (is_group_taker subject deaf) earlier xs
+  group_passing : (earlier xs : List Subscription) → passing is_first_of_group (heard earlier) (heard xs) ≡ passing (is_group_taker subject deaf) earlier xs
   group_passing earlier [] = refl
-  group_passing earlier (x ∷ xs) = go (is_match subject x) refl (group_passing (earlier ++ x ∷ []) xs)
+  group_passing earlier (x ∷ xs) = go (hears subject deaf x) refl (group_passing (earlier ++ x ∷ []) xs)
     where
       met : List Subscription
-      met = filter (is_match subject) earlier
+      met = heard earlier
 
       rest : List Subscription
       rest = passing (is_group_taker subject deaf) (earlier ++ x ∷ []) xs
 
-      more : (b : Bool) → is_match subject x ≡ b → filter (is_match subject) (earlier ++ x ∷ []) ≡ met ++ cond b (x ∷ []) []
-      more b e = filter-append (is_match subject) earlier (x ∷ []) ∙ ap (λ c. met ++ cond c (x ∷ []) []) e
+      more : (b : Bool) → hears subject deaf x ≡ b → heard (earlier ++ x ∷ []) ≡ met ++ cond b (x ∷ []) []
+      more b e = filter-append (hears subject deaf) earlier (x ∷ []) ∙ ap (λ c. met ++ cond c (x ∷ []) []) e
 
-      go : (b : Bool) → is_match subject x ≡ b → passing (is_group_taker subject deaf) (filter (is_match subject) (earlier ++ x ∷ [])) (filter (is_match subject) xs) ≡ rest
-          → passing (is_group_taker subject deaf) met (cond b (x ∷ filter (is_match subject) xs) (filter (is_match subject) xs)) ≡ cond (is_group_taker subject deaf earlier x) (x ∷ rest) rest
+      go : (b : Bool) → hears subject deaf x ≡ b → passing is_first_of_group (heard (earlier ++ x ∷ [])) (heard xs) ≡ rest
+          → passing is_first_of_group met (cond b (x ∷ heard xs) (heard xs)) ≡ cond (is_group_taker subject deaf earlier x) (x ∷ rest) rest
       go true e h =
-          let h' : passing (is_group_taker subject deaf) (met ++ x ∷ []) (filter (is_match subject) xs) ≡ rest =
-          ap (λ ys. passing (is_group_taker subject deaf) ys (filter (is_match subject) xs)) (sym (more true e)) ∙ h in
-          ap (λ (ys : List Subscription). cond (is_group_taker subject deaf met x) (x ∷ ys) ys) h' ∙ ap (λ b. cond b (x ∷ rest) rest) (group_alike earlier x)
+          let h' : passing is_first_of_group (met ++ x ∷ []) (heard xs) ≡ rest = ap (λ ys. passing is_first_of_group ys (heard xs)) (sym (more true e)) ∙ h in
+          ap (λ (ys : List Subscription). cond (is_first_of_group met x) (x ∷ ys) ys) h' ∙ ap (λ b. cond b (x ∷ rest) rest) (group_alike earlier x e)
       go false e h =
-          ap (λ ys. passing (is_group_taker subject deaf) ys (filter (is_match subject) xs)) (sym (more false e ∙ append-nil met)) ∙ h ∙ sym (ap (λ b. cond b (x ∷ rest) rest) (not_heard earlier x e))
+          ap (λ ys. passing is_first_of_group ys (heard xs)) (sym (more false e ∙ append-nil met)) ∙ h ∙ sym (ap (λ b. cond b (x ∷ rest) rest) (not_heard earlier x e))
 
-  -- the takers, by those that match alone
-  pub takers_matching : (subs : List Subscription) → takers_of subject deaf (filter (is_match subject) subs) ≡ takers_of subject deaf subs
-  takers_matching subs =
-      ap (λ ps. ps ++ group_takers subject deaf (filter (is_match subject) subs)) (keep_both (is_match subject) (is_plain_taker subject deaf) plain_heard subs)
-      ∙ ap (λ gs. plain_takers subject deaf subs ++ gs) (group_passing [] subs)
+  -- the takers, by those that may be sent the message
+  pub takers_heard : (subs : List Subscription) → filter is_plain (heard subs) ++ first_of_groups (heard subs) ≡ takers_of subject deaf subs
+  takers_heard subs =
+      ap (λ ps. ps ++ first_of_groups (heard subs)) (plain_are subject deaf subs) ∙ ap (λ gs. plain_takers subject deaf subs ++ gs) (group_passing [] subs)
+
+-- ---- the subscription for which a message was counted
+
+pub found_changed : (f : Subscription → Subscription) (id : ℕ) (es es' : Numbered) (v new : Subscription) → es' ≡ changed f es → Some v ≡ at_number es id → new ≡ f v → at_number es' id ≡ Some new
+found_changed f id es es' v new left here made = ap (λ xs. lookup (at id) xs) left ∙ lookup-changed f id es ∙ ap (changed_option f) (sym here) ∙ ap (λ x. Some x) (sym made)

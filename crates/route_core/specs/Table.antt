@@ -31,10 +31,14 @@ abbrev pub is_spent_some : Option Subscription → Bool
 is_spent_some None = false
 is_spent_some (Some sub) = is_spent sub
 
--- it is the session's subscription under this identifier
-abbrev pub IsNamed : Option Subscription → ℕ → Bytes → Type 0
-IsNamed None n sid = ⊥
-IsNamed (Some sub) n sid = is_sub n sid sub ≡ true
+-- there is one, and it is the session's under this identifier
+abbrev pub is_sub_some : ℕ → Bytes → Option Subscription → Bool
+is_sub_some n sid None = false
+is_sub_some n sid (Some sub) = is_sub n sid sub
+
+-- the number of each subscription is under its identifier
+abbrev pub AreNamed : Numbered → Names → Type 0
+AreNamed entries names = (id : ℕ) (sub : Subscription) → at_number entries id ≡ Some sub → number_of names sub.session sub.sid ≡ Some id
 
 abbrev pub is_of : ℕ → Subscription → Bool
 is_of n sub = sub.session == n
@@ -44,6 +48,6 @@ pub record Holds (entries : Numbered) (names : Names) (index : List Sub) (next :
   pub ordered : IsStrictlySortedBy nat_cmp (keys_of entries)
   pub below : AreBelow next entries
   pub patterns : index ≡ map indexed entries
-  pub names_some : (n : ℕ) (sid : Bytes) (id : ℕ) → number_of names n sid ≡ Some id → IsNamed (at_number entries id) n sid
-  pub is_named : (id : ℕ) (sub : Subscription) → at_number entries id ≡ Some sub → number_of names sub.session sub.sid ≡ Some id
+  pub names_some : (n : ℕ) (sid : Bytes) (id : ℕ) → number_of names n sid ≡ Some id → is_sub_some n sid (at_number entries id) ≡ true
+  pub is_named : AreNamed entries names
   pub counts : (n : ℕ) → count_of names n ≡ length (filter (is_of n) (values_of entries))

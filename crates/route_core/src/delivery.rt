@@ -1,106 +1,94 @@
 //! What a message becomes for those that take it, and how it is handed to them.
 
-ghost use Rattle.std.specs.Prelude.{◌≡◌, ◌&&◌, ◌++◌, IfOk, OnOk, fold, map, not};
+ghost use Rattle.std.specs.Prelude.{◌≡◌, ◌&&◌, ◌++◌, IfOk, OnOk, filter, fold, map, not};
 ghost use Rattle.std.specs.List.{list_any};
 ghost use Rattle.js_model.specs.Router.{is_plain};
-ghost use Rattle.route_parts.specs.Subscriptions.{hears, are_together, is_plain_taker, plain_takers, is_group_taker, group_takers, takers_of};
+ghost use Rattle.route_parts.specs.Subscriptions.{are_together, takers_of};
 ghost use Rattle.route_parts.specs.Deliveries.{delivery_of, deliveries_of, handed_over, counted_once};
 ghost use Rattle.route_core.specs.Sessions.{InOrder};
+ghost use Rattle.route_core.specs.Heard.{first_of_groups};
 
 use crate::sessions::{place_of, takes_headers};
-use crate::table::Table;
+use crate::table::{Heard, Table};
 use js_base::{NoMemory, Out};
 use route_parts::{Delivery, Session, Subscription};
 use std::alloc::Global;
 
+/// A message for a subscription, and the number of the subscription in the table.
+#[derive(Drop, Debug)]
+pub(crate) struct Posted {
+    number: u64,
+    delivery: Delivery,
+}
+
 /// The message for a subscription.
-fn delivery_for(
+fn posted_for(
     alloc: Global,
     sessions: &[Session],
     out: &Out,
-    sub: &Subscription,
-) -> Result<Delivery, NoMemory>
+    heard: &Heard,
+) -> Result<Posted, NoMemory>
     requires numbered { InOrder sessions.now }
-    ensures value { IfOk result (λ delivery. delivery ≡ delivery_of sessions.now out.now sub.now) }
+    ensures value { IfOk result (λ posted. posted.delivery ≡ delivery_of sessions.now out.now heard.now.sub.now) }
 {
-    let headers = takes_headers(sessions, sub.session());
-    Delivery::of(alloc, out, sub, headers)
+    let headers = takes_headers(sessions, heard.sub.session());
+    let delivery = Delivery::of(alloc, out, heard.sub, headers)?;
+    Ok(Posted {
+        number: heard.number,
+        delivery,
+    })
 }
 
-/// Whether the subscription takes a message and is in no queue group.
-fn is_plain_taker(sub: &Subscription, subject: &[u8], deaf: Option<u64>) -> bool
-    ensures value { result ≡ is_plain_taker subject.now deaf sub.now }
+/// Whether an earlier one is of the subscription's queue group.
+fn has_earlier(earlier: &[Heard], sub: &Subscription) -> bool
+    ensures value { result ≡ list_any (λ other. are_together sub.now other.sub.now) earlier.now }
 {
-    sub.hears(subject, deaf) && sub.is_plain()
+    earlier.iter().any(|other| sub.is_together_with(other.sub))
 }
 
-/// Whether the subscription may be sent a message and is in a queue group.
-fn is_group_candidate(sub: &Subscription, subject: &[u8], deaf: Option<u64>) -> bool
-    ensures value { result ≡ (hears subject.now deaf sub.now && not (is_plain sub.now)) }
+/// Whether the subscription is the first one of its queue group.
+fn is_first_of_group(earlier: &[Heard], sub: &Subscription) -> bool
+    ensures value { result ≡ (not (is_plain sub.now) && not (list_any (λ other. are_together sub.now other.sub.now) earlier.now)) }
 {
-    sub.hears(subject, deaf) && !sub.is_plain()
+    !sub.is_plain() && !has_earlier(earlier, sub)
 }
 
-/// Whether another one of the subscription's queue group may be sent a message and was made earlier.
-fn has_earlier(
-    earlier: &[&Subscription],
-    sub: &Subscription,
-    subject: &[u8],
-    deaf: Option<u64>,
-) -> bool
-    ensures value { result ≡ list_any (λ other. hears subject.now deaf other.now && are_together sub.now other.now) earlier.now }
-{
-    earlier.iter().any(|other| other.hears(subject, deaf) && sub.is_together_with(other))
-}
-
-/// Whether the subscription takes a message for its queue group: it is the first one of the group that may be sent it.
-fn is_group_taker(
-    earlier: &[&Subscription],
-    sub: &Subscription,
-    subject: &[u8],
-    deaf: Option<u64>,
-) -> bool
-    ensures value { result ≡ ((hears subject.now deaf sub.now && not (is_plain sub.now)) && not (list_any (λ other. hears subject.now deaf other.now && are_together sub.now other.now) earlier.now)) }
-{
-    is_group_candidate(sub, subject, deaf) && !has_earlier(earlier, sub, subject, deaf)
-}
-
-/// Adds the message for each subscription that takes it and is in no queue group.
+/// Adds the message for each subscription that is in no queue group.
 fn add_plain(
-    list: &mut Vec<Delivery>,
+    list: &mut Vec<Posted>,
     sessions: &[Session],
-    matching: &[&Subscription],
+    hearing: &[Heard],
     out: &Out,
-    deaf: Option<u64>,
 ) -> Result<(), NoMemory>
     requires numbered { InOrder sessions.now }
-    ensures added { OnOk result (list.new.items ≡ list.old.items ++ deliveries_of sessions.now out.now (plain_takers out.now.to deaf (map (λ sub. sub.now) matching.now))) }
+    ensures added { OnOk result (map (λ posted. posted.delivery) list.new.items ≡ map (λ posted. posted.delivery) list.old.items ++ deliveries_of sessions.now out.now (filter is_plain (map (λ heard. heard.sub.now) hearing.now))) }
 {
-    for sub in matching {
-        if is_plain_taker(sub, out.to.as_slice(), deaf) {
+    for heard in hearing {
+        if heard.sub.is_plain() {
             let alloc = *list.allocator();
-            list.push(delivery_for(alloc, sessions, out, sub)?)?;
+            list.push(posted_for(alloc, sessions, out, heard)?)?;
         }
     }
     Ok(())
 }
 
-/// Adds the message for one subscription of each queue group that takes it.
+/// Adds the message for the first subscription of each queue group. Each is compared with the first ones of the groups before it, and with no
+/// other member.
 fn add_groups(
-    list: &mut Vec<Delivery>,
+    list: &mut Vec<Posted>,
     sessions: &[Session],
-    matching: &[&Subscription],
+    hearing: &[Heard],
     out: &Out,
-    deaf: Option<u64>,
 ) -> Result<(), NoMemory>
     requires numbered { InOrder sessions.now }
-    ensures added { OnOk result (list.new.items ≡ list.old.items ++ deliveries_of sessions.now out.now (group_takers out.now.to deaf (map (λ sub. sub.now) matching.now))) }
+    ensures added { OnOk result (map (λ posted. posted.delivery) list.new.items ≡ map (λ posted. posted.delivery) list.old.items ++ deliveries_of sessions.now out.now (first_of_groups (map (λ heard. heard.sub.now) hearing.now))) }
 {
-    for (at, sub) in matching.iter().enumerate() {
-        let (earlier, _) = matching.split_at(at);
-        if is_group_taker(earlier, sub, out.to.as_slice(), deaf) {
-            let alloc = *list.allocator();
-            list.push(delivery_for(alloc, sessions, out, sub)?)?;
+    let alloc = *list.allocator();
+    let mut firsts = Vec::new(alloc);
+    for heard in hearing {
+        if is_first_of_group(firsts.as_slice(), heard.sub) {
+            list.push(posted_for(alloc, sessions, out, heard)?)?;
+            firsts.push(*heard)?;
         }
     }
     Ok(())
@@ -114,14 +102,14 @@ pub(crate) fn deliveries(
     subscriptions: &Table,
     out: &Out,
     deaf: Option<u64>,
-) -> Result<Vec<Delivery>, NoMemory>
+) -> Result<Vec<Posted>, NoMemory>
     requires numbered { InOrder sessions.now }
-    ensures value { IfOk result (λ list. list.items ≡ deliveries_of sessions.now out.now (takers_of out.now.to deaf subscriptions.now)) }
+    ensures value { IfOk result (λ list. map (λ posted. posted.delivery) list.items ≡ deliveries_of sessions.now out.now (takers_of out.now.to deaf subscriptions.now)) }
 {
-    let matching = subscriptions.matching(out.to.as_slice())?;
+    let hearing = subscriptions.hearing(out.to.as_slice(), deaf)?;
     let mut list = Vec::new(alloc);
-    add_plain(&mut list, sessions, matching.as_slice(), out, deaf)?;
-    add_groups(&mut list, sessions, matching.as_slice(), out, deaf)?;
+    add_plain(&mut list, sessions, hearing.as_slice(), out)?;
+    add_groups(&mut list, sessions, hearing.as_slice(), out)?;
     Ok(list)
 }
 
@@ -137,17 +125,14 @@ fn hand_over(sessions: &mut [Session], delivery: Delivery)
 }
 
 /// Hands each message to its session, and counts it for its subscription. It takes no memory.
-pub(crate) fn hand_over_all(
-    sessions: &mut [Session],
-    subscriptions: &mut Table,
-    deliveries: Vec<Delivery>,
-)
+pub(crate) fn hand_over_all(sessions: &mut [Session], subscriptions: &mut Table, list: Vec<Posted>)
     requires numbered { InOrder sessions.old }
-    ensures sessions { sessions.new ≡ fold handed_over sessions.old deliveries.items }
-    ensures subscriptions { subscriptions.new ≡ fold counted_once subscriptions.old deliveries.items }
+    ensures sessions { sessions.new ≡ fold handed_over sessions.old (map (λ posted. posted.delivery) list.items) }
+    ensures subscriptions { subscriptions.new ≡ fold counted_once subscriptions.old (map (λ posted. posted.delivery) list.items) }
 {
-    for delivery in deliveries {
-        subscriptions.count_sent(delivery.session, delivery.sid.as_slice());
+    for posted in list {
+        let Posted { number, delivery } = posted;
+        subscriptions.count_sent(number, delivery.session, delivery.sid.as_slice());
         hand_over(sessions, delivery);
     }
 }

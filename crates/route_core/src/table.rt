@@ -9,8 +9,10 @@ ghost use Rattle.std.specs.Map.{remove_entry};
 ghost use Rattle.std.specs.BTreeMap.{is_at, IsOrdered};
 ghost use Rattle.js_model.specs.Router.{is_sub, is_match, is_in_group, new_subscription, most_subscriptions, limited, counted, without_spent};
 ghost use Rattle.route_index.specs.Subs.{without};
-ghost use Rattle.route_parts.specs.Subscriptions.{without_sub, after_one_sent};
-ghost use Rattle.route_core.specs.Table.{indexed, is_of, at_number, is_spent_some, AreBelow};
+ghost use Rattle.route_parts.specs.Subscriptions.{without_sub, after_one_sent, hears};
+ghost use Rattle.route_core.specs.Names.{number_of};
+ghost use Rattle.route_core.specs.Table.{indexed, is_of, at_number, is_spent_some, is_sub_some, AreBelow, AreNamed};
+ghost use Rattle.route_core.specs.Heard.{heard_some};
 
 use crate::names::Names;
 use js_base::NoMemory;
@@ -25,6 +27,13 @@ const MOST: usize = 65_536;
 
 /// The subscriptions under their numbers.
 type Numbered = BTreeMap<u64, Subscription>;
+
+/// A subscription that may be sent a message, and its number.
+#[derive(Clone, Copy, Debug)]
+pub(crate) struct Heard<'a> {
+    pub(crate) number: u64,
+    pub(crate) sub: &'a Subscription,
+}
 
 /// The subscriptions. A call costs some steps in ordered maps, however many there are.
 #[derive(Drop, Debug)]
@@ -174,15 +183,21 @@ impl Table {
         }
     }
 
-    /// Counts a message that was sent to the session's subscription under this identifier.
-    fn count(&mut self, session: u64, sid: &[u8])
+    /// Counts a message that was sent to the session's subscription under this identifier, and tells whether it was sent as many as it may
+    /// get.
+    fn count(&mut self, likely: u64, session: u64, sid: &[u8]) -> bool
         ensures value { self.new ≡ map (counted session sid.now) self.old }
+        ensures spent { OnTrue result (filter (λ sub. not (is_sub session sid.now sub)) self.new ≡ without_spent session sid.now self.new) }
+        ensures goes_on { OnFalse result (self.new ≡ without_spent session sid.now self.new) }
     {
-        if let Some(number) = self.names.number_of(session, sid) {
+        let number = number_under(&self.subscriptions, &self.names, likely, session, sid);
+        if let Some(number) = number {
             if let Some(sub) = self.subscriptions.get_mut(&number) {
                 sub.count(session, sid);
+                return sub.is_spent();
             }
         }
+        false
     }
 
     /// Whether the session's subscription under this identifier was sent as many messages as it may get.
@@ -219,24 +234,33 @@ impl Table {
         }
     }
 
-    /// Counts a message that was sent to the session's subscription under this identifier, and takes it out if that was its last. It takes
-    /// no memory.
-    pub(crate) fn count_sent(&mut self, session: u64, sid: &[u8])
+    /// Counts a message that was sent to the session's subscription under this identifier, and takes it out if that was its last. The number
+    /// that it likely has only saves the search by its identifier. It takes no memory.
+    pub(crate) fn count_sent(&mut self, likely: u64, session: u64, sid: &[u8])
         ensures left { self.new ≡ after_one_sent session sid.now self.old }
     {
-        self.count(session, sid);
-        self.remove_spent(session, sid);
+        if self.count(likely, session, sid) {
+            self.remove(session, sid);
+        }
     }
 
-    /// The subscriptions whose patterns match the subject, in their order. The others cost nothing but a few steps in an ordered map.
-    pub(crate) fn matching(&self, subject: &[u8]) -> Result<Vec<&Subscription>, NoMemory>
-        ensures value { IfOk result (λ found. map (λ sub. sub.now) found.items ≡ filter (is_match subject.now) self.now) }
+    /// The subscriptions that may be sent a message to the subject, in their order. Those whose patterns do not match cost nothing but a few
+    /// steps in an ordered map.
+    pub(crate) fn hearing(
+        &self,
+        subject: &[u8],
+        deaf: Option<u64>,
+    ) -> Result<Vec<Heard<'_>>, NoMemory>
+        ensures value { IfOk result (λ found. map (λ heard. heard.sub.now) found.items ≡ filter (hears subject.now deaf) self.now) }
     {
         let numbers = self.index.matching(subject)?;
         let mut found = Vec::with_capacity(self.alloc, numbers.len())?;
         for number in &numbers {
-            if let Some(sub) = self.subscriptions.get(number) {
-                found.push(sub)?;
+            if let Some(sub) = heard_at(&self.subscriptions, *number, deaf) {
+                found.push(Heard {
+                    number: *number,
+                    sub,
+                })?;
             }
         }
         Ok(found)
@@ -290,4 +314,42 @@ fn is_spent_at(subscriptions: &Numbered, number: u64) -> bool
         Some(sub) => sub.is_spent(),
         None => false,
     }
+}
+
+/// The number of the session's subscription under this identifier. It is searched for by its identifier only where it is not the likely one.
+fn number_under(
+    subscriptions: &Numbered,
+    names: &Names,
+    likely: u64,
+    session: u64,
+    sid: &[u8],
+) -> Option<u64>
+    requires named { AreNamed subscriptions.now.entries names.now }
+    ensures value { result ≡ number_of names.now session sid.now }
+{
+    if is_under_at(subscriptions, likely, session, sid) {
+        return Some(likely);
+    }
+    names.number_of(session, sid)
+}
+
+/// Whether the subscription of a number is the session's under this identifier.
+fn is_under_at(subscriptions: &Numbered, number: u64, session: u64, sid: &[u8]) -> bool
+    ensures value { result ≡ is_sub_some session sid.now (at_number subscriptions.now.entries number) }
+{
+    match subscriptions.get(&number) {
+        Some(sub) => sub.is_under(session, sid),
+        None => false,
+    }
+}
+
+/// The subscription of a number, if it is none of the deaf publisher's own.
+fn heard_at(subscriptions: &Numbered, number: u64, deaf: Option<u64>) -> Option<&Subscription>
+    ensures value { option_copied result ≡ heard_some deaf (at_number subscriptions.now.entries number) }
+{
+    let sub = subscriptions.get(&number)?;
+    if deaf == Some(sub.session()) {
+        return None;
+    }
+    Some(sub)
 }

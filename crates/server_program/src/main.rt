@@ -1,6 +1,7 @@
 //! The server: one connection over standard input and output.
 #![tactic(auto)]
 
+pub mod laws;
 mod running;
 #[cfg(test)]
 mod tests;

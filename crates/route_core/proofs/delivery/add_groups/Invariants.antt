@@ -1,8 +1,12 @@
 use Rattle.std.proofs.Common.{◌≡◌, ◌++◌, map, take}
-use Rattle.route_parts.specs.Subscriptions.{group_takers}
 use Rattle.route_parts.specs.Deliveries.{deliveries_of}
+use Rattle.route_core.specs.Heard.{first_of_groups}
 use Rattle.route_core.proofs.delivery.add_groups.Given as goal
 
--- the messages for the takers so far are added
-abbrev pub invariant-loop-at : goal.invariant-loop-at
-invariant-loop-at l = l.list.items ≡ l.initial.list.items ++ deliveries_of l.sessions l.out (group_takers l.out.to l.deaf (map (λ sub. sub.now) (take l.at l.matching)))
+-- the first ones of the groups so far are known, and the messages for them are added
+abbrev pub invariant-loop-heard : goal.invariant-loop-heard
+invariant-loop-heard l = record {
+  firsts : map (λ heard. heard.sub.now) l.firsts.items ≡ first_of_groups (map (λ heard. heard.sub.now) (take l.heard-index l.hearing));
+  added : map (λ posted. posted.delivery) l.list.items
+      ≡ map (λ posted. posted.delivery) l.initial.list.items ++ deliveries_of l.sessions l.out (first_of_groups (map (λ heard. heard.sub.now) (take l.heard-index l.hearing)));
+}

@@ -1,5 +1,4 @@
-use Rattle.std.proofs.Common.{◌∙◌, ◌&&◌, not, ap, sym}
-use Rattle.js_model.specs.Router.{is_session}
+use Rattle.std.proofs.Common.{◌∙◌, not}
 use Rattle.route_core.proofs.Searching.{asked, asked_none}
 use Rattle.route_core.proofs.sessions.is_deaf.Goals as goal
 

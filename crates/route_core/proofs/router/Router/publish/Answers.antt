@@ -1,4 +1,5 @@
-use Rattle.std.proofs.Common.{◌≡◌, ◌∙◌, ℕ, Option, List, true, length, refl, ap}
+use Rattle.std.proofs.Common.{◌≡◌, ◌∙◌, ℕ, Option, List, true, length, map, refl, sym, ap}
+use Rattle.std.proofs.lemmas.List.{length-map}
 use Rattle.std.specs.List.{fold}
 use Rattle.js_base.specs.declared.out.Out.{Out}
 use Rattle.js_model.specs.Router.{Session, Subscription, Taken}
@@ -33,7 +34,7 @@ pub invariant_of-self : goal.invariant_of-self
 invariant_of-self c =
     let old = c.self.inside in
     let all = takers_of c.args.out.now.to (deaf_of old.sessions.items c.args.from) old.subscriptions in
-    let listed = of_the_lists c.in_ok-list.list.items old.sessions.items c.deref-2.result.now c.deref-3.result.now old.subscriptions old.subscriptions c.args.out.now c.args.from c.deaf_of-deaf.result
+    let listed = of_the_lists (map (λ posted. posted.delivery) c.in_ok-list.list.items) old.sessions.items c.deref-2.result.now c.deref-3.result.now old.subscriptions old.subscriptions c.args.out.now c.args.from c.deaf_of-deaf.result
     c.in_ok-list.ensures.value c.deref-3.ensures.value c.deaf_of-deaf.ensures.value c.deref-2.ensures.value refl in
     let written = lent_back old.sessions.len old.sessions.items _ _ old.sessions.ok.0 (c.hand_over_all.ensures.sessions ∙ handed_lists _ _ _ _ c.deref_mut.ensures.value listed) (length-handed old.sessions.items (deliveries_of old.sessions.items c.args.out.now all)) in
     rw written (numbered_handed old.sessions.items c.args.out.now old.latest all c.self.invariant)
@@ -41,14 +42,14 @@ invariant_of-self c =
 pub returns : goal.returns
 returns c =
     let old = c.self.inside in
+    let open' : is_publisher_open old.sessions.items c.args.from ≡ true = cc in
     let all = takers_of c.args.out.now.to (deaf_of old.sessions.items c.args.from) old.subscriptions in
-    let listed = of_the_lists c.in_ok-list.list.items old.sessions.items c.deref-2.result.now c.deref-3.result.now old.subscriptions old.subscriptions c.args.out.now c.args.from c.deaf_of-deaf.result
+    let listed = of_the_lists (map (λ posted. posted.delivery) c.in_ok-list.list.items) old.sessions.items c.deref-2.result.now c.deref-3.result.now old.subscriptions old.subscriptions c.args.out.now c.args.from c.deaf_of-deaf.result
     c.in_ok-list.ensures.value c.deref-3.ensures.value c.deaf_of-deaf.ensures.value c.deref-2.ensures.value refl in
     let written = lent_back old.sessions.len old.sessions.items _ _ old.sessions.ok.0 (c.hand_over_all.ensures.sessions ∙ handed_lists _ _ _ _ c.deref_mut.ensures.value listed) (length-handed old.sessions.items (deliveries_of old.sessions.items c.args.out.now all)) in
-    let open' : is_publisher_open old.sessions.items c.args.from ≡ true = cc in
     let routed = publish_routed old.sessions.items old.subscriptions old.latest c.args.self.now c.self.view_is c.args.out.now c.args.from c.self.invariant open'
     _ c.hand_over_all.new.subscriptions c.len-count.result written (c.hand_over_all.ensures.subscriptions ∙ ap (fold counted_once old.subscriptions) listed)
-    (c.len-count.ensures ∙ c.in_ok-list.list.ok.0 ∙ ap length listed) in
+    (c.len-count.ensures ∙ c.in_ok-list.list.ok.0 ∙ sym (length-map c.in_ok-list.list.items (λ posted. posted.delivery)) ∙ ap length listed) in
     record { routes = routed; stay = publish_keeps _ _ c.args.out.now c.args.from (Taken c.len-count.result) routed; err = tt }
 
 pub is_publisher_open-requires : goal.is_publisher_open-requires

@@ -1,5 +1,5 @@
-use Rattle.std.proofs.Common.{◌≡◌, ◌∙◌, ◌&&◌, false, not, ap, sym, subst, filter, List}
-use Rattle.js_model.specs.Router.{Subscription, is_sub, is_spent, without_spent}
+use Rattle.std.proofs.Common.{◌∙◌, ◌&&◌, not, ap, sym, filter}
+use Rattle.js_model.specs.Router.{is_sub, is_spent, without_spent}
 use Rattle.route_core.specs.Table.{is_spent_some}
 use Rattle.route_core.proofs.Tables.{subs_of, found_under, any_is, any_not, gone_both, keep_all, on_true, on_false}
 use Rattle.route_core.proofs.table.Table.is_spent.Goals as goal

@@ -1,4 +1,4 @@
-use Rattle.std.proofs.Common.{◌≡◌, ◌∙◌, ℕ, List, not, ap, sym, filter, length, arith}
+use Rattle.std.proofs.Common.{◌∙◌, ℕ, List, not, ap, filter, length, arith}
 use Rattle.js_model.specs.Router.{Subscription}
 use Rattle.route_core.specs.Table.{is_of}
 use Rattle.route_core.proofs.Tables.{subs_of, holds_less, others_stay, session_less}

@@ -1,4 +1,4 @@
-use Rattle.std.proofs.Common.{◌∙◌, ap, sym}
+use Rattle.std.proofs.Common.{◌∙◌, ap}
 use Rattle.std.specs.List.{list_any}
 use Rattle.js_model.specs.Router.{is_sub}
 use Rattle.route_core.proofs.Tables.{free_name, holds_more, holds_kept, holds_same, taken_back}

@@ -1,0 +1,181 @@
+-- The texts of refusals are ASCII.
+use Rattle.std.proofs.Common.{◌≡◌, ℕ, zero, suc, ◌<◌, nat_lt, ◌^◌, ℤ, pos, negsuc, List, [], ◌∷◌, ◌++◌, Bool, true, false, Option, Some, None, Result, Ok, Err, IsUtf8, codes, slice_index, refl, subst, if◌then◌else◌, arith}
+use Rattle.std.specs.List.{list_all}
+use Rattle.std.proofs.lemmas.Bool.{and_parts}
+use Rattle.std.proofs.lemmas.Bool.Decides.{nat_tests}
+use Rattle.std.proofs.lemmas.Str.{IsUtf8-from_ascii}
+use Rattle.serde_json.specs.Data.{Members}
+use Rattle.js_base.specs.Bytes.{Bytes}
+use Rattle.js_base.specs.Names.{name_of}
+use Rattle.js_base.specs.Subjects.{is_pattern_text}
+use Rattle.js_base.specs.declared.name.NameFault.{NameFault}
+use Rattle.js_base.specs.declared.out.ApiError.{ApiError}
+use Rattle.js_json.specs.declared.fault.JsonFault.{JsonFault}
+use Rattle.js_json.specs.Objects.{object_of}
+use Rattle.js_json.specs.Fields.{number_in, text_in}
+use Rattle.js_model.specs.Refusals.{Check, first_refusal, name_mismatch}
+use Rattle.js_model.specs.declared.stream_config.StreamConfig.{StreamConfig}
+use Rattle.stream_config.specs.Table.{Line, table}
+use Rattle.stream_config.specs.Reading.{check, checks, standing, refusal_of, names_another, refusal_in, config_in, config_unless, reading}
+use Rattle.api_requests.specs.declared.call.GeneralCall.{GeneralCall}
+use Rattle.api_requests.specs.declared.call.GeneralCall.TheVariants as general
+use Rattle.api_requests.specs.declared.call.StreamCall.{StreamCall}
+use Rattle.api_requests.specs.declared.call.StreamCall.TheVariants as stream
+use Rattle.api_requests.specs.Calls.{general_call, stream_call}
+use Rattle.api_requests.specs.Bodies.{◌>>=◌, or_braces, or_invalid_json, fields_of, or_no_name, stream_name, offset_told, offset_in, pattern_told, subject_told, subject_in, listing_of, setup_of}
+use Rattle.api_requests.specs.Requests.{general_request, stream_request, or_on_stream, request_of}
+
+abbrev is_ascii : Bytes → Bool
+is_ascii text = list_all (λ byte. nat_lt byte 128) text
+
+record Plain (refusal : ApiError) : Type 0 where
+  ascii : is_ascii refusal.text ≡ true
+
+small : (byte : ℕ) → nat_lt byte 128 ≡ true → byte < 128
+small byte h = grind (arith, nat_tests)
+
+ascii_at : (text : Bytes) (i : ℕ) → is_ascii text ≡ true → slice_index text i < 128
+ascii_at [] i h = omega arith
+ascii_at (byte ∷ more) zero h = small byte (and_parts (nat_lt byte 128) (is_ascii more) h).0
+ascii_at (byte ∷ more) (suc i) h = ascii_at more i (and_parts (nat_lt byte 128) (is_ascii more) h).1
+
+-- the refusal that was told is a plain one
+told : {X : Type 0} (made refusal : ApiError) → ◌≡◌ {A = Result X ApiError} (Err made) (Err refusal) → Plain made → Plain refusal
+told made refusal e plain = let same : made ≡ refusal = cc in subst (λ (r : ApiError). Plain r) same plain
+
+-- of one reading after the other, the first that refuses
+one_of : {A B : Type 0} (a : Result A ApiError) (next : A → Result B ApiError) (refusal : ApiError) → (a >>= next) ≡ Err refusal
+    → (a ≡ Err refusal → Plain refusal) → ((x : A) → next x ≡ Err refusal → Plain refusal) → Plain refusal
+one_of (Ok x) next refusal e first next_one = next_one x e
+one_of (Err r) next refusal e first next_one = first cc
+
+-- ---- the parts of calls
+
+fields_by : (read : Result Members JsonFault) (refusal : ApiError) → or_invalid_json read ≡ Err refusal → Plain refusal
+fields_by (Ok fields) refusal e = absurd (cc)
+fields_by (Err fault) refusal e = told _ refusal e (record { ascii = refl })
+
+fields_plain : (body : Bytes) (refusal : ApiError) → fields_of body ≡ Err refusal → Plain refusal
+unfolding fields_of
+fields_plain body refusal e = fields_by (object_of (or_braces body)) refusal e
+
+name_by : (read : Result Bytes NameFault) (refusal : ApiError) → or_no_name read ≡ Err refusal → Plain refusal
+name_by (Ok name) refusal e = absurd (cc)
+name_by (Err fault) refusal e = told _ refusal e (record { ascii = refl })
+
+name_plain : (token : Bytes) (refusal : ApiError) → stream_name token ≡ Err refusal → Plain refusal
+unfolding stream_name
+name_plain token refusal e = name_by (name_of token) refusal e
+
+-- a choice of a value or a refusal
+chosen : {X : Type 0} (good : Bool) (x : X) (made refusal : ApiError) → ◌≡◌ {A = Result X ApiError} (if good then Ok x else Err made) (Err refusal) → Plain made → Plain refusal
+chosen true x made refusal e plain = absurd (cc)
+chosen false x made refusal e plain = told made refusal e plain
+
+offset_by : (read : Result (Option ℤ) JsonFault) (refusal : ApiError) → offset_told read ≡ Err refusal → Plain refusal
+offset_by (Ok None) refusal e = absurd (cc)
+offset_by (Ok (Some (pos n))) refusal e = chosen (nat_lt n (2 ^ 62)) n _ refusal e (record { ascii = refl })
+offset_by (Ok (Some (negsuc n))) refusal e = told _ refusal e (record { ascii = refl })
+offset_by (Err fault) refusal e = told _ refusal e (record { ascii = refl })
+
+offset_plain : (fields : Members) (refusal : ApiError) → offset_in fields ≡ Err refusal → Plain refusal
+unfolding offset_in
+offset_plain fields refusal e = offset_by (number_in (codes "offset") fields) refusal e
+
+pattern_plain : (text : Bytes) (refusal : ApiError) → pattern_told text ≡ Err refusal → Plain refusal
+pattern_plain [] refusal e = absurd (cc)
+pattern_plain (byte ∷ more) refusal e = chosen (is_pattern_text (byte ∷ more)) (Some (byte ∷ more)) _ refusal e (record { ascii = refl })
+
+subject_by : (read : Result (Option Bytes) JsonFault) (refusal : ApiError) → subject_told read ≡ Err refusal → Plain refusal
+subject_by (Ok None) refusal e = absurd (cc)
+subject_by (Ok (Some text)) refusal e = pattern_plain text refusal e
+subject_by (Err fault) refusal e = told _ refusal e (record { ascii = refl })
+
+subject_plain : (fields : Members) (refusal : ApiError) → subject_in fields ≡ Err refusal → Plain refusal
+unfolding subject_in
+subject_plain fields refusal e = subject_by (text_in (codes "subject") fields) refusal e
+
+listing_plain : (body : Bytes) (refusal : ApiError) → listing_of body ≡ Err refusal → Plain refusal
+unfolding listing_of
+listing_plain body refusal e =
+    one_of (fields_of body) _ refusal e (fields_plain body refusal)
+    (λ fields placed. one_of (offset_in fields) _ refusal placed (offset_plain fields refusal)
+    (λ offset matched. one_of (subject_in fields) _ refusal matched (subject_plain fields refusal) (λ subject made. absurd (cc))))
+
+-- ---- configurations
+
+row_plain : (row : Line) (fields : Members) → is_ascii row.name ≡ true → Plain (refusal_of row.name (standing row.rule row.name fields))
+row_plain row fields h = record { ascii = grind (arith, h) }
+
+abbrev names_itself : Line → Bool
+names_itself row = is_ascii row.name
+
+table_ascii : list_all names_itself table ≡ true
+unfolding table
+table_ascii = refl
+
+first_by : (fails : Bool) (made : ApiError) (others : List Check) (refusal : ApiError) → first_refusal ((fails, made) ∷ others) ≡ Some refusal → Plain made
+    → (first_refusal others ≡ Some refusal → Plain refusal) → Plain refusal
+first_by true made others refusal e plain more = let same : made ≡ refusal = cc in subst (λ (r : ApiError). Plain r) same plain
+first_by false made others refusal e plain more = more e
+
+rows_plain : (fields : Members) (rows : List Line) (others : List Check) (refusal : ApiError) → list_all names_itself rows ≡ true → first_refusal (checks fields rows ++ others) ≡ Some refusal
+    → (first_refusal others ≡ Some refusal → Plain refusal) → Plain refusal
+rows_plain fields [] others refusal h e more = more e
+rows_plain fields (row ∷ rows) others refusal h e more =
+    let parts = and_parts (names_itself row) (list_all names_itself rows) h in
+    first_by (check fields row).0 (check fields row).1 (checks fields rows ++ others) refusal e
+    (row_plain row fields parts.0)
+    (λ next. rows_plain fields rows others refusal parts.1 next more)
+
+config_by : (name : Bytes) (fields : Members) (refusal : ApiError) → refusal_in name fields ≡ Some refusal → Plain refusal
+config_by name fields refusal e =
+    rows_plain fields table ((names_another name fields, name_mismatch) ∷ []) refusal table_ascii e
+    (λ last. first_by (names_another name fields) name_mismatch [] refusal last (record { ascii = refl }) (λ none. absurd (cc)))
+
+unless_by : (told : Option ApiError) (config : StreamConfig) (refusal : ApiError) → config_unless told config ≡ Err refusal → told ≡ Some refusal
+unless_by None config refusal e = absurd (cc)
+unless_by (Some r) config refusal e = cc
+
+config_plain : (name : Bytes) (fields : Members) (refusal : ApiError) → reading name fields ≡ Err refusal → Plain refusal
+unfolding reading
+config_plain name fields refusal e = config_by name fields refusal (unless_by (refusal_in name fields) (config_in name fields) refusal e)
+
+setup_plain : (token body : Bytes) (refusal : ApiError) → setup_of token body ≡ Err refusal → Plain refusal
+unfolding setup_of
+setup_plain token body refusal e =
+    one_of (fields_of body) _ refusal e (fields_plain body refusal)
+    (λ fields named. one_of (stream_name token) _ refusal named (name_plain token refusal)
+    (λ name configured. one_of (reading name fields) _ refusal configured (config_plain name fields refusal) (λ config made. absurd (cc))))
+
+-- ---- calls
+
+general_plain : (call : GeneralCall) (body : Bytes) (refusal : ApiError) → general_request call body ≡ Err refusal → Plain refusal
+unfolding general_request
+general_plain general.AccountInfo body refusal e = absurd (cc)
+general_plain general.StreamNames body refusal e = one_of (listing_of body) _ refusal e (listing_plain body refusal) (λ listing made. absurd (cc))
+general_plain general.StreamList body refusal e = one_of (listing_of body) _ refusal e (listing_plain body refusal) (λ listing made. absurd (cc))
+
+on_stream_plain : (call : StreamCall) (token body : Bytes) (refusal : ApiError) → stream_request call token body ≡ Err refusal → Plain refusal
+unfolding stream_request
+on_stream_plain stream.Create token body refusal e = one_of (setup_of token body) _ refusal e (setup_plain token body refusal) (λ setup made. absurd (cc))
+on_stream_plain stream.Update token body refusal e = one_of (setup_of token body) _ refusal e (setup_plain token body refusal) (λ setup made. absurd (cc))
+on_stream_plain stream.Info token body refusal e =
+    one_of (fields_of body) _ refusal e (fields_plain body refusal)
+    (λ fields named. one_of (stream_name token) _ refusal named (name_plain token refusal) (λ name made. absurd (cc)))
+on_stream_plain stream.Delete token body refusal e = one_of (stream_name token) _ refusal e (name_plain token refusal) (λ name made. absurd (cc))
+
+some_is : {X : Type 0} (x y : X) → Some x ≡ Some y → x ≡ y
+some_is x y e = cc
+
+refused_by : (call : Option GeneralCall) (on_stream : Option (StreamCall × Bytes)) (body : Bytes) (refusal : ApiError) → or_on_stream call on_stream body ≡ Some (Err refusal) → Plain refusal
+refused_by (Some call) on_stream body refusal e = general_plain call body refusal (some_is _ _ e)
+refused_by None (Some (call, token)) body refusal e = on_stream_plain call token body refusal (some_is _ _ e)
+refused_by None None body refusal e = absurd (cc)
+
+plain : (subject body : Bytes) (refusal : ApiError) → request_of subject body ≡ Some (Err refusal) → Plain refusal
+unfolding request_of
+plain subject body refusal e = refused_by (general_call subject) (stream_call subject) body refusal e
+
+pub refusal_utf8 : (subject body : Bytes) (refusal : ApiError) → request_of subject body ≡ Some (Err refusal) → IsUtf8 refusal.text
+refusal_utf8 subject body refusal e = let is = plain subject body refusal e in IsUtf8-from_ascii refusal.text (λ i. ascii_at refusal.text i is.ascii)

@@ -1,0 +1,51 @@
+-- What is read of calls is valid.
+use Rattle.std.proofs.Common.{◌≡◌, Option, Some, None, Result, Ok, subst}
+use Rattle.js_base.specs.Bytes.{Bytes}
+use Rattle.js_base.specs.declared.out.ApiError.{ApiError}
+use Rattle.api_requests.specs.declared.call.GeneralCall.{GeneralCall}
+use Rattle.api_requests.specs.declared.call.GeneralCall.TheVariants as general
+use Rattle.api_requests.specs.declared.call.StreamCall.{StreamCall}
+use Rattle.api_requests.specs.declared.call.StreamCall.TheVariants as stream
+use Rattle.api_requests.specs.declared.request.ApiRequest.{ApiRequest}
+use Rattle.api_requests.specs.declared.request.ApiRequest.TheVariants as requests
+use Rattle.api_requests.specs.Calls.{general_call, stream_call}
+use Rattle.api_requests.specs.Bodies.{fields_of, stream_name, listing_of, setup_of}
+use Rattle.api_requests.specs.Requests.{general_request, stream_request, or_on_stream, request_of}
+use Rattle.api_requests.specs.Read.{IsRead}
+use Rattle.api_requests.proofs.Parts.{after, stream_is, setup_is, listing_is}
+
+-- the request that was made is one as it is read
+as_read : (made request : ApiRequest) → ◌≡◌ {A = Result ApiRequest ApiError} (Ok made) (Ok request) → IsRead made → IsRead request
+as_read made request e is = let same : made ≡ request = cc in subst (λ (r : ApiRequest). IsRead r) same is
+
+general_read : (call : GeneralCall) (body : Bytes) (request : ApiRequest) → general_request call body ≡ Ok request → IsRead request
+unfolding general_request
+general_read general.AccountInfo body request e = as_read requests.AccountInfo request e tt
+general_read general.StreamNames body request e =
+    after _ (listing_of body) _ request e (λ listing is made. as_read (requests.StreamNames listing.0 listing.1) request made (listing_is body listing is))
+general_read general.StreamList body request e =
+    after _ (listing_of body) _ request e (λ listing is made. as_read (requests.StreamList listing.0 listing.1) request made (listing_is body listing is))
+
+on_stream_read : (call : StreamCall) (token body : Bytes) (request : ApiRequest) → stream_request call token body ≡ Ok request → IsRead request
+unfolding stream_request
+on_stream_read stream.Create token body request e =
+    after _ (setup_of token body) _ request e (λ setup is made. as_read (requests.StreamCreate setup.0 setup.1) request made (setup_is token body setup is))
+on_stream_read stream.Update token body request e =
+    after _ (setup_of token body) _ request e (λ setup is made. as_read (requests.StreamUpdate setup.0 setup.1) request made (setup_is token body setup is))
+on_stream_read stream.Info token body request e =
+    after _ (fields_of body) _ request e
+    (λ fields _ named. after _ (stream_name token) _ request named (λ name is made. as_read (requests.StreamInfo name) request made (stream_is token name is)))
+on_stream_read stream.Delete token body request e =
+    after _ (stream_name token) _ request e (λ name is made. as_read (requests.StreamDelete name) request made (stream_is token name is))
+
+some_is : {X : Type 0} (x y : X) → Some x ≡ Some y → x ≡ y
+some_is x y e = cc
+
+read_by : (call : Option GeneralCall) (on_stream : Option (StreamCall × Bytes)) (body : Bytes) (request : ApiRequest) → or_on_stream call on_stream body ≡ Some (Ok request) → IsRead request
+read_by (Some call) on_stream body request e = general_read call body request (some_is _ _ e)
+read_by None (Some (call, token)) body request e = on_stream_read call token body request (some_is _ _ e)
+read_by None None body request e = absurd (cc)
+
+pub request_read : (subject body : Bytes) (request : ApiRequest) → request_of subject body ≡ Some (Ok request) → IsRead request
+unfolding request_of
+request_read subject body request e = read_by (general_call subject) (stream_call subject) body request e

@@ -1,0 +1,5 @@
+use Rattle.api_requests.proofs.Spelled.{general_spelled, on_stream_spelled}
+use Rattle.api_requests.proofs.laws.law_calls.Goals as goal
+
+pub returns : goal.returns
+returns c = record { general = general_spelled; on_stream = on_stream_spelled }

@@ -1,0 +1,7 @@
+pub mod Answers
+pub mod Calls
+pub mod Bodies
+pub mod Seen
+pub mod Requests
+pub mod Laws
+pub mod Read

@@ -1,0 +1,47 @@
+-- Requests as they are read, which the parts behind may rest on: names and configurations that are valid, numbers below 2 ^ 62, patterns, and
+-- texts in UTF-8. Requests of other forms are not read yet.
+use Rattle.std.specs.Prelude.{◌≡◌, ℕ, Option, IsTrue, IsUtf8}
+use Rattle.js_base.specs.Bytes.{Bytes}
+use Rattle.js_base.specs.Subjects.{is_pattern_text}
+use Rattle.js_model.specs.Configs.{is_name, is_number, is_stream_config}
+use Rattle.js_model.specs.Proper.{if_given}
+use Rattle.js_model.specs.declared.stream_config.StreamConfig.{StreamConfig}
+use Rattle.stream_config.specs.Laws.{IsServed}
+use Rattle.stream_config.specs.Printing.{IsPrinted}
+use Rattle.api_requests.specs.declared.fault.ApiFault.{ApiFault}
+use Rattle.api_requests.specs.declared.fault.ApiFault.TheVariants.{Refused, NoMemory}
+use Rattle.api_requests.specs.declared.request.ApiRequest.{ApiRequest}
+use Rattle.api_requests.specs.declared.request.ApiRequest.TheVariants as requests
+
+-- the name of a stream
+pub record IsStream (stream : Bytes) : Type 0 where
+  pub name : IsTrue (is_name stream)
+  pub utf8 : IsUtf8 stream
+
+-- the stream's name, and its configuration
+pub record IsSetup (stream : Bytes) (config : StreamConfig) : Type 0 where
+  pub name : IsStream stream
+  pub named : config.name ≡ stream
+  pub valid : IsTrue (is_stream_config config)
+  pub served : IsServed config
+  pub printed : IsPrinted config
+
+-- the place and the pattern of a list
+pub record IsListing (offset : ℕ) (subject : Option Bytes) : Type 0 where
+  pub number : IsTrue (is_number offset)
+  pub pattern : IsTrue (if_given is_pattern_text subject)
+
+abbrev pub IsRead : ApiRequest → Type 0
+IsRead requests.AccountInfo = Unit {0}
+IsRead (requests.StreamCreate stream config) = IsSetup stream config
+IsRead (requests.StreamUpdate stream config) = IsSetup stream config
+IsRead (requests.StreamInfo stream) = IsStream stream
+IsRead (requests.StreamDelete stream) = IsStream stream
+IsRead (requests.StreamNames offset subject) = IsListing offset subject
+IsRead (requests.StreamList offset subject) = IsListing offset subject
+IsRead _ = ⊥
+
+-- the text of a refusal is UTF-8
+abbrev pub IsShown : ApiFault → Type 0
+IsShown (Refused refusal) = IsUtf8 refusal.text
+IsShown NoMemory = Unit {0}

@@ -1,0 +1,48 @@
+-- What a call of the API asks for, by its subject and its body, after the JetStream API reference. The refusals come in this order: the body is no
+-- JSON object, the name of the stream is none, then each field in the order of its key, and then another name in a configuration.
+use Rattle.std.specs.Prelude.{Option, Some, None, option_map, Result, Ok}
+use Rattle.js_base.specs.Bytes.{Bytes}
+use Rattle.js_base.specs.declared.out.ApiError.{ApiError}
+use Rattle.api_requests.specs.declared.call.GeneralCall.{GeneralCall}
+use Rattle.api_requests.specs.declared.call.GeneralCall.TheVariants as general
+use Rattle.api_requests.specs.declared.call.StreamCall.{StreamCall}
+use Rattle.api_requests.specs.declared.call.StreamCall.TheVariants as stream
+use Rattle.api_requests.specs.declared.request.ApiRequest.{ApiRequest}
+use Rattle.api_requests.specs.declared.request.ApiRequest.TheVariants as requests
+use Rattle.api_requests.specs.Calls.{general_call, stream_call}
+use Rattle.api_requests.specs.Bodies.{◌>>=◌, fields_of, stream_name, listing_of, setup_of}
+
+-- the body of a question for the account is not looked at
+unfoldable pub general_request : GeneralCall → Bytes → Result ApiRequest ApiError
+general_request general.AccountInfo body = Ok requests.AccountInfo
+general_request general.StreamNames body = do
+  listing ← listing_of body
+  Ok (requests.StreamNames listing.0 listing.1)
+general_request general.StreamList body = do
+  listing ← listing_of body
+  Ok (requests.StreamList listing.0 listing.1)
+
+-- The body of a creation or a change is the configuration, also an empty one; that of a question is an object without fields of its own; and that of a
+-- deletion is not looked at.
+unfoldable pub stream_request : StreamCall → Bytes → Bytes → Result ApiRequest ApiError
+stream_request stream.Create token body = do
+  setup ← setup_of token body
+  Ok (requests.StreamCreate setup.0 setup.1)
+stream_request stream.Update token body = do
+  setup ← setup_of token body
+  Ok (requests.StreamUpdate setup.0 setup.1)
+stream_request stream.Info token body = do
+  _ ← fields_of body
+  name ← stream_name token
+  Ok (requests.StreamInfo name)
+stream_request stream.Delete token body = do
+  name ← stream_name token
+  Ok (requests.StreamDelete name)
+
+abbrev pub or_on_stream : Option GeneralCall → Option (StreamCall × Bytes) → Bytes → Option (Result ApiRequest ApiError)
+or_on_stream (Some call) on_stream body = Some (general_request call body)
+or_on_stream None on_stream body = option_map (λ x. stream_request x.0 x.1 body) on_stream
+
+-- the request, or its refusal; none where the subject is no call
+unfoldable pub request_of : Bytes → Bytes → Option (Result ApiRequest ApiError)
+request_of subject body = or_on_stream (general_call subject) (stream_call subject) body

@@ -1,0 +1,15 @@
+//! The calls of the JetStream API on streams: which subjects are calls, and what is read of their bodies.
+#![tactic(auto)]
+
+mod call;
+mod fault;
+pub mod laws;
+mod listing;
+mod reading;
+mod request;
+#[cfg(test)]
+mod tests;
+
+pub use fault::ApiFault;
+pub use reading::read_request;
+pub use request::ApiRequest;

@@ -1,0 +1,88 @@
+//! Calls are read.
+
+ghost use Rattle.std.specs.Prelude.{◌≡◌, IfOk, IfErr, IfSome};
+ghost use Rattle.api_requests.specs.Answers.{Reads, ReadsCall};
+ghost use Rattle.api_requests.specs.Read.{IsRead, IsShown};
+ghost use Rattle.api_requests.specs.Requests.{general_request, stream_request, request_of};
+
+use crate::call::{GeneralCall, StreamCall, general_call, stream_call};
+use crate::fault::ApiFault;
+use crate::listing::{fields_of, listing_of, setup_of, stream_name};
+use crate::request::ApiRequest;
+use std::alloc::Global;
+
+/// A call on no stream of its own.
+#[tactic(auto, unfolding(crate::specs::Requests::general_request))]
+fn read_general(alloc: Global, call: GeneralCall, body: &[u8]) -> Result<ApiRequest, ApiFault>
+    ensures reading { Reads result (general_request call body.now) }
+{
+    match call {
+        GeneralCall::AccountInfo => Ok(ApiRequest::AccountInfo),
+        GeneralCall::StreamNames => {
+            let (offset, subject) = listing_of(alloc, body)?;
+            Ok(ApiRequest::StreamNames { offset, subject })
+        }
+        GeneralCall::StreamList => {
+            let (offset, subject) = listing_of(alloc, body)?;
+            Ok(ApiRequest::StreamList { offset, subject })
+        }
+    }
+}
+
+/// A call on one stream.
+#[tactic(auto, unfolding(crate::specs::Requests::stream_request))]
+fn read_on_stream(
+    alloc: Global,
+    call: StreamCall,
+    token: &[u8],
+    body: &[u8],
+) -> Result<ApiRequest, ApiFault>
+    ensures reading { Reads result (stream_request call token.now body.now) }
+{
+    match call {
+        StreamCall::Create => {
+            let (stream, config) = setup_of(alloc, token, body)?;
+            Ok(ApiRequest::StreamCreate { stream, config })
+        }
+        StreamCall::Update => {
+            let (stream, config) = setup_of(alloc, token, body)?;
+            Ok(ApiRequest::StreamUpdate { stream, config })
+        }
+        StreamCall::Info => {
+            fields_of(alloc, body)?;
+            let stream = stream_name(alloc, token)?;
+            Ok(ApiRequest::StreamInfo { stream })
+        }
+        StreamCall::Delete => {
+            let stream = stream_name(alloc, token)?;
+            Ok(ApiRequest::StreamDelete { stream })
+        }
+    }
+}
+
+/// The call that a subject and a body are, and `None` exactly where the subject is no call. The subjects are `$JS.API.` and one of `INFO`,
+/// `STREAM.NAMES`, `STREAM.LIST`, and `STREAM.CREATE.<stream>`, `STREAM.UPDATE.<stream>`, `STREAM.INFO.<stream>` and `STREAM.DELETE.<stream>`.
+///
+/// Where several things are wrong, the first of these is the refusal: 10025, the body is no JSON object; 20001 of `name`, the stream's token is no
+/// name; 20001 of a field, or in a configuration 20002, in the order of the keys; 20022, another name in a configuration. An empty body is an
+/// object without fields, and those of `INFO` and `STREAM.DELETE` are not looked at. `NoMemory` may come for each call.
+///
+/// What is read is valid: names, configurations, numbers and patterns are such, and the texts that replies show are UTF-8, as that of a refusal.
+#[tactic(auto, unfolding(crate::specs::Requests::request_of))]
+pub fn read_request(
+    alloc: Global,
+    subject: &[u8],
+    body: &[u8],
+) -> Result<Option<ApiRequest>, ApiFault>
+    ensures reading { ReadsCall result (request_of subject.now body.now) }
+    ensures request { IfOk result (λ found. IfSome found IsRead) }
+    ensures refusal { IfErr result IsShown }
+{
+    if let Some(call) = general_call(subject) {
+        return read_general(alloc, call, body).map(Some);
+    }
+    match stream_call(subject) {
+        Some((call, token)) => read_on_stream(alloc, call, token, body).map(Some),
+        None => Ok(None),
+    }
+}

@@ -1,0 +1,9 @@
+pub mod Texts
+pub mod Printings
+pub mod Refusing
+pub mod Named
+pub mod Parts
+pub mod Passing
+pub mod Numbers
+pub mod Valid
+pub mod Printed

@@ -1,0 +1,6 @@
+pub mod Standings
+pub mod Table
+pub mod Reading
+pub mod Printing
+pub mod Answers
+pub mod Laws

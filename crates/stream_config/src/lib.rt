@@ -1,0 +1,18 @@
+//! Configurations of streams: they are read from the fields of a JSON object, and printed.
+#![tactic(auto)]
+
+mod fault;
+mod judging;
+mod laws;
+mod lookup;
+mod printing;
+mod reading;
+mod rule;
+mod table;
+#[cfg(test)]
+mod tests;
+
+pub use fault::ConfigFault;
+pub use laws::{law_printable, law_printed_read};
+pub use printing::print;
+pub use reading::read;
