@@ -1,2 +1,5 @@
+pub mod NoFractions
+pub mod StreamsWhole
+pub mod ConsumersWhole
 pub mod Whole
 pub mod Times

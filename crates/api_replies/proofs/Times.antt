@@ -1,14 +1,13 @@
 -- The text of a moment is UTF-8.
-use Rattle.std.proofs.Common.{ℕ, zero, suc, ◌≡◌, ◌+◌, ◌^◌, ◌<◌, ◌≤◌, Bool, true, false, ◌&&◌, [], ◌∷◌, ◌++◌, length, IsTrue, IsUtf8, nat_lt, nat_le, refl, sym, ap, ◌∙◌, subst, arith}
+use Rattle.std.proofs.Common.{ℕ, zero, suc, ◌≡◌, ◌^◌, ◌<◌, Bool, true, false, ◌&&◌, [], ◌∷◌, ◌++◌, length, IsTrue, IsUtf8, nat_lt, nat_le, refl, sym, subst, arith}
 use Rattle.std.specs.Char.{is_ascii_digit}
 use Rattle.std.specs.List.{list_all}
-use Rattle.std.specs.Str.{IsAscii}
 use Rattle.std.proofs.lemmas.Str.{IsUtf8-from_ascii}
 use Rattle.std.proofs.lemmas.Bool.Decides.{nat_tests}
 use Rattle.std.proofs.Common.{slice_index}
 use Rattle.js_base.specs.Bytes.{Bytes}
-use Rattle.js_json.specs.Calendar.{Day, is_day, days_of_month}
-use Rattle.js_json.specs.Times.{in_digits, Clock, is_clock, is_fraction, Zone, utc, ahead, behind, is_zone, day_text, fraction_text, clock_text, zone_text, written, time_text, SpellsTime}
+use Rattle.js_json.specs.Calendar.{Day, is_day}
+use Rattle.js_json.specs.Times.{in_digits, Clock, is_clock, is_fraction, Zone, utc, ahead, behind, is_zone, day_text, fraction_text, clock_text, zone_text, written, SpellsTime}
 use Rattle.js_json.proofs.Digits.{digits-in_digits}
 use Rattle.js_json.proofs.TimeParts.{day_facts}
 use Rattle.js_json.proofs.ClockParts.{clock_facts}

@@ -1,13 +1,13 @@
 -- A stream's configuration as it is shown, by JetStream's stream configuration. A description is shown where it is not empty.
 use Rattle.std.specs.Prelude.{List, [], ◌∷◌, codes}
-use Rattle.serde_json.specs.Data.{Data, string, array, object, Members, no_members, put}
+use Rattle.serde_json.specs.Data.{Data, string, array, object, Members, no_members}
 use Rattle.js_base.specs.Bytes.{Bytes}
 use Rattle.js_model.specs.declared.stream_config.Retention.{Retention}
 use Rattle.js_model.specs.declared.stream_config.Retention.TheVariants.{Limits, Interest, WorkQueue}
 use Rattle.js_model.specs.declared.stream_config.Discard.{Discard}
 use Rattle.js_model.specs.declared.stream_config.Discard.TheVariants.{Old, New as DiscardNew}
 use Rattle.js_model.specs.declared.stream_config.StreamConfig.{StreamConfig}
-use Rattle.api_replies.specs.Parts.{with_all, count, limit, texts}
+use Rattle.api_replies.specs.Parts.{with_all, count, limit, texts, text_unless_empty}
 
 abbrev pub retention_text : Retention → Bytes
 retention_text Limits = codes "limits"
@@ -19,8 +19,7 @@ discard_text Old = codes "old"
 discard_text DiscardNew = codes "new"
 
 abbrev pub described : Bytes → Members → Members
-described [] members = members
-described (byte ∷ more) members = put (codes "description") (string (byte ∷ more)) members
+described text members = text_unless_empty (codes "description") text members
 
 abbrev pub limits_of : StreamConfig → List (Bytes × Data)
 limits_of c =

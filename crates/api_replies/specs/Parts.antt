@@ -1,7 +1,9 @@
 -- The parts of the replies as JSON values. `put` keeps the members of an object in the order of their keys.
-use Rattle.std.specs.Prelude.{ℕ, negsuc, Bool, List, [], ◌∷◌, ◌++◌, map, codes, Option, Some, None}
+use Rattle.std.specs.Prelude.{ℕ, negsuc, ◌==◌, if◌then◌else◌, List, [], ◌∷◌, ◌++◌, map, codes, Option, Some, None}
 use Rattle.serde_json.specs.Data.{Data, number, string, object, unsigned, negative, Items, Members, no_members, put}
 use Rattle.serde_json.specs.View.{items_of}
+use Rattle.base64.specs.Engines.{standard}
+use Rattle.base64.specs.GeneralPurpose.{encode_of}
 use Rattle.js_base.specs.Bytes.{Bytes}
 
 -- these members beside the others
@@ -20,6 +22,24 @@ count n = number (unsigned n)
 abbrev pub limit : Option ℕ → Data
 limit None = number (negative (negsuc 0))
 limit (Some n) = count n
+
+-- a number that is shown where it is not 0
+abbrev pub count_unless_0 : Bytes → ℕ → Members → Members
+count_unless_0 key n members = if n == 0 then members else put key (count n) members
+
+-- a text that is shown where it is not empty
+abbrev pub text_unless_empty : Bytes → Bytes → Members → Members
+text_unless_empty key [] members = members
+text_unless_empty key (byte ∷ more) members = put key (string (byte ∷ more)) members
+
+-- bytes, spelled in base64
+abbrev pub base64_data : Bytes → Data
+base64_data bytes = string (encode_of standard bytes)
+
+-- bytes that are shown where there are any
+abbrev pub base64_unless_empty : Bytes → Bytes → Members → Members
+base64_unless_empty key [] members = members
+base64_unless_empty key (byte ∷ more) members = put key (base64_data (byte ∷ more)) members
 
 abbrev pub texts : List Bytes → Items
 texts list = items_of (map string list)

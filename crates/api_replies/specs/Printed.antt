@@ -1,8 +1,10 @@
--- Which texts a reply shows that are not the server's own: each is UTF-8.
+-- Which texts a reply shows that are not the server's own: each is UTF-8. Bytes that are shown in base64 may be any.
 use Rattle.std.specs.Prelude.{IsUtf8}
 use Rattle.std.specs.List.{All}
 use Rattle.js_model.specs.declared.stream_config.StreamConfig.{StreamConfig}
+use Rattle.js_model.specs.declared.consumer_config.ConsumerConfig.{ConsumerConfig}
 use Rattle.js_model.specs.declared.reply.StreamInfo.{StreamInfo}
+use Rattle.js_model.specs.declared.reply.ConsumerInfo.{ConsumerInfo}
 use Rattle.api_replies.specs.declared.reply.ApiReply.{ApiReply}
 use Rattle.api_replies.specs.declared.reply.ApiReply.TheVariants as replies
 
@@ -14,6 +16,18 @@ pub record ConfigIsText (c : StreamConfig) : Type 0 where
 abbrev pub InfoIsText : StreamInfo → Type 0
 InfoIsText info = ConfigIsText info.config
 
+pub record ConsumerConfigIsText (c : ConsumerConfig) : Type 0 where
+  pub deliver_group : IsUtf8 c.deliver_group
+  pub deliver_subject : IsUtf8 c.deliver_subject
+  pub description : IsUtf8 c.description
+  pub filter_subject : IsUtf8 c.filter_subject
+  pub name : IsUtf8 c.name
+
+pub record ConsumerIsText (info : ConsumerInfo) : Type 0 where
+  pub config : ConsumerConfigIsText info.config
+  pub name : IsUtf8 info.name
+  pub stream : IsUtf8 info.stream
+
 abbrev pub IsText : ApiReply → Type 0
 IsText (replies.AccountInfo consumers storage streams) = Unit {0}
 IsText (replies.StreamCreate info) = InfoIsText info
@@ -23,7 +37,11 @@ IsText replies.StreamDelete = Unit {0}
 IsText (replies.StreamPurge purged) = Unit {0}
 IsText (replies.StreamNames offset streams total) = All IsUtf8 streams
 IsText (replies.StreamList offset streams total) = All InfoIsText streams
+IsText (replies.StreamMsgGet message) = IsUtf8 message.subject
 IsText replies.StreamMsgDelete = Unit {0}
+IsText (replies.ConsumerCreate info) = ConsumerIsText info
+IsText (replies.ConsumerInfo info) = ConsumerIsText info
 IsText replies.ConsumerDelete = Unit {0}
 IsText (replies.ConsumerNames consumers offset total) = All IsUtf8 consumers
+IsText (replies.ConsumerList consumers offset total) = All ConsumerIsText consumers
 IsText (replies.Refused name e) = IsUtf8 name × IsUtf8 e.text

@@ -1,14 +1,15 @@
 -- The replies of the API and their texts, by the JetStream API reference: JSON without spaces, its keys ascending.
-use Rattle.std.specs.Prelude.{ℕ, ◌-◌, negsuc, true, List, [], ◌∷◌, codes}
-use Rattle.serde_json.specs.Data.{Data, boolean, number, negative, string, array, object, Items, Members, no_members}
+use Rattle.std.specs.Prelude.{ℕ, negsuc, true, List, [], ◌∷◌, codes}
+use Rattle.serde_json.specs.Data.{Data, boolean, number, negative, string, array, Items, Members, no_members}
 use Rattle.serde_json.specs.Written.{compact_text}
 use Rattle.js_base.specs.Bytes.{Bytes}
 use Rattle.js_base.specs.declared.out.ApiError.{ApiError}
-use Rattle.js_model.specs.declared.reply.StreamInfo.{StreamInfo}
 use Rattle.api_replies.specs.declared.reply.ApiReply.{ApiReply}
 use Rattle.api_replies.specs.declared.reply.ApiReply.TheVariants as replies
-use Rattle.api_replies.specs.Parts.{with_all, object_with, count, limit, texts, of_kind}
+use Rattle.api_replies.specs.Parts.{with_all, object_with, count, texts, of_kind}
 use Rattle.api_replies.specs.Infos.{info_members, infos}
+use Rattle.api_replies.specs.Messages.{stored_members}
+use Rattle.api_replies.specs.Consumers.{consumer_members, consumers as consumer_items}
 
 -- the server counts no calls
 abbrev pub calls_of : List (Bytes × Data)
@@ -76,9 +77,13 @@ reply_members replies.StreamDelete = success_members
 reply_members (replies.StreamPurge purged) = purge_members purged
 reply_members (replies.StreamNames offset streams total) = page_members 1024 (codes "streams") (texts streams) offset total
 reply_members (replies.StreamList offset streams total) = page_members 256 (codes "streams") (infos streams) offset total
+reply_members (replies.StreamMsgGet message) = stored_members message
 reply_members replies.StreamMsgDelete = success_members
+reply_members (replies.ConsumerCreate info) = consumer_members info
+reply_members (replies.ConsumerInfo info) = consumer_members info
 reply_members replies.ConsumerDelete = success_members
 reply_members (replies.ConsumerNames consumers offset total) = page_members 1024 (codes "consumers") (texts consumers) offset total
+reply_members (replies.ConsumerList consumers offset total) = page_members 256 (codes "consumers") (consumer_items consumers) offset total
 reply_members (replies.Refused name e) = refused_members e
 
 -- the name of a reply
@@ -91,9 +96,13 @@ reply_name replies.StreamDelete = codes "stream_delete"
 reply_name (replies.StreamPurge purged) = codes "stream_purge"
 reply_name (replies.StreamNames offset streams total) = codes "stream_names"
 reply_name (replies.StreamList offset streams total) = codes "stream_list"
+reply_name (replies.StreamMsgGet message) = codes "stream_msg_get"
 reply_name replies.StreamMsgDelete = codes "stream_msg_delete"
+reply_name (replies.ConsumerCreate info) = codes "consumer_create"
+reply_name (replies.ConsumerInfo info) = codes "consumer_info"
 reply_name replies.ConsumerDelete = codes "consumer_delete"
 reply_name (replies.ConsumerNames consumers offset total) = codes "consumer_names"
+reply_name (replies.ConsumerList consumers offset total) = codes "consumer_list"
 reply_name (replies.Refused name e) = name
 
 -- the text of a reply

@@ -5,7 +5,7 @@ ghost use Rattle.std.specs.List.{All};
 ghost use Rattle.serde_json.specs.Data.{object};
 ghost use Rattle.api_replies.specs.Shown.{shown};
 ghost use Rattle.api_replies.specs.Parts.{with_all};
-ghost use Rattle.api_replies.specs.Configs.{retention_text, discard_text, described, limits_of, times_of, policies_of, names_of, config_data};
+ghost use Rattle.api_replies.specs.Configs.{retention_text, discard_text, limits_of, times_of, policies_of, names_of, config_data};
 ghost use Rattle.api_replies.specs.Printed.{ConfigIsText};
 
 use crate::object::Object;
@@ -33,18 +33,6 @@ fn discard_text(discard: Discard) -> &'static [u8]
     match discard {
         Discard::Old => b"old",
         Discard::New => b"new",
-    }
-}
-
-/// Adds a description that is not empty.
-fn put_description(into: &mut Object, description: &[u8]) -> Result<(), NoMemory>
-    requires utf8 { IsUtf8 description.now }
-    ensures ok { OnOk result (shown into.new ≡ described description.now (shown into.old)) }
-{
-    if description.is_empty() {
-        Ok(())
-    } else {
-        into.text("description", description)
     }
 }
 
@@ -93,7 +81,7 @@ pub(crate) fn config_object(alloc: Global, config: &StreamConfig) -> Result<Obje
     ensures value { IfOk result (λ made. object (shown made) ≡ config_data config.now) }
 {
     let mut made = Object::new(alloc);
-    put_description(&mut made, config.description.as_slice())?;
+    made.text_unless_empty("description", config.description.as_slice())?;
     put_names(&mut made, config)?;
     put_policies(&mut made, config)?;
     put_times(&mut made, config)?;

@@ -1,7 +1,9 @@
-//! The replies of the JetStream API on streams, and their texts.
+//! The replies of the JetStream API, and their texts.
 #![tactic(auto)]
 
 mod config;
+mod consumer;
+mod message;
 mod object;
 mod printing;
 mod reply;

@@ -5,9 +5,12 @@ ghost use Rattle.std.specs.List.{All};
 ghost use Rattle.serde_json.specs.Data.{no_members, object, string, array, boolean, put as with_member};
 ghost use Rattle.serde_json.specs.View.{view, items_view};
 ghost use Rattle.api_replies.specs.Shown.{shown};
-ghost use Rattle.api_replies.specs.Parts.{count, limit, texts, kind};
+ghost use Rattle.js_json.specs.Times.{time_text};
+ghost use Rattle.api_replies.specs.Parts.{count, limit, count_unless_0, text_unless_empty, base64_data, base64_unless_empty, texts, kind};
 
-use js_base::{Blob, NoMemory};
+use base64::engine::general_purpose::STANDARD;
+use js_base::{Blob, Moment, NoMemory};
+use js_json::time_text;
 use serde_json::{Map, Value, put};
 use std::alloc::Global;
 
@@ -85,6 +88,13 @@ impl Object {
         }
     }
 
+    /// Adds a number that is not 0.
+    pub(crate) fn number_unless_0(&mut self, key: &str, n: u64) -> Result<(), NoMemory>
+        ensures ok { OnOk result (shown self.new ≡ count_unless_0 key.now n (shown self.old)) }
+    {
+        if n == 0 { Ok(()) } else { self.number(key, n) }
+    }
+
     /// Adds that something is so.
     pub(crate) fn truth(&mut self, key: &str) -> Result<(), NoMemory>
         ensures ok { OnOk result (shown self.new ≡ with_member key.now (boolean true) (shown self.old)) }
@@ -99,6 +109,48 @@ impl Object {
     {
         let value = text_value(self.alloc, text)?;
         self.value(key, value)
+    }
+
+    /// Adds a text that is not empty.
+    pub(crate) fn text_unless_empty(&mut self, key: &str, text: &[u8]) -> Result<(), NoMemory>
+        requires utf8 { IsUtf8 text.now }
+        ensures ok { OnOk result (shown self.new ≡ text_unless_empty key.now text.now (shown self.old)) }
+    {
+        if text.is_empty() {
+            Ok(())
+        } else {
+            self.text(key, text)
+        }
+    }
+
+    /// Adds a moment.
+    pub(crate) fn time(&mut self, key: &str, at: Moment) -> Result<(), NoMemory>
+        ensures ok { OnOk result (shown self.new ≡ with_member key.now (string (time_text at)) (shown self.old)) }
+    {
+        js_json::laws::law_time_text();
+        // that a moment is in its range is what the proof takes from this call
+        let _ = at.as_nanos();
+        let text = time_text(self.alloc, at)?;
+        self.text(key, text.as_slice())
+    }
+
+    /// Adds bytes, spelled in base64.
+    pub(crate) fn bytes(&mut self, key: &str, bytes: &[u8]) -> Result<(), NoMemory>
+        ensures ok { OnOk result (shown self.new ≡ with_member key.now (base64_data bytes.now) (shown self.old)) }
+    {
+        let text = STANDARD.encode(self.alloc, bytes)?;
+        self.value(key, Value::String(text))
+    }
+
+    /// Adds bytes that are not empty, spelled in base64.
+    pub(crate) fn bytes_unless_empty(&mut self, key: &str, bytes: &[u8]) -> Result<(), NoMemory>
+        ensures ok { OnOk result (shown self.new ≡ base64_unless_empty key.now bytes.now (shown self.old)) }
+    {
+        if bytes.is_empty() {
+            Ok(())
+        } else {
+            self.bytes(key, bytes)
+        }
     }
 
     /// Adds a list of texts.

@@ -7,14 +7,18 @@ ghost use Rattle.serde_json.specs.View.{view, items_view};
 ghost use Rattle.api_replies.specs.Shown.{shown};
 ghost use Rattle.api_replies.specs.Parts.{with_all, object_with, of_kind, texts};
 ghost use Rattle.api_replies.specs.Infos.{info_members, infos};
+ghost use Rattle.api_replies.specs.Messages.{stored_members};
+ghost use Rattle.api_replies.specs.Consumers.{consumers as consumer_items};
 ghost use Rattle.api_replies.specs.Replies.{calls_of, limits_of, usage_of, error_of, account_members, page_members, success_members, purge_members, refused_members, reply_members, reply_name, reply_text};
-ghost use Rattle.api_replies.specs.Printed.{InfoIsText, IsText};
+ghost use Rattle.api_replies.specs.Printed.{InfoIsText, ConsumerIsText, IsText};
 
+use crate::consumer::{consumer_object, consumer_values};
+use crate::message::message_object;
 use crate::object::{Object, text_values};
 use crate::reply::ApiReply;
 use crate::stream_info::{info_object, info_values};
 use js_base::{ApiError, Blob, NoMemory};
-use js_model::StreamInfo;
+use js_model::{ConsumerInfo, Message, StreamInfo};
 use serde_json::Value;
 use std::alloc::Global;
 
@@ -110,7 +114,7 @@ fn names_object(
     page_object(alloc, MAX_NAMES, key, list, offset, total)
 }
 
-/// A page of informations.
+/// A page of the informations of streams.
 fn infos_object(
     alloc: Global,
     streams: &[StreamInfo],
@@ -122,6 +126,32 @@ fn infos_object(
 {
     let list = info_values(alloc, streams)?;
     page_object(alloc, MAX_INFOS, "streams", list, offset, total)
+}
+
+/// A page of the informations of consumers.
+fn consumers_object(
+    alloc: Global,
+    consumers: &[ConsumerInfo],
+    offset: u64,
+    total: u64,
+) -> Result<Object, NoMemory>
+    requires utf8 { All ConsumerIsText consumers.now }
+    ensures members { IfOk result (λ made. shown made ≡ page_members 256 (codes "consumers") (consumer_items consumers.now) offset total) }
+{
+    let list = consumer_values(alloc, consumers)?;
+    page_object(alloc, MAX_INFOS, "consumers", list, offset, total)
+}
+
+/// A stored message.
+#[tactic(auto, unfolding(crate::specs::Messages::stored_members))]
+fn stored_object(alloc: Global, message: &Message) -> Result<Object, NoMemory>
+    requires utf8 { IsUtf8 message.now.subject }
+    ensures members { IfOk result (λ made. shown made ≡ stored_members message.now) }
+{
+    let message = message_object(alloc, message)?;
+    let mut made = Object::new(alloc);
+    made.part("message", message)?;
+    Ok(made)
 }
 
 /// That it was done.
@@ -193,6 +223,10 @@ fn reply_object(alloc: Global, reply: &ApiReply) -> Result<Object, NoMemory>
         } => account_object(alloc, *consumers, *storage, *streams),
         ApiReply::StreamCreate(info) | ApiReply::StreamUpdate(info) | ApiReply::StreamInfo(info) =>
             { info_object(alloc, info) }
+        ApiReply::StreamMsgGet(message) => stored_object(alloc, message),
+        ApiReply::ConsumerCreate(info) | ApiReply::ConsumerInfo(info) => {
+            consumer_object(alloc, info)
+        }
         ApiReply::StreamDelete | ApiReply::StreamMsgDelete | ApiReply::ConsumerDelete => {
             success_object(alloc)
         }
@@ -212,6 +246,11 @@ fn reply_object(alloc: Global, reply: &ApiReply) -> Result<Object, NoMemory>
             offset,
             total,
         } => names_object(alloc, "consumers", consumers.as_slice(), *offset, *total),
+        ApiReply::ConsumerList {
+            consumers,
+            offset,
+            total,
+        } => consumers_object(alloc, consumers.as_slice(), *offset, *total),
         ApiReply::Refused(_, refusal) => refused_object(alloc, refusal),
     }
 }
@@ -231,9 +270,13 @@ fn reply_name(reply: &ApiReply) -> &[u8]
         ApiReply::StreamPurge { .. } => b"stream_purge",
         ApiReply::StreamNames { .. } => b"stream_names",
         ApiReply::StreamList { .. } => b"stream_list",
+        ApiReply::StreamMsgGet(_) => b"stream_msg_get",
         ApiReply::StreamMsgDelete => b"stream_msg_delete",
+        ApiReply::ConsumerCreate(_) => b"consumer_create",
+        ApiReply::ConsumerInfo(_) => b"consumer_info",
         ApiReply::ConsumerDelete => b"consumer_delete",
         ApiReply::ConsumerNames { .. } => b"consumer_names",
+        ApiReply::ConsumerList { .. } => b"consumer_list",
         ApiReply::Refused(name, _) => name.as_slice(),
     }
 }

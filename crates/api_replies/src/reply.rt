@@ -1,7 +1,7 @@
 //! What a call of the API is answered.
 
 use js_base::{ApiError, Blob, List};
-use js_model::StreamInfo;
+use js_model::{ConsumerInfo, Message, StreamInfo};
 
 /// An answer to a call of the JetStream API, with the values that its text shows.
 #[derive(Drop, Debug)]
@@ -32,11 +32,21 @@ pub enum ApiReply {
         streams: List<StreamInfo>,
         total: u64,
     },
+    /// A stored message.
+    StreamMsgGet(Message),
     StreamMsgDelete,
+    ConsumerCreate(ConsumerInfo),
+    ConsumerInfo(ConsumerInfo),
     ConsumerDelete,
     /// The names from `offset` on of `total` consumers.
     ConsumerNames {
         consumers: List<Blob>,
+        offset: u64,
+        total: u64,
+    },
+    /// Their informations.
+    ConsumerList {
+        consumers: List<ConsumerInfo>,
         offset: u64,
         total: u64,
     },

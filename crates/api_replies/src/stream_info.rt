@@ -1,10 +1,9 @@
 //! A stream's information as it is shown.
 
-ghost use Rattle.std.specs.Prelude.{◌≡◌, ◌<◌, ◌^◌, OnOk, IfOk, IsUtf8};
+ghost use Rattle.std.specs.Prelude.{◌≡◌, OnOk, IfOk, IsUtf8};
 ghost use Rattle.std.specs.List.{All};
 ghost use Rattle.serde_json.specs.Data.{object, string, put as with_member};
 ghost use Rattle.serde_json.specs.View.{items_view};
-ghost use Rattle.js_json.specs.Times.{time_text};
 ghost use Rattle.api_replies.specs.Shown.{shown};
 ghost use Rattle.api_replies.specs.Parts.{with_all};
 ghost use Rattle.api_replies.specs.Infos.{time_shown, ends_of, state_data, info_members, infos};
@@ -13,45 +12,28 @@ ghost use Rattle.api_replies.specs.Printed.{InfoIsText};
 use crate::config::config_object;
 use crate::object::Object;
 use js_base::{Moment, NoMemory};
-use js_json::time_text;
 use js_model::StreamInfo;
 use serde_json::Value;
 use std::alloc::Global;
 
-/// Adds a moment.
-fn put_time(alloc: Global, into: &mut Object, key: &str, at: Moment) -> Result<(), NoMemory>
-    ensures ok { OnOk result (shown into.new ≡ with_member key.now (string (time_text at)) (shown into.old)) }
-{
-    js_json::laws::law_time_text();
-    // that a moment is in its range is what the proof takes from this call
-    let _ = at.as_nanos();
-    let text = time_text(alloc, at)?;
-    into.text(key, text.as_slice())
-}
-
 /// Adds a moment, or the text for none.
-fn put_time_shown(
-    alloc: Global,
-    into: &mut Object,
-    key: &str,
-    at: Option<Moment>,
-) -> Result<(), NoMemory>
+fn put_time_shown(into: &mut Object, key: &str, at: Option<Moment>) -> Result<(), NoMemory>
     ensures ok { OnOk result (shown into.new ≡ with_member key.now (string (time_shown at)) (shown into.old)) }
 {
     match at {
-        Some(at) => put_time(alloc, into, key, at),
+        Some(at) => into.time(key, at),
         None => into.text(key, b"0001-01-01T00:00:00Z"),
     }
 }
 
 /// Adds the first and the last sequence, and their moments.
-fn put_ends(alloc: Global, into: &mut Object, info: &StreamInfo) -> Result<(), NoMemory>
+fn put_ends(into: &mut Object, info: &StreamInfo) -> Result<(), NoMemory>
     ensures ok { OnOk result (shown into.new ≡ with_all (ends_of info.now) (shown into.old)) }
 {
     into.number("first_seq", info.first_seq)?;
-    put_time_shown(alloc, into, "first_ts", info.first_at)?;
+    put_time_shown(into, "first_ts", info.first_at)?;
     into.number("last_seq", info.last_seq)?;
-    put_time_shown(alloc, into, "last_ts", info.last_at)
+    put_time_shown(into, "last_ts", info.last_at)
 }
 
 /// What the stream holds.
@@ -62,7 +44,7 @@ fn state_object(alloc: Global, info: &StreamInfo) -> Result<Object, NoMemory>
     let mut made = Object::new(alloc);
     made.number("bytes", info.bytes)?;
     made.number("consumer_count", info.consumers)?;
-    put_ends(alloc, &mut made, info)?;
+    put_ends(&mut made, info)?;
     made.number("messages", info.messages)?;
     Ok(made)
 }
@@ -76,7 +58,7 @@ pub(crate) fn info_object(alloc: Global, info: &StreamInfo) -> Result<Object, No
     let mut made = Object::new(alloc);
     let config = config_object(alloc, &info.config)?;
     made.part("config", config)?;
-    put_time(alloc, &mut made, "created", info.made)?;
+    made.time("created", info.made)?;
     let state = state_object(alloc, info)?;
     made.part("state", state)?;
     Ok(made)

@@ -4,6 +4,9 @@ ghost use Rattle.std.specs.Prelude.{IfOk, IsUtf8};
 ghost use Rattle.std.specs.List.{All};
 ghost use Rattle.api_replies.specs.Printed.{InfoIsText, IsText};
 
+mod consumers;
+mod messages;
+
 use crate::{ApiReply, reply_text};
 use js_base::{ApiError, Blob, List, Moment, NoMemory};
 use js_model::{Discard, Retention, StreamConfig, StreamInfo};
@@ -29,10 +32,9 @@ fn orders(alloc: Global) -> Result<StreamInfo, NoMemory>
         retention: Retention::Limits,
         subjects: one(alloc, b"orders.*")?,
     };
-    let made = Moment::of(1_700_000_000_000_000_000).ok_or(NoMemory)?;
     Ok(StreamInfo {
         config,
-        made,
+        made: moment(1_700_000_000_000_000_000)?,
         messages: 0,
         bytes: 0,
         first_seq: 0,
@@ -41,6 +43,19 @@ fn orders(alloc: Global) -> Result<StreamInfo, NoMemory>
         last_at: None,
         consumers: 0,
     })
+}
+
+/// The moment so many nanoseconds after 1970.
+fn moment(nanos: u64) -> Result<Moment, NoMemory> {
+    Moment::of(nanos).ok_or(NoMemory)
+}
+
+/// A text.
+fn text(alloc: Global, bytes: &[u8]) -> Result<Blob, NoMemory>
+    requires utf8 { IsUtf8 bytes.now }
+    ensures utf8 { IfOk result (λ text. IsUtf8 text) }
+{
+    Blob::of(alloc, bytes)
 }
 
 /// A list of this text alone.

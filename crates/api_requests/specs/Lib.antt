@@ -1,5 +1,6 @@
 pub mod Answers
 pub mod Calls
+pub mod Names
 pub mod Bodies
 pub mod Seen
 pub mod Requests

@@ -5,11 +5,13 @@ mod call;
 mod fault;
 pub mod laws;
 mod listing;
+mod name;
 mod reading;
 mod request;
 #[cfg(test)]
 mod tests;
 
 pub use fault::ApiFault;
+pub use name::call_name;
 pub use reading::read_request;
 pub use request::ApiRequest;

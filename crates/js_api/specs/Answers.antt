@@ -8,7 +8,8 @@ use Rattle.js_api.specs.declared.desk.OpenFault.{OpenFault}
 use Rattle.js_api.specs.declared.desk.OpenFault.TheVariants as open_faults
 use Rattle.js_api.specs.declared.desk.SubFault.{SubFault}
 use Rattle.js_api.specs.declared.desk.SubFault.TheVariants as sub_faults
-use Rattle.js_api.specs.Calls.{Client, new_client, DeskAnswer, Opened, Done, Took, Gave, Slow, TooManySubs, Worn, NoMemory}
+use Rattle.js_api.specs.Clients.{Client, new_client}
+use Rattle.js_api.specs.Calls.{DeskAnswer, Opened, Done, Took, Settled, Gave, Slow, TooManySubs, Worn, NoMemory}
 
 abbrev pub opened : Result ℕ OpenFault → DeskAnswer
 opened (Ok session) = Opened session
@@ -23,6 +24,14 @@ subscribed (Err sub_faults.TooManySubs) = TooManySubs
 abbrev pub took : Result Taken Refused → DeskAnswer
 took (Ok taken) = Took taken
 took (Err _) = NoMemory
+
+abbrev pub ticked : Result (Unit {0}) Refused → DeskAnswer
+ticked (Ok _) = Done
+ticked (Err _) = NoMemory
+
+abbrev pub settled : Result Bool Refused → DeskAnswer
+settled (Ok ready) = Settled ready
+settled (Err _) = NoMemory
 
 abbrev pub gave : Result Collected Refused → DeskAnswer
 gave (Ok (collected.Frames list more)) = Gave list more

@@ -1,4 +1,9 @@
 pub mod Desks
 pub mod Outputs
+pub mod Holding
+pub mod Clients
+pub mod Publishing
+pub mod Api
+pub mod Making
 pub mod Calls
 pub mod Answers

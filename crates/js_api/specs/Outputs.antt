@@ -1,5 +1,6 @@
--- What the entries of a place send: their outputs, and the answer of each publish to its reply subject, printed as JetStream's PubAck.
-use Rattle.std.specs.Prelude.{ℕ, ◌==◌, ◌||◌, Bool, true, false, List, [], ◌∷◌, ◌++◌, Option, Some, None, codes, decimal, if◌then◌else◌}
+-- What the entries of a place send: their outputs, and the answer to the reply subject of what was asked, as JetStream's PubAck and the JetStream
+-- API reference have it.
+use Rattle.std.specs.Prelude.{ℕ, ◌==◌, ◌||◌, Bool, true, false, List, [], ◌∷◌, ◌++◌, Option, Some, None, option_map, codes, decimal, if◌then◌else◌}
 use Rattle.std.specs.List.{flat_map}
 use Rattle.js_base.specs.Bytes.{Bytes}
 use Rattle.js_base.specs.declared.out.Out.{Out}
@@ -7,11 +8,16 @@ use Rattle.js_base.specs.declared.out.ApiError.{ApiError}
 use Rattle.js_model.specs.declared.stream.State.{State}
 use Rattle.js_model.specs.declared.stream.State.TheVariants.{Vacant, Live}
 use Rattle.js_model.specs.declared.event.What.{What}
-use Rattle.js_model.specs.declared.event.What.TheVariants.{Drop as DropStream, Publish}
+use Rattle.js_model.specs.declared.event.What.TheVariants.{Make, Change, Drop as DropStream, Publish, StreamInfo as AskStream}
 use Rattle.js_model.specs.declared.reply.Reply.{Reply}
 use Rattle.js_model.specs.declared.reply.Reply.TheVariants.{Info, Done, Published, Duplicate, Refused}
+use Rattle.js_model.specs.declared.reply.StreamInfo.{StreamInfo}
 use Rattle.js_model.specs.declared.entry.PlaceEntry.{PlaceEntry}
 use Rattle.js_model.specs.declared.entry.PlaceEntry.TheVariants.{Step, Deliver, Broken}
+use Rattle.js_model.specs.Proper.{reply_of}
+use Rattle.api_replies.specs.declared.reply.ApiReply.{ApiReply}
+use Rattle.api_replies.specs.declared.reply.ApiReply.TheVariants as replies
+use Rattle.api_replies.specs.Replies.{reply_text}
 
 -- ---- the texts of a publish's answer: keys ascending, no spaces
 
@@ -59,10 +65,33 @@ abbrev pub sent_text : Option Bytes → Option Bytes → List Out
 sent_text (Some to) (Some text) = message_to to text ∷ []
 sent_text _ _ = []
 
--- the answer to a publish with a reply subject
+-- a call of the API that a stream answered by its information, or refused under this name
+abbrev pub informed : (StreamInfo → ApiReply) → Bytes → Reply → Option ApiReply
+informed shown name (Info info) = Some (shown info)
+informed shown name (Refused e) = Some (replies.Refused name e)
+informed shown name _ = None
+
+abbrev pub dropped : Reply → Option ApiReply
+dropped Done = Some replies.StreamDelete
+dropped (Refused e) = Some (replies.Refused (codes "stream_delete") e)
+dropped _ = None
+
+-- how a stream answers a call of the API
+abbrev pub api_reply : What → Reply → Option ApiReply
+api_reply (Make to config) reply = informed replies.StreamCreate (codes "stream_create") reply
+api_reply (Change to config) reply = informed replies.StreamUpdate (codes "stream_update") reply
+api_reply (DropStream to) reply = dropped reply
+api_reply (AskStream to) reply = informed replies.StreamInfo (codes "stream_info") reply
+api_reply _ reply = None
+
+-- the text of the answer, where the stream has this name
+abbrev pub text_for : Bytes → What → Reply → Option Bytes
+text_for stream (Publish publish) reply = publish_text stream reply
+text_for stream what reply = option_map reply_text (api_reply what reply)
+
+-- the answer, where there is a reply subject
 abbrev pub answer_of : Bytes → What → Reply → List Out
-answer_of stream (Publish publish) reply = sent_text publish.reply (publish_text stream reply)
-answer_of stream _ reply = []
+answer_of stream what reply = sent_text (reply_of what) (text_for stream what reply)
 
 abbrev pub said : Bool → List Out → List Out
 said true outs = []

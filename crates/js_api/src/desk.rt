@@ -2,9 +2,11 @@
 
 ghost use Rattle.std.specs.Prelude.{◌≡◌, ℕ, Bool, true, false, List, [], ◌++◌, IsTrue, option_map};
 ghost use Rattle.js_api.specs.Desks.{DeskEntry};
-ghost use Rattle.js_api.specs.Calls.{Client, with_options, Open, Options, Sub, Unsub, Publish, Collect, Close, Done, IsMessage, Makes};
+ghost use Rattle.js_api.specs.Clients.{Client, with_options};
+ghost use Rattle.js_api.specs.Publishing.{IsMessage};
+ghost use Rattle.js_api.specs.Calls.{Open, Options, Sub, Unsub, Publish, Tick, Settle, Collect, Close, Done, Makes};
 ghost use Rattle.js_base.specs.Subjects.{is_pattern_text};
-ghost use Rattle.js_api.specs.Answers.{opened, subscribed, took, gave, OpensClient, LeavesLess};
+ghost use Rattle.js_api.specs.Answers.{opened, subscribed, took, ticked, settled, gave, OpensClient, LeavesLess};
 
 use js_base::{Moment, NoMemory, Out};
 use js_model::{Collected, Taken};
@@ -78,13 +80,28 @@ pub trait Desk {
         ensures client { client self.new ≡ client self.old }
         ensures is_open { is_open self.new ≡ true };
 
-    /// Publishes a message of the session, and answers who took it.
+    /// Publishes a message of the session, and answers who took it: the subscriptions and the stream of a plain subject, or a call of the
+    /// JetStream API, which is carried out and answered to the reply subject.
     fn publish(&mut self, message: &Out, now: Moment) -> Result<Taken, NoMemory>
         requires message { IsMessage message.now }
         requires is_open { is_open self.old ≡ true }
         ensures made { Makes made self.old self.new (client self.old) (Publish message.now now) (took result) }
         ensures client { client self.new ≡ client self.old }
         ensures is_open { is_open self.new ≡ true };
+
+    /// Lets time pass at the next place with a stream, in cyclic order after the place of the last tick. Where there is no stream, nothing is
+    /// done.
+    fn tick(&mut self, now: Moment) -> Result<(), NoMemory>
+        ensures made { Makes made self.old self.new (client self.old) (Tick now) (ticked result) }
+        ensures client { client self.new ≡ client self.old }
+        ensures is_open { is_open self.new ≡ is_open self.old };
+
+    /// Lets time pass at the place of the last hold, and answers whether a consumer is ready there then: one to whom something can be
+    /// delivered. Before the first hold it answers false, and does nothing.
+    fn settle(&mut self, now: Moment) -> Result<bool, NoMemory>
+        ensures made { Makes made self.old self.new (client self.old) (Settle now) (settled result) }
+        ensures client { client self.new ≡ client self.old }
+        ensures is_open { is_open self.new ≡ is_open self.old };
 
     /// Takes frames that wait for the session, whole ones of at most `max` bytes together, but one where any waits; or tells how long they
     /// would be together, where that is too long.

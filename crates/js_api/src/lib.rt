@@ -4,5 +4,7 @@
 mod desk;
 mod pub_ack;
 
+pub use api_replies::{ApiReply, reply_text};
+pub use api_requests::{ApiFault, ApiRequest, call_name, read_request};
 pub use desk::{Desk, OpenFault, SubFault};
 pub use pub_ack::publish_text;

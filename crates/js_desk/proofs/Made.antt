@@ -1,128 +1,127 @@
--- The making of the one stream.
-use Rattle.std.proofs.Common.{◌≡◌, ℕ, zero, suc, ◌≤◌, ◌^◌, Bool, true, false, [], ◌∷◌, Option, None, Some, refl, sym, ap, subst, ◌∙◌, inl, inr, arith}
+-- The stream that the server's words name: it may be asked for, and how its making ends.
+use Rattle.std.proofs.Common.{◌≡◌, ℕ, zero, suc, Bool, true, false, List, [], ◌∷◌, ◌++◌, length, Option, None, Some, Result, Ok, Err, refl, sym, ap, subst, ◌∙◌, inl, inr, if◌then◌else◌, IsTrue, arith}
+use Rattle.std.specs.Prelude.{is_none, is_some, nat_lt, nat_le}
 use Rattle.std.specs.Str.{is_utf8, chars}
-use Rattle.std.specs.Prelude.{is_none, nat_lt, nat_le, if◌then◌else◌, Result, Ok, Err, length, IsTrue}
+use Rattle.std.proofs.lemmas.Bool.{and_from}
 use Rattle.std.proofs.lemmas.Bool.Decides.{nat_tests}
 use Rattle.js_base.specs.Bytes.{Bytes}
-use Rattle.js_base.specs.declared.out.ApiError.{ApiError}
 use Rattle.js_base.specs.Names.{name_of, unless_bad, first_bad, is_name_byte}
 use Rattle.js_base.specs.declared.name.NameFault.{NameFault}
 use Rattle.js_base.specs.declared.name.NameFault.TheVariants.{TooLong}
+use Rattle.js_base.specs.declared.memory.NoMemory.{NoMemory as Starved}
+use Rattle.js_base.specs.declared.out.ApiError.{ApiError}
 use Rattle.js_base.proofs.Places.{none_fails}
 use Rattle.js_model.specs.Configs.{is_name, is_stream_subject, is_stream_config}
-use Rattle.js_model.specs.Proper.{is_proper}
-use Rattle.js_model.specs.Events.{kept_incarnation}
-use Rattle.js_model.specs.declared.event.Event.{Event}
-use Rattle.js_desk.specs.Places.{IsBuilt}
+use Rattle.js_model.specs.declared.stream_config.StreamConfig.{StreamConfig}
+use Rattle.js_model.specs.declared.event.What.TheVariants as whats
 use Rattle.js_model.specs.declared.desk.PlaceAt.{PlaceAt}
-use Rattle.js_model.specs.declared.stream.State.{State}
-use Rattle.js_model.specs.declared.stream.State.TheVariants.{Vacant}
-use Rattle.js_model.specs.Router as routes
 use Rattle.js_model.specs.Catalog as catalog
-use Rattle.js_model.specs.Catalog.{new_place}
-use Rattle.js_api.specs.Desks.{DeskRun, Looked}
-use Rattle.js_api.specs.Calls.{IsHold, AreRouted}
-use Rattle.js_desk.specs.Holding.{world_of, Leads}
-use Rattle.js_desk.specs.Making.{IsAdded, default_config, making, opening}
-use Rattle.js_desk.specs.Solo.{IsMade}
-use Rattle.js_desk.proofs.Solos.{impossible, client_of, solo_of, some_same, at_same}
-use Rattle.js_desk.proofs.Published.{both}
+use Rattle.js_api.specs.Desks.{DeskEntry, World, Looked}
+use Rattle.js_api.specs.Api.{free_unless_made}
+use Rattle.js_api.specs.Making as makings
+use Rattle.js_api.specs.Making.{IsAdding, MakesStream}
+use Rattle.js_desk.specs.declared.holding.Outcome.{Outcome}
+use Rattle.js_desk.specs.Asking.{IsOnPlace}
+use Rattle.js_desk.specs.Defaults.{default_config}
+use Rattle.js_desk.specs.Holding.{MayAsk, made_of}
+use Rattle.js_desk.specs.Leading.{Leads}
+use Rattle.js_desk.specs.Making.{TellsMaking, MakesDefault, making_told}
+use Rattle.js_desk.proofs.Asked.{is_absent, is_present}
+use Rattle.js_desk.proofs.Leading.{leads_both, leads_as, leads_none, leads_looked}
 
--- ---- the event
+-- ---- what is asked
 
-abbrev is_read : Result Bytes NameFault → ℕ
-is_read (Ok text) = suc zero
-is_read (Err fault) = zero
+abbrev is_read : Result Bytes NameFault → Bool
+is_read (Ok text) = true
+is_read (Err fault) = false
 
-read_whole : (long : Bool) (bad : Option ℕ) (text : Bytes) → (if long then Err TooLong else unless_bad bad text) ≡ Ok text → (long ≡ false) × (is_none bad ≡ true)
-read_whole true bad text e = impossible (ap is_read e)
-read_whole false None text e = (refl, refl)
-read_whole false (Some at) text e = impossible (ap is_read e)
+-- what is there and within 255 bytes, none of which is bad
+pub record IsWhole (long : Bool) (bad : Option ℕ) : Type 0 where
+  pub short : long ≡ false
+  pub good : is_none bad ≡ true
+
+read_whole : (long : Bool) (bad : Option ℕ) (text : Bytes) → (if long then Err TooLong else unless_bad bad text) ≡ Ok text → IsWhole long bad
+read_whole true bad text e = absurd (let no : false ≡ true = ap is_read e in cc)
+read_whole false None text e = record { short = refl; good = refl }
+read_whole false (Some at) text e = absurd (let no : false ≡ true = ap is_read e in cc)
 
 within : (n : ℕ) → nat_lt 255 n ≡ false → nat_le n 255 ≡ true
 within n h = grind (arith, nat_tests)
 
 -- what is read as a name is one
 name_is : (text : Bytes) → name_of text ≡ Ok text → is_name text ≡ true
-name_is [] e = impossible (ap is_read e)
+name_is [] e = absurd (let no : false ≡ true = ap is_read e in cc)
 name_is (byte ∷ more) e =
     let whole = read_whole (nat_lt 255 (length (byte ∷ more))) (first_bad (byte ∷ more)) (byte ∷ more) e in
-    both _ _ (within (length (byte ∷ more)) whole.0) (sym (none_fails is_name_byte (byte ∷ more)) ∙ whole.1)
+    and_from _ _ (within (length (byte ∷ more)) whole.short) (sym (none_fails is_name_byte (byte ∷ more)) ∙ whole.good)
 
 default_is : (name subject : Bytes) → is_name name ≡ true → is_stream_subject subject ≡ true → is_stream_config (default_config name subject) ≡ true
 unfolding default_config is_utf8 chars
 default_is name subject n s =
-    both _ _ (both _ _ (both _ _ (both _ _ (both _ _ (both _ _ (both _ _ (both _ _ (both _ _ (both _ _ (both _ _ (both _ _ (both _ _ n refl) refl) refl) (both _ _ s refl)) refl) refl) refl) refl) refl) refl) refl) refl) refl
+    and_from _ _ (and_from _ _ (and_from _ _ (and_from _ _ (and_from _ _ (and_from _ _ (and_from _ _ (and_from _ _ (and_from _ _ (and_from _ _ (and_from _ _ (and_from _ _ (and_from _ _ n refl) refl) refl) (and_from _ _ s refl)) refl) refl) refl) refl) refl) refl) refl) refl) refl
 
--- the making of the stream is an event as a reader gives it
-pub proper_making : (incarnation : ℕ) (name subject : Bytes) → incarnation ≡ 1 → name_of name ≡ Ok name → IsTrue (is_stream_subject subject) → IsTrue (is_proper (making incarnation name subject))
-unfolding making
-proper_making incarnation name subject first n s =
-    both _ _ (both _ _ (ap (λ (i : ℕ). nat_le i (2 ^ 62)) first) refl) (default_is name subject (name_is name n) s)
+pub may_make_default : (config : StreamConfig) (name subject : Bytes) → config ≡ default_config name subject → name_of name ≡ Ok name → IsTrue (is_stream_subject subject) → MayAsk (whats.Make None config)
+unfolding default_config
+may_make_default config name subject is n s =
+    subst (λ (c : StreamConfig). MayAsk (whats.Make None c)) (sym is) (record {
+      reply = refl;
+      proper = default_is name subject (name_is name n) s;
+      built = record { retention = refl; discard = refl; max_age = refl; max_bytes = refl; max_msg_size = refl; max_msgs = refl; max_msgs_per_subject = refl };
+    })
 
--- it is for the first stream of a vacant place
-pub first_making : (event : Event) (old : State) (incarnation : ℕ) (name subject : Bytes) → event ≡ making incarnation name subject → incarnation ≡ 1 → old ≡ Vacant 0
-    → event.incarnation ≡ kept_incarnation old
-unfolding making
-first_making event old incarnation name subject e first vacant = ap (λ (x : Event). x.incarnation) e ∙ first ∙ sym (ap kept_incarnation vacant)
+-- ---- the place
 
--- and one that a vacant place takes
-pub built_making : (old : State) (incarnation : ℕ) (name subject : Bytes) → old ≡ Vacant 0 → IsBuilt old (making incarnation name subject)
-unfolding making default_config
-built_making old incarnation name subject e = subst (λ (state : State). IsBuilt state (making incarnation name subject)) (sym e)
-    (record { retention = refl; discard = refl; max_age = refl; max_bytes = refl; max_consumers = refl; max_msg_size = refl; max_msgs = refl; max_msgs_per_subject = refl })
+module _ (name : Bytes) (config : StreamConfig) (now : ℕ) (old mid : World) where
+  abbrev adds : catalog.CatCall
+  adds = catalog.Add name config.subjects
 
--- ---- the catalog
+  -- one was taken, and the stream made there or not
+  pub adding_made : (at : PlaceAt) (outcome : Outcome) (result : Result (Option ApiError) Starved) (new : World) → catalog.IsCatalogCall old.catalog adds (catalog.At (Some at)) mid.catalog
+      → mid ≡ record old { catalog = mid.catalog } → Leads (IsOnPlace outcome at (whats.Make None config) now (free_unless_made at)) mid new → TellsMaking result outcome
+      → Leads (IsAdding name config now (making_told result)) old new
+  adding_made at outcome result new k rest h tells =
+      leads_both (λ entries. entries ≡ Looked adds (catalog.At (Some at)) ∷ []) (IsOnPlace outcome at (whats.Make None config) now (free_unless_made at)) (IsAdding name config now (making_told result)) old mid new
+      (leads_looked adds (catalog.At (Some at)) old mid k rest) h
+      (λ first more e p. record {
+        added = catalog.At (Some at);
+        more = more;
+        entries_are = ap (λ (es : List DeskEntry). es ++ more) e;
+        goes_on = record { made = made_of outcome p.after; held = p.held; entries_are = p.entries_are; holds = p.holds; making_is = tells p.after };
+      })
 
--- one for want of memory
-abbrev starved_number : catalog.CatTold → ℕ
-starved_number catalog.NoMemory = suc zero
-starved_number _ = zero
+  -- none was taken
+  pub adding_stopped : (told : catalog.CatTold) (making : makings.Making) → makings.GoesOn config now making told [] → catalog.IsCatalogCall old.catalog adds told mid.catalog
+      → mid ≡ record old { catalog = mid.catalog } → Leads (IsAdding name config now making) old mid
+  adding_stopped told making goes k rest =
+      leads_as (λ entries. entries ≡ Looked adds told ∷ []) (IsAdding name config now making) old mid (leads_looked adds told old mid k rest)
+      (λ entries e. record { added = told; more = []; entries_are = e; goes_on = goes })
 
--- one for a refusal
-abbrev refused_number : catalog.CatTold → ℕ
-refused_number (catalog.Refused error) = suc zero
-refused_number _ = zero
+-- ---- the whole making
 
--- where there is no stream yet, none is refused
-pub not_refused : (name subject : Bytes) (error : ApiError) (new : catalog.Catalog) → catalog.IsCatalogCall (new_place ∷ []) (catalog.Add name (subject ∷ [])) (catalog.Refused error) new → ⊥
-unfolding catalog.catalog_call
-not_refused name subject error new (inl e) = impossible (ap (λ (x : catalog.Cataloged). refused_number x.told) e)
-not_refused name subject error new (inr e) = impossible (sym (ap refused_number e.0))
+module _ (name subject : Bytes) (now : ℕ) (old new : World) where
+  abbrev config : StreamConfig
+  config = default_config name subject
 
-pub added : (name subject : Bytes) (at : PlaceAt) (new : catalog.Catalog) → catalog.IsCatalogCall (new_place ∷ []) (catalog.Add name (subject ∷ [])) (catalog.At (Some at)) new → IsAdded name subject at new
-unfolding catalog.catalog_call
-added name subject at new (inl e) =
-    let is : at ≡ record { place = 0; incarnation = 1 } = sym (some_same _ _ (at_same _ _ (ap (λ (x : catalog.Cataloged). x.told) e))) in
-    record {
-      call = inl e;
-      place = ap (λ (x : PlaceAt). x.place) is;
-      incarnation = ap (λ (x : PlaceAt). x.incarnation) is;
-      entry = catalog.taken_by name (subject ∷ []) new_place;
-      catalog_is = sym (ap (λ (x : catalog.Cataloged). x.catalog) e);
-      kept = refl;
-    }
-added name subject at new (inr e) = impossible (ap starved_number e.0)
+  -- there is a stream of this name
+  pub stands : (found : Option PlaceAt) → is_some found ≡ true → catalog.IsCatalogCall old.catalog (catalog.ByName name) (catalog.At found) old.catalog → new ≡ old
+      → MakesDefault (Ok None) name subject now old new
+  stands None some k same = absurd (cc)
+  stands (Some at) some k same =
+      is_present name (IsAdding name config now makings.Stands) (λ at more. (more ≡ []) × (makings.Stands ≡ makings.Stands)) old new at k
+      (leads_none (λ more. (more ≡ []) × (makings.Stands ≡ makings.Stands)) old new same (refl, refl))
 
--- ---- the desk
+  -- there is none, and it was made or not
+  pub added_new : (found : Option PlaceAt) (c : StreamConfig) (result : Result (Option ApiError) Starved) → is_some found ≡ false → c ≡ config
+      → catalog.IsCatalogCall old.catalog (catalog.ByName name) (catalog.At found) old.catalog → Leads (IsAdding name c now (making_told result)) old new → MakesDefault result name subject now old new
+  added_new (Some at) c result some is k h = absurd (cc)
+  added_new None c result some is k h =
+      is_absent name (IsAdding name config now (making_told result)) (λ at more. (more ≡ []) × (making_told result ≡ makings.Stands)) old new k
+      (subst (λ (x : StreamConfig). Leads (IsAdding name x now (making_told result)) old new) is h)
 
-pub one_is_small : (n : ℕ) → n ≡ 1 → n ≤ 2 ^ 62
-one_is_small n e = omega (arith, e)
-
-pub made : (name subject : Bytes) (now : ℕ) (at : PlaceAt) (c : catalog.Catalog) (p : State) (r : routes.Router) → IsAdded name subject at c
-    → Leads (IsHold 0 (making at.incarnation name subject) now false AreRouted) (Vacant 0) p routes.empty_router r → IsMade name subject now (solo_of r c p (client_of None false) false)
-unfolding catalog.catalog_call
-made name subject now at c p r a h =
-    let entries = Looked (catalog.ByName name) (catalog.At None) ∷ Looked (catalog.Add name (subject ∷ [])) (catalog.At (Some at)) ∷ h.0 in
-    let run : DeskRun opening entries (world_of r c p) = (new_place ∷ [], inl refl, (c, a.call, h.2 c)) in
-    record {
-      entries = entries;
-      making = record {
-        at = at;
-        held = h.0;
-        entries_are = refl;
-        hold = subst (λ (place : ℕ). IsHold place (making at.incarnation name subject) now false AreRouted h.0) (sym a.place) h.1;
-      };
-      led = run;
-      closed = refl;
-    }
+  -- memory ran out before a place was taken
+  pub unprepared : (found : Option PlaceAt) (starved : Starved) → is_some found ≡ false → catalog.IsCatalogCall old.catalog (catalog.ByName name) (catalog.At found) old.catalog → new ≡ old
+      → MakesDefault (Err starved) name subject now old new
+  unprepared found starved some k same =
+      added_new found config (Err starved) some refl k
+      (subst (λ (w : World). Leads (IsAdding name config now makings.NoMemory) old w) (sym same)
+      (adding_stopped name config now old old catalog.NoMemory makings.NoMemory (refl, refl) (inr (refl, refl, refl)) refl))

@@ -1,155 +1,133 @@
--- What the rules of streams come to where there are no limits, consumers and ids.
-use Rattle.std.proofs.Common.{◌≡◌, ◌≢◌, ◌≤◌, ◌++◌, ◌-◌, length, drop, arith, ℕ, ◌+◌, ◌^◌, max, min, nat_lt, List, [], ◌∷◌, map, filter, Bool, true, false, ◌==◌, if◌then◌else◌, Option, None, Some, unwrap_or, refl, sym, ap, ◌∙◌}
-use Rattle.std.proofs.lemmas.Bool.{eq-eqb, ne_eqb}
-use Rattle.js_base.specs.Bytes.{Bytes, last_of}
+-- A publish to a plain subject: the subscriptions, the stream, and what the client is told.
+use Rattle.std.proofs.Common.{◌≡◌, ℕ, Bool, true, false, ◌&&◌, List, [], ◌∷◌, ◌++◌, Option, None, Some, Ok, Err, refl, sym, ap, subst, ◌∙◌, append-nil, inl, inr, MatchOption}
+use Rattle.std.specs.Prelude.{◌==◌, not}
 use Rattle.js_base.specs.declared.out.Out.{Out}
-use Rattle.js_base.specs.Moments.{plus}
-use Rattle.js_base.specs.declared.out.ApiError.{ApiError}
-use Rattle.js_model.specs.declared.stream_config.Retention.{Retention}
-use Rattle.js_model.specs.declared.stream.Message.{Message}
-use Rattle.js_model.specs.declared.stream.Id.{Id}
-use Rattle.js_model.specs.declared.stream.Stream.{Stream}
-use Rattle.js_model.specs.declared.consumer.Consumer.{Consumer}
-use Rattle.js_model.specs.declared.stream.State.TheVariants.{Live}
-use Rattle.js_model.specs.declared.event.Publish.{Publish}
-use Rattle.js_model.specs.declared.event.What.TheVariants.{Publish as PublishIt}
-use Rattle.js_model.specs.declared.reply.Verdict.{Verdict}
-use Rattle.js_model.specs.declared.reply.Verdict.TheVariants.{Take, Refused as RefusedBy}
-use Rattle.js_model.specs.declared.reply.Reply.TheVariants.{Published, Refused}
-use Rattle.js_model.specs.Streams.{only}
-use Rattle.js_model.specs.Advance.{advance, advance_outs, aged, stream_at, young, remembered, consumer_at}
-use Rattle.js_model.specs.Trim.{trim, trim_subjects, trim_count, trim_bytes, newest_at, fitting_at}
-use Rattle.js_model.specs.Retention.{kept, is_kept}
-use Rattle.js_model.specs.Verdict.{verdict, known, early_checks, late_checks, first_of_all, message_of}
-use Rattle.js_model.specs.Refusals.{first_refusal, numbers_used_up}
-use Rattle.js_model.specs.Events.{settled, completed, stream_answer, published, with_id}
-use Rattle.js_desk.specs.Plain.{IsPlainConfig, IsPlainPublish, IsPlainStream, Publishes, stored_message}
+use Rattle.js_base.specs.declared.memory.NoMemory.{NoMemory as Starved}
+use Rattle.js_model.specs.declared.desk.PlaceAt.{PlaceAt}
+use Rattle.js_model.specs.declared.desk.Taken.{Taken}
+use Rattle.js_model.specs.declared.reply.Reply.{Reply}
+use Rattle.js_model.specs.declared.stream.State.{State}
+use Rattle.js_model.specs.declared.route_fault.RouteFault.{RouteFault}
+use Rattle.js_model.specs.Router as routes
+use Rattle.js_model.specs.Routing.{fault_told}
+use Rattle.js_model.specs.Catalog as catalog
+use Rattle.js_api.specs.Desks.{DeskEntry, World, DeskRun, Routed, Looked}
+use Rattle.js_api.specs.Clients.{Client}
+use Rattle.js_api.specs.Holding.{Holds, AreRouted, is_short}
+use Rattle.js_api.specs.Publishing.{published, told_nobody, untaken_outs, AreUntold, Reaches, IsOffered, IsPublish, IsPublishCut}
+use Rattle.js_desk.specs.declared.holding.Outcome.{Outcome}
+use Rattle.js_desk.specs.declared.holding.Outcome.TheVariants as outcomes
+use Rattle.js_desk.specs.Following.{run_append}
+use Rattle.js_desk.specs.Holding.{made_of}
+use Rattle.js_desk.specs.Leading.{Leads, Routes}
+use Rattle.js_desk.specs.Publishing.{IsOffer}
+use Rattle.js_desk.specs.Untaken.{TellsUntaken}
+use Rattle.js_desk.proofs.Refused.{wants, publish_done}
 
--- ---- limits and retention
+and_false : (b : Bool) → (b && false) ≡ false
+and_false true = refl
+and_false false = refl
 
--- a stream without consumers, with other messages
-only-plain : (s : Stream) (messages : List Message) → s.consumers ≡ [] → only s messages ≡ record s { messages = messages }
-only-plain s messages none = rw none refl
+module _ (client : Client) (message : Out) (now : ℕ) (old mid : World) where
+  abbrev routing : routes.RouteCall
+  routing = routes.Publish message (Some client.session)
 
-filter-all : (messages : List Message) → filter (λ m. true) messages ≡ messages
-filter-all [] = refl
-filter-all (m ∷ more) = ap (λ (x : List Message). m ∷ x) (filter-all more)
+  -- the router found no memory
+  pub unrouted : (fault : RouteFault) → routes.is_open old.router client.session ≡ true → Routes routing (fault_told fault) old mid → Leads (IsPublishCut client message now) old mid
+  unrouted fault is_open h =
+      let starved = subst (λ (f : RouteFault). routes.IsRoute old.router routing (fault_told f) mid.router) (wants old.router mid.router routing fault (publish_done old.router client.session message is_open) h.route) h.route in
+      record { entries = Routed routing routes.NoMemory ∷ []; are = inl refl; led = (mid.router, starved, sym h.rest) }
 
-trim_subjects-plain : (s : Stream) → IsPlainConfig s.config → s.consumers ≡ [] → trim_subjects s ≡ s
-trim_subjects-plain s plain none = ap (λ (o : Option ℕ). only s (newest_at o s.messages)) plain.max_msgs_per_subject ∙ only-plain s s.messages none
+  module _ (count : ℕ) (route : Routes routing (routes.Taken count) old mid) where
+    -- what follows the routing
+    routed_first : (P Q : List DeskEntry → Type 0) (new : World) → Leads P mid new → ((entries : List DeskEntry) → P entries → Q (Routed routing (routes.Taken count) ∷ entries)) → Leads Q old new
+    routed_first P Q new h is = record {
+      entries = Routed routing (routes.Taken count) ∷ h.entries;
+      are = is h.entries h.are;
+      led = (mid.router, route.route, subst (λ (w : World). DeskRun w h.entries new) route.rest h.led);
+    }
 
-trim_count-plain : (s : Stream) → IsPlainConfig s.config → s.consumers ≡ [] → trim_count s ≡ record s { messages = last_of (2 ^ 24) s.messages }
-trim_count-plain s plain none =
-    ap (λ (o : Option ℕ). only s (last_of (min (unwrap_or o (2 ^ 24)) (2 ^ 24)) s.messages)) plain.max_msgs ∙ only-plain s (last_of (2 ^ 24) s.messages) none
+    abbrev both : Taken
+    both = record { subscriptions = count; other = true }
 
-trim_bytes-plain : (s : Stream) → IsPlainConfig s.config → s.consumers ≡ [] → trim_bytes s ≡ s
-trim_bytes-plain s plain none = ap (λ (o : Option ℕ). only s (fitting_at o s.messages)) plain.max_bytes ∙ only-plain s s.messages none
+    abbrev few : Taken
+    few = record { subscriptions = count; other = false }
 
-kept-plain : (s : Stream) → IsPlainConfig s.config → s.consumers ≡ [] → kept s ≡ s
-unfolding kept
-kept-plain s plain none =
-    ap (λ (policy : Retention). only s (filter (is_kept policy s.consumers) s.messages)) plain.retention
-    ∙ ap (λ (messages : List Message). only s messages) (filter-all s.messages) ∙ only-plain s s.messages none
+    -- a stream took it, so the client is told nothing
+    nothing_untaken : untaken_outs client.told message both ≡ []
+    nothing_untaken =
+        ap (λ (b : Bool). told_nobody (client.told && b) message.reply) (and_false (count == 0)) ∙ ap (λ (b : Bool). told_nobody b message.reply) (and_false client.told)
 
--- its limits keep the last 2 ^ 24 messages
-pub settled-plain : (s : Stream) → IsPlainConfig s.config → s.consumers ≡ [] → settled s ≡ record s { messages = last_of (2 ^ 24) s.messages }
-unfolding trim
-settled-plain s plain none =
-    let cut : Stream = record s { messages = last_of (2 ^ 24) s.messages } in
-    ap (λ (x : Stream). kept (trim_bytes (trim_count x))) (trim_subjects-plain s plain none)
-    ∙ ap (λ (x : Stream). kept (trim_bytes x)) (trim_count-plain s plain none)
-    ∙ ap (λ (x : Stream). kept x) (trim_bytes-plain cut plain none)
-    ∙ kept-plain cut plain none
+    reached : (reply : Reply) (found : Option PlaceAt) (after : State) (held : List DeskEntry)
+        → MatchOption found ((held ≡ []) × (outcomes.Said reply ≡ outcomes.Gone)) (λ at. Holds at (published message) now (made_of (outcomes.Said reply) after) held)
+        → MatchOption found ((held ≡ []) × (true ≡ false)) (Reaches message now true held)
+    reached reply None after held h = absurd (let no : outcomes.Said reply ≡ outcomes.Gone = h.1 in cc)
+    reached reply (Some at) after held h = (reply, after, h)
 
--- ---- time
+    -- the stream took it
+    pub stored : (reply : Reply) (new : World) → Leads (IsOffer (outcomes.Said reply) message now) mid new → Leads (IsPublish client message now both) old new
+    stored reply new h =
+        routed_first (IsOffer (outcomes.Said reply) message now) (IsPublish client message now both) new h
+        (λ entries o. record {
+          untaken = [];
+          offered = record {
+            found = o.found;
+            held = o.held;
+            entries_are = ap (λ (es : List DeskEntry). Routed routing (routes.Taken count) ∷ es) (o.entries_are ∙ ap (λ (es : List DeskEntry). Looked (catalog.Find message.to) (catalog.At o.found) ∷ es) (sym (append-nil o.held)));
+            hold = reached reply o.found o.after o.held o.hold;
+          };
+          answered = subst (λ (outs : List Out). AreRouted outs []) (sym nothing_untaken) refl;
+        })
 
-young-plain : (s : Stream) (now : ℕ) → IsPlainConfig s.config → young s now ≡ s.messages
-young-plain s now plain = ap (λ (age : ℕ). if age == 0 then s.messages else filter (λ m. nat_lt now (plus m.at age)) s.messages) plain.max_age
+    missed : (found : Option PlaceAt) (after : State) (held : List DeskEntry)
+        → MatchOption found ((held ≡ []) × (outcomes.Gone ≡ outcomes.Gone)) (λ at. Holds at (published message) now (made_of outcomes.Gone after) held)
+        → MatchOption found ((held ≡ []) × (false ≡ false)) (Reaches message now false held)
+    missed None after held h = (h.0, refl)
+    missed (Some at) after held h = h
 
-remembered-plain : (s : Stream) (now : ℕ) → s.ids ≡ [] → remembered s now ≡ []
-remembered-plain s now no_ids = ap (λ (ids : List Id). filter (λ i. nat_lt now (plus i.at s.config.duplicate_window)) ids) no_ids
+    -- no stream took it, and what was told of that follows
+    not_offered : (entries more : List DeskEntry) → IsOffer outcomes.Gone message now entries → IsOffered client message now count false (Routed routing (routes.Taken count) ∷ (entries ++ more)) more
+    not_offered entries more o = record {
+      found = o.found;
+      held = o.held;
+      entries_are = ap (λ (es : List DeskEntry). Routed routing (routes.Taken count) ∷ (es ++ more)) o.entries_are;
+      hold = missed o.found o.after o.held o.hold;
+    }
 
-aged-plain : (s : Stream) (now : ℕ) → IsPlainConfig s.config → s.consumers ≡ [] → s.ids ≡ [] → aged s now ≡ record s { moment = now }
-aged-plain s now plain none no_ids =
-    ap (λ (messages : List Message). record (only s messages) { moment = now; ids = remembered s now }) (young-plain s now plain)
-    ∙ ap (λ (x : Stream). record x { moment = now; ids = remembered s now }) (only-plain s s.messages none)
-    ∙ ap (λ (ids : List Id). record s { moment = now; ids = ids }) (remembered-plain s now no_ids ∙ sym no_ids)
+    pub told : (taken : Taken) (after new : World) → Leads (IsOffer outcomes.Gone message now) mid after → TellsUntaken (Ok taken) client.told message few after new
+        → Leads (IsPublish client message now taken) old new
+    told taken after new h t =
+        let runs : Leads (IsPublish client message now few) old new = record {
+          entries = Routed routing (routes.Taken count) ∷ (h.entries ++ t.1.entries);
+          are = record { untaken = t.1.entries; offered = not_offered h.entries t.1.entries h.are; answered = t.1.are };
+          led = (mid.router, route.route, subst (λ (w : World). DeskRun w (h.entries ++ t.1.entries) new) route.rest (run_append mid after new h.entries t.1.entries h.led t.1.led));
+        } in
+        subst (λ (x : Taken). Leads (IsPublish client message now x) old new) (sym t.0) runs
 
-stream_at-plain : (s : Stream) (now : ℕ) → IsPlainConfig s.config → s.consumers ≡ [] → s.ids ≡ [] → stream_at s now ≡ record s { moment = now }
-stream_at-plain s now plain none no_ids =
-    ap (λ (x : Stream). record x { consumers = map (consumer_at now) x.consumers }) (aged-plain s now plain none no_ids)
-    ∙ ap (λ (consumers : List Consumer). record s { moment = now; consumers = map (consumer_at now) consumers }) none
-    ∙ ap (λ (consumers : List Consumer). record s { moment = now; consumers = consumers }) (sym none)
+    pub untold : (starved : Starved) (after new : World) → Leads (IsOffer outcomes.Gone message now) mid after → TellsUntaken (Err starved) client.told message few after new
+        → Leads (IsPublishCut client message now) old new
+    untold starved after new h t = record {
+      entries = Routed routing (routes.Taken count) ∷ (h.entries ++ t.entries);
+      are = inr (inr (record { count = count; untaken = t.entries; offered = not_offered h.entries t.entries h.are; untold = t.are }));
+      led = (mid.router, route.route, subst (λ (w : World). DeskRun w (h.entries ++ t.entries) new) route.rest (run_append mid after new h.entries t.entries h.led t.led));
+    }
 
--- of time it sees its moment alone
-pub advance-plain : (s : Stream) (now : ℕ) → IsPlainConfig s.config → s.consumers ≡ [] → s.ids ≡ [] → advance s now ≡ record s { moment = max s.moment now }
-unfolding advance
-advance-plain s now plain none no_ids = stream_at-plain s (max s.moment now) plain none no_ids
-
-pub advance_outs-plain : (s : Stream) (now : ℕ) → s.consumers ≡ [] → advance_outs s now ≡ []
-unfolding advance_outs
-advance_outs-plain s now none = rw none refl
-
--- ---- publishing
-
-early-plain : (s : Stream) (p : Publish) → IsPlainConfig s.config → IsPlainPublish p → first_refusal (early_checks s p) ≡ None
-early-plain s p plain asks = rw (plain.max_msg_size, asks.bad, asks.id, asks.stream) refl
-
-late-plain : (s : Stream) (p : Publish) → IsPlainConfig s.config → IsPlainPublish p
-    → first_refusal (late_checks s p true) ≡ (if s.last + 1 == 2 ^ 62 then Some numbers_used_up else None)
-late-plain s p plain asks = rw (asks.last, asks.subject_last, asks.last_id, plain.discard, asks.id) refl
-
-known-plain : (s : Stream) (p : Publish) → IsPlainPublish p → known s p.wants.id ≡ None
-known-plain s p asks = rw asks.id refl
-
-taken_unless : (b : Bool) (e : ApiError) → first_of_all None None (if b then Some e else None) ≡ (if b then RefusedBy e else Take)
-taken_unless true e = refl
-taken_unless false e = refl
-
--- a plain publish is taken while a number is left
-pub verdict-plain : (s : Stream) (p : Publish) → IsPlainConfig s.config → IsPlainPublish p
-    → verdict s p true ≡ (if s.last + 1 == 2 ^ 62 then RefusedBy numbers_used_up else Take)
-unfolding verdict
-verdict-plain s p plain asks =
-    ap (λ (early : Option ApiError). first_of_all early (known s p.wants.id) (first_refusal (late_checks s p true))) (early-plain s p plain asks)
-    ∙ ap (λ (found : Option Id). first_of_all None found (first_refusal (late_checks s p true))) (known-plain s p asks)
-    ∙ ap (λ (late : Option ApiError). first_of_all None None late) (late-plain s p plain asks)
-    ∙ taken_unless (s.last + 1 == 2 ^ 62) numbers_used_up
-
--- a list that is short enough is its own end
-short_end : (n : ℕ) (messages : List Message) → length messages ≤ n → last_of n messages ≡ messages
-short_end n messages short = let none : length messages - n ≡ 0 = omega arith in ap (λ (k : ℕ). drop k messages) none
-
--- what the stream does with a publish, by what it says to it
-answers_by : (s : Stream) (p : Publish) (now : ℕ) (v : Verdict) → IsPlainConfig s.config → s.consumers ≡ [] → s.ids ≡ []
-    → verdict (record s { moment = max s.moment now }) p true ≡ v
-    → completed (advance_outs s now) (stream_answer (advance s now) (PublishIt p) true) ≡ completed [] (published (record s { moment = max s.moment now }) p v)
-answers_by s p now v plain none no_ids said =
-    ap (λ (outs : List Out). completed outs (published (advance s now) p (verdict (advance s now) p true))) (advance_outs-plain s now none)
-    ∙ ap (λ (x : Stream). completed [] (published x p (verdict x p true))) (advance-plain s now plain none no_ids)
-    ∙ ap (λ (w : Verdict). completed [] (published (record s { moment = max s.moment now }) p w)) said
-
--- the last number is used up
-pub publishes_refused : (s : Stream) (p : Publish) (now : ℕ) → IsPlainStream s → IsPlainPublish p → s.last + 1 ≡ 2 ^ 62
-    → Publishes s p now (Refused numbers_used_up) (record s { moment = max s.moment now })
-publishes_refused s p now plain asks used =
-    let later : Stream = record s { moment = max s.moment now } in
-    answers_by s p now (RefusedBy numbers_used_up) plain.config plain.consumers plain.ids
-    (verdict-plain later p plain.config asks ∙ ap (λ (b : Bool). if b then RefusedBy numbers_used_up else Take) (eq-eqb (s.last + 1) (2 ^ 62) used))
-    ∙ ap (λ (x : Stream). record { reply = Refused numbers_used_up; outs = []; state = Live x })
-    (settled-plain later plain.config plain.consumers ∙ ap (λ (messages : List Message). record later { messages = messages }) (short_end (2 ^ 24) s.messages plain.messages))
-
--- the message is stored
-pub publishes_taken : (s : Stream) (p : Publish) (now : ℕ) → IsPlainStream s → IsPlainPublish p → s.last + 1 ≢ 2 ^ 62
-    → Publishes s p now (Published (s.last + 1)) (record s {
-      messages = last_of (2 ^ 24) (s.messages ++ stored_message p (s.last + 1) (max s.moment now) ∷ []);
-      last = s.last + 1;
-      moment = max s.moment now;
-    })
-publishes_taken s p now plain asks free =
-    let later : Stream = record s { moment = max s.moment now } in
-    let longer : Stream = record later { messages = s.messages ++ message_of later p ∷ []; last = s.last + 1 } in
-    answers_by s p now Take plain.config plain.consumers plain.ids
-    (verdict-plain later p plain.config asks ∙ ap (λ (b : Bool). if b then RefusedBy numbers_used_up else Take) (ne_eqb (s.last + 1) (2 ^ 62) free))
-    ∙ ap (λ (id : Bytes). record { reply = Published (s.last + 1); outs = []; state = Live (settled (with_id longer id)) }) asks.id
-    ∙ ap (λ (x : Stream). record { reply = Published (s.last + 1); outs = []; state = Live x }) (settled-plain longer plain.config plain.consumers)
+    -- memory ran out with the stream
+    pub cut : (outcome : Outcome) (new : World) → ((after : State) → is_short (made_of outcome after) ≡ true) → (outcome ≡ outcomes.Gone → ⊥) → Leads (IsOffer outcome message now) mid new
+        → Leads (IsPublishCut client message now) old new
+    cut outcome new short other h =
+        routed_first (IsOffer outcome message now) (IsPublishCut client message now) new h (λ entries o. at_place o.found entries o.after o.held o.entries_are o.hold)
+      where
+        at_place : (found : Option PlaceAt) (entries : List DeskEntry) (after : State) (held : List DeskEntry) → entries ≡ Looked (catalog.Find message.to) (catalog.At found) ∷ held
+            → MatchOption found ((held ≡ []) × (outcome ≡ outcomes.Gone)) (λ at. Holds at (published message) now (made_of outcome after) held)
+            → IsPublishCut client message now (Routed routing (routes.Taken count) ∷ entries)
+        at_place None entries after held e k = absurd (other k.1)
+        at_place (Some at) entries after held e k = inr (inl (record {
+          count = count;
+          at = at;
+          made = made_of outcome after;
+          held = held;
+          entries_are = ap (λ (es : List DeskEntry). Routed routing (routes.Taken count) ∷ es) e;
+          holds = k;
+          short = short after;
+        }))

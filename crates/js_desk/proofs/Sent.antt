@@ -3,17 +3,15 @@ use Rattle.std.proofs.Common.{◌≡◌, ℕ, zero, suc, ◌+◌, ◌<◌, ◌�
 use Rattle.std.proofs.lemmas.List.{append-nil}
 use Rattle.std.proofs.Math.Seq.{drop-cons}
 use Rattle.js_base.specs.declared.out.Out.{Out}
-use Rattle.js_model.specs.declared.stream.State.{State}
-use Rattle.js_model.specs.Catalog.{Catalog}
 use Rattle.js_model.specs.Router as routes
-use Rattle.js_api.specs.Desks.{DeskEntry, DeskRun, Routed}
+use Rattle.js_api.specs.Desks.{DeskEntry, World, DeskRun, Routed}
 use Rattle.js_desk.specs.Following.{run_append}
-use Rattle.js_api.specs.Calls.{AreRouted, AreCut}
+use Rattle.js_api.specs.Holding.{AreRouted, AreCut}
 use Rattle.js_model.specs.Routing.{fault_told}
 use Rattle.js_model.specs.declared.route_fault.RouteFault.{RouteFault}
 use Rattle.js_model.specs.declared.route_fault.RouteFault.TheVariants as faults
 use Rattle.js_desk.proofs.Refused.{wants, sending_done}
-use Rattle.js_desk.specs.Holding.{world_of, Leads}
+use Rattle.js_desk.specs.Leading.{Sends}
 
 -- ---- outputs
 
@@ -50,10 +48,10 @@ pub record Sent (outs rest : List Out) (old new : routes.Router) : Type 0 where
   pub entries : List DeskEntry
   pub whole : outs ≡ front ++ rest
   pub are : AreRouted front entries
-  pub led : (place : State) (catalog : Catalog) → DeskRun (world_of old catalog place) entries (world_of new catalog place)
+  pub led : (world : World) → DeskRun (record world { router = old }) entries (record world { router = new })
 
 pub none_sent : (outs rest : List Out) (r : routes.Router) → rest ≡ outs → Sent outs rest r r
-none_sent outs rest r e = record { front = []; entries = []; whole = sym e; are = refl; led = λ place catalog. refl }
+none_sent outs rest r e = record { front = []; entries = []; whole = sym e; are = refl; led = λ world. refl }
 
 pub one_sent : (outs : List Out) (out : Out) (rest : List Out) (count : ℕ) (old mid new : routes.Router) → Sent outs (out ∷ rest) old mid
     → routes.IsRoute mid (routes.Publish out None) (routes.Taken count) new → Sent outs rest old new
@@ -62,17 +60,23 @@ one_sent outs out rest count old mid new h k = record {
   entries = h.entries ++ sending out count ∷ [];
   whole = h.whole ∙ sym (append_assoc h.front (out ∷ []) rest);
   are = routed_push h.front out count h.entries h.are;
-  led = λ place catalog. run_append (world_of old catalog place) (world_of mid catalog place) (world_of new catalog place) h.entries (sending out count ∷ []) (h.led place catalog) (new, k, refl);
+  led = λ world. run_append (record world { router = old }) (record world { router = mid }) (record world { router = new }) h.entries (sending out count ∷ []) (h.led world) (new, k, refl);
 }
 
-pub all_sent : (outs rest : List Out) (old new : routes.Router) → Sent outs rest old new → rest ≡ [] → (place : State) → Leads (AreRouted outs) place place old new
-all_sent outs rest old new h e place =
-    (h.entries, subst (λ (os : List Out). AreRouted os h.entries) (sym (h.whole ∙ ap (λ (os : List Out). h.front ++ os) e ∙ append-nil h.front)) h.are, h.led place)
+pub all_sent : (outs rest : List Out) (old new : routes.Router) → Sent outs rest old new → rest ≡ [] → Sends (AreRouted outs) old new
+all_sent outs rest old new h e = record {
+  entries = h.entries;
+  are = subst (λ (os : List Out). AreRouted os h.entries) (sym (h.whole ∙ ap (λ (os : List Out). h.front ++ os) e ∙ append-nil h.front)) h.are;
+  led = h.led;
+}
 
 pub cut_sent : (outs : List Out) (out : Out) (rest : List Out) (fault : RouteFault) (old mid new : routes.Router) → Sent outs (out ∷ rest) old mid
-    → routes.IsRoute mid (routes.Publish out None) (fault_told fault) new → (place : State) → Leads (AreCut outs) place place old new
-cut_sent outs out rest fault old mid new h k place = (
-  h.entries ++ Routed (routes.Publish out None) routes.NoMemory ∷ [],
-  subst (λ (os : List Out). AreCut os (h.entries ++ Routed (routes.Publish out None) routes.NoMemory ∷ [])) (sym h.whole) (cut_push h.front out rest h.entries h.are),
-  λ catalog. run_append (world_of old catalog place) (world_of mid catalog place) (world_of new catalog place) h.entries _ (h.led place catalog) (new, subst (λ (f : RouteFault). routes.IsRoute mid (routes.Publish out None) (fault_told f) new) (wants mid new (routes.Publish out None) fault (sending_done mid out) k) k, refl),
-)
+    → routes.IsRoute mid (routes.Publish out None) (fault_told fault) new → Sends (AreCut outs) old new
+cut_sent outs out rest fault old mid new h k =
+    let last = Routed (routes.Publish out None) routes.NoMemory ∷ [] in
+    let starved = subst (λ (f : RouteFault). routes.IsRoute mid (routes.Publish out None) (fault_told f) new) (wants mid new (routes.Publish out None) fault (sending_done mid out) k) k in
+    record {
+      entries = h.entries ++ last;
+      are = subst (λ (os : List Out). AreCut os (h.entries ++ last)) (sym h.whole) (cut_push h.front out rest h.entries h.are);
+      led = λ world. run_append (record world { router = old }) (record world { router = mid }) (record world { router = new }) h.entries last (h.led world) (new, starved, refl);
+    }

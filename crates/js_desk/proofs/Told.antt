@@ -1,13 +1,15 @@
 -- Telling a client that nobody took its message.
-use Rattle.std.proofs.Common.{◌≡◌, ◌<◌, ℕ, Bool, List, [], ◌∷◌, length, Ok, Err, refl, subst, inl, inr, arith}
+use Rattle.std.proofs.Common.{◌≡◌, ◌<◌, Bool, List, [], ◌∷◌, length, Ok, Err, refl, sym, subst, inl, inr, arith}
 use Rattle.js_base.specs.declared.out.Out.{Out}
 use Rattle.js_base.specs.declared.memory.NoMemory.{NoMemory as Starved}
 use Rattle.js_model.specs.declared.desk.Taken.{Taken}
-use Rattle.js_model.specs.declared.stream.State.{State}
-use Rattle.js_model.specs.Router.{Router}
-use Rattle.js_api.specs.Desks.{DeskEntry}
-use Rattle.js_api.specs.Calls.{AreRouted, AreCut, AreUntold, untaken_outs}
-use Rattle.js_desk.specs.Holding.{Leads, Routes, Tells}
+use Rattle.js_api.specs.Desks.{DeskEntry, World}
+use Rattle.js_api.specs.Holding.{AreRouted, AreCut}
+use Rattle.js_api.specs.Publishing.{AreUntold, untaken_outs}
+use Rattle.js_desk.specs.Leading.{Leads}
+use Rattle.js_desk.specs.Routing.{SendsAll}
+use Rattle.js_desk.specs.Untaken.{TellsUntaken}
+use Rattle.js_desk.proofs.Leading.{leads_as, leads_none}
 
 -- an output that could not be routed is untold
 cut_untold : (outs : List Out) (entries : List DeskEntry) → AreCut outs entries → AreUntold outs entries
@@ -19,15 +21,14 @@ none_untold : (outs : List Out) → 0 < length outs → AreUntold outs []
 none_untold [] h = absurd (omega (arith, h))
 none_untold (out ∷ outs) h = inl refl
 
-pub told : (is_told : Bool) (message : Out) (taken : Taken) (outs : List Out) (old new : Router) → outs ≡ untaken_outs is_told message taken → Routes (Ok tt) outs old new
-    → Tells (Ok taken) is_told message taken old new
-told is_told message taken outs old new e h =
-    (refl, λ place. subst (λ (os : List Out). Leads (AreRouted os) place place old new) e (h place))
+module _ (is_told : Bool) (message : Out) (taken : Taken) (old new : World) where
+  pub told : (outs : List Out) → outs ≡ untaken_outs is_told message taken → SendsAll (Ok tt) outs old new → TellsUntaken (Ok taken) is_told message taken old new
+  told outs e h = (refl, subst (λ (os : List Out). Leads (AreRouted os) old new) e h)
 
-pub untold : (is_told : Bool) (message : Out) (taken : Taken) (outs : List Out) (starved failed : Starved) (old new : Router) → outs ≡ untaken_outs is_told message taken → Routes (Err starved) outs old new
-    → Tells (Err failed) is_told message taken old new
-untold is_told message taken outs starved failed old new e h =
-    λ place. let led = subst (λ (os : List Out). Leads (AreCut os) place place old new) e (h place) in (led.0, cut_untold (untaken_outs is_told message taken) led.0 led.1, led.2)
+  pub untold : (outs : List Out) (starved failed : Starved) → outs ≡ untaken_outs is_told message taken → SendsAll (Err starved) outs old new → TellsUntaken (Err failed) is_told message taken old new
+  untold outs starved failed e h =
+      leads_as (AreCut (untaken_outs is_told message taken)) (AreUntold (untaken_outs is_told message taken)) old new
+      (subst (λ (os : List Out). Leads (AreCut os) old new) e h) (cut_untold (untaken_outs is_told message taken))
 
-pub unmade : (is_told : Bool) (message : Out) (taken : Taken) (failed : Starved) (r : Router) → 0 < length (untaken_outs is_told message taken) → Tells (Err failed) is_told message taken r r
-unmade is_told message taken failed r h = λ place. ([], none_untold (untaken_outs is_told message taken) h, λ catalog. refl)
+  pub unmade : (failed : Starved) → new ≡ old → 0 < length (untaken_outs is_told message taken) → TellsUntaken (Err failed) is_told message taken old new
+  unmade failed same h = leads_none (AreUntold (untaken_outs is_told message taken)) old new same (none_untold (untaken_outs is_told message taken) h)

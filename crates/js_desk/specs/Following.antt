@@ -1,10 +1,21 @@
 -- Runs of a desk follow one another.
 use Rattle.std.specs.Prelude.{List, [], ◌∷◌, ◌++◌}
-use Rattle.std.proofs.Common.{sym, subst}
-use Rattle.js_api.specs.Desks.{DeskEntry, World, DeskRun, Routed, Looked, Held}
+use Rattle.std.proofs.Common.{refl, sym, subst, ◌∙◌}
+use Rattle.js_api.specs.Desks.{DeskEntry, World, DeskRun, Routed, Looked, Turned, Resumed, Held, Missed, place_or}
+use Rattle.js_desk.specs.Solo.{Solo, SoloRun}
 
 pub run_append : (a b c : World) (first more : List DeskEntry) → DeskRun a first b → DeskRun b more c → DeskRun a (first ++ more) c
 run_append a b c [] more h k = subst (λ (w : World). DeskRun w more c) (sym h) k
 run_append a b c (Routed call told ∷ first) more h k = (h.0, h.1, run_append (record a { router = h.0 }) b c first more h.2 k)
 run_append a b c (Looked call told ∷ first) more h k = (h.0, h.1, run_append (record a { catalog = h.0 }) b c first more h.2 k)
-run_append a b c (Held place before entries ∷ first) more h k = (h.0, h.1, h.2, run_append _ b c first more h.3 k)
+run_append a b c (Turned found ∷ first) more h k = (h.0, run_append (record a { ticked = place_or a.ticked found }) b c first more h.1 k)
+run_append a b c (Resumed last ∷ first) more h k = (h.0, run_append a b c first more h.1 k)
+run_append a b c (Held place before entries after ∷ first) more h k = (h.0, h.1, run_append _ b c first more h.2 k)
+run_append a b c (Missed at ∷ first) more h k = (h.0, run_append a b c first more h.1 k)
+
+-- and so do runs that keep the volumes
+pub solo_nothing : {V : Type 0} (desk : Solo V) → SoloRun desk [] desk
+solo_nothing desk = record { led = refl; vols = refl }
+
+pub solo_append : {V : Type 0} (a b c : Solo V) (first more : List DeskEntry) → SoloRun a first b → SoloRun b more c → SoloRun a (first ++ more) c
+solo_append a b c first more h k = record { led = run_append a.world b.world c.world first more h.led k.led; vols = k.vols ∙ h.vols }

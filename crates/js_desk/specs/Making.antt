@@ -1,60 +1,26 @@
--- The making of the stream that the words name.
-use Rattle.std.specs.Prelude.{◌≡◌, ℕ, false, List, [], ◌∷◌, Some, None}
+-- The making of the stream that the server's words name.
+use Rattle.std.specs.Prelude.{◌≡◌, ℕ, Option, None, Some, Result, Ok, Err}
 use Rattle.js_base.specs.Bytes.{Bytes}
-use Rattle.js_model.specs.declared.event.Event.{Event}
-use Rattle.js_model.specs.declared.event.What.TheVariants.{Make}
-use Rattle.js_model.specs.declared.stream.State.TheVariants.{Vacant}
-use Rattle.js_model.specs.declared.stream_config.StreamConfig.{StreamConfig}
-use Rattle.js_model.specs.declared.stream_config.Retention.TheVariants.{Limits}
-use Rattle.js_model.specs.declared.stream_config.Discard.TheVariants.{Old}
-use Rattle.js_model.specs.declared.desk.PlaceAt.{PlaceAt}
-use Rattle.js_model.specs.Router.{empty_router}
-use Rattle.js_model.specs.Catalog as catalog
-use Rattle.js_api.specs.Desks.{DeskEntry, Looked, World}
-use Rattle.js_api.specs.Calls.{IsHold, AreRouted}
-use Rattle.js_model.specs.Catalog.{new_place}
+use Rattle.js_base.specs.declared.memory.NoMemory.{NoMemory}
+use Rattle.js_base.specs.declared.out.ApiError.{ApiError}
+use Rattle.js_model.specs.declared.stream.State.{State}
+use Rattle.js_api.specs.Desks.{World}
+use Rattle.js_api.specs.Making as makings
+use Rattle.js_api.specs.Making.{Making, MakesStream, making_of}
+use Rattle.js_desk.specs.declared.holding.Outcome.{Outcome}
+use Rattle.js_desk.specs.Defaults.{default_config}
+use Rattle.js_desk.specs.Holding.{made_of}
+use Rattle.js_desk.specs.Leading.{Leads}
 
--- a stream of this name and this one subject, with every default of JetStream
-unfoldable pub default_config : Bytes → Bytes → StreamConfig
-default_config name subject = record {
-  description = [];
-  discard = Old;
-  duplicate_window = 120000000000;
-  max_age = 0;
-  max_bytes = None;
-  max_consumers = None;
-  max_msg_size = None;
-  max_msgs = None;
-  max_msgs_per_subject = None;
-  name = name;
-  retention = Limits;
-  subjects = subject ∷ [];
-}
+-- it is there, or was refused, or memory ran out
+abbrev pub making_told : Result (Option ApiError) NoMemory → Making
+making_told (Ok None) = makings.Stands
+making_told (Ok (Some refusal)) = makings.IsRefused refusal
+making_told (Err _) = makings.NoMemory
 
--- making it, without an answer
-unfoldable pub making : ℕ → Bytes → Bytes → Event
-making incarnation name subject = record { incarnation = incarnation; what = Make None (default_config name subject) }
+-- so it is told of what became of the hold
+abbrev pub TellsMaking : Result (Option ApiError) NoMemory → Outcome → Type 0
+TellsMaking result outcome = (after : State) → making_told result ≡ making_of (made_of outcome after)
 
--- the name is not there, a place is taken for it, and the stream is made there
-pub record IsMaking (name subject : Bytes) (now : ℕ) (entries : List DeskEntry) : Type 0 where
-  pub at : PlaceAt
-  pub held : List DeskEntry
-  pub entries_are : entries ≡ Looked (catalog.ByName name) (catalog.At None) ∷ Looked (catalog.Add name (subject ∷ [])) (catalog.At (Some at)) ∷ held
-  pub hold : IsHold at.place (making at.incarnation name subject) now false AreRouted held
-
--- no session was opened yet, and the one place is vacant
-abbrev pub opening : World
-opening = record {
-  router = empty_router;
-  catalog = new_place ∷ [];
-  places = Vacant 0 ∷ [];
-}
-
--- the one place was taken for the stream
-pub record IsAdded (name subject : Bytes) (at : PlaceAt) (new : catalog.Catalog) : Type 0 where
-  pub call : catalog.IsCatalogCall (new_place ∷ []) (catalog.Add name (subject ∷ [])) (catalog.At (Some at)) new
-  pub place : at.place ≡ 0
-  pub incarnation : at.incarnation ≡ 1
-  pub entry : catalog.Place
-  pub catalog_is : new ≡ entry ∷ []
-  pub kept : entry.incarnation ≡ 1
+abbrev pub MakesDefault : Result (Option ApiError) NoMemory → Bytes → Bytes → ℕ → World → World → Type 0
+MakesDefault result name subject now old new = Leads (MakesStream name (default_config name subject) now (making_told result)) old new

@@ -1,48 +1,37 @@
 -- What contracts see of the desk of one caller.
-use Rattle.std.specs.Prelude.{◌≡◌, ℕ, ◌≤◌, ◌^◌, Bool, true, false, List, [], ◌∷◌, IfSome, is_some, unwrap_or}
-use Rattle.js_base.specs.Bytes.{Bytes}
-use Rattle.js_model.specs.Events.{kept_incarnation}
+use Rattle.std.specs.Prelude.{◌≡◌, ◌≤◌, ℕ, Bool, true, List, [], length, Option, IfSome, is_some, unwrap_or}
 use Rattle.js_model.specs.Router.{is_open}
-use Rattle.js_model.specs.Catalog.{Place}
-use Rattle.js_api.specs.Desks.{World, DeskEntry, DeskRun}
 use Rattle.js_model.specs.Routing.{waiting_for}
-use Rattle.js_api.specs.Calls.{Client}
-use Rattle.js_desk.specs.Holding.{world_of}
-use Rattle.js_desk.specs.Making.{IsMaking, opening}
-use Rattle.js_desk.specs.declared.solo_desk.SoloDesk.TheInside.{Inside}
+use Rattle.js_api.specs.Desks.{World, DeskEntry, DeskRun}
+use Rattle.js_api.specs.Clients.{Client}
+use Rattle.js_desk.specs.Grounds.{Standing}
 
--- what it stands on, and the open session
-pub record Solo : Type 0 where
+-- what it stands on, its volumes, and the open session
+pub record Solo (V : Type 0) : Type 0 where
   pub world : World
+  pub vols : List V
   pub client : Client
   pub is_open : Bool
 
-abbrev pub solo : Inside → Solo
-solo inside = record {
-  world = world_of inside.router inside.catalog inside.place;
-  client = record { session = unwrap_or inside.session 0; told = inside.told };
-  is_open = is_some inside.session;
+abbrev pub solo : {V : Type 0} → Standing V → Option ℕ → Bool → Solo V
+solo ground session told = record {
+  world = ground.world;
+  vols = ground.vols;
+  client = record { session = unwrap_or session 0; told = told };
+  is_open = is_some session;
 }
 
--- the catalog knows the one place by the incarnation that it keeps, and the session is open in the router
-pub record IsConsistent (inside : Inside) : Type 0 where
-  pub entry : Place
-  pub catalog_is : inside.catalog ≡ entry ∷ []
-  pub kept : entry.incarnation ≡ kept_incarnation inside.place
-  pub small : entry.incarnation ≤ 2 ^ 62
-  pub opened : IfSome inside.session (λ number. is_open inside.router number ≡ true)
+-- the session is open in the router, and there is room for the volumes
+pub record IsConsistent {V : Type 0} (ground : Standing V) (session : Option ℕ) (given_back : List V) (capacity : ℕ) : Type 0 where
+  pub opened : IfSome session (λ number. is_open ground.world.router number ≡ true)
+  pub empty : given_back ≡ []
+  pub room : length ground.vols ≤ capacity
 
--- entries lead from the one desk to the other
-abbrev pub SoloRun : Solo → List DeskEntry → Solo → Type 0
-SoloRun old entries new = DeskRun old.world entries new.world
+-- entries lead from the one desk to the other, which keeps its volumes
+pub record SoloRun {V : Type 0} (old : Solo V) (entries : List DeskEntry) (new : Solo V) : Type 0 where
+  pub led : DeskRun old.world entries new.world
+  pub vols : new.vols ≡ old.vols
 
 -- how many frames wait for the open session
-abbrev pub frames_left : Solo → ℕ
+abbrev pub frames_left : {V : Type 0} → Solo V → ℕ
 frames_left desk = waiting_for desk.world.router desk.client.session
-
--- a desk whose stream was made at this moment, and no session is open
-pub record IsMade (name subject : Bytes) (now : ℕ) (desk : Solo) : Type 0 where
-  pub entries : List DeskEntry
-  pub making : IsMaking name subject now entries
-  pub led : DeskRun opening entries desk.world
-  pub closed : desk.is_open ≡ false

@@ -1,249 +1,123 @@
-//! The desk of one caller, who owns the router, the catalog and the one place.
+//! The desk of one caller, who owns the router, the catalog and the places.
 
-ghost use Rattle.std.specs.Prelude.{◌≡◌, ◌≤◌, ◌^◌, ◌∷◌, [], IfOk, OnOk, IsTrue, false, refl};
+ghost use Rattle.std.specs.Prelude.{◌≡◌, ◌≤◌, IfErr, IfOk, IsTrue, None, false, length};
 ghost use Rattle.js_model.specs.Configs.{is_stream_subject};
-ghost use Rattle.js_model.specs.Events.{kept_incarnation};
-ghost use Rattle.js_api.specs.Calls.{IsMessage, is_reserved, published_event};
-ghost use Rattle.js_desk.specs.Holding.{Holds};
-ghost use Rattle.js_model.specs.Routing.{KeepsOpen};
-ghost use Rattle.js_desk.specs.Following.{run_append};
-ghost use Rattle.js_desk.specs.Making.{default_config, making, IsAdded};
-ghost use Rattle.js_model.specs.Catalog.{new_place};
-ghost use Rattle.js_model.specs.declared.stream.State.TheVariants.{Vacant};
-ghost use Rattle.js_desk.specs.Solo.{SoloRun, frames_left, IsMade};
+ghost use Rattle.js_api.specs.Desks.{opening};
+ghost use Rattle.js_desk.specs.Faults.{GivesBack};
+ghost use Rattle.js_desk.specs.Following.{solo_append, solo_nothing};
+ghost use Rattle.js_desk.specs.Making.{MakesDefault};
+ghost use Rattle.js_desk.specs.Solo.{SoloRun, frames_left};
 
-use crate::holding::{HoldFault, hold};
-use crate::place::Place;
-use crate::untaken::tell_untaken;
+use crate::faults::{Closed, HubFault};
+use crate::ground::Ground;
+use crate::making::make_stream;
+use crate::passing::{settle, tick};
+use crate::publishing::{Caller, publish};
+use crate::volumes::{give_back, open_places};
 use catalog::Catalog;
 use js_api::{Desk, OpenFault, SubFault};
-use js_base::{Blob, List, Moment, Name, NoMemory, Out};
-use js_model::{
-    CatalogFault, Collected, Discard, Event, PlaceAt, Publish, Retention, RouteFault, StreamConfig,
-    Taken, Wants, What,
-};
-use route_core::Router;
+use js_base::{ApiError, Moment, Name, NoMemory, Out};
+use js_model::{Collected, RouteFault, Taken};
 use std::alloc::Global;
 use std::marker::Model;
-
-/// How many streams there may be.
-const PLACES: u32 = 1;
 
 /// The greatest number that a session can have.
 const LAST_SESSION: u64 = (1 << 62) - 1;
 
-/// How long a stream remembers ids by default: 2 minutes, in nanoseconds.
-const DUPLICATE_WINDOW: u64 = 120_000_000_000;
-
-/// Who took a message to a reserved subject.
-const NOBODY: Taken = Taken {
-    subscriptions: 0,
-    other: false,
-};
-
-/// A desk with its own router, catalog and place.
+/// A desk with its own router, catalog and places, one for each volume.
 #[derive(Drop)]
-pub struct SoloDesk {
-    alloc: Global,
-    router: Router,
-    catalog: Catalog,
-    place: Place,
+pub struct SoloDesk<V> {
+    ground: Ground<V>,
+    /// Where the volumes go at the end.
+    vols: Vec<V>,
     session: Option<u64>,
     /// Whether the session's client is told where nobody took its message.
     told: bool,
 }
 
-impl Model for SoloDesk {
+impl<V> Model for SoloDesk<V> {
+    ghost use Rattle.std.specs.Prelude.{vec_capacity};
     ghost use Rattle.js_desk.specs.Solo.{Solo, solo, IsConsistent};
 
-    ghost Value = { Solo };
+    ghost Value = { Solo V };
 
-    ghost view = { solo };
+    ghost view = { λ desk. solo desk.ground desk.session desk.told };
 
-    ghost invariant = { IsConsistent };
+    ghost invariant = { λ desk. IsConsistent desk.ground desk.session desk.vols.items (vec_capacity desk.vols) };
 }
 
-/// Whether the subject is one of the JetStream API or of acknowledgements.
-fn is_reserved(subject: &[u8]) -> bool
-    ensures { result ≡ is_reserved subject.now }
-{
-    subject.starts_with(b"$JS.API.") || subject.starts_with(b"$JS.ACK.")
-}
-
-/// The configuration of a stream of this name and this one subject, with every default of JetStream.
-#[tactic(auto, unfolding(crate::specs::Making::default_config))]
-fn default_config(alloc: Global, name: &Name, subject: &Blob) -> Result<StreamConfig, NoMemory>
-    ensures config { IfOk result (λ config. config ≡ default_config name.now subject.now) }
-{
-    Ok(StreamConfig {
-        description: Blob::empty(),
-        discard: Discard::Old,
-        duplicate_window: DUPLICATE_WINDOW,
-        max_age: 0,
-        max_bytes: None,
-        max_consumers: None,
-        max_msg_size: None,
-        max_msgs: None,
-        max_msgs_per_subject: None,
-        name: name.as_blob().clone()?,
-        retention: Retention::Limits,
-        subjects: one_subject(alloc, subject)?,
-    })
-}
-
-fn one_subject(alloc: Global, subject: &Blob) -> Result<List<Blob>, NoMemory>
-    ensures list { IfOk result (λ list. list ≡ subject.now ∷ []) }
-{
-    let mut subjects = List::new(alloc);
-    subjects.push(subject.clone()?)?;
-    Ok(subjects)
-}
-
-/// The event that a published message is for its stream.
-fn published_event(at: PlaceAt, message: &Out) -> Result<Event, NoMemory>
-    ensures event { IfOk result (λ event. event ≡ published_event at.incarnation message.now) }
-{
-    let publish = Publish {
-        reply: message.reply.clone()?,
-        subject: message.subject.clone()?,
-        headers: message.headers.clone()?,
-        payload: message.payload.clone()?,
-        wants: Wants {
-            bad: None,
-            id: Blob::empty(),
-            stream: None,
-            last: None,
-            subject_last: None,
-            last_id: None,
-        },
-    };
-    Ok(Event {
-        incarnation: at.incarnation,
-        what: What::Publish(publish),
-    })
-}
-
-impl SoloDesk {
-    /// A desk whose one place has a stream of this name and this one subject, made at the moment, with every default.
-    pub fn with_stream(
-        alloc: Global,
-        name: Name,
-        subject: Blob,
-        now: Moment,
-    ) -> Result<SoloDesk, NoMemory>
-        requires subject { IsTrue (is_stream_subject subject) }
-        ensures made { IfOk result (IsMade name subject now) }
+impl<V> SoloDesk<V> {
+    /// Opens a place on each volume, at most 32, in their order. No stream is there, and no session is open. An `Err` gives the volumes back.
+    pub fn open(alloc: Global, vols: Vec<V>) -> Result<SoloDesk<V>, HubFault<V>>
+        requires few { length vols.items ≤ 32 }
+        ensures world { IfOk result (λ desk. desk.world ≡ opening (length vols.items)) }
+        ensures vols { IfOk result (λ desk. desk.vols ≡ vols.items) }
+        ensures closed { IfOk result (λ desk. desk.is_open ≡ false) }
+        ensures err { IfErr result (GivesBack vols.items) }
     {
-        let mut router = Router::new(alloc);
-        let mut catalog = Catalog::new(alloc, PLACES)?;
-        let mut place = Place::new(alloc);
-        let _ = catalog.by_name(&name);
-        let at = add(alloc, &mut catalog, &name, &subject)?;
-        match make(alloc, &mut place, &mut router, at, &name, &subject, now) {
-            Ok(()) => {}
-            Err(_) => return Err(NoMemory),
+        let mut vols = vols;
+        let catalog = match Catalog::new(alloc, vols.len() as u32) {
+            Ok(catalog) => catalog,
+            Err(_) => return Err(HubFault::NoMemory { vols }),
+        };
+        match open_places(alloc, &mut vols) {
+            Ok(places) => Ok(SoloDesk {
+                ground: Ground::of(alloc, catalog, places),
+                vols,
+                session: None,
+                told: false,
+            }),
+            Err(_) => Err(HubFault::NoMemory { vols }),
         }
-        Ok(SoloDesk {
-            alloc,
-            router,
-            catalog,
-            place,
-            session: None,
-            told: false,
-        })
+    }
+
+    /// Makes the stream of this name and this one subject, with every default of JetStream, and answers why not. A stream of this name that is
+    /// there is left as it is. It needs no session.
+    pub fn make_stream(
+        &mut self,
+        name: &Name,
+        subject: &[u8],
+        now: Moment,
+    ) -> Result<Option<ApiError>, NoMemory>
+        requires subject { IsTrue (is_stream_subject subject.now) }
+        ensures makes { MakesDefault result name.now subject.now now self.old.world self.new.world }
+        ensures vols { self.new.vols ≡ self.old.vols }
+        ensures client { self.new.client ≡ self.old.client }
+        ensures is_open { self.new.is_open ≡ self.old.is_open }
+    {
+        make_stream(&mut self.ground, name, subject, now)
+    }
+
+    /// Gives the volumes back, in their order. In memory nothing has to be brought to them, and so nothing fails.
+    pub fn close_all(self) -> Closed<V>
+        ensures vols { result.vols.items ≡ self.vols }
+        ensures failed { result.failed ≡ None }
+    {
+        let SoloDesk {
+            ground,
+            vols,
+            session: _,
+            told: _,
+        } = self;
+        let mut vols = vols;
+        let mut places = ground.into_places();
+        places.reverse();
+        give_back(places, &mut vols);
+        Closed { vols, failed: None }
     }
 }
 
-/// Takes a place for a stream of this name and this one subject.
-fn add(
-    alloc: Global,
-    catalog: &mut Catalog,
-    name: &Name,
-    subject: &Blob,
-) -> Result<PlaceAt, NoMemory>
-    requires new { catalog.old ≡ new_place ∷ [] }
-    ensures added { IfOk result (λ at. IsAdded name.now subject.now at catalog.new) }
-{
-    let subjects = one_subject(alloc, subject)?;
-    match catalog.add(name.clone()?, subjects.as_slice()) {
-        Ok(at) => Ok(at),
-        Err(CatalogFault::NoMemory) => Err(NoMemory),
-        Err(CatalogFault::Refused(_)) => unreachable!(),
-    }
-}
-
-/// The event that makes a stream of this name and this one subject.
-#[tactic(auto, unfolding(crate::specs::Making::making))]
-fn making(alloc: Global, at: PlaceAt, name: &Name, subject: &Blob) -> Result<Event, NoMemory>
-    ensures event { IfOk result (λ event. event ≡ making at.incarnation name.now subject.now) }
-{
-    Ok(Event {
-        incarnation: at.incarnation,
-        what: What::Make {
-            reply: None,
-            config: default_config(alloc, name, subject)?,
-        },
-    })
-}
-
-/// Makes a stream of this name and this one subject on a place that never had one.
-fn make(
-    alloc: Global,
-    place: &mut Place,
-    router: &mut Router,
-    at: PlaceAt,
-    name: &Name,
-    subject: &Blob,
-    now: Moment,
-) -> Result<(), HoldFault>
-    requires vacant { place.old ≡ Vacant 0 }
-    requires first { at.incarnation ≡ 1 }
-    requires subject { IsTrue (is_stream_subject subject.now) }
-    ensures holds { Holds result (making at.incarnation name.now subject.now) now place.old place.new router.old router.new }
-    ensures incarnation { kept_incarnation place.new ≡ kept_incarnation place.old }
-{
-    // that the bytes are those of a name is what the proof takes from this call
-    let _ = name.as_slice();
-    match making(alloc, at, name, subject) {
-        Ok(event) => hold(alloc, place, router, &event, now),
-        Err(_) => Err(HoldFault::Unmade),
-    }
-}
-
-/// Stores a message in the stream of a place, and routes what that sends.
-fn store(
-    alloc: Global,
-    place: &mut Place,
-    router: &mut Router,
-    at: PlaceAt,
-    message: &Out,
-    now: Moment,
-) -> Result<(), HoldFault>
-    requires message { IsMessage message.now }
-    requires unreserved { is_reserved message.now.to ≡ false }
-    requires incarnation { at.incarnation ≤ 2 ^ 62 }
-    requires kept { at.incarnation ≡ kept_incarnation place.old }
-    ensures holds { Holds result (published_event at.incarnation message.now) now place.old place.new router.old router.new }
-    ensures incarnation { kept_incarnation place.new ≡ kept_incarnation place.old }
-    ensures stay { KeepsOpen router.old router.new }
-{
-    match published_event(at, message) {
-        Ok(event) => hold(alloc, place, router, &event, now),
-        Err(_) => Err(HoldFault::Unmade),
-    }
-}
-
-impl Desk for SoloDesk {
+impl<V> Desk for SoloDesk<V> {
     ghost client = { λ desk. desk.client };
 
     ghost is_open = { λ desk. desk.is_open };
 
-    ghost made = { SoloRun };
+    ghost made = { λ old entries new. SoloRun old entries new };
 
-    ghost to_collect = { frames_left };
+    ghost to_collect = { λ desk. frames_left desk };
 
     fn open(&mut self) -> Result<u64, OpenFault> {
-        match self.router.open() {
+        match self.ground.open() {
             Ok(session) => {
                 self.session = Some(session);
                 self.told = false;
@@ -260,7 +134,7 @@ impl Desk for SoloDesk {
         let Some(session) = self.session else {
             unreachable!()
         };
-        self.router.options(session, echo, headers);
+        self.ground.options(session, echo, headers);
         self.told = headers && no_responders;
     }
 
@@ -268,7 +142,7 @@ impl Desk for SoloDesk {
         let Some(session) = self.session else {
             unreachable!()
         };
-        match self.router.sub(session, subject, queue, sid) {
+        match self.ground.sub(session, subject, queue, sid) {
             Ok(()) => Ok(()),
             Err(RouteFault::TooManySubs) => Err(SubFault::TooManySubs),
             Err(RouteFault::NoMemory) => Err(SubFault::NoMemory),
@@ -281,7 +155,7 @@ impl Desk for SoloDesk {
         let Some(session) = self.session else {
             unreachable!()
         };
-        match self.router.unsub(session, sid, max) {
+        match self.ground.unsub(session, sid, max) {
             Ok(()) => {}
             Err(_) => unreachable!(),
         }
@@ -291,41 +165,26 @@ impl Desk for SoloDesk {
         let Some(session) = self.session else {
             unreachable!()
         };
-        if is_reserved(message.to.as_slice()) {
-            return tell_untaken(self.alloc, &mut self.router, self.told, message, NOBODY);
-        }
-        let subscriptions = match self.router.publish(message, Some(session)) {
-            Ok(subscriptions) => subscriptions,
-            Err(_) => return Err(NoMemory),
+        let caller = Caller {
+            session,
+            told: self.told,
         };
-        let Some(at) = self.catalog.find(message.to.as_slice()) else {
-            let taken = Taken {
-                subscriptions,
-                other: false,
-            };
-            return tell_untaken(self.alloc, &mut self.router, self.told, message, taken);
-        };
-        match store(
-            self.alloc,
-            &mut self.place,
-            &mut self.router,
-            at,
-            message,
-            now,
-        ) {
-            Ok(()) => Ok(Taken {
-                subscriptions,
-                other: true,
-            }),
-            Err(_) => Err(NoMemory),
-        }
+        publish(&mut self.ground, caller, message, now)
+    }
+
+    fn tick(&mut self, now: Moment) -> Result<(), NoMemory> {
+        tick(&mut self.ground, now)
+    }
+
+    fn settle(&mut self, now: Moment) -> Result<bool, NoMemory> {
+        settle(&mut self.ground, now)
     }
 
     fn collect(&mut self, max: usize) -> Result<Collected, NoMemory> {
         let Some(session) = self.session else {
             unreachable!()
         };
-        match self.router.collect(session, max) {
+        match self.ground.collect(session, max) {
             Ok(collected) => Ok(collected),
             Err(_) => Err(NoMemory),
         }
@@ -335,11 +194,11 @@ impl Desk for SoloDesk {
         let Some(session) = self.session else {
             unreachable!()
         };
-        self.router.close(session);
+        self.ground.close(session);
         self.session = None;
     }
 
-    ghost made_nothing = { λ desk. refl };
+    ghost made_nothing = { λ desk. solo_nothing desk };
 
-    ghost made_more = { λ a b c first more h k. run_append a.world b.world c.world first more h k };
+    ghost made_more = { λ a b c first more h k. solo_append a b c first more h k };
 }

@@ -1,16 +1,21 @@
 //! What a client is told where nobody took its message.
 
 ghost use Rattle.std.specs.Prelude.{◌≡◌, ◌<◌, true, length, IfOk, OnErr};
-ghost use Rattle.js_api.specs.Calls.{is_untaken, no_responders, told_nobody, untaken_outs};
-ghost use Rattle.js_desk.specs.Holding.{Tells};
-ghost use Rattle.js_model.specs.Routing.{KeepsOpen};
+ghost use Rattle.js_api.specs.Publishing.{is_untaken, no_responders, told_nobody, untaken_outs};
+ghost use Rattle.js_desk.specs.Grounds.{Keeps};
+ghost use Rattle.js_desk.specs.Untaken.{TellsUntaken};
 
-use crate::holding::route_all;
+use crate::ground::Ground;
 use js_base::{Blob, List, NoMemory, Out, Outs};
 use js_model::Taken;
 use nats_headers::write_status;
-use route_core::Router;
 use std::alloc::Global;
+
+/// A message that reached nobody.
+pub const NOBODY: Taken = Taken {
+    subscriptions: 0,
+    other: false,
+};
 
 /// Whether neither a subscription nor anything else took a message.
 fn is_untaken(taken: Taken) -> bool
@@ -60,21 +65,20 @@ fn untaken_outs(alloc: Global, told: bool, message: &Out, taken: Taken) -> Resul
 }
 
 /// Answers who took a message, and tells its client, where that is told so, if nobody did.
-pub fn tell_untaken(
-    alloc: Global,
-    router: &mut Router,
+pub fn tell_untaken<V>(
+    ground: &mut Ground<V>,
     told: bool,
     message: &Out,
     taken: Taken,
 ) -> Result<Taken, NoMemory>
-    ensures tells { Tells result told message.now taken router.old router.new }
-    ensures stay { KeepsOpen router.old router.new }
+    ensures tells { TellsUntaken result told message.now taken ground.old.world ground.new.world }
+    ensures kept { Keeps ground.old ground.new }
 {
-    let outs = match untaken_outs(alloc, told, message, taken) {
+    let outs = match untaken_outs(ground.alloc(), told, message, taken) {
         Ok(outs) => outs,
         Err(_) => return Err(NoMemory),
     };
-    match route_all(router, outs.as_slice()) {
+    match ground.send(outs.as_slice()) {
         Ok(()) => Ok(taken),
         Err(_) => Err(NoMemory),
     }

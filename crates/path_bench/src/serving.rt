@@ -32,17 +32,34 @@ fn limits(alloc: Global) -> Result<Limits, NoMemory>
     })
 }
 
-/// A desk whose stream takes the subjects `orders.*`.
-#[tactic(auto, using(crate::proofs::Subjects::orders))]
-fn desk(alloc: Global, now: Moment) -> Result<SoloDesk, NoMemory>
+/// A desk with so many places as the program's.
+fn open(alloc: Global) -> Result<SoloDesk<()>, NoMemory>
+    ensures closed { IfOk result (λ desk. desk.is_open ≡ false) }
+{
+    let vols = vec![in alloc; (); 32]?;
+    match SoloDesk::open(alloc, vols) {
+        Ok(desk) => Ok(desk),
+        Err(_) => Err(NoMemory),
+    }
+}
+
+/// A desk with a stream that takes the subjects `orders.*`.
+fn desk(alloc: Global, now: Moment) -> Result<SoloDesk<()>, NoMemory>
     ensures closed { IfOk result (λ desk. desk.is_open ≡ false) }
 {
     let name = match Name::read(alloc, b"ORDERS") {
         Ok(name) => name,
         Err(_) => return Err(NoMemory),
     };
-    let subject = Blob::of(alloc, b"orders.*")?;
-    SoloDesk::with_stream(alloc, name, subject, now)
+    let mut desk = match open(alloc) {
+        Ok(desk) => desk,
+        Err(_) => return Err(NoMemory),
+    };
+    // with places that are free, no stream is refused
+    match desk.make_stream(&name, b"orders.*", now) {
+        Ok(_) => Ok(desk),
+        Err(_) => Err(NoMemory),
+    }
 }
 
 /// Serves the input as one session, in pieces of so many bytes.

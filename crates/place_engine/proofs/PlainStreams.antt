@@ -1,5 +1,5 @@
 -- What the rules of streams come to where limits are the defaults and there are no consumers and ids.
-use Rattle.std.proofs.Common.{◌≡◌, ◌≢◌, ◌≤◌, ◌<◌, ◌++◌, ◌-◌, length, drop, arith, ℕ, ◌+◌, ◌^◌, max, min, nat_lt, List, [], ◌∷◌, map, filter, Bool, true, false, ◌==◌, if◌then◌else◌, Option, None, Some, unwrap_or, refl, sym, ap, ◌∙◌, subst}
+use Rattle.std.proofs.Common.{◌≡◌, ◌≢◌, ◌≤◌, ◌<◌, ◌++◌, ◌-◌, length, drop, arith, ℕ, ◌+◌, ◌^◌, max, min, nat_lt, List, [], ◌∷◌, map, filter, Bool, true, false, ◌==◌, if◌then◌else◌, Option, None, Some, unwrap_or, refl, sym, ap, ◌∙◌, subst, IsTrue}
 use Rattle.std.specs.List.{flat_map}
 use Rattle.std.proofs.lemmas.Bool.{eq-eqb, ne_eqb}
 use Rattle.js_base.specs.Bytes.{Bytes, last_of}
@@ -25,7 +25,7 @@ use Rattle.js_model.specs.Streams.{only, first_seq}
 use Rattle.js_model.specs.Advance.{advance, advance_outs, aged, stream_at, young, remembered, consumer_at}
 use Rattle.js_model.specs.Trim.{trim, trim_subjects, trim_count, trim_bytes, newest_at, fitting_at}
 use Rattle.js_model.specs.Retention.{kept, is_kept}
-use Rattle.js_model.specs.Configs.{same_stream_config, same_retention}
+use Rattle.js_model.specs.Configs.{same_stream_config, same_retention, is_stream_config}
 use Rattle.js_model.specs.Counts.{stream_info}
 use Rattle.js_model.specs.Verdict.{verdict, known, early_checks, late_checks, first_of_all, message_of}
 use Rattle.js_model.specs.Refusals.{first_refusal, numbers_used_up, other_config, retention_cannot_change}
@@ -195,12 +195,12 @@ same-limits : (a b : StreamConfig) → IsPlainConfig a → IsPlainConfig b → s
 same-limits a b plain other = rw (plain.retention, other.retention) refl
 
 -- its configuration is replaced
-pub changes : (s : Stream) (reply : Option Bytes) (config : StreamConfig) (now : ℕ) → IsPlainStream s → IsPlainConfig config
+pub changes : (s : Stream) (reply : Option Bytes) (config : StreamConfig) (now : ℕ) → IsPlainStream s → IsPlainConfig config → IsTrue (is_stream_config config)
     → StreamAnswers s (Change reply config) now (StreamTold (stream_info (record s { config = config }))) (Live (record (moved s now) { config = config }))
-changes s reply config now plain new =
+changes s reply config now plain new valid =
     let changed : Stream = record s { config = config } in
     let is : IsPlainStream changed =
-    record { config = new; ids = plain.ids; consumers = plain.consumers; incarnation = plain.incarnation; last = plain.last; messages = plain.messages }
+    record { config = new; valid = valid; ids = plain.ids; consumers = plain.consumers; incarnation = plain.incarnation; last = plain.last; messages = plain.messages }
     in
     at_moment s (Change reply config) now plain
     ∙ ap (λ (b : Bool). completed [] (if b then stream_told (moved changed now) else refused retention_cannot_change (moved s now))) (same-limits config s.config new plain.config)

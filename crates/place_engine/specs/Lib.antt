@@ -4,4 +4,5 @@ pub mod PlainStreams
 pub mod Stored
 pub mod Answers
 pub mod Held
+pub mod Shown
 pub mod Places

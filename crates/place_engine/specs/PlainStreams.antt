@@ -1,5 +1,6 @@
 -- Streams of such configurations, without consumers and ids.
-use Rattle.std.specs.Prelude.{◌≡◌, ℕ, ◌^◌, ◌<◌, ◌≤◌, List, [], length}
+use Rattle.std.specs.Prelude.{◌≡◌, ℕ, ◌^◌, ◌<◌, ◌≤◌, List, [], length, IsTrue}
+use Rattle.js_model.specs.Configs.{is_stream_config}
 use Rattle.js_model.specs.declared.stream_config.StreamConfig.{StreamConfig}
 use Rattle.js_model.specs.declared.stream.Message.{Message}
 use Rattle.js_model.specs.declared.stream.Stream.{Stream}
@@ -17,9 +18,10 @@ plain_stream incarnation made config messages last moment = record {
   consumers = [];
 }
 
--- its numbers are in their ranges, and it has no more messages than a stream may have
+-- its configuration is valid, its numbers are in their ranges, and it has no more messages than a stream may have
 pub record IsPlainStream (s : Stream) : Type 0 where
   pub config : IsPlainConfig s.config
+  pub valid : IsTrue (is_stream_config s.config)
   pub ids : s.ids ≡ []
   pub consumers : s.consumers ≡ []
   pub incarnation : s.incarnation < 2 ^ 62

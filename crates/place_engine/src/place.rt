@@ -1,17 +1,19 @@
 //! A place for one stream.
 
-ghost use Rattle.std.specs.Prelude.{◌≡◌, ◌≤◌, ◌^◌, ◌++◌, true, IfOk, IfErr, OnOk, OnErr, IsTrue, None};
+ghost use Rattle.std.specs.Prelude.{◌≡◌, ◌≤◌, ◌<◌, ◌^◌, ◌++◌, true, IfOk, IfErr, IfSome, OnOk, OnErr, IsTrue, None};
 ghost use Rattle.std.specs.Option.{option_copied};
 ghost use Rattle.js_model.specs.declared.stream.State.TheVariants.{Vacant};
 ghost use Rattle.js_model.specs.Events.{answered, kept_incarnation};
 ghost use Rattle.js_model.specs.Proper.{is_proper};
+ghost use Rattle.js_model.specs.Ready.{some_ready};
 ghost use Rattle.place_engine.specs.declared.faults.OpenFault.TheVariants as opening;
 ghost use Rattle.place_engine.specs.Places.{IsBuilt, HasCause, name_in, subjects_in};
+ghost use Rattle.place_engine.specs.Shown.{ShowsOf};
 
 use crate::faults::{Left, OpenFault, PlaceFault};
 use crate::slot::Slot;
 use js_base::{Blob, Moment, NoMemory, Outs};
-use js_model::{Event, Reply};
+use js_model::{Event, Listening, Reply};
 use std::alloc::Global;
 use std::marker::Model;
 
@@ -52,9 +54,10 @@ impl<V> Place<V> {
         self.slot.incarnation()
     }
 
-    /// The name of the stream, where there is one.
+    /// The name of the stream, where there is one. The incarnation of a stream is below 2^62.
     pub fn name(&self) -> Option<&Blob>
         ensures value { option_copied result ≡ name_in self.now.state }
+        ensures number { IfSome result (λ _. kept_incarnation self.now.state < 2 ^ 62) }
     {
         self.slot.name()
     }
@@ -81,9 +84,20 @@ impl<V> Place<V> {
         vol
     }
 
+    /// Whether a consumer is ready at a moment, one to whom something can be delivered, where these push consumers are listened. It changes
+    /// nothing.
+    pub fn ready(&self, now: Moment, listening: &Listening) -> bool
+        ensures value { result ≡ some_ready self.now.state now listening.now }
+    {
+        self.slot.ready(now, listening)
+    }
+
     /// Makes an event at a moment, answers it, and adds what it sends to the outputs. An event for another incarnation than the one
     /// that is kept is `Gone`. An `Err` leaves the place and the outputs as they were. Not every event can be made yet: streams have
     /// the default limits and no consumers, and publishes no headers that ask something of the stream.
+    ///
+    /// What a reply shows can be printed: the configuration of an information is valid, and the text of a refusal is UTF-8, but for one of a
+    /// publish; and the numbers of an information are so small that those of 32 streams can be added.
     pub fn step(&mut self, event: &Event, now: Moment, outs: &mut Outs) -> Result<Reply, PlaceFault>
         requires built { IsBuilt event.now.what }
         requires proper { IsTrue (is_proper event.now) }
@@ -91,6 +105,7 @@ impl<V> Place<V> {
         ensures reply { IfOk result (λ reply. reply ≡ (answered self.old.state event.now now true).reply) }
         ensures outs { OnOk result (outs.new ≡ outs.old ++ (answered self.old.state event.now now true).outs) }
         ensures state { OnOk result (self.new.state ≡ (answered self.old.state event.now now true).state) }
+        ensures shown { IfOk result (ShowsOf event.now.what) }
         ensures vol { self.new.vol ≡ self.old.vol }
         ensures cause { IfErr result (HasCause self.old.state event.now) }
         ensures err { OnErr result (self.new.state ≡ self.old.state) }

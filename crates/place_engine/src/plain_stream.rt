@@ -1,26 +1,30 @@
 //! A stream whose limits are the defaults, without consumers and message ids, in memory.
 
 ghost use Rattle.std.specs.Prelude.{◌≡◌, ◌+◌, ◌^◌, ◌<◌, ℕ, Option, max, IfOk, OnErr, IsTrue, length};
+ghost use Rattle.std.specs.List.{list_any};
 ghost use Rattle.std.specs.Option.{option_copied};
 ghost use Rattle.js_base.specs.Bytes.{Bytes};
 ghost use Rattle.js_model.specs.declared.stream.State.TheVariants.{Live, Vacant};
 ghost use Rattle.js_model.specs.declared.event.What.TheVariants as whats;
 ghost use Rattle.js_model.specs.declared.reply.Reply.TheVariants.{Silent, Done};
 ghost use Rattle.js_model.specs.Consumers.{empty_stream};
-ghost use Rattle.js_model.specs.Configs.{same_stream_config};
+ghost use Rattle.js_model.specs.Advance.{advance};
+ghost use Rattle.js_model.specs.Configs.{is_stream_config, same_stream_config};
 ghost use Rattle.js_model.specs.Counts.{stream_info};
 ghost use Rattle.js_model.specs.Proper.{is_proper_publish};
+ghost use Rattle.js_model.specs.Ready.{is_ready};
 ghost use Rattle.js_model.specs.Streams.{first_seq};
 ghost use Rattle.place_engine.specs.PlainConfigs.{IsPlainConfig};
 ghost use Rattle.place_engine.specs.PlainPublishes.{IsPlainPublish};
 ghost use Rattle.place_engine.specs.Answers.{StreamAnswers};
+ghost use Rattle.place_engine.specs.Shown.{IsShown, IsSoundInfo};
 ghost use Rattle.place_engine.specs.Stored.{stored_message};
 
 use crate::sameness::same_stream_config;
 use crate::stored::StoredMessages;
 use js_base::{Blob, Moment, NoMemory};
 use js_model::refusals::{numbers_used_up, other_config};
-use js_model::{Message, Publish, Reply, StreamConfig, StreamInfo, copy_stream_config};
+use js_model::{Listening, Message, Publish, Reply, StreamConfig, StreamInfo, copy_stream_config};
 use std::alloc::Global;
 use std::marker::Model;
 
@@ -59,6 +63,7 @@ impl PlainStream {
         now: Moment,
     ) -> Result<PlainStream, NoMemory>
         requires plain { IsPlainConfig config.now }
+        requires valid { IsTrue (is_stream_config config.now) }
         requires incarnation { incarnation < 2 ^ 62 }
         ensures made { IfOk result (λ stream. stream ≡ empty_stream incarnation config.now now) }
     {
@@ -98,6 +103,7 @@ impl PlainStream {
     /// Its information.
     pub fn info(&self) -> Result<StreamInfo, NoMemory>
         ensures value { IfOk result (λ info. info ≡ stream_info self.now) }
+        ensures shown { IfOk result IsSoundInfo }
     {
         Ok(self.info_with(copy_stream_config(self.alloc, &self.config)?))
     }
@@ -112,6 +118,7 @@ impl PlainStream {
     /// Shows its information.
     pub fn show(&mut self, now: Moment) -> Result<Reply, NoMemory>
         ensures answers { (subject : Option Bytes) → IfOk result (λ reply. StreamAnswers self.old (whats.StreamInfo subject) now reply (Live self.new)) }
+        ensures shown { IfOk result IsShown }
         ensures err { OnErr result (self.new ≡ self.old) }
     {
         let info = self.info()?;
@@ -122,6 +129,7 @@ impl PlainStream {
     /// Makes a stream that is there: it is shown where it has this configuration, and refused where it has another.
     pub fn make_again(&mut self, config: &StreamConfig, now: Moment) -> Result<Reply, NoMemory>
         ensures answers { (subject : Option Bytes) → IfOk result (λ reply. StreamAnswers self.old (whats.Make subject config.now) now reply (Live self.new)) }
+        ensures shown { IfOk result IsShown }
         ensures err { OnErr result (self.new ≡ self.old) }
     {
         let reply = if same_stream_config(config, &self.config) {
@@ -136,7 +144,9 @@ impl PlainStream {
     /// Replaces the configuration. The messages stay.
     pub fn change(&mut self, config: &StreamConfig, now: Moment) -> Result<Reply, NoMemory>
         requires plain { IsPlainConfig config.now }
+        requires valid { IsTrue (is_stream_config config.now) }
         ensures answers { (subject : Option Bytes) → IfOk result (λ reply. StreamAnswers self.old (whats.Change subject config.now) now reply (Live self.new)) }
+        ensures shown { IfOk result IsShown }
         ensures err { OnErr result (self.new ≡ self.old) }
     {
         let kept = copy_stream_config(self.alloc, config)?;
@@ -175,6 +185,17 @@ impl PlainStream {
         Ok(Reply::Published(self.last))
     }
 
+    /// Whether a consumer is ready at a moment. There are none.
+    pub fn ready(&self, now: Moment, listening: &Listening) -> bool
+        ensures value { result ≡ list_any (is_ready (advance self.now now) listening.now) (advance self.now now).consumers }
+    {
+        // that there are none is what the proof takes from this look
+        let _ = &self.config;
+        let _ = now;
+        let _ = listening;
+        false
+    }
+
     /// The first stored sequence, or the next one.
     fn first_seq(&self) -> u64
         ensures value { result ≡ first_seq self.now }
@@ -187,7 +208,9 @@ impl PlainStream {
 
     /// Its information with such a configuration.
     fn info_with(&self, config: StreamConfig) -> StreamInfo
+        requires valid { IsTrue (is_stream_config config) }
         ensures value { result ≡ stream_info (record self.now { config = config }) }
+        ensures shown { IsSoundInfo result }
     {
         StreamInfo {
             config,

@@ -1,20 +1,23 @@
 //! What a place holds, in memory.
 
-ghost use Rattle.std.specs.Prelude.{◌≡◌, ◌≤◌, ◌^◌, ℕ, IfOk, OnErr, Option, IsTrue};
+ghost use Rattle.std.specs.Prelude.{◌≡◌, ◌≤◌, ◌<◌, ◌^◌, ℕ, IfOk, IfSome, OnErr, Option, IsTrue};
 ghost use Rattle.std.specs.Option.{option_copied};
 ghost use Rattle.js_base.specs.Bytes.{Bytes};
 ghost use Rattle.js_model.specs.declared.stream.State.TheVariants.{Vacant};
 ghost use Rattle.js_model.specs.Events.{kept_incarnation};
+ghost use Rattle.js_model.specs.Configs.{is_stream_config};
 ghost use Rattle.js_model.specs.Proper.{is_proper_what, is_proper_publish};
+ghost use Rattle.js_model.specs.Ready.{some_ready};
 ghost use Rattle.place_engine.specs.Answers.{PlaceAnswers};
 ghost use Rattle.place_engine.specs.Places.{IsBuilt, IsVacant, name_in, subjects_in};
 ghost use Rattle.place_engine.specs.PlainConfigs.{IsPlainConfig};
 ghost use Rattle.place_engine.specs.PlainPublishes.{IsPlainPublish};
+ghost use Rattle.place_engine.specs.Shown.{IsShown, ShowsOf};
 
 use crate::plain_stream::{NUMBERS_END, PlainStream};
 use js_base::{Blob, Moment, NoMemory};
 use js_model::refusals::{no_stream, numbers_used_up};
-use js_model::{Publish, Reply, StreamConfig, What};
+use js_model::{Listening, Publish, Reply, StreamConfig, What};
 use std::alloc::Global;
 use std::marker::Model;
 
@@ -68,10 +71,15 @@ impl Slot {
     /// The name of the stream, where there is one.
     pub fn name(&self) -> Option<&Blob>
         ensures value { option_copied result ≡ name_in self.now }
+        ensures number { IfSome result (λ _. kept_incarnation self.now < 2 ^ 62) }
     {
         match &self.held {
             Held::Nothing(_) => None,
-            Held::Stream(stream) => Some(stream.name()),
+            Held::Stream(stream) => {
+                // that its number is below 2^62 is what the proof takes from this call
+                let _ = stream.incarnation();
+                Some(stream.name())
+            }
         }
     }
 
@@ -85,11 +93,22 @@ impl Slot {
         }
     }
 
+    /// Whether a consumer is ready at a moment.
+    pub fn ready(&self, now: Moment, listening: &Listening) -> bool
+        ensures value { result ≡ some_ready self.now now listening.now }
+    {
+        match &self.held {
+            Held::Nothing(_) => false,
+            Held::Stream(stream) => stream.ready(now, listening),
+        }
+    }
+
     /// Does what is asked at a moment, and answers it. An `Err` changes nothing.
     pub fn answer(&mut self, what: &What, now: Moment) -> Result<Reply, NoMemory>
         requires built { IsBuilt what.now }
         requires proper { IsTrue (is_proper_what what.now) }
         ensures answers { IfOk result (λ reply. PlaceAnswers self.old what.now now reply self.new) }
+        ensures shown { IfOk result (ShowsOf what.now) }
         ensures err { OnErr result (self.new ≡ self.old) }
     {
         match what {
@@ -106,7 +125,9 @@ impl Slot {
     /// Makes the stream.
     fn make(&mut self, config: &StreamConfig, now: Moment) -> Result<Reply, NoMemory>
         requires plain { IsPlainConfig config.now }
+        requires valid { IsTrue (is_stream_config config.now) }
         ensures answers { (subject : Option Bytes) → IfOk result (λ reply. PlaceAnswers self.old (What.Make subject config.now) now reply self.new) }
+        ensures shown { IfOk result IsShown }
         ensures err { OnErr result (self.new ≡ self.old) }
     {
         match &mut self.held {
@@ -119,7 +140,9 @@ impl Slot {
     fn make_new(&mut self, config: &StreamConfig, now: Moment) -> Result<Reply, NoMemory>
         requires vacant { IsVacant self.old }
         requires plain { IsPlainConfig config.now }
+        requires valid { IsTrue (is_stream_config config.now) }
         ensures answers { (subject : Option Bytes) → IfOk result (λ reply. PlaceAnswers self.old (What.Make subject config.now) now reply self.new) }
+        ensures shown { IfOk result IsShown }
         ensures err { OnErr result (self.new ≡ self.old) }
     {
         let incarnation = self.incarnation();
@@ -135,7 +158,9 @@ impl Slot {
     /// Replaces the configuration of the stream.
     fn change(&mut self, config: &StreamConfig, now: Moment) -> Result<Reply, NoMemory>
         requires plain { IsPlainConfig config.now }
+        requires valid { IsTrue (is_stream_config config.now) }
         ensures answers { (subject : Option Bytes) → IfOk result (λ reply. PlaceAnswers self.old (What.Change subject config.now) now reply self.new) }
+        ensures shown { IfOk result IsShown }
         ensures err { OnErr result (self.new ≡ self.old) }
     {
         match &mut self.held {
@@ -147,6 +172,7 @@ impl Slot {
     /// Drops the stream with its messages. The next one will have the next incarnation.
     fn drop_stream(&mut self) -> Result<Reply, NoMemory>
         ensures answers { (subject : Option Bytes) (now : ℕ) → IfOk result (λ reply. PlaceAnswers self.old (What.Drop subject) now reply self.new) }
+        ensures shown { IfOk result IsShown }
         ensures err { OnErr result (self.new ≡ self.old) }
     {
         match &self.held {
@@ -175,6 +201,7 @@ impl Slot {
     /// Lets time pass for the stream.
     fn tick(&mut self, now: Moment) -> Reply
         ensures answers { PlaceAnswers self.old What.Tick now result self.new }
+        ensures shown { IsShown result }
     {
         match &mut self.held {
             Held::Nothing(_) => {}
@@ -186,6 +213,7 @@ impl Slot {
     /// Shows the stream's information.
     fn show(&mut self, now: Moment) -> Result<Reply, NoMemory>
         ensures answers { (subject : Option Bytes) → IfOk result (λ reply. PlaceAnswers self.old (What.StreamInfo subject) now reply self.new) }
+        ensures shown { IfOk result IsShown }
         ensures err { OnErr result (self.new ≡ self.old) }
     {
         match &mut self.held {

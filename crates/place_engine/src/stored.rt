@@ -55,9 +55,10 @@ impl StoredMessages {
         self.messages.len() as u64
     }
 
-    /// Their sizes, together.
+    /// Their sizes, together, at most 2^45.
     pub fn bytes(&self) -> u64
         ensures value { result ≡ sum_by size self.now }
+        ensures bound { result ≤ 2 ^ 45 }
     {
         self.bytes
     }

@@ -8,7 +8,7 @@ use Rattle.link_edge.specs.declared.answers.Accept.TheVariants as accepts
 use Rattle.link_edge.specs.declared.answers.Accepted.{Accepted}
 use Rattle.link_edge.specs.declared.answers.Accepted.TheVariants as accepted
 use Rattle.link_edge.proofs.Told.{grown_on}
-use Rattle.server_program.specs.Running.{Arrives, IsAccepted}
+use Rattle.server_program.specs.Accepting.{Arrives, IsAccepted}
 
 accepted_last : (last : List Accepted) (n : ℕ) (a0 a1 a2 : Option (List Accepted)) → n < 1000000 → a1 ≡ grown a0 (replicate n accepted.Quiet) → a2 ≡ grown a1 last → IsAccepted a0 a2 last
 accepted_last last n a0 a1 a2 few e f = record { quiets = n; few = few; answered = grown_on a0 a1 a2 (replicate n accepted.Quiet) last e f }

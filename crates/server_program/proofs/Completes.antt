@@ -1,5 +1,6 @@
 -- Laws of calm sessions over whole operations, and of the runs that serve them.
-use Rattle.std.proofs.Common.{◌≡◌, ℕ, ◌<◌, true, false, ◌⊎◌, List, [], ◌∷◌, ◌++◌, length, replicate, Option, refl, sym, ◌∙◌, ap, subst, append_assoc, inl, inr, All, arith}
+use Rattle.std.proofs.Common.{◌≡◌, ℕ, ◌<◌, true, false, ◌⊎◌, List, [], ◌∷◌, ◌++◌, length, replicate, Option, Some, None, refl, sym, ◌∙◌, ap, subst, append_assoc, inl, inr, All, arith}
+use Rattle.std.specs.Prelude.{IsSome}
 use Rattle.std.specs.List.{flat_map}
 use Rattle.std.proofs.lemmas.List.{append-nil, length-append, get_or_at}
 use Rattle.std.proofs.lemmas.Grind.{flat_map-append}
@@ -10,22 +11,30 @@ use Rattle.link_edge.specs.declared.answers.Answer.TheVariants as answers
 use Rattle.nats_frames.specs.declared.op.Op.{Op}
 use Rattle.nats_frames.specs.declared.op.FrameFault.{FrameFault}
 use Rattle.nats_frames.specs.Grammar.{Fronts}
+use Rattle.nats_frames.specs.Reading.{op_at}
 use Rattle.js_model.specs.Router as router
 use Rattle.js_api.specs.Desks.{World, DeskEntry, Routed, DeskRun}
 use Rattle.js_api.specs.Calls as desks
 use Rattle.session.specs.Talk as talk
-use Rattle.session.specs.Talk.{Journal, Called, Last, Stage, start, Turn, IsUnspent, IsWithin, IsTalk, IsCause, Ends, EndsBy, EndsAs, answers_of, entries_of, entries_of_calls, entries_of_turn, entries_of_last, last_answers, greeting, ops_of, turn_spoken}
-use Rattle.session.specs.Peer.{peer_after}
+use Rattle.js_api.specs.Clients.{Client, new_client}
+use Rattle.session.specs.Calling.{Called, entries_of_calls}
+use Rattle.session.specs.Gathering.{IsAnsweredBy}
+use Rattle.session.specs.Talk.{Journal, Last, Stage, start, Turn, IsWithin, Begins, IsTalk, IsCause, EndsAs, acts_of, answers_of, entries_of, entries_of_turn, entries_of_last, last_answers, greeting}
+use Rattle.session.specs.Peer.{Act, Hears, Ticks, peer_after}
 use Rattle.session.specs.declared.ending.Ended.{Ended}
 use Rattle.session.specs.declared.ending.Ended.TheVariants as ends
 use Rattle.session.specs.declared.ending.Refusal.{Refusal}
 use Rattle.session.specs.declared.ending.Refusal.TheVariants as refusals
-use Rattle.server_program.specs.Running.{pipe_limits, status_of, DoorTold, IsQuiet, IsUnserved, WasClosed, HasFailed, WasQuiet, HasStarved}
-use Rattle.server_program.specs.Laws.{IsSound, IsValid, piece_of, bytes_of, IsCalmSession, IsAnswered, LawComplete}
-use Rattle.server_program.proofs.Whole.{none_partial, fronts_on, Leaves, leaves, leaves_none, leaves_sound}
-use Rattle.server_program.proofs.Taken.{answers_in, ops_in, Taken, taken}
+use Rattle.server_program.specs.declared.words.NamedStream.{NamedStream}
+use Rattle.server_program.specs.Outside.{DoorTold}
+use Rattle.server_program.specs.Accepting.{IsQuiet}
+use Rattle.server_program.specs.Running.{pipe_limits, status_of, IsUnserved, WasClosed, HasFailed, WasQuiet, HasStarved, Waits, Starved, Refused, Open}
+use Rattle.server_program.specs.Laws.{IsSound, IsValid, piece_of, bytes_of, ops_of, HasPlace, IsCalmSession, IsCalmWait, IsAnswered, AreAnsweredAt, LawComplete}
+use Rattle.server_program.proofs.Whole.{none_partial, fronts_on, Leaves, leaves, leaves_none, leaves_sound, idle_sound}
+use Rattle.server_program.proofs.Taken.{answers_in, ops_in, acts-append, front_ops, Taken, taken}
 use Rattle.server_program.proofs.Slowed.{never_slow}
-use Rattle.server_program.proofs.Opened.{made_latest, is_not_worn}
+use Rattle.server_program.proofs.Opened.{prepared_latest, is_not_worn}
+use Rattle.server_program.proofs.Placeless.{refused_placeless}
 
 -- what holds of each member holds of one in the middle
 all_at : {X : Type 0} (P : X → Type 0) (before : List X) (x : X) (after xs : List X) → All P xs → xs ≡ before ++ x ∷ after → P x
@@ -33,17 +42,27 @@ all_at P before x after xs h e =
     let in_place : length before < length (before ++ x ∷ after) = omega (arith, length-append before (x ∷ after)) in
     subst P (get_or_at before x after x (length before) refl) (subst (λ (ys : List _). All P ys) e h (length before) x in_place)
 
+no_last : (ops : List Op) (op : Op) → ops ++ op ∷ [] ≡ [] → ⊥
+no_last [] op e = cc
+no_last (other ∷ ops) op e = cc
+
 regroup : {X : Type 0} (o f t a z : List X) (r : X) → o ++ (f ++ ((t ++ (a ++ r ∷ [])) ++ z)) ≡ (o ++ (f ++ (t ++ a))) ++ (r ∷ z)
 regroup [] [] [] a z r = append_assoc a (r ∷ []) z
 regroup [] [] (x ∷ t) a z r = ap (λ xs. x ∷ xs) (regroup [] [] t a z r)
 regroup [] (x ∷ f) t a z r = ap (λ xs. x ∷ xs) (regroup [] f t a z r)
 regroup (x ∷ o) f t a z r = ap (λ xs. x ∷ xs) (regroup o f t a z r)
 
+-- in a turn in which nothing came no operation is heard
+none_heard : (acts : List Act) (op : Op) → (acts ++ Hears op ∷ [] ≡ []) ⊎ (acts ++ Hears op ∷ [] ≡ Ticks ∷ []) → ⊥
+none_heard [] op (inl e) = cc
+none_heard (act ∷ acts) op (inl e) = cc
+none_heard acts op (inr e) = no_last (ops_of acts) op (sym (acts-append acts (Hears op ∷ [])) ∙ ap ops_of e)
+
 -- the cause of the end is one of three
 data Ending (ops : List Op) (journal : Journal) (cause : Ended) (last_said : Bytes) : Type 0 where
   Done : cause ≡ ends.Closed → ops_in journal.turns ≡ ops → journal.last ≡ talk.Told answers.Ended → last_said ≡ [] → Ending ops journal cause last_said
   Failed : cause ≡ ends.LinkFault → Ending ops journal cause last_said
-  Starved : cause ≡ ends.NoMemory → Ending ops journal cause last_said
+  Short : cause ≡ ends.NoMemory → Ending ops journal cause last_said
 
 -- ---- what was taken
 
@@ -85,30 +104,46 @@ module _ (input : Bytes) (ops : List Op) (valid : IsValid input ops) (session : 
 
   -- ---- no operation was refused
 
-  -- the operations of a turn that is not whole
-  module _ (turn : Turn) (begun : List Op) (calls : List Called) (piece rest : Bytes) (last_is : journal.last ≡ talk.Within turn begun calls) (within : IsWithin pipe_limits stage turn begun piece rest) where
-    abbrev read : List Op
-    read = ops_in journal.turns ++ (ops_of turn.spoken ++ begun)
+  -- what stands behind the operations of a turn that is not whole
+  left : (turn : Turn) (begun : List Act) (calls : List Called) (piece rest : Bytes) → journal.last ≡ talk.Within turn begun calls → turn.answer ≡ answers.Piece piece
+      → talk.AreActs (stage.held ++ piece) (acts_of turn.spoken ++ begun) rest → Leaves (ops_in journal.turns ++ ops_of (acts_of turn.spoken ++ begun)) ops (rest ++ calm.tells.front.0)
+  left turn begun calls piece rest last_is answer_is acts =
+      let read = ops_of (acts_of turn.spoken ++ begun) in
+      let split : Fronts (stage.held ++ piece) read rest = front_ops (stage.held ++ piece) rest (acts_of turn.spoken ++ begun) acts in
+      let front : Fronts (bytes ++ piece) (ops_in journal.turns ++ read) rest = fronts_on bytes piece (ops_in journal.turns) read stage.held rest all.fronts split in
+      let last : last_answers journal.last ≡ answers.Piece piece ∷ [] = ap last_answers last_is ∙ ap (λ (answer : Answer). answer ∷ []) answer_is in
+      let came : bytes_of (answers_of journal) ≡ bytes ++ piece = bytes_with (answers.Piece piece ∷ []) last ∙ ap (λ (b : Bytes). bytes ++ b) (append-nil piece) in
+      let whole : (bytes ++ piece) ++ calm.tells.front.0 ≡ input = ap (λ (b : Bytes). b ++ calm.tells.front.0) (sym came) ∙ calm.tells.front.1 in
+      leaves (bytes ++ piece) rest calm.tells.front.0 (ops_in journal.turns ++ read) ops front (subst (λ (b : Bytes). Fronts b ops []) (sym whole) valid.whole)
 
-    left : Leaves read ops (rest ++ calm.tells.front.0)
-    left =
-        let front : Fronts (bytes ++ piece) read rest = fronts_on bytes piece (ops_in journal.turns) (ops_of turn.spoken ++ begun) stage.held rest all.fronts within.split in
-        let last : last_answers journal.last ≡ answers.Piece piece ∷ [] = ap last_answers last_is ∙ ap (λ (answer : Answer). answer ∷ []) within.answer_is in
-        let came : bytes_of (answers_of journal) ≡ bytes ++ piece = bytes_with (answers.Piece piece ∷ []) last ∙ ap (λ (b : Bytes). bytes ++ b) (append-nil piece) in
-        let whole : (bytes ++ piece) ++ calm.tells.front.0 ≡ input = ap (λ (b : Bytes). b ++ calm.tells.front.0) (sym came) ∙ calm.tells.front.1 in
-        leaves (bytes ++ piece) rest calm.tells.front.0 read ops front (subst (λ (b : Bytes). Fronts b ops []) (sym whole) valid.whole)
+  faulty_in : (fault : FrameFault) (last_said : Bytes) (h : talk.EndsWithFault pipe_limits stage fault journal.last last_said) (answer : Answer) → h.turn.answer ≡ answer
+      → Begins pipe_limits stage h.turn (acts_of h.turn.spoken ++ []) h.rest h.taken answer → ⊥
+  faulty_in fault last_said h (answers.Piece piece) e b =
+      let k = left h.turn [] [] piece h.rest h.last_is e b.0 in leaves_sound h.rest calm.tells.front.0 fault h.before k.later h.refused k.fronts
+  faulty_in fault last_said h answers.Quiet e b = idle_sound h.rest fault h.before h.refused (ap op_at b.0 ∙ all.idle)
+  faulty_in fault last_said h answers.Ended e b = absurd b
+  faulty_in fault last_said h answers.Failed e b = absurd b
 
   not_faulty : (fault : FrameFault) (last_said : Bytes) → talk.EndsWithFault pipe_limits stage fault journal.last last_said → ⊥
-  not_faulty fault last_said h =
-      let k = left h.turn [] [] h.bytes h.rest h.last_is h.within in leaves_sound h.rest calm.tells.front.0 fault h.before k.later h.refused k.fronts
+  not_faulty fault last_said h = faulty_in fault last_said h h.turn.answer refl h.within.begins
+
+  refused_in : (refusal : Refusal) (last_said : Bytes) (h : talk.EndsRefused pipe_limits stage refusal journal.last last_said) (answer : Answer) → h.turn.answer ≡ answer
+      → Begins pipe_limits stage h.turn (acts_of h.turn.spoken ++ Hears h.op ∷ []) h.rest h.taken answer → ⊥
+  refused_in refusal last_said h (answers.Piece piece) e b =
+      let k = left h.turn (Hears h.op ∷ []) [] piece h.rest h.last_is e b.0 in
+      let spoken = ops_of (acts_of h.turn.spoken) in
+      let before = ops_in journal.turns ++ spoken in
+      let are : ops ≡ before ++ h.op ∷ k.later =
+      k.ops_are
+      ∙ ap (λ (xs : List Op). (ops_in journal.turns ++ xs) ++ k.later) (acts-append (acts_of h.turn.spoken) (Hears h.op ∷ []))
+      ∙ ap (λ (xs : List Op). xs ++ k.later) (sym (append_assoc (ops_in journal.turns) spoken (h.op ∷ []))) ∙ append_assoc before (h.op ∷ []) k.later
+      in all_at IsSound before h.op k.later ops valid.sound are h.turn.moment refusal h.refused
+  refused_in refusal last_said h answers.Quiet e b = none_heard (acts_of h.turn.spoken) h.op b.3
+  refused_in refusal last_said h answers.Ended e b = absurd b
+  refused_in refusal last_said h answers.Failed e b = absurd b
 
   not_refused : (refusal : Refusal) (last_said : Bytes) → talk.EndsRefused pipe_limits stage refusal journal.last last_said → ⊥
-  not_refused refusal last_said h =
-      let k = left h.turn (h.op ∷ []) [] h.bytes h.rest h.last_is h.within in
-      let before = ops_in journal.turns ++ ops_of h.turn.spoken in
-      let are : ops ≡ before ++ h.op ∷ k.later =
-      k.ops_are ∙ ap (λ (xs : List Op). xs ++ k.later) (sym (append_assoc (ops_in journal.turns) (ops_of h.turn.spoken) (h.op ∷ []))) ∙ append_assoc before (h.op ∷ []) k.later
-      in all_at IsSound before h.op k.later ops valid.sound are h.turn.moment refusal h.refused
+  not_refused refusal last_said h = refused_in refusal last_said h h.turn.answer refl h.within.begins
 
   -- ---- the session was not slow
 
@@ -120,7 +155,7 @@ module _ (input : Bytes) (ops : List Op) (valid : IsValid input ops) (session : 
       ∙ ap (λ (xs : List DeskEntry). entries_of_calls asked ++ (entries_of_calls front ++ xs)) (append-nil slow.entries ∙ e)
       ∙ sym (append_assoc (entries_of_calls asked) (entries_of_calls front) (Routed (router.Collect n max) (router.Slow size) ∷ []))
 
-  collect_slow : (client : desks.Client) (size : ℕ) (called : Called) → (h : talk.IsAnsweredBy client (desks.Slow size) called)
+  collect_slow : (client : Client) (size : ℕ) (called : Called) → (h : IsAnsweredBy client (desks.Slow size) called)
       → called.entries ≡ Routed (router.Collect client.session h.max) (router.Slow size) ∷ []
   collect_slow client size called h =
       subst (λ (answer : desks.DeskAnswer). desks.Does client (desks.Collect h.max) answer called.entries) h.answer_is
@@ -129,7 +164,7 @@ module _ (input : Bytes) (ops : List Op) (valid : IsValid input ops) (session : 
   not_slow : (size : ℕ) (last_said : Bytes) → talk.EndsSlow pipe_limits stage size journal.last last_said → ⊥
   not_slow size last_said h =
       let s = h.slowed in
-      let client = (peer_after (talk.peer_in stage h.turn) h.op).client in
+      let client = (peer_after (talk.peer_in stage h.turn) h.act).client in
       let told : DeskEntry = Routed (router.Collect client.session s.is_slow.max) (router.Slow size) in
       let first = entries_of_calls s.asked ++ entries_of_calls s.front in
       let made : entries_of_calls h.calls ≡ first ++ told ∷ [] =
@@ -169,7 +204,7 @@ module _ (input : Bytes) (ops : List Op) (valid : IsValid input ops) (session : 
   ending ends.Stale last_said h = absurd (not_stale last_said h)
   ending ends.LinkFault last_said h = Failed refl
   ending ends.InputLimit last_said h = absurd (not_spent h.1.last_is h.0)
-  ending ends.NoMemory last_said h = Starved refl
+  ending ends.NoMemory last_said h = Short refl
 
 -- the session ends by its cause, or since something could not be written
 ends_same : (last : Last) (cause ended : Ended) (written whole : Bytes) → EndsAs last cause ended written whole → (ended ≡ cause) ⊎ talk.IsUnwritten ended
@@ -216,7 +251,7 @@ module _ (input : Bytes) (ops : List Op) (valid : IsValid input ops) (world new 
       )
   ended_so session h (Failed cause_is) =
       inr (unwritten h.ends.cause ended (ends_same journal.last h.ends.cause ended h.more (h.ends.said ++ talk.last_line h.ends.cause) h.ends.ends_as) (inl cause_is))
-  ended_so session h (Starved cause_is) =
+  ended_so session h (Short cause_is) =
       inr (unwritten h.ends.cause ended (ends_same journal.last h.ends.cause ended h.more (h.ends.said ++ talk.last_line h.ends.cause) h.ends.ends_as) (inr cause_is))
 
   opened_so : (answer : desks.DeskAnswer) → journal.opened.call ≡ desks.Open → journal.opened.answer ≡ answer → talk.TalksBy answer pipe_limits journal written ended → Outcome
@@ -224,9 +259,9 @@ module _ (input : Bytes) (ops : List Op) (valid : IsValid input ops) (world new 
       let k = h.1 in
       ended_so session k (ending input ops valid session world new journal faults calm led k.stage k.said k.turns k.ends.cause k.ends.said k.ends.is_cause)
   opened_so (desks.Worn kept) c e h =
-      let does : desks.Does (desks.new_client 0) desks.Open (desks.Worn kept) journal.opened.entries =
-      subst (λ (answer : desks.DeskAnswer). desks.Does (desks.new_client 0) desks.Open answer journal.opened.entries) e
-      (subst (λ (call : desks.DeskCall). desks.Does (desks.new_client 0) call journal.opened.answer journal.opened.entries) c h.0)
+      let does : desks.Does (new_client 0) desks.Open (desks.Worn kept) journal.opened.entries =
+      subst (λ (answer : desks.DeskAnswer). desks.Does (new_client 0) desks.Open answer journal.opened.entries) e
+      (subst (λ (call : desks.DeskCall). desks.Does (new_client 0) call journal.opened.answer journal.opened.entries) c h.0)
       in
       let rest = flat_map entries_of_turn journal.turns ++ (entries_of_last journal.last ++ entries_of_calls journal.closed) in
       let run = subst (λ (es : List DeskEntry). DeskRun world (es ++ rest) new) does.1 led in
@@ -234,6 +269,7 @@ module _ (input : Bytes) (ops : List Op) (valid : IsValid input ops) (world new 
   opened_so desks.NoMemory c e h = inr (inr h.2)
   opened_so desks.Done c e h = absurd h
   opened_so (desks.Took taken) c e h = absurd h
+  opened_so (desks.Settled ready) c e h = absurd h
   opened_so (desks.Gave list more) c e h = absurd h
   opened_so (desks.Slow size) c e h = absurd h
   opened_so desks.TooManySubs c e h = absurd h
@@ -246,12 +282,12 @@ module _ (input : Bytes) (ops : List Op) (valid : IsValid input ops) (world new 
 not_rose : (faults : ℕ) → faults ≡ 0 → Rose 0 faults → ⊥
 not_rose faults e h = omega (arith, e, h)
 
-unserved : (status : ℕ) (old new : DoorTold) (c0 c1 : Option (List ℕ)) → IsUnserved status old new c0 c1 → (Rose old.faults new.faults → ⊥) → (IsQuiet old.answered new.answered → ⊥)
+unserved : (status : ℕ) (old new : DoorTold) → IsUnserved status old new → (Rose old.faults new.faults → ⊥) → (IsQuiet old.answered new.answered → ⊥)
     → ((status ≡ 0) × Unit {0}) ⊎ (status ≡ 7)
-unserved status old new c0 c1 (WasClosed s t a) rose quiet = inl (s, tt)
-unserved status old new c0 c1 (HasFailed s t r a) rose quiet = absurd (rose r)
-unserved status old new c0 c1 (WasQuiet s t a) rose quiet = absurd (quiet a)
-unserved status old new c0 c1 (HasStarved s t a) rose quiet = inr s
+unserved status old new (WasClosed s a) rose quiet = inl (s, tt)
+unserved status old new (HasFailed s r a) rose quiet = absurd (rose r)
+unserved status old new (WasQuiet s a) rose quiet = absurd (quiet a)
+unserved status old new (HasStarved s a) rose quiet = inr s
 
 -- the status of such an end, where the link did not fail
 statused : (ended : Ended) (status : ℕ) (P : Type 0) → ((ended ≡ ends.Closed) × P) ⊎ talk.IsUnwritten ended → status ≡ status_of ended → (status ≡ 3 → ⊥) → ((status ≡ 0) × P) ⊎ (status ≡ 7)
@@ -259,12 +295,23 @@ statused ended status P (inl h) e sound = inl (e ∙ ap status_of h.0, h.1)
 statused ended status P (inr (inl h)) e sound = absurd (sound (e ∙ ap status_of h))
 statused ended status P (inr (inr h)) e sound = inr (e ∙ ap status_of h)
 
-pub complete : LawComplete
-complete name pattern status old new c0 c1 (inl none) input ops valid calm = unserved status old new c0 c1 none.unserved calm.0 calm.1
-complete name pattern status old new c0 c1 (inr link) input ops valid calm =
+waited : (world : World) (status : ℕ) (old new : DoorTold) (c0 c1 : Option (List ℕ)) (waits : Waits world status old new c0 c1) (input : Bytes) (ops : List Op)
+    → world.router.latest ≡ 0 → IsValid input ops → IsCalmWait input waits → ((status ≡ 0) × AreAnsweredAt ops waits) ⊎ (status ≡ 7)
+waited world status old new c0 c1 (inl none) input ops fresh valid calm = unserved status old new none.unserved calm.0 calm.1
+waited world status old new c0 c1 (inr link) input ops fresh valid calm =
     let served = link.given_back.served in
     let journal = served.journal in
-    let desk = link.desk in
     let faults = link.given_back.report.faults in
-    let so = outcome input ops valid desk.world served.world journal faults calm served.led (made_latest name pattern link.now desk link.made) served.bytes served.ended served.talk in
+    let so = outcome input ops valid world served.after journal faults calm served.led fresh served.bytes served.ended served.talk in
     statused served.ended status (IsAnswered ops journal served.bytes) so served.status_is (λ three. not_rose faults calm.unfailed (served.cause three))
+
+has_place : (count : ℕ) (stream : Option NamedStream) → HasPlace count stream → IsSome stream → count ≡ 0 → ⊥
+has_place count None place some none = cc
+has_place count (Some stream) place some none = omega (arith, place, none)
+
+pub complete : LawComplete
+complete count stream status old new (Starved h) input ops place valid calm = inr h.status_is
+complete count stream status old new (Refused h) input ops place valid calm =
+    let k = refused_placeless count stream h.error old.clock new.clock h.world h.refused in absurd (has_place count stream place k.1 k.0.none)
+complete count stream status old new (Open h) input ops place valid calm =
+    waited h.world status old.door new.door h.rest new.clock h.waits input ops (prepared_latest count stream old.clock h.rest h.world h.prepared) valid calm

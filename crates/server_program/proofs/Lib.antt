@@ -1,8 +1,10 @@
 pub mod Arriving
 pub mod Ending
+pub mod Printed
 pub mod Worded
 pub mod Whole
 pub mod Taken
 pub mod Slowed
 pub mod Opened
+pub mod Placeless
 pub mod Completes

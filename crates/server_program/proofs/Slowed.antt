@@ -3,7 +3,7 @@ use Rattle.std.proofs.Common.{◌≡◌, ℕ, true, false, Bool, List, [], ◌�
 use Rattle.std.specs.Prelude.{IfSome}
 use Rattle.js_model.specs.Router as router
 use Rattle.js_model.specs.Router.{route}
-use Rattle.js_api.specs.Desks.{World, DeskEntry, Routed, Looked, Held, DeskRun}
+use Rattle.js_api.specs.Desks.{World, DeskEntry, Routed, Looked, Turned, Resumed, Held, Missed, DeskRun, place_or}
 use Rattle.server_program.specs.Laws.{IsQueue, IsUnmarked}
 
 -- ---- runs of a desk, up to an entry
@@ -20,8 +20,14 @@ reaches old new (Routed call told ∷ before) after h =
     let k = reaches (record old { router = h.0 }) new before after h.2 in record { mid = k.mid; first = (h.0, h.1, k.first); behind = k.behind }
 reaches old new (Looked call told ∷ before) after h =
     let k = reaches (record old { catalog = h.0 }) new before after h.2 in record { mid = k.mid; first = (h.0, h.1, k.first); behind = k.behind }
-reaches old new (Held place state entries ∷ before) after h =
-    let k = reaches _ new before after h.3 in record { mid = k.mid; first = (h.0, h.1, h.2, k.first); behind = k.behind }
+reaches old new (Turned found ∷ before) after h =
+    let k = reaches (record old { ticked = place_or old.ticked found }) new before after h.1 in record { mid = k.mid; first = (h.0, k.first); behind = k.behind }
+reaches old new (Resumed last ∷ before) after h =
+    let k = reaches old new before after h.1 in record { mid = k.mid; first = (h.0, k.first); behind = k.behind }
+reaches old new (Held place state entries left ∷ before) after h =
+    let k = reaches _ new before after h.2 in record { mid = k.mid; first = (h.0, h.1, k.first); behind = k.behind }
+reaches old new (Missed at ∷ before) after h =
+    let k = reaches old new before after h.1 in record { mid = k.mid; first = (h.0, k.first); behind = k.behind }
 
 -- ---- a collect
 

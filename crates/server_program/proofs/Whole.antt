@@ -1,5 +1,6 @@
 -- Laws of an input of whole operations, of which some were read.
 use Rattle.std.proofs.Common.{◌≡◌, ℕ, List, [], ◌∷◌, ◌++◌, refl, sym, ◌∙◌, ap, subst, append_assoc}
+use Rattle.std.proofs.lemmas.List.{append-nil}
 use Rattle.js_base.specs.Bytes.{Bytes}
 use Rattle.nats_frames.specs.declared.op.Op.{Op}
 use Rattle.nats_frames.specs.declared.op.FrameFault.{FrameFault}
@@ -49,3 +50,7 @@ leaves_none rest (op ∷ later) e h = let clash : Partial ≡ Whole op h.1 = sym
 pub leaves_sound : (rest more : Bytes) (told_as : FrameFault) (before : ℕ) (later : List Op) → IsRefused told_as before rest → Fronts (rest ++ more) later [] → ⊥
 leaves_sound rest more told_as before [] r h = let clash : Partial ≡ Broken r.fault = sym none_partial ∙ ap op_at (sym h) ∙ broken rest more r.fault r.broken in cc
 leaves_sound rest more told_as before (op ∷ later) r h = let clash : Broken r.fault ≡ Whole op h.1 = sym (broken rest more r.fault r.broken) ∙ ap op_at h.3 ∙ spelled op h.0 h.1 h.2 in cc
+
+-- and none begins less than an operation
+pub idle_sound : (rest : Bytes) (told_as : FrameFault) (before : ℕ) → IsRefused told_as before rest → op_at rest ≡ Partial → ⊥
+idle_sound rest told_as before r idle = let clash : Partial ≡ Broken r.fault = sym idle ∙ ap op_at (sym (append-nil rest)) ∙ broken rest [] r.fault r.broken in cc

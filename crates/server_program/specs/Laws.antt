@@ -1,5 +1,5 @@
 -- What a run comes to whose client sends whole operations, where nothing stands in the way.
-use Rattle.std.specs.Prelude.{◌≡◌, ℕ, ◌<◌, false, ◌⊎◌, List, [], ◌∷◌, ◌++◌, length, replicate, All, IfSome, Option}
+use Rattle.std.specs.Prelude.{◌≡◌, ℕ, ◌<◌, false, ◌⊎◌, List, [], ◌∷◌, ◌++◌, length, replicate, All, IfSome, Option, None, Some}
 use Rattle.std.specs.List.{flat_map}
 use mathlib.Core.Logic.{inl, inr}
 use Rattle.js_base.specs.Bytes.{Bytes}
@@ -11,16 +11,19 @@ use Rattle.nats_frames.specs.declared.op.Op.{Op}
 use Rattle.nats_frames.specs.Grammar.{Fronts}
 use Rattle.js_api.specs.Desks.{World, DeskEntry, DeskRun}
 use Rattle.session.specs.Keeping.{is_stale}
-use Rattle.session.specs.Peer.{request, IsRefused}
-use Rattle.session.specs.Talk.{Journal, Waiting as AtQuiet, Stage, start, AreTurns, IsFrontOf, answers_of, entries_of, greeting, ops_of, turn_spoken}
+use Rattle.session.specs.Peer.{Act, Hears, Ticks, op_request, IsRefused}
+use Rattle.session.specs.Talk.{Journal, Waiting as AtQuiet, Stage, start, AreTurns, IsFrontOf, acts_of, answers_of, entries_of, greeting, turn_spoken}
 use Rattle.session.specs.declared.ending.Refusal.{Refusal}
-use Rattle.server_program.specs.Running.{DoorTold, IsQuiet, PipeEnds, pipe_limits}
+use Rattle.server_program.specs.declared.words.NamedStream.{NamedStream}
+use Rattle.server_program.specs.Outside.{DoorTold, Outside}
+use Rattle.server_program.specs.Accepting.{IsQuiet}
+use Rattle.server_program.specs.Running.{Waits, PipeEnds, Starved, Refused, Open, pipe_limits}
 
 -- ---- what the client sends
 
 -- an operation for which no session is closed
 abbrev pub IsSound : Op → Type 0
-IsSound op = (now : ℕ) (refusal : Refusal) → request now op ≡ IsRefused refusal → ⊥
+IsSound op = (now : ℕ) (refusal : Refusal) → op_request now op ≡ IsRefused refusal → ⊥
 
 -- whole operations, in fewer bytes than a session may take
 pub record IsValid (input : Bytes) (ops : List Op) : Type 0 where
@@ -44,6 +47,11 @@ pub record Tells (input : Bytes) (said : List Answer) : Type 0 where
 
 -- ---- nothing stands in the way
 
+-- there is a place for the stream, where one is to be made
+abbrev pub HasPlace : ℕ → Option NamedStream → Type 0
+HasPlace count None = Unit {0}
+HasPlace count (Some stream) = 0 < count
+
 -- where the link was quiet last, the client was not stale
 abbrev pub IsAlive : Journal → Type 0
 IsAlive journal = (session moment : ℕ) (stage : Stage) (said : Bytes) → AreTurns pipe_limits (start session) journal.turns stage said
@@ -66,27 +74,47 @@ pub record IsCalmSession (input : Bytes) (world : World) (journal : Journal) (fa
   pub unfailed : faults ≡ 0
 
 -- a calm session; or the door gave out no link, did not fail, and was not quiet as often as a run allows
-abbrev pub IsCalm : {name pattern : Bytes} {status : ℕ} {old new : DoorTold} {clock_old clock_new : Option (List ℕ)} → Bytes → PipeEnds name pattern status old new clock_old clock_new → Type 0
-IsCalm {old = old} {new = new} input (inl none) = (Rose old.faults new.faults → ⊥) × (IsQuiet old.answered new.answered → ⊥)
-IsCalm input (inr link) = IsCalmSession input link.desk.world link.given_back.served.journal link.given_back.report.faults
+abbrev pub IsCalmWait : {world : World} {status : ℕ} {old new : DoorTold} {clock_old clock_new : Option (List ℕ)} → Bytes → Waits world status old new clock_old clock_new → Type 0
+IsCalmWait {old = old} {new = new} input (inl none) = (Rose old.faults new.faults → ⊥) × (IsQuiet old.answered new.answered → ⊥)
+IsCalmWait {world = world} input (inr link) = IsCalmSession input world link.given_back.served.journal link.given_back.report.faults
+
+abbrev pub IsCalm : {count : ℕ} {stream : Option NamedStream} {status : ℕ} {old new : Outside} → Bytes → PipeEnds count stream status old new → Type 0
+IsCalm input (Starved run) = Unit {0}
+IsCalm input (Refused run) = Unit {0}
+IsCalm input (Open run) = IsCalmWait input run.waits
 
 -- ---- what it comes to
 
--- each operation was carried out, in their order, and the bytes are the server's information and what was said for them turn by turn
+-- an operation that was carried out, where it is no tick
+abbrev pub op_of : Act → List Op
+op_of (Hears op) = op ∷ []
+op_of Ticks = []
+
+abbrev pub ops_of : List Act → List Op
+ops_of acts = flat_map op_of acts
+
+-- each operation was carried out, in their order, and the bytes are the server's information and what was said turn by turn, for the operations
+-- and for the ticks
 pub record IsAnswered (ops : List Op) (journal : Journal) (bytes : Bytes) : Type 0 where
   pub session : ℕ
   pub stage : Stage
   pub said : Bytes
   pub turns : AreTurns pipe_limits (start session) journal.turns stage said
-  pub all : ops_of (flat_map turn_spoken journal.turns) ≡ ops
+  pub all : ops_of (acts_of (flat_map turn_spoken journal.turns)) ≡ ops
   pub written : bytes ≡ greeting pipe_limits session ++ said
 
 -- where a link was given out, its session answered each of the operations
-abbrev pub AreAnswered : {name pattern : Bytes} {status : ℕ} {old new : DoorTold} {clock_old clock_new : Option (List ℕ)} → List Op → PipeEnds name pattern status old new clock_old clock_new → Type 0
-AreAnswered ops (inl none) = Unit {0}
-AreAnswered ops (inr link) = IsAnswered ops link.given_back.served.journal link.given_back.served.bytes
+abbrev pub AreAnsweredAt : {world : World} {status : ℕ} {old new : DoorTold} {clock_old clock_new : Option (List ℕ)} → List Op → Waits world status old new clock_old clock_new → Type 0
+AreAnsweredAt ops (inl none) = Unit {0}
+AreAnsweredAt ops (inr link) = IsAnswered ops link.given_back.served.journal link.given_back.served.bytes
 
--- a calm run over whole operations ends with status 0, and a link that was given out was answered each of them; or memory ran out
+abbrev pub AreAnswered : {count : ℕ} {stream : Option NamedStream} {status : ℕ} {old new : Outside} → List Op → PipeEnds count stream status old new → Type 0
+AreAnswered ops (Starved run) = ⊥
+AreAnswered ops (Refused run) = ⊥
+AreAnswered ops (Open run) = AreAnsweredAt ops run.waits
+
+-- a calm run over whole operations, with a place for its stream, ends with status 0, and a link that was given out was answered each of them; or
+-- memory ran out
 abbrev pub LawComplete : Type 0
-LawComplete = (name pattern : Bytes) (status : ℕ) (old new : DoorTold) (clock_old clock_new : Option (List ℕ)) (run : PipeEnds name pattern status old new clock_old clock_new)
-    (input : Bytes) (ops : List Op) → IsValid input ops → IsCalm input run → ((status ≡ 0) × AreAnswered ops run) ⊎ (status ≡ 7)
+LawComplete = (count : ℕ) (stream : Option NamedStream) (status : ℕ) (old new : Outside) (run : PipeEnds count stream status old new)
+    (input : Bytes) (ops : List Op) → HasPlace count stream → IsValid input ops → IsCalm input run → ((status ≡ 0) × AreAnswered ops run) ⊎ (status ≡ 7)

@@ -1,5 +1,5 @@
 -- The words of the command line.
-use Rattle.std.specs.Prelude.{◌≡◌, Bool, ◌&&◌, not, List, [], ◌∷◌, map, codes, string_bytes, nat_eq, Option, Some, None, Result, Ok, Err, IsSome, if◌then◌else◌}
+use Rattle.std.specs.Prelude.{◌≡◌, Bool, false, ◌&&◌, not, List, [], ◌∷◌, map, codes, string_bytes, nat_eq, Option, Some, None, Result, Ok, Err, IsSome, if◌then◌else◌}
 use Rattle.std.specs.List.{starts_with}
 use Rattle.std.specs.declared.string.String.{String}
 use Rattle.std.specs.declared.alloc.Global.{Global}
@@ -8,6 +8,7 @@ use Rattle.std.specs.Borrow.{Bor}
 use Rattle.js_base.specs.Names.{name_of}
 use Rattle.js_base.specs.declared.name.NameFault.{NameFault}
 use Rattle.js_base.specs.Subjects.{tokens, meets, is_pattern_text}
+use Rattle.server_program.specs.declared.words.NamedStream.{NamedStream}
 use Rattle.server_program.specs.declared.words.Command.{Command}
 use Rattle.server_program.specs.declared.words.Command.TheVariants.{Pipe}
 use Rattle.server_program.specs.declared.words.WordsFault.{WordsFault}
@@ -33,21 +34,39 @@ values_of (command ∷ stream ∷ name ∷ subject ∷ pattern ∷ []) =
     if same command (codes "pipe") && same stream (codes "--stream") && same subject (codes "--subject") then Some (name, pattern) else None
 values_of _ = None
 
--- the name, where it is one
-abbrev pub named : Bytes → Result Bytes NameFault → Option (Bytes × Bytes)
-named pattern (Ok name) = Some (name, pattern)
-named pattern (Err fault) = None
+-- the stream of this name, where it is one
+abbrev pub named : Bytes → Result Bytes NameFault → Option NamedStream
+named subject (Ok name) = Some (record { name = name; subject = subject })
+named subject (Err fault) = None
 
-abbrev pub checked : Option (Bytes × Bytes) → Option (Bytes × Bytes)
+abbrev pub checked : Option (Bytes × Bytes) → Option NamedStream
 checked None = None
 checked (Some values) = if is_value values.0 && is_stream_subject values.1 then named values.1 (name_of values.0) else None
 
--- the name and the pattern of the command that the words are
-abbrev pub command_of : List Bytes → Option (Bytes × Bytes)
-command_of words = checked (values_of words)
+-- the stream that the words name, where they have the form for one
+abbrev pub stream_of : List Bytes → Option NamedStream
+stream_of words = checked (values_of words)
 
--- what was returned is this command, and memory may run out for a command alone
-abbrev pub ReadsWords : Result Command WordsFault → Option (Bytes × Bytes) → Type 0
-ReadsWords (Ok (Pipe name pattern)) read = read ≡ Some (name, pattern)
-ReadsWords (Err Words) read = read ≡ None
-ReadsWords (Err NoMemory) read = IsSome read
+-- the form `pipe`, which names no stream
+abbrev pub is_pipe : List Bytes → Bool
+is_pipe (command ∷ []) = same command (codes "pipe")
+is_pipe _ = false
+
+abbrev pub over : Option NamedStream → Option Command
+over None = None
+over (Some stream) = Some (Pipe (Some stream))
+
+-- the command that the words are
+abbrev pub command_of : List Bytes → Option Command
+command_of words = if is_pipe words then Some (Pipe None) else over (stream_of words)
+
+-- they are a command that has a stream to make
+abbrev pub NamesStream : Option Command → Type 0
+NamesStream None = ⊥
+NamesStream (Some (Pipe stream)) = IsSome stream
+
+-- what was returned was read, and memory may run out for what is there alone
+abbrev pub Reads : {T : Type 0} → Result T WordsFault → Option T → Type 0
+Reads (Ok value) read = read ≡ Some value
+Reads (Err Words) read = read ≡ None
+Reads (Err NoMemory) read = IsSome read

@@ -2,7 +2,10 @@
 #![tactic(auto)]
 
 pub mod laws;
+mod preparing;
+mod printing;
 mod running;
+mod serving;
 #[cfg(test)]
 mod tests;
 mod words;
@@ -28,13 +31,13 @@ const VERSION: &[u8] = b"jsblock 0.1.0\n";
 
 /// What `--help` prints.
 const HELP: &[u8] = b"\
-jsblock serves one NATS connection over standard input and output, over a stream that lies in memory.
+jsblock serves one NATS connection over standard input and output, with JetStream's streams in memory.
 
-usage: jsblock pipe --stream NAME --subject PATTERN
+usage: jsblock pipe [--stream NAME --subject PATTERN]
        jsblock --help
        jsblock --version
 
-NAME is the name of the stream, and PATTERN the subjects that it takes.
+A client makes streams by the JetStream API. With --stream the stream NAME, which takes the subjects of PATTERN, is there from the start.
 ";
 
 /// The words after the program's name. Where one of them is not UTF-8 they are none of the forms, as no words are.

@@ -1,23 +1,21 @@
 //! The top call.
 
-ghost use Rattle.std.specs.Prelude.{◌≡◌, ◌≤◌, ◌<◌, ◌^◌, ◌↔◌, None, true, false, IfSome, IfOk, IsSome, IsTrue, vec_len};
+ghost use Rattle.std.specs.Prelude.{◌≡◌, ◌≢◌, ◌≤◌, ◌↔◌, List, None, false, IfSome, IsTrue, length, vec_len};
+ghost use Rattle.js_api.specs.Desks.{opening};
+ghost use Rattle.js_desk.specs.Faults.{GivesBack};
 ghost use Rattle.js_model.specs.Configs.{is_stream_subject};
-ghost use Rattle.link_edge.specs.Accepts.{IfGot, gave_after};
-ghost use Rattle.link_edge.specs.Causes.{HasCause};
-ghost use Rattle.link_edge.specs.Reports.{HasOut, IsBalanced, IsFresh};
-ghost use Rattle.session.specs.Host.{is_plain};
-ghost use Rattle.server_program.specs.Words.{texts, command_of};
-ghost use Rattle.server_program.specs.Running.{pipe_limits, status_of, Arrives, IsGivenBack, PipeEnds, PrintsWords};
+ghost use Rattle.link_edge.specs.Reports.{IsBalanced};
+ghost use Rattle.server_program.specs.Outside.{words_line, number_line, Prints};
+ghost use Rattle.server_program.specs.Words.{texts, command_of, NamesStream};
+ghost use Rattle.server_program.specs.Running.{CommandEnds, PipeEnds};
 
-use crate::words::{Command, WordsFault, read_words};
-use js_base::{Blob, Name, NoMemory};
-use js_desk::SoloDesk;
-use link_edge::{Accept, Clock, Door, Gate, Sink};
-use session::{Ended, Limits, serve_link};
+use crate::preparing::prepare;
+use crate::printing::{print_number, print_words};
+use crate::serving::serve_first;
+use crate::words::{Command, NamedStream, WordsFault, read_words};
+use js_desk::{Closed, HubFault, SoloDesk};
+use link_edge::{Clock, Door, Gate, Sink};
 use std::alloc::Global;
-
-/// At how many accepts in a row that were quiet a run ends.
-const QUIET: u64 = 1_000_000;
 
 /// What is left at the end of a run: its status, the door, and the volumes in their order.
 #[derive(Drop)]
@@ -27,109 +25,96 @@ pub struct Finish<R, V> {
     pub vols: Vec<V>,
 }
 
-/// The limits of a session over a pipe.
-fn pipe_limits(alloc: Global) -> Result<Limits, NoMemory>
-    ensures limits { IfOk result (λ limits. limits ≡ pipe_limits) }
-{
-    Ok(Limits {
-        input: 1 << 30,
-        quiet: 1_000_000,
-        host: Blob::of(alloc, b"pipe")?,
-        port: 0,
-    })
-}
-
-/// The status that a session's end gives.
-fn status_of(ended: Ended) -> u8
-    ensures status { result ≡ status_of ended }
-{
-    match ended {
-        Ended::Closed => 0,
-        Ended::Refused(_) | Ended::Slow(_) | Ended::Stale => 10,
-        Ended::LinkFault => 3,
-        Ended::InputLimit => 6,
-        Ended::NoMemory => 7,
-    }
-}
-
-/// Accepts until the door's answer is not quiet, a million times at most.
-fn accept<R: Door>(door: &mut R) -> Accept<R::Link>
-    ensures arrives { Arrives result (R.answered door.old) (R.answered door.new) }
-    ensures gave { R.gave door.new ≡ gave_after (R.gave door.old) result }
-    ensures back { R.back door.new ≡ R.back door.old }
-    ensures fresh { IfGot result (λ link. IsFresh (R.Link.answered link) (R.Link.given link) (R.Link.faults link)) }
-    ensures cause { HasCause (R.faults door.old) (R.faults door.new) (result ≡ Accept.Failed) }
-{
-    for _ in 0..QUIET {
-        match door.accept() {
-            Accept::Quiet => {}
-            other => return other,
-        }
-    }
-    Accept::Quiet
-}
-
-/// Serves a fresh link over the desk, and gives it back to the door.
-fn serve<R: Door, C: Clock>(
+/// Makes the stream over a desk that was just opened, and serves the first link that comes.
+fn attend<R: Door, V, C: Clock, O: Sink>(
     alloc: Global,
-    desk: SoloDesk,
-    door: &mut R,
-    link: R::Link,
-    clock: &mut C,
-    limits: &Limits,
-) -> u8
-    requires closed { desk.is_open ≡ false }
-    requires out { HasOut (R.gave door.old) (R.back door.old) }
-    requires fresh { IsFresh (R.Link.answered link) (R.Link.given link) (R.Link.faults link) }
-    requires input { limits.now.input < 2 ^ 62 }
-    requires host { is_plain limits.now.host ≡ true }
-    ensures given_back { IsGivenBack limits.now desk result (R.back door.old) (R.back door.new) (C.to_come clock.old) (C.to_come clock.new) }
-    ensures answered { R.answered door.new ≡ R.answered door.old }
-    ensures gave { R.gave door.new ≡ R.gave door.old }
-    ensures later { R.faults door.old ≤ R.faults door.new }
-{
-    let mut desk = desk;
-    let mut link = link;
-    let ended = serve_link(alloc, &mut desk, &mut link, clock, limits);
-    door.done(link);
-    status_of(ended)
-}
-
-/// Makes the stream, and serves the first link that comes.
-fn pipe<R: Door, C: Clock>(
-    alloc: Global,
-    name: Name,
-    subject: Blob,
+    desk: &mut SoloDesk<V>,
+    stream: &Option<NamedStream>,
     door: &mut R,
     clock: &mut C,
+    out: &mut O,
 ) -> u8
+    requires opened { desk.old.world ≡ opening (length desk.old.vols) }
+    requires closed { desk.old.is_open ≡ false }
+    requires subject { IfSome stream.now (λ named. IsTrue (is_stream_subject named.subject)) }
     requires links { IsBalanced (R.gave door.old) (R.back door.old) }
-    requires subject { IsTrue (is_stream_subject subject) }
-    ensures ends { PipeEnds name subject result
-        (record { answered = R.answered door.old; gave = R.gave door.old; back = R.back door.old; faults = R.faults door.old })
-        (record { answered = R.answered door.new; gave = R.gave door.new; back = R.back door.new; faults = R.faults door.new })
-        (C.to_come clock.old) (C.to_come clock.new) }
+    ensures ends { PipeEnds (length desk.old.vols) stream.now result
+        (record {
+          door = record { answered = R.answered door.old; gave = R.gave door.old; back = R.back door.old; faults = R.faults door.old };
+          clock = C.to_come clock.old;
+          sink = record { written = O.written out.old; faults = O.faults out.old };
+        })
+        (record {
+          door = record { answered = R.answered door.new; gave = R.gave door.new; back = R.back door.new; faults = R.faults door.new };
+          clock = C.to_come clock.new;
+          sink = record { written = O.written out.new; faults = O.faults out.new };
+        }) }
+    ensures vols { desk.new.vols ≡ desk.old.vols }
     ensures later { R.faults door.old ≤ R.faults door.new }
+    ensures unprinted { result ≢ 11 → O.written out.new ≡ O.written out.old }
 {
-    let limits = match pipe_limits(alloc) {
-        Ok(limits) => limits,
-        Err(_) => return 7,
-    };
-    let desk = match SoloDesk::with_stream(alloc, name, subject, clock.now()) {
-        Ok(desk) => desk,
-        Err(_) => return 7,
-    };
-    match accept(door) {
-        Accept::Got(link) => serve(alloc, desk, door, link, clock, &limits),
-        Accept::Quiet => 6,
-        Accept::Closed => 0,
-        Accept::Failed => 8,
-        Accept::NoMemory => 7,
+    match prepare(desk, stream, clock) {
+        Ok(None) => serve_first(alloc, desk, door, clock),
+        Ok(Some(error)) => {
+            print_number(out, error.err_code);
+            11
+        }
+        Err(_) => 7,
     }
 }
 
-/// All that the program does for its words: `pipe --stream NAME --subject PATTERN` makes a stream of this name and this one subject, accepts
-/// one link and serves it; other words are refused. The volumes come back as they were handed in.
+/// The volumes of a desk that was not opened.
+fn given_back<V>(fault: HubFault<V>) -> Vec<V>
+    ensures vols { (vols : List V) → GivesBack vols fault → result.items ≡ vols }
+{
+    match fault {
+        HubFault::Open { vols, .. } => vols,
+        HubFault::Conflict { vols, .. } => vols,
+        HubFault::NoMemory { vols } => vols,
+    }
+}
+
+/// Opens a desk over the volumes for the stream and the first link that comes. The volumes are given back with the status.
+fn pipe<R: Door, V, C: Clock, O: Sink>(
+    alloc: Global,
+    stream: &Option<NamedStream>,
+    door: &mut R,
+    vols: Vec<V>,
+    clock: &mut C,
+    out: &mut O,
+) -> (u8, Vec<V>)
+    requires volumes { vec_len vols ≤ 32 }
+    requires subject { IfSome stream.now (λ named. IsTrue (is_stream_subject named.subject)) }
+    requires links { IsBalanced (R.gave door.old) (R.back door.old) }
+    ensures ends { PipeEnds (vec_len vols) stream.now result.0
+        (record {
+          door = record { answered = R.answered door.old; gave = R.gave door.old; back = R.back door.old; faults = R.faults door.old };
+          clock = C.to_come clock.old;
+          sink = record { written = O.written out.old; faults = O.faults out.old };
+        })
+        (record {
+          door = record { answered = R.answered door.new; gave = R.gave door.new; back = R.back door.new; faults = R.faults door.new };
+          clock = C.to_come clock.new;
+          sink = record { written = O.written out.new; faults = O.faults out.new };
+        }) }
+    ensures later { R.faults door.old ≤ R.faults door.new }
+    ensures unprinted { result.0 ≢ 11 → O.written out.new ≡ O.written out.old }
+    ensures volumes { result.1.items ≡ vols.items }
+{
+    match SoloDesk::open(alloc, vols) {
+        Ok(desk) => {
+            let mut desk = desk;
+            let status = attend(alloc, &mut desk, stream, door, clock, out);
+            let Closed { vols, failed: _ } = desk.close_all();
+            (status, vols)
+        }
+        Err(fault) => (7, given_back(fault)),
+    }
+}
+
+/// All that the program does for its words. `pipe` opens a desk over the volumes, makes the stream that the words name, if they name one, with
+/// every default and where no stream of its name is there, accepts one link and serves it. Other words are refused. The volumes come back as they
+/// were handed in.
 pub fn run<R: Door, V, C: Clock, G: Gate, O: Sink>(
     alloc: Global,
     words: &[String],
@@ -144,27 +129,42 @@ pub fn run<R: Door, V, C: Clock, G: Gate, O: Sink>(
 
     // Status 2 comes exactly where the words are none of the forms. They are refused in a line, the door is not touched and the clock not read.
     ensures words { (result.status ≡ 2) ↔ (command_of (texts words.now) ≡ None) }
-    ensures refused { command_of (texts words.now) ≡ None → (result.door ≡ door) × (C.to_come clock.new ≡ C.to_come clock.old) × PrintsWords (O.written out.old) (O.written out.new) (O.faults out.old) (O.faults out.new) }
+    ensures refused { command_of (texts words.now) ≡ None → (result.door ≡ door) × (C.to_come clock.new ≡ C.to_come clock.old)
+        × Prints words_line (record { written = O.written out.old; faults = O.faults out.old }) (record { written = O.written out.new; faults = O.faults out.new }) }
 
-    // Else the status tells why the run ended, and the link that came back was served by it.
-    ensures ends { IfSome (command_of (texts words.now)) (λ command. PipeEnds command.0 command.1 result.status
-        (record { answered = R.answered door; gave = R.gave door; back = R.back door; faults = R.faults door })
-        (record { answered = R.answered result.door; gave = R.gave result.door; back = R.back result.door; faults = R.faults result.door })
-        (C.to_come clock.old) (C.to_come clock.new)) }
-    ensures unprinted { IsSome (command_of (texts words.now)) → O.written out.new ≡ O.written out.old }
+    // Else the status tells why the run ended: 11 where the stream was refused, and the others by the link that came back, which was served over a
+    // desk with the stream, or by why none came.
+    ensures ends { IfSome (command_of (texts words.now)) (λ command. CommandEnds (vec_len vols) command result.status
+        (record {
+          door = record { answered = R.answered door; gave = R.gave door; back = R.back door; faults = R.faults door };
+          clock = C.to_come clock.old;
+          sink = record { written = O.written out.old; faults = O.faults out.old };
+        })
+        (record {
+          door = record { answered = R.answered result.door; gave = R.gave result.door; back = R.back result.door; faults = R.faults result.door };
+          clock = C.to_come clock.new;
+          sink = record { written = O.written out.new; faults = O.faults out.new };
+        })) }
     ensures later { R.faults door ≤ R.faults result.door }
+
+    // A stream is refused only where no volume was handed in, and so no place is free for it, which is error 20007.
+    ensures placeless { result.status ≡ 11 → NamesStream (command_of (texts words.now)) × (vec_len vols ≡ 0)
+        × Prints (number_line 20007) (record { written = O.written out.old; faults = O.faults out.old }) (record { written = O.written out.new; faults = O.faults out.new }) }
+
+    // With every other status nothing is printed.
+    ensures unprinted { result.status ≢ 2 → result.status ≢ 11 → O.written out.new ≡ O.written out.old }
 
     // The volumes come back in their order.
     ensures volumes { result.vols.items ≡ vols.items }
 {
     match read_words(alloc, words) {
-        Ok(Command::Pipe { stream, subject }) => {
+        Ok(Command::Pipe { stream }) => {
             let mut door = door;
-            let status = pipe(alloc, stream, subject, &mut door, clock);
+            let (status, vols) = pipe(alloc, &stream, &mut door, vols, clock, out);
             Finish { status, door, vols }
         }
         Err(WordsFault::Words) => {
-            let _ = out.put(b"words\n");
+            print_words(out);
             Finish {
                 status: 2,
                 door,

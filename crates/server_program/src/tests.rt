@@ -1,11 +1,14 @@
 //! Runs of the whole program, over a door, a sink and a clock in memory.
 
+ghost use Rattle.std.specs.Prelude.{◌≤◌, length};
 ghost use Rattle.link_edge.specs.Reports.{IsBalanced};
 
+mod api;
 mod bad_input;
 mod keeping;
 mod limits;
 mod other_words;
+mod places;
 mod rows;
 mod starved;
 mod statuses;
@@ -19,6 +22,9 @@ use std::test::Fail;
 
 /// The words of the rows.
 const PIPE: &[&str] = &["pipe", "--stream", "ORDERS", "--subject", "orders.*"];
+
+/// The words that name no stream.
+const ALONE: &[&str] = &["pipe"];
 
 /// The server's information, with which each session begins.
 const INFO: &[u8] =
@@ -82,23 +88,38 @@ fn moments(alloc: Global, seconds: &[u64], early: bool) -> Result<MemClock, Fail
     Ok(MemClock::new(told, last))
 }
 
-/// Runs with the words, over a door, a sink and a clock. The volumes have to come back in their order.
+/// Runs with the words, over a door, volumes, a sink and a clock. The volumes have to come back in their order.
+fn finish_over<R: Door + Drop>(
+    alloc: Global,
+    words: &[&str],
+    door: R,
+    vols: &[u8],
+    sink: &mut MemSink,
+    mut clock: MemClock,
+) -> Result<Finish<R, u8>, Fail>
+    requires links { IsBalanced (R.gave door) (R.back door) }
+    requires volumes { length vols.now ≤ 32 }
+{
+    let words = texts(alloc, words)?;
+    let given = Vec::from_slice(alloc, vols)?;
+    let finish = run(alloc, &words, door, given, &mut clock, &OpenGate, sink);
+    if finish.vols.as_slice() != vols {
+        return Err(Fail::from("other volumes"));
+    }
+    Ok(finish)
+}
+
+/// The same over three volumes.
 fn finish_at<R: Door + Drop>(
     alloc: Global,
     words: &[&str],
     door: R,
     sink: &mut MemSink,
-    mut clock: MemClock,
+    clock: MemClock,
 ) -> Result<Finish<R, u8>, Fail>
     requires links { IsBalanced (R.gave door) (R.back door) }
 {
-    let words = texts(alloc, words)?;
-    let vols = Vec::from_slice(alloc, VOLUMES)?;
-    let finish = run(alloc, &words, door, vols, &mut clock, &OpenGate, sink);
-    if finish.vols.as_slice() != VOLUMES {
-        return Err(Fail::from("other volumes"));
-    }
-    Ok(finish)
+    finish_over(alloc, words, door, VOLUMES, sink, clock)
 }
 
 /// The same at one moment.
@@ -157,10 +178,26 @@ fn meet(rt: &impl Abort, ran: &Ran, status: u8, given: &[u8], row: usize) {
 
 /// Runs over one link that says the bytes in pieces of this size, and whose calls with these numbers fail.
 fn run_link(alloc: Global, input: &[u8], size: usize, failing: &[u64]) -> Result<Ran, Fail> {
+    run_over(
+        alloc,
+        PIPE,
+        one_link(alloc, input, size, failing)?,
+        &[],
+        MemSink::new(alloc),
+    )
+}
+
+/// A link that says the bytes in pieces of this size, and whose calls with these numbers fail.
+fn one_link(
+    alloc: Global,
+    input: &[u8],
+    size: usize,
+    failing: &[u64],
+) -> Result<List<Knock>, NoMemory> {
     let mut knocks = List::new(alloc);
     knocks.push(Knock::Link {
         script: script(alloc, input, size)?,
         failing: numbers(alloc, failing)?,
     })?;
-    run_over(alloc, PIPE, knocks, &[], MemSink::new(alloc))
+    Ok(knocks)
 }

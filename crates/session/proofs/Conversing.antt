@@ -17,7 +17,7 @@ use Rattle.link_edge.specs.Causes.{HasCause}
 use Rattle.session.specs.Turning.{IsTurn, IsLastTurn, IsGreeted}
 use Rattle.session.specs.Session.{Converses}
 use Rattle.session.proofs.Framed.{greeting_cut}
-use Rattle.session.proofs.Heard.{front_of}
+use Rattle.session.proofs.Behind.{front_of}
 use Rattle.session.specs.declared.giving.GiveFault.{GiveFault}
 use Rattle.session.specs.declared.giving.GiveFault.TheVariants as faults
 use Rattle.session.specs.declared.ending.Limits.{Limits}

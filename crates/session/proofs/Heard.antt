@@ -1,5 +1,5 @@
--- Laws of the operations that a session hears.
-use Rattle.std.proofs.Common.{◌≡◌, ℕ, ◌+◌, List, [], ◌∷◌, ◌++◌, length, Option, refl, sym, ap, subst, ◌∙◌, append_assoc, inl, inr, arith, length-append}
+-- Laws of the operations that a session hears, and of the tick behind them.
+use Rattle.std.proofs.Common.{◌≡◌, ℕ, ◌+◌, List, [], ◌∷◌, ◌++◌, length, Option, Result, Ok, Err, refl, sym, ap, subst, ◌∙◌, append_assoc, inl, inr, arith, length-append}
 use Rattle.std.proofs.lemmas.List.{append-nil}
 use Rattle.std.proofs.lemmas.Grind.{flat_map-append}
 use Rattle.js_base.specs.Bytes.{Bytes}
@@ -10,24 +10,27 @@ use Rattle.nats_frames.specs.Decoding.{Held, total, IsFront}
 use Rattle.nats_frames.specs.Grammar.{Fronts}
 use Rattle.nats_frames.specs.Reading.{op_at, Partial}
 use Rattle.js_api.specs.Desks.{DeskEntry}
-use Rattle.session.specs.Peer.{Peer, peer_after}
-use Rattle.session.specs.Talk.{Spoken, IsSpoken, AreSpoken, EndsBy, IsWritten, IsFrontOf, IsCutOff, last_line, ops_of, heard_bytes, spoken_bytes, peer_at_end, entries_of_all, entries_of_spoken, entries_of_calls}
+use Rattle.session.specs.Calling.{Called, entries_of_calls}
+use Rattle.session.specs.Peer.{Act, Hears as Hearing, Ticks, Peer, peer_after}
+use Rattle.session.specs.Talk.{Spoken, IsSpoken, AreSpoken, AreActs, EndsBy, IsWritten, IsFrontOf, IsCutOff, last_line, acts_of, hearings, heard_bytes, spoken_bytes, peer_at_end, entries_of_all, entries_of_spoken}
 use Rattle.session.specs.Giving.{GivesPart, IsFlushed, end_of}
 use Rattle.session.specs.Parting.{Parts, PartsAt, cause_of}
-use Rattle.session.specs.Hearing.{IsNext, IsIdle, IsHalted, IsHeard, IsCut, Stops}
+use Rattle.session.specs.Ticking.{Stops, IsTicked, IsTickCut, EndsTurn}
+use Rattle.session.specs.Hearing.{IsNext, IsIdle, IsHalted, IsHeard, IsCut, Hears, StopsAt}
+use Rattle.session.proofs.Behind.{front_of, cut_behind, ends_behind}
 use Rattle.session.specs.declared.ending.Ended.{Ended}
 use Rattle.session.specs.declared.ending.Ended.TheVariants as ends
+use Rattle.session.specs.declared.ending.Refusal.TheVariants as refusals
 use Rattle.session.specs.declared.giving.GiveFault.{GiveFault}
 use Rattle.session.specs.declared.giving.GiveFault.TheVariants as faults
 use Rattle.session.specs.declared.stop.Stop.{Stop}
 use Rattle.session.specs.declared.stop.Stop.TheVariants as stops
 
--- ---- one operation more
+-- ---- operations, and then operations
 
 abbrev one : Spoken → List Spoken
 one s = s ∷ []
 
--- operations, and then operations
 fronts_on : (ops more : List Op) (a b c : Bytes) → Fronts a ops b → Fronts b more c → Fronts a (ops ++ more) c
 fronts_on [] more a b c h k = subst (λ (bytes : Bytes). Fronts bytes more c) (sym h) k
 fronts_on (op ∷ ops) more a b c h k = (h.0, h.1, h.2, h.3, fronts_on ops more h.1 b c h.4 k)
@@ -35,65 +38,42 @@ fronts_on (op ∷ ops) more a b c h k = (h.0, h.1, h.2, h.3, fronts_on ops more 
 fronts_one : (op : Op) (a b : Bytes) → IsFront op a b → Fronts a (op ∷ []) b
 fronts_one op a b h = (h.front, b, h.spelled, h.whole, refl)
 
-ops-push : (spoken : List Spoken) (s : Spoken) → ops_of (spoken ++ one s) ≡ ops_of spoken ++ s.op ∷ []
-ops-push [] s = refl
-ops-push (first ∷ spoken) s = ap (λ (ops : List Op). first.op ∷ ops) (ops-push spoken s)
+acts-append : (spoken more : List Spoken) → acts_of (spoken ++ more) ≡ acts_of spoken ++ acts_of more
+acts-append [] more = refl
+acts-append (first ∷ spoken) more = ap (λ (acts : List Act). first.act ∷ acts) (acts-append spoken more)
 
-spoken_push : (peer : Peer) (now : ℕ) (spoken : List Spoken) (s : Spoken) → AreSpoken peer now spoken → IsSpoken (peer_at_end peer spoken) now s
-    → AreSpoken peer now (spoken ++ one s)
-spoken_push peer now [] s h k = (k, tt)
-spoken_push peer now (first ∷ spoken) s h k = (h.0, spoken_push (peer_after peer first.op) now spoken s h.1 k)
+hearings-append : (ops more : List Op) → hearings (ops ++ more) ≡ hearings ops ++ hearings more
+hearings-append [] more = refl
+hearings-append (op ∷ ops) more = ap (λ (acts : List Act). Hearing op ∷ acts) (hearings-append ops more)
 
-peer-push : (peer : Peer) (spoken : List Spoken) (s : Spoken) → peer_at_end peer (spoken ++ one s) ≡ peer_after (peer_at_end peer spoken) s.op
-peer-push peer [] s = refl
-peer-push peer (first ∷ spoken) s = peer-push (peer_after peer first.op) spoken s
+peer-append : (peer : Peer) (spoken more : List Spoken) → peer_at_end peer (spoken ++ more) ≡ peer_at_end (peer_at_end peer spoken) more
+peer-append peer [] more = refl
+peer-append peer (first ∷ spoken) more = peer-append (peer_after peer first.act) spoken more
 
-heard-push : (peer : Peer) (now : ℕ) (spoken : List Spoken) (s : Spoken)
-    → heard_bytes peer now (spoken ++ one s) ≡ heard_bytes peer now spoken ++ spoken_bytes (peer_at_end peer spoken) now s
-heard-push peer now [] s = append-nil (spoken_bytes peer now s)
-heard-push peer now (first ∷ spoken) s =
-    ap (λ (bytes : Bytes). spoken_bytes peer now first ++ bytes) (heard-push (peer_after peer first.op) now spoken s)
-    ∙ sym (append_assoc (spoken_bytes peer now first) (heard_bytes (peer_after peer first.op) now spoken) (spoken_bytes (peer_at_end (peer_after peer first.op) spoken) now s))
+spoken_on : (peer : Peer) (now : ℕ) (spoken more : List Spoken) → AreSpoken peer now spoken → AreSpoken (peer_at_end peer spoken) now more → AreSpoken peer now (spoken ++ more)
+spoken_on peer now [] more h k = k
+spoken_on peer now (first ∷ spoken) more h k = (h.0, spoken_on (peer_after peer first.act) now spoken more h.1 k)
 
-entries-push : (spoken : List Spoken) (s : Spoken) → entries_of_all (spoken ++ one s) ≡ entries_of_all spoken ++ entries_of_spoken s
-entries-push spoken s =
-    flat_map-append entries_of_spoken spoken (one s) ∙ ap (λ (es : List DeskEntry). entries_of_all spoken ++ es) (append-nil (entries_of_spoken s))
+heard-append : (peer : Peer) (now : ℕ) (spoken more : List Spoken)
+    → heard_bytes peer now (spoken ++ more) ≡ heard_bytes peer now spoken ++ heard_bytes (peer_at_end peer spoken) now more
+heard-append peer now [] more = refl
+heard-append peer now (first ∷ spoken) more =
+    ap (λ (bytes : Bytes). spoken_bytes peer now first ++ bytes) (heard-append (peer_after peer first.act) now spoken more)
+    ∙ sym (append_assoc (spoken_bytes peer now first) (heard_bytes (peer_after peer first.act) now spoken) (heard_bytes (peer_at_end (peer_after peer first.act) spoken) now more))
 
--- ---- what is written behind what was written
-
-front_behind : (front bytes whole : Bytes) → IsFrontOf bytes whole → IsFrontOf (front ++ bytes) (front ++ whole)
-front_behind front bytes whole h = (h.0, append_assoc front bytes h.0 ∙ ap (λ (more : Bytes). front ++ more) h.1)
-
-pub front_of : (front whole : Bytes) → IsCutOff front whole → IsFrontOf front whole
-front_of front whole h = (h.0 ∷ h.1, h.2)
-
-cut_behind : (front bytes whole : Bytes) → IsCutOff bytes whole → IsCutOff (front ++ bytes) (front ++ whole)
-cut_behind front bytes whole h = (h.0, h.1, append_assoc front bytes (h.0 ∷ h.1) ∙ ap (λ (more : Bytes). front ++ more) h.2)
-
-whole_behind : (front bytes whole : Bytes) → bytes ≡ whole → front ++ bytes ≡ front ++ whole
-whole_behind front bytes whole h = ap (λ (more : Bytes). front ++ more) h
-
-written_behind : (ended : Ended) (front bytes whole : Bytes) → IsWritten ended bytes whole → IsWritten ended (front ++ bytes) (front ++ whole)
-written_behind ends.Closed front bytes whole h = whole_behind front bytes whole h
-written_behind (ends.Refused refusal) front bytes whole h = whole_behind front bytes whole h
-written_behind (ends.Slow size) front bytes whole h = whole_behind front bytes whole h
-written_behind ends.Stale front bytes whole h = whole_behind front bytes whole h
-written_behind ends.LinkFault front bytes whole h = cut_behind front bytes whole h
-written_behind ends.InputLimit front bytes whole h = whole_behind front bytes whole h
-written_behind ends.NoMemory front bytes whole h = front_behind front bytes whole h
-
-pub ends_behind : (cause ended : Ended) (front bytes whole : Bytes) → EndsBy cause ended bytes whole → EndsBy cause ended (front ++ bytes) (front ++ whole)
-ends_behind cause ended front bytes whole (inl h) = inl (h.0, written_behind ended front bytes whole h.1)
-ends_behind cause ended front bytes whole (inr h) = inr (h.0, h.1, cut_behind front bytes whole h.2)
+entries-append : (spoken more : List Spoken) → entries_of_all (spoken ++ more) ≡ entries_of_all spoken ++ entries_of_all more
+entries-append spoken more = flat_map-append entries_of_spoken spoken more
 
 -- ---- between two operations
 
 -- the operations so far were carried out, and their bytes were given or wait to be
 pub record Answering {D : Type 0} (made : D → List DeskEntry → D → Type 0) (now : ℕ) (peer peer_now : Peer) (old new : D) (bytes rest : Bytes) (given_old given_now : Option Bytes) (out : Bytes) : Type 0 where
+  pub ops : List Op
   pub spoken : List Spoken
   pub sent : Bytes
   pub are_spoken : AreSpoken peer now spoken
-  pub split : Fronts bytes (ops_of spoken) rest
+  pub acts : acts_of spoken ≡ hearings ops
+  pub split : Fronts bytes ops rest
   pub led : made old (entries_of_all spoken) new
   pub given : given_now ≡ grown given_old sent
   pub together : sent ++ out ≡ heard_bytes peer now spoken
@@ -102,9 +82,11 @@ pub record Answering {D : Type 0} (made : D → List DeskEntry → D → Type 0)
 pub answering_first : {D : Type 0} (made : D → List DeskEntry → D → Type 0) (now : ℕ) (peer : Peer) (old : D) (bytes : Bytes) (given : Option Bytes) (out : Bytes)
     → made old [] old → out ≡ [] → Answering made now peer peer old old bytes bytes given given out
 answering_first made now peer old bytes given out h e = record {
+  ops = [];
   spoken = [];
   sent = [];
   are_spoken = tt;
+  acts = refl;
   split = refl;
   led = h;
   given = sym (grown-nil given);
@@ -116,9 +98,11 @@ answering_first made now peer old bytes given out h e = record {
 pub answering_flushed : {D : Type 0} (made : D → List DeskEntry → D → Type 0) (now : ℕ) (peer peer_now : Peer) (old new : D) (bytes rest : Bytes) (a b c : Option Bytes) (out waiting : Bytes)
     → Answering made now peer peer_now old new bytes rest a b out → IsFlushed b c out waiting → Answering made now peer peer_now old new bytes rest a c waiting
 answering_flushed made now peer peer_now old new bytes rest a b c out waiting h k = record {
+  ops = h.ops;
   spoken = h.spoken;
   sent = h.sent ++ k.out;
   are_spoken = h.are_spoken;
+  acts = h.acts;
   split = h.split;
   led = h.led;
   given = grown_on a b c h.sent k.out h.given k.given;
@@ -131,10 +115,12 @@ pub answering_idle : {D : Type 0} (made : D → List DeskEntry → D → Type 0)
     → Answering made now peer peer_now old mid bytes held.bytes a b out → IsIdle peer_now after mid new held rest out more
     → Answering made now peer after old new bytes rest.bytes a b more
 answering_idle {D = D} made now peer peer_now after old mid new bytes held rest a b out more h k = record {
+  ops = h.ops;
   spoken = h.spoken;
   sent = h.sent;
   are_spoken = h.are_spoken;
-  split = subst (λ (r : Held). Fronts bytes (ops_of h.spoken) r.bytes) (sym k.held) h.split;
+  acts = h.acts;
+  split = subst (λ (r : Held). Fronts bytes h.ops r.bytes) (sym k.held) h.split;
   led = subst (λ (d : D). made old (entries_of_all h.spoken) d) (sym k.desk) h.led;
   given = h.given;
   together = ap (λ (waiting : Bytes). h.sent ++ waiting) k.out ∙ h.together;
@@ -146,6 +132,15 @@ both : (sent out more whole : Bytes) → sent ++ out ≡ whole → sent ++ (out 
 both sent out more whole e = sym (append_assoc sent out more) ∙ ap (λ (bytes : Bytes). bytes ++ more) e
 
 module _ {D : Type 0} (made : D → List DeskEntry → D → Type 0) (more_led : (a b c : D) (xs ys : List DeskEntry) → made a xs b → made b ys c → made a (xs ++ ys) c) (now : ℕ) (peer : Peer) where
+  all_led : (old mid new : D) (spoken more : List Spoken) → made old (entries_of_all spoken) mid → made mid (entries_of_all more) new
+      → made old (entries_of_all (spoken ++ more)) new
+  all_led old mid new spoken more h k =
+      subst (λ (es : List DeskEntry). made old es new) (sym (entries-append spoken more)) (more_led old mid new (entries_of_all spoken) (entries_of_all more) h k)
+
+  -- an operation or a tick is led by its entries
+  one_led : (mid new : D) (s : Spoken) → made mid (entries_of_spoken s) new → made mid (entries_of_all (one s)) new
+  one_led mid new s h = subst (λ (es : List DeskEntry). made mid es new) (sym (append-nil (entries_of_spoken s))) h
+
   -- one operation more was carried out
   pub answering_more : (peer_now after : Peer) (old mid new : D) (bytes : Bytes) (held rest : Held) (a b : Option Bytes) (out more : Bytes)
       → Answering made now peer peer_now old mid bytes held.bytes a b out → IsNext made now peer_now after mid new held rest out more
@@ -153,32 +148,43 @@ module _ {D : Type 0} (made : D → List DeskEntry → D → Type 0) (more_led :
   answering_more peer_now after old mid new bytes held rest a b out more h k =
       let s = k.carried.spoken in
       let here : IsSpoken (peer_at_end peer h.spoken) now s = subst (λ (p : Peer). IsSpoken p now s) h.peer_is k.carried.is_spoken in
-      let split = fronts_on (ops_of h.spoken) (k.op ∷ []) bytes held.bytes rest.bytes h.split (fronts_one k.op held.bytes rest.bytes k.front) in
-      let named : ops_of h.spoken ++ k.op ∷ [] ≡ ops_of (h.spoken ++ one s) = ap (λ (o : Op). ops_of h.spoken ++ o ∷ []) (sym k.carried.op_is) ∙ sym (ops-push h.spoken s) in
       record {
+        ops = h.ops ++ k.op ∷ [];
         spoken = h.spoken ++ one s;
         sent = h.sent;
-        are_spoken = spoken_push peer now h.spoken s h.are_spoken here;
-        split = subst (λ (ops : List Op). Fronts bytes ops rest.bytes) named split;
-        led = subst (λ (es : List DeskEntry). made old es new) (sym (entries-push h.spoken s))
-            (more_led old mid new (entries_of_all h.spoken) (entries_of_spoken s) h.led k.carried.led);
+        are_spoken = spoken_on peer now h.spoken (one s) h.are_spoken (here, tt);
+        acts = acts-append h.spoken (one s) ∙ ap (λ (acts : List Act). acts ++ s.act ∷ []) h.acts ∙ ap (λ (act : Act). hearings h.ops ++ act ∷ []) k.carried.act_is
+            ∙ sym (hearings-append h.ops (k.op ∷ []));
+        split = fronts_on h.ops (k.op ∷ []) bytes held.bytes rest.bytes h.split (fronts_one k.op held.bytes rest.bytes k.front);
+        led = all_led old mid new h.spoken (one s) h.led (one_led mid new s k.carried.led);
         given = h.given;
         together = ap (λ (bytes : Bytes). h.sent ++ bytes) k.carried.written ∙ both h.sent out (spoken_bytes peer_now now s) (heard_bytes peer now h.spoken) h.together
-            ∙ ap (λ (p : Peer). heard_bytes peer now h.spoken ++ spoken_bytes p now s) h.peer_is ∙ sym (heard-push peer now h.spoken s);
-        peer_is = k.peer ∙ ap (λ (p : Peer). peer_after p k.op) h.peer_is ∙ ap (λ (o : Op). peer_after (peer_at_end peer h.spoken) o) (sym k.carried.op_is)
-            ∙ sym (peer-push peer h.spoken s);
+            ∙ ap (λ (p : Peer). heard_bytes peer now h.spoken ++ spoken_bytes p now s) h.peer_is
+            ∙ ap (λ (bytes : Bytes). heard_bytes peer now h.spoken ++ bytes) (sym (append-nil (spoken_bytes (peer_at_end peer h.spoken) now s)))
+            ∙ sym (heard-append peer now h.spoken (one s));
+        peer_is = k.peer ∙ ap (λ (p : Peer). peer_after p (Hearing k.op)) h.peer_is ∙ ap (λ (act : Act). peer_after (peer_at_end peer h.spoken) act) (sym k.carried.act_is)
+            ∙ sym (peer-append peer h.spoken (one s));
       }
 
-  -- ---- the end
+  -- ---- the end within the operations
 
-  -- behind the operations one was begun, or none is there, and then the session parted
+  -- behind the operations one was begun, or none is there
+  acts_begun : (peer_now : Peer) (old mid : D) (bytes rest next : Bytes) (begun : List Op) (a b : Option Bytes) (waiting : Bytes)
+      → (h : Answering made now peer peer_now old mid bytes rest a b waiting) → Fronts rest begun next → AreActs bytes (acts_of h.spoken ++ hearings begun) next
+  acts_begun peer_now old mid bytes rest next begun a b waiting h f = record {
+    ops = h.ops ++ begun;
+    split = fronts_on h.ops begun bytes rest next h.split f;
+    acts_are = inl (ap (λ (acts : List Act). acts ++ hearings begun) h.acts ∙ sym (hearings-append h.ops begun));
+  }
+
+  -- and then the session parted
   cut_at : (stop : Stop) (ended : Ended) (peer_now : Peer) (old mid new : D) (bytes out : Bytes) (held : Held) (all : ℕ) (a b c : Option Bytes) (waiting more : Bytes)
       → (h : Answering made now peer peer_now old mid bytes held.bytes a b waiting) (k : IsHalted stop made now peer_now mid new held waiting more) → total held ≡ all
       → EndsBy (cause_of stop) ended (h.sent ++ out) (heard_bytes peer now h.spoken ++ (k.said ++ last_line (cause_of stop)))
       → c ≡ grown b out → IsCut ended made now peer old new bytes all a c
   cut_at stop ended peer_now old mid new bytes out held all a b c waiting more h k fed e g = record {
     spoken = h.spoken;
-    begun = k.begun;
+    begun = hearings k.begun;
     calls = k.calls;
     before = k.before;
     rest = k.rest;
@@ -186,9 +192,9 @@ module _ {D : Type 0} (made : D → List DeskEntry → D → Type 0) (more_led :
     said = k.said;
     out = h.sent ++ out;
     are_spoken = h.are_spoken;
-    split = fronts_on (ops_of h.spoken) k.begun bytes held.bytes k.rest h.split k.split;
+    acts = acts_begun peer_now old mid bytes held.bytes k.rest k.begun a b waiting h k.split;
     place = k.place ∙ fed;
-    stops = subst (λ (p : Peer). Stops (cause_of stop) p now k.begun k.calls k.before k.rest k.said) h.peer_is k.stops;
+    stops = subst (λ (p : Peer). StopsAt (cause_of stop) p now (hearings k.begun) k.calls k.before k.rest k.said) h.peer_is k.stops;
     led = more_led old mid new (entries_of_all h.spoken) (entries_of_calls k.calls) h.led k.led;
     ends_by = e;
     given = grown_on a b c h.sent out h.given g;
@@ -235,8 +241,8 @@ module _ {D : Type 0} (made : D → List DeskEntry → D → Type 0) (more_led :
       led : made old (entries_of_all h.spoken ++ []) new
       led = subst (λ (es : List DeskEntry). made old es new) (sym (append-nil (entries_of_all h.spoken))) h.led
 
-      split : Fronts bytes (ops_of h.spoken ++ []) held.bytes
-      split = subst (λ (ops : List Op). Fronts bytes ops held.bytes) (sym (append-nil (ops_of h.spoken))) h.split
+      acts : AreActs bytes (acts_of h.spoken ++ []) held.bytes
+      acts = acts_begun peer_now old new bytes held.bytes held.bytes [] a b waiting h refl
 
       go : (fault : GiveFault) → IsCut (end_of fault) made now peer old new bytes all a c
       go faults.LinkFault = record {
@@ -249,7 +255,7 @@ module _ {D : Type 0} (made : D → List DeskEntry → D → Type 0) (more_led :
         said = [];
         out = h.sent ++ k.0;
         are_spoken = h.are_spoken;
-        split = split;
+        acts = acts;
         place = fed;
         stops = (refl, refl, refl);
         led = led;
@@ -266,7 +272,7 @@ module _ {D : Type 0} (made : D → List DeskEntry → D → Type 0) (more_led :
         said = [];
         out = h.sent ++ k.0;
         are_spoken = h.are_spoken;
-        split = split;
+        acts = acts;
         place = fed;
         stops = (refl, refl);
         led = led;
@@ -274,18 +280,95 @@ module _ {D : Type 0} (made : D → List DeskEntry → D → Type 0) (more_led :
         given = grown_on a b c h.sent k.0 h.given k.2;
       }
 
-  -- no whole operation is left, and all was given
-  pub heard_all : (peer_now : Peer) (old new : D) (bytes rest : Bytes) (a b c : Option Bytes) (waiting : Bytes)
-      → Answering made now peer peer_now old new bytes rest a b waiting → op_at rest ≡ Partial → c ≡ grown b waiting → IsHeard made now peer peer_now old new bytes rest a c
-  heard_all peer_now old new bytes rest a b c waiting h e k = record {
-    spoken = h.spoken;
-    are_spoken = h.are_spoken;
-    split = h.split;
-    idle = e;
-    peer = h.peer_is;
-    led = h.led;
-    given = grown_on a b c h.sent waiting h.given k ∙ ap (grown a) h.together;
-  }
+  -- ---- the end behind the operations
+
+  -- the tick was carried out, and all was given
+  heard_ticked : (peer_now after : Peer) (old mid new : D) (bytes rest : Bytes) (a b c : Option Bytes) (waiting : Bytes)
+      → Answering made now peer peer_now old mid bytes rest a b waiting → op_at rest ≡ Partial → IsTicked made peer_now now mid new waiting b c → after ≡ peer_now
+      → IsHeard made now peer after old new bytes rest a c
+  heard_ticked peer_now after old mid new bytes rest a b c waiting h e k same =
+      let s = k.spoken in
+      let here : IsSpoken (peer_at_end peer h.spoken) now s = subst (λ (p : Peer). IsSpoken p now s) h.peer_is k.is_spoken in
+      let said = heard_bytes peer now h.spoken in
+      record {
+        ops = h.ops;
+        spoken = h.spoken ++ one s;
+        are_spoken = spoken_on peer now h.spoken (one s) h.are_spoken (here, tt);
+        acts = acts-append h.spoken (one s) ∙ ap (λ (acts : List Act). acts ++ s.act ∷ []) h.acts ∙ ap (λ (act : Act). hearings h.ops ++ act ∷ []) k.act_is;
+        split = h.split;
+        idle = e;
+        peer = same ∙ h.peer_is ∙ ap (peer_after (peer_at_end peer h.spoken)) (sym k.act_is) ∙ sym (peer-append peer h.spoken (one s));
+        led = all_led old mid new h.spoken (one s) h.led (one_led mid new s k.led);
+        given = grown_on a b c h.sent (waiting ++ spoken_bytes peer_now now s) h.given k.given
+            ∙ ap (grown a)
+            (both h.sent waiting (spoken_bytes peer_now now s) said h.together ∙ ap (λ (p : Peer). said ++ spoken_bytes p now s) h.peer_is
+            ∙ ap (λ (bytes : Bytes). said ++ bytes) (sym (append-nil (spoken_bytes (peer_at_end peer h.spoken) now s))) ∙ sym (heard-append peer now h.spoken (one s)));
+      }
+
+  -- a stop behind the operations is none by a fault of the input
+  stops_at : (cause : Ended) (p : Peer) (begun : List Act) (calls : List Called) (before : ℕ) (rest said : Bytes) → Stops cause p now begun calls said
+      → StopsAt cause p now begun calls before rest said
+  stops_at ends.Closed p begun calls before rest said h = h
+  stops_at (ends.Refused (refusals.Frame fault)) p begun calls before rest said h = absurd h
+  stops_at (ends.Refused refusals.BadConnect) p begun calls before rest said h = h
+  stops_at (ends.Refused refusals.BadHeaders) p begun calls before rest said h = h
+  stops_at (ends.Refused refusals.NumbersUsed) p begun calls before rest said h = h
+  stops_at (ends.Slow size) p begun calls before rest said h = h
+  stops_at ends.Stale p begun calls before rest said h = h
+  stops_at ends.LinkFault p begun calls before rest said h = h
+  stops_at ends.InputLimit p begun calls before rest said h = h
+  stops_at ends.NoMemory p begun calls before rest said h = h
+
+  -- operations and a tick that was begun or carried out, in their order
+  acts_ticked : (ops : List Op) (spoken more : List Spoken) (begun : List Act) → acts_of spoken ≡ hearings ops → acts_of more ++ begun ≡ Ticks ∷ []
+      → acts_of (spoken ++ more) ++ begun ≡ hearings ops ++ Ticks ∷ []
+  acts_ticked ops spoken more begun e f =
+      ap (λ (acts : List Act). acts ++ begun) (acts-append spoken more) ∙ append_assoc (acts_of spoken) (acts_of more) begun
+      ∙ ap (λ (acts : List Act). acts ++ (acts_of more ++ begun)) e ∙ ap (λ (acts : List Act). hearings ops ++ acts) f
+
+  -- the session ended within the tick, or behind it
+  cut_ticked : (ended : Ended) (peer_now : Peer) (old mid new : D) (bytes : Bytes) (held : Held) (all : ℕ) (a b c : Option Bytes) (waiting : Bytes)
+      → Answering made now peer peer_now old mid bytes held.bytes a b waiting → total held ≡ all → op_at held.bytes ≡ Partial → IsTickCut ended made peer_now now mid new waiting b c
+      → IsCut ended made now peer old new bytes all a c
+  cut_ticked ended peer_now old mid new bytes held all a b c waiting h fed partial k =
+      let said = heard_bytes peer now h.spoken in
+      let there = peer_at_end peer h.spoken in
+      let tail = k.said ++ last_line k.cause in
+      let whole : h.sent ++ (waiting ++ (heard_bytes peer_now now k.spoken ++ tail)) ≡ heard_bytes peer now (h.spoken ++ k.spoken) ++ tail =
+      both h.sent waiting (heard_bytes peer_now now k.spoken ++ tail) said h.together ∙ ap (λ (p : Peer). said ++ (heard_bytes p now k.spoken ++ tail)) h.peer_is
+      ∙ sym (append_assoc said (heard_bytes there now k.spoken) tail) ∙ ap (λ (bytes : Bytes). bytes ++ tail) (sym (heard-append peer now h.spoken k.spoken)) in
+      let stopped = subst (λ (p : Peer). Stops k.cause (peer_at_end p k.spoken) now k.begun k.calls k.said) h.peer_is k.stops in
+      let led_on = more_led old mid new (entries_of_all h.spoken) (entries_of_all k.spoken ++ entries_of_calls k.calls) h.led k.led in
+      record {
+        spoken = h.spoken ++ k.spoken;
+        begun = k.begun;
+        calls = k.calls;
+        before = held.before;
+        rest = held.bytes;
+        cause = k.cause;
+        said = k.said;
+        out = h.sent ++ k.out;
+        are_spoken = spoken_on peer now h.spoken k.spoken h.are_spoken (subst (λ (p : Peer). AreSpoken p now k.spoken) h.peer_is k.are_spoken);
+        acts = record { ops = h.ops; split = h.split; acts_are = inr (acts_ticked h.ops h.spoken k.spoken k.begun h.acts k.acts, partial) };
+        place = fed;
+        stops = stops_at k.cause (peer_at_end peer (h.spoken ++ k.spoken)) k.begun k.calls held.before held.bytes k.said
+            (subst (λ (p : Peer). Stops k.cause p now k.begun k.calls k.said) (sym (peer-append peer h.spoken k.spoken)) stopped);
+        led = subst (λ (es : List DeskEntry). made old es new)
+            (sym (append_assoc (entries_of_all h.spoken) (entries_of_all k.spoken) (entries_of_calls k.calls))
+            ∙ ap (λ (es : List DeskEntry). es ++ entries_of_calls k.calls) (sym (entries-append h.spoken k.spoken)))
+            led_on;
+        ends_by = subst (EndsBy k.cause ended (h.sent ++ k.out)) whole
+            (ends_behind k.cause ended h.sent k.out (waiting ++ (heard_bytes peer_now now k.spoken ++ tail)) k.ends_by);
+        given = grown_on a b c h.sent k.out h.given k.given;
+      }
+
+  pub hears_ticked : (result : Result (Unit {0}) Ended) (peer_now after : Peer) (old mid new : D) (bytes : Bytes) (held : Held) (all : ℕ) (a b c : Option Bytes) (waiting : Bytes)
+      → Answering made now peer peer_now old mid bytes held.bytes a b waiting → total held ≡ all → op_at held.bytes ≡ Partial → EndsTurn result made peer_now now mid new waiting b c
+      → after ≡ peer_now → Hears result made now peer after old new bytes held.bytes all a c
+  hears_ticked (Ok x) peer_now after old mid new bytes held all a b c waiting h fed partial k same =
+      heard_ticked peer_now after old mid new bytes held.bytes a b c waiting h partial k same
+  hears_ticked (Err ended) peer_now after old mid new bytes held all a b c waiting h fed partial k same =
+      cut_ticked ended peer_now old mid new bytes held all a b c waiting h fed partial k
 
   -- the piece was not fed
   pub cut_unfed : (old : D) (held : Held) (piece : Bytes) (a : Option Bytes) → made old [] old
@@ -300,7 +383,7 @@ module _ {D : Type 0} (made : D → List DeskEntry → D → Type 0) (more_led :
     said = [];
     out = [];
     are_spoken = tt;
-    split = refl;
+    acts = record { ops = []; split = refl; acts_are = inl refl };
     place = omega (arith, length-append held.bytes piece);
     stops = (refl, refl);
     led = h;

@@ -1,11 +1,15 @@
+pub mod Led
+pub mod Collected
+pub mod Gathered
 pub mod Asked
 pub mod Carried
 pub mod Connected
-pub mod Gathered
 pub mod Framed
 pub mod GivenBytes
+pub mod Behind
 pub mod Parted
 pub mod Stopped
+pub mod Ticked
 pub mod Heard
 pub mod Turned
 pub mod Conversing

@@ -6,8 +6,10 @@ use Rattle.js_base.specs.Bytes.{Bytes}
 use Rattle.link_edge.proofs.Told.{grown-nil}
 use Rattle.link_edge.specs.declared.answers.Answer.{Answer}
 use Rattle.js_api.specs.Desks.{DeskEntry}
-use Rattle.js_api.specs.Calls.{Client, new_client, Open, Close, Opened, Done, Worn, NoMemory, DeskAnswer, Does, Makes}
-use Rattle.session.specs.Talk.{Called, Nothing, IsSilent, TalksBy, greeting, before_last, entries_of_calls, entries_of_turn, entries_of_last}
+use Rattle.js_api.specs.Clients.{Client, new_client}
+use Rattle.js_api.specs.Calls.{Open, Close, Opened, Done, Worn, NoMemory, DeskAnswer, Does, Makes}
+use Rattle.session.specs.Calling.{Called, entries_of_calls}
+use Rattle.session.specs.Talk.{Nothing, IsSilent, TalksBy, greeting, before_last, entries_of_turn, entries_of_last}
 use Rattle.session.specs.Session.{Converses, Serves}
 use Rattle.session.specs.declared.ending.Limits.{Limits}
 use Rattle.session.specs.declared.ending.Ended.{Ended}

@@ -1,5 +1,5 @@
--- Laws of stops: an operation is refused for two causes alone, each of which has its error line.
-use Rattle.std.proofs.Common.{◌≡◌, ℕ, true, false, ◌&&◌, cond, codes, List, [], ◌∷◌, Option, Some, None, Err, refl, sym, subst, ◌∙◌}
+-- Laws of stops: an operation is refused for two causes alone, each of which has its error line, and a tick is not refused.
+use Rattle.std.proofs.Common.{◌≡◌, ℕ, true, false, ◌&&◌, cond, codes, List, [], ◌∷◌, Option, Some, None, Result, Ok, Err, IfErr, refl, sym, subst, ◌∙◌}
 use Rattle.std.proofs.lemmas.List.{append-nil}
 use Rattle.js_base.specs.Bytes.{Bytes}
 use Rattle.js_base.specs.Headers.{is_block}
@@ -7,13 +7,16 @@ use Rattle.js_base.specs.Subjects.{is_pattern_text, is_publish_text}
 use Rattle.js_base.specs.declared.out.Out.{Out}
 use Rattle.nats_frames.specs.declared.op.Op.{Op}
 use Rattle.nats_frames.specs.declared.op.Op.TheVariants.{Connect, Pub, HPub, Sub, Unsub, Ping, Pong}
-use Rattle.nats_frames.specs.Decoding.{Held, total, IsFront}
+use Rattle.nats_frames.specs.declared.op.FrameFault.{FrameFault}
+use Rattle.nats_frames.specs.Decoding.{Held, total, IsFront, IsRefused}
 use Rattle.js_api.specs.Desks.{DeskEntry}
+use Rattle.js_api.specs.Clients.{Client}
 use Rattle.js_api.specs.Calls.{Publish, Sub as Subscribe}
 use Rattle.session.specs.Connecting.{connect_options}
-use Rattle.session.specs.Peer.{Peer, Request, Calls, IsWrong, IsRefused as Refuses, request, connecting, publishing, message, is_reply}
+use Rattle.session.specs.Peer.{Act, Hears as Hearing, Ticks, Peer, Request, Calls, IsWrong, IsRefused as Refuses, op_request, request, connecting, publishing, message, is_reply}
+use Rattle.session.specs.Settling.{Gathers}
 use Rattle.session.specs.Carrying.{Carries}
-use Rattle.session.specs.Hearing.{Stops, IsHalted}
+use Rattle.session.specs.Hearing.{StopsAt, IsHalted}
 use Rattle.session.specs.Parting.{HasLine}
 use Rattle.session.specs.declared.connect.ConnectOptions.{ConnectOptions}
 use Rattle.session.specs.declared.ending.Ended.TheVariants as ends
@@ -43,7 +46,7 @@ own_publishing : (now : ℕ) (out : Out) → AreOwn (publishing now out)
 own_publishing now out =
     elim (is_publish_text out.to && is_reply out.reply) as (λ b. AreOwn (cond b (Calls (Publish out now)) (IsWrong (codes "Invalid Publish Subject")))) [ true ↦ tt | false ↦ tt ]
 
-own_request : (now : ℕ) (op : Op) → AreOwn (request now op)
+own_request : (now : ℕ) (op : Op) → AreOwn (op_request now op)
 own_request now (Connect text) = own_connecting (connect_options text)
 own_request now (Pub subject reply payload) = own_publishing now (message subject reply [] payload)
 own_request now (HPub subject reply headers payload) =
@@ -55,31 +58,42 @@ own_request now (Unsub sid max) = tt
 own_request now Ping = tt
 own_request now Pong = tt
 
-own_refusal : (now : ℕ) (op : Op) (refusal : Refusal) → request now op ≡ Refuses refusal → IsOwn refusal
-own_refusal now op refusal e = subst AreOwn e (own_request now op)
+own_act : (now : ℕ) (act : Act) → AreOwn (request now act)
+own_act now (Hearing op) = own_request now op
+own_act now Ticks = tt
+
+own_refusal : (now : ℕ) (act : Act) (refusal : Refusal) → request now act ≡ Refuses refusal → IsOwn refusal
+own_refusal now act refusal e = subst AreOwn e (own_act now act)
 
 -- the operation that was begun is refused
-pub stops_refused : (peer : Peer) (now : ℕ) (op : Op) (refusal : Refusal) (before : ℕ) (rest : Bytes) → request now op ≡ Refuses refusal
-    → Stops (ends.Refused refusal) peer now (op ∷ []) [] before rest []
-stops_refused peer now op (refusals.Frame fault) before rest e = absurd (own_refusal now op (refusals.Frame fault) e)
-stops_refused peer now op refusals.NumbersUsed before rest e = absurd (own_refusal now op refusals.NumbersUsed e)
+pub stops_refused : (peer : Peer) (now : ℕ) (op : Op) (refusal : Refusal) (before : ℕ) (rest : Bytes) → request now (Hearing op) ≡ Refuses refusal
+    → StopsAt (ends.Refused refusal) peer now (Hearing op ∷ []) [] before rest []
+stops_refused peer now op (refusals.Frame fault) before rest e = absurd (own_refusal now (Hearing op) (refusals.Frame fault) e)
+stops_refused peer now op refusals.NumbersUsed before rest e = absurd (own_refusal now (Hearing op) refusals.NumbersUsed e)
 stops_refused peer now op refusals.BadConnect before rest e = (op, refl, refl, e, refl)
 stops_refused peer now op refusals.BadHeaders before rest e = (op, refl, refl, e, refl)
 
--- an operation's stop has an error line, unless memory ran out
-pub carried_has_line : {D : Type 0} (made : D → List DeskEntry → D → Type 0) (now : ℕ) (peer : Peer) (old new : D) (out_old out_new : Bytes) (op : Op) (stop : Stop)
-    → Carries made peer now op old new out_old out_new (Err stop) → HasLine stop
-carried_has_line made now peer old new out_old out_new op (stops.Refused (refusals.Frame fault)) k = absurd (own_refusal now op (refusals.Frame fault) k.refused)
-carried_has_line made now peer old new out_old out_new op (stops.Refused refusals.NumbersUsed) k = absurd (own_refusal now op refusals.NumbersUsed k.refused)
-carried_has_line made now peer old new out_old out_new op (stops.Refused refusals.BadConnect) k = refl
-carried_has_line made now peer old new out_old out_new op (stops.Refused refusals.BadHeaders) k = refl
-carried_has_line made now peer old new out_old out_new op (stops.Slow size) k = tt
-carried_has_line made now peer old new out_old out_new op stops.NoMemory k = tt
+-- the stop of an operation or a tick has an error line, unless memory ran out
+pub carried_has_line : {D : Type 0} (made : D → List DeskEntry → D → Type 0) (now : ℕ) (peer : Peer) (old new : D) (out_old out_new : Bytes) (act : Act) (stop : Stop)
+    → Carries made peer now act old new out_old out_new (Err stop) → HasLine stop
+carried_has_line made now peer old new out_old out_new act (stops.Refused (refusals.Frame fault)) k = absurd (own_refusal now act (refusals.Frame fault) k.refused)
+carried_has_line made now peer old new out_old out_new act (stops.Refused refusals.NumbersUsed) k = absurd (own_refusal now act refusals.NumbersUsed k.refused)
+carried_has_line made now peer old new out_old out_new act (stops.Refused refusals.BadConnect) k = refl
+carried_has_line made now peer old new out_old out_new act (stops.Refused refusals.BadHeaders) k = refl
+carried_has_line made now peer old new out_old out_new act (stops.Slow size) k = tt
+carried_has_line made now peer old new out_old out_new act stops.NoMemory k = tt
+
+pub tick_has_line : {D : Type 0} (made : D → List DeskEntry → D → Type 0) (client : Client) (now : ℕ) (old new : D) (out_old out_new : Bytes) (result : Result (Unit {0}) Stop)
+    → Gathers made client now old new out_old out_new result → IfErr result HasLine
+tick_has_line made client now old new out_old out_new (Ok x) k = tt
+tick_has_line made client now old new out_old out_new (Err (stops.Refused refusal)) k = absurd k
+tick_has_line made client now old new out_old out_new (Err (stops.Slow size)) k = tt
+tick_has_line made client now old new out_old out_new (Err stops.NoMemory) k = tt
 
 -- ---- an operation that was not carried out whole
 
 pub halted_op : {D : Type 0} (made : D → List DeskEntry → D → Type 0) (now : ℕ) (peer : Peer) (old new : D) (held rest : Held) (out_old out_new : Bytes) (op : Op) (stop : Stop)
-    → IsFront op held.bytes rest.bytes → total rest ≡ total held → Carries made peer now op old new out_old out_new (Err stop)
+    → IsFront op held.bytes rest.bytes → total rest ≡ total held → Carries made peer now (Hearing op) old new out_old out_new (Err stop)
     → IsHalted stop made now peer old new held out_old out_new
 halted_op made now peer old new held rest out_old out_new op (stops.Refused refusal) f t k = record {
   begun = op ∷ [];
@@ -101,7 +115,7 @@ halted_op made now peer old new held rest out_old out_new op (stops.Slow size) f
   said = k.said;
   split = (f.front, rest.bytes, f.spelled, f.whole, refl);
   place = t;
-  stops = (op, refl, k.slowed);
+  stops = (Hearing op, refl, k.slowed);
   led = k.led;
   added = k.written;
 }
@@ -116,6 +130,22 @@ halted_op made now peer old new held rest out_old out_new op stops.NoMemory f t 
   stops = (k.are, refl);
   led = k.led;
   added = tt;
+}
+
+-- a fault of the input
+pub halted_fault : {D : Type 0} (made : D → List DeskEntry → D → Type 0) (now : ℕ) (peer : Peer) (old : D) (held : Held) (out : Bytes) (fault : FrameFault) → made old [] old
+    → IsRefused fault held.before held.bytes → IsHalted (stops.Refused (refusals.Frame fault)) made now peer old old held out out
+halted_fault made now peer old held out fault h r = record {
+  begun = [];
+  calls = [];
+  before = held.before;
+  rest = held.bytes;
+  said = [];
+  split = refl;
+  place = refl;
+  stops = (refl, refl, r, refl);
+  led = h;
+  added = sym (append-nil out);
 }
 
 -- memory ran out before the next operation was read

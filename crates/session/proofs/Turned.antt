@@ -1,5 +1,5 @@
 -- Laws of one turn.
-use Rattle.std.proofs.Common.{◌≡◌, ℕ, ◌+◌, ◌≤◌, true, ◌⊎◌, List, [], ◌∷◌, ◌++◌, length, Option, Some, unwrap_or, refl, sym, ap, subst, ◌∙◌, append_assoc, inl, inr, arith}
+use Rattle.std.proofs.Common.{◌≡◌, ℕ, ◌+◌, ◌≤◌, ◌⊎◌, List, [], ◌∷◌, ◌++◌, length, Option, Some, Result, Ok, Err, unwrap_or, refl, sym, ap, subst, ◌∙◌, append_assoc, inl, inr, arith}
 use Rattle.std.proofs.lemmas.List.{append-nil}
 use Rattle.js_base.specs.Bytes.{Bytes}
 use Rattle.js_base.specs.Framing.{frame}
@@ -8,16 +8,19 @@ use Rattle.link_edge.specs.Told.{grown}
 use Rattle.link_edge.specs.Moments.{ReadsMoment, ReadsMoments}
 use Rattle.link_edge.specs.declared.answers.Answer.{Answer}
 use Rattle.link_edge.specs.declared.answers.Answer.TheVariants as answers
-use Rattle.link_edge.proofs.Told.{grown-nil}
-use Rattle.nats_frames.specs.declared.op.Op.{Op}
-use Rattle.nats_frames.specs.Grammar.{Fronts}
+use Rattle.link_edge.proofs.Told.{grown-nil, grown_on}
+use Rattle.nats_frames.specs.declared.op.FrameFault.{FrameFault}
+use Rattle.nats_frames.specs.Decoding.{IsRefused}
 use Rattle.js_api.specs.Desks.{DeskEntry}
-use Rattle.session.specs.Keeping.{is_ping_due, pinged, ping_bytes}
-use Rattle.session.specs.Peer.{Peer}
-use Rattle.session.specs.Talk.{Spoken, Called, AreSpoken, Stage, start, Turn, Within, Waiting, Told, Nothing, IsUnspent, IsWithin, IsCause, Ends, EndsPinging, EndsBy, IsUnwritten, IsCutOff, last_line, is_due, greeting, ops_of, heard_bytes, peer_at_end}
-use Rattle.session.specs.Hearing.{IsHeard, IsCut, Stops}
-use Rattle.session.proofs.Heard.{front_of}
-use Rattle.session.specs.Turning.{IsTurn, IsLastTurn, IsKept, IsGivenUp, IsUnpinged}
+use Rattle.js_api.specs.Clients.{Client}
+use Rattle.session.specs.Calling.{Called}
+use Rattle.session.specs.Keeping.{pinged, ping_bytes}
+use Rattle.session.specs.Peer.{Act, Hears as Hearing, Peer}
+use Rattle.session.specs.Talk.{Spoken, AreSpoken, Stage, start, Turn, Within, Waiting, Told, Nothing, IsUnspent, IsWithin, IsCause, Ends, EndsPinging, EndsBy, IsUnwritten, IsCutOff, last_line, is_due, greeting, heard_bytes, heard_in, peer_in, pinged_peer, spoken_bytes, entries_of_spoken}
+use Rattle.session.specs.Ticking.{IsTicked, IsTickCut, Stops}
+use Rattle.session.specs.Hearing.{IsHeard, IsCut, StopsAt}
+use Rattle.session.proofs.Behind.{front_of, ends_behind}
+use Rattle.session.specs.Turning.{IsTurn, IsLastTurn, IsKept, IsGivenUp, IsUnpinged, IsRested, IsUnkept, IsUnticked, Rests, Turns}
 use Rattle.session.specs.declared.ending.Limits.{Limits}
 use Rattle.session.specs.declared.ending.Ended.{Ended}
 use Rattle.session.specs.declared.ending.Ended.TheVariants as ends
@@ -26,9 +29,118 @@ use Rattle.session.specs.declared.ending.Refusal.TheVariants as refusals
 abbrev piece_turn : Bytes → ℕ → List Spoken → Turn
 piece_turn piece now spoken = record { answer = answers.Piece piece; moment = now; spoken = spoken }
 
+abbrev quiet_turn : ℕ → List Spoken → Turn
+quiet_turn now spoken = record { answer = answers.Quiet; moment = now; spoken = spoken }
+
 -- one moment was read
 reads_one : (c c1 : Option (List ℕ)) (now : ℕ) → ReadsMoment c now c1 → ReadsMoments c (now ∷ []) c1
 reads_one c c1 now h = (h.first, h.rest)
+
+-- ---- the cause of an end within a turn
+
+module _ (limits : Limits) (session : ℕ) (old : Stage) (turn : Turn) where
+  none_begun : (begun : List Act) (rest : Bytes) (taken : ℕ) → begun ≡ [] → IsWithin limits old turn begun rest taken → IsWithin limits old turn [] rest taken
+  none_begun begun rest taken e w = subst (λ (acts : List Act). IsWithin limits old turn acts rest taken) e w
+
+  one_begun : (act : Act) (begun : List Act) (rest : Bytes) (taken : ℕ) → begun ≡ act ∷ [] → IsWithin limits old turn begun rest taken
+      → IsWithin limits old turn (act ∷ []) rest taken
+  one_begun act begun rest taken e w = subst (λ (acts : List Act). IsWithin limits old turn acts rest taken) e w
+
+  last-is : (begun acts : List Act) (calls made : List Called) → begun ≡ acts → calls ≡ made → Within turn begun calls ≡ Within turn acts made
+  last-is begun acts calls made e f = cc
+
+  no_more : (said : Bytes) → said ≡ [] → heard_in old turn ++ said ≡ heard_in old turn
+  no_more said e = ap (λ (bytes : Bytes). heard_in old turn ++ bytes) e ∙ append-nil (heard_in old turn)
+
+  -- what stops the turn is the cause of the session's end
+  stop_cause : (cause : Ended) (begun : List Act) (calls : List Called) (taken : ℕ) (rest said : Bytes) → IsWithin limits old turn begun rest taken
+      → Stops cause (peer_in old turn) turn.moment begun calls said
+      → IsCause limits (start session) old (greeting limits session) cause (Within turn begun calls) (heard_in old turn ++ said)
+  stop_cause ends.Closed begun calls taken rest said w h = absurd h
+  stop_cause (ends.Refused (refusals.Frame fault)) begun calls taken rest said w h = absurd h
+  stop_cause (ends.Refused refusals.NumbersUsed) begun calls taken rest said w h = absurd h
+  stop_cause (ends.Refused refusals.BadConnect) begun calls taken rest said w h = record {
+    turn = turn;
+    op = h.0;
+    rest = rest;
+    taken = taken;
+    last_is = last-is begun (Hearing h.0 ∷ []) calls [] h.1 h.2;
+    within = one_begun (Hearing h.0) begun rest taken h.1 w;
+    refused = h.3;
+    said_is = no_more said h.4;
+  }
+  stop_cause (ends.Refused refusals.BadHeaders) begun calls taken rest said w h = record {
+    turn = turn;
+    op = h.0;
+    rest = rest;
+    taken = taken;
+    last_is = last-is begun (Hearing h.0 ∷ []) calls [] h.1 h.2;
+    within = one_begun (Hearing h.0) begun rest taken h.1 w;
+    refused = h.3;
+    said_is = no_more said h.4;
+  }
+  stop_cause (ends.Slow size) begun calls taken rest said w h = record {
+    turn = turn;
+    act = h.0;
+    calls = calls;
+    rest = rest;
+    taken = taken;
+    more = said;
+    last_is = last-is begun (h.0 ∷ []) calls calls h.1 refl;
+    within = one_begun h.0 begun rest taken h.1 w;
+    slowed = h.2;
+    said_is = refl;
+  }
+  stop_cause ends.Stale begun calls taken rest said w h = absurd h
+  stop_cause ends.LinkFault begun calls taken rest said w h = inr (inr (inl (record {
+    turn = turn;
+    rest = rest;
+    taken = taken;
+    last_is = last-is begun [] calls [] h.0 h.1;
+    within = none_begun begun rest taken h.0 w;
+    said_is = no_more said h.2;
+  })))
+  stop_cause ends.InputLimit begun calls taken rest said w h = absurd h
+  stop_cause ends.NoMemory begun calls taken rest said w h = inr (inr (inl (record {
+    turn = turn;
+    begun = begun;
+    calls = calls;
+    rest = rest;
+    taken = taken;
+    last_is = refl;
+    within = w;
+    are_begun = h.0;
+    said_is = no_more said h.1;
+  })))
+
+  fault_cause : (fault : FrameFault) (begun : List Act) (calls : List Called) (before taken : ℕ) (rest said : Bytes) → IsWithin limits old turn begun rest taken
+      → before + length rest ≡ taken → begun ≡ [] → calls ≡ [] → IsRefused fault before rest → said ≡ []
+      → IsCause limits (start session) old (greeting limits session) (ends.Refused (refusals.Frame fault)) (Within turn begun calls) (heard_in old turn ++ said)
+  fault_cause fault begun calls before taken rest said w p e f h g = record {
+    turn = turn;
+    rest = rest;
+    taken = taken;
+    before = before;
+    last_is = last-is begun [] calls [] e f;
+    within = none_begun begun rest taken e w;
+    place = p;
+    refused = h;
+    said_is = no_more said g;
+  }
+
+  cut_cause : (cause : Ended) (begun : List Act) (calls : List Called) (before taken : ℕ) (rest said : Bytes) → IsWithin limits old turn begun rest taken
+      → before + length rest ≡ taken → StopsAt cause (peer_in old turn) turn.moment begun calls before rest said
+      → IsCause limits (start session) old (greeting limits session) cause (Within turn begun calls) (heard_in old turn ++ said)
+  cut_cause ends.Closed begun calls before taken rest said w p h = stop_cause ends.Closed begun calls taken rest said w h
+  cut_cause (ends.Refused (refusals.Frame fault)) begun calls before taken rest said w p h = fault_cause fault begun calls before taken rest said w p h.0 h.1 h.2 h.3
+  cut_cause (ends.Refused refusals.BadConnect) begun calls before taken rest said w p h = stop_cause (ends.Refused refusals.BadConnect) begun calls taken rest said w h
+  cut_cause (ends.Refused refusals.BadHeaders) begun calls before taken rest said w p h = stop_cause (ends.Refused refusals.BadHeaders) begun calls taken rest said w h
+  cut_cause (ends.Refused refusals.NumbersUsed) begun calls before taken rest said w p h = stop_cause (ends.Refused refusals.NumbersUsed) begun calls taken rest said w h
+  cut_cause (ends.Slow size) begun calls before taken rest said w p h = stop_cause (ends.Slow size) begun calls taken rest said w h
+  cut_cause ends.Stale begun calls before taken rest said w p h = stop_cause ends.Stale begun calls taken rest said w h
+  cut_cause ends.LinkFault begun calls before taken rest said w p h = stop_cause ends.LinkFault begun calls taken rest said w h
+  cut_cause ends.InputLimit begun calls before taken rest said w p h = stop_cause ends.InputLimit begun calls taken rest said w h
+  cut_cause ends.NoMemory begun calls before taken rest said w p h = stop_cause ends.NoMemory begun calls taken rest said w h
 
 -- ---- a piece
 
@@ -42,7 +154,18 @@ turned_heard made limits old peer now taken piece held d d1 a0 a1 a2 g0 g1 g2 c0
   said = heard_bytes old.peer now k.spoken;
   whole = record {
     unspent = unspent;
-    goes = record { are_spoken = k.are_spoken; split = k.split; idle = k.idle; taken = t; quiets = refl; peer = k.peer; came = refl; said_is = refl };
+    goes = record {
+      ops = k.ops;
+      are_spoken = k.are_spoken;
+      acts = k.acts;
+      split = k.split;
+      idle = k.idle;
+      taken = t;
+      quiets = refl;
+      peer = k.peer;
+      came = refl;
+      said_is = refl;
+    };
     fits = fits;
   };
   answered = same ∙ said;
@@ -51,114 +174,23 @@ turned_heard made limits old peer now taken piece held d d1 a0 a1 a2 g0 g1 g2 c0
   given = k.given ∙ ap (λ (o : Option Bytes). grown o (heard_bytes old.peer now k.spoken)) kept;
 }
 
--- ---- the session ends within a piece
-
-module _ (limits : Limits) (session : ℕ) (old : Stage) (unspent : IsUnspent limits old) (piece : Bytes) (fits : old.taken + length piece ≤ limits.input) (now : ℕ) (spoken : List Spoken)
-    (are : AreSpoken old.peer now spoken) where
-  abbrev heard : Bytes
-  heard = heard_bytes old.peer now spoken
-
-  is_within : (begun : List Op) (rest : Bytes) → Fronts (old.held ++ piece) (ops_of spoken ++ begun) rest → IsWithin limits old (piece_turn piece now spoken) begun piece rest
-  is_within begun rest f = record { unspent = unspent; answer_is = refl; fits = fits; are_spoken = are; split = f }
-
-  none_begun : (begun : List Op) (rest : Bytes) → begun ≡ [] → Fronts (old.held ++ piece) (ops_of spoken ++ begun) rest → IsWithin limits old (piece_turn piece now spoken) [] piece rest
-  none_begun begun rest e f = is_within [] rest (subst (λ (ops : List Op). Fronts (old.held ++ piece) (ops_of spoken ++ ops) rest) e f)
-
-  one_begun : (op : Op) (begun : List Op) (rest : Bytes) → begun ≡ op ∷ [] → Fronts (old.held ++ piece) (ops_of spoken ++ begun) rest
-      → IsWithin limits old (piece_turn piece now spoken) (op ∷ []) piece rest
-  one_begun op begun rest e f = is_within (op ∷ []) rest (subst (λ (ops : List Op). Fronts (old.held ++ piece) (ops_of spoken ++ ops) rest) e f)
-
-  last-is : (begun ops : List Op) (calls made : List Called) → begun ≡ ops → calls ≡ made → Within (piece_turn piece now spoken) begun calls ≡ Within (piece_turn piece now spoken) ops made
-  last-is begun ops calls made e f = cc
-
-  no_more : (said : Bytes) → said ≡ [] → heard ++ said ≡ heard
-  no_more said e = ap (λ (bytes : Bytes). heard ++ bytes) e ∙ append-nil heard
-
-  -- what stops the operations is the cause of the session's end
-  cut_cause : (cause : Ended) (begun : List Op) (calls : List Called) (before : ℕ) (rest said : Bytes) → Fronts (old.held ++ piece) (ops_of spoken ++ begun) rest
-      → before + length rest ≡ old.taken + length piece → Stops cause (peer_at_end old.peer spoken) now begun calls before rest said
-      → IsCause limits (start session) old (greeting limits session) cause (Within (piece_turn piece now spoken) begun calls) (heard ++ said)
-  cut_cause ends.Closed begun calls before rest said f p h = absurd h
-  cut_cause (ends.Refused (refusals.Frame fault)) begun calls before rest said f p h = record {
-    turn = piece_turn piece now spoken;
-    bytes = piece;
-    rest = rest;
-    before = before;
-    last_is = last-is begun [] calls [] h.0 h.1;
-    within = none_begun begun rest h.0 f;
-    place = p;
-    refused = h.2;
-    said_is = no_more said h.3;
-  }
-  cut_cause (ends.Refused refusals.NumbersUsed) begun calls before rest said f p h = absurd h
-  cut_cause (ends.Refused refusals.BadConnect) begun calls before rest said f p h = record {
-    turn = piece_turn piece now spoken;
-    op = h.0;
-    bytes = piece;
-    rest = rest;
-    last_is = last-is begun (h.0 ∷ []) calls [] h.1 h.2;
-    within = one_begun h.0 begun rest h.1 f;
-    refused = h.3;
-    said_is = no_more said h.4;
-  }
-  cut_cause (ends.Refused refusals.BadHeaders) begun calls before rest said f p h = record {
-    turn = piece_turn piece now spoken;
-    op = h.0;
-    bytes = piece;
-    rest = rest;
-    last_is = last-is begun (h.0 ∷ []) calls [] h.1 h.2;
-    within = one_begun h.0 begun rest h.1 f;
-    refused = h.3;
-    said_is = no_more said h.4;
-  }
-  cut_cause (ends.Slow size) begun calls before rest said f p h = record {
-    turn = piece_turn piece now spoken;
-    op = h.0;
-    calls = calls;
-    bytes = piece;
-    rest = rest;
-    more = said;
-    last_is = last-is begun (h.0 ∷ []) calls calls h.1 refl;
-    within = one_begun h.0 begun rest h.1 f;
-    slowed = h.2;
-    said_is = refl;
-  }
-  cut_cause ends.Stale begun calls before rest said f p h = absurd h
-  cut_cause ends.LinkFault begun calls before rest said f p h = inr (inr (inl (record {
-    turn = piece_turn piece now spoken;
-    bytes = piece;
-    rest = rest;
-    last_is = last-is begun [] calls [] h.0 h.1;
-    within = none_begun begun rest h.0 f;
-    said_is = no_more said h.2;
-  })))
-  cut_cause ends.InputLimit begun calls before rest said f p h = absurd h
-  cut_cause ends.NoMemory begun calls before rest said f p h = inr (inr (inl (record {
-    turn = piece_turn piece now spoken;
-    begun = begun;
-    calls = calls;
-    bytes = piece;
-    rest = rest;
-    last_is = refl;
-    within = is_within begun rest f;
-    are_begun = h.0;
-    said_is = no_more said h.1;
-  })))
-
+-- the session ends within it
 pub turned_cut : {D : Type 0} (made : D → List DeskEntry → D → Type 0) (limits : Limits) (session : ℕ) (old : Stage) (ended : Ended) (now all : ℕ) (piece : Bytes) (d d1 : D)
     (a0 a1 a2 : Option (List Answer)) (g0 g1 g2 : Option Bytes) (c0 c1 : Option (List ℕ)) → IsUnspent limits old → a1 ≡ grown a0 (answers.Piece piece ∷ []) → g1 ≡ g0
     → ReadsMoment c0 now c1 → IsCut ended made now old.peer d d1 (old.held ++ piece) all g1 g2 → a2 ≡ a1 → all ≡ old.taken + length piece
     → old.taken + length piece ≤ limits.input → IsLastTurn made limits session ended old d d1 a0 a2 g0 g2 c0 c1
 turned_cut made limits session old ended now all piece d d1 a0 a1 a2 g0 g1 g2 c0 c1 unspent said kept read k same t fits =
+    let turn = piece_turn piece now k.spoken in
     let heard = heard_bytes old.peer now k.spoken in
+    let within : IsWithin limits old turn k.begun k.rest (old.taken + length piece) = record { unspent = unspent; are_spoken = k.are_spoken; begins = (k.acts, refl, fits) } in
     record {
-      last = Within (piece_turn piece now k.spoken) k.begun k.calls;
+      last = Within turn k.begun k.calls;
       more = k.out;
       greeted = tt;
       ends = record {
         cause = k.cause;
         said = heard ++ k.said;
-        is_cause = cut_cause limits session old unspent piece fits now k.spoken k.are_spoken k.cause k.begun k.calls k.before k.rest k.said k.split (k.place ∙ t) k.stops;
+        is_cause = cut_cause limits session old turn k.cause k.begun k.calls k.before (old.taken + length piece) k.rest k.said within (k.place ∙ t) k.stops;
         ends_as = subst (EndsBy k.cause ended k.out) (sym (append_assoc heard k.said (last_line k.cause))) k.ends_by;
       };
       answered = same ∙ said;
@@ -170,53 +202,120 @@ turned_cut made limits session old ended now all piece d d1 a0 a1 a2 g0 g1 g2 c0
 -- ---- a quiet turn
 
 -- one Quiet more came in a row, and these PINGs are not answered
-abbrev quiet_stage : Stage → List ℕ → ℕ → Stage
-quiet_stage old pings came = record {
+abbrev quiet_stage : Stage → Client → List ℕ → ℕ → Stage
+quiet_stage old client pings came = record {
   held = old.held;
   taken = old.taken;
   quiets = old.quiets + 1;
-  peer = record { client = old.peer.client; verbose = old.peer.verbose; pings = pings };
+  peer = record { client = client; verbose = old.peer.verbose; pings = pings };
   came = Some came;
 }
 
-module _ {D : Type 0} (made : D → List DeskEntry → D → Type 0) (limits : Limits) (session : ℕ) (old : Stage) (came now : ℕ) (d : D) (a0 a1 a2 : Option (List Answer)) (g0 g1 g2 : Option Bytes)
-    (c0 c1 : Option (List ℕ)) (said : a1 ≡ grown a0 (answers.Quiet ∷ [])) (kept : g1 ≡ g0) (read : ReadsMoment c0 now c1) (same : a2 ≡ a1) (nothing_led : made d [] d) where
-  -- the client is there, or has time yet
-  pub turned_kept : (pings : List ℕ) → IsUnspent limits old → came ≡ unwrap_or old.came now → IsKept came now old.peer.pings pings g1 g2
-      → IsTurn made limits old (quiet_stage old pings came) d d a0 a2 g0 g2 c0 c1
-  turned_kept pings unspent e k =
-      let k1 = subst (λ (n : ℕ). IsKept n now old.peer.pings pings g1 g2) e k in
-      let after = ap (λ (ps : List ℕ). quiet_stage old ps came) k1.pings ∙ ap (λ (n : ℕ). quiet_stage old (pinged (is_due old now) old.peer.pings now) n) e in
+module _ {D : Type 0} (made : D → List DeskEntry → D → Type 0) (now : ℕ) (old : Stage) (d d1 : D) (g0 g1 g2 : Option Bytes) where
+  -- the client was kept, and the tick was carried out
+  pub rested : (client : Client) (pings : List ℕ) (came : ℕ) → client ≡ old.peer.client → came ≡ unwrap_or old.came now → IsKept came now old.peer.pings pings g0 g1
+      → IsTicked made (record { client = old.peer.client; verbose = old.peer.verbose; pings = pings }) now d d1 [] g1 g2
+      → IsRested made now old (quiet_stage old client pings came) d d1 g0 g2
+  rested client pings came same e k t =
+      let k1 = subst (λ (n : ℕ). IsKept n now old.peer.pings pings g0 g1) e k in
+      let peer = pinged_peer old now in
+      let due = is_due old now in
+      let after = ap (λ (c : Client). quiet_stage old c pings came) same ∙ ap (λ (ps : List ℕ). quiet_stage old old.peer.client ps came) k1.pings
+      ∙ ap (λ (n : ℕ). quiet_stage old old.peer.client (pinged due old.peer.pings now) n) e in
+      let t1 = subst (λ (ps : List ℕ). IsTicked made (record { client = old.peer.client; verbose = old.peer.verbose; pings = ps }) now d d1 [] g1 g2) k1.pings t in
+      let heard = heard_bytes peer now (t1.spoken ∷ []) in
       record {
-        turn = record { answer = answers.Quiet; moment = now; spoken = [] };
-        said = ping_bytes (is_due old now);
-        whole = record {
-          unspent = unspent;
-          goes = record { nothing = refl; alive = k1.alive; after = after; said_is = refl };
-          fits = omega (arith, unspent.input);
-        };
-        answered = same ∙ said;
-        moment = read;
-        led = nothing_led;
-        given = k1.given ∙ ap (λ (o : Option Bytes). grown o (ping_bytes (is_due old now))) kept;
+        spoken = t1.spoken ∷ [];
+        said = ping_bytes due ++ heard;
+        waits = record { alive = k1.alive; are_spoken = (t1.is_spoken, tt); acts = ap (λ (act : Act). act ∷ []) t1.act_is; after = after; said_is = refl };
+        led = subst (λ (es : List DeskEntry). made d es d1) (sym (append-nil (entries_of_spoken t1.spoken))) t1.led;
+        given = grown_on g0 g1 g2 (ping_bytes due) heard k1.given (t1.given ∙ ap (grown g1) (sym (append-nil (spoken_bytes peer now t1.spoken))));
       }
 
-  waiting_end : (ended : Ended) (more : Bytes) → Ends limits (start session) old (greeting limits session) (Waiting now) ended more → g2 ≡ grown g1 more
-      → IsLastTurn made limits session ended old d d a0 a2 g0 g2 c0 c1
-  waiting_end ended more e k = record {
+  -- the client was kept, and the session ended within the tick or behind it
+  pub unticked : (pings : List ℕ) (came : ℕ) (ended : Ended) → came ≡ unwrap_or old.came now → IsKept came now old.peer.pings pings g0 g1
+      → IsTickCut ended made (record { client = old.peer.client; verbose = old.peer.verbose; pings = pings }) now d d1 [] g1 g2
+      → IsUnticked ended made now old d d1 g0 g2
+  unticked pings came ended e k t =
+      let k1 = subst (λ (n : ℕ). IsKept n now old.peer.pings pings g0 g1) e k in
+      record {
+        alive = k1.alive;
+        mid = g1;
+        pinged = k1.given;
+        cut = subst (λ (ps : List ℕ). IsTickCut ended made (record { client = old.peer.client; verbose = old.peer.verbose; pings = ps }) now d d1 [] g1 g2) k1.pings t;
+      }
+
+-- the session ended before the tick
+pub unkept : {D : Type 0} (made : D → List DeskEntry → D → Type 0) (now : ℕ) (old : Stage) (d : D) (g0 g1 : Option Bytes) (came : ℕ) (ended : Ended) → made d [] d
+    → came ≡ unwrap_or old.came now → IsGivenUp ended now old.peer.pings g0 g1 ⊎ IsUnpinged ended came now old.peer.pings g0 g1 → IsUnkept ended made now old d d g0 g1
+unkept made now old d g0 g1 came ended h e k = record {
+  led = h;
+  ends = subst (λ (n : ℕ). IsGivenUp ended now old.peer.pings g0 g1 ⊎ IsUnpinged ended n now old.peer.pings g0 g1) e k;
+}
+
+module _ {D : Type 0} (made : D → List DeskEntry → D → Type 0) (limits : Limits) (session : ℕ) (old : Stage) (now : ℕ) (d d1 : D) (a0 a1 a2 : Option (List Answer)) (g0 g1 g2 : Option Bytes)
+    (c0 c1 : Option (List ℕ)) (unspent : IsUnspent limits old) (said : a1 ≡ grown a0 (answers.Quiet ∷ [])) (kept : g1 ≡ g0) (read : ReadsMoment c0 now c1) (same : a2 ≡ a1) where
+  -- the turn is whole
+  turned_rested : (new : Stage) → IsRested made now old new d d1 g1 g2 → IsTurn made limits old new d d1 a0 a2 g0 g2 c0 c1
+  turned_rested new k = record {
+    turn = quiet_turn now k.spoken;
+    said = k.said;
+    whole = record { unspent = unspent; goes = k.waits; fits = fits };
+    answered = same ∙ said;
+    moment = read;
+    led = k.led;
+    given = k.given ∙ ap (λ (o : Option Bytes). grown o k.said) kept;
+  }
+    where
+      taken : new.taken ≡ old.taken
+      taken = ap (λ (s : Stage). s.taken) k.waits.after
+
+      fits : new.taken ≤ limits.input
+      fits = omega (arith, taken, unspent.input)
+
+  -- the session ended within the tick or behind it
+  unticked_end : (ended : Ended) → IsUnticked ended made now old d d1 g1 g2 → IsLastTurn made limits session ended old d d1 a0 a2 g0 g2 c0 c1
+  unticked_end ended k =
+      let t = k.cut in
+      let turn = quiet_turn now t.spoken in
+      let ping = ping_bytes (is_due old now) in
+      let heard = heard_bytes (pinged_peer old now) now t.spoken in
+      let line = last_line t.cause in
+      let within : IsWithin limits old turn t.begun old.held old.taken = record { unspent = unspent; are_spoken = t.are_spoken; begins = (refl, refl, k.alive, inr t.acts) } in
+      let whole : ping ++ (heard ++ (t.said ++ line)) ≡ ((ping ++ heard) ++ t.said) ++ line =
+      sym (append_assoc ping heard (t.said ++ line)) ∙ sym (append_assoc (ping ++ heard) t.said line) in
+      record {
+        last = Within turn t.begun t.calls;
+        more = ping ++ t.out;
+        greeted = tt;
+        ends = record {
+          cause = t.cause;
+          said = (ping ++ heard) ++ t.said;
+          is_cause = stop_cause limits session old turn t.cause t.begun t.calls old.taken old.held t.said within t.stops;
+          ends_as = subst (EndsBy t.cause ended (ping ++ t.out)) whole (ends_behind t.cause ended ping t.out (heard ++ (t.said ++ line)) t.ends_by);
+        };
+        answered = same ∙ said;
+        moments = reads_one c0 c1 now read;
+        led = t.led;
+        given = grown_on g1 k.mid g2 ping t.out k.pinged t.given ∙ ap (λ (o : Option Bytes). grown o (ping ++ t.out)) kept;
+      }
+
+  waiting_end : (ended : Ended) (more : Bytes) → made d [] d1 → Ends limits (start session) old (greeting limits session) (Waiting now) ended more → g2 ≡ grown g1 more
+      → IsLastTurn made limits session ended old d d1 a0 a2 g0 g2 c0 c1
+  waiting_end ended more h e k = record {
     last = Waiting now;
     more = more;
     greeted = tt;
     ends = e;
     answered = same ∙ said;
     moments = reads_one c0 c1 now read;
-    led = nothing_led;
+    led = h;
     given = k ∙ ap (λ (o : Option Bytes). grown o more) kept;
   }
 
-  given_up : (ended : Ended) → IsUnspent limits old → IsGivenUp ended now old.peer.pings g1 g2 → IsLastTurn made limits session ended old d d a0 a2 g0 g2 c0 c1
-  given_up ended unspent k =
-      waiting_end ended k.parts.out
+  given_up : (ended : Ended) → made d [] d1 → IsGivenUp ended now old.peer.pings g1 g2 → IsLastTurn made limits session ended old d d1 a0 a2 g0 g2 c0 c1
+  given_up ended h k =
+      waiting_end ended k.parts.out h
       (record {
         cause = ends.Stale;
         said = [];
@@ -226,48 +325,48 @@ module _ {D : Type 0} (made : D → List DeskEntry → D → Type 0) (limits : L
       k.parts.given
 
   -- the PING that is due is the last that was said
-  pinging : IsUnspent limits old → came ≡ unwrap_or old.came now → (ended : Ended) → IsUnpinged ended came now old.peer.pings g1 g2 → EndsPinging limits old (Waiting now) (frame Ping)
-  pinging unspent e ended k = record {
-    moment = now;
-    last_is = refl;
-    unspent = unspent;
-    alive = k.alive;
-    due = subst (λ (n : ℕ). is_ping_due n old.peer.pings now ≡ true) e k.due;
-    said_is = refl;
-  }
+  pinging : (ended : Ended) → IsUnpinged ended (unwrap_or old.came now) now old.peer.pings g1 g2 → EndsPinging limits old (Waiting now) (frame Ping)
+  pinging ended k = record { moment = now; last_is = refl; unspent = unspent; alive = k.alive; due = k.due; said_is = refl }
 
-  whole : frame Ping ≡ frame Ping ++ []
-  whole = sym (append-nil (frame Ping))
-
-  unpinged : (ended : Ended) → IsUnspent limits old → came ≡ unwrap_or old.came now → IsUnpinged ended came now old.peer.pings g1 g2
-      → IsLastTurn made limits session ended old d d a0 a2 g0 g2 c0 c1
-  unpinged ended unspent e k = go k.unwritten
+  unpinged : (ended : Ended) → made d [] d1 → IsUnpinged ended (unwrap_or old.came now) now old.peer.pings g1 g2 → IsLastTurn made limits session ended old d d1 a0 a2 g0 g2 c0 c1
+  unpinged ended h k = go k.unwritten
     where
       cut : IsCutOff k.given.0 (frame Ping ++ [])
-      cut = subst (IsCutOff k.given.0) whole k.given.1
+      cut = subst (IsCutOff k.given.0) (sym (append-nil (frame Ping))) k.given.1
 
       failed : Ends limits (start session) old (greeting limits session) (Waiting now) ends.LinkFault k.given.0
-      failed = record { cause = ends.LinkFault; said = frame Ping; is_cause = inr (inr (inr (pinging unspent e ended k))); ends_as = inl (refl, cut) }
+      failed = record { cause = ends.LinkFault; said = frame Ping; is_cause = inr (inr (inr (pinging ended k))); ends_as = inl (refl, cut) }
 
       starved : Ends limits (start session) old (greeting limits session) (Waiting now) ends.NoMemory k.given.0
       starved = record {
         cause = ends.NoMemory;
         said = frame Ping;
-        is_cause = inr (inr (inr (pinging unspent e ended k)));
+        is_cause = inr (inr (inr (pinging ended k)));
         ends_as = inl (refl, front_of k.given.0 (frame Ping ++ []) cut);
       }
 
-      ending : (x : Ended) → ended ≡ x → Ends limits (start session) old (greeting limits session) (Waiting now) x k.given.0 → IsLastTurn made limits session ended old d d a0 a2 g0 g2 c0 c1
-      ending x f w = waiting_end ended k.given.0 (subst (λ (y : Ended). Ends limits (start session) old (greeting limits session) (Waiting now) y k.given.0) (sym f) w) k.given.2
+      ending : (x : Ended) → ended ≡ x → Ends limits (start session) old (greeting limits session) (Waiting now) x k.given.0 → IsLastTurn made limits session ended old d d1 a0 a2 g0 g2 c0 c1
+      ending x f w = waiting_end ended k.given.0 h (subst (λ (y : Ended). Ends limits (start session) old (greeting limits session) (Waiting now) y k.given.0) (sym f) w) k.given.2
 
-      go : IsUnwritten ended → IsLastTurn made limits session ended old d d a0 a2 g0 g2 c0 c1
+      go : IsUnwritten ended → IsLastTurn made limits session ended old d d1 a0 a2 g0 g2 c0 c1
       go (inl f) = ending ends.LinkFault f failed
       go (inr f) = ending ends.NoMemory f starved
 
-  pub turned_alone : (ended : Ended) → IsUnspent limits old → came ≡ unwrap_or old.came now
-      → IsGivenUp ended now old.peer.pings g1 g2 ⊎ IsUnpinged ended came now old.peer.pings g1 g2 → IsLastTurn made limits session ended old d d a0 a2 g0 g2 c0 c1
-  turned_alone ended unspent e (inl k) = given_up ended unspent k
-  turned_alone ended unspent e (inr k) = unpinged ended unspent e k
+  unkept_end : (ended : Ended) → made d [] d1 → IsGivenUp ended now old.peer.pings g1 g2 ⊎ IsUnpinged ended (unwrap_or old.came now) now old.peer.pings g1 g2
+      → IsLastTurn made limits session ended old d d1 a0 a2 g0 g2 c0 c1
+  unkept_end ended h (inl k) = given_up ended h k
+  unkept_end ended h (inr k) = unpinged ended h k
+
+  -- the session ended in it
+  unrested_end : (ended : Ended) → IsUnkept ended made now old d d1 g1 g2 ⊎ IsUnticked ended made now old d d1 g1 g2
+      → IsLastTurn made limits session ended old d d1 a0 a2 g0 g2 c0 c1
+  unrested_end ended (inl k) = unkept_end ended k.led k.ends
+  unrested_end ended (inr k) = unticked_end ended k
+
+  pub turned_quiet : (result : Result (Unit {0}) Ended) (new : Stage) → Rests result made now old new d d1 g1 g2
+      → Turns result made limits session old new d d1 a0 a2 g0 g2 c0 c1
+  turned_quiet (Ok x) new k = turned_rested new k
+  turned_quiet (Err ended) new k = unrested_end ended k
 
 -- ---- the link's own ends
 

@@ -1,14 +1,17 @@
--- What an operation's own desk call made of the desk, and which bytes were added for it.
+-- What the own desk call of an operation or a tick made of the desk, and which bytes were added for it.
 use Rattle.std.specs.Prelude.{◌≡◌, ◌+◌, ◌≤◌, ℕ, Bool, IsTrue, List, [], ◌∷◌, ◌++◌, length, Option, Some, None, Result, Ok, Err}
 use Rattle.js_base.specs.Bytes.{Bytes}
 use Rattle.js_base.specs.declared.out.Out.{Out}
 use Rattle.js_json.specs.declared.fault.JsonFault.{JsonFault}
 use Rattle.js_json.specs.declared.fault.JsonFault.TheVariants.{NoMemory as OutOfMemory}
 use Rattle.js_api.specs.Desks.{DeskEntry}
-use Rattle.js_api.specs.Calls.{Client, NoMemory, is_headers}
+use Rattle.js_api.specs.Clients.{Client}
+use Rattle.js_api.specs.Publishing.{is_headers}
+use Rattle.js_api.specs.Calls.{NoMemory}
 use Rattle.session.specs.Peer.{Request, Calls, CallsNothing, IsWrong, IsRefused as Refuses, error_line}
-use Rattle.session.specs.Talk.{Called, IsMade, AreAsked, all_called_bytes, entries_of_calls}
-use Rattle.session.specs.Carrying.{Led}
+use Rattle.session.specs.Calling.{Called, IsMade, entries_of_calls}
+use Rattle.session.specs.Leading.{Led}
+use Rattle.session.specs.Talk.{AreAsked, all_called_bytes}
 use Rattle.session.specs.declared.connect.ConnectOptions.{ConnectOptions}
 use Rattle.session.specs.declared.ending.Refusal.{Refusal}
 use Rattle.session.specs.declared.ending.Refusal.TheVariants.{BadConnect}

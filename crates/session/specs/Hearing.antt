@@ -7,9 +7,11 @@ use Rattle.nats_frames.specs.Decoding.{Held, total, IsFront, IsRefused}
 use Rattle.nats_frames.specs.Grammar.{Fronts}
 use Rattle.nats_frames.specs.Reading.{op_at, Partial}
 use Rattle.js_api.specs.Desks.{DeskEntry}
-use Rattle.session.specs.Peer.{Peer, peer_after, request, IsRefused as Refuses}
-use Rattle.session.specs.Talk.{Spoken, Called, AreSpoken, AreBegun, IsSlowed, EndsBy, last_line, ops_of, heard_bytes, peer_at_end, entries_of_all, entries_of_calls}
+use Rattle.session.specs.Calling.{Called, entries_of_calls}
+use Rattle.session.specs.Peer.{Act, Hears as Hearing, Ticks, Peer, peer_after}
+use Rattle.session.specs.Talk.{Spoken, AreSpoken, AreActs, EndsBy, acts_of, hearings, last_line, heard_bytes, peer_at_end, entries_of_all}
 use Rattle.session.specs.Carrying.{IsCarried}
+use Rattle.session.specs.Ticking.{Stops}
 use Rattle.session.specs.Parting.{cause_of}
 use Rattle.session.specs.declared.ending.Ended.{Ended}
 use Rattle.session.specs.declared.ending.Ended.TheVariants as ends
@@ -17,17 +19,10 @@ use Rattle.session.specs.declared.ending.Refusal.TheVariants as refusals
 use Rattle.session.specs.declared.stop.Stop.{Stop}
 use Rattle.session.specs.declared.stop.Stop.TheVariants as stops
 
--- why no more are carried out behind those that were: what stands behind them, the operation that was begun, its calls, and what it said;
--- of an input of which so many bytes stood before the rest
-abbrev pub Stops : Ended → Peer → ℕ → List Op → List Called → ℕ → Bytes → Bytes → Type 0
-Stops (ends.Refused (refusals.Frame fault)) peer now begun calls before rest said = (begun ≡ []) × (calls ≡ []) × IsRefused fault before rest × (said ≡ [])
-Stops (ends.Refused refusals.NumbersUsed) peer now begun calls before rest said = ⊥
-Stops (ends.Refused refusal) peer now begun calls before rest said =
-    (op : Op) × (begun ≡ op ∷ []) × (calls ≡ []) × (request now op ≡ Refuses refusal) × (said ≡ [])
-Stops (ends.Slow size) peer now begun calls before rest said = (op : Op) × (begun ≡ op ∷ []) × IsSlowed peer now op size calls said
-Stops ends.LinkFault peer now begun calls before rest said = (begun ≡ []) × (calls ≡ []) × (said ≡ [])
-Stops ends.NoMemory peer now begun calls before rest said = AreBegun peer now begun calls × (said ≡ [])
-Stops _ peer now begun calls before rest said = ⊥
+-- why no more is carried out of an input of which so many bytes stood before the rest: a fault stands there, or the turn stops
+abbrev pub StopsAt : Ended → Peer → ℕ → List Act → List Called → ℕ → Bytes → Bytes → Type 0
+StopsAt (ends.Refused (refusals.Frame fault)) peer now begun calls before rest said = (begun ≡ []) × (calls ≡ []) × IsRefused fault before rest × (said ≡ [])
+StopsAt cause peer now begun calls before rest said = Stops cause peer now begun calls said
 
 -- ---- one operation
 
@@ -35,8 +30,8 @@ Stops _ peer now begun calls before rest said = ⊥
 pub record IsNext {D : Type 0} (made : D → List DeskEntry → D → Type 0) (now : ℕ) (peer_old peer_new : Peer) (old new : D) (held_old held_new : Held) (out_old out_new : Bytes) : Type 0 where
   pub op : Op
   pub front : IsFront op held_old.bytes held_new.bytes
-  pub carried : IsCarried made peer_old now op old new out_old out_new
-  pub peer : peer_new ≡ peer_after peer_old op
+  pub carried : IsCarried made peer_old now (Hearing op) old new out_old out_new
+  pub peer : peer_new ≡ peer_after peer_old (Hearing op)
 
 -- no whole operation stands at the front, and nothing was done
 pub record IsIdle {D : Type 0} (peer_old peer_new : Peer) (old new : D) (held_old held_new : Held) (out_old out_new : Bytes) : Type 0 where
@@ -60,7 +55,7 @@ pub record IsHalted {D : Type 0} (stop : Stop) (made : D → List DeskEntry → 
   pub said : Bytes
   pub split : Fronts held.bytes begun rest
   pub place : before + length rest ≡ total held
-  pub stops : Stops (cause_of stop) peer now begun calls before rest said
+  pub stops : StopsAt (cause_of stop) peer now (hearings begun) calls before rest said
   pub led : made old (entries_of_calls calls) new
   pub added : IsAdded stop out_new (out_old ++ said)
 
@@ -74,20 +69,23 @@ CarriesNext (Err stop) made now peer_old peer_new old new held_old held_new out_
 
 -- ---- a piece
 
--- all operations that are whole were carried out, and their bytes were given
+-- all operations that are whole were carried out, and then the tick, and their bytes were given
 pub record IsHeard {D : Type 0} (made : D → List DeskEntry → D → Type 0) (now : ℕ) (peer_old peer_new : Peer) (old new : D) (bytes rest : Bytes) (given_old given_new : Option Bytes) : Type 0 where
+  pub ops : List Op
   pub spoken : List Spoken
   pub are_spoken : AreSpoken peer_old now spoken
-  pub split : Fronts bytes (ops_of spoken) rest
+  pub acts : acts_of spoken ≡ hearings ops ++ Ticks ∷ []
+  pub split : Fronts bytes ops rest
   pub idle : op_at rest ≡ Partial
   pub peer : peer_new ≡ peer_at_end peer_old spoken
   pub led : made old (entries_of_all spoken) new
   pub given : given_new ≡ grown given_old (heard_bytes peer_old now spoken)
 
--- some operations were carried out, and then the session ended: all was given, or a front of it where the giving failed or memory ran out
+-- some operations were carried out, and maybe the tick, and then the session ended: all was given, or a front of it where the giving failed or
+-- memory ran out
 pub record IsCut {D : Type 0} (ended : Ended) (made : D → List DeskEntry → D → Type 0) (now : ℕ) (peer : Peer) (old new : D) (bytes : Bytes) (total : ℕ) (given_old given_new : Option Bytes) : Type 0 where
   pub spoken : List Spoken
-  pub begun : List Op
+  pub begun : List Act
   pub calls : List Called
   pub before : ℕ
   pub rest : Bytes
@@ -95,9 +93,9 @@ pub record IsCut {D : Type 0} (ended : Ended) (made : D → List DeskEntry → D
   pub said : Bytes
   pub out : Bytes
   pub are_spoken : AreSpoken peer now spoken
-  pub split : Fronts bytes (ops_of spoken ++ begun) rest
+  pub acts : AreActs bytes (acts_of spoken ++ begun) rest
   pub place : before + length rest ≡ total
-  pub stops : Stops cause (peer_at_end peer spoken) now begun calls before rest said
+  pub stops : StopsAt cause (peer_at_end peer spoken) now begun calls before rest said
   pub led : made old (entries_of_all spoken ++ entries_of_calls calls) new
   pub ends_by : EndsBy cause ended out (heard_bytes peer now spoken ++ (said ++ last_line cause))
   pub given : given_new ≡ grown given_old out

@@ -2,6 +2,9 @@ pub mod Connecting
 pub mod Host
 pub mod Keeping
 pub mod Peer
+pub mod Calling
+pub mod Gathering
+pub mod Leading
 pub mod Talk
 pub mod Manners
 pub mod Giving
@@ -9,6 +12,8 @@ pub mod Parting
 pub mod Carrying
 pub mod Asking
 pub mod Collecting
+pub mod Settling
 pub mod Hearing
+pub mod Ticking
 pub mod Turning
 pub mod Session

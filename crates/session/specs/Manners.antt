@@ -1,6 +1,6 @@
 -- How the session's own part of what it knows of its client stands for the whole.
 use Rattle.std.specs.Prelude.{ℕ, List, [], ◌∷◌}
-use Rattle.js_api.specs.Calls.{Client}
+use Rattle.js_api.specs.Clients.{Client}
 use Rattle.session.specs.Peer.{Peer}
 use Rattle.session.specs.declared.manners.Manners.{Manners}
 use Rattle.session.specs.declared.manners.Pings.{Pings}

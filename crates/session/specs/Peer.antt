@@ -1,4 +1,4 @@
--- What a session knows of its client, what an operation asks of the desk, and how it is answered, by the NATS client protocol.
+-- What a session knows of its client, what an operation or a tick asks of the desk, and how it is answered, by the NATS client protocol.
 use Rattle.std.specs.Prelude.{ℕ, ◌≡◌, Bool, true, false, ◌&&◌, List, [], ◌∷◌, codes, if◌then◌else◌, Option, Some, None}
 use Rattle.js_base.specs.Bytes.{Bytes}
 use Rattle.js_base.specs.Headers.{is_block}
@@ -8,6 +8,7 @@ use Rattle.js_base.specs.declared.out.Out.{Out}
 use Rattle.js_base.specs.declared.frame.Frame.TheVariants.{Pong as Answer, Ok as Fine, Err as Error}
 use Rattle.nats_frames.specs.declared.op.Op.{Op}
 use Rattle.nats_frames.specs.declared.op.Op.TheVariants.{Connect, Pub, HPub, Sub, Unsub, Ping, Pong}
+use Rattle.js_api.specs.Clients as clients
 use Rattle.js_api.specs.Calls as desk
 use Rattle.session.specs.Connecting.{connect_options}
 use Rattle.session.specs.declared.connect.ConnectOptions.{ConnectOptions}
@@ -16,15 +17,20 @@ use Rattle.session.specs.declared.ending.Refusal.TheVariants.{BadConnect, BadHea
 
 -- the client as the desk has it, whether its operations are answered by `+OK`, and the moments of the PINGs that it has not answered
 pub record Peer : Type 0 where
-  pub client : desk.Client
+  pub client : clients.Client
   pub verbose : Bool
   pub pings : List ℕ
 
 -- before the first CONNECT each operation is answered
 abbrev pub new_peer : ℕ → Peer
-new_peer session = record { client = desk.new_client session; verbose = true; pings = [] }
+new_peer session = record { client = clients.new_client session; verbose = true; pings = [] }
 
--- ---- what an operation asks
+-- ---- what an operation and a tick ask
+
+-- what a session carries out in its turn: operations, and then one tick
+pub data Act : Type 0 where
+  Hears : Op → Act
+  Ticks : Act
 
 -- a call of the desk, or none; an error line that leaves the connection open; or the end of the session
 pub data Request : Type 0 where
@@ -53,26 +59,34 @@ abbrev pub subscribing : Bytes → Option Bytes → Bytes → Request
 subscribing subject queue sid = if is_pattern_text subject then Calls (desk.Sub subject queue sid) else IsWrong (codes "Invalid Subject")
 
 -- what an operation asks at a moment. A header block is looked at before the subject
-abbrev pub request : ℕ → Op → Request
-request now (Connect text) = connecting (connect_options text)
-request now (Pub subject reply payload) = publishing now (message subject reply [] payload)
-request now (HPub subject reply headers payload) = if is_block headers then publishing now (message subject reply headers payload) else IsRefused BadHeaders
-request now (Sub subject queue sid) = subscribing subject queue sid
-request now (Unsub sid max) = Calls (desk.Unsub sid max)
-request now Ping = CallsNothing
-request now Pong = CallsNothing
+abbrev pub op_request : ℕ → Op → Request
+op_request now (Connect text) = connecting (connect_options text)
+op_request now (Pub subject reply payload) = publishing now (message subject reply [] payload)
+op_request now (HPub subject reply headers payload) = if is_block headers then publishing now (message subject reply headers payload) else IsRefused BadHeaders
+op_request now (Sub subject queue sid) = subscribing subject queue sid
+op_request now (Unsub sid max) = Calls (desk.Unsub sid max)
+op_request now Ping = CallsNothing
+op_request now Pong = CallsNothing
+
+abbrev pub request : ℕ → Act → Request
+request now (Hears op) = op_request now op
+request now Ticks = Calls (desk.Tick now)
 
 -- ---- the client after an operation
 
 abbrev pub connected : Peer → Option ConnectOptions → Peer
 connected peer None = peer
 connected peer (Some options) =
-    record peer { client = desk.with_options peer.client options.headers options.no_responders; verbose = options.verbose }
+    record peer { client = clients.with_options peer.client options.headers options.no_responders; verbose = options.verbose }
 
-abbrev pub peer_after : Peer → Op → Peer
-peer_after peer (Connect text) = connected peer (connect_options text)
-peer_after peer Pong = record peer { pings = [] }
-peer_after peer _ = peer
+abbrev pub peer_after_op : Peer → Op → Peer
+peer_after_op peer (Connect text) = connected peer (connect_options text)
+peer_after_op peer Pong = record peer { pings = [] }
+peer_after_op peer _ = peer
+
+abbrev pub peer_after : Peer → Act → Peer
+peer_after peer (Hears op) = peer_after_op peer op
+peer_after peer Ticks = peer
 
 -- ---- how it is answered
 

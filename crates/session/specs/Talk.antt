@@ -1,9 +1,9 @@
--- What a session says for what it hears: the turns of a connection, the operations in each, the desk calls of each operation, and the bytes.
+-- What a session says for what it hears: the turns of a connection, the operations in each and the tick that ends it, the desk calls of each of
+-- them, and the bytes.
 use Rattle.std.specs.Prelude.{◌≡◌, ℕ, ◌+◌, ◌<◌, ◌≤◌, Bool, true, false, ◌⊎◌, List, [], ◌∷◌, ◌++◌, length, map, Option, Some, None, is_some, unwrap_or, codes}
 use Rattle.std.specs.List.{flat_map}
 use Rattle.js_base.specs.Bytes.{Bytes}
 use Rattle.js_base.specs.Framing.{frame}
-use Rattle.js_base.specs.declared.frame.Frame.{Frame}
 use Rattle.js_base.specs.declared.frame.Frame.TheVariants.{Info}
 use Rattle.link_edge.specs.declared.answers.Answer.{Answer}
 use Rattle.link_edge.specs.declared.answers.Answer.TheVariants as answers
@@ -14,8 +14,11 @@ use Rattle.nats_frames.specs.Decoding.{IsRefused}
 use Rattle.nats_frames.specs.Grammar.{Fronts}
 use Rattle.nats_frames.specs.Reading.{op_at, Partial}
 use Rattle.js_api.specs.Desks.{DeskEntry}
-use Rattle.js_api.specs.Calls.{Client, new_client, DeskCall, Open, Collect, Close, DeskAnswer, Opened, Done, Gave, Slow, Worn, NoMemory, Does}
-use Rattle.session.specs.Peer.{Peer, new_peer, peer_after, Request, Calls, CallsNothing, IsWrong, IsRefused as Refuses, request, error_line, called_bytes, uncalled_bytes}
+use Rattle.js_api.specs.Clients.{Client, new_client}
+use Rattle.js_api.specs.Calls.{Open, Close, DeskAnswer, Opened, Done, Slow, Worn, NoMemory}
+use Rattle.session.specs.Peer.{Act, Hears as Hearing, Ticks, Peer, new_peer, peer_after, Request, Calls, CallsNothing, IsWrong, IsRefused as Refuses, request, error_line, called_bytes, uncalled_bytes}
+use Rattle.session.specs.Calling.{Called, IsMade, entries_of_calls}
+use Rattle.session.specs.Gathering.{AreGathered, IsBeforeCollect, IsGatheringCut, IsAnsweredBy, collected}
 use Rattle.session.specs.Keeping.{is_ping_due, is_stale, pinged, ping_bytes}
 use Rattle.session.specs.declared.ending.Limits.{Limits}
 use Rattle.session.specs.declared.ending.Ended.{Ended}
@@ -25,31 +28,25 @@ use Rattle.session.specs.declared.ending.Refusal.TheVariants as refusals
 
 -- ---- the journal
 
--- a desk call with its answer, and the entries that it made
-pub record Called : Type 0 where
-  pub call : DeskCall
-  pub answer : DeskAnswer
-  pub entries : List DeskEntry
-
--- an operation that was carried out: its one desk call or none, and the collects after it
+-- an operation or a tick that was carried out: its one desk call or none, and the calls that gather what waits after it
 pub record Spoken : Type 0 where
-  pub op : Op
+  pub act : Act
   pub calls : List Called
-  pub collects : List Called
+  pub gathered : List Called
 
--- one turn: what the link answered, the moment of it, and the operations whose last byte it brought
+-- one turn: what the link answered, the moment of it, and what was carried out: the operations whose last byte it brought, and the tick
 pub record Turn : Type 0 where
   pub answer : Answer
   pub moment : ℕ
   pub spoken : List Spoken
 
 -- how the turns end: within the server's information; with no further answer of the link; with one that ends them; within a turn, where an
--- operation may have been begun, with these desk calls; or at a moment at which the link was quiet
+-- operation or the tick may have been begun, with these desk calls; or at a moment at which the link was quiet
 pub data Last : Type 0 where
   Greeting : Last
   Nothing : Last
   Told : Answer → Last
-  Within : (turn : Turn) (begun : List Op) (calls : List Called) → Last
+  Within : (turn : Turn) (begun : List Act) (calls : List Called) → Last
   Waiting : (moment : ℕ) → Last
 
 pub record Journal : Type 0 where
@@ -60,16 +57,13 @@ pub record Journal : Type 0 where
 
 -- ---- an operation
 
-abbrev pub IsMade : Client → Called → Type 0
-IsMade client called = Does client called.call called.answer called.entries
-
 -- the answer is none of those that end a session
 abbrev pub IsAnswered : DeskAnswer → Type 0
 IsAnswered NoMemory = ⊥
 IsAnswered (Worn kept) = ⊥
 IsAnswered _ = Unit {0}
 
--- the one call of the operation, or none
+-- the one call of an operation or a tick, or none
 abbrev pub AreAsked : Client → Request → List Called → Type 0
 AreAsked client (Calls call) calls = (called : Called) × (calls ≡ called ∷ []) × (called.call ≡ call) × IsAnswered called.answer × IsMade client called
 AreAsked client CallsNothing calls = calls ≡ []
@@ -80,81 +74,46 @@ abbrev pub all_called_bytes : Bool → List Called → Bytes
 all_called_bytes verbose calls = flat_map (λ called. called_bytes verbose called.answer) calls
 
 -- what is written for the operation itself: its error line, `PONG`, or `+OK`
-abbrev pub direct_answer : Bool → Request → Op → List Called → Bytes
-direct_answer verbose (Calls call) op calls = all_called_bytes verbose calls
-direct_answer verbose CallsNothing op calls = uncalled_bytes op
-direct_answer verbose (IsWrong text) op calls = error_line text
-direct_answer verbose (Refuses refusal) op calls = []
+abbrev pub op_answer : Bool → Request → Op → List Called → Bytes
+op_answer verbose (Calls call) op calls = all_called_bytes verbose calls
+op_answer verbose CallsNothing op calls = uncalled_bytes op
+op_answer verbose (IsWrong text) op calls = error_line text
+op_answer verbose (Refuses refusal) op calls = []
 
--- ---- collecting
+-- nothing is written for a tick
+abbrev pub direct_answer : Bool → Request → Act → List Called → Bytes
+direct_answer verbose request (Hearing op) calls = op_answer verbose request op calls
+direct_answer verbose request Ticks calls = []
 
-abbrev pub frames : List Frame → Bytes
-frames list = flat_map frame list
-
-abbrev pub given_by : DeskAnswer → Bytes
-given_by (Gave list more) = frames list
-given_by _ = []
-
-abbrev pub collected : List Called → Bytes
-collected calls = flat_map (λ called. given_by called.answer) calls
-
--- a collect that was answered by frames
-pub record IsCollect (client : Client) (more : Bool) (called : Called) : Type 0 where
-  pub max : ℕ
-  pub list : List Frame
-  pub call_is : called.call ≡ Collect max
-  pub answer_is : called.answer ≡ Gave list more
-  pub made : IsMade client called
-
--- collects that each left more
-abbrev pub AreCollecting : Client → List Called → Type 0
-AreCollecting client [] = Unit {0}
-AreCollecting client (called ∷ more) = IsCollect client true called × AreCollecting client more
-
--- collects until nothing was left
-abbrev pub AreCollects : Client → List Called → Type 0
-AreCollects client calls = (front : List Called) × (called : Called) × (calls ≡ front ++ called ∷ []) × AreCollecting client front × IsCollect client false called
-
--- a collect that was answered so
-pub record IsAnsweredBy (client : Client) (answer : DeskAnswer) (called : Called) : Type 0 where
-  pub max : ℕ
-  pub call_is : called.call ≡ Collect max
-  pub answer_is : called.answer ≡ answer
-  pub made : IsMade client called
-
--- no collects, or some that each left more and a last one: it found no memory, or the writing of what it gave
-abbrev pub AreStopped : Client → List Called → Type 0
-AreStopped client calls =
-    (calls ≡ [])
-    ⊎ ((front : List Called) × (called : Called) × (calls ≡ front ++ called ∷ []) × AreCollecting client front
-    × (((more : Bool) × IsCollect client more called) ⊎ IsAnsweredBy client NoMemory called))
-
--- ---- operations that were carried out
+-- ---- operations and ticks that were carried out
 
 pub record IsSpoken (peer : Peer) (now : ℕ) (spoken : Spoken) : Type 0 where
-  pub asked : AreAsked peer.client (request now spoken.op) spoken.calls
-  pub collects : AreCollects (peer_after peer spoken.op).client spoken.collects
+  pub asked : AreAsked peer.client (request now spoken.act) spoken.calls
+  pub gathered : AreGathered (peer_after peer spoken.act).client now spoken.gathered
 
 abbrev pub AreSpoken : Peer → ℕ → List Spoken → Type 0
 AreSpoken peer now [] = Unit {0}
-AreSpoken peer now (spoken ∷ more) = IsSpoken peer now spoken × AreSpoken (peer_after peer spoken.op) now more
+AreSpoken peer now (spoken ∷ more) = IsSpoken peer now spoken × AreSpoken (peer_after peer spoken.act) now more
 
--- the bytes of an operation: its direct answer, and then what was collected after it
+-- the bytes of an operation: its direct answer, and then what was gathered after it
 abbrev pub spoken_bytes : Peer → ℕ → Spoken → Bytes
 spoken_bytes peer now spoken =
-    direct_answer (peer_after peer spoken.op).verbose (request now spoken.op) spoken.op spoken.calls ++ collected spoken.collects
+    direct_answer (peer_after peer spoken.act).verbose (request now spoken.act) spoken.act spoken.calls ++ collected spoken.gathered
 
 -- the bytes of operations one after the other
 abbrev pub heard_bytes : Peer → ℕ → List Spoken → Bytes
 heard_bytes peer now [] = []
-heard_bytes peer now (spoken ∷ more) = spoken_bytes peer now spoken ++ heard_bytes (peer_after peer spoken.op) now more
+heard_bytes peer now (spoken ∷ more) = spoken_bytes peer now spoken ++ heard_bytes (peer_after peer spoken.act) now more
 
 abbrev pub peer_at_end : Peer → List Spoken → Peer
 peer_at_end peer [] = peer
-peer_at_end peer (spoken ∷ more) = peer_at_end (peer_after peer spoken.op) more
+peer_at_end peer (spoken ∷ more) = peer_at_end (peer_after peer spoken.act) more
 
-abbrev pub ops_of : List Spoken → List Op
-ops_of spoken = map (λ (s : Spoken). s.op) spoken
+abbrev pub acts_of : List Spoken → List Act
+acts_of spoken = map (λ (s : Spoken). s.act) spoken
+
+abbrev pub hearings : List Op → List Act
+hearings ops = map Hearing ops
 
 -- ---- turns
 
@@ -170,10 +129,12 @@ pub record Stage : Type 0 where
 abbrev pub start : ℕ → Stage
 start session = record { held = []; taken = 0; quiets = 0; peer = new_peer session; came = None }
 
--- a piece was taken, and the operations that are whole by then were carried out
+-- a piece was taken, the operations that are whole by then were carried out, and then the tick
 pub record Hears (old : Stage) (moment : ℕ) (spoken : List Spoken) (bytes : Bytes) (new : Stage) (said : Bytes) : Type 0 where
+  pub ops : List Op
   pub are_spoken : AreSpoken old.peer moment spoken
-  pub split : Fronts (old.held ++ bytes) (ops_of spoken) new.held
+  pub acts : acts_of spoken ≡ hearings ops ++ Ticks ∷ []
+  pub split : Fronts (old.held ++ bytes) ops new.held
   pub idle : op_at new.held ≡ Partial
   pub taken : new.taken ≡ old.taken + length bytes
   pub quiets : new.quiets ≡ 0
@@ -184,19 +145,24 @@ pub record Hears (old : Stage) (moment : ℕ) (spoken : List Spoken) (bytes : By
 abbrev pub is_due : Stage → ℕ → Bool
 is_due stage moment = is_ping_due (unwrap_or stage.came moment) stage.peer.pings moment
 
+-- the client after a quiet turn: a PING more is not answered where one was due
+abbrev pub pinged_peer : Stage → ℕ → Peer
+pinged_peer stage moment = record stage.peer { pings = pinged (is_due stage moment) stage.peer.pings moment }
+
 abbrev pub after_quiet : Stage → ℕ → Stage
 after_quiet stage moment = record stage {
   quiets = stage.quiets + 1;
-  peer = record stage.peer { pings = pinged (is_due stage moment) stage.peer.pings moment };
+  peer = pinged_peer stage moment;
   came = Some (unwrap_or stage.came moment);
 }
 
--- nothing came, and a PING was written where one is due
+-- nothing came, and a PING was written where one is due, and then the tick was carried out
 pub record Waits (old : Stage) (moment : ℕ) (spoken : List Spoken) (new : Stage) (said : Bytes) : Type 0 where
-  pub nothing : spoken ≡ []
   pub alive : is_stale old.peer.pings moment ≡ false
+  pub are_spoken : AreSpoken (pinged_peer old moment) moment spoken
+  pub acts : acts_of spoken ≡ Ticks ∷ []
   pub after : new ≡ after_quiet old moment
-  pub said_is : said ≡ ping_bytes (is_due old moment)
+  pub said_is : said ≡ ping_bytes (is_due old moment) ++ heard_bytes (pinged_peer old moment) moment spoken
 
 abbrev pub Goes : Stage → Turn → Answer → Stage → Bytes → Type 0
 Goes old turn (answers.Piece bytes) new said = Hears old turn.moment turn.spoken bytes new said
@@ -227,53 +193,77 @@ AreTurns limits old (turn ∷ more) new said =
 
 -- ---- a turn that is not whole
 
--- the calls of an operation that found no memory: before its own call, in it, or after it
-pub data IsBegun (peer : Peer) (now : ℕ) (op : Op) (calls : List Called) : Type 0 where
-  Unasked : calls ≡ [] → IsBegun peer now op calls
-  Unanswered : (called : Called) → calls ≡ called ∷ [] → request now op ≡ Calls called.call → called.answer ≡ NoMemory → IsMade peer.client called
-      → IsBegun peer now op calls
-  Stopped : (asked after : List Called) → calls ≡ asked ++ after → AreAsked peer.client (request now op) asked
-      → AreStopped (peer_after peer op).client after → IsBegun peer now op calls
+-- the calls of an operation or a tick that found no memory: before its own call, in it, or after it
+pub data IsBegun (peer : Peer) (now : ℕ) (act : Act) (calls : List Called) : Type 0 where
+  Unasked : calls ≡ [] → IsBegun peer now act calls
+  Unanswered : (called : Called) → calls ≡ called ∷ [] → request now act ≡ Calls called.call → called.answer ≡ NoMemory → IsMade peer.client called
+      → IsBegun peer now act calls
+  Ungathered : (asked after : List Called) → calls ≡ asked ++ after → AreAsked peer.client (request now act) asked
+      → IsGatheringCut (peer_after peer act).client now after → IsBegun peer now act calls
 
-abbrev pub AreBegun : Peer → ℕ → List Op → List Called → Type 0
+abbrev pub AreBegun : Peer → ℕ → List Act → List Called → Type 0
 AreBegun peer now [] calls = calls ≡ []
-AreBegun peer now (op ∷ []) calls = IsBegun peer now op calls
-AreBegun peer now (op ∷ next ∷ more) calls = ⊥
+AreBegun peer now (act ∷ []) calls = IsBegun peer now act calls
+AreBegun peer now (act ∷ next ∷ more) calls = ⊥
 
--- an operation was carried out up to a collect that told that the session is slow
-pub record IsSlowed (peer : Peer) (now : ℕ) (op : Op) (size : ℕ) (calls : List Called) (said : Bytes) : Type 0 where
+-- an operation or a tick was carried out up to a collect that told that the session is slow
+pub record IsSlowed (peer : Peer) (now : ℕ) (act : Act) (size : ℕ) (calls : List Called) (said : Bytes) : Type 0 where
   pub asked : List Called
   pub front : List Called
   pub slow : Called
   pub calls_are : calls ≡ asked ++ (front ++ slow ∷ [])
-  pub are_asked : AreAsked peer.client (request now op) asked
-  pub are_collecting : AreCollecting (peer_after peer op).client front
-  pub is_slow : IsAnsweredBy (peer_after peer op).client (Slow size) slow
-  pub said_is : said ≡ direct_answer (peer_after peer op).verbose (request now op) op asked ++ collected front
+  pub are_asked : AreAsked peer.client (request now act) asked
+  pub before : IsBeforeCollect (peer_after peer act).client now front
+  pub is_slow : IsAnsweredBy (peer_after peer act).client (Slow size) slow
+  pub said_is : said ≡ direct_answer (peer_after peer act).verbose (request now act) act asked ++ collected front
 
--- a piece was taken, these operations of it were carried out, one may have been begun, and this is the rest
-pub record IsWithin (limits : Limits) (stage : Stage) (turn : Turn) (begun : List Op) (bytes rest : Bytes) : Type 0 where
+-- the operations at the front of the bytes, and after all that are whole the tick
+pub record AreActs (bytes : Bytes) (acts : List Act) (rest : Bytes) : Type 0 where
+  pub ops : List Op
+  pub split : Fronts bytes ops rest
+  pub acts_are : (acts ≡ hearings ops) ⊎ ((acts ≡ hearings ops ++ Ticks ∷ []) × (op_at rest ≡ Partial))
+
+-- what a turn begins with: a piece that was taken, or nothing, where the client is not stale; and what the session knows of the client then
+abbrev pub Begins : Limits → Stage → Turn → List Act → Bytes → ℕ → Answer → Type 0
+Begins limits stage turn acts rest taken (answers.Piece bytes) =
+    AreActs (stage.held ++ bytes) acts rest × (taken ≡ stage.taken + length bytes) × (stage.taken + length bytes ≤ limits.input)
+Begins limits stage turn acts rest taken answers.Quiet =
+    (rest ≡ stage.held) × (taken ≡ stage.taken) × (is_stale stage.peer.pings turn.moment ≡ false) × ((acts ≡ []) ⊎ (acts ≡ Ticks ∷ []))
+Begins limits stage turn acts rest taken answers.Ended = ⊥
+Begins limits stage turn acts rest taken answers.Failed = ⊥
+
+-- the client as a turn finds it
+abbrev pub peer_before : Stage → Answer → ℕ → Peer
+peer_before stage answers.Quiet moment = pinged_peer stage moment
+peer_before stage _ moment = stage.peer
+
+-- what a turn says before its operations: in a quiet one a PING, where one is due
+abbrev pub said_before : Stage → Answer → ℕ → Bytes
+said_before stage answers.Quiet moment = ping_bytes (is_due stage moment)
+said_before stage _ moment = []
+
+-- these operations and ticks of a turn were carried out, one may have been begun, and this is the rest of so many bytes that were taken
+pub record IsWithin (limits : Limits) (stage : Stage) (turn : Turn) (begun : List Act) (rest : Bytes) (taken : ℕ) : Type 0 where
   pub unspent : IsUnspent limits stage
-  pub answer_is : turn.answer ≡ answers.Piece bytes
-  pub fits : stage.taken + length bytes ≤ limits.input
-  pub are_spoken : AreSpoken stage.peer turn.moment turn.spoken
-  pub split : Fronts (stage.held ++ bytes) (ops_of turn.spoken ++ begun) rest
+  pub are_spoken : AreSpoken (peer_before stage turn.answer turn.moment) turn.moment turn.spoken
+  pub begins : Begins limits stage turn (acts_of turn.spoken ++ begun) rest taken turn.answer
 
 abbrev pub heard_in : Stage → Turn → Bytes
-heard_in stage turn = heard_bytes stage.peer turn.moment turn.spoken
+heard_in stage turn =
+    said_before stage turn.answer turn.moment ++ heard_bytes (peer_before stage turn.answer turn.moment) turn.moment turn.spoken
 
 abbrev pub peer_in : Stage → Turn → Peer
-peer_in stage turn = peer_at_end stage.peer turn.spoken
+peer_in stage turn = peer_at_end (peer_before stage turn.answer turn.moment) turn.spoken
 
 -- behind the operations that were carried out stands no operation, but a fault: its place is counted from the start of the input
 pub record EndsWithFault (limits : Limits) (stage : Stage) (fault : FrameFault) (last : Last) (said : Bytes) : Type 0 where
   pub turn : Turn
-  pub bytes : Bytes
   pub rest : Bytes
+  pub taken : ℕ
   pub before : ℕ
   pub last_is : last ≡ Within turn [] []
-  pub within : IsWithin limits stage turn [] bytes rest
-  pub place : before + length rest ≡ stage.taken + length bytes
+  pub within : IsWithin limits stage turn [] rest taken
+  pub place : before + length rest ≡ taken
   pub refused : IsRefused fault before rest
   pub said_is : said ≡ heard_in stage turn
 
@@ -281,44 +271,44 @@ pub record EndsWithFault (limits : Limits) (stage : Stage) (fault : FrameFault) 
 pub record EndsRefused (limits : Limits) (stage : Stage) (refusal : Refusal) (last : Last) (said : Bytes) : Type 0 where
   pub turn : Turn
   pub op : Op
-  pub bytes : Bytes
   pub rest : Bytes
-  pub last_is : last ≡ Within turn (op ∷ []) []
-  pub within : IsWithin limits stage turn (op ∷ []) bytes rest
-  pub refused : request turn.moment op ≡ Refuses refusal
+  pub taken : ℕ
+  pub last_is : last ≡ Within turn (Hearing op ∷ []) []
+  pub within : IsWithin limits stage turn (Hearing op ∷ []) rest taken
+  pub refused : request turn.moment (Hearing op) ≡ Refuses refusal
   pub said_is : said ≡ heard_in stage turn
 
--- the session is slow after an operation
+-- the session is slow after an operation or a tick
 pub record EndsSlow (limits : Limits) (stage : Stage) (size : ℕ) (last : Last) (said : Bytes) : Type 0 where
   pub turn : Turn
-  pub op : Op
+  pub act : Act
   pub calls : List Called
-  pub bytes : Bytes
   pub rest : Bytes
+  pub taken : ℕ
   pub more : Bytes
-  pub last_is : last ≡ Within turn (op ∷ []) calls
-  pub within : IsWithin limits stage turn (op ∷ []) bytes rest
-  pub slowed : IsSlowed (peer_in stage turn) turn.moment op size calls more
+  pub last_is : last ≡ Within turn (act ∷ []) calls
+  pub within : IsWithin limits stage turn (act ∷ []) rest taken
+  pub slowed : IsSlowed (peer_in stage turn) turn.moment act size calls more
   pub said_is : said ≡ heard_in stage turn ++ more
 
--- behind operations that were carried out
+-- behind operations that were carried out, or behind the tick
 pub record EndsBetween (limits : Limits) (stage : Stage) (last : Last) (said : Bytes) : Type 0 where
   pub turn : Turn
-  pub bytes : Bytes
   pub rest : Bytes
+  pub taken : ℕ
   pub last_is : last ≡ Within turn [] []
-  pub within : IsWithin limits stage turn [] bytes rest
+  pub within : IsWithin limits stage turn [] rest taken
   pub said_is : said ≡ heard_in stage turn
 
--- behind operations that were carried out, or within one that was begun
+-- behind operations that were carried out, or within one, or within the tick
 pub record EndsWithin (limits : Limits) (stage : Stage) (last : Last) (said : Bytes) : Type 0 where
   pub turn : Turn
-  pub begun : List Op
+  pub begun : List Act
   pub calls : List Called
-  pub bytes : Bytes
   pub rest : Bytes
+  pub taken : ℕ
   pub last_is : last ≡ Within turn begun calls
-  pub within : IsWithin limits stage turn begun bytes rest
+  pub within : IsWithin limits stage turn begun rest taken
   pub are_begun : AreBegun (peer_in stage turn) turn.moment begun calls
   pub said_is : said ≡ heard_in stage turn
 
@@ -437,11 +427,8 @@ pub record Ends (limits : Limits) (first stage : Stage) (greeting : Bytes) (last
 abbrev pub turn_spoken : Turn → List Spoken
 turn_spoken turn = turn.spoken
 
-abbrev pub entries_of_calls : List Called → List DeskEntry
-entries_of_calls calls = flat_map (λ (called : Called). called.entries) calls
-
 abbrev pub entries_of_spoken : Spoken → List DeskEntry
-entries_of_spoken spoken = entries_of_calls spoken.calls ++ entries_of_calls spoken.collects
+entries_of_spoken spoken = entries_of_calls spoken.calls ++ entries_of_calls spoken.gathered
 
 abbrev pub entries_of_all : List Spoken → List DeskEntry
 entries_of_all spoken = flat_map entries_of_spoken spoken

@@ -1,5 +1,5 @@
 -- What one turn of a session made of its desk, its link and its clock.
-use Rattle.std.specs.Prelude.{◌≡◌, ℕ, ◌+◌, ◌-◌, ◌*◌, true, false, ◌⊎◌, List, [], ◌∷◌, Option, Result, Ok, Err}
+use Rattle.std.specs.Prelude.{◌≡◌, ℕ, ◌+◌, ◌-◌, ◌*◌, true, false, ◌⊎◌, List, [], ◌∷◌, Option, Result, Ok, Err, unwrap_or}
 use Rattle.js_base.specs.Bytes.{Bytes}
 use Rattle.js_base.specs.Framing.{frame}
 use Rattle.js_base.specs.declared.frame.Frame.TheVariants.{Ping}
@@ -7,12 +7,13 @@ use Rattle.link_edge.specs.Told.{grown}
 use Rattle.link_edge.specs.Moments.{ReadsMoment, ReadsMoments}
 use Rattle.link_edge.specs.declared.answers.Answer.{Answer}
 use Rattle.js_api.specs.Desks.{DeskEntry}
-use Rattle.js_api.specs.Calls.{Client}
+use Rattle.js_api.specs.Clients.{Client}
 use Rattle.session.specs.Keeping.{is_ping_due, is_stale, pinged, ping_bytes}
-use Rattle.session.specs.Talk.{Stage, start, Turn, Last, Greeting, IsWhole, Ends, IsUnwritten, greeting, entries_of_turn, entries_of_last, last_answers, last_moments}
+use Rattle.session.specs.Talk.{Spoken, Stage, start, Turn, Last, Greeting, IsWhole, Ends, IsUnwritten, Waits, greeting, is_due, pinged_peer, entries_of_all, entries_of_turn, entries_of_last, last_answers, last_moments}
 use Rattle.session.specs.Giving.{GivesPart}
 use Rattle.session.specs.Manners.{peer_of}
 use Rattle.session.specs.Parting.{Parts}
+use Rattle.session.specs.Ticking.{IsTickCut}
 use Rattle.session.specs.declared.ending.Ended.{Ended}
 use Rattle.session.specs.declared.ending.Ended.TheVariants as ends
 use Rattle.session.specs.declared.ending.Limits.{Limits}
@@ -56,6 +57,31 @@ abbrev pub Keeps : {T : Type 0} → Result T Ended → ℕ → ℕ → List ℕ 
 Keeps (Ok x) came now old new given_old given_new = IsKept came now old new given_old given_new
 Keeps (Err ended) came now old new given_old given_new =
     IsGivenUp ended now old given_old given_new ⊎ IsUnpinged ended came now old given_old given_new
+
+-- the client was kept, the tick was carried out, and its bytes were given
+pub record IsRested {D : Type 0} (made : D → List DeskEntry → D → Type 0) (now : ℕ) (old new : Stage) (desk_old desk_new : D) (given_old given_new : Option Bytes) : Type 0 where
+  pub spoken : List Spoken
+  pub said : Bytes
+  pub waits : Waits old now spoken new said
+  pub led : made desk_old (entries_of_all spoken) desk_new
+  pub given : given_new ≡ grown given_old said
+
+-- the session ended before the tick
+pub record IsUnkept {D : Type 0} (ended : Ended) (made : D → List DeskEntry → D → Type 0) (now : ℕ) (stage : Stage) (desk_old desk_new : D) (given_old given_new : Option Bytes) : Type 0 where
+  pub led : made desk_old [] desk_new
+  pub ends : IsGivenUp ended now stage.peer.pings given_old given_new ⊎ IsUnpinged ended (unwrap_or stage.came now) now stage.peer.pings given_old given_new
+
+-- the client was kept, and the session ended within the tick or behind it
+pub record IsUnticked {D : Type 0} (ended : Ended) (made : D → List DeskEntry → D → Type 0) (now : ℕ) (stage : Stage) (desk_old desk_new : D) (given_old given_new : Option Bytes) : Type 0 where
+  pub alive : is_stale stage.peer.pings now ≡ false
+  pub mid : Option Bytes
+  pub pinged : mid ≡ grown given_old (ping_bytes (is_due stage now))
+  pub cut : IsTickCut ended made (pinged_peer stage now) now desk_old desk_new [] mid given_new
+
+abbrev pub Rests : {D T : Type 0} → Result T Ended → (D → List DeskEntry → D → Type 0) → ℕ → Stage → Stage → D → D → Option Bytes → Option Bytes → Type 0
+Rests (Ok x) made now old new desk_old desk_new given_old given_new = IsRested made now old new desk_old desk_new given_old given_new
+Rests (Err ended) made now old new desk_old desk_new given_old given_new =
+    IsUnkept ended made now old desk_old desk_new given_old given_new ⊎ IsUnticked ended made now old desk_old desk_new given_old given_new
 
 -- ---- any turn
 

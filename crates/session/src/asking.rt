@@ -5,8 +5,8 @@ ghost use Rattle.js_base.specs.Subjects.{is_publish_text};
 ghost use Rattle.js_api.specs.Calls.{Unsub};
 ghost use Rattle.session.specs.Connecting.{connect_options};
 ghost use Rattle.session.specs.Manners.{peer_of};
-ghost use Rattle.session.specs.Peer.{Calls, connected, connecting, fine, is_reply, message, peer_after, publishing, request, subscribing};
-ghost use Rattle.session.specs.Talk.{all_called_bytes, direct_answer};
+ghost use Rattle.session.specs.Peer.{Calls, connected, connecting, fine, is_reply, message, op_request, peer_after_op, publishing, subscribing};
+ghost use Rattle.session.specs.Talk.{all_called_bytes, op_answer};
 ghost use Rattle.session.specs.Asking.{Asks, IsUnchecked, said_for};
 ghost use Rattle.session.specs.Carrying.{IsSpelled};
 
@@ -184,10 +184,10 @@ pub(crate) fn ask<D: Desk>(
 ) -> Result<(), Stop>
     requires spelled { IsSpelled op }
     requires is_open { D.is_open desk.old ≡ true }
-    ensures asks { Asks D.made (D.client desk.old) (request now op)
-        (direct_answer (peer_after (peer_of (D.client desk.old) manners.old) op).verbose (request now op) op)
+    ensures asks { Asks D.made (D.client desk.old) (op_request now op)
+        (op_answer (peer_after_op (peer_of (D.client desk.old) manners.old) op).verbose (op_request now op) op)
         desk.old desk.new into.old.items into.new.items result }
-    ensures peer { OnOk result (peer_of (D.client desk.new) manners.new ≡ peer_after (peer_of (D.client desk.old) manners.old) op) }
+    ensures peer { OnOk result (peer_of (D.client desk.new) manners.new ≡ peer_after_op (peer_of (D.client desk.old) manners.old) op) }
     ensures session { (D.client desk.new).session ≡ (D.client desk.old).session }
     ensures is_open { D.is_open desk.new ≡ true }
 {

@@ -1,7 +1,7 @@
 //! What waits for a session is collected.
 
 ghost use Rattle.std.specs.Prelude.{◌≡◌, ◌++◌, true, OnOk};
-ghost use Rattle.session.specs.Talk.{frames};
+ghost use Rattle.session.specs.Gathering.{frames};
 ghost use Rattle.session.specs.Collecting.{CollectsOnce, Collects, LeavesFewer};
 
 use crate::stop::Stop;

@@ -1,4 +1,4 @@
-//! What a session hears: pieces of the input, and the operations that are whole by then.
+//! What a session hears: pieces of the input, the operations that are whole by then, and the tick behind them.
 
 ghost use Rattle.std.specs.Prelude.{◌≡◌, ◌+◌, ◌<◌, ◌^◌, ◌++◌, true, OnOk, IfErr, length};
 ghost use Rattle.link_edge.specs.Causes.{HasCause};
@@ -8,11 +8,12 @@ ghost use Rattle.session.specs.Parting.{HasLine};
 ghost use Rattle.session.specs.Hearing.{CarriesNext, Hears};
 
 use crate::ending::{Ended, Refusal};
-use crate::giving::{flush, give_all};
+use crate::giving::flush;
 use crate::manners::Manners;
 use crate::operation::carry;
 use crate::parting::part_at;
 use crate::stop::Stop;
+use crate::ticking::end_turn;
 use js_api::Desk;
 use js_base::Moment;
 use link_edge::Link;
@@ -47,7 +48,7 @@ fn carry_next<D: Desk>(
     }
 }
 
-/// Carries out each operation that is whole, and gives the bytes of all of them.
+/// Carries out each operation that is whole, and then the tick, and gives the bytes of all of them.
 fn carry_all<D: Desk, L: Link>(
     alloc: Global,
     desk: &mut D,
@@ -77,13 +78,10 @@ fn carry_all<D: Desk, L: Link>(
             Err(fault) => return Err(Ended::from(fault)),
         }
     }
-    match give_all(link, out.as_slice()) {
-        Ok(()) => Ok(()),
-        Err(fault) => Err(Ended::from(fault)),
-    }
+    end_turn(alloc, desk, link, now, &mut out)
 }
 
-/// Hears a piece: carries out the operations that are whole by then, and gives the bytes of all of them.
+/// Hears a piece: carries out the operations that are whole by then, and then the tick, and gives the bytes of all of them.
 pub(crate) fn hear<D: Desk, L: Link>(
     alloc: Global,
     desk: &mut D,

@@ -7,12 +7,14 @@ mod connect;
 mod conversation;
 mod ending;
 mod error_line;
+mod gathering;
 mod giving;
 mod manners;
 mod operation;
 mod parting;
 mod session;
 mod stop;
+mod ticking;
 mod turn;
 
 pub use ending::{Ended, Limits, Refusal};

@@ -1,12 +1,13 @@
-//! One operation of a session, from its desk call to what waits for the client after it.
+//! One operation of a session, or a tick, from its desk call to what waits for the client after it.
 
-ghost use Rattle.std.specs.Prelude.{◌≡◌, true, OnOk};
+ghost use Rattle.std.specs.Prelude.{◌≡◌, true, OnOk, IfErr};
 ghost use Rattle.session.specs.Carrying.{IsSpelled, Carries};
 ghost use Rattle.session.specs.Manners.{peer_of};
-ghost use Rattle.session.specs.Peer.{peer_after};
+ghost use Rattle.session.specs.Parting.{HasLine};
+ghost use Rattle.session.specs.Peer.{Hears, Ticks, peer_after};
 
 use crate::asking::ask;
-use crate::collecting::collect_all;
+use crate::gathering::gather;
 use crate::manners::Manners;
 use crate::stop::Stop;
 use js_api::Desk;
@@ -26,13 +27,27 @@ pub(crate) fn carry<D: Desk>(
 ) -> Result<(), Stop>
     requires spelled { IsSpelled op }
     requires is_open { D.is_open desk.old ≡ true }
-    ensures carries { Carries D.made (peer_of (D.client desk.old) manners.old) now op desk.old desk.new into.old.items into.new.items result }
-    ensures peer { OnOk result (peer_of (D.client desk.new) manners.new ≡ peer_after (peer_of (D.client desk.old) manners.old) op) }
+    ensures carries { Carries D.made (peer_of (D.client desk.old) manners.old) now (Hears op) desk.old desk.new into.old.items into.new.items result }
+    ensures peer { OnOk result (peer_of (D.client desk.new) manners.new ≡ peer_after (peer_of (D.client desk.old) manners.old) (Hears op)) }
     ensures session { (D.client desk.new).session ≡ (D.client desk.old).session }
     ensures is_open { D.is_open desk.new ≡ true }
 {
     match ask(alloc, desk, op, manners, now, into) {
-        Ok(()) => collect_all(desk, into),
+        Ok(()) => gather(desk, now, into),
         Err(stop) => Err(stop),
+    }
+}
+
+/// Carries a tick out: lets time pass at the next place, and adds the bytes of what waits for the session after it.
+pub(crate) fn carry_tick<D: Desk>(desk: &mut D, now: Moment, into: &mut Vec<u8>) -> Result<(), Stop>
+    requires is_open { D.is_open desk.old ≡ true }
+    ensures carries { (manners : _) → Carries D.made (peer_of (D.client desk.old) manners) now Ticks desk.old desk.new into.old.items into.new.items result }
+    ensures line { IfErr result HasLine }
+    ensures client { D.client desk.new ≡ D.client desk.old }
+    ensures is_open { D.is_open desk.new ≡ true }
+{
+    match desk.tick(now) {
+        Ok(()) => gather(desk, now, into),
+        Err(_) => Err(Stop::NoMemory),
     }
 }

@@ -2,7 +2,7 @@
 
 ghost use Rattle.std.specs.Prelude.{◌≡◌, ◌<◌, ◌^◌, true, false, vec_len, IfOk};
 ghost use Rattle.link_edge.specs.Causes.{HasCause};
-ghost use Rattle.js_api.specs.Calls.{new_client};
+ghost use Rattle.js_api.specs.Clients.{new_client};
 ghost use Rattle.session.specs.Host.{is_plain};
 ghost use Rattle.session.specs.Talk.{greeting};
 ghost use Rattle.session.specs.Giving.{Gives, IsLinkFault};

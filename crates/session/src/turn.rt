@@ -1,18 +1,19 @@
 //! One turn of a session: what the link answers, and what is said for it.
 
-ghost use Rattle.std.specs.Prelude.{◌≡◌, ◌≤◌, ◌<◌, ◌^◌, true, OnOk, length};
+ghost use Rattle.std.specs.Prelude.{◌≡◌, ◌≤◌, ◌<◌, ◌+◌, ◌^◌, true, OnOk, length};
 ghost use Rattle.link_edge.specs.Causes.{HasCause};
 ghost use Rattle.nats_frames.specs.Decoding.{total};
-ghost use Rattle.js_api.specs.Calls.{new_client};
+ghost use Rattle.js_api.specs.Clients.{new_client};
 ghost use Rattle.session.specs.Manners.{moments};
 ghost use Rattle.session.specs.Talk.{start, IsUnspent};
-ghost use Rattle.session.specs.Turning.{stage_of, turns_left, Keeps, Turns};
+ghost use Rattle.session.specs.Turning.{stage_of, turns_left, Keeps, Rests, Turns};
 
 use crate::conversation::hear;
 use crate::ending::{Ended, Limits};
 use crate::giving::give_frame;
 use crate::manners::{Manners, Pings};
 use crate::parting::part;
+use crate::ticking::end_turn;
 use js_api::Desk;
 use js_base::{Frame, Moment};
 use link_edge::{Clock, Link, Take};
@@ -90,7 +91,42 @@ fn keep_alive<L: Link>(
     }
 }
 
-/// Takes a turn: hears a piece, or waits where nothing came. An `Err` is the session's end.
+/// Rests in a quiet turn: keeps the connection alive, carries out the tick, and gives its bytes.
+fn rest<D: Desk, L: Link>(
+    alloc: Global,
+    desk: &mut D,
+    link: &mut L,
+    course: &mut Course,
+    now: Moment,
+) -> Result<(), Ended>
+    requires is_open { D.is_open desk.old ≡ true }
+    requires quiets { course.old.quiets + 1 < 2 ^ 64 }
+    ensures rests { Rests result D.made now (stage_of (D.client desk.old) course.old) (stage_of (D.client desk.new) course.new) desk.old desk.new
+        (L.given link.old) (L.given link.new) }
+    ensures decoder { OnOk result (course.new.decoder ≡ course.old.decoder) }
+    ensures taken { OnOk result (course.new.taken ≡ course.old.taken) }
+    ensures quiets { OnOk result (course.new.quiets ≡ course.old.quiets + 1) }
+    ensures client { D.client desk.new ≡ D.client desk.old }
+    ensures is_open { D.is_open desk.new ≡ true }
+    ensures answered { L.answered link.new ≡ L.answered link.old }
+    ensures cause { HasCause (L.faults link.old) (L.faults link.new) (result ≡ Err Ended.LinkFault) }
+{
+    let came = course.came.unwrap_or(now);
+    match keep_alive(alloc, link, &mut course.manners.pings, came, now) {
+        Ok(()) => {}
+        Err(ended) => return Err(ended),
+    }
+    let mut waiting = Vec::new(alloc);
+    match end_turn(alloc, desk, link, now, &mut waiting) {
+        Ok(()) => {}
+        Err(ended) => return Err(ended),
+    }
+    course.quiets += 1;
+    course.came = Some(came);
+    Ok(())
+}
+
+/// Takes a turn: hears a piece, or rests where nothing came. An `Err` is the session's end.
 pub(crate) fn take_turn<D: Desk, L: Link, C: Clock>(
     alloc: Global,
     desk: &mut D,
@@ -139,14 +175,7 @@ pub(crate) fn take_turn<D: Desk, L: Link, C: Clock>(
         }
         Take::Quiet => {
             let now = clock.now();
-            let came = course.came.unwrap_or(now);
-            match keep_alive(alloc, link, &mut course.manners.pings, came, now) {
-                Ok(()) => {}
-                Err(ended) => return Err(ended),
-            }
-            course.quiets += 1;
-            course.came = Some(came);
-            Ok(())
+            rest(alloc, desk, link, course, now)
         }
         Take::Ended => Err(Ended::Closed),
         Take::Failed => Err(Ended::LinkFault),

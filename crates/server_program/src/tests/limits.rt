@@ -43,6 +43,27 @@ fn greatest_input_ends_the_run(rt: HostRuntime) -> Result<(), Fail> {
     Ok(())
 }
 
+#[test]
+fn greatest_payload_is_taken(rt: HostRuntime) -> Result<(), Fail> {
+    let alloc = rt.alloc();
+    let violation = joined(alloc, INFO, b"-ERR 'Maximum Payload Violation'\r\n")?;
+    let rows: [(usize, usize, u8, &[u8]); 4] = [
+        (1_048_576, 65_536, 0, INFO),
+        (1_048_576, 1, 0, INFO),
+        (1_048_577, 65_536, 10, &violation),
+        (1_048_577, 1, 10, &violation),
+    ];
+    for (length, size, status, wanted) in rows {
+        let line = format!(in alloc; "PUB a {length}\r\n")?;
+        let mut input = joined(alloc, CONNECT, line.as_bytes())?;
+        input.extend_from_slice(&vec![in alloc; b'x'; length]?)?;
+        input.extend_from_slice(b"\r\n")?;
+        let ran = run_link(alloc, &input, size, &[])?;
+        meet(&rt, &ran, status, wanted, length);
+    }
+    Ok(())
+}
+
 /// Sixteen subscriptions to one subject.
 const SIXTEEN: &[u8] =
     b"SUB a 1\r\nSUB a 2\r\nSUB a 3\r\nSUB a 4\r\nSUB a 5\r\nSUB a 6\r\nSUB a 7\r\nSUB a 8\r\n\

@@ -8,8 +8,11 @@ use std::test::Fail;
 
 const OTHER: &[&[&str]] = &[
     &[],
-    &["pipe"],
+    &["serve"],
+    &["pipe", ""],
+    &["pipe", "--stream"],
     &["pipe", "--stream", "ORDERS"],
+    &["pipe", "--subject", "orders.*"],
     &["pipe", "--stream", "ORDERS", "--subject"],
     &[
         "pipe",

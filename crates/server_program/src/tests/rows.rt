@@ -19,9 +19,9 @@ const ROWS: &[(&[u8], &[u8])] = &[
         b"SUB a 1\r\nPUB orders.x a 1\r\nx\r\nPUB orders.y 1\r\ny\r\nPUB orders.z a 0\r\n\r\n",
         b"MSG a 1 27\r\n{\"seq\":1,\"stream\":\"ORDERS\"}\r\nMSG a 1 27\r\n{\"seq\":3,\"stream\":\"ORDERS\"}\r\n",
     ),
-    // no stream takes it, and subjects of the API reach nobody
+    // no stream takes it, and neither calls of the API nor acknowledgements go to subscriptions
     (
-        b"SUB > 1\r\nUNSUB 1\r\nPUB other.x a 1\r\nx\r\nPUB $JS.API.INFO a 1\r\nx\r\nPUB $JS.ACK.x a 1\r\nx\r\nPING\r\n",
+        b"SUB > 1\r\nPUB $JS.API.INFO 1\r\nx\r\nPUB $JS.API.NONE 1\r\nx\r\nPUB $JS.ACK.x 1\r\nx\r\nUNSUB 1\r\nPUB other.x a 1\r\nx\r\nPING\r\n",
         b"PONG\r\n",
     ),
     // a header block is stored and shown, and asks nothing of the stream

@@ -1,5 +1,5 @@
 use Rattle.std.proofs.Common.{◌∙◌}
-use Rattle.session.proofs.Gathered.{collecting_more, collecting_last, collecting_stop}
+use Rattle.session.proofs.Collected.{collecting_more, collecting_last, collecting_stop}
 use Rattle.session.proofs.collecting.collect_all.Goals as goal
 
 pub loop-stop-preserved : goal.loop-stop-preserved

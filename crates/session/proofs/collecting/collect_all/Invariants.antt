@@ -1,5 +1,6 @@
 use Rattle.std.proofs.Common.{◌≡◌, true}
-use Rattle.session.specs.Collecting.{Collecting}
+use Rattle.session.specs.Gathering.{AreCollecting}
+use Rattle.session.specs.Leading.{Adds}
 use Rattle.session.proofs.collecting.collect_all.Given as goal
 
 -- collects that each left more were made, and their bytes were added
@@ -7,7 +8,7 @@ abbrev pub invariant-loop-stop : goal.invariant-loop-stop
 invariant-loop-stop g l =
     let desk = g.D.Desk in
     record {
-      collecting : Collecting desk.made (desk.client l.fn.desk) l.fn.desk l.desk l.fn.into.items l.into.items;
+      collecting : Adds desk.made l.fn.desk l.desk l.fn.into.items l.into.items (AreCollecting (desk.client l.fn.desk));
       client : desk.client l.desk ≡ desk.client l.fn.desk;
       is_open : desk.is_open l.desk ≡ true;
     }

@@ -1,4 +1,4 @@
-use Rattle.session.proofs.Gathered.{gives_frames, tells_slow, stops_unwritten, stops_failed}
+use Rattle.session.proofs.Collected.{gives_frames, tells_slow, stops_unwritten, stops_failed}
 use Rattle.session.proofs.collecting.collect_once.Goals as goal
 
 pub returns-in-Ok-clause-collects : goal.returns-in-Ok-clause-collects

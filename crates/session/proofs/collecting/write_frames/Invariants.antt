@@ -1,5 +1,5 @@
 use Rattle.std.proofs.Common.{◌≡◌, ◌++◌, drop}
-use Rattle.session.specs.Talk.{frames}
+use Rattle.session.specs.Gathering.{frames}
 use Rattle.session.proofs.collecting.write_frames.Given as goal
 
 -- the bytes so far, and those of the frames that are left, are the bytes of all

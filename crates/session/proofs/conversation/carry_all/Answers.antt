@@ -1,7 +1,9 @@
 use Rattle.std.proofs.Common.{ap, ◌∙◌, arith, refl}
 use Rattle.nats_frames.specs.Decoding.{Held}
 use Rattle.nats_frames.specs.Reading.{op_at}
-use Rattle.session.proofs.Heard.{answering_first, answering_more, answering_flushed, answering_idle, cut_halted, cut_given, heard_all}
+use Rattle.js_api.specs.Clients.{Client}
+use Rattle.session.specs.Manners.{peer_of}
+use Rattle.session.proofs.Heard.{answering_first, answering_more, answering_flushed, answering_idle, cut_halted, cut_given, hears_ticked}
 use Rattle.session.proofs.conversation.carry_all.Goals as goal
 
 pub loop-stop-init : goal.loop-stop-init
@@ -38,16 +40,13 @@ returns-in-Err-flush-clause-hears g c =
     let next = answering_more _ g.met.D.Desk.made_more _ _ _ _ _ _ _ _ _ _ _ _ _ _ i.answering (rw c.in-Ok-true.field-0-test at c.in-Ok-true.ensures.carries) in
     cut_given _ g.met.D.Desk.made_more _ _ c.in-Err-flush.fault _ _ _ _ _ _ _ _ _ _ _ next (c.carry_next.ensures.total ∙ i.fed) c.in-Err-flush.ensures.flushes c.from.ensures
 
-pub returns-in-Ok-give_all-clause-hears : goal.returns-in-Ok-give_all-clause-hears
-returns-in-Ok-give_all-clause-hears g c =
-    let i = c.loop-stop.invariant in
-    let idle = rw c.in-Ok-false.field-0-test at c.in-Ok-false.ensures.carries in
-    let same = answering_idle _ _ _ _ _ _ _ _ _ _ _ _ _ _ _ i.answering idle in
-    heard_all _ g.met.D.Desk.made_more _ _ _ _ _ _ _ _ _ _ _ same (ap (λ (h : Held). op_at h.bytes) idle.held ∙ idle.partial) (rw c.as_slice.ensures.value at c.in-Ok-give_all.ensures.given)
-
 pub returns-clause-hears : goal.returns-clause-hears
 returns-clause-hears g c =
     let i = c.loop-stop.invariant in
-    let same = answering_idle _ _ _ _ _ _ _ _ _ _ _ _ _ _ _ i.answering (rw c.in-Ok-false.field-0-test at c.in-Ok-false.ensures.carries) in
-    cut_given _ g.met.D.Desk.made_more _ _ c.in-Err-give_all.fault _ _ _ _ _ _ _ _ _ _ _ same (c.carry_next.ensures.total ∙ i.fed)
-    (rw c.as_slice.ensures.value at c.in-Err-give_all.ensures.given) c.from-in-Err-give_all.ensures
+    let idle = rw c.in-Ok-false.field-0-test at c.in-Ok-false.ensures.carries in
+    let same = answering_idle _ _ _ _ _ _ _ _ _ _ _ _ _ _ _ i.answering idle in
+    hears_ticked _ g.met.D.Desk.made_more _ _ c.end_turn.result _ _ _ _ _ _ _ _ _ _ _ _ same (c.carry_next.ensures.total ∙ i.fed) (ap (λ (h : Held). op_at h.bytes) idle.held ∙ idle.partial)
+    (c.end_turn.ensures.ticks c.carry_next.new.manners) (ap (λ (client : Client). peer_of client c.carry_next.new.manners) c.end_turn.ensures.client)
+
+pub returns-clause-session : goal.returns-clause-session
+returns-clause-session g c = ap (λ (client : Client). client.session) c.end_turn.ensures.client ∙ c.carry_next.ensures.session ∙ c.loop-stop.invariant.session

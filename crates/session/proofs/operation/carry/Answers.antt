@@ -6,4 +6,4 @@ returns-in-Err-clause-carries g c = carries_stop _ _ _ _ _ _ _ _ c.in-Err.stop c
 
 pub returns-in-Ok-clause-carries : goal.returns-in-Ok-clause-carries
 returns-in-Ok-clause-carries g c =
-    carries _ g.met.D.Desk.made_more _ _ _ _ _ _ _ _ _ c.collect_all.result _ c.ask.new.manners c.in-Ok.ensures.asks c.in-Ok.ensures.peer c.collect_all.ensures.collects
+    carries _ g.met.D.Desk.made_more _ _ _ _ _ _ _ _ _ c.gather.result _ c.ask.new.manners c.in-Ok.ensures.asks c.in-Ok.ensures.peer c.gather.ensures.gathers

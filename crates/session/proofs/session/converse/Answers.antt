@@ -1,6 +1,6 @@
 use Rattle.std.proofs.Common.{ap, ◌∙◌, arith, inl, inr}
 use Rattle.link_edge.proofs.Causes.{cause_before}
-use Rattle.js_api.specs.Calls.{Client}
+use Rattle.js_api.specs.Clients.{Client}
 use Rattle.session.specs.Talk.{Stage, IsSpent}
 use Rattle.session.specs.Turning.{stage_of}
 use Rattle.session.proofs.Conversing.{conversing_first, conversing_more, converses_last, converses_spent, converses_ungreeted, converses_starved, fault_has_cause, end_has_cause, spent_has_cause}

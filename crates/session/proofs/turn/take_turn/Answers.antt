@@ -1,6 +1,6 @@
 use Rattle.std.proofs.Common.{◌≤◌, ◌+◌, ap, sym, length, take, drop, arith}
 use Rattle.std.proofs.lemmas.List.{take-append-le, length-take-le}
-use Rattle.session.proofs.Turned.{turned_heard, turned_cut, turned_kept, turned_alone, turned_closed, turned_failed, turned_starved}
+use Rattle.session.proofs.Turned.{turned_heard, turned_cut, turned_quiet, turned_closed, turned_failed, turned_starved}
 use Rattle.session.proofs.turn.take_turn.Goals as goal
 
 pub returns-in-Ok-clause-turns : goal.returns-in-Ok-clause-turns
@@ -29,19 +29,10 @@ returns-in-Err-clause-turns g c =
     turned_cut _ _ _ _ c.in-Err.ended _ _ _ _ _ _ _ _ _ _ _ _ _ c.requires.unspent e.answered e.given c.now-now.ensures.reads (rw piece at c.in-Err.ensures.hears) c.in-Err.ensures.answered
     (ap (λ n. n + length (take count c.take.new.into)) c.requires.fed) fits
 
-pub returns-in-Ok-keep_alive-clause-turns : goal.returns-in-Ok-keep_alive-clause-turns
-returns-in-Ok-keep_alive-clause-turns g c =
+pub returns-in-Quiet-clause-turns : goal.returns-in-Quiet-clause-turns
+returns-in-Quiet-clause-turns g c =
     let e = c.in-Quiet.ensures in
-    let k = c.in-Ok-keep_alive.ensures in
-    turned_kept _ c.args.limits.now (g.D.Desk.client c.args.desk.now).session _ _ _ _ _ _ _ _ _ _ _ _ e.answered e.given c.now-now-in-Quiet.ensures.reads k.answered
-    (g.met.D.Desk.made_nothing c.args.desk.now) _ c.requires.unspent c.unwrap_or-came.ensures k.keeps
-
-pub returns-in-Err-keep_alive-clause-turns : goal.returns-in-Err-keep_alive-clause-turns
-returns-in-Err-keep_alive-clause-turns g c =
-    let e = c.in-Quiet.ensures in
-    let k = c.in-Err-keep_alive.ensures in
-    turned_alone _ _ _ _ _ _ _ _ _ _ _ _ _ _ _ e.answered e.given c.now-now-in-Quiet.ensures.reads k.answered
-    (g.met.D.Desk.made_nothing c.args.desk.now) c.in-Err-keep_alive.ended c.requires.unspent c.unwrap_or-came.ensures k.keeps
+    turned_quiet _ _ _ _ _ _ _ _ _ _ _ _ _ _ _ c.requires.unspent e.answered e.given c.now-now-in-Quiet.ensures.reads c.rest.ensures.answered c.rest.result _ c.rest.ensures.rests
 
 pub returns-in-Ended-clause-turns : goal.returns-in-Ended-clause-turns
 returns-in-Ended-clause-turns g c =

@@ -33,3 +33,10 @@ returns-clause-state g c =
           (state_is c.self.inside.slot c.args.event.now c.args.now w.in-Ok.reply c.answer.new.self w.in-Ok.ensures.answers)
       | in-Err w ↦ rw w.result-is (search rules)
     ]
+
+pub returns-clause-shown : goal.returns-clause-shown
+returns-clause-shown g c =
+    elim c.match-answer.branch [
+      | in-Ok w ↦ rw w.result-is w.in-Ok.ensures.shown
+      | in-Err w ↦ rw w.result-is (search rules)
+    ]

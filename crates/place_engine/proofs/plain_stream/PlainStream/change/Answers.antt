@@ -6,4 +6,4 @@ pub returns-clause-answers : goal.returns-clause-answers
 returns-clause-answers c = λ subject.
     let i = c.self.inside in
     rw (c.info_with-info.ensures.value, c.in_ok-kept.ensures.copy, c.in_ok-copy_stream_config.ensures.copy, ← c.self.view_is, c.later-self-inside.ensures.value)
-    (changes (plain_stream i.incarnation i.made i.config i.messages i.last i.moment) subject c.args.config.now c.args.now c.self.invariant c.requires.plain)
+    (changes (plain_stream i.incarnation i.made i.config i.messages i.last i.moment) subject c.args.config.now c.args.now c.self.invariant c.requires.plain c.requires.valid)

@@ -2,6 +2,7 @@ use Rattle.std.proofs.Common.{◌∙◌, sym, ap}
 use Rattle.js_model.specs.Counts.{stream_info}
 use Rattle.place_engine.specs.PlainStreams.{plain_stream}
 use Rattle.place_engine.proofs.PlainStreams.{made_same, made_other}
+use Rattle.place_engine.proofs.Shown.{other_config_utf8}
 use Rattle.place_engine.proofs.plain_stream.PlainStream.make_again.Goals.{then-same_stream_config+in_ok-info, else-same_stream_config+in_ok-other_config}
 use Rattle.place_engine.proofs.plain_stream.PlainStream.make_again.Goals as goal
 
@@ -17,4 +18,11 @@ returns-clause-answers c = λ subject.
       | else-same_stream_config+in_ok-other_config w ↦
           rw (← c.self.view_is, w.reply-is, w.in_ok-other_config.ensures.value, c.later-self-inside.ensures.value)
           (made_other old subject c.args.config.now c.args.now c.self.invariant (sym c.same_stream_config.ensures.value ∙ w.if-same_stream_config.false))
+    ]
+
+pub returns-clause-shown : goal.returns-clause-shown
+returns-clause-shown c =
+    elim c.if-same_stream_config.branch [
+      | then-same_stream_config+in_ok-info w ↦ rw w.reply-is w.in_ok-info.ensures.shown
+      | else-same_stream_config+in_ok-other_config w ↦ rw w.reply-is (other_config_utf8 _ w.in_ok-other_config.ensures.value)
     ]

@@ -2,6 +2,7 @@ use Rattle.std.proofs.lemmas.Result.{IfOk-weaker}
 use Rattle.js_model.specs.declared.stream.State.TheVariants.{Live}
 use Rattle.js_model.specs.declared.event.What.TheVariants.{Change}
 use Rattle.place_engine.proofs.Places.{changes_nothing, there}
+use Rattle.place_engine.proofs.Shown.{no_stream_utf8}
 use Rattle.place_engine.proofs.slot.Slot.change.Goals.{in-Nothing+in_ok-no_stream-in-Nothing, in-Stream}
 use Rattle.place_engine.proofs.slot.Slot.change.Goals as goal
 
@@ -15,4 +16,11 @@ returns-clause-answers c = λ subject.
           rw (w.result-is, w.self-inside-is, ← c.self.view_is, w.in-Stream.is)
           (IfOk-weaker w.change.result _ _
           (λ reply answers. there w.in-Stream.stream (Change subject c.args.config.now) c.args.now reply (Live w.change.new.self) answers) (w.change.ensures.answers subject))
+    ]
+
+pub returns-clause-shown : goal.returns-clause-shown
+returns-clause-shown c =
+    elim c.match-self.branch [
+      | in-Nothing+in_ok-no_stream-in-Nothing w ↦ rw w.result-is (no_stream_utf8 _ w.in_ok-no_stream-in-Nothing.ensures.value)
+      | in-Stream w ↦ rw w.result-is w.change.ensures.shown
     ]

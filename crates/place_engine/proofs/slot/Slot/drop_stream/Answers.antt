@@ -2,6 +2,7 @@ use Rattle.js_model.specs.declared.stream.State.TheVariants.{Vacant}
 use Rattle.js_model.specs.declared.event.What.TheVariants.{Drop}
 use Rattle.js_model.specs.declared.reply.Reply.TheVariants.{Done}
 use Rattle.place_engine.proofs.Places.{drops_nothing, there}
+use Rattle.place_engine.proofs.Shown.{no_stream_utf8}
 use Rattle.place_engine.proofs.slot.Slot.drop_stream.Goals as goal
 
 pub returns-in_ok-no_stream-in-Nothing-clause-answers :
@@ -13,3 +14,7 @@ pub returns-in-Stream-clause-answers : goal.returns-in-Stream-clause-answers
 returns-in-Stream-clause-answers c = λ subject. λ now.
     rw (← c.self.view_is, c.in-Stream.is)
     (there c.in-Stream.stream (Drop subject) now Done (Vacant c.dropped-last.result) (c.dropped-last.ensures.answers subject now))
+
+pub returns-in_ok-no_stream-in-Nothing-clause-shown :
+    goal.returns-in_ok-no_stream-in-Nothing-clause-shown
+returns-in_ok-no_stream-in-Nothing-clause-shown c = no_stream_utf8 _ c.in_ok-no_stream-in-Nothing.ensures.value

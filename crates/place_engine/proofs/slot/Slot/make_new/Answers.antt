@@ -1,4 +1,5 @@
 use Rattle.place_engine.proofs.Places.{makes, makes_none}
+use Rattle.place_engine.proofs.Shown.{numbers_used_up_utf8}
 use Rattle.place_engine.proofs.slot.Slot.make_new.Goals as goal
 
 pub returns-then-incarnation-eq-NUMBERS_END-clause-answers :
@@ -11,3 +12,6 @@ pub returns-clause-answers : goal.returns-clause-answers
 returns-clause-answers c = λ subject. λ incarnation.
     rw (c.in_ok-info.ensures.value, c.in_ok-stream.ensures.made, c.incarnation-incarnation.ensures.value)
     (makes c.args.self.now subject c.args.config.now c.args.now c.requires.vacant c.requires.plain (rw c.incarnation-incarnation.ensures.value at c.if-incarnation-eq-NUMBERS_END.false) incarnation)
+
+pub returns-then-incarnation-eq-NUMBERS_END-clause-shown : goal.returns-then-incarnation-eq-NUMBERS_END-clause-shown
+returns-then-incarnation-eq-NUMBERS_END-clause-shown c = numbers_used_up_utf8 _ c.in_ok-numbers_used_up.ensures.value

@@ -14,4 +14,5 @@ returns c = record {
             rw (w.self-inside-is, ← c.self.view_is, w.in-Stream.is)
             (there w.in-Stream.stream Tick c.args.now Silent (Live w.tick.new.self) w.tick.ensures.answers)
       ];
+  shown = tt;
 }

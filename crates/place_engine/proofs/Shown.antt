@@ -1,0 +1,36 @@
+-- What replies show, and that no consumer is ready where there are none.
+use Rattle.std.proofs.Common.{◌≡◌, ℕ, List, [], false, IsUtf8, refl, sym, ap, subst, ◌∙◌}
+use Rattle.std.specs.Str.{is_utf8, chars}
+use Rattle.std.specs.List.{list_any}
+use lib.Utf8.{encode}
+use Rattle.std.proofs.lemmas.Str.{IsUtf8-from_is_utf8}
+use Rattle.js_base.specs.Bytes.{Bytes}
+use Rattle.js_base.specs.declared.out.ApiError.{ApiError}
+use Rattle.js_model.specs.declared.stream.Stream.{Stream}
+use Rattle.js_model.specs.declared.consumer.Consumer.{Consumer}
+use Rattle.js_model.specs.Advance.{advance}
+use Rattle.js_model.specs.Ready.{is_ready}
+use Rattle.js_model.specs.Refusals.{no_stream, other_config, numbers_used_up}
+use Rattle.place_engine.specs.PlainStreams.{IsPlainStream}
+use Rattle.place_engine.proofs.PlainStreams.{advance-plain}
+
+-- ---- texts of refusals
+
+pub no_stream_utf8 : (e : ApiError) → e ≡ no_stream → IsUtf8 e.text
+unfolding is_utf8 chars encode
+no_stream_utf8 e is = subst (λ (x : ApiError). IsUtf8 x.text) (sym is) (IsUtf8-from_is_utf8 no_stream.text refl)
+
+pub other_config_utf8 : (e : ApiError) → e ≡ other_config → IsUtf8 e.text
+unfolding is_utf8 chars encode
+other_config_utf8 e is = subst (λ (x : ApiError). IsUtf8 x.text) (sym is) (IsUtf8-from_is_utf8 other_config.text refl)
+
+pub numbers_used_up_utf8 : (e : ApiError) → e ≡ numbers_used_up → IsUtf8 e.text
+unfolding is_utf8 chars encode
+numbers_used_up_utf8 e is = subst (λ (x : ApiError). IsUtf8 x.text) (sym is) (IsUtf8-from_is_utf8 numbers_used_up.text refl)
+
+-- ---- readiness
+
+pub none_ready : (s : Stream) (now : ℕ) (listening : List Bytes) → IsPlainStream s → false ≡ list_any (is_ready (advance s now) listening) (advance s now).consumers
+none_ready s now listening plain =
+    let none : (advance s now).consumers ≡ [] = ap (λ (x : Stream). x.consumers) (advance-plain s now plain.config plain.consumers plain.ids) ∙ plain.consumers in
+    sym (ap (λ (consumers : List Consumer). list_any (is_ready (advance s now) listening) consumers) none)

@@ -1,0 +1,18 @@
+-- The desk calls of a session, each with its answer and the entries that it made.
+use Rattle.std.specs.Prelude.{List}
+use Rattle.std.specs.List.{flat_map}
+use Rattle.js_api.specs.Desks.{DeskEntry}
+use Rattle.js_api.specs.Clients.{Client}
+use Rattle.js_api.specs.Calls.{DeskCall, DeskAnswer, Does}
+
+-- a desk call with its answer, and the entries that it made
+pub record Called : Type 0 where
+  pub call : DeskCall
+  pub answer : DeskAnswer
+  pub entries : List DeskEntry
+
+abbrev pub IsMade : Client → Called → Type 0
+IsMade client called = Does client called.call called.answer called.entries
+
+abbrev pub entries_of_calls : List Called → List DeskEntry
+entries_of_calls calls = flat_map (λ (called : Called). called.entries) calls
