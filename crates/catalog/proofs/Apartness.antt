@@ -1,13 +1,12 @@
 -- The streams of a catalog stay apart.
-use Rattle.std.proofs.Common.{◌≡◌, ◌≢◌, ℕ, zero, suc, ◌+◌, ◌<◌, ◌≤◌, ◌==◌, ◌||◌, ◌&&◌, ◌⊎◌, Bool, true, false, not, cond, if◌then◌else◌, List, [], ◌∷◌, ◌++◌, length, map, Option, None, Some, refl, sym, ap, subst, ◌∙◌, inl, inr, arith, eq-eqb}
+use Rattle.std.proofs.Common.{◌≡◌, ◌≢◌, ℕ, zero, suc, ◌+◌, ◌<◌, ◌≤◌, ◌==◌, ◌&&◌, ◌⊎◌, Bool, true, false, not, cond, if◌then◌else◌, List, [], ◌∷◌, ◌++◌, length, Option, None, Some, refl, sym, ap, subst, ◌∙◌, inl, inr, arith, eq-eqb}
 use Rattle.std.proofs.lemmas.Bool.{ne_eqb, true≢false}
 use Rattle.std.proofs.lemmas.Bool.Decides.{eqb_tells}
 use Rattle.js_base.specs.Bytes.{Bytes, same}
 use Rattle.js_base.specs.declared.out.ApiError.{ApiError}
-use Rattle.js_base.proofs.Meeting.{same_is, same_self}
 use Rattle.js_model.specs.declared.desk.PlaceAt.{PlaceAt}
 use Rattle.js_model.specs.Refusals.{first_refusal}
-use Rattle.js_model.specs.Catalog.{Catalog, Place, Used, all_subjects, list_or_none, if_used, is_used, is_there, first_place, place_named, overlaps_at, meets_used, with_place, edited, edited_used, on_used, taken_by, changing, keeping, kept_list, freed, stopping}
+use Rattle.js_model.specs.Catalog.{Catalog, Place, Used, all_subjects, list_or_none, if_used, is_there, first_place, place_named, overlaps_at, meets_used, with_place, edited, edited_used, on_used, taken_by, changing, keeping, kept_list, freed, stopping}
 use Rattle.catalog.specs.Apart.{used_at, AreApart, IsApart}
 use Rattle.catalog.proofs.Meetings.{same_sym, or_parts, or_from, apart_sym, meets_lists, lists_append, lists_none}
 

@@ -24,9 +24,9 @@ use Rattle.js_model.specs.Cataloging.{HasPlace, IsUsed, add_told}
 use Rattle.catalog.specs.declared.entry.Listed.{Listed}
 use Rattle.catalog.specs.declared.entry.Stream.{Stream}
 use Rattle.catalog.specs.declared.entry.Entry.{Entry}
-use Rattle.catalog.specs.Numbers.{numbers, without_numbers, subs_of_place, IsEarlier, IsPut}
+use Rattle.catalog.specs.Numbers.{numbers, without_numbers, subs_of_place, IsPut}
 use Rattle.catalog.specs.Names.{place_in, Sets}
-use Rattle.catalog.specs.Entries.{used_of, place_of, subjects_of, is_other, is_open, vacant_place, ChecksAdd, lists_of, lists_of_used, lists_of_stream, lists_at, subs_of_lists, without_lists, HaveRoom, LeavesList}
+use Rattle.catalog.specs.Entries.{used_of, place_of, is_other, is_open, vacant_place, ChecksAdd, lists_of, lists_of_used, lists_of_stream, lists_at, subs_of_lists, without_lists, HaveRoom, LeavesList}
 use Rattle.catalog.specs.Apart.{used_at, IsApart}
 use Rattle.catalog.specs.Holding.{NamesPlaces, ListsPlaces, ArePlaced, Holds, is_number}
 use Rattle.catalog.proofs.Numbering.{above_more, taken_back}
@@ -65,7 +65,7 @@ none_of (Some s) e is h = absurd (never (used_of s) (sym (ap (option_map used_of
 
 -- ---- all parts
 
--- what `Holds` says, of the parts alone
+-- what `Holds` says but for the list of the used places, of the parts alone
 pub record HoldParts (es : List Entry) (held : Names) (listing : Listing) : Type 0 where
   pub few : length es ≤ 32
   pub names : NamesPlaces held (map place_of es)

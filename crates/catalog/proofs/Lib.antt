@@ -5,4 +5,5 @@ pub mod Keys
 pub mod Naming
 pub mod Placing
 pub mod Catalogs
+pub mod Using
 pub mod Scripts

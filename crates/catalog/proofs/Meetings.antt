@@ -1,12 +1,12 @@
 -- Streams are apart both ways round.
-use Rattle.std.proofs.Common.{◌≡◌, ◌||◌, ◌&&◌, Bool, true, false, List, [], ◌∷◌, ◌++◌, refl, sym, ap, ◌∙◌, arith}
+use Rattle.std.proofs.Common.{◌≡◌, ◌||◌, ◌&&◌, Bool, true, false, List, [], ◌∷◌, ◌++◌, refl, sym, ap, ◌∙◌}
 use Rattle.std.specs.List.{list_any}
 use Rattle.std.proofs.lemmas.Bool.{true≢false}
 use Rattle.std.proofs.lemmas.List.Folds.{list_any-append}
 use Rattle.js_base.specs.Bytes.{Bytes, is_empty, same}
 use Rattle.js_base.specs.Subjects.{tokens, meets, star, rest}
 use Rattle.js_base.proofs.Meeting.{same_is, same_self}
-use Rattle.js_model.specs.Catalog.{Used, all_subjects, meets_some, meets_used}
+use Rattle.js_model.specs.Catalog.{Used, all_subjects, meets_some}
 use Rattle.catalog.specs.Apart.{AreApart}
 
 -- ---- tests

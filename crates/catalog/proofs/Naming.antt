@@ -1,16 +1,15 @@
 -- The map of the names follows the places.
-use Rattle.std.proofs.Common.{◌≡◌, ◌≢◌, ℕ, zero, suc, ◌+◌, ◌<◌, ◌≤◌, ◌==◌, ◌⊎◌, Bool, true, false, cond, List, [], ◌∷◌, ◌++◌, length, map, get_or, Option, None, Some, refl, sym, ap, subst, ◌∙◌, inl, inr, arith, eq-eqb}
+use Rattle.std.proofs.Common.{◌≡◌, ◌≢◌, ℕ, zero, suc, ◌+◌, ◌<◌, ◌==◌, ◌⊎◌, Bool, true, false, cond, List, [], ◌∷◌, length, map, get_or, Option, None, Some, refl, sym, ap, ◌∙◌, inl, inr, arith, eq-eqb}
 use Rattle.std.proofs.lemmas.Bool.{ne_eqb, true≢false}
 use Rattle.std.proofs.lemmas.Bool.Decides.{eqb_tells}
 use Rattle.js_base.specs.Bytes.{Bytes, same}
-use Rattle.js_base.proofs.Meeting.{same_is, same_self}
-use Rattle.js_model.specs.declared.desk.PlaceAt.{PlaceAt}
-use Rattle.js_model.specs.Catalog.{Catalog, Place, Used, if_used, first_place, place_named, edited_used}
+use Rattle.js_base.proofs.Meeting.{same_is}
+use Rattle.js_model.specs.Catalog.{Catalog, Used, if_used, first_place, place_named, edited_used}
 use Rattle.catalog.specs.declared.entry.Entry.{Entry}
 use Rattle.catalog.specs.declared.names.Names.{Names}
 use Rattle.catalog.specs.Names.{place_in, Sets}
 use Rattle.catalog.specs.Entries.{place_of}
-use Rattle.catalog.specs.Apart.{used_at, AreApart, IsApart}
+use Rattle.catalog.specs.Apart.{used_at, IsApart}
 use Rattle.catalog.specs.Holding.{is_number, is_named, NamesPlaces}
 use Rattle.catalog.proofs.Meetings.{same_sym}
 use Rattle.catalog.proofs.Apartness.{DiffersAt}

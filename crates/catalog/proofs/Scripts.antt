@@ -1,13 +1,8 @@
 -- What scripts of calls need of the catalog.
-use Rattle.std.proofs.Common.{◌≡◌, ◌≢◌, ℕ, zero, suc, ◌⊎◌, inl, inr, Bool, true, false, if◌then◌else◌, List, [], ◌∷◌, Option, None, Some, refl, sym, ap, subst, ◌∙◌}
-use Rattle.std.specs.Prelude.{option_map, IsSome, IsNone}
-use Rattle.std.specs.Option.{IsSomeAnd}
-use Rattle.std.proofs.lemmas.Bool.{true≢false}
-use Rattle.js_base.specs.Bytes.{Bytes}
+use Rattle.std.proofs.Common.{◌≡◌, ◌≢◌, ℕ, zero, suc, [], ◌∷◌, None, Some, refl, ap}
+use Rattle.std.specs.Prelude.{option_map}
 use Rattle.js_model.specs.declared.kept_place.KeptPlace.{KeptPlace}
-use Rattle.js_model.specs.Refusals.{subjects_overlap}
-use Rattle.js_model.specs.Catalog.{Catalog, Place, Used, Cataloged, catalog_of, kept_place, kept_stream, edited, edited_used, on_used, changing, overlaps_other, catalog_call, IsCatalogCall, telling, Change, Done, Refused}
-use Rattle.js_model.specs.Cataloging.{HasPlace, MayChange, MayKeep}
+use Rattle.js_model.specs.Catalog.{Place, Used, catalog_of, kept_place, kept_stream}
 use Rattle.catalog.specs.Apart.{used_at, AreApart, IsApart}
 use Rattle.catalog.proofs.Apartness.{vacant_apart}
 

@@ -1,5 +1,5 @@
 -- JetStream lets no two streams share a name or a subject.
-use Rattle.std.specs.Prelude.{◌≡◌, ◌≢◌, ℕ, zero, suc, false, List, [], ◌∷◌, Option, None, Some}
+use Rattle.std.specs.Prelude.{◌≡◌, ◌≢◌, ℕ, zero, suc, false, [], ◌∷◌, Option, None, Some}
 use Rattle.js_base.specs.Bytes.{same}
 use Rattle.js_model.specs.Catalog.{Catalog, Used, all_subjects, meets_used}
 

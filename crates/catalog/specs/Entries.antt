@@ -1,18 +1,18 @@
 -- What the entries of the catalog stand for, and what the index knows of them.
-use Rattle.std.specs.Prelude.{◌≡◌, ◌⊎◌, ℕ, zero, suc, ◌+◌, ◌*◌, ◌%◌, ◌≤◌, ◌<◌, ◌^◌, ◌==◌, List, [], ◌∷◌, ◌++◌, Bool, true, false, not, length, Option, None, Some, option_map, Result, Ok, Err}
+use Rattle.std.specs.Prelude.{◌≡◌, ◌⊎◌, ℕ, zero, suc, ◌+◌, ◌*◌, ◌<◌, ◌^◌, ◌==◌, List, [], ◌∷◌, ◌++◌, Bool, true, not, length, Option, None, Some, option_map, Result, Ok, Err}
 use Rattle.std.specs.List.{list_any}
-use Rattle.js_base.specs.Bytes.{Bytes, same}
+use Rattle.js_base.specs.Bytes.{Bytes}
 use Rattle.route_index.specs.declared.sub.Sub.{Sub}
 use Rattle.js_model.specs.declared.desk.PlaceAt.{PlaceAt}
 use Rattle.js_model.specs.declared.catalog_fault.CatalogFault.{CatalogFault}
 use Rattle.js_model.specs.declared.catalog_fault.CatalogFault.TheVariants as faults
 use Rattle.js_model.specs.Refusals.{first_refusal}
-use Rattle.js_model.specs.Catalog.{Catalog, Used, Place, if_used, is_used, used_above, takes_subject, add_checks, free_place}
+use Rattle.js_model.specs.Catalog.{Catalog, Used, Place, if_used, is_used, takes_subject, add_checks, free_place}
 use Rattle.catalog.specs.declared.entry.Listed.{Listed}
 use Rattle.catalog.specs.declared.entry.Stream.{Stream}
 use Rattle.catalog.specs.declared.entry.Entry.{Entry}
 use Rattle.catalog.specs.declared.entry.Sought.{Sought}
-use Rattle.catalog.specs.declared.entry.Sought.TheVariants.{Taker, Among, Above, Taken, Free}
+use Rattle.catalog.specs.declared.entry.Sought.TheVariants.{Taker, Among, Free}
 use Rattle.catalog.specs.Numbers.{is_of, numbers, numbered, without_numbers}
 
 -- ---- entries
@@ -83,8 +83,6 @@ is_open p = if_used (λ u. not u.stopped) p.used
 abbrev pub accepts : Sought → ℕ → Place → Bool
 accepts (Taker subject) n place = if_used (takes_subject subject.now) place.used
 accepts (Among ids) n place = list_any (is_of n) ids.now
-accepts (Above after) n place = used_above after n place
-accepts Taken n place = is_used place
 accepts Free n place = not (is_used place)
 
 -- the number is another one than a stream's own, where it has a place already

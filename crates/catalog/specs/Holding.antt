@@ -1,4 +1,4 @@
--- What holds of the catalog's parts: the names and the index tell what the places have.
+-- What holds of the catalog's parts: the names, the index and the list of the used places tell what the places have.
 use Rattle.std.specs.Prelude.{◌≡◌, ℕ, ◌+◌, ◌*◌, ◌%◌, ◌≤◌, ◌==◌, Bool, false, List, [], ◌∷◌, length, map, Option, None, Some}
 use Rattle.js_base.specs.Bytes.{Bytes, same}
 use Rattle.js_model.specs.Catalog.{Catalog, if_used}
@@ -11,6 +11,7 @@ use Rattle.catalog.specs.Names.{place_in}
 use Rattle.catalog.specs.Numbers.{IsEarlier, subs_of_place}
 use Rattle.catalog.specs.Entries.{place_of, lists_at, subs_of_lists}
 use Rattle.catalog.specs.Apart.{used_at, IsApart}
+use Rattle.catalog.specs.Used.{used_places}
 
 -- ---- names
 
@@ -47,3 +48,4 @@ pub record Holds (catalog : Inside) : Type 0 where
   pub names : NamesPlaces catalog.names (map place_of catalog.entries.items)
   pub lists : ListsPlaces catalog.listing catalog.entries.items
   pub apart : IsApart (map place_of catalog.entries.items)
+  pub used : catalog.used ≡ used_places (map place_of catalog.entries.items)

@@ -1,5 +1,5 @@
 -- Which place a name has.
-use Rattle.std.specs.Prelude.{◌≡◌, ℕ, Bool, cond, Option}
+use Rattle.std.specs.Prelude.{◌≡◌, ℕ, cond, Option}
 use Rattle.std.specs.Ordering.{nat_cmp}
 use Rattle.std.specs.Cmp.Lexicographic.{slice_cmp}
 use Rattle.std.specs.BTreeMap.{get_by}

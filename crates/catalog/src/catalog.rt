@@ -9,6 +9,7 @@ ghost use Rattle.catalog.specs.Apart.{IsApart, used_at};
 use crate::entry::{Entry, Listed, Sought, Stream};
 use crate::listing::Listing;
 use crate::names::Names;
+use crate::used::UsedPlaces;
 use js_base::{Blob, List, Name, NoMemory};
 use js_model::refusals::{no_free_place, other_config, subjects_overlap};
 use js_model::{CatalogFault, KeptPlace, PlaceAt, copy_texts};
@@ -25,6 +26,8 @@ pub struct Catalog {
     names: Names,
     /// The subjects of the streams.
     listing: Listing,
+    /// The places of the streams.
+    used: UsedPlaces,
 }
 
 impl Model for Catalog {
@@ -67,6 +70,7 @@ impl Catalog {
             entries: vacant_entries(alloc, places)?,
             names: Names::new(alloc),
             listing: Listing::new(alloc),
+            used: UsedPlaces::new(alloc)?,
         })
     }
 
@@ -96,15 +100,11 @@ impl Catalog {
         self.named(name)
     }
 
-    /// The next used place in cyclic order: the first one of a greater number, or else the first of all.
+    /// The next used place in cyclic order: the first one of a greater number, or else the first of all. It looks at the used places alone.
     pub fn next_used(&self, after: u32) -> Option<PlaceAt>
         ensures found { catalog_call self.now (NextUsed after) ≡ telling (At result) self.now }
     {
-        let entries = self.entries.as_slice();
-        match first_place(entries, Sought::Above(after)) {
-            Some(found) => Some(found),
-            None => first_place(entries, Sought::Taken),
-        }
+        self.used.next(after)
     }
 
     /// Gives the stream the lowest place that is free. It is refused where its name is there, where one of its subjects meets one of
@@ -158,7 +158,9 @@ impl Catalog {
         requires used { HasPlace self.old place (MayRemove dropped) }
         ensures removed { catalog_call self.old (Remove place dropped) ≡ telling Done self.new }
     {
-        match self.entries[place as usize].free(dropped) {
+        let left = self.entries[place as usize].free(dropped);
+        self.used.refill(&self.entries);
+        match left {
             Some(stream) => {
                 self.names.remove(&stream.name);
                 forget(&mut self.listing, stream);
@@ -223,6 +225,7 @@ impl Catalog {
                     subjects: list,
                 };
                 self.entries[place as usize].take(name, listed);
+                self.used.refill(self.entries.as_slice());
                 Ok(())
             }
             Err(_) => {

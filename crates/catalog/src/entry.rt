@@ -2,7 +2,7 @@
 
 ghost use Rattle.std.specs.Prelude.{◌≡◌, ◌<◌, ◌^◌, true, [], ◌∷◌, ◌++◌, IsTrue, IfOk, Some, None};
 ghost use Rattle.std.specs.List.{list_any};
-ghost use Rattle.js_model.specs.Catalog.{kept_stream, list_or_none, all_subjects, takes_subject, meets_used, meets_some, if_used, taken_by, on_used, changing, kept_list, keeping, freed, stopping};
+ghost use Rattle.js_model.specs.Catalog.{kept_stream, list_or_none, all_subjects, takes_subject, meets_used, meets_some, if_used, is_used, taken_by, on_used, changing, kept_list, keeping, freed, stopping};
 ghost use Rattle.js_model.specs.Cataloging.{MayChange};
 ghost use Rattle.js_base.specs.Subjects.{tokens, matches};
 ghost use Rattle.catalog.specs.Numbers.{is_of};
@@ -45,10 +45,6 @@ pub(crate) enum Sought<'a> {
     Taker(&'a [u8]),
     /// One that has one of the numbers.
     Among(&'a [u64]),
-    /// One with a stream, and with a greater number.
-    Above(u32),
-    /// One with a stream.
-    Taken,
     /// One without a stream.
     Free,
 }
@@ -172,11 +168,16 @@ impl Entry {
         match (sought, &self.used) {
             (Sought::Among(ids), _) => has_number_of(ids, number),
             (Sought::Taker(subject), Some(stream)) => stream.takes(subject),
-            (Sought::Above(after), Some(_)) => after < number,
-            (Sought::Taken, Some(_)) => true,
             (Sought::Free, None) => true,
             _ => false,
         }
+    }
+
+    /// Whether it has a stream.
+    pub(crate) fn is_used(&self) -> bool
+        ensures value { result ≡ is_used (place_of self.now) }
+    {
+        self.used.is_some()
     }
 
     /// Whether it has a stream whose place is not stopped.

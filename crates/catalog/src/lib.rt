@@ -5,6 +5,7 @@ mod catalog;
 mod entry;
 mod listing;
 mod names;
+mod used;
 
 pub use catalog::Catalog;
 

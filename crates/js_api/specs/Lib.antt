@@ -7,3 +7,4 @@ pub mod Api
 pub mod Making
 pub mod Calls
 pub mod Answers
+pub mod Resting

@@ -5,6 +5,7 @@ ghost use Rattle.js_api.specs.Desks.{DeskEntry};
 ghost use Rattle.js_api.specs.Clients.{Client, with_options};
 ghost use Rattle.js_api.specs.Publishing.{IsMessage};
 ghost use Rattle.js_api.specs.Calls.{Open, Options, Sub, Unsub, Publish, Tick, Settle, Collect, Close, Done, Makes};
+ghost use Rattle.js_api.specs.Resting.{Rests};
 ghost use Rattle.js_base.specs.Subjects.{is_pattern_text};
 ghost use Rattle.js_api.specs.Answers.{opened, subscribed, took, ticked, settled, gave, OpensClient, LeavesLess};
 
@@ -109,6 +110,15 @@ pub trait Desk {
         requires is_open { is_open self.old ≡ true }
         ensures made { Makes made self.old self.new (client self.old) (Collect max) (gave result) }
         ensures left { LeavesLess result (to_collect self.old) (to_collect self.new) }
+        ensures client { client self.new ≡ client self.old }
+        ensures is_open { is_open self.new ≡ true };
+
+    /// Ends a turn at which nothing comes, where the desk can tell so beforehand: it ticks, collects nothing, settles without a consumer that is
+    /// ready, and collects nothing again, as `tick`, `collect` and `settle` would do. Else it answers false, and does nothing.
+    fn rest(&mut self, now: Moment) -> bool
+        requires is_open { is_open self.old ≡ true }
+        ensures rests { result ≡ true → Rests made (client self.old) now self.old self.new }
+        ensures nothing { result ≡ false → self.new ≡ self.old }
         ensures client { client self.new ≡ client self.old }
         ensures is_open { is_open self.new ≡ true };
 

@@ -16,8 +16,8 @@ use Rattle.api_requests.specs.Read.{IsSetup}
 use Rattle.stream_config.specs.Laws.{IsServed}
 use Rattle.place_engine.specs.PlainConfigs.{IsPlainConfig}
 use Rattle.js_api.specs.Desks.{DeskEntry, World, DeskRun, Looked}
-use Rattle.js_api.specs.Holding.{Holds, IsSent, reply_made}
-use Rattle.js_api.specs.Api.{IsAbsent, IsEnded, IsNamed, IsOnStream, IsAdding, GoesOnAdded, IsChanging, GoesOnChanged, refusal, unchanged, free_unless_made, free_if_dropped, keep_subjects}
+use Rattle.js_api.specs.Holding.{reply_made}
+use Rattle.js_api.specs.Api.{IsNamed, IsOnStream, IsAdding, GoesOnAdded, IsChanging, GoesOnChanged, free_unless_made, free_if_dropped, keep_subjects}
 use Rattle.js_desk.specs.declared.holding.Outcome.{Outcome}
 use Rattle.js_desk.specs.declared.holding.Outcome.TheVariants as outcomes
 use Rattle.js_desk.specs.Asking.{IsOnPlace, IsEndedAfter, IsChanged, IsUnchanged}
@@ -25,7 +25,7 @@ use Rattle.js_desk.specs.Grounds.{IsKnown}
 use Rattle.js_desk.specs.Holding.{HoldsAt, MayAsk, NumbersDropped, is_shown, is_done, made_of}
 use Rattle.js_desk.specs.Leading.{Leads}
 use Rattle.js_desk.proofs.Known.{known_may_remove}
-use Rattle.js_desk.proofs.Leading.{leads_both, leads_as, leads_none, leads_looked}
+use Rattle.js_desk.proofs.Leading.{leads_both, leads_looked}
 
 -- ---- what is asked
 

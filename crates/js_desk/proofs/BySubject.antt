@@ -1,5 +1,5 @@
 -- A publish, by its subject: the API, an acknowledgement or a plain subject.
-use Rattle.std.proofs.Common.{◌≡◌, ◌≢◌, ℕ, Bool, true, false, List, [], ◌∷◌, Option, None, Some, Result, Ok, Err, refl, sym, ap, subst, inl, inr}
+use Rattle.std.proofs.Common.{◌≡◌, ◌≢◌, ℕ, Bool, true, false, List, [], Option, None, Some, Result, Ok, Err, refl, sym, subst, inl, inr}
 use Rattle.std.specs.Prelude.{MatchBool, is_ok}
 use Rattle.js_base.specs.declared.memory.NoMemory.{NoMemory as Starved}
 use Rattle.js_base.specs.declared.out.Out.{Out}

@@ -10,7 +10,7 @@ use Rattle.js_model.specs.Catalog as catalog
 use Rattle.js_model.specs.Catalog.{Catalog, IsCatalogCall, catalog_call, telling, edited, on_used, changing, keeping, overlaps_other}
 use Rattle.js_model.specs.Cataloging.{HasPlace, MayKeep}
 use Rattle.place_engine.specs.Places.{Seen}
-use Rattle.js_api.specs.Desks.{World, DeskRun, Looked}
+use Rattle.js_api.specs.Desks.{World, Looked}
 use Rattle.js_desk.specs.declared.holding.Outcome.{Outcome}
 use Rattle.js_desk.specs.Asking.{IsChanged, IsUnchanged}
 use Rattle.js_desk.specs.Following.{run_append}

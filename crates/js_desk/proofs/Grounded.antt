@@ -1,6 +1,6 @@
 -- Calls of the router, the catalog and the places, as calls on what a desk stands on.
-use Rattle.std.proofs.Common.{◌≡◌, ◌<◌, ◌≤◌, ◌+◌, ℕ, zero, suc, Bool, true, false, List, [], ◌∷◌, ◌++◌, length, Option, Some, None, Result, Ok, Err, refl, sym, ap, subst, ◌∙◌, inl, inr, if◌then◌else◌, IsUtf8, arith}
-use Rattle.std.specs.Prelude.{◌==◌, IfSome, not, slice_get}
+use Rattle.std.proofs.Common.{◌≡◌, ◌<◌, ◌≤◌, ◌+◌, ℕ, zero, suc, Bool, true, false, List, [], ◌∷◌, length, Option, Some, None, Result, Ok, Err, refl, sym, ap, subst, ◌∙◌, inl, inr, if◌then◌else◌, IsUtf8, arith}
+use Rattle.std.specs.Prelude.{IfSome, not, slice_get}
 use Rattle.std.specs.Str.{is_utf8, chars}
 use Rattle.std.specs.Option.{IsSomeAnd}
 use lib.Utf8.{encode}
@@ -13,18 +13,17 @@ use Rattle.js_base.specs.declared.out.Out.{Out}
 use Rattle.js_base.specs.declared.out.ApiError.{ApiError}
 use Rattle.js_model.specs.declared.desk.PlaceAt.{PlaceAt}
 use Rattle.js_model.specs.declared.event.What.{What}
-use Rattle.js_model.specs.declared.stream.State.{State}
 use Rattle.js_model.specs.Refusals.{first_refusal, other_config, subjects_overlap, no_free_place}
 use Rattle.js_model.specs.Router as routes
 use Rattle.js_model.specs.Routing.{KeepsOpen}
 use Rattle.js_model.specs.Catalog as catalog
 use Rattle.js_model.specs.Catalog.{Catalog, Place, Used, CatTold, catalog_call, telling, IsCatalogCall, first_place, place_for, place_named, next_used, or_else, used_above, is_used, if_used, takes_subject, free_place, with_place, edited, taken_by, freed, added, added_at, add_checks, overlaps, overlaps_other, changed, is_there}
-use Rattle.js_model.specs.Cataloging.{HasPlace, IsUsed}
+use Rattle.js_model.specs.Cataloging.{HasPlace}
 use Rattle.place_engine.specs.Places.{Seen}
-use Rattle.js_api.specs.Desks.{DeskEntry, World, DeskRun}
+use Rattle.js_api.specs.Desks.{DeskEntry}
 use Rattle.js_api.specs.Holding.{AreRouted, AreCut}
 use Rattle.js_desk.specs.declared.holding.Outcome.{Outcome}
-use Rattle.js_desk.specs.Grounds.{Standing, standing, states, volumes, state_of, Keeps, IsGrounded, IsKnown, AreSingle, HasOneList}
+use Rattle.js_desk.specs.Grounds.{Standing, standing, state_of, Keeps, IsKnown, AreSingle}
 use Rattle.js_desk.specs.Holding.{HoldsAmong, HoldsAt, last_of}
 use Rattle.js_desk.specs.Leading.{Leads, Routes, Sends}
 use Rattle.js_desk.specs.Routing.{RoutesAll, SendsAll}

@@ -6,7 +6,7 @@ use Rattle.std.proofs.lemmas.Bool.{eq-eqb, ne_eqb}
 use Rattle.std.proofs.lemmas.Option.{slice_get_within}
 use Rattle.js_base.specs.Bytes.{Bytes}
 use Rattle.js_model.specs.declared.desk.PlaceAt.{PlaceAt}
-use Rattle.js_model.specs.Catalog.{Catalog, Place, Used, first_place, if_used, is_used, with_place, edited, on_used, changing, keeping, kept_list}
+use Rattle.js_model.specs.Catalog.{Catalog, Place, Used, first_place, if_used, with_place, on_used, changing, keeping, kept_list}
 use Rattle.js_model.specs.Cataloging.{HasPlace, IsUsed, MayChange, MayKeep, MayRemove}
 use Rattle.js_desk.specs.Grounds.{HasOneList, AreSingle, IsKnown}
 

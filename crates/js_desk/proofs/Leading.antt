@@ -1,8 +1,8 @@
 -- Parts that lead from one world to the next are one that leads from the first to the last.
-use Rattle.std.proofs.Common.{◌≡◌, ℕ, List, [], ◌∷◌, ◌++◌, refl, sym, subst, ◌∙◌}
+use Rattle.std.proofs.Common.{◌≡◌, List, [], ◌∷◌, ◌++◌, refl, sym, subst, ◌∙◌}
 use Rattle.js_model.specs.Router as routes
 use Rattle.js_model.specs.Catalog as catalog
-use Rattle.js_api.specs.Desks.{DeskEntry, World, DeskRun, Routed, Looked}
+use Rattle.js_api.specs.Desks.{DeskEntry, World, Routed, Looked}
 use Rattle.js_desk.specs.Following.{run_append}
 use Rattle.js_desk.specs.Grounds.{Standing, Keeps}
 use Rattle.js_desk.specs.Leading.{Leads, Sends, Routes}

@@ -2,7 +2,8 @@ pub mod Refused
 pub mod Sent
 pub mod Leading
 pub mod Holds
-pub mod Told
+pub mod Ticked
+pub mod Rested
 pub mod Known
 pub mod Published
 pub mod Asked

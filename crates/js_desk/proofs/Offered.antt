@@ -1,5 +1,5 @@
 -- A hold that was not made, and a message that is offered to the stream of its subject.
-use Rattle.std.proofs.Common.{◌≡◌, ◌<◌, ℕ, List, [], ◌∷◌, Option, None, Some, refl, get_or, length}
+use Rattle.std.proofs.Common.{◌<◌, ℕ, [], ◌∷◌, None, Some, refl, get_or, length}
 use Rattle.std.proofs.lemmas.Option.{slice_get-get_or}
 use Rattle.js_base.specs.declared.out.Out.{Out}
 use Rattle.js_model.specs.declared.event.What.{What}

@@ -1,5 +1,5 @@
 -- A ground as it begins: places that never had a stream, and a catalog without any.
-use Rattle.std.proofs.Common.{◌≡◌, ◌≤◌, ℕ, zero, suc, List, [], ◌∷◌, length, None, refl, ap, ◌∙◌, sym}
+use Rattle.std.proofs.Common.{◌≡◌, ◌≤◌, ℕ, zero, suc, List, [], ◌∷◌, length, None, refl, ap, ◌∙◌}
 use Rattle.std.specs.Prelude.{replicate}
 use Rattle.std.proofs.lemmas.List.{length-replicate}
 use Rattle.js_model.specs.declared.stream.State.{State}
@@ -7,7 +7,7 @@ use Rattle.js_model.specs.declared.stream.State.TheVariants.{Vacant}
 use Rattle.js_model.specs.Router.{empty_router}
 use Rattle.js_model.specs.Catalog.{Catalog, new_place}
 use Rattle.place_engine.specs.Places.{Seen}
-use Rattle.js_api.specs.Desks.{World, opening}
+use Rattle.js_api.specs.Desks.{opening}
 use Rattle.js_desk.specs.Grounds.{AreFresh, AreSingle, IsGrounded, standing, states}
 
 single_new : (n : ℕ) → AreSingle (replicate n new_place)

@@ -1,5 +1,5 @@
 -- The informations in the order of names, as they are put into it from the last one on.
-use Rattle.std.proofs.Common.{◌≡◌, ℕ, ◌+◌, ◌*◌, ◌^◌, ◌<◌, ◌≤◌, suc, Bool, true, false, cond, List, [], ◌∷◌, ◌++◌, length, map, filter, drop, sum_by, Option, IsUtf8, refl, sym, ap, subst, ◌∙◌, if◌then◌else◌, arith}
+use Rattle.std.proofs.Common.{◌≡◌, ℕ, ◌+◌, ◌*◌, ◌^◌, ◌<◌, ◌≤◌, suc, Bool, true, false, cond, List, [], ◌∷◌, ◌++◌, length, map, filter, drop, sum_by, Option, IsUtf8, refl, sym, ap, subst, ◌∙◌, arith}
 use Rattle.std.specs.List.{All, prefix_len, insert}
 use Rattle.std.proofs.lemmas.List.{drop-map, take-map}
 use Rattle.std.proofs.lemmas.List.Sums.{sum_by-le}

@@ -16,7 +16,7 @@ use Rattle.js_model.specs.declared.reply.Reply.TheVariants.{Done, Refused}
 use Rattle.js_model.specs.declared.stream.State.{State}
 use Rattle.js_model.specs.declared.stream.State.TheVariants.{Vacant, Live}
 use Rattle.js_model.specs.declared.stream.Stream.{Stream}
-use Rattle.js_model.specs.Events.{answered, kept_incarnation}
+use Rattle.js_model.specs.Events.{answered}
 use Rattle.js_model.specs.Proper.{if_given, is_proper, is_proper_what, reply_of}
 use Rattle.js_model.specs.Refusals.{no_stream}
 use Rattle.js_model.specs.Router.{Router}

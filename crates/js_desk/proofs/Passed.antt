@@ -1,7 +1,6 @@
 -- Time that passes at a place, for a tick and for a settle.
-use Rattle.std.proofs.Common.{◌≡◌, ℕ, Bool, true, false, List, [], ◌∷◌, Option, None, Some, Result, Ok, Err, refl, sym, ap, subst, ◌∙◌}
-use Rattle.std.specs.Prelude.{is_ok, not, slice_get}
-use Rattle.js_base.specs.declared.memory.NoMemory.{NoMemory as Starved}
+use Rattle.std.proofs.Common.{◌≡◌, ℕ, Bool, true, false, List, [], ◌∷◌, Option, None, Some, refl, sym, ap, subst, ◌∙◌}
+use Rattle.std.specs.Prelude.{not}
 use Rattle.js_model.specs.declared.event.What.TheVariants.{Tick}
 use Rattle.js_model.specs.declared.desk.PlaceAt.{PlaceAt}
 use Rattle.js_model.specs.declared.reply.Reply.{Reply}
@@ -16,7 +15,6 @@ use Rattle.js_desk.specs.declared.holding.Outcome.TheVariants as outcomes
 use Rattle.js_desk.specs.Asking.{IsReadyAt}
 use Rattle.js_desk.specs.Holding.{HoldsAt, made_of}
 use Rattle.js_desk.specs.Leading.{Leads}
-use Rattle.js_desk.specs.Passing.{PassesAtSo, SettlesSo}
 
 -- ---- at a place
 
@@ -39,12 +37,6 @@ module _ (at : PlaceAt) (now : ℕ) (old new : World) where
 
   pub passed_gone : HoldsAt outcomes.Gone at Tick now old new → Leads (λ entries. PassesAt now true false entries at) old new
   passed_gone h = passes_as outcomes.Gone true false h refl refl
-
-  pub passed_cut : (outcome : Outcome) → ((after : State) → is_short (made_of outcome after) ≡ true) → HoldsAt outcome at Tick now old new
-      → (ready : Bool) × Leads (λ entries. PassesAt now false ready entries at) old new
-  passed_cut outcome short h =
-      let ready = is_ready_after (made_of outcome h.after) now in
-      (ready, passes_as outcome false ready h (sym (ap not (short h.after))) refl)
 
 -- ---- a tick
 
@@ -71,21 +63,17 @@ resumed_first now last finished ready held old new is passes led = record {
 -- ---- both, by what came of the place
 
 module _ (now : ℕ) (old turned new : World) where
-  pub ticked_there : (at : PlaceAt) (result : Result Bool Starved) (done : Result (Unit {0}) Starved) → catalog.IsCatalogCall old.catalog (catalog.NextUsed old.ticked) (catalog.At (Some at)) old.catalog
-      → turned ≡ record old { ticked = place_or old.ticked (Some at) } → is_ok done ≡ is_ok result → PassesAtSo result at now turned new → Leads (Ticks now (is_ok done)) old new
-  ticked_there at (Ok ready) done k rest same h =
-      subst (λ (b : Bool). Leads (Ticks now b) old new) (sym same) (turned_first now old turned (Some at) true ready h.entries new k rest h.are h.led)
-  ticked_there at (Err starved) done k rest same h =
-      subst (λ (b : Bool). Leads (Ticks now b) old new) (sym same) (turned_first now old turned (Some at) false h.0 h.1.entries new k rest h.1.are h.1.led)
+  pub ticked_there : (at : PlaceAt) (ready : Bool) → catalog.IsCatalogCall old.catalog (catalog.NextUsed old.ticked) (catalog.At (Some at)) old.catalog
+      → turned ≡ record old { ticked = place_or old.ticked (Some at) } → Leads (λ entries. PassesAt now true ready entries at) turned new → Leads (Ticks now true) old new
+  ticked_there at ready k rest h = turned_first now old turned (Some at) true ready h.entries new k rest h.are h.led
 
 module _ (now : ℕ) (old turned : World) where
   pub ticked_nowhere : catalog.IsCatalogCall old.catalog (catalog.NextUsed old.ticked) (catalog.At None) old.catalog → turned ≡ record old { ticked = place_or old.ticked None } → Leads (Ticks now true) old turned
   ticked_nowhere k rest = turned_first now old turned None true false [] turned k rest (refl, refl, refl) refl
 
 module _ (now : ℕ) (old new : World) where
-  pub settled_there : (at : PlaceAt) (result : Result Bool Starved) → Some at ≡ old.last → PassesAtSo result at now old new → SettlesSo result now old new
-  settled_there at (Ok ready) is h = resumed_first now (Some at) true ready h.entries old new is h.are h.led
-  settled_there at (Err starved) is h = (h.0, resumed_first now (Some at) false h.0 h.1.entries old new is h.1.are h.1.led)
+  pub settled_there : (at : PlaceAt) (ready : Bool) → Some at ≡ old.last → Leads (λ entries. PassesAt now true ready entries at) old new → Leads (Settles now true ready) old new
+  settled_there at ready is h = resumed_first now (Some at) true ready h.entries old new is h.are h.led
 
-  pub settled_nowhere : None ≡ old.last → new ≡ old → SettlesSo (Ok false) now old new
+  pub settled_nowhere : None ≡ old.last → new ≡ old → Leads (Settles now true false) old new
   settled_nowhere is same = resumed_first now None true false [] old new is (refl, refl, refl) (sym same)

@@ -1,6 +1,6 @@
 -- A publish to a plain subject: the subscriptions, the stream, and what the client is told.
 use Rattle.std.proofs.Common.{◌≡◌, ℕ, Bool, true, false, ◌&&◌, List, [], ◌∷◌, ◌++◌, Option, None, Some, Ok, Err, refl, sym, ap, subst, ◌∙◌, append-nil, inl, inr, MatchOption}
-use Rattle.std.specs.Prelude.{◌==◌, not}
+use Rattle.std.specs.Prelude.{◌==◌}
 use Rattle.js_base.specs.declared.out.Out.{Out}
 use Rattle.js_base.specs.declared.memory.NoMemory.{NoMemory as Starved}
 use Rattle.js_model.specs.declared.desk.PlaceAt.{PlaceAt}
@@ -14,7 +14,7 @@ use Rattle.js_model.specs.Catalog as catalog
 use Rattle.js_api.specs.Desks.{DeskEntry, World, DeskRun, Routed, Looked}
 use Rattle.js_api.specs.Clients.{Client}
 use Rattle.js_api.specs.Holding.{Holds, AreRouted, is_short}
-use Rattle.js_api.specs.Publishing.{published, told_nobody, untaken_outs, AreUntold, Reaches, IsOffered, IsPublish, IsPublishCut}
+use Rattle.js_api.specs.Publishing.{published, told_nobody, untaken_outs, Reaches, IsOffered, IsPublish, IsPublishCut}
 use Rattle.js_desk.specs.declared.holding.Outcome.{Outcome}
 use Rattle.js_desk.specs.declared.holding.Outcome.TheVariants as outcomes
 use Rattle.js_desk.specs.Following.{run_append}

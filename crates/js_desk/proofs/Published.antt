@@ -1,5 +1,5 @@
 -- A message that a client may publish is one that its stream may be asked to take.
-use Rattle.std.proofs.Common.{◌≡◌, ◌∷◌, ◌+◌, ◌≤◌, Bool, true, false, ◌&&◌, ◌||◌, [], length, Option, None, Some, refl, sym, subst, IsTrue}
+use Rattle.std.proofs.Common.{◌≡◌, ◌∷◌, Bool, true, false, ◌&&◌, ◌||◌, [], Option, None, Some, refl, sym, subst, IsTrue}
 use Rattle.std.specs.Prelude.{IfSome, nat_eq, codes}
 use Rattle.std.specs.List.{starts_with}
 use Rattle.std.proofs.lemmas.Bool.{le-leb, and_from}

@@ -9,7 +9,6 @@ use Rattle.js_desk.specs.Following.{run_append}
 use Rattle.js_api.specs.Holding.{AreRouted, AreCut}
 use Rattle.js_model.specs.Routing.{fault_told}
 use Rattle.js_model.specs.declared.route_fault.RouteFault.{RouteFault}
-use Rattle.js_model.specs.declared.route_fault.RouteFault.TheVariants as faults
 use Rattle.js_desk.proofs.Refused.{wants, sending_done}
 use Rattle.js_desk.specs.Leading.{Sends}
 

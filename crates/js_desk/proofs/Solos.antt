@@ -1,22 +1,21 @@
 -- What each call of the desk of one caller makes.
-use Rattle.std.proofs.Common.{◌≡◌, ℕ, Bool, true, false, List, [], ◌∷◌, Option, Some, Result, Ok, Err, refl, sym, ap, subst, ◌∙◌}
-use Rattle.std.specs.Prelude.{IfSome, is_ok, unwrap_or}
+use Rattle.std.proofs.Common.{◌≡◌, ℕ, Bool, true, [], ◌∷◌, Option, Some, Result, Ok, Err, refl, sym, ap, subst, ◌∙◌}
+use Rattle.std.specs.Prelude.{IfSome, unwrap_or}
 use Rattle.js_model.specs.declared.desk.Collected.{Collected}
 use Rattle.js_model.specs.declared.desk.Collected.TheVariants.{Frames, Slow}
 use Rattle.js_model.specs.Router as routes
 use Rattle.js_model.specs.Routing.{collected_told}
-use Rattle.js_api.specs.Desks.{DeskEntry, DeskRun, Routed, World}
+use Rattle.js_api.specs.Desks.{DeskRun, Routed, World}
 use Rattle.js_api.specs.Clients.{Client}
 use Rattle.js_api.specs.Calls as calls
 use Rattle.js_api.specs.Calls.{DeskCall, DeskAnswer, Does, Makes, Publishes, PublishesCut, Settles, Ticks}
-use Rattle.js_api.specs.Answers.{gave, settled, ticked, took}
+use Rattle.js_api.specs.Answers.{gave, took}
 use Rattle.js_base.specs.declared.memory.NoMemory.{NoMemory as Starved}
 use Rattle.js_base.specs.declared.out.Out.{Out}
 use Rattle.js_model.specs.declared.desk.Taken.{Taken}
 use Rattle.js_desk.specs.declared.publishing.Caller.{Caller}
 use Rattle.js_desk.specs.Grounds.{Standing}
 use Rattle.js_desk.specs.Leading.{Leads, Routes}
-use Rattle.js_desk.specs.Passing.{SettlesSo}
 use Rattle.js_desk.specs.Publishing.{client_of, PublishesSo}
 use Rattle.js_desk.specs.Solo.{Solo, SoloRun, solo}
 use Rattle.js_desk.proofs.Leading.{leads_as}
@@ -79,14 +78,9 @@ module _ {V : Type 0} where
         makes_led (client_of caller) (calls.Publish message now) calls.NoMemory
         (leads_as (PublishesCut (client_of caller) message now) (Does (client_of caller) (calls.Publish message now) calls.NoMemory) before.world after.world h (λ entries a. a))
 
-    pub tick_made : (caller : Client) (now : ℕ) (result : Result (Unit {0}) Starved) → Leads (Ticks now (is_ok result)) before.world after.world → Makes SoloRun old new caller (calls.Tick now) (ticked result)
-    tick_made caller now (Ok u) h =
-        makes_led caller (calls.Tick now) calls.Done (leads_as (Ticks now true) (Does caller (calls.Tick now) calls.Done) before.world after.world h (λ entries a. a))
-    tick_made caller now (Err starved) h =
-        makes_led caller (calls.Tick now) calls.NoMemory (leads_as (Ticks now false) (Does caller (calls.Tick now) calls.NoMemory) before.world after.world h (λ entries a. a))
+    pub tick_made : (caller : Client) (now : ℕ) → Leads (Ticks now true) before.world after.world → Makes SoloRun old new caller (calls.Tick now) calls.Done
+    tick_made caller now h = makes_led caller (calls.Tick now) calls.Done (leads_as (Ticks now true) (Does caller (calls.Tick now) calls.Done) before.world after.world h (λ entries a. a))
 
-    pub settle_made : (caller : Client) (now : ℕ) (result : Result Bool Starved) → SettlesSo result now before.world after.world → Makes SoloRun old new caller (calls.Settle now) (settled result)
-    settle_made caller now (Ok ready) h =
+    pub settle_made : (caller : Client) (now : ℕ) (ready : Bool) → Leads (Settles now true ready) before.world after.world → Makes SoloRun old new caller (calls.Settle now) (calls.Settled ready)
+    settle_made caller now ready h =
         makes_led caller (calls.Settle now) (calls.Settled ready) (leads_as (Settles now true ready) (Does caller (calls.Settle now) (calls.Settled ready)) before.world after.world h (λ entries a. a))
-    settle_made caller now (Err starved) h =
-        makes_led caller (calls.Settle now) calls.NoMemory (leads_as (Settles now false h.0) (Does caller (calls.Settle now) calls.NoMemory) before.world after.world h.1 (λ entries a. (h.0, a)))

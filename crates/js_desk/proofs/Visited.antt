@@ -11,7 +11,7 @@ use Rattle.js_api.specs.Holding.{Holds}
 use Rattle.js_desk.specs.declared.holding.Outcome.{Outcome}
 use Rattle.js_desk.specs.Holding.{HoldsAt, info_in, made_of}
 use Rattle.js_desk.specs.Leading.{Leads}
-use Rattle.js_desk.specs.Walking.{AddsSound, IsVisited, IsVisitCut, VisitsPlace}
+use Rattle.js_desk.specs.Walking.{AddsSound, IsVisitCut, VisitsPlace}
 use Rattle.js_desk.proofs.Endings.{told_one}
 use Rattle.js_desk.proofs.Walks.{adds_none, adds_one}
 

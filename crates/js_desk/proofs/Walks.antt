@@ -1,5 +1,5 @@
 -- The walk over all streams, place by place.
-use Rattle.std.proofs.Common.{◌≡◌, ℕ, Bool, true, false, List, [], ◌∷◌, ◌++◌, length, Option, None, Some, refl, sym, ap, subst, ◌∙◌, append_assoc, append-nil, if◌then◌else◌, nat_lt, arith}
+use Rattle.std.proofs.Common.{◌≡◌, ℕ, Bool, true, false, List, [], ◌∷◌, ◌++◌, Option, None, Some, refl, sym, ap, subst, ◌∙◌, append_assoc, append-nil, if◌then◌else◌, nat_lt, arith}
 use Rattle.std.proofs.lemmas.List.{length-append}
 use Rattle.std.proofs.lemmas.List.Elements.{All-append, All-cons, All-nil}
 use Rattle.std.specs.Prelude.{Result, Ok, Err}
@@ -8,10 +8,9 @@ use Rattle.js_model.specs.declared.reply.StreamInfo.{StreamInfo}
 use Rattle.js_model.specs.declared.desk.PlaceAt.{PlaceAt}
 use Rattle.js_model.specs.Catalog as catalog
 use Rattle.place_engine.specs.Shown.{IsSoundInfo}
-use Rattle.js_api.specs.Desks.{DeskEntry, World, Looked}
-use Rattle.js_api.specs.Api.{Visit, Visits, StopsIf, behind, infos_of, info_told, is_further}
+use Rattle.js_api.specs.Desks.{World, Looked}
+use Rattle.js_api.specs.Api.{Visit, StopsIf, behind, infos_of, info_told, is_further}
 use Rattle.js_desk.specs.Following.{run_append}
-use Rattle.js_desk.specs.Leading.{Leads}
 use Rattle.js_desk.specs.Walking.{further, IsVisited, IsVisitCut, IsWalked, IsWalkCut, WalksBehind, AddsSound}
 
 -- ---- the next place

@@ -1,6 +1,5 @@
 -- One hold: what may be asked of a place, and what became of it.
 use Rattle.std.specs.Prelude.{◌≡◌, ◌≢◌, ◌⊎◌, ◌<◌, ◌^◌, ◌++◌, ℕ, Bool, true, false, List, length, Option, None, Some, Result, Ok, Err, IsTrue, slice_get}
-use Rattle.js_base.specs.Bytes.{Bytes}
 use Rattle.js_base.specs.Subjects.{is_subject_text}
 use Rattle.js_base.specs.declared.memory.NoMemory.{NoMemory}
 use Rattle.js_base.specs.declared.out.Out.{Out}

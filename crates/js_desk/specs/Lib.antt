@@ -5,7 +5,6 @@ pub mod Routing
 pub mod Holding
 pub mod Untaken
 pub mod Publishing
-pub mod Passing
 pub mod Defaults
 pub mod Asking
 pub mod Walking
@@ -13,3 +12,5 @@ pub mod Listing
 pub mod Making
 pub mod Faults
 pub mod Solo
+pub mod Ticking
+pub mod Resting

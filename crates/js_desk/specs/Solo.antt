@@ -2,6 +2,7 @@
 use Rattle.std.specs.Prelude.{◌≡◌, ◌≤◌, ℕ, Bool, true, List, [], length, Option, IfSome, is_some, unwrap_or}
 use Rattle.js_model.specs.Router.{is_open}
 use Rattle.js_model.specs.Routing.{waiting_for}
+use Rattle.route_core.specs.Idle.{IsIdle}
 use Rattle.js_api.specs.Desks.{World, DeskEntry, DeskRun}
 use Rattle.js_api.specs.Clients.{Client}
 use Rattle.js_desk.specs.Grounds.{Standing}
@@ -21,9 +22,10 @@ solo ground session told = record {
   is_open = is_some session;
 }
 
--- the session is open in the router, and there is room for the volumes
-pub record IsConsistent {V : Type 0} (ground : Standing V) (session : Option ℕ) (given_back : List V) (capacity : ℕ) : Type 0 where
+-- the session is open in the router, a collect gives nothing where that is known, and there is room for the volumes
+pub record IsConsistent {V : Type 0} (ground : Standing V) (session : Option ℕ) (idle : Bool) (given_back : List V) (capacity : ℕ) : Type 0 where
   pub opened : IfSome session (λ number. is_open ground.world.router number ≡ true)
+  pub idle_is : idle ≡ true → IfSome session (IsIdle ground.world.router)
   pub empty : given_back ≡ []
   pub room : length ground.vols ≤ capacity
 

@@ -1,5 +1,5 @@
 -- All streams are asked for their informations, in the order of their places.
-use Rattle.std.specs.Prelude.{◌≡◌, ◌≤◌, ◌+◌, ◌++◌, ℕ, Bool, true, false, List, length, Option, None, Some, Result, Ok, Err, if◌then◌else◌}
+use Rattle.std.specs.Prelude.{◌≡◌, ◌≤◌, ◌+◌, ◌++◌, ℕ, true, false, List, length, Option, None, Some, Result, Ok, Err, if◌then◌else◌}
 use Rattle.std.specs.List.{All}
 use Rattle.js_base.specs.declared.memory.NoMemory.{NoMemory}
 use Rattle.js_model.specs.declared.event.What.TheVariants as whats

@@ -1,21 +1,25 @@
 //! What a desk stands on: its router, its catalog and its places.
 
-ghost use Rattle.std.specs.Prelude.{◌≡◌, ◌≤◌, ◌<◌, ◌^◌, IfErr, IfOk, IfSome, OnErr, length, option_map, replicate};
+ghost use Rattle.std.specs.Prelude.{◌≡◌, ◌≤◌, ◌<◌, ◌^◌, [], true, false, IfErr, IfOk, IfSome, OnErr, length, option_map, replicate};
 ghost use Rattle.js_model.specs.Catalog.{Add, At, ByName, Find, IsCatalogCall, NextUsed, Remove, Done as Cataloged, new_place};
 ghost use Rattle.js_model.specs.Cataloging.{HasPlace, MayRemove, add_told};
 ghost use Rattle.js_model.specs.declared.event.What.TheVariants as whats;
+ghost use Rattle.js_model.specs.declared.desk.Collected.TheVariants.{Frames};
 ghost use Rattle.js_model.specs.Router as routes;
 ghost use Rattle.js_model.specs.Routing.{LeavesFewer, Opens, collected_told, done_told, open_told, publish_told, waiting_for};
+ghost use Rattle.route_core.specs.Idle.{IsIdle};
 ghost use Rattle.js_api.specs.Desks.{opening, place_or};
 ghost use Rattle.js_desk.specs.Asking.{Changes, IsReadyAt, IsTold};
 ghost use Rattle.js_desk.specs.Grounds.{AreFresh, IsWithin, Keeps, Knows, volumes};
 ghost use Rattle.js_desk.specs.Holding.{HoldsAt, MayAsk, NumbersDropped, ShowsBy};
 ghost use Rattle.js_desk.specs.Leading.{Leads, Routes};
 ghost use Rattle.js_desk.specs.Routing.{SendsAll};
+ghost use Rattle.js_desk.specs.Ticking.{passed};
 
 use crate::answering::copy_reply;
 use crate::holding::{Outcome, hold_among, is_shown, last_of};
 use crate::routing::route_all;
+use crate::ticking::tick_among;
 use catalog::Catalog;
 use js_base::{Blob, List, Moment, Name, NoMemory, Out};
 use js_model::{CatalogFault, Collected, PlaceAt, RouteFault, StreamConfig, What};
@@ -143,6 +147,7 @@ impl<V> Ground<V> {
     pub fn collect(&mut self, session: u64, max: usize) -> Result<Collected, RouteFault>
         ensures routes { Routes (routes.Collect session max) (collected_told result) self.old.world self.new.world }
         ensures left { LeavesFewer result (waiting_for self.old.world.router session) (waiting_for self.new.world.router session) }
+        ensures idle { IfOk result (λ got. got ≡ Frames [] false → IsIdle self.new.world.router session) }
         ensures kept { Keeps self.old self.new }
     {
         self.router.collect(session, max)
@@ -242,6 +247,22 @@ impl<V> Ground<V> {
         outcome
     }
 
+    /// Lets time pass for the stream of a place, where it is there: whether it is. A second time at the same moment nothing changes there.
+    pub fn tick(&mut self, at: PlaceAt, now: Moment) -> bool
+        requires within { IsWithin self.old at }
+        ensures holds { HoldsAt (passed result) at whats.Tick now self.old.world self.new.world }
+        ensures again { result ≡ true → HoldsAt (passed true) at whats.Tick now self.new.world self.new.world }
+        ensures last { result ≡ true → self.new.world.last ≡ Some at }
+        ensures router { self.new.world.router ≡ self.old.world.router }
+        ensures kept { Keeps self.old self.new }
+    {
+        if !tick_among(&mut self.places, at, now) {
+            return false;
+        }
+        self.last = Some(at);
+        true
+    }
+
     /// Puts the subjects of the new configuration beside the old ones, has the stream take it, and keeps the subjects that it has then. An `Err`
     /// changes nothing: a subject meets one of another stream, or memory ran out before.
     pub fn change(
@@ -280,10 +301,11 @@ impl<V> Ground<V> {
         Ok(outcome)
     }
 
-    /// Whether a consumer of the place is ready. There is no push consumer yet to whom somebody listens.
+    /// Whether a consumer of the place is ready. There is no push consumer yet to whom somebody listens; nor is there any other yet, so none is.
     pub fn ready(&self, at: PlaceAt, now: Moment) -> bool
         requires within { IsWithin self.now at }
         ensures value { IsReadyAt result at now self.now.world.places }
+        ensures none { result ≡ false }
     {
         let nobody = List::new(self.alloc);
         self.places[at.place as usize].ready(now, &nobody)

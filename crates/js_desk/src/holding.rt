@@ -133,7 +133,7 @@ fn hold_place<V>(
 }
 
 /// Whether the place keeps the incarnation that is asked for.
-fn is_kept<V>(place: &Place<V>, at: PlaceAt) -> bool
+pub(crate) fn is_kept<V>(place: &Place<V>, at: PlaceAt) -> bool
     ensures kept { result ≡ true → at.incarnation ≡ kept_incarnation place.now.state }
     ensures other { result ≡ false → kept_incarnation place.now.state ≢ at.incarnation }
 {
@@ -161,7 +161,7 @@ fn law_numbered<V>(place: &Place<V>)
 }
 
 /// A moment is below 2^62.
-fn law_moment(now: Moment)
+pub(crate) fn law_moment(now: Moment)
     ensures bound { now < 2 ^ 62 }
 {
     let _ = now.as_nanos();

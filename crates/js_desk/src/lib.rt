@@ -18,6 +18,7 @@ mod publishing;
 mod refusing;
 mod routing;
 mod solo_desk;
+mod ticking;
 mod untaken;
 mod volumes;
 mod walking;

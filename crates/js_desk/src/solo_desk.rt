@@ -1,6 +1,7 @@
 //! The desk of one caller, who owns the router, the catalog and the places.
 
-ghost use Rattle.std.specs.Prelude.{◌≡◌, ◌≤◌, IfErr, IfOk, IsTrue, None, false, length};
+ghost use Rattle.std.specs.Prelude.{◌≡◌, ◌≤◌, [], IfErr, IfOk, IsTrue, None, true, false, length};
+ghost use Rattle.js_model.specs.declared.desk.Collected.TheVariants.{Frames};
 ghost use Rattle.js_model.specs.Configs.{is_stream_subject};
 ghost use Rattle.js_api.specs.Desks.{opening};
 ghost use Rattle.js_desk.specs.Faults.{GivesBack};
@@ -11,7 +12,7 @@ ghost use Rattle.js_desk.specs.Solo.{SoloRun, frames_left};
 use crate::faults::{Closed, HubFault};
 use crate::ground::Ground;
 use crate::making::make_stream;
-use crate::passing::{settle, tick};
+use crate::passing::{rest, settle, tick};
 use crate::publishing::{Caller, publish};
 use crate::volumes::{give_back, open_places};
 use catalog::Catalog;
@@ -33,6 +34,8 @@ pub struct SoloDesk<V> {
     session: Option<u64>,
     /// Whether the session's client is told where nobody took its message.
     told: bool,
+    /// Whether a collect is known to give nothing: the last one gave nothing, and nothing can have been sent since.
+    idle: bool,
 }
 
 impl<V> Model for SoloDesk<V> {
@@ -43,7 +46,17 @@ impl<V> Model for SoloDesk<V> {
 
     ghost view = { λ desk. solo desk.ground desk.session desk.told };
 
-    ghost invariant = { λ desk. IsConsistent desk.ground desk.session desk.vols.items (vec_capacity desk.vols) };
+    ghost invariant = { λ desk. IsConsistent desk.ground desk.session desk.idle desk.vols.items (vec_capacity desk.vols) };
+}
+
+/// Whether no frame was given, and none is left.
+fn is_nothing(collected: &Collected) -> bool
+    ensures nothing { result ≡ true → collected.now ≡ Frames [] false }
+{
+    match collected {
+        Collected::Frames { list, more } => list.is_empty() && !*more,
+        Collected::Slow { length: _ } => false,
+    }
 }
 
 impl<V> SoloDesk<V> {
@@ -66,6 +79,7 @@ impl<V> SoloDesk<V> {
                 vols,
                 session: None,
                 told: false,
+                idle: false,
             }),
             Err(_) => Err(HubFault::NoMemory { vols }),
         }
@@ -85,6 +99,7 @@ impl<V> SoloDesk<V> {
         ensures client { self.new.client ≡ self.old.client }
         ensures is_open { self.new.is_open ≡ self.old.is_open }
     {
+        self.idle = false;
         make_stream(&mut self.ground, name, subject, now)
     }
 
@@ -98,6 +113,7 @@ impl<V> SoloDesk<V> {
             vols,
             session: _,
             told: _,
+            idle: _,
         } = self;
         let mut vols = vols;
         let mut places = ground.into_places();
@@ -117,6 +133,7 @@ impl<V> Desk for SoloDesk<V> {
     ghost to_collect = { λ desk. frames_left desk };
 
     fn open(&mut self) -> Result<u64, OpenFault> {
+        self.idle = false;
         match self.ground.open() {
             Ok(session) => {
                 self.session = Some(session);
@@ -134,6 +151,7 @@ impl<V> Desk for SoloDesk<V> {
         let Some(session) = self.session else {
             unreachable!()
         };
+        self.idle = false;
         self.ground.options(session, echo, headers);
         self.told = headers && no_responders;
     }
@@ -142,6 +160,7 @@ impl<V> Desk for SoloDesk<V> {
         let Some(session) = self.session else {
             unreachable!()
         };
+        self.idle = false;
         match self.ground.sub(session, subject, queue, sid) {
             Ok(()) => Ok(()),
             Err(RouteFault::TooManySubs) => Err(SubFault::TooManySubs),
@@ -155,6 +174,7 @@ impl<V> Desk for SoloDesk<V> {
         let Some(session) = self.session else {
             unreachable!()
         };
+        self.idle = false;
         match self.ground.unsub(session, sid, max) {
             Ok(()) => {}
             Err(_) => unreachable!(),
@@ -165,6 +185,7 @@ impl<V> Desk for SoloDesk<V> {
         let Some(session) = self.session else {
             unreachable!()
         };
+        self.idle = false;
         let caller = Caller {
             session,
             told: self.told,
@@ -173,21 +194,34 @@ impl<V> Desk for SoloDesk<V> {
     }
 
     fn tick(&mut self, now: Moment) -> Result<(), NoMemory> {
-        tick(&mut self.ground, now)
+        tick(&mut self.ground, now);
+        Ok(())
     }
 
     fn settle(&mut self, now: Moment) -> Result<bool, NoMemory> {
-        settle(&mut self.ground, now)
+        Ok(settle(&mut self.ground, now))
     }
 
     fn collect(&mut self, max: usize) -> Result<Collected, NoMemory> {
         let Some(session) = self.session else {
             unreachable!()
         };
+        self.idle = false;
         match self.ground.collect(session, max) {
-            Ok(collected) => Ok(collected),
+            Ok(collected) => {
+                self.idle = is_nothing(&collected);
+                Ok(collected)
+            }
             Err(_) => Err(NoMemory),
         }
+    }
+
+    fn rest(&mut self, now: Moment) -> bool {
+        if !self.idle {
+            return false;
+        }
+        rest(&mut self.ground, now);
+        true
     }
 
     fn close(&mut self) {
@@ -196,6 +230,7 @@ impl<V> Desk for SoloDesk<V> {
         };
         self.ground.close(session);
         self.session = None;
+        self.idle = false;
     }
 
     ghost made_nothing = { λ desk. solo_nothing desk };

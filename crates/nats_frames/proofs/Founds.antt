@@ -8,8 +8,8 @@ use Rattle.nats_frames.specs.declared.op.Op.{Op}
 use Rattle.nats_frames.specs.declared.op.Op.TheVariants.{Connect, Pub, HPub, Sub, Unsub, Ping, Pong}
 use Rattle.nats_frames.specs.declared.fault.Fault.{Fault}
 use Rattle.nats_frames.specs.declared.fault.Fault.TheVariants.{LineTooLong, PayloadTooBig, BadEnd}
-use Rattle.nats_frames.specs.Grammar.{Lacks, Line, ConnectLine, PubLine, HPubLine, SubLine, UnsubLine, PingLine, PongLine, Says, Tells, Carries, Spells}
-use Rattle.nats_frames.specs.Reading.{split_at, without_cr, words_at, Reading, Whole, Partial, Broken, ended, payload_at, parted, behind_line, line_at, at_line, op_at}
+use Rattle.nats_frames.specs.Grammar.{Lacks, Line, ConnectLine, PubLine, HPubLine, SubLine, UnsubLine, PingLine, PongLine, Tells, Spells}
+use Rattle.nats_frames.specs.Reading.{split_at, without_cr, Whole, Partial, Broken, ended, payload_at, parted, behind_line, line_at, at_line, op_at}
 use Rattle.nats_frames.proofs.Splits.{split_found}
 use Rattle.nats_frames.proofs.Wording.{read_says}
 use Rattle.nats_frames.proofs.Opening.{line_made}

@@ -1,5 +1,5 @@
 -- The names of operations, in any case.
-use Rattle.std.proofs.Common.{ℕ, suc, ◌≡◌, ◌+◌, ◌==◌, ◌||◌, Bool, true, false, ◌&&◌, cond, List, [], ◌∷◌, ◌++◌, length, take, drop, Option, Some, None, refl, sym, ◌∙◌, ap, ap₂, subst, arith, ◌⊎◌, inl, inr}
+use Rattle.std.proofs.Common.{ℕ, ◌≡◌, ◌+◌, ◌==◌, Bool, true, false, cond, [], ◌∷◌, ◌++◌, length, take, drop, Option, Some, None, refl, sym, ◌∙◌, ap, ap₂, subst, arith, ◌⊎◌, inl, inr}
 use Rattle.std.specs.Prelude.{codes, map, if◌then◌else◌}
 use Rattle.std.specs.Char.{to_ascii_lowercase}
 use Rattle.std.specs.List.{prefix_len, list_all}
@@ -10,7 +10,7 @@ use Rattle.std.proofs.lemmas.Slice.Eq.{bytes_eq-Decides}
 use Rattle.js_base.specs.Bytes.{Bytes, same}
 use Rattle.nats_frames.specs.declared.verb.Verb.{Verb}
 use Rattle.nats_frames.specs.declared.verb.Verb.TheVariants.{Connect, Pub, HPub, Sub, Unsub, Ping, Pong}
-use Rattle.nats_frames.specs.Grammar.{is_blank, is_solid, IsNamed}
+use Rattle.nats_frames.specs.Grammar.{is_solid, IsNamed}
 use Rattle.nats_frames.specs.Reading.{verb_of, words_at, args_at}
 use Rattle.nats_frames.proofs.FieldLemmas.{Stops, blank_is}
 

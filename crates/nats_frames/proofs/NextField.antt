@@ -1,13 +1,12 @@
 -- The next field of a line, by its place.
-use Rattle.std.proofs.Common.{ℕ, ◌≡◌, ◌+◌, ◌-◌, ◌<◌, ◌≤◌, List, [], ◌∷◌, length, take, drop, refl, sym, ◌∙◌, ap, ap₂, subst, arith}
+use Rattle.std.proofs.Common.{ℕ, ◌≡◌, ◌+◌, ◌-◌, ◌<◌, ◌≤◌, [], ◌∷◌, length, take, drop, sym, ◌∙◌, ap, ap₂, arith}
 use Rattle.std.specs.List.{prefix_len}
 use Rattle.std.proofs.lemmas.List.{drop-drop, length-drop}
 use Rattle.std.proofs.lemmas.List.Sums.{prefix_len-le-length}
 use Rattle.js_base.specs.Bytes.{Bytes}
-use Rattle.nats_frames.specs.declared.field.Span.{Span}
 use Rattle.nats_frames.specs.Grammar.{is_blank, is_solid}
 use Rattle.nats_frames.specs.Reading.{fields_of}
-use Rattle.nats_frames.specs.Fields.{span, part, IsWithin, IsNextField}
+use Rattle.nats_frames.specs.Fields.{span, IsNextField}
 use Rattle.nats_frames.proofs.FieldLemmas.{behind, no_field, first_field}
 
 -- so many blanks stand from the place on, and then so many bytes of a field

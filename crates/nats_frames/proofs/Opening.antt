@@ -1,12 +1,12 @@
 -- The first line, and what it begins.
-use Rattle.std.proofs.Common.{ℕ, ◌≡◌, ◌≢◌, ◌+◌, ◌-◌, ◌<◌, ◌≤◌, Bool, true, false, cond, [], ◌∷◌, ◌++◌, length, take, drop, nat_lt, refl, sym, ◌∙◌, ap, subst, arith, ◌⊎◌, inl, inr, Some, None, length-append, append_assoc}
+use Rattle.std.proofs.Common.{ℕ, ◌≡◌, ◌+◌, ◌-◌, ◌<◌, ◌≤◌, Bool, true, false, cond, [], ◌∷◌, ◌++◌, length, take, drop, refl, sym, ◌∙◌, ap, subst, arith, inl, inr, length-append, append_assoc}
 use Rattle.std.specs.Prelude.{Ok}
 use Rattle.std.proofs.lemmas.Bool.{lt-ltb, false≢true}
-use Rattle.std.proofs.lemmas.List.{append-nil, take-append-drop, take_at, drop_at}
+use Rattle.std.proofs.lemmas.List.{take-append-drop, take_at, drop_at}
 use Rattle.std.proofs.lemmas.Slice.Eq.{bytes_eq-Decides}
 use Rattle.js_base.specs.Bytes.{Bytes, crlf, same}
 use Rattle.nats_frames.specs.declared.fault.Fault.TheVariants.{LineTooLong}
-use Rattle.nats_frames.specs.Grammar.{Lacks, EndsWithoutCr, IsLineEnd, IsLine, Line, Says, Tells}
+use Rattle.nats_frames.specs.Grammar.{Lacks, EndsWithoutCr, IsLine, Line, Tells}
 use Rattle.nats_frames.specs.Reading.{without_cr, words_at, line_at, behind_line, at_line, Broken, op_at}
 use Rattle.nats_frames.proofs.Splits.{split_again, lacks_append, lacks_front}
 use Rattle.nats_frames.proofs.Wording.{says_read}

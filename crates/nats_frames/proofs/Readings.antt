@@ -1,13 +1,12 @@
 -- What is spelled as an operation is read as that operation.
-use Rattle.std.proofs.Common.{ℕ, ◌≡◌, ◌+◌, ◌<◌, ◌≤◌, cond, [], ◌∷◌, ◌++◌, length, take, drop, nat_lt, refl, sym, ◌∙◌, ap, ap₂, subst, arith, Option, length-append, append_assoc}
+use Rattle.std.proofs.Common.{ℕ, ◌≡◌, ◌+◌, ◌≤◌, ◌++◌, length, refl, sym, ◌∙◌, ap, ap₂, arith, length-append, append_assoc}
 use Rattle.std.proofs.lemmas.Bool.{le-ltb}
 use Rattle.std.proofs.lemmas.List.{take_at, drop_at}
 use Rattle.js_base.specs.Bytes.{Bytes, crlf}
 use Rattle.nats_frames.specs.declared.op.Op.{Op}
 use Rattle.nats_frames.specs.declared.op.Op.TheVariants.{Connect, Pub, HPub, Sub, Unsub, Ping, Pong}
-use Rattle.nats_frames.specs.declared.fault.Fault.TheVariants.{PayloadTooBig}
 use Rattle.nats_frames.specs.Grammar.{Line, ConnectLine, PubLine, HPubLine, SubLine, UnsubLine, PingLine, PongLine, Tells, Carries, Spells}
-use Rattle.nats_frames.specs.Reading.{Whole, Partial, Broken, ended, payload_at, parted, op_at}
+use Rattle.nats_frames.specs.Reading.{Whole, ended, payload_at, parted, op_at}
 use Rattle.nats_frames.proofs.Opening.{tells_read}
 
 -- a payload that is there, and what stands behind it

@@ -1,9 +1,8 @@
 -- Worked rows: the faults that stand at the front of bytes.
-use Rattle.std.specs.Prelude.{ℕ, ◌≡◌, ◌+◌, List, [], ◌∷◌, ◌++◌, Some, None, Ok, Err, codes, refl, length, replicate}
-use Rattle.js_base.specs.Bytes.{Bytes}
-use Rattle.nats_frames.specs.declared.op.Op.TheVariants.{Connect, Pub, HPub, Sub, Unsub, Ping, Pong}
-use Rattle.nats_frames.specs.declared.fault.Fault.TheVariants.{UnknownOp, LineTooLong, BadArgs, PayloadTooBig, BadEnd}
-use Rattle.nats_frames.specs.Reading.{Reading, Whole, Partial, Broken, op_at, words_at, args_at}
+use Rattle.std.specs.Prelude.{◌≡◌, codes, refl}
+use Rattle.nats_frames.specs.declared.op.Op.TheVariants.{Ping}
+use Rattle.nats_frames.specs.declared.fault.Fault.TheVariants.{UnknownOp, BadArgs, PayloadTooBig, BadEnd}
+use Rattle.nats_frames.specs.Reading.{Whole, Broken, op_at, words_at, args_at}
 
 -- ---- a name that is none
 

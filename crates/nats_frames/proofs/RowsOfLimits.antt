@@ -1,9 +1,9 @@
 -- Worked rows: the limits.
-use Rattle.std.specs.Prelude.{ℕ, ◌≡◌, ◌+◌, List, [], ◌∷◌, ◌++◌, Some, None, Ok, Err, codes, refl, length, replicate}
+use Rattle.std.specs.Prelude.{ℕ, ◌≡◌, [], ◌∷◌, ◌++◌, Some, None, codes, refl, length, replicate}
 use Rattle.js_base.specs.Bytes.{Bytes}
-use Rattle.nats_frames.specs.declared.op.Op.TheVariants.{Connect, Pub, HPub, Sub, Unsub, Ping, Pong}
-use Rattle.nats_frames.specs.declared.fault.Fault.TheVariants.{UnknownOp, LineTooLong, BadArgs, PayloadTooBig, BadEnd}
-use Rattle.nats_frames.specs.Reading.{Reading, Whole, Partial, Broken, op_at, words_at, args_at}
+use Rattle.nats_frames.specs.declared.op.Op.TheVariants.{Sub, Unsub}
+use Rattle.nats_frames.specs.declared.fault.Fault.TheVariants.{UnknownOp, LineTooLong, BadArgs, PayloadTooBig}
+use Rattle.nats_frames.specs.Reading.{Whole, Partial, Broken, op_at, words_at, args_at}
 
 -- ---- lines
 

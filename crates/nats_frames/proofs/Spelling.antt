@@ -1,14 +1,14 @@
 -- What is read of the fields of a line is how they are spelled, both ways.
-use Rattle.std.proofs.Common.{ℕ, zero, suc, ◌≡◌, ◌+◌, ◌<◌, ◌≤◌, Bool, true, false, ◌&&◌, List, [], ◌∷◌, ◌++◌, length, take, drop, refl, sym, ◌∙◌, ap, subst, arith, ◌⊎◌, inl, inr, length-append}
+use Rattle.std.proofs.Common.{ℕ, zero, suc, ◌≡◌, ◌<◌, true, false, List, [], ◌∷◌, ◌++◌, length, take, drop, refl, sym, ◌∙◌, ap, subst, arith, inl, inr}
 use Rattle.std.specs.List.{prefix_len, list_all}
-use Rattle.std.proofs.lemmas.Bool.{and_parts, false≢true, cases_lt}
+use Rattle.std.proofs.lemmas.Bool.{and_parts, cases_lt}
 use Rattle.std.proofs.lemmas.List.{append-nil, take-append-drop, length-drop}
 use Rattle.std.proofs.lemmas.List.Sums.{prefix_len-le-length}
 use Rattle.std.proofs.lemmas.List.Folds.{length-prefix_len}
 use Rattle.js_base.specs.Bytes.{Bytes}
 use Rattle.nats_frames.specs.Grammar.{is_blank, is_solid, IsGap, IsField, SpellsFields}
 use Rattle.nats_frames.specs.Reading.{fields_of}
-use Rattle.nats_frames.proofs.FieldLemmas.{Stops, IsCut, cut, blank_is, blanks_before, blanks_alone, field_before, behind, no_field, first_field, neither}
+use Rattle.nats_frames.proofs.FieldLemmas.{Stops, cut, blank_is, blanks_before, blanks_alone, field_before, behind, no_field, first_field, neither}
 
 -- a blank is not solid
 pub not_solid : (b : ℕ) → is_blank b ≡ true → is_solid b ≡ false

@@ -6,9 +6,9 @@ use crate::fault::told;
 use crate::look::{Look, look_at};
 use crate::op::FrameFault;
 use crate::shape::Shape;
-use bytes::{Bytes, BytesMut};
+use bytes::{BufMut, Bytes, BytesMut};
 use js_base::NoMemory;
-use std::alloc::Global;
+use std::alloc::{AllocError, Global};
 use std::marker::Model;
 
 /// The bytes of one operation, and where its parts stand in them.
@@ -39,6 +39,18 @@ impl Model for Front {
     ghost invariant = { λ front. IsScanned front.bytes.items front.scanned × IsQuiet op_at front.bytes.items front.quiet };
 }
 
+/// Adds a piece at the end of a buffer.
+fn add(bytes: &mut BytesMut, piece: &[u8]) -> Result<(), AllocError>
+    ensures ok { OnOk result (bytes.new.items ≡ bytes.old.items ++ piece.now) }
+    ensures err { OnErr result (bytes.new.items ≡ bytes.old.items) }
+{
+    match piece {
+        // Each piece of a client that sends byte by byte, which is stored with no call to copy it.
+        [byte] => bytes.put_u8(*byte),
+        _ => bytes.extend_from_slice(piece),
+    }
+}
+
 impl Front {
     ghost use Rattle.nats_frames.specs.Decoding.{Takes};
 
@@ -58,7 +70,7 @@ impl Front {
         ensures ok { OnOk result (self.new ≡ self.old ++ piece.now) }
         ensures err { OnErr result (self.new ≡ self.old) }
     {
-        match self.bytes.extend_from_slice(piece) {
+        match add(&mut self.bytes, piece) {
             Ok(()) => Ok(()),
             Err(_) => Err(NoMemory),
         }

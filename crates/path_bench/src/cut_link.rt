@@ -1,8 +1,8 @@
 //! A link over bytes in memory, which come in pieces of one length.
 
-ghost use Rattle.std.specs.Prelude.{◌≡◌, ◌<◌, ◌++◌, length, Some};
+ghost use Rattle.std.specs.Prelude.{◌≡◌, ◌<◌, ◌≤◌, ◌++◌, length, take, Some};
 ghost use Rattle.link_edge.specs.Takes.{IsTakeWithin, EndsAtEnd, taken_bytes};
-ghost use Rattle.path_bench.specs.Cutting.{cut_of, take_of, after_take, counted};
+ghost use Rattle.path_bench.specs.Cutting.{cut_of, take_of, after_take, counted, piece_len};
 
 use link_edge::{Give, Link, Take};
 use std::marker::Model;
@@ -28,6 +28,19 @@ impl Model for CutLink {
     ghost invariant = { λ s. (s.at ≤ length s.input.items) × (0 < s.len) };
 }
 
+/// Puts a piece at the front of a room.
+fn put(into: &mut [u8], piece: &[u8])
+    requires room { length piece.now ≤ length into.old }
+    ensures len { length into.new ≡ length into.old }
+    ensures front { take (length piece.now) into.new ≡ piece.now }
+{
+    match piece {
+        // Each piece where the length is one byte, which is stored with no call to copy it.
+        [byte] => into[0] = *byte,
+        _ => into[..piece.len()].copy_from_slice(piece),
+    }
+}
+
 impl CutLink {
     /// A link over the input, in pieces of this length.
     pub(crate) fn new(input: Vec<u8>, len: usize) -> CutLink
@@ -47,6 +60,17 @@ impl CutLink {
         ensures value { result ≡ length self.now.left }
     {
         self.input.len() - self.at
+    }
+
+    /// How long the next piece is, where there is so much room.
+    fn piece_len(&self, room: usize) -> usize
+        ensures value { result ≡ piece_len self.now room }
+    {
+        let left = self.left();
+        if self.len <= left && self.len <= room {
+            return self.len;
+        }
+        self.len.min(left).min(room)
     }
 
     /// How many bytes it was given.
@@ -77,13 +101,13 @@ impl Link for CutLink {
         ensures bytes { self.old.left ≡ taken_bytes result into.new ++ self.new.left }
         ensures end { EndsAtEnd result (Some self.new.left) }
     {
-        let (_, left) = self.input.as_slice().split_at(self.at);
-        let count = self.len.min(left.len()).min(into.len());
+        let count = self.piece_len(into.len());
         if count == 0 {
             return Take::Ended;
         }
+        let (_, left) = self.input.as_slice().split_at(self.at);
         let (piece, _) = left.split_at(count);
-        into[..count].copy_from_slice(piece);
+        put(into, piece);
         self.at += count;
         Take::Got(count)
     }

@@ -7,14 +7,16 @@ ghost use Rattle.std.specs.Prelude.{◌<◌};
 
 mod cut_link;
 mod serving;
+mod still_clock;
 
-use js_base::{List, read_decimal};
-use link_edge::{Clock, MemClock, SystemClock};
+use js_base::read_decimal;
+use link_edge::{Clock, SystemClock};
 use serving::{Served, serve};
 use session::Ended;
 use std::env;
 use std::io::{self, Read, Write};
 use std::process::ExitCode;
+use still_clock::StillClock;
 
 /// The piece's length that the one word tells.
 fn piece_len(rt: &HostRuntime) -> Option<usize> {
@@ -38,8 +40,9 @@ fn report(rt: &HostRuntime, input: Vec<u8>, len: usize) -> io::Result<ExitCode>
     requires len { 0 < len }
 {
     let bytes = input.len();
-    let now = SystemClock::new(rt).now();
-    let mut clock = MemClock::new(List::new(rt.alloc()), now);
+    let mut clock = StillClock {
+        moment: SystemClock::new(rt).now(),
+    };
     match serve(rt.alloc(), input, len, &mut clock) {
         Ok(Served { left, given, ended }) => {
             println!(rt; "bytes={bytes} left={left} given={given} ended={ended:?}")?;

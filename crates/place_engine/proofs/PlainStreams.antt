@@ -1,5 +1,6 @@
 -- What the rules of streams come to where limits are the defaults and there are no consumers and ids.
-use Rattle.std.proofs.Common.{◌≡◌, ◌≢◌, ◌≤◌, ◌<◌, ◌++◌, ◌-◌, length, drop, arith, ℕ, ◌+◌, ◌^◌, max, min, nat_lt, List, [], ◌∷◌, map, filter, Bool, true, false, ◌==◌, if◌then◌else◌, Option, None, Some, unwrap_or, refl, sym, ap, ◌∙◌, subst, IsTrue}
+use Rattle.std.proofs.Common.{◌≡◌, ◌≢◌, ◌≤◌, ◌++◌, ◌-◌, length, drop, arith, ℕ, ◌+◌, ◌^◌, max, min, nat_lt, List, [], ◌∷◌, map, filter, Bool, true, false, ◌==◌, if◌then◌else◌, Option, None, Some, unwrap_or, refl, sym, ap, subst, ◌∙◌, IsTrue}
+use Rattle.std.proofs.Math.Nat.{max-eq_left, le-max_right}
 use Rattle.std.specs.List.{flat_map}
 use Rattle.std.proofs.lemmas.Bool.{eq-eqb, ne_eqb}
 use Rattle.js_base.specs.Bytes.{Bytes, last_of}
@@ -21,7 +22,7 @@ use Rattle.js_model.specs.declared.reply.Verdict.TheVariants.{Take, Refused as R
 use Rattle.js_model.specs.declared.reply.Reply.{Reply}
 use Rattle.js_model.specs.declared.reply.Answer.{Answer}
 use Rattle.js_model.specs.declared.reply.Reply.TheVariants.{Published, Refused, Silent, Done, Info as StreamTold}
-use Rattle.js_model.specs.Streams.{only, first_seq}
+use Rattle.js_model.specs.Streams.{only}
 use Rattle.js_model.specs.Advance.{advance, advance_outs, aged, stream_at, young, remembered, consumer_at}
 use Rattle.js_model.specs.Trim.{trim, trim_subjects, trim_count, trim_bytes, newest_at, fitting_at}
 use Rattle.js_model.specs.Retention.{kept, is_kept}
@@ -158,6 +159,23 @@ quiet_at s what now reply plain says =
 -- time passes
 pub ticks : (s : Stream) (now : ℕ) → IsPlainStream s → StreamAnswers s Tick now Silent (Live (moved s now))
 ticks s now plain = quiet_at s Tick now Silent plain refl
+
+plain_moved : (s : Stream) (now : ℕ) → IsPlainStream s → IsPlainStream (moved s now)
+plain_moved s now plain = record {
+  config = plain.config;
+  valid = plain.valid;
+  ids = plain.ids;
+  consumers = plain.consumers;
+  incarnation = plain.incarnation;
+  last = plain.last;
+  messages = plain.messages;
+}
+
+-- and a second time at the same moment it stays as it is
+pub ticks_again : (s : Stream) (now : ℕ) → IsPlainStream s → StreamAnswers (moved s now) Tick now Silent (Live (moved s now))
+ticks_again s now plain =
+    let same : moved (moved s now) now ≡ moved s now = ap (λ (n : ℕ). record s { moment = n }) (max-eq_left (le-max_right s.moment now)) in
+    subst (λ (x : Stream). StreamAnswers (moved s now) Tick now Silent (Live x)) same (ticks (moved s now) now (plain_moved s now plain))
 
 -- its information does not tell its moment
 info-moved : (s : Stream) (now : ℕ) → stream_info (moved s now) ≡ stream_info s

@@ -1,6 +1,6 @@
 -- The messages that are kept, and their sizes.
-use Rattle.std.proofs.Common.{◌≡◌, ◌≤◌, ◌<◌, ◌++◌, ◌-◌, ◌+◌, ◌*◌, ◌^◌, ℕ, zero, suc, true, IsTrue, arith, length, drop, List, [], ◌∷◌, refl, sym, ap, ◌∙◌, Bor}
-use Rattle.std.specs.Prelude.{All, sum_by, ◌&&◌, nat_le, slice_index_or, Option, None, Some}
+use Rattle.std.proofs.Common.{◌≡◌, ◌≤◌, ◌++◌, ◌-◌, ◌+◌, ◌*◌, ◌^◌, ℕ, IsTrue, arith, length, drop, List, [], ◌∷◌, refl, sym, ap, ◌∙◌, Bor}
+use Rattle.std.specs.Prelude.{All, sum_by, slice_index_or, Option, None, Some}
 use Rattle.std.proofs.lemmas.Bool.{and_parts, leb-true}
 use Rattle.std.proofs.lemmas.List.{length-append, length-drop}
 use Rattle.std.proofs.lemmas.List.Sums.{sum_by-cons, sum_by_push, sum_by-le}

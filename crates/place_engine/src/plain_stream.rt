@@ -1,6 +1,6 @@
 //! A stream whose limits are the defaults, without consumers and message ids, in memory.
 
-ghost use Rattle.std.specs.Prelude.{◌≡◌, ◌+◌, ◌^◌, ◌<◌, ℕ, Option, max, IfOk, OnErr, IsTrue, length};
+ghost use Rattle.std.specs.Prelude.{◌≡◌, ◌+◌, ◌^◌, ◌<◌, ℕ, false, Option, max, IfOk, OnErr, IsTrue, length};
 ghost use Rattle.std.specs.List.{list_any};
 ghost use Rattle.std.specs.Option.{option_copied};
 ghost use Rattle.js_base.specs.Bytes.{Bytes};
@@ -108,9 +108,11 @@ impl PlainStream {
         Ok(self.info_with(copy_stream_config(self.alloc, &self.config)?))
     }
 
-    /// Lets time pass: its moment is the handed one, or its own where that is later.
+    /// Lets time pass: its moment is the handed one, or its own where that is later. A second time at the same moment it stays as it is.
     pub fn tick(&mut self, now: Moment)
         ensures answers { StreamAnswers self.old whats.Tick now Silent (Live self.new) }
+        ensures again { StreamAnswers self.new whats.Tick now Silent (Live self.new) }
+        ensures kept { self.new.incarnation ≡ self.old.incarnation }
     {
         self.moment = later(self.moment, now);
     }
@@ -188,6 +190,7 @@ impl PlainStream {
     /// Whether a consumer is ready at a moment. There are none.
     pub fn ready(&self, now: Moment, listening: &Listening) -> bool
         ensures value { result ≡ list_any (is_ready (advance self.now now) listening.now) (advance self.now now).consumers }
+        ensures none { result ≡ false }
     {
         // that there are none is what the proof takes from this look
         let _ = &self.config;

@@ -1,6 +1,6 @@
 //! What a place holds, in memory.
 
-ghost use Rattle.std.specs.Prelude.{◌≡◌, ◌≤◌, ◌<◌, ◌^◌, ℕ, IfOk, IfSome, OnErr, Option, IsTrue};
+ghost use Rattle.std.specs.Prelude.{◌≡◌, ◌≤◌, ◌<◌, ◌^◌, ℕ, false, IfOk, IfSome, OnErr, Option, IsTrue};
 ghost use Rattle.std.specs.Option.{option_copied};
 ghost use Rattle.js_base.specs.Bytes.{Bytes};
 ghost use Rattle.js_model.specs.declared.stream.State.TheVariants.{Vacant};
@@ -96,6 +96,7 @@ impl Slot {
     /// Whether a consumer is ready at a moment.
     pub fn ready(&self, now: Moment, listening: &Listening) -> bool
         ensures value { result ≡ some_ready self.now now listening.now }
+        ensures none { result ≡ false }
     {
         match &self.held {
             Held::Nothing(_) => false,
@@ -116,7 +117,10 @@ impl Slot {
             What::Change { reply: _, config } => self.change(config, now),
             What::Drop { reply: _ } => self.drop_stream(),
             What::Publish(publish) => self.publish(publish, now),
-            What::Tick => Ok(self.tick(now)),
+            What::Tick => {
+                self.tick(now);
+                Ok(Reply::Silent)
+            }
             What::StreamInfo { reply: _ } => self.show(now),
             _ => unreachable!(),
         }
@@ -199,15 +203,15 @@ impl Slot {
     }
 
     /// Lets time pass for the stream.
-    fn tick(&mut self, now: Moment) -> Reply
-        ensures answers { PlaceAnswers self.old What.Tick now result self.new }
-        ensures shown { IsShown result }
+    pub fn tick(&mut self, now: Moment)
+        ensures answers { PlaceAnswers self.old What.Tick now Reply.Silent self.new }
+        ensures again { PlaceAnswers self.new What.Tick now Reply.Silent self.new }
+        ensures kept { kept_incarnation self.new ≡ kept_incarnation self.old }
     {
         match &mut self.held {
             Held::Nothing(_) => {}
             Held::Stream(stream) => stream.tick(now),
         }
-        Reply::Silent
     }
 
     /// Shows the stream's information.

@@ -4,3 +4,4 @@ pub mod Tables
 pub mod Taking
 pub mod Searching
 pub mod Groups
+mod Idle

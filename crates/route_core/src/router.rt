@@ -1,9 +1,11 @@
 //! The router: it carries messages between the sessions of one owner, by the NATS client protocol.
 
-ghost use Rattle.std.specs.Prelude.{◌≡◌, ◌<◌, ◌^◌, IfOk, OnErr};
+ghost use Rattle.std.specs.Prelude.{◌≡◌, ◌<◌, ◌^◌, [], false, IfOk, OnErr};
 ghost use Rattle.std.specs.Option.{option_copied};
 ghost use Rattle.js_model.specs.Router.{IsRoute, Open, Close, Options, Sub, Unsub, Publish, Interest, Collect, Done, Listens, empty_router};
 ghost use Rattle.js_model.specs.Routing.{open_told, done_told, publish_told, collected_told, StaysOpen, KeepsOpen, ClosesOne, Opens, waiting_for, LeavesFewer};
+ghost use Rattle.js_model.specs.declared.desk.Collected.TheVariants.{Frames};
+ghost use Rattle.route_core.specs.Idle.{IsIdle};
 
 use crate::delivery::{deliveries, hand_over_all};
 use crate::sessions::{
@@ -157,11 +159,13 @@ impl Router {
     }
 
     /// Takes frames that wait for the session, the first ones that have at most `max` bytes together, but one where any waits, and tells
-    /// whether more wait. `Slow` comes exactly where the session is marked, with how many bytes would have waited; the session stays marked.
-    /// `NoSession` comes exactly where the session is not open. An `Err` changes nothing.
+    /// whether more wait. Where it takes none and no more wait, another collect would take none either and change nothing. `Slow` comes exactly
+    /// where the session is marked, with how many bytes would have waited; the session stays marked. `NoSession` comes exactly where the session
+    /// is not open. An `Err` changes nothing.
     pub fn collect(&mut self, session: u64, max: usize) -> Result<Collected, RouteFault>
         ensures routes { IsRoute self.old (Collect session max) (collected_told result) self.new }
         ensures left { LeavesFewer result (waiting_for self.old session) (waiting_for self.new session) }
+        ensures idle { IfOk result (λ got. (got ≡ Frames [] false) → IsIdle self.new session) }
         ensures stay { KeepsOpen self.old self.new }
         ensures err { OnErr result (self.new ≡ self.old) }
     {

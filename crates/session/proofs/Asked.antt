@@ -1,5 +1,5 @@
 -- Laws of the desk call of an operation.
-use Rattle.std.proofs.Common.{◌≡◌, ℕ, ◌+◌, ◌≤◌, ◌&&◌, Bool, true, false, IsTrue, IfSome, cond, length, codes, List, [], ◌∷◌, ◌++◌, Option, Some, None, Result, Ok, Err, IsErrAnd, OnOk, refl, sym, ap, subst, ◌∙◌}
+use Rattle.std.proofs.Common.{◌≡◌, ℕ, ◌&&◌, Bool, true, false, IsTrue, IfSome, cond, codes, List, [], ◌∷◌, ◌++◌, Option, Some, None, Result, Ok, Err, IsErrAnd, OnOk, refl, sym, ap, subst, ◌∙◌}
 use Rattle.std.proofs.lemmas.Bool.{and_parts}
 use Rattle.std.proofs.lemmas.List.{append-nil}
 use Rattle.js_base.specs.Bytes.{Bytes}
@@ -15,7 +15,7 @@ use Rattle.js_api.specs.Calls.{DeskCall, DeskAnswer, Sub, Publish, NoMemory, Mak
 use Rattle.session.specs.Manners.{peer_of}
 use Rattle.session.specs.Calling.{Called}
 use Rattle.session.specs.Leading.{Led}
-use Rattle.session.specs.Peer.{Peer, Request, Calls, IsWrong, IsRefused, called_bytes, is_reply, message as message_of, op_request, peer_after_op, publishing, subscribing}
+use Rattle.session.specs.Peer.{Request, Calls, IsWrong, IsRefused, called_bytes, is_reply, message as message_of, op_request, peer_after_op, publishing, subscribing}
 use Rattle.session.specs.Talk.{AreAsked, IsAnswered, all_called_bytes, op_answer}
 use Rattle.session.proofs.Led.{one_led}
 use Rattle.session.specs.Asking.{IsUnchecked, said_for, IsAsked, IsUnfinished, Unanswered, Unsaid, Asks}

@@ -7,10 +7,10 @@ use Rattle.js_api.specs.Clients.{Client}
 use Rattle.js_api.specs.Calls.{Tick, Done, NoMemory, Slow, Makes}
 use Rattle.session.specs.Calling.{Called, entries_of_calls}
 use Rattle.session.specs.Gathering.{AreGathered, IsBeforeCollect, IsAnsweredBy, Uncollected, collected}
-use Rattle.session.specs.Leading.{Led, Adds}
+use Rattle.session.specs.Leading.{Adds}
 use Rattle.session.specs.Manners.{peer_of}
 use Rattle.session.specs.Peer.{Act, Ticks, Peer, peer_after, request}
-use Rattle.session.specs.Talk.{Spoken, IsBegun, Unasked as BegunUnasked, Unanswered as BegunUnanswered, Ungathered, direct_answer}
+use Rattle.session.specs.Talk.{IsBegun, Unasked as BegunUnasked, Unanswered as BegunUnanswered, Ungathered, direct_answer}
 use Rattle.session.specs.Asking.{Asks, IsAsked, IsUnfinished, Unasked, Unanswered, Unsaid}
 use Rattle.session.specs.Settling.{IsGatheringSlowed, Gathers}
 use Rattle.session.specs.Carrying.{IsCarried, IsSlow, Carries}

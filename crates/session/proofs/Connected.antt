@@ -7,7 +7,6 @@ use Rattle.serde_json.specs.Data.{Members}
 use Rattle.js_base.specs.Bytes.{Bytes}
 use Rattle.js_json.specs.Objects.{object_of}
 use Rattle.js_json.specs.Answers.{ReadsObject}
-use Rattle.js_json.specs.declared.fields.Fields.{Fields}
 use Rattle.js_json.specs.declared.fault.JsonFault.{JsonFault}
 use Rattle.js_json.specs.declared.fault.JsonFault.TheVariants.{NotJson, NotObject, BadField, NoMemory}
 use Rattle.session.specs.Connecting.{connect_options, options_in}

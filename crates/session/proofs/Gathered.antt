@@ -1,5 +1,5 @@
 -- Laws of a gathering: its rounds, one after the other.
-use Rattle.std.proofs.Common.{◌≡◌, ◌<◌, ◌≤◌, ℕ, ◌+◌, Bool, true, false, List, [], ◌∷◌, ◌++◌, length, Result, Ok, Err, refl, sym, ap, subst, ◌∙◌, append_assoc, inl, inr, arith, length-append}
+use Rattle.std.proofs.Common.{◌≡◌, ◌<◌, ℕ, ◌+◌, Bool, true, false, List, [], ◌∷◌, ◌++◌, length, Err, refl, sym, ap, subst, ◌∙◌, append_assoc, inl, inr, arith, length-append}
 use Rattle.std.proofs.lemmas.List.{append-nil}
 use Rattle.std.proofs.lemmas.Grind.{flat_map-append}
 use Rattle.js_base.specs.Bytes.{Bytes}
@@ -7,7 +7,7 @@ use Rattle.js_api.specs.Desks.{DeskEntry}
 use Rattle.js_api.specs.Clients.{Client}
 use Rattle.js_api.specs.Calls.{Settle, Settled, NoMemory, Makes}
 use Rattle.session.specs.Calling.{Called}
-use Rattle.session.specs.Gathering.{Round, IsRound, AreReady, AreCollects, AreGathered, IsSettle, IsBeforeSettle, IsGatheringCut, InCollect, InSettle, all_round_calls, round_calls, most_rounds, given_by}
+use Rattle.session.specs.Gathering.{Round, IsRound, AreReady, AreCollects, AreGathered, IsSettle, IsBeforeSettle, IsGatheringCut, InCollect, InSettle, all_round_calls, round_calls, most_rounds}
 use Rattle.session.specs.Leading.{Led, Adds}
 use Rattle.session.specs.Collecting.{AreSlowed, AreStarved, Collects}
 use Rattle.session.specs.Settling.{AreSettled, IsRoundCut, IsRoundSlowed, IsGatheringSlowed, SettlesOnce, Gathers}

@@ -1,5 +1,5 @@
 -- Laws of what a link was given.
-use Rattle.std.proofs.Common.{◌≡◌, ◌+◌, ◌<◌, ℕ, suc, List, [], ◌∷◌, ◌++◌, length, Option, ap, sym, ◌∙◌, take, drop, get_or}
+use Rattle.std.proofs.Common.{◌≡◌, ◌+◌, ◌<◌, ℕ, suc, [], ◌++◌, length, Option, ap, sym, ◌∙◌, take, drop, get_or}
 use Rattle.std.proofs.Math.Seq.{take-add, drop-cons}
 use Rattle.std.proofs.lemmas.List.{take-append-drop}
 use Rattle.js_base.specs.Bytes.{Bytes}

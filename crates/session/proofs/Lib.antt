@@ -10,6 +10,7 @@ pub mod Behind
 pub mod Parted
 pub mod Stopped
 pub mod Ticked
+pub mod Rested
 pub mod Heard
 pub mod Turned
 pub mod Conversing

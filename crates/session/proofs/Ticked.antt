@@ -7,7 +7,7 @@ use Rattle.link_edge.proofs.Told.{grown-nil}
 use Rattle.js_api.specs.Desks.{DeskEntry}
 use Rattle.js_api.specs.Calls.{Tick}
 use Rattle.session.specs.Peer.{Act, Ticks, Peer, Calls, IsRefused as Refuses}
-use Rattle.session.specs.Talk.{Spoken, EndsBy, IsCutOff, IsFrontOf, IsWritten, heard_bytes, last_line, spoken_bytes, entries_of_all, entries_of_spoken}
+use Rattle.session.specs.Talk.{EndsBy, IsCutOff, IsFrontOf, IsWritten, heard_bytes, last_line, spoken_bytes, entries_of_all, entries_of_spoken}
 use Rattle.session.specs.Carrying.{Carries, IsCarried}
 use Rattle.session.specs.Giving.{GivesPart, end_of}
 use Rattle.session.specs.Parting.{Parts, PartsAt}

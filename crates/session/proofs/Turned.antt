@@ -16,7 +16,7 @@ use Rattle.js_api.specs.Clients.{Client}
 use Rattle.session.specs.Calling.{Called}
 use Rattle.session.specs.Keeping.{pinged, ping_bytes}
 use Rattle.session.specs.Peer.{Act, Hears as Hearing, Peer}
-use Rattle.session.specs.Talk.{Spoken, AreSpoken, Stage, start, Turn, Within, Waiting, Told, Nothing, IsUnspent, IsWithin, IsCause, Ends, EndsPinging, EndsBy, IsUnwritten, IsCutOff, last_line, is_due, greeting, heard_bytes, heard_in, peer_in, pinged_peer, spoken_bytes, entries_of_spoken}
+use Rattle.session.specs.Talk.{Spoken, Stage, start, Turn, Within, Waiting, Told, Nothing, IsUnspent, IsWithin, IsCause, Ends, EndsPinging, EndsBy, IsUnwritten, IsCutOff, last_line, is_due, greeting, heard_bytes, heard_in, peer_in, pinged_peer, spoken_bytes, entries_of_spoken}
 use Rattle.session.specs.Ticking.{IsTicked, IsTickCut, Stops}
 use Rattle.session.specs.Hearing.{IsHeard, IsCut, StopsAt}
 use Rattle.session.proofs.Behind.{front_of, ends_behind}

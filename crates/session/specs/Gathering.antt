@@ -6,7 +6,7 @@ use Rattle.js_base.specs.Bytes.{Bytes}
 use Rattle.js_base.specs.Framing.{frame}
 use Rattle.js_base.specs.declared.frame.Frame.{Frame}
 use Rattle.js_api.specs.Clients.{Client}
-use Rattle.js_api.specs.Calls.{Settle, Collect, DeskAnswer, Settled, Gave, Slow, NoMemory}
+use Rattle.js_api.specs.Calls.{Settle, Collect, DeskAnswer, Settled, Gave, NoMemory}
 use Rattle.session.specs.Calling.{Called, IsMade}
 
 -- ---- the bytes

@@ -1,4 +1,4 @@
-use Rattle.std.proofs.Common.{◌≡◌, ◌∙◌, ◌+◌, ◌-◌, ◌*◌, ap, suc, arith}
+use Rattle.std.proofs.Common.{◌≡◌, ◌∙◌, ◌+◌, ◌-◌, ap, suc, arith}
 use Rattle.catalog.specs.Numbers.{numbers, without_numbers}
 use Rattle.catalog.proofs.Numbering.{drop_more, drop_done}
 use Rattle.catalog.proofs.listing.drop_all.Goals as goal

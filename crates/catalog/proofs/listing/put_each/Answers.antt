@@ -1,7 +1,7 @@
-use Rattle.std.proofs.Common.{◌≡◌, ◌∙◌, ◌+◌, ◌*◌, ◌<◌, ◌≤◌, ◌++◌, [], ◌∷◌, ap, sym, subst, take, length, arith, length-take, List}
+use Rattle.std.proofs.Common.{◌∙◌, ◌+◌, ◌≤◌, [], ◌∷◌, ap, sym, subst, take, length, arith, length-take, List}
 use Rattle.route_index.specs.declared.sub.Sub.{Sub}
 use Rattle.route_index.specs.Subs.{IsAbove}
-use Rattle.catalog.specs.Numbers.{numbers, numbered, without_numbers}
+use Rattle.catalog.specs.Numbers.{numbers, without_numbers}
 use Rattle.catalog.proofs.Numbering.{taken_back, put_more, above_put}
 use Rattle.catalog.proofs.listing.put_each.Goals as goal
 

@@ -1,5 +1,4 @@
 use Rattle.std.proofs.Common.{◌∙◌, sym}
-use Rattle.js_model.specs.Catalog as catalog
 use Rattle.js_model.specs.declared.event.What.TheVariants as whats
 use Rattle.js_api.specs.Api.{free_if_dropped}
 use Rattle.js_desk.proofs.Asked.{held_alone, held_and, dropped_freed, undropped_kept}

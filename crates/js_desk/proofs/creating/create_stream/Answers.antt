@@ -2,7 +2,7 @@ use Rattle.std.proofs.Common.{refl}
 use Rattle.std.specs.Prelude.{codes, is_ok}
 use Rattle.js_model.specs.declared.event.What.TheVariants as whats
 use Rattle.js_api.specs.Api.{IsAdding, IsOnStream, unchanged}
-use Rattle.js_desk.proofs.Asked.{held_alone, may_make, on_stream, is_absent, is_present}
+use Rattle.js_desk.proofs.Asked.{held_alone, on_stream, is_absent, is_present}
 use Rattle.js_desk.proofs.creating.create_stream.Goals as goal
 
 pub returns-in-Some-clause-performs : goal.returns-in-Some-clause-performs

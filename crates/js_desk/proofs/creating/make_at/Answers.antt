@@ -1,7 +1,7 @@
-use Rattle.std.proofs.Common.{◌∙◌, sym}
+use Rattle.std.proofs.Common.{sym}
 use Rattle.js_model.specs.declared.event.What.TheVariants as whats
 use Rattle.js_api.specs.Api.{free_unless_made}
-use Rattle.js_desk.proofs.Asked.{held_alone, held_and, made_kept, unmade_freed}
+use Rattle.js_desk.proofs.Asked.{held_and, unmade_freed}
 use Rattle.js_desk.proofs.creating.make_at.Goals as goal
 
 pub returns-then-not-is_shown-clause-makes : goal.returns-then-not-is_shown-clause-makes

@@ -1,5 +1,4 @@
-use Rattle.std.proofs.Common.{◌≡◌, ◌≤◌, ◌^◌, ℕ, IsTrue, ap, sym, subst, ◌∙◌}
-use Rattle.js_model.specs.declared.event.Event.{Event}
+use Rattle.std.proofs.Common.{◌≤◌, ◌^◌, ℕ, IsTrue, ap, sym, subst, ◌∙◌}
 use Rattle.js_model.specs.Proper.{is_proper}
 use Rattle.js_desk.proofs.Outcomes.{proper_event}
 use Rattle.js_desk.proofs.holding.event_for.Goals as goal

@@ -1,4 +1,4 @@
-use Rattle.std.proofs.Common.{Some, refl}
+use Rattle.std.proofs.Common.{refl}
 use Rattle.js_model.specs.Catalog as catalog
 use Rattle.js_api.specs.Making as makings
 use Rattle.js_desk.proofs.Made.{adding_made, adding_stopped}

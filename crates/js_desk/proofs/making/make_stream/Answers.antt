@@ -1,4 +1,4 @@
-use Rattle.std.proofs.Common.{◌∙◌, refl, sym, ap}
+use Rattle.std.proofs.Common.{◌∙◌, refl, sym}
 use Rattle.js_desk.proofs.Made.{stands, added_new, unprepared}
 use Rattle.js_desk.proofs.making.make_stream.Goals as goal
 

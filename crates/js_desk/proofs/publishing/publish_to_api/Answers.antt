@@ -1,4 +1,4 @@
-use Rattle.std.proofs.Common.{Ok, Err, refl}
+use Rattle.std.proofs.Common.{Ok, refl}
 use Rattle.js_desk.proofs.BySubject.{api_answered, api_untaken, api_unread}
 use Rattle.js_desk.proofs.Published.{given}
 use Rattle.js_desk.proofs.publishing.publish_to_api.Goals as goal

@@ -1,4 +1,4 @@
-use Rattle.std.proofs.Common.{◌≡◌, ◌+◌, ◌≤◌, ◌++◌, length, vec_len}
+use Rattle.std.proofs.Common.{◌≡◌, ◌+◌, ◌≤◌, ◌++◌, vec_len}
 use Rattle.std.specs.Prelude.{reverse, vec_capacity}
 use Rattle.js_desk.specs.Grounds.{volumes}
 use Rattle.js_desk.proofs.volumes.give_back.Given as goal

@@ -1,4 +1,4 @@
-use Rattle.session.proofs.Parted.{parts_whole, parts_cut, parts_starved}
+use Rattle.session.proofs.Parted.{parts_whole, parts_starved}
 use Rattle.session.proofs.parting.part.Goals as goal
 
 pub returns-in-Err-clause-parts : goal.returns-in-Err-clause-parts

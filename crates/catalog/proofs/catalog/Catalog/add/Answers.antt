@@ -1,5 +1,4 @@
 use Rattle.std.proofs.Common.{refl, inr}
-use Rattle.js_model.specs.Catalog.{catalog_call}
 use Rattle.catalog.proofs.Catalogs.{free_unused, checked_apart, refused_add, made_add}
 use Rattle.catalog.proofs.catalog.Catalog.add.Goals as goal
 

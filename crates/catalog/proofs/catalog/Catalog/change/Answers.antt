@@ -1,5 +1,4 @@
-use Rattle.std.proofs.Common.{◌≡◌, ◌∙◌, ◌<◌, true, length, refl, inr, ap, sym, subst, arith}
-use Rattle.js_model.specs.Catalog.{catalog_call}
+use Rattle.std.proofs.Common.{◌≡◌, ◌<◌, true, length, refl, inr, ap, sym, subst, arith}
 use Rattle.js_model.specs.Cataloging.{MayChange}
 use Rattle.catalog.specs.Entries.{is_open}
 use Rattle.catalog.specs.Apart.{IsApart}

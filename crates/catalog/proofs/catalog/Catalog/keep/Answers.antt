@@ -1,10 +1,11 @@
 use Rattle.std.proofs.Common.{◌<◌, length, arith}
-use Rattle.std.proofs.Common.{◌∙◌, ◌+◌, ◌*◌, ◌^◌, ℕ, ap}
+use Rattle.std.proofs.Common.{◌∙◌, ℕ, ap}
 use Rattle.js_model.specs.Catalog.{Catalog, Done, telling, catalog_call, on_used, keeping}
 use Rattle.js_model.specs.Cataloging.{MayKeep}
 use Rattle.catalog.specs.Numbers.{numbers, without_numbers}
 use Rattle.catalog.specs.Entries.{lists_of}
 use Rattle.catalog.proofs.Catalogs.{has_within, inside_within, edited_view, parts_of, keep_parts, keep_none, left_fits}
+use Rattle.catalog.proofs.Using.{still_used}
 use Rattle.catalog.proofs.catalog.Catalog.keep.Goals as goal
 
 pub index_mut-requires : goal.index_mut-requires
@@ -25,14 +26,16 @@ invariant_of-self c =
     let left = c.drop.ensures.left ∙ ap (λ (n : ℕ). without_numbers (numbers c.in-Some.left.first n) c.self.inside.listing.index) c.len.ensures in
     let h = keep_parts c.self.inside.entries.items c.self.inside.names c.self.inside.listing c.drop.new.self c.args.place c.args.new c.index_mut.result.now c.keep.new.self c.in-Some.left
     (parts_of c.self.inside c.self.invariant) within c.index_mut.ensures.value c.in-Some.ensures.value c.in-Some.ensures.left left c.drop.ensures.rounds in
-    record { few = h.few; names = h.names; lists = h.lists; apart = h.apart }
+    let still = still_used (keeping c.args.new) c.self.inside.entries.items c.args.place c.index_mut.result.now c.keep.new.self within c.index_mut.ensures.value c.in-Some.ensures.value in
+    record { few = h.few; names = h.names; lists = h.lists; apart = h.apart; used = c.self.invariant.used ∙ still }
 
 pub invariant_of-self-in-None : goal.invariant_of-self-in-None
 invariant_of-self-in-None c =
     let within = inside_within c.self.inside.entries.items c.args.self.now c.args.place c.self.view_is (has_within c.args.self.now c.args.place MayKeep c.requires.both) in
     let h = keep_none c.self.inside.entries.items c.self.inside.names c.self.inside.listing c.args.place c.args.new c.index_mut.result.now c.keep.new.self (parts_of c.self.inside c.self.invariant) within
     c.index_mut.ensures.value c.in-None.ensures.value c.in-None.ensures.left in
-    record { few = h.few; names = h.names; lists = h.lists; apart = h.apart }
+    let still = still_used (keeping c.args.new) c.self.inside.entries.items c.args.place c.index_mut.result.now c.keep.new.self within c.index_mut.ensures.value c.in-None.ensures.value in
+    record { few = h.few; names = h.names; lists = h.lists; apart = h.apart; used = c.self.invariant.used ∙ still }
 
 pub returns-in-Some : goal.returns-in-Some
 unfolding catalog_call

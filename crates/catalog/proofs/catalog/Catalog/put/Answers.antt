@@ -1,9 +1,12 @@
 use Rattle.std.proofs.Common.{◌≡◌, ◌∙◌, ◌<◌, List, [], ◌∷◌, None, length, map, refl, ap, sym, subst, arith}
+use Rattle.std.proofs.Math.ListN.{length-set}
 use Rattle.js_base.specs.Bytes.{Bytes}
 use Rattle.js_model.specs.Catalog.{Catalog, taken_by, edited}
 use Rattle.catalog.specs.declared.entry.Listed.{Listed}
 use Rattle.catalog.specs.Entries.{place_of}
+use Rattle.catalog.specs.declared.entry.Entry.{Entry}
 use Rattle.catalog.specs.Apart.{IsApart, used_at}
+use Rattle.catalog.specs.Used.{used_places}
 use Rattle.catalog.proofs.Naming.{names_told}
 use Rattle.catalog.proofs.Placing.{lists_same}
 use Rattle.catalog.proofs.Catalogs.{inside_within, small, edited_view, parts_of, put_parts, put_room, put_back}
@@ -22,12 +25,16 @@ invariant_of-self c = record {
   names = c.self.invariant.names;
   lists = lists_same c.self.inside.listing c.put.new.self c.self.inside.entries.items c.self.inside.entries.items c.self.invariant.lists c.in_err-first.ensures.err (λ n. refl);
   apart = c.self.invariant.apart;
+  used = c.self.invariant.used;
 }
 
 pub index_mut-requires : goal.index_mut-requires
 index_mut-requires c =
     let within : c.args.place < length c.self.inside.entries.items = inside_within c.self.inside.entries.items c.args.self.now c.args.place c.self.view_is c.requires.within in
     omega arith
+
+pub refill-requires : goal.refill-requires
+refill-requires c = record { few = omega (arith, ap length c.as_slice.ensures.value, length-set c.self.inside.entries.items c.args.place c.take.new.self, c.self.invariant.few) }
 
 pub invariant_of-self-in-Ok : goal.invariant_of-self-in-Ok
 invariant_of-self-in-Ok c =
@@ -40,7 +47,7 @@ invariant_of-self-in-Ok c =
     let lists = c.take.ensures.lists ∙ ap one c.in_ok-list.ensures.copy in
     let h = put_parts c.self.inside.entries.items c.self.inside.names c.put-2.new.self c.self.inside.listing c.put.new.self c.args.place c.in_ok-first.first c.args.name c.args.subjects.now c.index_mut.result.now c.take.new.self
     (parts_of c.self.inside c.self.invariant) within c.index_mut.ensures.value free apart made lists c.in_ok-first.ensures.ok c.in-Ok.ensures.ok in
-    record { few = h.few; names = h.names; lists = h.lists; apart = h.apart }
+    record { few = h.few; names = h.names; lists = h.lists; apart = h.apart; used = c.refill.ensures.value ∙ ap (λ (es : List Entry). used_places (map place_of es)) c.as_slice.ensures.value }
 
 pub drop-requires : goal.drop-requires
 drop-requires c =
@@ -54,6 +61,7 @@ invariant_of-self-in-Err c = record {
   lists = put_back c.self.inside.listing c.put.new.self c.drop.new.self c.self.inside.entries.items c.args.place c.in_ok-first.first c.args.subjects.now c.self.invariant.lists c.in_ok-first.ensures.ok c.drop.ensures.left
       c.drop.ensures.rounds;
   apart = c.self.invariant.apart;
+  used = c.self.invariant.used;
 }
 
 pub invariant_of-self-in-Err-2 : goal.invariant_of-self-in-Err-2
@@ -63,6 +71,7 @@ invariant_of-self-in-Err-2 c = record {
   lists = put_back c.self.inside.listing c.put.new.self c.drop.new.self c.self.inside.entries.items c.args.place c.in_ok-first.first c.args.subjects.now c.self.invariant.lists c.in_ok-first.ensures.ok c.drop.ensures.left
       c.drop.ensures.rounds;
   apart = c.self.invariant.apart;
+  used = c.self.invariant.used;
 }
 
 pub returns-in-Ok-clause-ok : goal.returns-in-Ok-clause-ok

@@ -1,12 +1,13 @@
 use Rattle.std.proofs.Common.{◌<◌, length, arith}
 use Rattle.std.proofs.Common.{◌≡◌, true, ◌∙◌, [], ◌∷◌, ◌++◌, List, refl, ap, sym, subst}
 use Rattle.js_base.specs.Bytes.{Bytes}
-use Rattle.js_model.specs.Catalog.{Catalog, Place, on_used, changing, edited}
+use Rattle.js_model.specs.Catalog.{Catalog, on_used, changing, edited}
 use Rattle.js_model.specs.Cataloging.{MayChange}
 use Rattle.catalog.specs.Entries.{place_of, lists_of, is_open}
 use Rattle.catalog.specs.Apart.{IsApart}
 use Rattle.catalog.proofs.Placing.{lists_same}
 use Rattle.catalog.proofs.Catalogs.{has_within, inside_within, has_at, small, edited_view, parts_of, change_parts}
+use Rattle.catalog.proofs.Using.{still_used}
 use Rattle.catalog.proofs.catalog.Catalog.put_beside.Goals as goal
 
 pub put-requires-clause-place : goal.put-requires-clause-place
@@ -23,6 +24,7 @@ invariant_of-self c = record {
   names = c.self.invariant.names;
   lists = lists_same c.self.inside.listing c.put.new.self c.self.inside.entries.items c.self.inside.entries.items c.self.invariant.lists c.in_err-first.ensures.err (λ n. refl);
   apart = c.self.invariant.apart;
+  used = c.self.invariant.used;
 }
 
 pub index_mut-requires : goal.index_mut-requires
@@ -45,7 +47,8 @@ invariant_of-self-2 c =
     let lists = c.change.ensures.lists ∙ ap (λ (xs : List Bytes). lists_of c.index_mut.result.now ++ record { first = c.in_ok-first.first; subjects = xs } ∷ []) c.in_ok-list.ensures.copy in
     let h = change_parts c.self.inside.entries.items c.self.inside.names c.self.inside.listing c.put.new.self c.args.place c.in_ok-first.first c.args.subjects.now c.index_mut.result.now c.change.new.self
     (parts_of c.self.inside c.self.invariant) within c.index_mut.ensures.value apart made lists c.in_ok-first.ensures.ok in
-    record { few = h.few; names = h.names; lists = h.lists; apart = h.apart }
+    let still = still_used (changing c.args.subjects.now) c.self.inside.entries.items c.args.place c.index_mut.result.now c.change.new.self within c.index_mut.ensures.value made in
+    record { few = h.few; names = h.names; lists = h.lists; apart = h.apart; used = c.self.invariant.used ∙ still }
 
 pub returns-clause-ok : goal.returns-clause-ok
 returns-clause-ok c =

@@ -1,4 +1,4 @@
-use Rattle.std.proofs.Common.{◌≡◌, ◌∙◌, [], ◌∷◌, Option, ap, sym, refl, inl, inr, List}
+use Rattle.std.proofs.Common.{◌∙◌, [], ◌∷◌, Option, ap, sym, refl, inl, inr}
 use Rattle.catalog.specs.declared.entry.Listed.{Listed}
 use Rattle.catalog.specs.Entries.{second_list}
 use Rattle.catalog.proofs.entry.Stream.keep_one.Goals as goal

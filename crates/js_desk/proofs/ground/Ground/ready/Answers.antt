@@ -1,4 +1,4 @@
-use Rattle.std.proofs.Common.{◌<◌, length, arith}
+use Rattle.std.proofs.Common.{arith}
 use Rattle.js_desk.proofs.Holds.{state_there}
 use Rattle.js_desk.proofs.Stays.{inside}
 use Rattle.js_desk.proofs.ground.Ground.ready.Goals as goal
@@ -17,4 +17,5 @@ returns g c =
         is_there = state_there c.self.inside.places.items c.args.at.place c.index.result.now c.index.result.now within c.index.ensures;
         ready_is = rw c.new-nobody.ensures at c.ready.ensures.value;
       });
+      none = c.ready.ensures.none;
     }

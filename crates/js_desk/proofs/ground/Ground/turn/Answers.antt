@@ -1,4 +1,4 @@
-use Rattle.std.proofs.Common.{◌≡◌, ◌<◌, ◌∙◌, length, Option, sym, subst}
+use Rattle.std.proofs.Common.{◌<◌, ◌∙◌, length, Option, sym, subst}
 use Rattle.std.specs.Prelude.{IfSome}
 use Rattle.std.proofs.lemmas.List.{length-map}
 use Rattle.js_model.specs.declared.desk.PlaceAt.{PlaceAt}

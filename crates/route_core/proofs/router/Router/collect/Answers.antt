@@ -1,12 +1,13 @@
-use Rattle.std.proofs.Common.{◌≡◌, ◌∙◌, sym, ap, refl, set, Ok}
+use Rattle.std.proofs.Common.{◌≡◌, ◌∙◌, sym, ap, refl, subst, set, Ok}
 use Rattle.std.specs.List.{position}
 use Rattle.js_model.specs.Router.{is_session, without_collected}
 use Rattle.js_model.specs.Routing.{collected_told}
-use Rattle.route_parts.specs.Sessions.{with_first}
+use Rattle.route_parts.specs.Sessions.{AreNumbered, with_first}
 use Rattle.route_parts.proofs.Routing.Numbers.{numbered_first}
 use Rattle.route_parts.proofs.Routing.Places.{first_at, changed_there}
 use Rattle.route_parts.proofs.Routing.Calls.{collect_refused, collect_routed}
 use Rattle.route_parts.proofs.Routing.Laws.{collect_keeps, collect_leaves_fewer}
+use Rattle.route_core.proofs.Idle.{collect_leaves_idle}
 use Rattle.route_core.proofs.Searching.{in_order}
 use Rattle.route_core.proofs.router.Router.collect.Goals as goal
 use Rattle.route_core.proofs.router.Router.collect.Goals.{In_ok-collect}
@@ -36,9 +37,11 @@ returns c =
     let first = first_at (is_session n) old.sessions.items c.in-Some.at s (ap (position (is_session n)) (sym c.deref.ensures.value) ∙ sym c.place_of.ensures.value ∙ c.in-Some.is) in
     let routed = collect_routed old.sessions.items old.subscriptions old.latest c.args.self.now c.self.view_is n c.args.max c.self.invariant c.in-Some.at s first c.index_mut-session.ensures.value
     _ (left c) c.in_ok-collect.field-0 c.in_ok-collect.ensures.told in
+    let numbered = subst (λ r. AreNumbered r.latest r.sessions) c.self.view_is c.self.invariant in
     record {
       routes = routed;
       left = collect_leaves_fewer _ _ n c.args.max (Ok c.in_ok-collect.field-0) routed;
+      idle = collect_leaves_idle _ _ n c.args.max c.in_ok-collect.field-0 numbered routed;
       stay = collect_keeps _ _ n c.args.max (collected_told (Ok c.in_ok-collect.field-0)) routed;
       err = tt;
     }
