@@ -1,5 +1,5 @@
 -- A tick for the stream that a place keeps is a hold that sends nothing.
-use Rattle.std.proofs.Common.{◌≡◌, ◌≤◌, ◌<◌, ◌^◌, ◌∙◌, ℕ, List, [], length, refl, sym, ap, subst, arith, get_or, length-set, get_or-set_same}
+use Rattle.std.proofs.Common.{◌≡◌, ◌≤◌, ◌<◌, ◌^◌, ◌∙◌, ℕ, Bool, true, false, List, [], length, refl, sym, ap, subst, arith, get_or, length-set, get_or-set_same}
 use Rattle.std.proofs.Math.ListN.{set}
 use Rattle.std.proofs.lemmas.List.{set-get_or}
 use Rattle.js_model.specs.declared.stream.State.{State}
@@ -9,13 +9,15 @@ use Rattle.js_model.specs.declared.desk.PlaceAt.{PlaceAt}
 use Rattle.js_model.specs.Events.{kept_incarnation}
 use Rattle.js_model.specs.Router.{Router}
 use Rattle.place_engine.specs.Answers.{PlaceAnswers}
+use Rattle.place_engine.specs.Passing.{IsPassed, Passes}
 use Rattle.js_desk.specs.declared.holding.Outcome.TheVariants.{Said}
 use Rattle.place_engine.specs.Places.{Seen}
-use Rattle.js_desk.specs.Holding.{HoldsAmong, IsOneHold}
+use Rattle.js_desk.specs.Holding.{AsksPlace, HoldsAmong, IsOneHold}
+use Rattle.js_desk.specs.Ticking.{passed}
 use Rattle.js_desk.proofs.Holds.{among}
 use Rattle.js_desk.proofs.Outcomes.{proper_event}
 
-pub ticked : (at : PlaceAt) (now : ℕ) (old new : State) (router : Router) → at.incarnation ≡ kept_incarnation old → at.incarnation ≤ 2 ^ 62 → now < 2 ^ 62 → PlaceAnswers old Tick now Silent new
+ticked : (at : PlaceAt) (now : ℕ) (old new : State) (router : Router) → at.incarnation ≡ kept_incarnation old → at.incarnation ≤ 2 ^ 62 → now < 2 ^ 62 → PlaceAnswers old Tick now Silent new
     → IsOneHold (Said Silent) at Tick now old new router router
 ticked at now old new router kept small moment answers = record {
   kept = kept;
@@ -27,6 +29,18 @@ ticked at now old new router kept small moment answers = record {
     routed = record { entries = []; are = refl; led = λ world. refl };
   };
 }
+
+within : (at : PlaceAt) (now : ℕ) (old new : State) → kept_incarnation old ≤ 2 ^ 62 → IsPassed at.incarnation now old new → at.incarnation ≤ 2 ^ 62
+within at now old new small h = subst (λ (n : ℕ). n ≤ 2 ^ 62) (sym h.kept) small
+
+pub asked : (result : Bool) (at : PlaceAt) (now : ℕ) (old new : State) (router : Router) → kept_incarnation old ≤ 2 ^ 62 → now < 2 ^ 62
+    → Passes result at.incarnation now old new → AsksPlace (passed result) at Tick now old new router router
+asked true at now old new router small moment h = ticked at now old new router h.kept (within at now old new small h) moment h.answers
+asked false at now old new router small moment h = record { other = h.0; state = h.1; router = refl }
+
+pub asked_again : (at : PlaceAt) (now : ℕ) (old new : State) (router : Router) → kept_incarnation old ≤ 2 ^ 62 → now < 2 ^ 62
+    → IsPassed at.incarnation now old new → IsOneHold (Said Silent) at Tick now new new router router
+asked_again at now old new router small moment h = ticked at now new new router h.still (within at now old new small h) moment h.again
 
 -- among several places, where it changes nothing
 module _ {V : Type 0} where

@@ -133,7 +133,7 @@ fn hold_place<V>(
 }
 
 /// Whether the place keeps the incarnation that is asked for.
-pub(crate) fn is_kept<V>(place: &Place<V>, at: PlaceAt) -> bool
+fn is_kept<V>(place: &Place<V>, at: PlaceAt) -> bool
     ensures kept { result ≡ true → at.incarnation ≡ kept_incarnation place.now.state }
     ensures other { result ≡ false → kept_incarnation place.now.state ≢ at.incarnation }
 {

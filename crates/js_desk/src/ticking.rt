@@ -2,41 +2,24 @@
 
 ghost use Rattle.std.specs.Prelude.{◌≡◌, ◌<◌, true, length};
 ghost use Rattle.js_model.specs.declared.event.What.TheVariants.{Tick};
-ghost use Rattle.js_model.specs.Events.{kept_incarnation};
 ghost use Rattle.js_model.specs.Router.{Router};
 ghost use Rattle.js_desk.specs.Holding.{AsksPlace, HoldsAmong, IsOneHold};
 ghost use Rattle.js_desk.specs.Ticking.{passed};
 
-use crate::holding::{is_kept, law_moment};
+use crate::holding::law_moment;
 use js_base::Moment;
 use js_model::PlaceAt;
 use place_engine::Place;
 
-/// Lets time pass for the stream that the place keeps. Nothing is sent, and a second time at the same moment nothing changes.
-fn tick_kept<V>(place: &mut Place<V>, at: PlaceAt, now: Moment)
-    requires kept { at.incarnation ≡ kept_incarnation place.old.state }
-    ensures holds { (router : Router) → IsOneHold (passed true) at Tick now place.old.state place.new.state router router }
-    ensures again { (router : Router) → IsOneHold (passed true) at Tick now place.new.state place.new.state router router }
-    ensures vol { place.new.vol ≡ place.old.vol }
-{
-    law_moment(now);
-    // that its incarnation is in range is what the proof takes from this call
-    let _ = place.incarnation();
-    place.tick(now);
-}
-
-/// Lets time pass for the stream of a place, where it is there: whether it is.
+/// Lets time pass for the stream of a place, where it is there: whether it is. Nothing is sent, and a second time at the same moment nothing
+/// changes.
 fn tick_place<V>(place: &mut Place<V>, at: PlaceAt, now: Moment) -> bool
     ensures asks { (router : Router) → AsksPlace (passed result) at Tick now place.old.state place.new.state router router }
     ensures again { (router : Router) → result ≡ true → IsOneHold (passed true) at Tick now place.new.state place.new.state router router }
     ensures vol { place.new.vol ≡ place.old.vol }
 {
-    if is_kept(place, at) {
-        tick_kept(place, at, now);
-        true
-    } else {
-        false
-    }
+    law_moment(now);
+    place.tick(at.incarnation, now)
 }
 
 /// Lets time pass for the stream of the place with this number, where it is there: whether it is.

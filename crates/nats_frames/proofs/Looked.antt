@@ -1,8 +1,8 @@
 -- What a look at the front of bytes tells.
-use Rattle.std.proofs.Common.{ℕ, ◌≡◌, ◌+◌, ◌-◌, ◌<◌, ◌≤◌, Bool, true, false, cond, [], ◌∷◌, ◌++◌, length, take, drop, get_or, refl, sym, ◌∙◌, ap, ap₂, subst, arith, inl, inr, Option, Some, None, length-append, append_assoc}
+use Rattle.std.proofs.Common.{ℕ, ◌≡◌, ◌≢◌, ◌+◌, ◌-◌, ◌<◌, ◌≤◌, Bool, true, false, cond, [], ◌∷◌, ◌++◌, length, take, drop, get_or, refl, sym, ◌∙◌, ap, ap₂, subst, arith, inl, inr, Option, Some, None, length-append, append_assoc}
 use Rattle.std.specs.Prelude.{Result, Ok, Err}
 use Rattle.std.proofs.lemmas.Bool.{lt-ltb, le-ltb, cases_lt}
-use Rattle.std.proofs.lemmas.List.{append-nil, take-append-drop, take-take, drop-drop, drop-take, length-take-le, length-drop, get_or_at, nil_from_length}
+use Rattle.std.proofs.lemmas.List.{append-nil, take-append-drop, take-take, drop-drop, drop-take, length-take-le, length-drop, get_or_append_left, get_or_at, nil_from_length}
 use Rattle.js_base.specs.Bytes.{Bytes, same}
 use Rattle.nats_frames.specs.declared.fault.Fault.{Fault}
 use Rattle.nats_frames.specs.declared.fault.Fault.TheVariants.{LineTooLong, PayloadTooBig, BadEnd}
@@ -13,7 +13,7 @@ use Rattle.nats_frames.specs.Fields.{span, part}
 use Rattle.nats_frames.specs.Grammar.{Lacks, Line, counted}
 use Rattle.nats_frames.specs.Reading.{split_at, without_cr, line_at, Whole, Partial, Broken, payload_at, behind_line, at_line, op_at}
 use Rattle.nats_frames.specs.Shapes.{seen, parts_in, IsInside}
-use Rattle.nats_frames.specs.Looking.{IsQuiet, IsLineTo, Looks, Ends}
+use Rattle.nats_frames.specs.Looking.{IsScanned, IsQuiet, IsLineTo, Looks, Ends}
 use Rattle.nats_frames.proofs.Splits.{split_found, split_lacking, lacks_from}
 use Rattle.nats_frames.proofs.Opening.{at_first}
 use Rattle.nats_frames.proofs.Longer.{StandsSo, stands_within}
@@ -183,3 +183,24 @@ not_ended bytes short none =
           let empty : more ≡ [] = nil_from_length more (omega (arith, lt, length-append bytes more)) in
           ap op_at (ap (λ m. bytes ++ m) empty ∙ append-nil bytes) ∙ waits,
     )
+
+-- a byte that is no LF, behind bytes without one
+pub goes_on : (bytes whole : Bytes) (byte n : ℕ) → n ≡ length bytes → whole ≡ bytes ++ byte ∷ [] → IsScanned bytes n → n + 1 < 4098 → byte ≢ 10 →
+    Looks whole (looks.Partial (n + 1) (n + 2))
+goes_on bytes whole byte n n_is whole_is h short other = at (n + 2) (omega arith)
+  where
+    len : length whole ≡ n + 1
+    len = omega (arith, n_is, ap length whole_is, length-append bytes (byte ∷ []))
+
+    none : NoneIn whole
+    none k lt within is =
+        let here : get_or (bytes ++ byte ∷ []) k 0 ≡ 10 = ap (λ (b : Bytes). get_or b k 0) (sym whole_is) ∙ is in
+        elim (cases_lt k n) [
+          | inl before ↦ h.none k before (sym (get_or_append_left bytes (byte ∷ []) 0 k (omega (arith, n_is, before))) ∙ here)
+          | inr le ↦ other (sym (get_or_at bytes byte [] 0 k (omega (arith, n_is, len, within, le))) ∙ here)
+        ]
+
+    at : (m : ℕ) → m ≡ n + 1 + 1 → Looks whole (looks.Partial (n + 1) m)
+    at m m_is =
+        let found : Looks whole (looks.Partial (length whole) (length whole + 1)) = not_ended whole (omega (arith, len, short)) none in
+        subst (λ (x : ℕ). Looks whole (looks.Partial (n + 1) x)) (sym m_is) (subst (λ (x : ℕ). Looks whole (looks.Partial x (x + 1))) len found)

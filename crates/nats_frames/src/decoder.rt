@@ -1,6 +1,6 @@
 //! A stream of operations, decoded piece by piece.
 
-ghost use Rattle.std.specs.Prelude.{◌≡◌, ◌+◌, ◌<◌, ◌^◌, ◌++◌, [], length, None, OnOk, OnErr, IfOk, IfErr, IfSome};
+ghost use Rattle.std.specs.Prelude.{◌≡◌, ◌+◌, ◌<◌, ◌^◌, ◌++◌, [], length, None, true, OnOk, OnErr, IfOk, IfErr, IfSome};
 ghost use Rattle.nats_frames.specs.Decoding.{IsReady, kept, Takes};
 ghost use Rattle.nats_frames.specs.Shapes.{op_in};
 
@@ -63,6 +63,7 @@ fn into_op(ready: Ready) -> Result<Op, Ready>
 
 impl Decoder {
     ghost use Rattle.nats_frames.specs.Decoding.{total, Gives};
+    ghost use Rattle.nats_frames.specs.Reading.{op_at, Partial};
 
     /// A decoder of an input of which nothing came yet. It takes no memory.
     pub fn new(alloc: Global) -> Decoder
@@ -82,6 +83,14 @@ impl Decoder {
         ensures err { OnErr result (self.new ≡ self.old) }
     {
         self.front.push(piece)
+    }
+
+    /// Whether it is known that the bytes that are held are less than an operation and have no fault. It may answer false also where they are
+    /// so: `next` tells.
+    pub fn is_known_partial(&self) -> bool
+        ensures partial { result ≡ true → op_at self.now.bytes ≡ Partial }
+    {
+        self.ready.is_none() && self.front.is_quiet()
     }
 
     /// The operation at the front of what was fed, which is taken off. `None` comes exactly where the bytes are less than an operation and

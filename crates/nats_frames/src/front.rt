@@ -1,14 +1,14 @@
 //! Bytes that were fed, of which operations are taken off the front.
 
-ghost use Rattle.std.specs.Prelude.{◌≡◌, ◌+◌, ◌<◌, ◌^◌, [], ◌++◌, length, OnOk, OnErr};
+ghost use Rattle.std.specs.Prelude.{◌≡◌, ◌+◌, ◌<◌, ◌^◌, true, [], ◌∷◌, ◌++◌, length, OnOk, OnErr};
 
 use crate::fault::told;
-use crate::look::{Look, look_at};
+use crate::look::{Look, is_in_line, look_at};
 use crate::op::FrameFault;
 use crate::shape::Shape;
 use bytes::{BufMut, Bytes, BytesMut};
 use js_base::NoMemory;
-use std::alloc::{AllocError, Global};
+use std::alloc::Global;
 use std::marker::Model;
 
 /// The bytes of one operation, and where its parts stand in them.
@@ -39,20 +39,9 @@ impl Model for Front {
     ghost invariant = { λ front. IsScanned front.bytes.items front.scanned × IsQuiet op_at front.bytes.items front.quiet };
 }
 
-/// Adds a piece at the end of a buffer.
-fn add(bytes: &mut BytesMut, piece: &[u8]) -> Result<(), AllocError>
-    ensures ok { OnOk result (bytes.new.items ≡ bytes.old.items ++ piece.now) }
-    ensures err { OnErr result (bytes.new.items ≡ bytes.old.items) }
-{
-    match piece {
-        // Each piece of a client that sends byte by byte, which is stored with no call to copy it.
-        [byte] => bytes.put_u8(*byte),
-        _ => bytes.extend_from_slice(piece),
-    }
-}
-
 impl Front {
     ghost use Rattle.nats_frames.specs.Decoding.{Takes};
+    ghost use Rattle.nats_frames.specs.Reading.{op_at, Partial};
 
     /// No bytes.
     pub(crate) fn new(alloc: Global) -> Front
@@ -70,10 +59,45 @@ impl Front {
         ensures ok { OnOk result (self.new ≡ self.old ++ piece.now) }
         ensures err { OnErr result (self.new ≡ self.old) }
     {
-        match add(&mut self.bytes, piece) {
+        match piece {
+            // Each piece of a client that sends byte by byte: with no call to copy it, and no search for the end of its line.
+            [byte] => self.push_byte(*byte),
+            _ => self.push_all(piece),
+        }
+    }
+
+    fn push_all(&mut self, piece: &[u8]) -> Result<(), NoMemory>
+        ensures ok { OnOk result (self.new ≡ self.old ++ piece.now) }
+        ensures err { OnErr result (self.new ≡ self.old) }
+    {
+        match self.bytes.extend_from_slice(piece) {
             Ok(()) => Ok(()),
             Err(_) => Err(NoMemory),
         }
+    }
+
+    /// Adds a byte. Where it continues a line, what is known of the bytes grows by it.
+    fn push_byte(&mut self, byte: u8) -> Result<(), NoMemory>
+        ensures ok { OnOk result (self.new ≡ self.old ++ byte ∷ []) }
+        ensures err { OnErr result (self.new ≡ self.old) }
+    {
+        let len = self.bytes.len();
+        match self.bytes.put_u8(byte) {
+            Ok(()) => {}
+            Err(_) => return Err(NoMemory),
+        }
+        if self.scanned == len && is_in_line(len, byte) {
+            self.scanned = len + 1;
+            self.quiet = len + 2;
+        }
+        Ok(())
+    }
+
+    /// Whether it is known that the bytes are less than an operation, and have no fault.
+    pub(crate) fn is_quiet(&self) -> bool
+        ensures partial { result ≡ true → op_at self.now ≡ Partial }
+    {
+        self.bytes.len() < self.quiet
     }
 
     /// Takes the operation at the front, of an input of which so many bytes stood before. An `Err` leaves what was there.
@@ -81,7 +105,7 @@ impl Front {
         requires room { before + length self.old < 2 ^ 62 }
         ensures takes { Takes result before self.old self.new }
     {
-        if self.bytes.len() < self.quiet {
+        if self.is_quiet() {
             return Ok(None);
         }
         match look_at(self.bytes.as_slice(), self.scanned) {

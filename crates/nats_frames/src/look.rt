@@ -1,6 +1,6 @@
 //! What stands at the front of bytes of which more may come.
 
-ghost use Rattle.std.specs.Prelude.{◌≡◌, ◌≢◌, ◌+◌, ◌<◌, ◌≤◌, ℕ, List, ◌∷◌, ◌++◌, length, take, drop, slice_index, IfSome, IfNone, Some};
+ghost use Rattle.std.specs.Prelude.{◌≡◌, ◌≢◌, ◌+◌, ◌<◌, ◌≤◌, true, ℕ, List, ◌∷◌, ◌++◌, length, take, drop, slice_index, IfSome, IfNone, Some};
 ghost use Rattle.nats_frames.specs.Grammar.{counted};
 ghost use Rattle.nats_frames.specs.Looking.{IsScanned, IsLineTo, Looks, Ends};
 ghost use Rattle.nats_frames.specs.Reading.{split_at, without_cr};
@@ -49,6 +49,14 @@ fn line_end(bytes: &[u8], scanned: usize) -> Option<usize>
     let (_, unseen) = window.split_at(scanned);
     let at = memchr(b'\n', unseen)?;
     Some(scanned + at)
+}
+
+/// Whether a byte behind so many without an LF leaves them less than a line.
+pub(crate) fn is_in_line(before: usize, byte: u8) -> bool
+    ensures short { result ≡ true → before + 1 < 4098 }
+    ensures other { result ≡ true → byte ≢ 10 }
+{
+    before < MOST_LINE - 1 && byte != b'\n'
 }
 
 /// A line without the CR at its end.

@@ -213,6 +213,34 @@ fn takes_operations_off_one_by_one(rt: HostRuntime) -> Result<(), Fail> {
     Ok(())
 }
 
+/// The places of the bytes after which only `next` tells whether an operation is there, in an input that comes byte by byte.
+fn undecided(rt: &impl Abort, alloc: Global, input: &[u8]) -> Result<Vec<usize>, NoMemory> {
+    assert!(rt; input.len() < 10_000);
+    let mut decoder = Decoder::new(alloc);
+    let mut places = Vec::new(alloc);
+    for (at, byte) in input.iter().enumerate() {
+        decoder.feed(&[*byte])?;
+        if !decoder.is_known_partial() {
+            places.push(at)?;
+            let _ = decoder.next();
+        }
+    }
+    Ok(places)
+}
+
+#[test]
+fn knows_most_bytes_that_end_nothing(rt: HostRuntime) -> Result<(), Fail> {
+    let alloc = rt.alloc();
+    let lines = undecided(&rt, alloc, b"SUB a 1\r\nPING\n")?;
+    assert_eq!(&rt; lines.as_slice(), [8, 13].as_slice());
+    // the end of its line, and both bytes behind its payload
+    let publish = undecided(&rt, alloc, b"PUB a 5\r\na\nb\nc\r\n")?;
+    assert_eq!(&rt; publish.as_slice(), [8, 14, 15].as_slice());
+    let nothing = undecided(&rt, alloc, b"PUB a 0\r\n\r\n")?;
+    assert_eq!(&rt; nothing.as_slice(), [8, 9, 10].as_slice());
+    Ok(())
+}
+
 // ---- what is refused
 
 /// An answer without its operation.

@@ -66,11 +66,7 @@ impl CutLink {
     fn piece_len(&self, room: usize) -> usize
         ensures value { result ≡ piece_len self.now room }
     {
-        let left = self.left();
-        if self.len <= left && self.len <= room {
-            return self.len;
-        }
-        self.len.min(left).min(room)
+        self.len.min(self.left()).min(room)
     }
 
     /// How many bytes it was given.

@@ -3,13 +3,11 @@
 ghost use Rattle.std.specs.Prelude.{◌≡◌, ◌≤◌, ◌<◌, ◌^◌, ◌++◌, true, false, IfOk, IfErr, IfSome, OnOk, OnErr, IsTrue, None};
 ghost use Rattle.std.specs.Option.{option_copied};
 ghost use Rattle.js_model.specs.declared.stream.State.TheVariants.{Vacant};
-ghost use Rattle.js_model.specs.declared.event.What.TheVariants.{Tick};
-ghost use Rattle.js_model.specs.declared.reply.Reply.TheVariants.{Silent};
 ghost use Rattle.js_model.specs.Events.{answered, kept_incarnation};
 ghost use Rattle.js_model.specs.Proper.{is_proper};
 ghost use Rattle.js_model.specs.Ready.{some_ready};
 ghost use Rattle.place_engine.specs.declared.faults.OpenFault.TheVariants as opening;
-ghost use Rattle.place_engine.specs.Answers.{PlaceAnswers};
+ghost use Rattle.place_engine.specs.Passing.{Passes};
 ghost use Rattle.place_engine.specs.Places.{IsBuilt, HasCause, name_in, subjects_in};
 ghost use Rattle.place_engine.specs.Shown.{ShowsOf};
 
@@ -96,15 +94,15 @@ impl<V> Place<V> {
         self.slot.ready(now, listening)
     }
 
-    /// Lets time pass for the stream that is kept, as the event `Tick` for it does, which is not answered. A stream without consumers sends
-    /// nothing then. It takes no memory. A second time at the same moment nothing changes.
-    pub fn tick(&mut self, now: Moment)
-        ensures answers { PlaceAnswers self.old.state Tick now Silent self.new.state }
-        ensures again { PlaceAnswers self.new.state Tick now Silent self.new.state }
-        ensures kept { kept_incarnation self.new.state ≡ kept_incarnation self.old.state }
+    /// Lets time pass where this incarnation is kept, as the event `Tick` for it does, which is answered by nothing: whether it is kept. For
+    /// another incarnation it does nothing. A stream without consumers sends nothing then. It takes no memory. A second time at the same moment
+    /// nothing changes.
+    pub fn tick(&mut self, incarnation: u64, now: Moment) -> bool
+        ensures passes { Passes result incarnation now self.old.state self.new.state }
+        ensures bound { kept_incarnation self.old.state ≤ 2 ^ 62 }
         ensures vol { self.new.vol ≡ self.old.vol }
     {
-        self.slot.tick(now);
+        self.slot.tick_for(incarnation, now)
     }
 
     /// Makes an event at a moment, answers it, and adds what it sends to the outputs. An event for another incarnation than the one

@@ -9,6 +9,7 @@ ghost use Rattle.js_model.specs.Configs.{is_stream_config};
 ghost use Rattle.js_model.specs.Proper.{is_proper_what, is_proper_publish};
 ghost use Rattle.js_model.specs.Ready.{some_ready};
 ghost use Rattle.place_engine.specs.Answers.{PlaceAnswers};
+ghost use Rattle.place_engine.specs.Passing.{Passes};
 ghost use Rattle.place_engine.specs.Places.{IsBuilt, IsVacant, name_in, subjects_in};
 ghost use Rattle.place_engine.specs.PlainConfigs.{IsPlainConfig};
 ghost use Rattle.place_engine.specs.PlainPublishes.{IsPlainPublish};
@@ -202,11 +203,24 @@ impl Slot {
         }
     }
 
+    /// Lets time pass where this incarnation is kept: whether it is. For another one it does nothing.
+    pub fn tick_for(&mut self, incarnation: u64, now: Moment) -> bool
+        ensures passes { Passes result incarnation now self.old self.new }
+        ensures bound { kept_incarnation self.old ≤ 2 ^ 62 }
+    {
+        match &mut self.held {
+            Held::Nothing(last) => *last + 1 == incarnation,
+            Held::Stream(stream) if stream.incarnation() == incarnation => {
+                stream.tick(now);
+                true
+            }
+            Held::Stream(_) => false,
+        }
+    }
+
     /// Lets time pass for the stream.
-    pub fn tick(&mut self, now: Moment)
+    fn tick(&mut self, now: Moment)
         ensures answers { PlaceAnswers self.old What.Tick now Reply.Silent self.new }
-        ensures again { PlaceAnswers self.new What.Tick now Reply.Silent self.new }
-        ensures kept { kept_incarnation self.new ≡ kept_incarnation self.old }
     {
         match &mut self.held {
             Held::Nothing(_) => {}

@@ -157,8 +157,11 @@ fn dropped_stream_is_gone(rt: HostRuntime) -> Result<(), Fail> {
     assert!(rt; place.name().is_some());
     assert!(rt; matches!(&answer(alloc, &mut place, &change)?, Reply::Info(_)));
     assert!(rt; matches!(&answer(alloc, &mut place, &tick)?, Reply::Silent));
-    assert!(rt; matches!(&answer(alloc, &mut place, &end)?, Reply::Done));
     let now = Moment::of(5).ok_or("no moment")?;
+    assert_eq!(rt; (place.tick(1, now), place.tick(2, now)), (true, false));
+    assert!(rt; matches!(&answer(alloc, &mut place, &end)?, Reply::Done));
+    // a place without a stream keeps the incarnation that the next one will have
+    assert_eq!(rt; (place.tick(1, now), place.tick(2, now)), (false, true));
     let mut outs: Outs = List::new(alloc);
     assert!(rt; matches!(&place.step(&tick, now, &mut outs), Err(PlaceFault::Gone(2))));
     assert!(rt; place.subjects().is_empty());

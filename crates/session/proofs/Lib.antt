@@ -10,8 +10,8 @@ pub mod Behind
 pub mod Parted
 pub mod Stopped
 pub mod Ticked
-pub mod Rested
 pub mod Heard
+pub mod Rested
 pub mod Turned
 pub mod Conversing
 pub mod Served

@@ -13,7 +13,7 @@ use crate::manners::Manners;
 use crate::operation::carry;
 use crate::parting::part_at;
 use crate::stop::Stop;
-use crate::ticking::end_turn;
+use crate::ticking::{end_turn, rests};
 use js_api::Desk;
 use js_base::Moment;
 use link_edge::Link;
@@ -103,7 +103,11 @@ pub(crate) fn hear<D: Desk, L: Link>(
     ensures cause { HasCause (L.faults link.old) (L.faults link.new) (result ≡ Err Ended.LinkFault) }
 {
     match decoder.feed(piece) {
-        Ok(()) => carry_all(alloc, desk, link, decoder, manners, now),
-        Err(_) => Err(Ended::NoMemory),
+        Ok(()) => {}
+        Err(_) => return Err(Ended::NoMemory),
     }
+    if rests(desk, now, decoder.is_known_partial()) {
+        return Ok(());
+    }
+    carry_all(alloc, desk, link, decoder, manners, now)
 }

@@ -1,4 +1,11 @@
+use Rattle.js_desk.proofs.Ticked.{asked, asked_again}
 use Rattle.js_desk.proofs.ticking.tick_place.Goals as goal
 
-pub returns-then-is_kept-clause-again : goal.returns-then-is_kept-clause-again
-returns-then-is_kept-clause-again g c router there = c.tick_kept.ensures.again router
+pub returns-clause-asks : goal.returns-clause-asks
+returns-clause-asks g c router =
+    asked c.tick.result c.args.at c.args.now _ _ router c.tick.ensures.bound c.law_moment.ensures.bound c.tick.ensures.passes
+
+pub returns-clause-again : goal.returns-clause-again
+returns-clause-again g c router there =
+    asked_again c.args.at c.args.now c.args.place.now.state _ router c.tick.ensures.bound c.law_moment.ensures.bound
+    (rw there at c.tick.ensures.passes)

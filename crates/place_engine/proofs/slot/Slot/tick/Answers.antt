@@ -1,4 +1,3 @@
-use Rattle.std.proofs.Common.{refl}
 use Rattle.js_model.specs.declared.stream.State.TheVariants.{Live}
 use Rattle.js_model.specs.declared.event.What.TheVariants.{Tick}
 use Rattle.js_model.specs.declared.reply.Reply.TheVariants.{Silent}
@@ -14,15 +13,5 @@ returns c = record {
         | in-Stream w ↦
             rw (w.self-inside-is, ← c.self.view_is, w.in-Stream.is)
             (there w.in-Stream.stream Tick c.args.now Silent (Live w.tick.new.self) w.tick.ensures.answers)
-      ];
-  again =
-      elim c.match-self.branch [
-        | in-Nothing w ↦ rw (w.self-inside-is, w.in-Nothing.is) (ticks_nowhere w.in-Nothing.field-0 c.args.now)
-        | in-Stream w ↦ rw w.self-inside-is (there w.tick.new.self Tick c.args.now Silent (Live w.tick.new.self) w.tick.ensures.again)
-      ];
-  kept =
-      elim c.match-self.branch [
-        | in-Nothing w ↦ rw (w.self-inside-is, ← c.self.view_is, w.in-Nothing.is) refl
-        | in-Stream w ↦ rw (w.self-inside-is, ← c.self.view_is, w.in-Stream.is) w.tick.ensures.kept
       ];
 }
