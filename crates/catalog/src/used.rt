@@ -41,14 +41,13 @@ impl UsedPlaces {
         })
     }
 
-    /// The next place in cyclic order: the first one of a greater number, or else the first of all.
+    /// The next place in cyclic order: the first one of a greater number, or else the first of all. A place that is alone is next to itself.
     pub(crate) fn next(&self, after: u32) -> Option<PlaceAt>
         ensures value { result ≡ next_of after self.now }
     {
-        let places = self.places.as_slice();
-        match first_above(places, after) {
-            Some(at) => Some(*at),
-            None => places.first().copied(),
+        match self.places.as_slice() {
+            [only] => Some(*only),
+            places => next_among(places, after),
         }
     }
 
@@ -58,6 +57,16 @@ impl UsedPlaces {
         ensures value { self.new ≡ used_places (map place_of entries.now) }
     {
         list_used(&mut self.places, entries);
+    }
+}
+
+/// The first one of a greater number, or else the first of all.
+fn next_among(places: &[PlaceAt], after: u32) -> Option<PlaceAt>
+    ensures value { result ≡ next_of after places.now }
+{
+    match first_above(places, after) {
+        Some(at) => Some(*at),
+        None => places.first().copied(),
     }
 }
 
