@@ -8,6 +8,8 @@ ghost use Rattle.std.specs.Prelude.{◌<◌};
 mod cut_link;
 mod serving;
 mod still_clock;
+#[cfg(test)]
+mod tests;
 
 use js_base::read_decimal;
 use link_edge::{Clock, SystemClock};

@@ -44,7 +44,7 @@ fn open(alloc: Global) -> Result<SoloDesk<()>, NoMemory>
 }
 
 /// A desk with a stream that takes the subjects `orders.*`.
-fn desk(alloc: Global, now: Moment) -> Result<SoloDesk<()>, NoMemory>
+pub(crate) fn desk(alloc: Global, now: Moment) -> Result<SoloDesk<()>, NoMemory>
     ensures closed { IfOk result (λ desk. desk.is_open ≡ false) }
 {
     let name = match Name::read(alloc, b"ORDERS") {
