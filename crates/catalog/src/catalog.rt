@@ -1,7 +1,7 @@
 //! The calls of the catalog.
 
 ghost use Rattle.std.specs.Prelude.{◌≡◌, ◌<◌, ◌≤◌, true, None, map, length, replicate, ◌++◌, ◌∷◌, [], IfOk, IfSome, OnOk, OnErr};
-ghost use Rattle.js_model.specs.Catalog.{CatCall, Find, ByName, NextUsed, Add, Change, Keep, Remove, Stop, Done, At, telling, catalog_call, IsCatalogCall, catalog_of, kept_place, new_place, place_named, first_place, overlaps_at, edited, taken_by, on_used, changing};
+ghost use Rattle.js_model.specs.Catalog.{Find, ByName, NextUsed, Add, Change, Keep, Remove, Stop, Done, At, telling, catalog_call, IsCatalogCall, catalog_of, kept_place, new_place, place_named, first_place, overlaps_at, edited, taken_by, on_used, changing};
 ghost use Rattle.js_model.specs.Cataloging.{add_told, change_told, HasPlace, IsUsed, MayChange, MayKeep, MayRemove};
 ghost use Rattle.catalog.specs.Entries.{place_of, accepts, is_other, is_open, vacant_place, lists_of_stream, without_lists, HaveRoom, ChecksAdd};
 ghost use Rattle.catalog.specs.Apart.{IsApart, used_at};

@@ -1,6 +1,6 @@
 //! What the catalog knows of a place.
 
-ghost use Rattle.std.specs.Prelude.{◌≡◌, ◌<◌, ◌^◌, true, [], ◌∷◌, ◌++◌, IsTrue, IfOk, Some, None};
+ghost use Rattle.std.specs.Prelude.{◌≡◌, ◌<◌, ◌^◌, true, [], ◌∷◌, ◌++◌, IsTrue, Some, None};
 ghost use Rattle.std.specs.List.{list_any};
 ghost use Rattle.js_model.specs.Catalog.{kept_stream, list_or_none, all_subjects, takes_subject, meets_used, meets_some, if_used, is_used, taken_by, on_used, changing, kept_list, keeping, freed, stopping};
 ghost use Rattle.js_model.specs.Cataloging.{MayChange};

@@ -1,6 +1,6 @@
 //! The subjects of all places, under numbers in one index.
 
-ghost use Rattle.std.specs.Prelude.{◌≡◌, ◌<◌, ◌≤◌, ◌+◌, ◌*◌, ◌^◌, ◌++◌, [], ◌∷◌, length, IfOk, OnOk, OnErr};
+ghost use Rattle.std.specs.Prelude.{◌≡◌, ◌<◌, ◌+◌, ◌*◌, ◌^◌, ◌++◌, [], ◌∷◌, length, IfOk, OnOk, OnErr};
 ghost use Rattle.route_index.specs.Subs.{IsAbove};
 ghost use Rattle.catalog.specs.Numbers.{numbers, numbered, without_numbers, IsEarlier, IsPut};
 

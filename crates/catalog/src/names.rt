@@ -1,7 +1,6 @@
 //! The places of the streams, by their names.
 
 ghost use Rattle.std.specs.Prelude.{◌≡◌, Some, None, OnOk, OnErr};
-ghost use Rattle.std.specs.Option.{option_copied};
 ghost use Rattle.js_base.specs.Bytes.{Bytes};
 ghost use Rattle.catalog.specs.Names.{place_in, Sets};
 

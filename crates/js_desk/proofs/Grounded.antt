@@ -17,7 +17,7 @@ use Rattle.js_model.specs.Refusals.{first_refusal, other_config, subjects_overla
 use Rattle.js_model.specs.Router as routes
 use Rattle.js_model.specs.Routing.{KeepsOpen}
 use Rattle.js_model.specs.Catalog as catalog
-use Rattle.js_model.specs.Catalog.{Catalog, Place, Used, CatTold, catalog_call, telling, IsCatalogCall, first_place, place_for, place_named, next_used, or_else, used_above, is_used, if_used, takes_subject, free_place, with_place, edited, taken_by, freed, added, added_at, add_checks, overlaps, overlaps_other, changed, is_there}
+use Rattle.js_model.specs.Catalog.{Catalog, Place, catalog_call, telling, IsCatalogCall, first_place, place_named, or_else, used_above, is_used, if_used, takes_subject, free_place, with_place, edited, taken_by, added, added_at, add_checks, overlaps, overlaps_other, is_there}
 use Rattle.js_model.specs.Cataloging.{HasPlace}
 use Rattle.place_engine.specs.Places.{Seen}
 use Rattle.js_api.specs.Desks.{DeskEntry}

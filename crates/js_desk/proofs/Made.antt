@@ -19,7 +19,7 @@ use Rattle.js_model.specs.Catalog as catalog
 use Rattle.js_api.specs.Desks.{DeskEntry, World, Looked}
 use Rattle.js_api.specs.Api.{free_unless_made}
 use Rattle.js_api.specs.Making as makings
-use Rattle.js_api.specs.Making.{IsAdding, MakesStream}
+use Rattle.js_api.specs.Making.{IsAdding}
 use Rattle.js_desk.specs.declared.holding.Outcome.{Outcome}
 use Rattle.js_desk.specs.Asking.{IsOnPlace}
 use Rattle.js_desk.specs.Defaults.{default_config}

@@ -1,6 +1,6 @@
 //! The calls that show or delete one stream.
 
-ghost use Rattle.std.specs.Prelude.{◌≡◌, IfOk, is_ok, IsTrue};
+ghost use Rattle.std.specs.Prelude.{is_ok, IsTrue};
 ghost use Rattle.api_requests.specs.declared.request.ApiRequest.TheVariants as requests;
 ghost use Rattle.js_api.specs.Api.{Performs, free_if_dropped};
 ghost use Rattle.js_base.specs.Subjects.{is_subject_text};

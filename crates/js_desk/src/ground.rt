@@ -1,6 +1,6 @@
 //! What a desk stands on: its router, its catalog and its places.
 
-ghost use Rattle.std.specs.Prelude.{◌≡◌, ◌≤◌, ◌<◌, ◌^◌, [], true, false, IfErr, IfOk, IfSome, OnErr, length, option_map, replicate};
+ghost use Rattle.std.specs.Prelude.{◌≡◌, ◌≤◌, ◌<◌, [], true, false, IfErr, IfOk, IfSome, OnErr, length, option_map, replicate};
 ghost use Rattle.js_model.specs.Catalog.{Add, At, ByName, Find, IsCatalogCall, NextUsed, Remove, Done as Cataloged, new_place};
 ghost use Rattle.js_model.specs.Cataloging.{HasPlace, MayRemove, add_told};
 ghost use Rattle.js_model.specs.declared.event.What.TheVariants as whats;
@@ -12,7 +12,7 @@ ghost use Rattle.js_api.specs.Desks.{opening, place_or};
 ghost use Rattle.js_desk.specs.Asking.{Changes, IsReadyAt, IsTold};
 ghost use Rattle.js_desk.specs.Grounds.{AreFresh, IsWithin, Keeps, Knows, volumes};
 ghost use Rattle.js_desk.specs.Holding.{HoldsAt, MayAsk, NumbersDropped, ShowsBy};
-ghost use Rattle.js_desk.specs.Leading.{Leads, Routes};
+ghost use Rattle.js_desk.specs.Leading.{Routes};
 ghost use Rattle.js_desk.specs.Routing.{SendsAll};
 ghost use Rattle.js_desk.specs.Ticking.{passed};
 

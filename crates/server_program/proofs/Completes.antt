@@ -19,7 +19,7 @@ use Rattle.session.specs.Talk as talk
 use Rattle.js_api.specs.Clients.{Client, new_client}
 use Rattle.session.specs.Calling.{Called, entries_of_calls}
 use Rattle.session.specs.Gathering.{IsAnsweredBy}
-use Rattle.session.specs.Talk.{Journal, Last, Stage, start, Turn, IsWithin, Begins, IsTalk, IsCause, EndsAs, acts_of, answers_of, entries_of, entries_of_turn, entries_of_last, last_answers, greeting}
+use Rattle.session.specs.Talk.{Journal, Last, Stage, start, Turn, Begins, IsTalk, IsCause, EndsAs, acts_of, answers_of, entries_of, entries_of_turn, entries_of_last, last_answers, greeting}
 use Rattle.session.specs.Peer.{Act, Hears, Ticks, peer_after}
 use Rattle.session.specs.declared.ending.Ended.{Ended}
 use Rattle.session.specs.declared.ending.Ended.TheVariants as ends

@@ -1,6 +1,6 @@
 -- Laws of the ends of a run.
 use Rattle.std.proofs.Common.{◌≡◌, ◌+◌, ℕ, List, [], ◌∷◌, Option, None, Some, inl, inr, arith, refl, sym, ◌∙◌, subst, option_map}
-use Rattle.std.specs.Prelude.{IfSome, ◌↔◌, Result, Ok, Err}
+use Rattle.std.specs.Prelude.{IfSome, ◌↔◌}
 use Rattle.js_base.specs.Bytes.{Bytes}
 use Rattle.link_edge.specs.Told.{grown}
 use Rattle.link_edge.specs.Causes.{HasCause, Rose}

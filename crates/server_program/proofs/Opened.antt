@@ -14,7 +14,7 @@ use Rattle.js_model.specs.Router.{route}
 use Rattle.js_api.specs.Desks.{World, DeskEntry, Routed, Looked, Turned, Resumed, Held, Missed, DeskRun, opening, place_or}
 use Rattle.js_api.specs.Holding.{Made, Said, Cut, Unmade, Gone, Holds, AreRouted, reply_made}
 use Rattle.js_api.specs.Api.{free_unless_made}
-use Rattle.js_api.specs.Making.{Stands, NoMemory, IsRefused, making_of, GoesOn, IsAdding, MakesStream}
+use Rattle.js_api.specs.Making.{Stands, NoMemory, making_of, GoesOn, IsAdding, MakesStream}
 use Rattle.server_program.specs.declared.words.NamedStream.{NamedStream}
 use Rattle.server_program.specs.Preparing.{IsPrepared}
 

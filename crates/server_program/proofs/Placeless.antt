@@ -19,7 +19,7 @@ use Rattle.js_model.specs.Refusals.{other_config, subjects_overlap, no_free_plac
 use Rattle.js_api.specs.Desks.{World, DeskEntry, Missed, DeskRun, opening}
 use Rattle.js_api.specs.Holding.{Made, Said, Cut, Unmade, Gone, Holds, IsHold, AreRouted, reply_made}
 use Rattle.js_api.specs.Api.{free_unless_made}
-use Rattle.js_api.specs.Making.{Making, Stands, IsRefused, NoMemory, making_of, MakesAt, GoesOn, IsAdding, MakesStream}
+use Rattle.js_api.specs.Making.{Stands, IsRefused, NoMemory, making_of, GoesOn, IsAdding, MakesStream}
 use Rattle.server_program.specs.declared.words.NamedStream.{NamedStream}
 use Rattle.server_program.specs.declared.words.Command.{Command}
 use Rattle.server_program.specs.declared.words.Command.TheVariants.{Pipe}

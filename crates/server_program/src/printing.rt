@@ -1,6 +1,5 @@
 //! Lines for the sink. What cannot be printed is left off.
 
-ghost use Rattle.std.specs.Prelude.{◌≡◌};
 ghost use Rattle.server_program.specs.Outside.{words_line, number_line, Prints};
 
 use itoa::Buffer;
