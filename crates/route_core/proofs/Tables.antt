@@ -18,8 +18,8 @@ use Rattle.js_model.specs.Router.{Subscription, is_sub, is_match, is_plain, limi
 use Rattle.js_model.proofs.Named.{some_is, none_some}
 use Rattle.route_index.specs.declared.sub.Sub.{Sub}
 use Rattle.route_index.specs.Subs.{id_of, is_match as index_match, matching_ids, IsAbove, without}
-use Rattle.route_parts.specs.Subscriptions.{is_number, hears, are_together, plain_takers, is_group_taker, passing, takers_of}
-use Rattle.route_parts.proofs.Routing.Takers.{plain_are}
+use Rattle.route_core.specs.Subscriptions.{is_number, hears, are_together, plain_takers, is_group_taker, passing, takers_of}
+use Rattle.route_core.proofs.Takers.{plain_are}
 use Rattle.route_core.specs.Heard.{heard_some, is_first_of_group, first_of_groups}
 use Rattle.route_core.specs.declared.names.Names.{Names}
 use Rattle.route_core.specs.Names.{number_of, count_of, KeepsNames, AddsName, DropsName}

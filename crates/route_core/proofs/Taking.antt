@@ -7,10 +7,10 @@ use Rattle.std.proofs.lemmas.List.Elements.{filter-append}
 use Rattle.std.proofs.lemmas.List.Sums.{fold_push}
 use Rattle.js_base.specs.declared.out.Out.{Out}
 use Rattle.js_model.specs.Router.{Session, Subscription, is_plain}
-use Rattle.route_parts.specs.declared.delivery.Delivery.{Delivery}
-use Rattle.route_parts.specs.Subscriptions.{hears, passing, takers_of}
-use Rattle.route_parts.specs.Deliveries.{delivery_of, deliveries_of}
-use Rattle.route_parts.proofs.Routing.Passing.{passing-append}
+use Rattle.route_core.specs.declared.delivery.Delivery.{Delivery}
+use Rattle.route_core.specs.Subscriptions.{hears, passing, takers_of}
+use Rattle.route_core.specs.Deliveries.{delivery_of, deliveries_of}
+use Rattle.route_core.proofs.Passing.{passing-append}
 use Rattle.route_core.specs.Heard.{first_of_groups}
 use Rattle.route_core.proofs.Tables.{takers_heard}
 

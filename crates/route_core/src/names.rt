@@ -114,7 +114,7 @@ impl Names {
         }
     }
 
-    /// Lets go of the room of a session without identifiers. It takes no memory.
+    /// Drops the room of a session without identifiers. It takes no memory.
     pub(crate) fn forget(&mut self, session: u64)
         requires empty { count_of self.old session ≡ 0 }
         ensures kept { KeepsNames self.old self.new }
