@@ -1,6 +1,7 @@
 pub mod Bytes
 pub mod Decimal
 pub mod Numbers
+pub mod Causes
 pub mod Moments
 pub mod Names
 pub mod Subjects

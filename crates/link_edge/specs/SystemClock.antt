@@ -1,6 +1,6 @@
 -- The clock of the system, as contracts see it, and what it tells.
 use Rattle.std.specs.Prelude.{◌≡◌, ℕ, ◌⊎◌}
-use Rattle.link_edge.specs.Causes.{raised}
+use Rattle.js_base.specs.Causes.{raised}
 
 -- the moment that was told last, and how often the system told none
 pub record ClockState : Type 0 where

@@ -5,7 +5,7 @@ ghost use Rattle.link_edge.specs.declared.answers.Accepted.{Accepted};
 ghost use Rattle.link_edge.specs.Told.{grown};
 ghost use Rattle.link_edge.specs.Accepts.{IfGot, accepted_of, gave_after};
 ghost use Rattle.link_edge.specs.Reports.{Report, HasOut, IsFresh};
-ghost use Rattle.link_edge.specs.Causes.{HasCause};
+ghost use Rattle.js_base.specs.Causes.{HasCause};
 
 use crate::answers::Accept;
 use crate::link::Link;

@@ -5,7 +5,7 @@ ghost use Rattle.link_edge.specs.declared.answers.Answer.{Answer};
 ghost use Rattle.link_edge.specs.Told.{grown, Loses};
 ghost use Rattle.link_edge.specs.Takes.{IsTakeWithin, EndsAtEnd, taken_bytes, answers_of};
 ghost use Rattle.link_edge.specs.Gives.{IsGiveWithin, given_bytes};
-ghost use Rattle.link_edge.specs.Causes.{HasCause};
+ghost use Rattle.js_base.specs.Causes.{HasCause};
 
 use crate::answers::{Give, Take};
 

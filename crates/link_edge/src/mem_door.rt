@@ -4,7 +4,7 @@ ghost use Rattle.std.specs.Prelude.{◌≡◌, ◌≢◌, ◌≤◌, ◌++◌, �
 ghost use Rattle.link_edge.specs.Reports.{HasOut};
 ghost use Rattle.link_edge.specs.Accepts.{accepted_of};
 ghost use Rattle.link_edge.specs.MemDoor.{is_link, next_accept, knocks_after};
-ghost use Rattle.link_edge.specs.Causes.{HasCause};
+ghost use Rattle.js_base.specs.Causes.{HasCause};
 
 use crate::answers::{Accept, Accepted};
 use crate::calls::Calls;

@@ -2,7 +2,7 @@
 
 ghost use Rattle.std.specs.Prelude.{◌≡◌, ◌≢◌, ◌<◌, ◌++◌, Some, [], length, IfOk, OnOk, OnErr, option_to_list, if◌then◌else◌};
 ghost use Rattle.link_edge.specs.Takes.{IsTakeWithin, taken_bytes, answers_of};
-ghost use Rattle.link_edge.specs.Causes.{HasCause};
+ghost use Rattle.js_base.specs.Causes.{HasCause};
 ghost use Rattle.link_edge.specs.Script.{script_bytes, next_take, script_after};
 ghost use Rattle.link_edge.specs.Calls.{next_fails};
 

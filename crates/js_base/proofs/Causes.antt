@@ -1,6 +1,6 @@
 -- Laws of counts of faults.
 use Rattle.std.proofs.Common.{ℕ, ◌≤◌, arith}
-use Rattle.link_edge.specs.Causes.{Rose, HasCause}
+use Rattle.js_base.specs.Causes.{Rose, HasCause}
 
 -- a count that rose has risen at any later time
 pub rose_after : (a b c : ℕ) → Rose a b → b ≤ c → Rose a c
