@@ -1,11 +1,10 @@
-//! A message's frame, and how long it is.
+//! A message's frame, and its length.
 
-ghost use Rattle.std.specs.Prelude.{◌≡◌, ◌<◌, ◌≤◌, ◌^◌, [], IfOk, if◌then◌else◌, length, decimal};
-ghost use Rattle.js_base.specs.Framing.{frame as bytes_of, message};
+ghost use Rattle.std.specs.Prelude.{◌≡◌, ◌<◌, ◌^◌, [], IfOk, if◌then◌else◌, length};
+ghost use Rattle.js_base.specs.Framing.{frame as bytes_of};
 ghost use Rattle.js_model.specs.Router.{frame_for};
 
-use itoa::Buffer;
-use js_base::{Blob, Frame, NoMemory, Out};
+use js_base::{Blob, Frame, NoMemory, Out, message_len};
 use std::marker::Model;
 
 /// No frame is this long: none fits in memory.
@@ -94,47 +93,4 @@ fn message(out: &Out, sid: &Blob, headers: Blob) -> Result<Frame, NoMemory>
         headers,
         payload: out.payload.clone()?,
     })
-}
-
-/// How many digits the number has.
-fn digits(n: u64) -> u128
-    ensures value { result ≡ length (decimal n) }
-    ensures few { result ≤ 40 }
-{
-    Buffer::new().format(n).len() as u128
-}
-
-/// How many bytes there are.
-fn bytes(text: &Blob) -> u128
-    ensures value { result ≡ length text.now }
-    ensures bound { result < 2 ^ 63 }
-{
-    text.len() as u128
-}
-
-/// The length of a message's frame, by the NATS client protocol: `MSG`, or `HMSG` with a header block.
-fn message_len(
-    subject: &Blob,
-    sid: &Blob,
-    reply: &Option<Blob>,
-    headers: &Blob,
-    payload: &Blob,
-) -> u128
-    ensures value { result ≡ length (message subject.now sid.now reply.now headers.now payload.now) }
-{
-    let fields = 1 + bytes(subject) + 1 + bytes(sid);
-    let reply = match reply {
-        Some(reply) => 1 + bytes(reply),
-        None => 0,
-    };
-    let body = 2 + bytes(headers) + bytes(payload) + 2;
-    let sizes = if headers.is_empty() {
-        3 + 1 + digits(payload.len() as u64)
-    } else {
-        4 + 1
-            + digits(headers.len() as u64)
-            + 1
-            + digits(headers.len() as u64 + payload.len() as u64)
-    };
-    fields + reply + sizes + body
 }
