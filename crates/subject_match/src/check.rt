@@ -7,6 +7,7 @@ ghost use Rattle.js_base.specs.Subjects.{is_subject_text, is_pattern_text, is_pu
 ghost use Rattle.subject_match.specs.Faults.{fault_of, token_fault, barred, bad_byte, broken, earlier, place, subject_fault, pattern_fault};
 
 use crate::fault::SubjectFault;
+use crate::server_subject::is_api;
 use crate::token::{is_rest, is_star, split_token};
 use std::str;
 
@@ -49,7 +50,7 @@ pub fn check_pattern(bytes: &[u8]) -> Result<(), SubjectFault>
 pub fn is_publish_subject(bytes: &[u8]) -> bool
     ensures value { result ≡ is_publish_text bytes.now }
 {
-    check_subject(bytes).is_ok() || (bytes.starts_with(b"$JS.API.") && check_pattern(bytes).is_ok())
+    check_subject(bytes).is_ok() || (is_api(bytes) && check_pattern(bytes).is_ok())
 }
 
 /// What is wrong with the text, if anything is.
