@@ -7,7 +7,7 @@ ghost use Rattle.nats_frames.specs.Writing.{sizes};
 
 use js_base::{Blob, Frame, NoMemory, put_bytes, put_decimal};
 
-/// What stands before the client's number, the host, the port and the end in the server's information.
+/// The texts before the client's number, the host and the port in the server's information, and the text at its end.
 pub(crate) const BEFORE_CLIENT: &[u8] = b"INFO {\"client_id\":";
 
 pub(crate) const BEFORE_HOST: &[u8] = b",\"headers\":true,\"host\":\"";
@@ -17,7 +17,7 @@ pub(crate) const BEFORE_PORT: &[u8] = b"\",\"jetstream\":true,\"max_payload\":10
 pub(crate) const INFO_END: &[u8] =
     b",\"proto\":1,\"server_id\":\"JSBLOCK\",\"server_name\":\"jsblock\",\"version\":\"2.10.0\"}\r\n";
 
-/// Adds a field and the space before it. An `Err` leaves what was there, and more at most.
+/// Adds a field and the space before it. An `Err` leaves what was there, perhaps with more after it.
 fn put_field(into: &mut Vec<u8>, field: &[u8]) -> Result<(), NoMemory>
     ensures ok { OnOk result (into.new.items ≡ into.old.items ++ spaced field.now) }
     ensures err { OnErr result (take (length into.old.items) into.new.items ≡ into.old.items) }
@@ -26,7 +26,7 @@ fn put_field(into: &mut Vec<u8>, field: &[u8]) -> Result<(), NoMemory>
     put_bytes(into, field)
 }
 
-/// Adds a size and the space before it. An `Err` leaves what was there, and more at most.
+/// Adds a size and the space before it. An `Err` leaves what was there, perhaps with more after it.
 fn put_size(into: &mut Vec<u8>, size: usize) -> Result<(), NoMemory>
     ensures ok { OnOk result (into.new.items ≡ into.old.items ++ spaced (decimal size)) }
     ensures err { OnErr result (take (length into.old.items) into.new.items ≡ into.old.items) }
@@ -35,7 +35,7 @@ fn put_size(into: &mut Vec<u8>, size: usize) -> Result<(), NoMemory>
     put_decimal(into, size as u64)
 }
 
-/// Adds the fields of a message before its sizes. An `Err` leaves what was there, and more at most.
+/// Adds the fields of a message before its sizes. An `Err` leaves what was there, perhaps with more after it.
 fn put_fields(
     into: &mut Vec<u8>,
     subject: &[u8],
@@ -54,7 +54,7 @@ fn put_fields(
     }
 }
 
-/// Adds what stands behind the sizes of a message. An `Err` leaves what was there, and more at most.
+/// Adds what follows the sizes of a message. An `Err` leaves what was there, perhaps with more after it.
 fn put_body(into: &mut Vec<u8>, headers: &[u8], payload: &[u8]) -> Result<(), NoMemory>
     ensures ok { OnOk result (into.new.items ≡ into.old.items ++ (crlf ++ headers.now ++ payload.now ++ crlf)) }
     ensures err { OnErr result (take (length into.old.items) into.new.items ≡ into.old.items) }
@@ -65,7 +65,7 @@ fn put_body(into: &mut Vec<u8>, headers: &[u8], payload: &[u8]) -> Result<(), No
     put_bytes(into, b"\r\n")
 }
 
-/// Adds a message without headers. An `Err` leaves what was there, and more at most.
+/// Adds a message without headers. An `Err` leaves what was there, perhaps with more after it.
 fn put_plain(
     into: &mut Vec<u8>,
     subject: &[u8],
@@ -83,7 +83,7 @@ fn put_plain(
     put_body(into, b"", payload.as_slice())
 }
 
-/// Adds the sizes of a message with headers. An `Err` leaves what was there, and more at most.
+/// Adds the sizes of a message with headers. An `Err` leaves what was there, perhaps with more after it.
 fn put_sizes(into: &mut Vec<u8>, headers: &Blob, payload: &Blob) -> Result<(), NoMemory>
     ensures ok { OnOk result (into.new.items ≡ into.old.items ++ sizes headers.now payload.now) }
     ensures err { OnErr result (take (length into.old.items) into.new.items ≡ into.old.items) }
@@ -92,7 +92,7 @@ fn put_sizes(into: &mut Vec<u8>, headers: &Blob, payload: &Blob) -> Result<(), N
     put_size(into, headers.len() + payload.len())
 }
 
-/// Adds a message with headers. An `Err` leaves what was there, and more at most.
+/// Adds a message with headers. An `Err` leaves what was there, perhaps with more after it.
 #[tactic(auto, using(crate::proofs::Written::headed))]
 fn put_headed(
     into: &mut Vec<u8>,
@@ -113,7 +113,7 @@ fn put_headed(
     put_body(into, headers.as_slice(), payload.as_slice())
 }
 
-/// Adds the first half of the server's information. An `Err` leaves what was there, and more at most.
+/// Adds the first half of the server's information. An `Err` leaves what was there, perhaps with more after it.
 fn put_client(into: &mut Vec<u8>, client_id: u64, host: &Blob) -> Result<(), NoMemory>
     ensures ok { OnOk result (into.new.items
         ≡ into.old.items ++ (codes "INFO {\"client_id\":" ++ decimal client_id ++ codes ",\"headers\":true,\"host\":\"" ++ host.now)) }
@@ -125,7 +125,7 @@ fn put_client(into: &mut Vec<u8>, client_id: u64, host: &Blob) -> Result<(), NoM
     put_bytes(into, host.as_slice())
 }
 
-/// Adds the server's information. An `Err` leaves what was there, and more at most.
+/// Adds the server's information. An `Err` leaves what was there, perhaps with more after it.
 fn put_info(into: &mut Vec<u8>, client_id: u64, host: &Blob, port: u16) -> Result<(), NoMemory>
     ensures ok { OnOk result (into.new.items ≡ into.old.items ++ bytes_of (Frame.Info client_id host.now port)) }
     ensures err { OnErr result (take (length into.old.items) into.new.items ≡ into.old.items) }
@@ -136,7 +136,7 @@ fn put_info(into: &mut Vec<u8>, client_id: u64, host: &Blob, port: u16) -> Resul
     put_bytes(into, INFO_END)
 }
 
-/// Adds an error's line. An `Err` leaves what was there, and more at most.
+/// Adds an error's line. An `Err` leaves what was there, perhaps with more after it.
 fn put_error(into: &mut Vec<u8>, text: &Blob) -> Result<(), NoMemory>
     ensures ok { OnOk result (into.new.items ≡ into.old.items ++ bytes_of (Frame.Err text.now)) }
     ensures err { OnErr result (take (length into.old.items) into.new.items ≡ into.old.items) }

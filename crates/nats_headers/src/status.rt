@@ -7,7 +7,7 @@ ghost use Rattle.js_base.specs.Status.{status, status_text, status_field};
 use js_base::{Blob, NoMemory, put_bytes, put_decimal};
 use std::alloc::Global;
 
-/// Adds the text behind the code, after a blank.
+/// Adds the text that follows the code, after a blank.
 fn put_text(into: &mut Vec<u8>, text: &[u8]) -> Result<(), NoMemory>
     ensures ok { OnOk result (into.new.items ≡ into.old.items ++ status_text text.now) }
 {

@@ -45,7 +45,7 @@ pub fn check_pattern(bytes: &[u8]) -> Result<(), SubjectFault>
     }
 }
 
-/// Whether a client may publish to the text: a subject without wildcards, or behind `$JS.API.` any pattern, since a request's subject holds a
+/// Whether a client may publish to the text: a subject without wildcards, or below `$JS.API.` any pattern, since a request's subject holds a
 /// consumer's filter.
 pub fn is_publish_subject(bytes: &[u8]) -> bool
     ensures value { result ≡ is_publish_text bytes.now }
@@ -106,7 +106,7 @@ fn bad_byte(text: &[u8]) -> Option<usize>
     text.iter().position(|byte| !is_token_byte(*byte))
 }
 
-/// Whether the byte may stand in a token, as far as it tells alone.
+/// Whether the byte, by itself, may stand in a token.
 fn is_token_byte(byte: u8) -> bool
     ensures value { result ≡ is_token_byte byte }
 {
