@@ -4,6 +4,7 @@ pub mod Numbers
 pub mod Causes
 pub mod Moments
 pub mod Names
+pub mod ServerSubjects
 pub mod Subjects
 pub mod Framing
 pub mod Status

@@ -1,4 +1,4 @@
-//! The words that every crate of the server shares: bytes, names, moments, numbers, and what the server sends.
+//! What every crate of the server shares: bytes, names, moments, numbers, and what the server sends.
 #![tactic(auto)]
 
 mod big_endian;
@@ -13,6 +13,7 @@ mod moment;
 mod name;
 mod out;
 mod spot;
+mod writing;
 
 pub use big_endian::{get_u16, get_u32, get_u64, put_u16, put_u32, put_u64};
 pub use blob::Blob;
@@ -25,6 +26,7 @@ pub use moment::Moment;
 pub use name::{Name, NameFault};
 pub use out::{ApiError, Out, Outs};
 pub use spot::Spot;
+pub use writing::{put_bytes, put_decimal};
 
 #[cfg(test)]
 mod tests;

@@ -13,7 +13,7 @@ rest_from-piece : (script : List Said) (next offset : ℕ) (piece : List ℕ) (d
 rest_from-piece script next offset piece d lt is =
     ap (without offset) (drop-cons script next d lt ∙ ap (λ s. s ∷ drop (suc next) script) is)
 
--- a front of a piece is lost by the take that gives it
+-- a prefix of a piece is lost by the take that gives it
 piece_front : (bytes : List ℕ) (more : List Said) (room n : ℕ) → n ≡ min (length bytes) room →
     bytes ++ script_bytes more ≡ take n bytes ++ script_bytes (script_after (Piece bytes ∷ more) room)
 piece_front bytes more room n e = go (nat_le (length bytes) room) refl

@@ -18,7 +18,7 @@ accepted_of Closed = accepted.Closed ∷ []
 accepted_of Failed = accepted.Failed ∷ []
 accepted_of NoMemory = []
 
--- how many links were given out, where it is told
+-- how many links were given out, if it is known
 abbrev pub gave_after : {L : Type 0} → Option ℕ → Accept L → Option ℕ
 gave_after gave (Got link) = option_map (λ n. n + 1) gave
 gave_after gave _ = gave

@@ -1,4 +1,4 @@
--- The moments that a clock tells: a list whose last member stays.
+-- The moments that a clock gives: a list whose last member stays.
 use Rattle.std.specs.Prelude.{◌≡◌, ℕ, List, [], ◌∷◌, Option, Some, option_map}
 
 -- the moments to come once one was read
@@ -7,7 +7,7 @@ moments_after [] = []
 moments_after (m ∷ []) = m ∷ []
 moments_after (m ∷ n ∷ ms) = n ∷ ms
 
--- the first of the moments, where one is told
+-- the first of the moments, if one is known
 abbrev pub IsFirst : Option (List ℕ) → ℕ → Type 0
 IsFirst (Some (m ∷ ms)) moment = moment ≡ m
 IsFirst _ moment = Unit {0}

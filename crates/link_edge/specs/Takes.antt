@@ -11,12 +11,12 @@ abbrev pub IsTakeWithin : Take → ℕ → Type 0
 IsTakeWithin (Got n) room = (1 ≤ n) × (n ≤ room)
 IsTakeWithin _ room = Unit {0}
 
--- the bytes that were got, at the front of the room
+-- the bytes that were got, at the start of the room
 abbrev pub taken_bytes : Take → List ℕ → List ℕ
 taken_bytes (Got n) room = take n room
 taken_bytes _ room = []
 
--- the end is answered only where no told byte is left
+-- the end is answered only if no byte is known to be left
 abbrev pub EndsAtEnd : Take → Option (List ℕ) → Type 0
 EndsAtEnd Ended left = left ≡ emptied left
 EndsAtEnd _ left = Unit {0}

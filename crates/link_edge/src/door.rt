@@ -14,13 +14,13 @@ use crate::link::Link;
 pub trait Door {
     type Link: Link;
 
-    /// What its accepts answered so far, where it is told.
+    /// What its accepts answered so far, if it is known.
     ghost answered: { Self → Option (List Accepted) };
 
-    /// How many links it gave out so far, where it is told.
+    /// How many links it gave out so far, if it is known.
     ghost gave: { Self → Option ℕ };
 
-    /// What is known of each link that came back so far, where it is told.
+    /// What is known of each link that came back so far, if it is known.
     ghost back: { Self → Option (List Report) };
 
     /// How often it failed so far.

@@ -1,4 +1,4 @@
-//! What a link in memory says.
+//! The script that a link in memory plays.
 
 ghost use Rattle.std.specs.Prelude.{◌≡◌, ◌<◌, ◌≤◌, ◌++◌, length, min, take};
 ghost use Rattle.link_edge.specs.Takes.{taken_bytes};
@@ -16,7 +16,7 @@ pub enum Said {
     Quiet,
 }
 
-/// A script that is played: what is still to be said, of a first piece only what was not taken yet.
+/// A script that is played: the members that are left, of the first piece only what was not taken yet.
 #[derive(Drop, Debug)]
 pub struct Script {
     said: List<Said>,
@@ -49,7 +49,7 @@ fn copy_front(bytes: &[u8], into: &mut [u8]) -> usize
 impl Script {
     ghost use Rattle.link_edge.specs.Script.{next_take, script_after, script_bytes};
 
-    /// All of it is still to be said.
+    /// The whole script is left.
     pub fn new(said: List<Said>) -> Script
         ensures fresh { result ≡ said }
     {
@@ -60,7 +60,7 @@ impl Script {
         }
     }
 
-    /// What the next take answers, whose bytes are put into the room. The script stays where it is.
+    /// What the next take answers. Its bytes are copied into the room, and the script stays as it is.
     pub fn say(&self, into: &mut [u8]) -> Take
         requires room { 0 < length into.old }
         ensures value { result ≡ next_take self.now (length into.new) }
@@ -82,7 +82,7 @@ impl Script {
         }
     }
 
-    /// Goes on by what a take with so much room was answered.
+    /// Advances by what a take with so much room was answered.
     pub fn advance(&mut self, room: usize)
         ensures rest { self.new ≡ script_after self.old room }
     {
