@@ -1,0 +1,4 @@
+pub mod Firm
+pub mod Sound
+pub mod Legal
+pub mod Laws
