@@ -23,7 +23,9 @@ use Rattle.js_model.specs.Advance.{advance}
 use Rattle.js_model.specs.Deliver.{IsDelivery, IsDelivered}
 use Rattle.js_model.specs.Runs.{RunFrom, IsStep, new_messages}
 use Rattle.model_laws.specs.Sound.{IsSoundConsumer, IsSoundStream, IsSound}
-use Rattle.model_laws.specs.Laws.{LawAcked, NeverSent, EndsEntry, drops, acknowledges, sends, has_entry, consumer_of}
+use Rattle.model_laws.specs.OneConsumer.{drops, consumer_of}
+use Rattle.model_laws.specs.Acked.{NeverSent, EndsEntry, acknowledges, sends, has_entry}
+use Rattle.model_laws.specs.Laws.{LawAcked}
 use Rattle.js_model.proofs.Named.{stands-at, same_is}
 use Rattle.js_model.proofs.Lacking.{lacks-from_map, apart-swapped}
 use Rattle.model_laws.proofs.SoundTime.{sound_time}

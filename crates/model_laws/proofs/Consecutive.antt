@@ -22,7 +22,9 @@ use Rattle.js_model.specs.Acknowledge.{acknowledged}
 use Rattle.js_model.specs.Pulls.{pulled, pulled_unless, pull_refusal}
 use Rattle.js_model.specs.Deliver.{Delivers, IsDelivery, IsDelivered}
 use Rattle.js_model.specs.Runs.{RunFrom, new_messages}
-use Rattle.model_laws.specs.Laws.{Follow, Sending, sending_of, sending_to, sendings, drops}
+use Rattle.model_laws.specs.OneConsumer.{drops}
+use Rattle.model_laws.specs.Sendings.{Sending, sending_of, sending_to, sendings}
+use Rattle.model_laws.specs.Order.{Follow}
 use Rattle.js_model.proofs.Named.{same_is, same_self}
 use Rattle.model_laws.proofs.ConsumerFacts.{IsKept, InStream, InState, in_event, in_delivery, its}
 

@@ -27,7 +27,7 @@ use Rattle.js_model.specs.Pulls.{pulled, pulled_unless, pull_refusal}
 use Rattle.js_model.specs.Consumers.{new_consumer}
 use Rattle.js_model.specs.Events.{with_message, with_id, after_ack, pulled_next, next_ask, IsEvent}
 use Rattle.js_model.specs.Deliver.{Delivers, IsDelivery}
-use Rattle.model_laws.specs.Laws.{drops}
+use Rattle.model_laws.specs.OneConsumer.{drops}
 use Rattle.js_model.proofs.Named.{Stands, stands-map, stands-found, stands-with_new, stands-without, KeepsNames, same_is, found_named, same_self, in_place_of-names, placed_same}
 use Rattle.model_laws.proofs.Facts.{IsStreamFact, IfLive, at_event, at_time, at_kept}
 

@@ -39,7 +39,8 @@ use Rattle.js_model.specs.Events.{stream_answer, answered, settled, settled_stat
 use Rattle.js_model.specs.Deliver.{IsDelivery}
 use Rattle.js_model.specs.Runs.{RunFrom, messages_of}
 use Rattle.model_laws.specs.Sound.{IsSoundStream, IsSound}
-use Rattle.model_laws.specs.Laws.{LawKept, IsAged, IsTrimmed, IsUnneededWithinLimits, Leaves, LeavesOnEvent, aged, purged, deleted as deleted_it, dropped, trimmed, unneeded, LeavesOnDelivery, aged_by_then, not_needed}
+use Rattle.model_laws.specs.Leaving.{IsAged, IsTrimmed, IsUnneededWithinLimits, Leaves, LeavesOnEvent, aged, purged, deleted as deleted_it, dropped, trimmed, unneeded, LeavesOnDelivery, aged_by_then, not_needed}
+use Rattle.model_laws.specs.Laws.{LawKept}
 use Rattle.model_laws.proofs.Facts.{IfLive, at_answer}
 use Rattle.js_model.proofs.Members.{IsIn, in_push, found_in, in_from_contains, contains_from_in}
 use Rattle.js_model.proofs.Parts.{trim_part}

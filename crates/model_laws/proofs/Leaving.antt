@@ -10,7 +10,7 @@ use Rattle.js_model.specs.declared.stream.Stream.{Stream}
 use Rattle.js_model.specs.Streams.{seqs}
 use Rattle.js_model.specs.Advance.{advance}
 use Rattle.js_model.specs.Retention.{kept, is_kept}
-use Rattle.model_laws.specs.Laws.{IsAged}
+use Rattle.model_laws.specs.Leaving.{IsAged}
 use Rattle.js_model.proofs.Parts.{part_map}
 use Rattle.js_model.proofs.Lacking.{has-part}
 use Rattle.js_model.proofs.Members.{IsIn, here, there, in_cons, in_bounds}

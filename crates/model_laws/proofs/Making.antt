@@ -21,7 +21,8 @@ use Rattle.js_model.specs.Refusals.{first_refusal}
 use Rattle.js_model.specs.Advance.{advance, aged, consumer_at, young}
 use Rattle.js_model.specs.Consumers.{new_consumer, with_new, making_checks}
 use Rattle.js_model.specs.Events.{answered, stream_answer, told_of, consumer_made, consumer_asked, IsEvent}
-use Rattle.model_laws.specs.Laws.{Makes, drops}
+use Rattle.model_laws.specs.OneConsumer.{drops}
+use Rattle.model_laws.specs.Order.{Makes}
 use Rattle.js_model.proofs.Named.{none_some, by_name-map, by_name-made}
 use Rattle.model_laws.proofs.Facts.{at_settled}
 use Rattle.model_laws.proofs.ConsumerFacts.{IsKept, InStream, InState, in_stream_fact}

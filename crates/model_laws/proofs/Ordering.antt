@@ -8,7 +8,8 @@ use Rattle.js_model.specs.declared.consumer.Consumer.{Consumer}
 use Rattle.js_model.specs.Advance.{advance}
 use Rattle.js_model.specs.Consumers.{new_consumer}
 use Rattle.model_laws.specs.Sound.{IsSound}
-use Rattle.model_laws.specs.Laws.{LawOrder, LawStart, consumer_of}
+use Rattle.model_laws.specs.OneConsumer.{consumer_of}
+use Rattle.model_laws.specs.Laws.{LawOrder, LawStart}
 use Rattle.js_model.proofs.Named.{none_some, stands-at}
 use Rattle.model_laws.proofs.ConsumerFacts.{InState}
 use Rattle.model_laws.proofs.Making.{in_made}

@@ -29,7 +29,9 @@ use Rattle.js_model.specs.Pulls.{pulled}
 use Rattle.js_model.specs.Deliver.{Delivers, IsDelivery, sent_to, with_pending, count_of, is_due, without_first}
 use Rattle.js_model.specs.Runs.{RunFrom, new_messages}
 use Rattle.model_laws.specs.Sound.{IsCounted, IsSoundConsumer, IsSoundStream, IsSound}
-use Rattle.model_laws.specs.Laws.{Sending, sending_of, sending_to, sendings, times_sent, drops, consumer_of}
+use Rattle.model_laws.specs.OneConsumer.{drops, consumer_of}
+use Rattle.model_laws.specs.Sendings.{Sending, sending_of, sending_to, sendings}
+use Rattle.model_laws.specs.Limits.{times_sent}
 use Rattle.js_model.proofs.Named.{same_is, same_self, none_some}
 use Rattle.js_model.proofs.Lacking.{lacks-head}
 use Rattle.model_laws.proofs.SoundParts.{has-filter}

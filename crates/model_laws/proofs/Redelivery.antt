@@ -40,9 +40,12 @@ use Rattle.js_model.specs.Pulls.{pulled}
 use Rattle.js_model.specs.Events.{answered, IsEvent, settled_state, stream_answer, ack_answer, ack_done, ack_reply, after_ack, pulled_next, next_ask, quietly, with_message, with_id}
 use Rattle.js_model.specs.Deliver.{Delivers, IsDelivery, sent_to, with_pending, count_of, is_due}
 use Rattle.js_model.specs.Runs.{RunFrom, new_messages}
-use Rattle.model_laws.specs.Firm.{moment_of}
+use Rattle.model_laws.specs.Moments.{moment_of}
 use Rattle.model_laws.specs.Sound.{IsSoundConsumer, IsSoundStream, IsSound}
-use Rattle.model_laws.specs.Laws.{LawRedelivery, Due, due_first, due_by, due_after_event, due_after_sent, due_after, IsAgain, IsDueSending, Redelivers, sending_of, sending_to, drops, consumer_of}
+use Rattle.model_laws.specs.OneConsumer.{drops, consumer_of}
+use Rattle.model_laws.specs.Sendings.{sending_of, sending_to}
+use Rattle.model_laws.specs.Redelivery.{Due, due_first, due_by, due_after_event, due_after_sent, due_after, IsAgain, IsDueSending, Redelivers}
+use Rattle.model_laws.specs.Laws.{LawRedelivery}
 use Rattle.js_model.proofs.Named.{stands-map, stands-found, stands-with_new, stands-without, found_named, same_is, same_self, none_some}
 use Rattle.js_model.proofs.Members.{IsIn, here, there, in_cons, in_filter, in_bounds, find_one, found_in}
 use Rattle.model_laws.proofs.Facts.{IsChangeFact, IsStreamFact, IfLive, change_time, change_kept, at_settled, at_kept, at_event}

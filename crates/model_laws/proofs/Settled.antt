@@ -21,7 +21,7 @@ use Rattle.js_model.specs.Advance.{is_spent}
 use Rattle.js_model.specs.Acknowledge.{acknowledged, moved}
 use Rattle.js_model.specs.Pulls.{pulled, pulled_unless, pull_refusal}
 use Rattle.js_model.specs.Deliver.{is_due, sent_to, with_pending, count_of, Delivers}
-use Rattle.model_laws.specs.Laws.{is_sent}
+use Rattle.model_laws.specs.Acked.{is_sent}
 use Rattle.js_model.proofs.Parts.{filter_part}
 use Rattle.js_model.proofs.Lacking.{lacks-cons, lacks-head, lacks-tail, lacks-part, lacks-both}
 use Rattle.model_laws.proofs.SoundAcks.{moved-seq}

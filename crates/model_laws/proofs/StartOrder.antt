@@ -25,7 +25,9 @@ use Rattle.js_model.specs.Pulls.{pulled}
 use Rattle.js_model.specs.Deliver.{Delivers, IsDelivery, IsDelivered, count_of, is_due}
 use Rattle.js_model.specs.Runs.{RunFrom, new_messages}
 use Rattle.model_laws.specs.Sound.{IsCounted, IsSoundConsumer, IsSoundStream, IsSound}
-use Rattle.model_laws.specs.Laws.{IsStartOrder, firsts, Sending, sending_of, sending_to, sendings, drops}
+use Rattle.model_laws.specs.OneConsumer.{drops}
+use Rattle.model_laws.specs.Sendings.{Sending, sending_of, sending_to, sendings}
+use Rattle.model_laws.specs.Order.{IsStartOrder, firsts}
 use Rattle.js_model.proofs.Parts.{filter_part, all_part, no_part, part_trans}
 use Rattle.js_model.proofs.Named.{same_is, same_self}
 use Rattle.js_model.proofs.Members.{find_one, found_in, all_in}

@@ -37,7 +37,9 @@ use Rattle.js_model.specs.Events.{answered, published, with_id, IsEvent, settled
 use Rattle.js_model.specs.Deliver.{Delivers, IsDelivery, IsDelivered}
 use Rattle.js_model.specs.Runs.{RunFrom, new_messages}
 use Rattle.model_laws.specs.Sound.{IsSoundConsumer, IsSoundStream, IsSound}
-use Rattle.model_laws.specs.Laws.{Stored, stored_first, stored_by, was_stored, WereStored, SendsStored, sending_of, sending_to, drops}
+use Rattle.model_laws.specs.OneConsumer.{drops}
+use Rattle.model_laws.specs.Sendings.{sending_of, sending_to}
+use Rattle.model_laws.specs.Order.{Stored, stored_first, stored_by, was_stored, WereStored, SendsStored}
 use Rattle.js_model.proofs.Named.{same_is}
 use Rattle.js_model.proofs.Members.{IsIn, here, there, in_part, in_append, in_cons, any_in, holds_of_one}
 use Rattle.model_laws.proofs.Facts.{IsStreamFact, IfLive, at_event, at_settled, at_delivery}

@@ -37,7 +37,7 @@ use Rattle.js_model.specs.Pulls.{pulled}
 use Rattle.js_model.specs.Events.{answered, IsEvent, settled_state, stream_answer, vacant_answer}
 use Rattle.js_model.specs.Deliver.{Delivers, IsDelivery, IsDelivered, sent_to, with_pending, count_of, may_wait, is_due}
 use Rattle.model_laws.specs.Sound.{IsSoundConsumer, IsSound}
-use Rattle.model_laws.specs.Laws.{IsWithin}
+use Rattle.model_laws.specs.Limits.{IsWithin}
 use Rattle.js_model.proofs.Parts.{filter_part, drop_part, part-length, part-sum, newest_part, fitting_at_part, part_trans, between_map, young_part}
 use Rattle.js_model.proofs.Named.{same_is}
 use Rattle.js_model.proofs.Members.{find_one, found_in}
