@@ -116,7 +116,10 @@ is_deliver_subject text = is_subject_text text && not (is_own text)
 abbrev pub is_start : DeliverPolicy → Bool
 is_start (ByStartSequence n) = nat_lt 0 n && is_number n
 is_start (ByStartTime at) = is_number at
-is_start _ = true
+is_start FromAll = true
+is_start FromLast = true
+is_start FromNew = true
+is_start LastPerSubject = true
 
 -- a configuration that the reader of consumer configurations gives. Groups and heartbeats are for push consumers
 abbrev pub is_consumer_config : ConsumerConfig → Bool

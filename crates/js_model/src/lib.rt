@@ -11,7 +11,6 @@ mod desk;
 mod entry;
 mod event;
 mod kept_place;
-pub mod laws;
 pub mod refusals;
 mod reply;
 mod route_fault;
