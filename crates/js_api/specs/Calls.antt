@@ -1,124 +1,105 @@
--- The calls of a desk, and which entries each of them makes.
-use Rattle.std.specs.Prelude.{◌≡◌, ◌⊎◌, ℕ, ◌^◌, ◌-◌, Bool, true, false, not, List, [], ◌∷◌, Option, Some, None, MatchBool, MatchOption, Result}
-use Rattle.js_base.specs.Bytes.{Bytes}
+-- Which entries each call of a desk makes, and with which answer.
+use Rattle.std.specs.Prelude.{◌≡◌, ◌⊎◌, ℕ, ◌^◌, ◌-◌, Bool, true, false, List, [], ◌∷◌, Option, Some, None, MatchBool, MatchOption, Result, Ok, Err}
 use Rattle.js_base.specs.declared.out.Out.{Out}
-use Rattle.js_base.specs.declared.out.ApiError.{ApiError}
-use Rattle.js_base.specs.declared.frame.Frame.{Frame}
 use Rattle.js_model.specs.declared.event.What.TheVariants.{Tick as LetPass}
 use Rattle.js_model.specs.declared.desk.Taken.{Taken}
 use Rattle.js_model.specs.declared.desk.PlaceAt.{PlaceAt}
-use Rattle.js_model.specs.Ready.{some_ready}
 use Rattle.js_model.specs.Router as router
-use Rattle.api_requests.specs.declared.request.ApiRequest.{ApiRequest}
-use Rattle.api_requests.specs.Requests.{request_of}
-use Rattle.js_api.specs.Desks.{DeskEntry, Routed, Turned, Resumed}
-use Rattle.js_api.specs.Holding.{Made, Said, Cut, Unmade, Gone, Holds, is_short}
+use Rattle.js_base.specs.ServerSubjects.{is_api, is_acknowledgement}
+use Rattle.js_api.specs.declared.fault.DeskFault.{DeskFault}
+use Rattle.js_api.specs.declared.fault.DeskFault.TheVariants as faults
+use Rattle.js_api.specs.declared.outcome.Outcome.{Outcome}
+use Rattle.js_api.specs.Answering.{DeskCall, Open, Options, Sub, Unsub, Publish, Tick, Settle, Collect, Close, DeskAnswer, Opened, Done, Took, Settled, Gave, Slow, answered_by}
 use Rattle.js_api.specs.Clients.{Client}
-use Rattle.js_api.specs.Publishing.{is_api, is_acknowledgement, nobody, untaken_outs, AreUntold, IsUntaken, IsPublish, IsPublishCut}
-use Rattle.js_api.specs.Api.{Answers}
+use Rattle.js_api.specs.Entries.{DeskEntry, Routed, Turned, Resumed}
+use Rattle.js_api.specs.Stages.{Then, Gives, IsWorn, Ending}
+use Rattle.js_api.specs.Holding.{Holds}
+use Rattle.js_api.specs.Publishing.{PublishesPlain, PublishesToNobody}
+use Rattle.js_api.specs.Api.{PublishesToApi}
 
-pub data DeskCall : Type 0 where
-  Open : DeskCall
-  Options : (echo headers no_responders : Bool) → DeskCall
-  Sub : (subject : Bytes) (queue : Option Bytes) (sid : Bytes) → DeskCall
-  Unsub : (sid : Bytes) (max : Option ℕ) → DeskCall
-  Publish : (message : Out) (now : ℕ) → DeskCall
-  Tick : (now : ℕ) → DeskCall
-  Settle : (now : ℕ) → DeskCall
-  Collect : (max : ℕ) → DeskCall
-  Close : DeskCall
+-- ---- one call of the router
 
-pub data DeskAnswer : Type 0 where
-  Opened : (session : ℕ) → DeskAnswer
-  Done : DeskAnswer
-  Took : Taken → DeskAnswer
-  Settled : (ready : Bool) → DeskAnswer
-  Gave : (list : List Frame) (more : Bool) → DeskAnswer
-  Slow : (length : ℕ) → DeskAnswer
-  TooManySubs : DeskAnswer
-  Worn : (kept : ℕ) → DeskAnswer
-  NoMemory : DeskAnswer
+-- the answer of the router is that of the call. It answers Worn if the last session has the last number
+abbrev pub Says : router.RouteTold → Result DeskAnswer DeskFault → Type 0
+Says router.Done result = result ≡ Ok Done
+Says (router.Opened number) result = result ≡ Ok (Opened number)
+Says (router.Taken count) result = ⊥
+Says (router.Listens heard) result = ⊥
+Says (router.Frames list more) result = result ≡ Ok (Gave list more)
+Says (router.Slow length) result = result ≡ Ok (Slow length)
+Says (router.NoSession latest) result = ⊥
+Says router.TooManySubs result = result ≡ Err faults.TooManySubs
+Says router.Worn result = result ≡ Err (faults.Worn (2 ^ 62 - 1))
+Says router.NoMemory result = result ≡ Err faults.NoMemory
+
+-- the one entry of the call, or the router's turn cannot be entered
+abbrev pub Routes : router.RouteCall → Result DeskAnswer DeskFault → List DeskEntry → Type 0
+Routes call result entries =
+    ((told : router.RouteTold) × (entries ≡ Routed call told ∷ []) × Says told result)
+    ⊎ ((number : ℕ) × (result ≡ Err (faults.Worn number)) × IsWorn number entries)
+
+-- a call for an open session makes that; if none is open, it makes nothing
+abbrev pub IfOpen : Client → (Result DeskAnswer DeskFault → List DeskEntry → Type 0) → Result DeskAnswer DeskFault → List DeskEntry → Type 0
+IfOpen client IsDone result entries = MatchBool client.is_open (IsDone result entries) ((result ≡ Err (faults.NoSession client.session)) × (entries ≡ []))
 
 -- ---- publishing
 
--- a call of the API takes the message, whatever it answers; a subject of the API that is no call reaches nobody
-abbrev pub taken_by_api : Taken
-taken_by_api = record { subscriptions = 0; other = true }
-
-abbrev pub IsAsked : Option (Result ApiRequest ApiError) → Client → Out → ℕ → Taken → List DeskEntry → Type 0
-IsAsked None client message now taken entries = IsUntaken client message taken entries
-IsAsked (Some reading) client message now taken entries = (taken ≡ taken_by_api) × Answers reading message now true entries
-
--- memory ran out: for what nobody is told, as the call was read, or as it was carried out
-abbrev pub IsAskedCut : Option (Result ApiRequest ApiError) → Client → Out → ℕ → List DeskEntry → Type 0
-IsAskedCut None client message now entries = AreUntold (untaken_outs client.told message nobody) entries
-IsAskedCut (Some reading) client message now entries = (entries ≡ []) ⊎ Answers reading message now false entries
-
--- who took the message is by its subject
-abbrev pub Publishes : Client → Out → ℕ → Taken → List DeskEntry → Type 0
-Publishes client message now taken entries =
-    MatchBool (is_api message.to) (IsAsked (request_of message.to message.payload) client message now taken entries)
-    (MatchBool (is_acknowledgement message.to) (IsUntaken client message taken entries) (IsPublish client message now taken entries))
-
-abbrev pub PublishesCut : Client → Out → ℕ → List DeskEntry → Type 0
-PublishesCut client message now entries =
-    MatchBool (is_api message.to) (IsAskedCut (request_of message.to message.payload) client message now entries)
-    (MatchBool (is_acknowledgement message.to) (AreUntold (untaken_outs client.told message nobody) entries) (IsPublishCut client message now entries))
+-- what becomes of the message is decided by its subject
+abbrev pub Publishes : Client → Out → ℕ → Result Taken DeskFault → List DeskEntry → Type 0
+Publishes client message now result entries =
+    MatchBool (is_api message.to) (PublishesToApi client message now result entries)
+    (MatchBool (is_acknowledgement message.to) (PublishesToNobody client message result entries) (PublishesPlain client message now result entries))
 
 -- ---- letting time pass
 
--- time passes at a place, where there is one, and then a consumer is ready there or not. There is no push consumer yet to which somebody listens
-abbrev pub is_ready_after : Made → ℕ → Bool
-is_ready_after (Said reply after) now = some_ready after now []
-is_ready_after (Cut reply after) now = some_ready after now []
-is_ready_after Unmade now = false
-is_ready_after Gone now = false
+-- time passes at a place, and then a consumer is ready there or not
+pub record PassesAt (now : ℕ) (at : PlaceAt) (result : Result Bool DeskFault) (entries : List DeskEntry) : Type 0 where
+  pub outcome : Outcome
+  pub holds : Holds at LetPass now outcome entries
+  pub ends : Ending outcome.fault (Gives outcome.ready) result []
 
-pub record PassesAt (now : ℕ) (finished ready : Bool) (entries : List DeskEntry) (at : PlaceAt) : Type 0 where
-  pub made : Made
-  pub holds : Holds at LetPass now made entries
-  pub finished_is : finished ≡ not (is_short made)
-  pub ready_is : ready ≡ is_ready_after made now
+abbrev pub Passes : ℕ → Option PlaceAt → Result Bool DeskFault → List DeskEntry → Type 0
+Passes now found result entries = MatchOption found (Gives false result entries) (λ at. PassesAt now at result entries)
 
-abbrev pub Passes : ℕ → Bool → Bool → Option PlaceAt → List DeskEntry → Type 0
-Passes now finished ready found entries = MatchOption found ((entries ≡ []) × (finished ≡ true) × (ready ≡ false)) (PassesAt now finished ready entries)
+-- the next used place after that of the last tick
+abbrev pub Turns : Result (Option PlaceAt) DeskFault → List DeskEntry → Type 0
+Turns (Ok found) entries = (after : ℕ) × (entries ≡ Turned after found ∷ [])
+Turns (Err faults.NoMemory) entries = ⊥
+Turns (Err faults.TooManySubs) entries = ⊥
+Turns (Err (faults.Worn number)) entries = IsWorn number entries
+Turns (Err (faults.NoSession latest)) entries = ⊥
 
--- a tick goes to the next used place after that of the last tick
-abbrev pub Ticks : ℕ → Bool → List DeskEntry → Type 0
-Ticks now finished entries =
-    (found : Option PlaceAt) × (held : List DeskEntry) × (ready : Bool) × (entries ≡ Turned found ∷ held) × Passes now finished ready found held
+-- what a tick makes besides: nothing, since no stream is a mirror of another
+abbrev pub Feeds : Result (Unit {0}) DeskFault → List DeskEntry → Type 0
+Feeds result entries = Gives tt result entries
 
--- it settles at the place of the last hold
-abbrev pub Settles : ℕ → Bool → Bool → List DeskEntry → Type 0
-Settles now finished ready entries =
-    (last : Option PlaceAt) × (held : List DeskEntry) × (entries ≡ Resumed last ∷ held) × Passes now finished ready last held
+abbrev pub Ticks : ℕ → Result (Unit {0}) DeskFault → List DeskEntry → Type 0
+Ticks now result entries = Then Turns (λ found. Then (Passes now found) (λ ready. Feeds)) result entries
+
+-- the place of the last hold
+abbrev pub Resumes : Result (Option PlaceAt) DeskFault → List DeskEntry → Type 0
+Resumes (Ok last) entries = entries ≡ Resumed last ∷ []
+Resumes (Err fault) entries = ⊥
+
+abbrev pub Settles : ℕ → Result Bool DeskFault → List DeskEntry → Type 0
+Settles now result entries = Then Resumes (Passes now) result entries
 
 -- ---- all calls
 
--- the entries that a call of this client makes with this answer
-abbrev pub Does : Client → DeskCall → DeskAnswer → List DeskEntry → Type 0
-Does client Open (Opened number) entries = entries ≡ Routed router.Open (router.Opened number) ∷ []
-Does client Open (Worn kept) entries = (kept ≡ 2 ^ 62 - 1) × (entries ≡ Routed router.Open router.Worn ∷ [])
-Does client Open NoMemory entries = entries ≡ Routed router.Open router.NoMemory ∷ []
-Does client (Options echo headers no_responders) Done entries = entries ≡ Routed (router.Options client.session echo headers) router.Done ∷ []
-Does client (Sub subject queue sid) Done entries = entries ≡ Routed (router.Sub client.session subject queue sid) router.Done ∷ []
-Does client (Sub subject queue sid) TooManySubs entries = entries ≡ Routed (router.Sub client.session subject queue sid) router.TooManySubs ∷ []
-Does client (Sub subject queue sid) NoMemory entries = entries ≡ Routed (router.Sub client.session subject queue sid) router.NoMemory ∷ []
-Does client (Unsub sid max) Done entries = entries ≡ Routed (router.Unsub client.session sid max) router.Done ∷ []
-Does client (Publish message now) (Took taken) entries = Publishes client message now taken entries
-Does client (Publish message now) NoMemory entries = PublishesCut client message now entries
-Does client (Tick now) Done entries = Ticks now true entries
-Does client (Tick now) NoMemory entries = Ticks now false entries
-Does client (Settle now) (Settled ready) entries = Settles now true ready entries
-Does client (Settle now) NoMemory entries = (ready : Bool) × Settles now false ready entries
-Does client (Collect max) (Gave list more) entries = entries ≡ Routed (router.Collect client.session max) (router.Frames list more) ∷ []
-Does client (Collect max) (Slow length) entries = entries ≡ Routed (router.Collect client.session max) (router.Slow length) ∷ []
-Does client (Collect max) NoMemory entries = entries ≡ Routed (router.Collect client.session max) router.NoMemory ∷ []
-Does client Close Done entries = entries ≡ Routed (router.Close client.session) router.Done ∷ []
-Does client _ _ entries = ⊥
+-- the call gives what the stages gave
+pub record Answered {X : Type 0} (says : X → DeskAnswer) (stages : Result X DeskFault → List DeskEntry → Type 0) (result : Result DeskAnswer DeskFault) (entries : List DeskEntry) : Type 0 where
+  pub given : Result X DeskFault
+  pub result_is : result ≡ answered_by says given
+  pub made : stages given entries
 
--- a call of a desk led it from the one state to the other by entries that such a call makes
-pub record Makes {D : Type 0} (made : D → List DeskEntry → D → Type 0) (old new : D) (client : Client) (call : DeskCall) (answer : DeskAnswer) : Type 0 where
-  pub entries : List DeskEntry
-  pub does : Does client call answer entries
-  pub led : made old entries new
+-- the entries that a call for this client makes with this answer
+abbrev pub Does : Client → DeskCall → Result DeskAnswer DeskFault → List DeskEntry → Type 0
+Does client Open result entries = Routes router.Open result entries
+Does client (Options echo headers no_responders) result entries = IfOpen client (Routes (router.Options client.session echo headers)) result entries
+Does client (Sub subject queue sid) result entries = IfOpen client (Routes (router.Sub client.session subject queue sid)) result entries
+Does client (Unsub sid max) result entries = IfOpen client (Routes (router.Unsub client.session sid max)) result entries
+Does client (Publish message now) result entries = IfOpen client (Answered Took (Publishes client message now)) result entries
+Does client (Tick now) result entries = Answered (λ (u : Unit {0}). Done) (Ticks now) result entries
+Does client (Settle now) result entries = Answered Settled (Settles now) result entries
+Does client (Collect max) result entries = IfOpen client (Routes (router.Collect client.session max)) result entries
+Does client Close result entries = IfOpen client (Routes (router.Close client.session)) result entries

@@ -1,78 +1,165 @@
--- One hold on a place: an event is made there, and what it sends is routed.
-use Rattle.std.specs.Prelude.{◌≡◌, ◌⊎◌, ℕ, Bool, true, false, List, [], ◌∷◌, Option, Some, None}
+-- One hold on a place: what was asked of it at a moment is made there, deliveries follow, and all that these send is routed.
+use Rattle.std.specs.Prelude.{◌≡◌, ◌⊎◌, ◌≤◌, ◌+◌, ℕ, Bool, true, false, List, [], ◌∷◌, ◌++◌, length, filter, map, sum_by, Option, Some, None, if◌then◌else◌}
+use Rattle.js_base.specs.Bytes.{Bytes, is_empty}
 use Rattle.js_base.specs.declared.out.Out.{Out}
 use Rattle.js_model.specs.declared.stream.State.{State}
+use Rattle.js_model.specs.declared.stream.State.TheVariants.{Vacant, Live}
+use Rattle.js_model.specs.declared.consumer.Consumer.{Consumer}
+use Rattle.js_model.specs.declared.event.Event.{Event}
 use Rattle.js_model.specs.declared.event.What.{What}
+use Rattle.js_model.specs.declared.event.What.TheVariants.{Tick as LetPass}
 use Rattle.js_model.specs.declared.reply.Reply.{Reply}
+use Rattle.js_model.specs.declared.reply.Reply.TheVariants.{Silent}
 use Rattle.js_model.specs.declared.entry.PlaceEntry.{PlaceEntry}
-use Rattle.js_model.specs.declared.entry.PlaceEntry.TheVariants.{Step}
+use Rattle.js_model.specs.declared.entry.PlaceEntry.TheVariants.{Step, Deliver, Broken}
+use Rattle.js_model.specs.declared.entry.Call.TheVariants.{Step as StepOf, Deliver as DeliverOf}
 use Rattle.js_model.specs.declared.desk.PlaceAt.{PlaceAt}
-use Rattle.js_model.specs.Router as router
-use Rattle.js_api.specs.Desks.{DeskEntry, Routed, Held, Missed}
-use Rattle.js_api.specs.Outputs.{outs_of}
-
--- ---- routing
-
--- each output is routed, in order
-abbrev pub AreRouted : List Out → List DeskEntry → Type 0
-AreRouted [] entries = entries ≡ []
-AreRouted (out ∷ outs) entries =
-    (count : ℕ) × (more : List DeskEntry) × (entries ≡ Routed (router.Publish out None) (router.Taken count) ∷ more) × AreRouted outs more
-
--- the outputs are routed in order up to one that found no memory
-abbrev pub AreCut : List Out → List DeskEntry → Type 0
-AreCut [] entries = ⊥
-AreCut (out ∷ outs) entries =
-    (entries ≡ Routed (router.Publish out None) router.NoMemory ∷ [])
-    ⊎ ((count : ℕ) × (more : List DeskEntry) × (entries ≡ Routed (router.Publish out None) (router.Taken count) ∷ more) × AreCut outs more)
-
--- Whether it was finished: all outputs are routed; or memory ran out, for making them or where they were routed
-abbrev pub IsSent : Bool → List Out → List DeskEntry → Type 0
-IsSent true outs entries = AreRouted outs entries
-IsSent false outs entries = (entries ≡ []) ⊎ AreCut outs entries
+use Rattle.js_model.specs.Streams.{is_push}
+use Rattle.js_model.specs.Ready.{some_ready}
+use Rattle.js_api.specs.declared.fault.DeskFault.{DeskFault}
+use Rattle.js_api.specs.declared.fault.DeskFault.TheVariants as faults
+use Rattle.js_api.specs.declared.outcome.Became.{Became}
+use Rattle.js_api.specs.declared.outcome.Became.TheVariants.{Made, Ticked, Nothing, Broke, Stopped, Gone}
+use Rattle.js_api.specs.declared.outcome.Outcome.{Outcome}
+use Rattle.js_api.specs.Entries.{Reading, Sending, Sent, Unsent, Hold, entries_in, DeskEntry, Held, Halted, Missed}
+use Rattle.js_api.specs.Stages.{IsWorn}
+use Rattle.js_api.specs.Outputs.{outs_of, stream_name}
 
 -- ---- the step
 
-abbrev pub step : ℕ → PlaceAt → What → ℕ → Reply → List Out → Bool → List PlaceEntry
-step seat at what now reply outs unsaid = Step seat (record { incarnation = at.incarnation; what = what }) now reply outs unsaid ∷ []
+abbrev pub event_at : PlaceAt → What → Event
+event_at at what = record { incarnation = at.incarnation; what = what }
 
--- one step of what is asked of the place, and the routing of what it sends
-pub record IsHold (at : PlaceAt) (what : What) (now : ℕ) (reply : Reply) (after : State) (unsaid : Bool) (routing : List Out → List DeskEntry → Type 0) (entries : List DeskEntry) : Type 0 where
+abbrev pub step : ℕ → PlaceAt → What → ℕ → Reply → List Out → Bool → List PlaceEntry
+step seat at what now reply outs unsaid = Step seat (event_at at what) now reply outs unsaid ∷ []
+
+-- ---- who listens
+
+abbrev pub consumers_of : State → List Consumer
+consumers_of (Vacant i) = []
+consumers_of (Live s) = s.consumers
+
+abbrev pub push_consumers : State → List Consumer
+push_consumers state = filter is_push (consumers_of state)
+
+-- the queue name of its deliver group, if it has one
+abbrev pub group_of : Consumer → Option Bytes
+group_of c = if is_empty c.config.deliver_group then None else Some c.config.deliver_group
+
+abbrev pub reading_of : Consumer → Bool → Reading
+reading_of c heard = record { consumer = c.name; subject = c.config.deliver_subject; group = group_of c; heard = heard }
+
+-- one reading for each consumer, in order
+abbrev pub AreReadings : List Consumer → List Reading → Type 0
+AreReadings [] readings = readings ≡ []
+AreReadings (c ∷ cs) readings = (heard : Bool) × (more : List Reading) × (readings ≡ reading_of c heard ∷ more) × AreReadings cs more
+
+-- the consumers for whom somebody listens
+abbrev pub listening_of : List Reading → List Bytes
+listening_of readings = map (λ (r : Reading). r.consumer) (filter (λ (r : Reading). r.heard) readings)
+
+-- ---- the deliveries
+
+-- A delivery at the moment, to whom somebody listens. The last one may have broken, or time may have passed in its place, if memory ran out.
+abbrev pub AreDeliveries : PlaceAt → ℕ → List Bytes → List PlaceEntry → Type 0
+AreDeliveries at now listening [] = Unit {0}
+AreDeliveries at now listening (Deliver seat moment heard d outs ∷ more) = (moment ≡ now) × (heard ≡ listening) × AreDeliveries at now listening more
+AreDeliveries at now listening (Step seat event moment reply outs unsaid ∷ more) = (event ≡ event_at at LetPass) × (moment ≡ now) × (more ≡ [])
+AreDeliveries at now listening (Broken seat moment (DeliverOf heard d) ∷ more) = (moment ≡ now) × (heard ≡ listening) × (more ≡ [])
+AreDeliveries at now listening (Broken seat moment (StepOf event) ∷ more) = ⊥
+
+-- the bytes of an output are those of its five fields
+abbrev pub bytes_or_none : Option Bytes → ℕ
+bytes_or_none None = 0
+bytes_or_none (Some reply) = length reply
+
+abbrev pub bytes_of : Out → ℕ
+bytes_of out = length out.to + length out.subject + bytes_or_none out.reply + length out.headers + length out.payload
+
+abbrev pub most_deliveries : ℕ
+most_deliveries = 256
+
+-- 4 MiB
+abbrev pub most_bytes : ℕ
+most_bytes = 4194304
+
+-- so much was done that a hold may end while a consumer is ready
+abbrev pub IsFull : Hold → Type 0
+IsFull hold = (most_deliveries ≤ length hold.deliveries) ⊎ (most_bytes ≤ sum_by bytes_of (outs_of hold.before (entries_in hold)))
+
+-- the volume failed in a delivery, which is told to nobody
+abbrev pub delivery_broke : List PlaceEntry → Bool
+delivery_broke [] = false
+delivery_broke (Broken seat now call ∷ more) = true
+delivery_broke (Step seat event now reply outs unsaid ∷ more) = delivery_broke more
+delivery_broke (Deliver seat now listening d outs ∷ more) = delivery_broke more
+
+abbrev pub is_ready_at : ℕ → Hold → Bool
+is_ready_at now hold = if delivery_broke hold.deliveries then false else some_ready hold.after now (listening_of hold.readings)
+
+-- ---- its end
+
+-- nothing is left unsaid, unless memory or the numbers of turns ran out
+abbrev pub Explains : Option DeskFault → Bool → Hold → Type 0
+Explains None unsaid hold = (unsaid ≡ false) × (hold.sending ≡ Sent)
+Explains (Some faults.NoMemory) unsaid hold = Unit {0}
+Explains (Some faults.TooManySubs) unsaid hold = ⊥
+Explains (Some (faults.Worn number)) unsaid hold = hold.sending ≡ Unsent
+Explains (Some (faults.NoSession latest)) unsaid hold = ⊥
+
+-- the call goes on, and a consumer is ready only if the hold was full
+abbrev pub MayEnd : Option DeskFault → Bool → Hold → Type 0
+MayEnd None ready hold = ready ≡ true → IsFull hold
+MayEnd (Some fault) ready hold = Unit {0}
+
+-- the step was made so, and the rest of the hold followed
+pub record IsHold (at : PlaceAt) (what : What) (now : ℕ) (reply : Reply) (ready : Bool) (fault : Option DeskFault) (hold : Hold) : Type 0 where
   pub seat : ℕ
-  pub before : State
   pub outs : List Out
-  pub routed : List DeskEntry
-  pub entries_are : entries ≡ Held at.place before (step seat at what now reply outs unsaid) after ∷ routed
-  pub routing_is : routing (outs_of before (step seat at what now reply outs unsaid)) routed
+  pub unsaid : Bool
+  pub at_is : hold.at ≡ at
+  pub steps : hold.steps ≡ step seat at what now reply outs unsaid
+  pub readings : AreReadings (push_consumers hold.between) hold.readings
+  pub deliveries : AreDeliveries at now (listening_of hold.readings) hold.deliveries
+  pub ready_is : ready ≡ is_ready_at now hold
+  pub explained : Explains fault unsaid hold
+  pub ends : MayEnd fault ready hold
+
+-- the volume failed in the step, which nobody is told of by the place
+pub record IsBrokenHold (at : PlaceAt) (what : What) (now : ℕ) (stream : Bytes) (hold : Hold) : Type 0 where
+  pub seat : ℕ
+  pub at_is : hold.at ≡ at
+  pub steps : hold.steps ≡ Broken seat now (StepOf (event_at at what)) ∷ []
+  pub readings : hold.readings ≡ []
+  pub deliveries : hold.deliveries ≡ []
+  pub stream_is : stream ≡ stream_name hold.before
 
 -- ---- what became of it
 
--- It was made, and its answer told and all routed; it was made, and memory ran out for its answer or where what it sends was routed; memory ran
--- out before it, and the place may not have been asked; or the place keeps another incarnation than was asked for
-pub data Made : Type 0 where
-  Said : (reply : Reply) (after : State) → Made
-  Cut : (reply : Reply) (after : State) → Made
-  Unmade : Made
-  Gone : Made
+-- no step was made: memory ran out, or the place's turn cannot be entered
+abbrev pub Unmakes : Option DeskFault → List DeskEntry → Type 0
+Unmakes None entries = ⊥
+Unmakes (Some faults.NoMemory) entries = entries ≡ []
+Unmakes (Some faults.TooManySubs) entries = ⊥
+Unmakes (Some (faults.Worn number)) entries = IsWorn number entries
+Unmakes (Some (faults.NoSession latest)) entries = ⊥
 
--- what is asked of the place at a moment was made so, by these entries. There are no consumers yet to whom a hold could deliver
-abbrev pub Holds : PlaceAt → What → ℕ → Made → List DeskEntry → Type 0
-Holds at what now (Said reply after) entries = IsHold at what now reply after false AreRouted entries
-Holds at what now (Cut reply after) entries =
-    IsHold at what now reply after true AreRouted entries ⊎ ((unsaid : Bool) × IsHold at what now reply after unsaid AreCut entries)
-Holds at what now Unmade entries = entries ≡ []
-Holds at what now Gone entries = entries ≡ Missed at ∷ []
+-- it is told without a fault, and no consumer is ready
+abbrev pub IsQuiet : Bool → Option DeskFault → Type 0
+IsQuiet ready fault = (ready ≡ false) × (fault ≡ None)
 
--- the reply of the event that was made
-abbrev pub reply_made : Made → Option Reply
-reply_made (Said reply after) = Some reply
-reply_made (Cut reply after) = Some reply
-reply_made Unmade = None
-reply_made Gone = None
+abbrev pub HoldsBy : Became → PlaceAt → What → ℕ → Bool → Option DeskFault → List DeskEntry → Type 0
+HoldsBy (Made reply) at what now ready fault entries =
+    (hold : Hold) × (entries ≡ Held hold ∷ []) × IsHold at what now reply ready fault hold
+HoldsBy Ticked at what now ready fault entries =
+    (hold : Hold) × (entries ≡ Held hold ∷ []) × IsHold at LetPass now Silent ready fault hold × (fault ≡ Some faults.NoMemory)
+HoldsBy Nothing at what now ready fault entries = (ready ≡ false) × Unmakes fault entries
+HoldsBy (Broke stream) at what now ready fault entries =
+    (hold : Hold) × (entries ≡ Held hold ∷ []) × IsBrokenHold at what now stream hold × IsQuiet ready fault
+HoldsBy (Stopped stream) at what now ready fault entries =
+    (state : State) × (entries ≡ Halted at state ∷ []) × (stream ≡ stream_name state) × IsQuiet ready fault
+HoldsBy Gone at what now ready fault entries = (kept : ℕ) × (entries ≡ Missed at kept ∷ []) × IsQuiet ready fault
 
--- memory ran out
-abbrev pub is_short : Made → Bool
-is_short (Said reply after) = false
-is_short (Cut reply after) = true
-is_short Unmade = true
-is_short Gone = false
+-- a hold on this place, of what was asked there at the moment, came to that
+abbrev pub Holds : PlaceAt → What → ℕ → Outcome → List DeskEntry → Type 0
+Holds at what now outcome entries = HoldsBy outcome.became at what now outcome.ready outcome.fault entries

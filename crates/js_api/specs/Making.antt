@@ -1,53 +1,64 @@
--- The making of the stream that the server's words name: as a call that creates it without an answer, but a stream of this name that is there is
--- left as it is.
-use Rattle.std.specs.Prelude.{◌≡◌, ◌++◌, ℕ, List, [], ◌∷◌, Option, Some, None, MatchOption}
+-- The making of the stream that the command line names: as a call that creates it, without an answer. A stream of this name that is there is left as it is.
+use Rattle.std.specs.Prelude.{◌≡◌, ◌++◌, ℕ, List, [], ◌∷◌, Option, Some, None, Result, Ok, Err}
 use Rattle.js_base.specs.Bytes.{Bytes}
 use Rattle.js_base.specs.declared.out.ApiError.{ApiError}
 use Rattle.js_model.specs.declared.stream_config.StreamConfig.{StreamConfig}
 use Rattle.js_model.specs.declared.event.What.TheVariants as whats
-use Rattle.js_model.specs.declared.reply.Reply.TheVariants.{Refused}
+use Rattle.js_model.specs.declared.reply.Reply.{Reply}
+use Rattle.js_model.specs.declared.reply.Reply.TheVariants.{Info, Done, Published, Duplicate, Purged, ConsumerInfo, Message, Names, Infos, Confirmed, Silent, Nobody, Refused}
 use Rattle.js_model.specs.declared.desk.PlaceAt.{PlaceAt}
-use Rattle.js_model.specs.Refusals.{no_stream}
+use Rattle.js_model.specs.Refusals.{store_fault, stream_stopped}
 use Rattle.js_model.specs.Catalog as catalog
-use Rattle.js_api.specs.Desks.{DeskEntry, Looked}
-use Rattle.js_api.specs.Holding.{Made, Said, Cut, Unmade, Gone, Holds, reply_made}
-use Rattle.js_api.specs.Api.{free_unless_made, IsNamed}
+use Rattle.js_api.specs.declared.fault.DeskFault.{DeskFault}
+use Rattle.js_api.specs.declared.outcome.Became.{Became}
+use Rattle.js_api.specs.declared.outcome.Became.TheVariants.{Made, Ticked, Nothing, Broke, Stopped, Gone}
+use Rattle.js_api.specs.declared.outcome.Outcome.{Outcome}
+use Rattle.js_api.specs.Entries.{DeskEntry}
+use Rattle.js_api.specs.Stages.{Gives, Ending}
+use Rattle.js_api.specs.Holding.{Holds}
+use Rattle.js_api.specs.OneStream.{IsNamed, IsAdding, IsShort, free_unless_made}
 
--- how it ended: the stream is there, or it was refused; or memory ran out
-pub data Making : Type 0 where
-  Stands : Making
-  IsRefused : ApiError → Making
-  NoMemory : Making
+-- why the stream was not made
+abbrev pub refusal_in : Reply → Option ApiError
+refusal_in (Info info) = None
+refusal_in Done = None
+refusal_in (Published n) = None
+refusal_in (Duplicate n) = None
+refusal_in (Purged n) = None
+refusal_in (ConsumerInfo info) = None
+refusal_in (Message m) = None
+refusal_in (Names total list) = None
+refusal_in (Infos total list) = None
+refusal_in Confirmed = None
+refusal_in Silent = None
+refusal_in Nobody = None
+refusal_in (Refused e) = Some e
 
-abbrev pub making_of : Made → Making
-making_of (Said (Refused e) after) = IsRefused e
-making_of (Said _ after) = Stands
-making_of (Cut reply after) = NoMemory
-making_of Unmade = NoMemory
-making_of Gone = IsRefused no_stream
+-- the catalog knows the incarnation of the place that it gave, so the place is not gone
+abbrev pub IsMaking : Became → Result (Option ApiError) DeskFault → List DeskEntry → Type 0
+IsMaking (Made reply) result entries = Gives (refusal_in reply) result entries
+IsMaking Ticked result entries = ⊥
+IsMaking Nothing result entries = ⊥
+IsMaking (Broke stream) result entries = Gives (Some store_fault) result entries
+IsMaking (Stopped stream) result entries = Gives (Some stream_stopped) result entries
+IsMaking Gone result entries = ⊥
 
--- the stream is made at the place that was taken for it, which is free again where none was made
-pub record MakesAt (config : StreamConfig) (now : ℕ) (making : Making) (at : PlaceAt) (entries : List DeskEntry) : Type 0 where
-  pub made : Made
+-- the stream is made at the place that was taken for it
+pub record MakesAt (config : StreamConfig) (now : ℕ) (at : PlaceAt) (result : Result (Option ApiError) DeskFault) (entries : List DeskEntry) : Type 0 where
+  pub outcome : Outcome
   pub held : List DeskEntry
-  pub entries_are : entries ≡ held ++ free_unless_made at (reply_made made)
-  pub holds : Holds at (whats.Make None config) now made held
-  pub making_is : making ≡ making_of made
+  pub ended : List DeskEntry
+  pub entries_are : entries ≡ held ++ (free_unless_made at outcome.became ++ ended)
+  pub holds : Holds at (whats.Make None config) now outcome held
+  pub ends : Ending outcome.fault (IsMaking outcome.became) result ended
 
-abbrev pub GoesOn : StreamConfig → ℕ → Making → catalog.CatTold → List DeskEntry → Type 0
-GoesOn config now making (catalog.At (Some at)) entries = MakesAt config now making at entries
-GoesOn config now making (catalog.At None) entries = ⊥
-GoesOn config now making (catalog.Refused e) entries = (making ≡ IsRefused e) × (entries ≡ [])
-GoesOn config now making catalog.NoMemory entries = (making ≡ NoMemory) × (entries ≡ [])
-GoesOn config now making catalog.Done entries = ⊥
+abbrev pub GoesOnTaken : StreamConfig → ℕ → catalog.CatTold → Result (Option ApiError) DeskFault → List DeskEntry → Type 0
+GoesOnTaken config now (catalog.At (Some at)) result entries = MakesAt config now at result entries
+GoesOnTaken config now (catalog.At None) result entries = ⊥
+GoesOnTaken config now (catalog.Refused e) result entries = Gives (Some e) result entries
+GoesOnTaken config now catalog.NoMemory result entries = IsShort result entries
+GoesOnTaken config now catalog.Done result entries = ⊥
 
-pub record IsAdding (name : Bytes) (config : StreamConfig) (now : ℕ) (making : Making) (entries : List DeskEntry) : Type 0 where
-  pub added : catalog.CatTold
-  pub more : List DeskEntry
-  pub entries_are : entries ≡ Looked (catalog.Add name config.subjects) added ∷ more
-  pub goes_on : GoesOn config now making added more
-
--- by its name the stream is found, or it is made
-abbrev pub MakesStream : Bytes → StreamConfig → ℕ → Making → List DeskEntry → Type 0
-MakesStream name config now making entries =
-    IsNamed name (IsAdding name config now making) (λ at more. (more ≡ []) × (making ≡ Stands)) entries
+-- by its name the stream is found, or it is made; what is given is why it was not
+abbrev pub MakesStream : Bytes → StreamConfig → ℕ → Result (Option ApiError) DeskFault → List DeskEntry → Type 0
+MakesStream name config now result entries = IsNamed name (IsAdding name config (GoesOnTaken config now)) (λ at. Gives None) result entries

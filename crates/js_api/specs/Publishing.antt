@@ -1,24 +1,30 @@
--- A publish to a plain subject: it goes to the subscriptions, and then to the one stream whose subjects match. Where nobody took it, the
--- client is told.
-use Rattle.std.specs.Prelude.{◌≡◌, ◌≤◌, ◌+◌, ◌++◌, ◌⊎◌, ◌==◌, length, IsTrue, IfSome, ℕ, Bool, true, false, not, ◌&&◌, List, [], ◌∷◌, Option, Some, None, MatchOption}
+-- A publish to a plain subject: it goes to the subscriptions, and then to the one stream whose subjects match. If nobody took it, the client is told.
+use Rattle.std.specs.Prelude.{◌≡◌, ◌≤◌, ◌+◌, ◌==◌, length, IsTrue, IfSome, ℕ, Bool, true, false, not, ◌&&◌, List, [], ◌∷◌, ◌++◌, Option, Some, None, MatchOption, Result, Ok, Err}
 use Rattle.js_base.specs.Bytes.{Bytes}
 use Rattle.js_base.specs.Headers.{is_block}
 use Rattle.js_base.specs.Status.{status}
 use Rattle.js_base.specs.Subjects.{is_publish_text, is_subject_text}
-pub use Rattle.js_base.specs.ServerSubjects.{is_api, is_acknowledgement}
 use Rattle.js_base.specs.declared.out.Out.{Out}
-use Rattle.js_model.specs.declared.stream.State.{State}
+use Rattle.js_base.specs.declared.out.ApiError.{ApiError}
 use Rattle.js_model.specs.declared.event.What.{What}
 use Rattle.js_model.specs.declared.event.What.TheVariants as whats
 use Rattle.js_model.specs.declared.event.Wants.{Wants}
-use Rattle.js_model.specs.declared.reply.Reply.{Reply}
+use Rattle.js_model.specs.declared.reply.Reply.TheVariants.{Refused}
 use Rattle.js_model.specs.declared.desk.Taken.{Taken}
 use Rattle.js_model.specs.declared.desk.PlaceAt.{PlaceAt}
+use Rattle.js_model.specs.Refusals.{store_fault, stream_stopped}
 use Rattle.js_model.specs.Router as router
-use Rattle.js_model.specs.Catalog as catalog
+use Rattle.js_model.specs.Catalog.{Find}
+use Rattle.js_api.specs.declared.fault.DeskFault.{DeskFault}
+use Rattle.js_api.specs.declared.fault.DeskFault.TheVariants as faults
+use Rattle.js_api.specs.declared.outcome.Became.{Became}
+use Rattle.js_api.specs.declared.outcome.Became.TheVariants.{Made, Ticked, Nothing, Broke, Stopped, Gone}
+use Rattle.js_api.specs.declared.outcome.Outcome.{Outcome}
 use Rattle.js_api.specs.Clients.{Client}
-use Rattle.js_api.specs.Desks.{DeskEntry, Routed, Looked}
-use Rattle.js_api.specs.Holding.{AreRouted, AreCut, Made, Said, Gone, Holds, is_short}
+use Rattle.js_api.specs.Entries.{DeskEntry, Routed}
+use Rattle.js_api.specs.Stages.{Then, Gives, IsWorn, LooksUp, Sends, Ending}
+use Rattle.js_api.specs.Holding.{Holds}
+use Rattle.js_api.specs.Outputs.{publish_text, sent_text}
 
 -- ---- the message
 
@@ -66,59 +72,62 @@ told_nobody _ _ = []
 abbrev pub untaken_outs : Bool → Out → Taken → List Out
 untaken_outs told message taken = told_nobody (told && is_untaken taken) message.reply
 
--- the client was to be told, and memory ran out for the answer or where it was routed
-abbrev pub AreUntold : List Out → List DeskEntry → Type 0
-AreUntold [] entries = ⊥
-AreUntold (out ∷ outs) entries = (entries ≡ []) ⊎ AreCut (out ∷ outs) entries
+-- ---- the stages
+
+-- the router's publish, for the session of the client
+abbrev pub offer : Client → Out → router.RouteCall
+offer client message = router.Publish message (Some client.session)
+
+-- the message goes to the subscriptions, and so many took it
+abbrev pub Offers : Client → Out → Result ℕ DeskFault → List DeskEntry → Type 0
+Offers client message (Ok count) entries = entries ≡ Routed (offer client message) (router.Taken count) ∷ []
+Offers client message (Err faults.NoMemory) entries = entries ≡ Routed (offer client message) router.NoMemory ∷ []
+Offers client message (Err faults.TooManySubs) entries = ⊥
+Offers client message (Err (faults.Worn number)) entries = IsWorn number entries
+Offers client message (Err (faults.NoSession latest)) entries = ⊥
+
+-- the server's own refusal of a publish to the stream of this name
+abbrev pub publish_refusal : Option Bytes → Bytes → ApiError → List Out
+publish_refusal to stream e = sent_text to (publish_text stream (Refused e))
+
+-- whether a stream took the message, by what became of the hold. One that refuses it took it
+abbrev pub IsReached : Out → Became → Result Bool DeskFault → List DeskEntry → Type 0
+IsReached message (Made reply) result entries = Gives true result entries
+IsReached message Ticked result entries = ⊥
+IsReached message Nothing result entries = ⊥
+IsReached message (Broke stream) result entries = Then (Sends (publish_refusal message.reply stream store_fault)) (λ _. Gives true) result entries
+IsReached message (Stopped stream) result entries = Then (Sends (publish_refusal message.reply stream stream_stopped)) (λ _. Gives true) result entries
+IsReached message Gone result entries = Gives false result entries
+
+-- a hold on the place that was found, with the message
+pub record Reaches (message : Out) (now : ℕ) (at : PlaceAt) (result : Result Bool DeskFault) (entries : List DeskEntry) : Type 0 where
+  pub outcome : Outcome
+  pub held : List DeskEntry
+  pub rest : List DeskEntry
+  pub entries_are : entries ≡ held ++ rest
+  pub holds : Holds at (published message) now outcome held
+  pub ends : Ending outcome.fault (IsReached message outcome.became) result rest
+
+-- the stream whose subjects match gets it, if there is one
+abbrev pub Stores : Out → ℕ → Option PlaceAt → Result Bool DeskFault → List DeskEntry → Type 0
+Stores message now found result entries = MatchOption found (Gives false result entries) (λ at. Reaches message now at result entries)
+
+-- if nobody took it, its client is told, and this is who took it
+abbrev pub Tells : Client → Out → Taken → Result Taken DeskFault → List DeskEntry → Type 0
+Tells client message taken result entries = Then (Sends (untaken_outs client.told message taken)) (λ _. Gives taken) result entries
+
+-- ---- the publish
+
+abbrev pub taken_by : ℕ → Bool → Taken
+taken_by count other = record { subscriptions = count; other = other }
+
+abbrev pub PublishesPlain : Client → Out → ℕ → Result Taken DeskFault → List DeskEntry → Type 0
+PublishesPlain client message now result entries =
+    Then (Offers client message)
+    (λ count. Then (LooksUp (Find message.to))
+    (λ found. Then (Stores message now found)
+    (λ other. Tells client message (taken_by count other)))) result entries
 
 -- a message that reaches nobody
-pub record IsUntaken (client : Client) (message : Out) (taken : Taken) (entries : List DeskEntry) : Type 0 where
-  pub taken_is : taken ≡ nobody
-  pub answered : AreRouted (untaken_outs client.told message nobody) entries
-
--- ---- one publish
-
--- the entries of the router and of the look-up, with which each publish to a plain subject begins
-abbrev pub offered : ℕ → Out → ℕ → Option PlaceAt → List DeskEntry → List DeskEntry
-offered session message count found more =
-    Routed (router.Publish message (Some session)) (router.Taken count) ∷ Looked (catalog.Find message.to) (catalog.At found) ∷ more
-
--- the stream that was found got it, or it was not there any more
-abbrev pub Reaches : Out → ℕ → Bool → List DeskEntry → PlaceAt → Type 0
-Reaches message now true held at = (reply : Reply) × (after : State) × Holds at (published message) now (Said reply after) held
-Reaches message now false held at = Holds at (published message) now Gone held
-
--- A stream takes it where it was found and is still there, also where it refuses it
-pub record IsOffered (client : Client) (message : Out) (now count : ℕ) (reached : Bool) (entries rest : List DeskEntry) : Type 0 where
-  pub found : Option PlaceAt
-  pub held : List DeskEntry
-  pub entries_are : entries ≡ offered client.session message count found (held ++ rest)
-  pub hold : MatchOption found ((held ≡ []) × (reached ≡ false)) (Reaches message now reached held)
-
-pub record IsPublish (client : Client) (message : Out) (now : ℕ) (taken : Taken) (entries : List DeskEntry) : Type 0 where
-  pub untaken : List DeskEntry
-  pub offered : IsOffered client message now taken.subscriptions taken.other entries untaken
-  pub answered : AreRouted (untaken_outs client.told message taken) untaken
-
--- memory ran out in the place, for the answer of the step that was made, or where what that step sends was routed
-pub record IsHoldCut (client : Client) (message : Out) (now : ℕ) (entries : List DeskEntry) : Type 0 where
-  pub count : ℕ
-  pub at : PlaceAt
-  pub made : Made
-  pub held : List DeskEntry
-  pub entries_are : entries ≡ offered client.session message count (Some at) held
-  pub holds : Holds at (published message) now made held
-  pub short : is_short made ≡ true
-
--- memory ran out for the answer that nobody took the message
-pub record IsUntold (client : Client) (message : Out) (now : ℕ) (entries : List DeskEntry) : Type 0 where
-  pub count : ℕ
-  pub untaken : List DeskEntry
-  pub offered : IsOffered client message now count false entries untaken
-  pub untold : AreUntold (untaken_outs client.told message (record { subscriptions = count; other = false })) untaken
-
--- memory ran out: in the router, with the stream, or for the answer that nobody took the message
-abbrev pub IsPublishCut : Client → Out → ℕ → List DeskEntry → Type 0
-IsPublishCut client message now entries =
-    (entries ≡ Routed (router.Publish message (Some client.session)) router.NoMemory ∷ [])
-    ⊎ (IsHoldCut client message now entries ⊎ IsUntold client message now entries)
+abbrev pub PublishesToNobody : Client → Out → Result Taken DeskFault → List DeskEntry → Type 0
+PublishesToNobody client message result entries = Tells client message nobody result entries

@@ -16,7 +16,10 @@ pub mod Events
 pub mod Deliver
 pub mod Ready
 pub mod Runs
+pub mod PlaceStates
 pub mod Lasting
+pub mod StateMoments
+pub mod Firm
 pub mod Router
 pub mod Routing
 pub mod Catalog

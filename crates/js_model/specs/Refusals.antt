@@ -47,6 +47,12 @@ subjects_overlap = refusal 400 20006 (codes "subjects overlap")
 abbrev pub no_free_place : ApiError
 no_free_place = refusal 503 20007 (codes "no free stream place")
 
+abbrev pub store_fault : ApiError
+store_fault = refusal 503 20011 (codes "store fault")
+
+abbrev pub stream_stopped : ApiError
+stream_stopped = refusal 503 20012 (codes "stream stopped")
+
 abbrev pub numbers_used_up : ApiError
 numbers_used_up = refusal 503 20008 (codes "number range used up")
 

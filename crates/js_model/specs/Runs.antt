@@ -61,6 +61,14 @@ RunFrom count old (Deliver seat now listening d outs ∷ entries) new =
 RunFrom count old (Broken seat now call ∷ []) new = IsBrokenBy count old call now new
 RunFrom count old (Broken seat now call ∷ entry ∷ entries) new = ⊥
 
+-- how many messages were there at first or were stored, after the run
+abbrev pub total_of : (count : ℕ) (old : State) (entries : List PlaceEntry) (new : State) → RunFrom count old entries new → ℕ
+total_of count old [] new run = count
+total_of count old (Step seat e now reply outs unsaid ∷ entries) new run = total_of (count + length (new_messages old run.0)) run.0 entries new run.2
+total_of count old (Deliver seat now listening d outs ∷ entries) new run = total_of (count + length (new_messages old run.0)) run.0 entries new run.2
+total_of count old (Broken seat now call ∷ []) new run = count + length (new_messages old new)
+total_of count old (Broken seat now call ∷ entry ∷ entries) new run = count
+
 -- the entries lead from old to new
 abbrev pub Run : State → List PlaceEntry → State → Type 0
 Run old entries new = RunFrom (length (messages_of old)) old entries new

@@ -214,6 +214,20 @@ pub fn subjects_overlap(alloc: Global) -> Result<ApiError, NoMemory>
     refusal(alloc, 400, 20006, b"subjects overlap")
 }
 
+/// The store failed, and the stream is stopped.
+pub fn store_fault(alloc: Global) -> Result<ApiError, NoMemory>
+    ensures value { IfOk result (λ error. error ≡ refusals.store_fault) }
+{
+    refusal(alloc, 503, 20011, b"store fault")
+}
+
+/// The store failed before, and the stream is stopped.
+pub fn stream_stopped(alloc: Global) -> Result<ApiError, NoMemory>
+    ensures value { IfOk result (λ error. error ≡ refusals.stream_stopped) }
+{
+    refusal(alloc, 503, 20012, b"stream stopped")
+}
+
 /// Every place is used.
 pub fn no_free_place(alloc: Global) -> Result<ApiError, NoMemory>
     ensures value { IfOk result (λ error. error ≡ refusals.no_free_place) }

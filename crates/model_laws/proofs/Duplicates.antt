@@ -31,7 +31,7 @@ use Rattle.js_model.specs.Trim.{trim}
 use Rattle.js_model.specs.Verdict.{verdict, known, text_differs, first_of_all, early_checks, late_checks, message_of}
 use Rattle.js_model.specs.Events.{answered, published, with_message, with_id, vacant_answer, IsEvent, settled_state, stream_answer}
 use Rattle.js_model.specs.Runs.{RunFrom, IsStep, new_messages}
-use Rattle.model_laws.specs.Moments.{moment_of, state_at}
+use Rattle.js_model.specs.StateMoments.{moment_of, state_at}
 use Rattle.model_laws.specs.Repeats.{IsRepeatReply, EachEvent, keeps_window, window_of, id_of}
 use Rattle.model_laws.specs.Laws.{LawDuplicate}
 use Rattle.js_model.proofs.Named.{none_some, some_is, same_self}

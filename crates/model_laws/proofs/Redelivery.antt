@@ -40,7 +40,7 @@ use Rattle.js_model.specs.Pulls.{pulled}
 use Rattle.js_model.specs.Events.{answered, IsEvent, settled_state, stream_answer, ack_answer, ack_done, ack_reply, after_ack, pulled_next, next_ask, quietly, with_message, with_id}
 use Rattle.js_model.specs.Deliver.{Delivers, IsDelivery, sent_to, with_pending, count_of, is_due}
 use Rattle.js_model.specs.Runs.{RunFrom, new_messages}
-use Rattle.model_laws.specs.Moments.{moment_of}
+use Rattle.js_model.specs.StateMoments.{moment_of}
 use Rattle.model_laws.specs.Sound.{IsSoundConsumer, IsSoundStream, IsSound}
 use Rattle.model_laws.specs.OneConsumer.{drops, consumer_of}
 use Rattle.model_laws.specs.Sendings.{sending_of, sending_to}

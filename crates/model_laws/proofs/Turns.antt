@@ -37,7 +37,7 @@ use Rattle.js_model.specs.Pulls.{pulled, pulled_unless, pull_of, pull_refusal}
 use Rattle.js_model.specs.Events.{answered, IsEvent, settled_state, stream_answer, pull_answer, ack_answer, ack_done, after_ack, pulled_next, next_ask, quietly, with_message, with_id}
 use Rattle.js_model.specs.Deliver.{Delivers, IsDelivery, sent_to, front_served, served, front_allows, fits, is_listened, address, without_first, delivery_out}
 use Rattle.js_model.specs.Runs.{RunFrom, new_messages}
-use Rattle.model_laws.specs.Moments.{state_at}
+use Rattle.js_model.specs.StateMoments.{state_at}
 use Rattle.model_laws.specs.OneConsumer.{drops, consumer_of}
 use Rattle.model_laws.specs.Turns.{Turn, turn_of, turn_unless, turn_for, turn_by, turn_if_there, turns_at, turns_after_event, bytes_of, charged, turns_left, turns_after, IsWithinTurn, IsForFront, IsServing, Serves}
 use Rattle.js_model.proofs.Named.{stands-map, stands-found, stands-with_new, stands-without, found_named, same_is, same_self}

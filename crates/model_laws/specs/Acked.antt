@@ -13,7 +13,7 @@ use Rattle.js_model.specs.declared.entry.Call.TheVariants.{Step as StepOf, Deliv
 use Rattle.js_model.specs.declared.entry.PlaceEntry.{PlaceEntry}
 use Rattle.js_model.specs.declared.entry.PlaceEntry.TheVariants.{Step, Deliver, Broken}
 use Rattle.js_model.specs.Streams.{pending_seqs}
-use Rattle.model_laws.specs.Moments.{state_at}
+use Rattle.js_model.specs.StateMoments.{state_at}
 use Rattle.model_laws.specs.OneConsumer.{drops, consumer_of}
 
 -- the event acknowledges a delivery to the consumer of this name

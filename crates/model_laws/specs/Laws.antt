@@ -17,7 +17,7 @@ use Rattle.js_model.specs.Advance.{advance}
 use Rattle.js_model.specs.Deliver.{Delivers}
 use Rattle.js_model.specs.Ready.{is_ready}
 use Rattle.js_model.specs.Runs.{RunFrom, IsStep, messages_of}
-use Rattle.model_laws.specs.Moments.{moment_of}
+use Rattle.js_model.specs.StateMoments.{moment_of}
 use Rattle.model_laws.specs.Sound.{IsSound}
 use Rattle.model_laws.specs.OneConsumer.{consumer_of}
 use Rattle.model_laws.specs.Acked.{EndsEntry, NeverSent}

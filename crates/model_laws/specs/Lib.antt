@@ -1,5 +1,3 @@
-pub mod Moments
-pub mod Firm
 pub mod Sound
 pub mod OneConsumer
 pub mod Acked

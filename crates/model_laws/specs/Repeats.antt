@@ -11,7 +11,7 @@ use Rattle.js_model.specs.declared.reply.Reply.TheVariants.{Info as StreamTold, 
 use Rattle.js_model.specs.declared.entry.Call.TheVariants.{Step as StepOf, Deliver as DeliverOf}
 use Rattle.js_model.specs.declared.entry.PlaceEntry.{PlaceEntry}
 use Rattle.js_model.specs.declared.entry.PlaceEntry.TheVariants.{Step, Deliver, Broken}
-use Rattle.model_laws.specs.Moments.{moment_of, state_at}
+use Rattle.js_model.specs.StateMoments.{moment_of, state_at}
 
 -- the id with which an event publishes
 abbrev pub id_of : What → Bytes

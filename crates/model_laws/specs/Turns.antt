@@ -20,7 +20,7 @@ use Rattle.js_model.specs.Pulls.{pull_of, pull_refusal}
 use Rattle.js_model.specs.Events.{next_ask}
 use Rattle.js_model.specs.Deliver.{without_first}
 use Rattle.js_model.specs.Runs.{RunFrom, new_messages}
-use Rattle.model_laws.specs.Moments.{moment_of, state_at}
+use Rattle.js_model.specs.StateMoments.{moment_of, state_at}
 use Rattle.model_laws.specs.OneConsumer.{drops, consumer_of}
 
 -- a pull that waits, as it was asked or stood at first, and how many messages and bytes it got since

@@ -8,7 +8,7 @@ use Rattle.js_model.specs.declared.reply.Reply.TheVariants.{Info as StreamTold, 
 use Rattle.js_model.specs.declared.entry.PlaceEntry.{PlaceEntry}
 use Rattle.js_model.specs.declared.entry.PlaceEntry.TheVariants.{Step, Deliver, Broken}
 use Rattle.js_model.specs.Lasting.{lasting}
-use Rattle.model_laws.specs.Moments.{at_moment, moment_of}
+use Rattle.js_model.specs.StateMoments.{at_moment, moment_of}
 
 -- more than the moment changed of what outlives a crash
 abbrev pub Changes : State → State → Type 0

@@ -1,0 +1,38 @@
+//! What a hold on a place came to.
+
+use crate::fault::DeskFault;
+use js_base::Blob;
+use js_model::Reply;
+
+/// What became of what was asked of a place.
+#[derive(Drop, Debug)]
+pub enum Became {
+    /// It was made, and this is its reply.
+    Made(Reply),
+    /// Out of memory: time passed at the place, and what was asked was not made.
+    Ticked,
+    /// Nothing was done.
+    Nothing,
+    /// The volume failed, and the place is stopped now. Whether what was asked outlives a crash is not known.
+    Broke {
+        /// The name of the stream that stood there, empty if there was none.
+        stream: Blob,
+    },
+    /// The place was stopped before.
+    Stopped {
+        /// The name of the stream that stands there, empty if there is none.
+        stream: Blob,
+    },
+    /// The place keeps another incarnation than was asked for.
+    Gone,
+}
+
+/// What a hold on a place came to.
+#[derive(Drop, Debug)]
+pub struct Outcome {
+    pub became: Became,
+    /// Whether a consumer of the place is ready at the end of the hold.
+    pub ready: bool,
+    /// Why the call of the desk ends with this hold: memory or the numbers of turns ran out in it. The reply is then answered to nobody.
+    pub fault: Option<DeskFault>,
+}

@@ -1,0 +1,125 @@
+-- What a place promises of each step, in memory and on a volume alike.
+use Rattle.std.specs.Prelude.{◌≡◌, ◌≢◌, ◌⊎◌, ◌≤◌, ℕ, Bool, true, List, ◌++◌, Option, None, Some, Result, Ok, Err}
+use Rattle.js_base.specs.Bytes.{Bytes}
+use Rattle.js_base.specs.Causes.{Rose}
+use Rattle.js_base.specs.declared.out.Out.{Out}
+use Rattle.js_model.specs.declared.stream.State.{State}
+use Rattle.js_model.specs.declared.event.Event.{Event}
+use Rattle.js_model.specs.declared.event.What.TheVariants.{Tick}
+use Rattle.js_model.specs.declared.reply.Reply.{Reply}
+use Rattle.js_model.specs.Events.{answered, kept_incarnation}
+use Rattle.js_model.specs.Firm.{IsFirmStep}
+use Rattle.js_model.specs.Lasting.{lasting}
+use Rattle.js_model.specs.PlaceStates.{PlaceIn}
+use Rattle.place_engine.specs.declared.faults.PlaceFault.{PlaceFault}
+use Rattle.place_engine.specs.declared.faults.PlaceFault.TheVariants.{NoMemory, StoreFault, Stopped, Gone, Worn}
+use Rattle.place_engine.specs.declared.faults.Left.TheVariants.{Nothing, Ticked, Unsaid}
+
+-- the bytes of each file of a volume
+abbrev pub Image : Type 0
+Image = ℕ → Bytes
+
+-- A place as it is seen: what stands there; the state that its volume holds; whether the store has a block for one more message; and what a
+-- crash at some moment of the volume from one on may have left, which is nothing in memory.
+pub record Seen : Type 1 where
+  pub place : PlaceIn
+  pub base : State
+  pub room : Bool
+  pub left_since : ℕ → Image → Type 0
+
+-- ---- crashes
+
+-- each image of a crash from a moment on holds a state that has P
+abbrev pub Leaves : (Image → State → Type 0) → Seen → ℕ → (State → Type 0) → Type 0
+Leaves holds s t P = (image : Image) → s.left_since t image → (d : State) × holds image d × P d
+
+-- what an image of now holds: the base, or on a stopped place maybe what outlives a crash of what stands
+abbrev pub HoldsNow : Option ℕ → State → State → State → Type 0
+HoldsNow None base state d = d ≡ base
+HoldsNow (Some count) base state d = (d ≡ base) ⊎ (d ≡ lasting state)
+
+-- between two calls
+pub record IsKept (holds : Image → State → Type 0) (s : Seen) : Type 0 where
+  pub now : Leaves holds s s.place.volume.moment (HoldsNow s.place.stopped s.base s.place.state)
+  pub earlier : (t u : ℕ) (image : Image) → t ≤ u → s.left_since u image → s.left_since t image
+
+-- within a call: a crash leaves what it could leave before, or the base from before, or what outlives a crash of the state after it
+pub record Elapses (holds : Image → State → Type 0) (old new : Seen) : Type 0 where
+  pub faults : old.place.volume.faults ≤ new.place.volume.faults
+  pub moments : old.place.volume.moment ≤ new.place.volume.moment
+  pub goes_on : (t : ℕ) (image : Image) → t ≤ old.place.volume.moment → new.left_since t image
+      → old.left_since t image ⊎ ((d : State) × holds image d × ((d ≡ old.base) ⊎ (d ≡ lasting new.place.state)))
+
+-- ---- what became of the event
+
+-- all but the volume's moment is as it was
+pub record Rests (old new : Seen) (before after : List Out) : Type 0 where
+  pub state : new.place.state ≡ old.place.state
+  pub stored : new.place.stored ≡ old.place.stored
+  pub stopped : new.place.stopped ≡ old.place.stopped
+  pub base : new.base ≡ old.base
+  pub outs : after ≡ before
+
+-- the machine makes the event, whatever is told of it
+pub record Does (event : Event) (now : ℕ) (old new : Seen) : Type 0 where
+  pub going : old.place.stopped ≡ None
+  pub kept : event.incarnation ≡ kept_incarnation old.place.state
+  pub state : new.place.state ≡ (answered old.place.state event now old.room).state
+
+-- a confirmed step is on the volume with all before it; another one may be
+pub record Commits (event : Event) (reply : Reply) (old new : Seen) : Type 0 where
+  pub firm : IsFirmStep old.place.state event.what reply new.place.state → new.base ≡ lasting new.place.state
+  pub base : (new.base ≡ old.base) ⊎ (new.base ≡ lasting new.place.state)
+
+-- it is made, and told with its reply and its outputs
+pub record Tells (reply : Reply) (event : Event) (now : ℕ) (old new : Seen) (before after : List Out) : Type 0 where
+  pub does : Does event now old new
+  pub goes : new.place.stopped ≡ None
+  pub reply_is : reply ≡ (answered old.place.state event now old.room).reply
+  pub outs : after ≡ before ++ (answered old.place.state event now old.room).outs
+  pub commits : Commits event reply old new
+
+-- it is made, and its reply is told to nobody
+pub record Hides (event : Event) (now : ℕ) (old new : Seen) (before after : List Out) : Type 0 where
+  pub does : Does event now old new
+  pub goes : new.place.stopped ≡ None
+  pub outs : after ≡ before ++ (answered old.place.state event now old.room).outs
+  pub base : new.base ≡ old.base
+
+abbrev pub tick_of : Event → Event
+tick_of event = record event { what = Tick }
+
+-- it is made, the volume failed, and the place is stopped at the count that its volume has then
+pub record Breaks (event : Event) (now : ℕ) (old new : Seen) (before after : List Out) : Type 0 where
+  pub does : Does event now old new
+  pub stops : new.place.stopped ≡ Some new.place.volume.faults
+  pub cause : Rose old.place.volume.faults new.place.volume.faults
+  pub base : new.base ≡ old.base
+  pub outs : after ≡ before
+
+-- the place was stopped before at this count
+pub record IsStopped (count : ℕ) (old new : Seen) (before after : List Out) : Type 0 where
+  pub stopped : old.place.stopped ≡ Some count
+  pub rests : Rests old new before after
+
+-- the place is not stopped, and keeps another incarnation
+pub record IsGone (kept : ℕ) (event : Event) (old new : Seen) (before after : List Out) : Type 0 where
+  pub going : old.place.stopped ≡ None
+  pub kept_is : kept ≡ kept_incarnation old.place.state
+  pub other : event.incarnation ≢ kept
+  pub rests : Rests old new before after
+
+abbrev pub Ends : Result Reply PlaceFault → Event → ℕ → Seen → Seen → List Out → List Out → Type 0
+Ends (Ok reply) event now old new before after = Tells reply event now old new before after
+Ends (Err (NoMemory Nothing)) event now old new before after = Rests old new before after
+Ends (Err (NoMemory Ticked)) event now old new before after = Hides (tick_of event) now old new before after
+Ends (Err (NoMemory Unsaid)) event now old new before after = Hides event now old new before after
+Ends (Err StoreFault) event now old new before after = Breaks event now old new before after
+Ends (Err (Stopped count)) event now old new before after = IsStopped count old new before after
+Ends (Err (Gone kept)) event now old new before after = IsGone kept event old new before after
+Ends (Err Worn) event now old new before after = Hides event now old new before after
+
+-- what the call came to, and what a crash may have left since it began
+pub record Steps (holds : Image → State → Type 0) (result : Result Reply PlaceFault) (event : Event) (now : ℕ) (old new : Seen) (before after : List Out) : Type 0 where
+  pub ends : Ends result event now old new before after
+  pub time : Elapses holds old new
