@@ -1,5 +1,5 @@
 -- What a place promises of each step, in memory and on a volume alike.
-use Rattle.std.specs.Prelude.{◌≡◌, ◌≢◌, ◌⊎◌, ◌≤◌, ℕ, Bool, true, List, ◌++◌, Option, None, Some, Result, Ok, Err}
+use Rattle.std.specs.Prelude.{◌≡◌, ◌≢◌, ◌⊎◌, ◌≤◌, ◌+◌, ℕ, Bool, true, List, ◌++◌, length, Option, None, Some, Result, Ok, Err}
 use Rattle.js_base.specs.Bytes.{Bytes}
 use Rattle.js_base.specs.Causes.{Rose}
 use Rattle.js_base.specs.declared.out.Out.{Out}
@@ -11,6 +11,7 @@ use Rattle.js_model.specs.Events.{answered, kept_incarnation}
 use Rattle.js_model.specs.Firm.{IsFirmStep}
 use Rattle.js_model.specs.Lasting.{lasting}
 use Rattle.js_model.specs.PlaceStates.{PlaceIn}
+use Rattle.js_model.specs.Runs.{is_few, new_messages}
 use Rattle.place_engine.specs.declared.faults.PlaceFault.{PlaceFault}
 use Rattle.place_engine.specs.declared.faults.PlaceFault.TheVariants.{NoMemory, StoreFault, Stopped, Gone, Worn}
 use Rattle.place_engine.specs.declared.faults.Left.TheVariants.{Nothing, Ticked, Unsaid}
@@ -40,6 +41,7 @@ HoldsNow (Some count) base state d = (d ≡ base) ⊎ (d ≡ lasting state)
 
 -- between two calls
 pub record IsKept (holds : Image → State → Type 0) (s : Seen) : Type 0 where
+  pub free : is_few s.place.stored ≡ true → s.room ≡ true
   pub now : Leaves holds s s.place.volume.moment (HoldsNow s.place.stopped s.base s.place.state)
   pub earlier : (t u : ℕ) (image : Image) → t ≤ u → s.left_since u image → s.left_since t image
 
@@ -52,19 +54,18 @@ pub record Elapses (holds : Image → State → Type 0) (old new : Seen) : Type 
 
 -- ---- what became of the event
 
--- all but the volume's moment is as it was
+-- all is as it was
 pub record Rests (old new : Seen) (before after : List Out) : Type 0 where
-  pub state : new.place.state ≡ old.place.state
-  pub stored : new.place.stored ≡ old.place.stored
-  pub stopped : new.place.stopped ≡ old.place.stopped
+  pub place : new.place ≡ old.place
   pub base : new.base ≡ old.base
   pub outs : after ≡ before
 
--- the machine makes the event, whatever is told of it
+-- the machine makes the event, whatever is told of it, and no more messages count against the store than it adds
 pub record Does (event : Event) (now : ℕ) (old new : Seen) : Type 0 where
   pub going : old.place.stopped ≡ None
   pub kept : event.incarnation ≡ kept_incarnation old.place.state
   pub state : new.place.state ≡ (answered old.place.state event now old.room).state
+  pub stored : new.place.stored ≤ old.place.stored + length (new_messages old.place.state new.place.state)
 
 -- a confirmed step is on the volume with all before it; another one may be
 pub record Commits (event : Event) (reply : Reply) (old new : Seen) : Type 0 where

@@ -1,6 +1,6 @@
 //! What a place holds, in memory.
 
-ghost use Rattle.std.specs.Prelude.{◌≡◌, ◌≤◌, ◌<◌, ◌^◌, ℕ, false, IfOk, IfSome, OnErr, Option, IsTrue};
+ghost use Rattle.std.specs.Prelude.{◌≡◌, ◌≢◌, ◌≤◌, ◌<◌, ◌^◌, ℕ, false, IfOk, IfSome, OnOk, OnErr, Option, IsTrue};
 ghost use Rattle.std.specs.Option.{option_copied};
 ghost use Rattle.js_base.specs.Bytes.{Bytes};
 ghost use Rattle.js_model.specs.declared.stream.State.TheVariants.{Vacant};
@@ -9,11 +9,12 @@ ghost use Rattle.js_model.specs.Configs.{is_stream_config};
 ghost use Rattle.js_model.specs.Proper.{is_proper_what, is_proper_publish};
 ghost use Rattle.js_model.specs.Ready.{some_ready};
 ghost use Rattle.place_engine.specs.Answers.{PlaceAnswers};
-ghost use Rattle.place_engine.specs.Passing.{Passes};
 ghost use Rattle.place_engine.specs.Places.{IsBuilt, IsVacant, name_in, subjects_in};
 ghost use Rattle.place_engine.specs.PlainConfigs.{IsPlainConfig};
 ghost use Rattle.place_engine.specs.PlainPublishes.{IsPlainPublish};
+ghost use Rattle.place_engine.specs.Provisional.{IsSilent};
 ghost use Rattle.place_engine.specs.Shown.{IsShown, ShowsOf};
+ghost use Rattle.place_engine.specs.Standing.{StandsAt};
 
 use crate::plain_stream::{NUMBERS_END, PlainStream};
 use js_base::{Blob, Moment, NoMemory};
@@ -69,7 +70,7 @@ impl Slot {
         }
     }
 
-    /// The name of the stream, where there is one.
+    /// The name of the stream, if there is one.
     pub fn name(&self) -> Option<&Blob>
         ensures value { option_copied result ≡ name_in self.now }
         ensures number { IfSome result (λ _. kept_incarnation self.now < 2 ^ 62) }
@@ -84,7 +85,7 @@ impl Slot {
         }
     }
 
-    /// Its subjects, none where there is no stream.
+    /// Its subjects, none if there is no stream.
     pub fn subjects(&self) -> &[Blob]
         ensures value { result.now ≡ subjects_in self.now }
     {
@@ -94,10 +95,11 @@ impl Slot {
         }
     }
 
-    /// Whether a consumer is ready at a moment.
+    /// Whether a consumer is ready at a moment. There are none.
     pub fn ready(&self, now: Moment, listening: &Listening) -> bool
         ensures value { result ≡ some_ready self.now now listening.now }
         ensures none { result ≡ false }
+        ensures silent { IsSilent self.now }
     {
         match &self.held {
             Held::Nothing(_) => false,
@@ -105,12 +107,15 @@ impl Slot {
         }
     }
 
-    /// Does what is asked at a moment, and answers it. An `Err` changes nothing.
+    /// Does what is asked at a moment, and answers it. An `Err` changes nothing. A tick takes no memory, and a second one at the same moment
+    /// changes nothing.
     pub fn answer(&mut self, what: &What, now: Moment) -> Result<Reply, NoMemory>
         requires built { IsBuilt what.now }
         requires proper { IsTrue (is_proper_what what.now) }
         ensures answers { IfOk result (λ reply. PlaceAnswers self.old what.now now reply self.new) }
         ensures shown { IfOk result (ShowsOf what.now) }
+        ensures stands { OnOk result (what.now ≡ What.Tick → StandsAt self.new now) }
+        ensures takes_none { OnErr result (what.now ≢ What.Tick) }
         ensures err { OnErr result (self.new ≡ self.old) }
     {
         match what {
@@ -141,7 +146,7 @@ impl Slot {
         }
     }
 
-    /// Makes a stream where there is none.
+    /// Makes a stream if there is none.
     fn make_new(&mut self, config: &StreamConfig, now: Moment) -> Result<Reply, NoMemory>
         requires vacant { IsVacant self.old }
         requires plain { IsPlainConfig config.now }
@@ -203,24 +208,10 @@ impl Slot {
         }
     }
 
-    /// Lets time pass where this incarnation is kept: whether it is. For another one it does nothing.
-    pub fn tick_for(&mut self, incarnation: u64, now: Moment) -> bool
-        ensures passes { Passes result incarnation now self.old self.new }
-        ensures bound { kept_incarnation self.old ≤ 2 ^ 62 }
-    {
-        match &mut self.held {
-            Held::Nothing(last) => *last + 1 == incarnation,
-            Held::Stream(stream) if stream.incarnation() == incarnation => {
-                stream.tick(now);
-                true
-            }
-            Held::Stream(_) => false,
-        }
-    }
-
-    /// Lets time pass for the stream.
+    /// Lets time pass for the stream. A second time at the same moment nothing changes.
     fn tick(&mut self, now: Moment)
         ensures answers { PlaceAnswers self.old What.Tick now Reply.Silent self.new }
+        ensures stands { StandsAt self.new now }
     {
         match &mut self.held {
             Held::Nothing(_) => {}
