@@ -4,18 +4,15 @@ ghost use Rattle.std.specs.Prelude.{◌≡◌, ◌≤◌, [], IfErr, IfOk, IsTru
 ghost use Rattle.js_model.specs.declared.desk.Collected.TheVariants.{Frames};
 ghost use Rattle.js_model.specs.Configs.{is_stream_subject};
 ghost use Rattle.js_api.specs.Desks.{opening};
-ghost use Rattle.js_desk.specs.Faults.{GivesBack};
-ghost use Rattle.js_desk.specs.Following.{solo_append, solo_nothing};
-ghost use Rattle.js_desk.specs.Making.{MakesDefault};
-ghost use Rattle.js_desk.specs.Solo.{SoloRun, frames_left};
+ghost use Rattle.js_desk.specs.GivingBack.{GivesBack};
+ghost use Rattle.desk_calls.specs.MakingDefault.{MakesDefault};
+ghost use Rattle.js_desk.specs.Solo.{SoloRun, frames_left, solo_append, solo_nothing};
 
 use crate::faults::{Closed, HubFault};
-use crate::ground::Ground;
-use crate::making::make_stream;
-use crate::passing::{rest, settle, tick};
-use crate::publishing::{Caller, publish};
 use crate::volumes::{give_back, open_places};
 use catalog::Catalog;
+use desk_calls::{Caller, make_stream, publish, rest, settle, tick};
+use desk_hold::Ground;
 use js_api::{Desk, OpenFault, SubFault};
 use js_base::{ApiError, Moment, Name, NoMemory, Out};
 use js_model::{Collected, RouteFault, Taken};

@@ -1,7 +1,7 @@
 //! The volumes of a desk: each becomes a place, and is given back at the end.
 
 ghost use Rattle.std.specs.Prelude.{◌≡◌, ◌≤◌, ◌<◌, ◌+◌, ◌++◌, [], IfErr, IfOk, length, reverse, vec_capacity, vec_len};
-ghost use Rattle.js_desk.specs.Grounds.{AreFresh, volumes};
+ghost use Rattle.desk_hold.specs.Grounds.{AreFresh, volumes};
 
 use js_base::NoMemory;
 use place_engine::Place;
