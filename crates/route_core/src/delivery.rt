@@ -10,7 +10,7 @@ use js_base::{Blob, NoMemory, Out};
 use std::alloc::Global;
 
 /// A message for a subscription: its session, its identifier, and the frame.
-#[derive(Drop, Debug)]
+#[derive(Drop)]
 pub(crate) struct Delivery {
     pub(crate) session: u64,
     pub(crate) sid: Blob,

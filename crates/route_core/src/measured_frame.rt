@@ -11,7 +11,7 @@ use std::marker::Model;
 const TOO_LONG: u128 = 1 << 63;
 
 /// A frame, and how many bytes it has.
-#[derive(Drop, Debug)]
+#[derive(Drop)]
 pub(crate) struct MeasuredFrame {
     frame: Frame,
     length: u64,
