@@ -1,4 +1,4 @@
--- The stream that the server's words name: it may be asked for, and how its making ends.
+-- The stream that the command line names: it may be asked for, and how its making ends.
 use Rattle.std.proofs.Common.{◌≡◌, ℕ, Bool, true, false, List, [], ◌∷◌, ◌++◌, length, Option, None, Some, Result, Ok, Err, refl, sym, ap, subst, ◌∙◌, inr, if◌then◌else◌, IsTrue, arith}
 use Rattle.std.specs.Prelude.{is_none, is_some, nat_lt, nat_le}
 use Rattle.std.specs.Str.{is_utf8, chars}

@@ -1,4 +1,4 @@
-//! The stream that the server's words name.
+//! The stream that the command line names.
 
 ghost use Rattle.std.specs.Prelude.{◌≡◌, ◌∷◌, [], IfOk, IsTrue, None};
 ghost use Rattle.js_api.specs.Making.{IsAdding};
@@ -50,7 +50,7 @@ fn default_config(alloc: Global, name: &Name, subject: &[u8]) -> Result<StreamCo
     })
 }
 
-/// How the making ended: the stream is there, or why it was refused. `absent` is told where the place keeps another incarnation.
+/// How the making ended: the stream is there, or why it was refused. `absent` is told if the place keeps another incarnation.
 fn making_told(outcome: Outcome, absent: ApiError) -> Result<Option<ApiError>, NoMemory>
     requires absent { absent ≡ no_stream }
     ensures told { TellsMaking result outcome }
@@ -63,7 +63,7 @@ fn making_told(outcome: Outcome, absent: ApiError) -> Result<Option<ApiError>, N
     }
 }
 
-/// Takes a place for the stream of this configuration, and makes it there. The place is free again where none was made.
+/// Takes a place for the stream of this configuration, and makes it there. The place is free again if none was made.
 fn add_default<V>(
     ground: &mut Ground<V>,
     name: &Name,
@@ -83,7 +83,7 @@ fn add_default<V>(
     }
 }
 
-/// What the making of the stream needs: its configuration, and the refusal where its place is gone.
+/// What the making of the stream needs: its configuration, and the refusal if its place is gone.
 fn prepared(
     alloc: Global,
     name: &Name,
@@ -99,8 +99,8 @@ fn prepared(
     Ok((default_config(alloc, name, subject)?, no_stream(alloc)?))
 }
 
-/// Makes the stream of this name and this one subject, with every default, where there is none of this name. Without memory nothing is said of
-/// whether it was made.
+/// Makes the stream of this name and this one subject, with every default, unless there is one of this name, and answers why it was not made. An
+/// `Err` comes if memory runs out, and leaves open whether the stream was made.
 pub fn make_stream<V>(
     ground: &mut Ground<V>,
     name: &Name,

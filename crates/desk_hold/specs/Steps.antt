@@ -17,7 +17,7 @@ use Rattle.desk_hold.specs.declared.outcome.Outcome.TheVariants as outcomes
 use Rattle.desk_hold.specs.declared.holding.MadeStep.{MadeStep}
 use Rattle.desk_hold.specs.Leads.{Sends}
 
--- the event was made and sends this: its outputs, and its answer where that is not unsaid
+-- the event was made and sends this: its outputs, and its answer unless that is unsaid
 pub record IsMade (unsaid : Bool) (event : Event) (now : ℕ) (old new : State) (reply : Reply) (sent : List Out) : Type 0 where
   pub outs : List Out
   pub answers : answered old event now true ≡ record { reply = reply; outs = outs; state = new }

@@ -91,7 +91,7 @@ impl<V> Ground<V> {
         places
     }
 
-    /// Where memory is asked for.
+    /// The allocator from which all its parts take memory.
     pub fn alloc(&self) -> Global {
         self.alloc
     }
@@ -217,7 +217,7 @@ impl<V> Ground<V> {
         self.catalog.add(name, subjects)
     }
 
-    /// Frees the place of a stream. Where the stream was dropped, the next one has the next incarnation.
+    /// Frees the place of a stream. If the stream was dropped, the next one there has the next incarnation.
     pub fn free(&mut self, place: u32, dropped: bool)
         requires used { HasPlace self.old.world.catalog place (MayRemove dropped) }
         ensures freed { IsCatalogCall self.old.world.catalog (Remove place dropped) Cataloged self.new.world.catalog }
@@ -250,7 +250,7 @@ impl<V> Ground<V> {
         outcome
     }
 
-    /// Lets time pass for the stream of a place, where it is there: whether it is. A second time at the same moment nothing changes there.
+    /// Lets time pass for the stream of a place if it is there, and answers whether it is. A second time at the same moment nothing changes there.
     pub fn tick(&mut self, at: PlaceAt, now: Moment) -> bool
         requires within { IsWithin self.old at }
         ensures holds { HoldsAt (passed result) at whats.Tick now self.old.world self.new.world }
