@@ -1,7 +1,8 @@
 //! The stream that the command line names.
 
-ghost use Rattle.std.specs.Prelude.{◌≡◌, ◌∷◌, [], IfOk, IsTrue, None};
+ghost use Rattle.std.specs.Prelude.{◌≡◌, ◌∷◌, [], IfOk, IsTrue, None, Ok};
 ghost use Rattle.js_api.specs.Making.{IsAdding};
+ghost use Rattle.js_base.specs.Names.{name_of};
 ghost use Rattle.js_model.specs.Configs.{is_stream_subject};
 ghost use Rattle.desk_calls.specs.Defaults.{default_config};
 ghost use Rattle.desk_hold.specs.Grounds.{Keeps};
@@ -33,6 +34,7 @@ fn one_subject(alloc: Global, subject: &[u8]) -> Result<List<Blob>, NoMemory>
 #[tactic(auto, unfolding(crate::specs::Defaults::default_config))]
 fn default_config(alloc: Global, name: &Name, subject: &[u8]) -> Result<StreamConfig, NoMemory>
     ensures config { IfOk result (λ config. config ≡ default_config name.now subject.now) }
+    ensures name { IfOk result (λ config. name_of config.name ≡ Ok config.name) }
 {
     Ok(StreamConfig {
         description: Blob::empty(),
@@ -44,7 +46,7 @@ fn default_config(alloc: Global, name: &Name, subject: &[u8]) -> Result<StreamCo
         max_msg_size: None,
         max_msgs: None,
         max_msgs_per_subject: None,
-        name: name.as_blob().clone()?,
+        name: Blob::of(alloc, name.as_slice())?,
         retention: Retention::Limits,
         subjects: one_subject(alloc, subject)?,
     })
@@ -94,8 +96,6 @@ fn prepared(
     ensures config { IfOk result (λ made. made.0 ≡ default_config name.now subject.now) }
     ensures absent { IfOk result (λ made. made.1 ≡ no_stream) }
 {
-    // that the bytes are those of a name is what the proof takes from this call
-    let _ = name.as_slice();
     Ok((default_config(alloc, name, subject)?, no_stream(alloc)?))
 }
 

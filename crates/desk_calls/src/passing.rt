@@ -18,11 +18,7 @@ fn pass_at<V>(ground: &mut Ground<V>, at: PlaceAt, now: Moment) -> bool
     ensures router { ground.new.world.router ≡ ground.old.world.router }
     ensures kept { Keeps ground.old ground.new }
 {
-    if ground.tick(at, now) {
-        ground.ready(at, now)
-    } else {
-        false
-    }
+    ground.pass(at, now).unwrap_or(false)
 }
 
 /// Lets time pass at the next used place behind that of the last tick, in cyclic order. It does nothing if no place is used.
@@ -59,10 +55,7 @@ fn rest_at<V>(ground: &mut Ground<V>, at: PlaceAt, now: Moment)
     ensures router { ground.new.world.router ≡ ground.old.world.router }
     ensures kept { Keeps ground.old ground.new }
 {
-    if ground.tick(at, now) {
-        // that no consumer is ready is what the proof takes from this call; a second tick would change nothing
-        let _ = ground.ready(at, now);
-    } else {
+    if ground.pass(at, now).is_none() {
         let _ = settle(ground, now);
     }
 }
