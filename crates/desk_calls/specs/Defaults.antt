@@ -1,4 +1,4 @@
--- The configuration of the stream that the server's words name.
+-- The configuration of the stream that the command line names, by the JetStream reference on stream configuration.
 use Rattle.std.specs.Prelude.{[], ◌∷◌, None}
 use Rattle.js_base.specs.Bytes.{Bytes}
 use Rattle.js_model.specs.declared.stream_config.StreamConfig.{StreamConfig}

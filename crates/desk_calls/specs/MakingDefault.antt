@@ -1,4 +1,4 @@
--- The making of the stream that the server's words name.
+-- The making of the stream that the command line names.
 use Rattle.std.specs.Prelude.{◌≡◌, ℕ, Option, None, Some, Result, Ok, Err}
 use Rattle.js_base.specs.Bytes.{Bytes}
 use Rattle.js_base.specs.declared.memory.NoMemory.{NoMemory}

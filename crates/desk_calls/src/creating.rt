@@ -19,7 +19,7 @@ use desk_hold::{Ground, Outcome};
 use js_base::{Blob, Moment, Name, NoMemory};
 use js_model::{CatalogFault, PlaceAt, StreamConfig, What};
 
-/// Asks the stream of a place, or the place where there is none, to be made so.
+/// Asks the stream of a place, or the vacant place, to be made so.
 fn ask_make<V>(
     ground: &mut Ground<V>,
     at: PlaceAt,
@@ -39,7 +39,7 @@ fn ask_make<V>(
     }
 }
 
-/// Makes the stream at the place that was taken for it. The place is free again where none was made.
+/// Makes the stream at the place that was taken for it. The place is free again if none was made.
 pub fn make_at<V>(
     ground: &mut Ground<V>,
     at: PlaceAt,

@@ -15,7 +15,7 @@ use js_api::ApiReply;
 use js_base::{ApiError, Blob, NoMemory};
 use js_model::refusals::no_stream;
 
-/// Sends the answer, where there is a subject for it.
+/// Sends the answer, if there is a subject for it.
 pub fn answer<V>(
     ground: &mut Ground<V>,
     to: &Option<Blob>,
@@ -66,7 +66,7 @@ pub fn refuse_absent<V>(
     }
 }
 
-/// Ends the call of this name on a stream. Where the stream was gone, the server answers that.
+/// Ends the call of this name on a stream. If the stream was gone, the server answers that.
 pub fn end_call<V>(
     ground: &mut Ground<V>,
     name: &[u8],

@@ -22,7 +22,7 @@ fn behind(last: Option<PlaceAt>) -> u32
     }
 }
 
-/// The place that was found, where it is a further one, and not the first again.
+/// The place that was found, if it is a further one, and not the first again.
 fn further(last: Option<PlaceAt>, found: Option<PlaceAt>) -> Option<PlaceAt>
     ensures value { result ≡ further last found }
 {
@@ -41,7 +41,7 @@ fn add(infos: &mut Vec<StreamInfo>, info: StreamInfo) -> Result<(), NoMemory>
     Ok(())
 }
 
-/// Asks the stream of a place for its information, and adds it where there is one.
+/// Asks the stream of a place for its information, and adds it if there is one.
 fn visit<V>(
     ground: &mut Ground<V>,
     at: PlaceAt,

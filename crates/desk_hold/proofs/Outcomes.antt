@@ -1,6 +1,6 @@
 -- What is asked of one place, and what became of that.
-use Rattle.std.proofs.Common.{◌≡◌, ℕ, ◌<◌, ◌≤◌, ◌^◌, ◌&&◌, Bool, true, false, List, Option, None, Some, Result, Ok, Err, refl, sym, ap, subst, inl, inr, IsTrue}
-use Rattle.std.specs.Prelude.{◌⊎◌, not, nat_le, IfSome, option_map}
+use Rattle.std.proofs.Common.{◌≡◌, ℕ, ◌<◌, ◌≤◌, ◌^◌, ◌&&◌, Bool, true, false, List, Option, Result, Ok, Err, refl, sym, ap, subst, inl, inr, IsTrue}
+use Rattle.std.specs.Prelude.{◌⊎◌, not, nat_le}
 use Rattle.std.specs.Result.{is_ok}
 use Rattle.std.proofs.lemmas.Bool.{and_from, le-leb}
 use Rattle.js_base.specs.Bytes.{Bytes}
@@ -21,7 +21,6 @@ use Rattle.js_model.specs.Proper.{if_given, is_proper, is_proper_what, reply_of}
 use Rattle.js_model.specs.Refusals.{no_stream}
 use Rattle.js_model.specs.Router.{Router}
 use Rattle.js_api.specs.Holding.{AreRouted, AreCut}
-use Rattle.place_engine.specs.Places.{name_in}
 use Rattle.place_engine.specs.Shown.{ShowsOf}
 use Rattle.desk_hold.specs.declared.outcome.Outcome.{Outcome}
 use Rattle.desk_hold.specs.declared.outcome.Outcome.TheVariants as outcomes
@@ -62,11 +61,6 @@ asked outcomes.Unmade at what now old new r_old r_new h = h
 asked outcomes.Gone at what now old new r_old r_new h = absurd h.holds
 
 -- ---- dropping
-
--- a place that tells a name is one with a stream, whose number is small
-pub named_small : {X : Type 0} (name_of : X → Bytes) (name : Option X) (s : State) (n : ℕ) → option_map name_of name ≡ name_in s → IfSome name (λ x. n < 2 ^ 62) → (stream : Stream) → s ≡ Live stream → n < 2 ^ 62
-named_small name_of None s n is small stream live = absurd (let no : None ≡ Some stream.config.name = cc (ap name_in live) in cc)
-named_small name_of (Some x) s n is small stream live = small
 
 -- only a stream that is there is dropped
 dropped_live : (at : PlaceAt) (to : Option Bytes) (now n : ℕ) (old new : State) (outs : List Out) → ((stream : Stream) → old ≡ Live stream → n < 2 ^ 62)

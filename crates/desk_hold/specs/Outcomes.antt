@@ -23,7 +23,7 @@ ending_of (outcomes.Cut reply) = endings.Short
 ending_of outcomes.Unmade = endings.Short
 ending_of outcomes.Gone = endings.Absent
 
--- the information that the stream told, where memory did not run out
+-- the information that the stream told, unless memory ran out
 abbrev pub info_in : Outcome → Option (Option StreamInfo)
 info_in (outcomes.Said (Info info)) = Some (Some info)
 info_in (outcomes.Said reply) = Some None
@@ -47,7 +47,7 @@ is_done (outcomes.Said Done) = true
 is_done (outcomes.Cut Done) = true
 is_done _ = false
 
--- what the outcome tells, where this state is left
+-- what the outcome tells, if this state is left
 abbrev pub made_of : Outcome → State → Made
 made_of (outcomes.Said reply) after = api.Said reply after
 made_of (outcomes.Cut reply) after = api.Cut reply after

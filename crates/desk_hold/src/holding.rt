@@ -4,12 +4,10 @@ ghost use Rattle.std.specs.Prelude.{◌≡◌, ◌≢◌, ◌<◌, ◌^◌, ◌+
 ghost use Rattle.js_api.specs.Outputs.{answer_of, said, stream_name};
 ghost use Rattle.js_model.specs.Events.{kept_incarnation};
 ghost use Rattle.js_model.specs.Proper.{is_proper};
-ghost use Rattle.js_model.specs.declared.stream.Stream.{Stream};
-ghost use Rattle.js_model.specs.declared.stream.State.TheVariants.{Live};
 ghost use Rattle.js_model.specs.Routing.{KeepsOpen};
 ghost use Rattle.place_engine.specs.Places.{IsBuilt};
 ghost use Rattle.place_engine.specs.Shown.{ShowsOf};
-ghost use Rattle.desk_hold.specs.Steps.{AsksPlace, HoldsPlace, IsOneHold, MakesStep, SendsStep, event_at};
+ghost use Rattle.desk_hold.specs.Steps.{AsksPlace, HoldsPlace, IsNumbered, IsOneHold, MakesStep, SendsStep, event_at};
 ghost use Rattle.desk_hold.specs.HoldsAt.{HoldsAmong, MayAsk};
 ghost use Rattle.desk_hold.specs.Outcomes.{NumbersDropped, ShowsBy};
 
@@ -29,9 +27,10 @@ struct MadeStep {
     unsaid: bool,
 }
 
-/// The name of the place's stream, empty if there is none.
+/// The name of the place's stream, empty if there is none. The incarnation of a stream is below 2^62.
 fn stream_name<V>(place: &Place<V>) -> Result<Blob, NoMemory>
     ensures name { IfOk result (λ name. name ≡ stream_name place.now.state) }
+    ensures number { IsNumbered place.now.state }
 {
     match place.name() {
         Some(name) => Ok(name.clone()?),
@@ -62,6 +61,7 @@ fn make<V>(
     requires built { IsBuilt event.now.what }
     requires proper { IsTrue (is_proper event.now) }
     ensures makes { MakesStep result event.now now place.old.state place.new.state outs.old outs.new }
+    ensures number { IsNumbered place.old.state }
     ensures shown { IfOk result (λ step. ShowsOf event.now.what step.reply) }
     ensures vol { place.new.vol ≡ place.old.vol }
 {
@@ -100,6 +100,7 @@ fn hold_place<V>(
     requires built { IsBuilt event.now.what }
     requires proper { IsTrue (is_proper event.now) }
     ensures holds { HoldsPlace result event.now now place.old.state place.new.state router.old router.new }
+    ensures number { IsNumbered place.old.state }
     ensures shown { ShowsBy event.now.what result }
     ensures vol { place.new.vol ≡ place.old.vol }
     ensures stay { KeepsOpen router.old router.new }
@@ -132,13 +133,6 @@ fn event_for<V>(place: &Place<V>, at: PlaceAt, what: What) -> Event
     }
 }
 
-/// The number of a stream that is there is below 2^62.
-fn law_numbered<V>(place: &Place<V>)
-    ensures number { (stream : Stream) → place.now.state ≡ Live stream → kept_incarnation place.now.state < 2 ^ 62 }
-{
-    let _ = place.name();
-}
-
 /// A moment is below 2^62.
 pub(crate) fn law_moment(now: Moment)
     ensures bound { now < 2 ^ 62 }
@@ -164,7 +158,6 @@ fn ask_kept<V>(
     ensures stay { KeepsOpen router.old router.new }
 {
     law_moment(now);
-    law_numbered(place);
     let event = event_for(place, at, what);
     hold_place(alloc, place, router, &event, now)
 }

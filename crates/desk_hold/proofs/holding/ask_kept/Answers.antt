@@ -27,4 +27,4 @@ returns-clause-shown g c = rw c.event_for-event.ensures.event at c.hold_place.en
 pub returns-clause-number : goal.returns-clause-number
 returns-clause-number g c =
     number_dropped c.args.what c.hold_place.result c.args.at c.args.now _ _ _ _
-    (λ stream live. subst (λ (n : ℕ). n < 2 ^ 62) (sym c.requires.kept) (c.law_numbered.ensures.number stream live)) (rw c.event_for-event.ensures.event at c.hold_place.ensures.holds)
+    (λ stream live. subst (λ (n : ℕ). n < 2 ^ 62) (sym c.requires.kept) (c.hold_place.ensures.number stream live)) (rw c.event_for-event.ensures.event at c.hold_place.ensures.holds)
