@@ -6,7 +6,7 @@ use Rattle.js_base.specs.Subjects.{is_pattern_text}
 use Rattle.js_model.specs.Configs.{is_name, is_number, is_stream_config}
 use Rattle.js_model.specs.Proper.{if_given}
 use Rattle.js_model.specs.declared.stream_config.StreamConfig.{StreamConfig}
-use Rattle.stream_config.specs.Laws.{IsServed}
+use Rattle.js_model.specs.Served.{IsServed}
 use Rattle.stream_config.specs.Printing.{IsPrinted}
 use Rattle.api_requests.specs.declared.fault.ApiFault.{ApiFault}
 use Rattle.api_requests.specs.declared.fault.ApiFault.TheVariants.{Refused, NoMemory}

@@ -46,3 +46,5 @@ pub mod Quotas
 pub mod Turns
 pub mod Limiting
 pub mod Readiness
+pub mod NameTexts
+pub mod ConfigParts

@@ -7,7 +7,7 @@ use Rattle.std.specs.declared.cmp.Ordering.TheVariants.{Less, Equal, Greater}
 use Rattle.serde_json.specs.Data.{Data, string, Members, no_members, member, put}
 use Rattle.serde_json.specs.Written.{has_float, items_have_float, members_have_float}
 use Rattle.js_base.specs.Bytes.{Bytes}
-use Rattle.api_replies.specs.Parts.{with_all, count, limit, count_unless_0, text_unless_empty, base64_data, base64_unless_empty, texts}
+use Rattle.js_json.specs.Building.{with_all, count, limit, count_unless_0, text_unless_empty, texts}
 
 -- none of the values has a fraction
 abbrev pub AreWhole : List (Bytes × Data) → Type 0
@@ -49,10 +49,6 @@ texts_whole (text ∷ more) = texts_whole more
 pub text_whole : (key text : Bytes) (others : Members) → members_have_float others ≡ false → members_have_float (text_unless_empty key text others) ≡ false
 text_whole key [] others rest = rest
 text_whole key (byte ∷ more) others rest = put_whole key (string (byte ∷ more)) others refl rest
-
-pub base64_whole : (key bytes : Bytes) (others : Members) → members_have_float others ≡ false → members_have_float (base64_unless_empty key bytes others) ≡ false
-base64_whole key [] others rest = rest
-base64_whole key (byte ∷ more) others rest = put_whole key (base64_data (byte ∷ more)) others refl rest
 
 choice_whole : (first : Bool) (one other : Members) → members_have_float one ≡ false → members_have_float other ≡ false → members_have_float (if first then one else other) ≡ false
 choice_whole true one other whole rest = whole

@@ -1,35 +1,25 @@
 //! JSON objects that are made member by member.
 
-ghost use Rattle.std.specs.Prelude.{◌≡◌, true, ◌++◌, OnOk, IfOk, IsUtf8, codes};
+ghost use Rattle.std.specs.Prelude.{◌≡◌, true, false, OnOk, IfOk, IsUtf8};
 ghost use Rattle.std.specs.List.{All};
 ghost use Rattle.serde_json.specs.Data.{no_members, object, string, array, boolean, put as with_member};
 ghost use Rattle.serde_json.specs.View.{view, items_view};
-ghost use Rattle.api_replies.specs.Shown.{shown};
+ghost use Rattle.serde_json.specs.Written.{members_have_float, compact_text};
+ghost use Rattle.js_json.specs.Building.{shown, count, limit, count_unless_0, text_unless_empty, texts};
 ghost use Rattle.js_json.specs.Times.{time_text};
-ghost use Rattle.api_replies.specs.Parts.{count, limit, count_unless_0, text_unless_empty, base64_data, base64_unless_empty, texts, kind};
 
-use base64::engine::general_purpose::STANDARD;
+use crate::time::time_text;
 use js_base::{Blob, Moment, NoMemory};
-use js_json::time_text;
 use serde_json::{Map, Value, put};
 use std::alloc::Global;
+use std::str;
 
-/// A JSON object, whose members stand in the order of their keys.
+/// A JSON object that is made member by member. Its members stand in ascending order of their keys. A key that is added again has
+/// the value that came last.
 #[derive(Drop)]
-pub(crate) struct Object {
+pub struct ObjectBuilder {
     members: Map<String, Value>,
     alloc: Global,
-}
-
-/// The text that the bytes are.
-fn str_of(bytes: &[u8]) -> &str
-    requires utf8 { IsUtf8 bytes.now }
-    ensures same { result.now ≡ bytes.now }
-{
-    match std::str::from_utf8(bytes) {
-        Ok(text) => text,
-        Err(_) => unreachable!(),
-    }
 }
 
 /// A text as a value.
@@ -37,11 +27,11 @@ fn text_value(alloc: Global, text: &[u8]) -> Result<Value, NoMemory>
     requires utf8 { IsUtf8 text.now }
     ensures value { IfOk result (λ value. view value ≡ string text.now) }
 {
-    Ok(Value::try_from_str(alloc, str_of(text))?)
+    Ok(Value::try_from_str(alloc, str::from_utf8(text).unwrap_or(""))?)
 }
 
-/// A list of texts as values.
-pub(crate) fn text_values(alloc: Global, list: &[Blob]) -> Result<Vec<Value>, NoMemory>
+/// Texts as the values of a list.
+pub fn text_values(alloc: Global, list: &[Blob]) -> Result<Vec<Value>, NoMemory>
     requires utf8 { All IsUtf8 list.now }
     ensures values { IfOk result (λ values. items_view values.items ≡ texts list.now) }
 {
@@ -52,19 +42,19 @@ pub(crate) fn text_values(alloc: Global, list: &[Blob]) -> Result<Vec<Value>, No
     Ok(values)
 }
 
-impl Object {
-    /// An object without members.
-    pub(crate) fn new(alloc: Global) -> Object
+impl ObjectBuilder {
+    /// An object without members. It takes no memory.
+    pub fn new(alloc: Global) -> ObjectBuilder
         ensures empty { shown result ≡ no_members }
     {
-        Object {
+        ObjectBuilder {
             members: Map::new(alloc),
             alloc,
         }
     }
 
     /// Adds a member.
-    pub(crate) fn value(&mut self, key: &str, value: Value) -> Result<(), NoMemory>
+    pub fn value(&mut self, key: &str, value: Value) -> Result<(), NoMemory>
         ensures ok { OnOk result (shown self.new ≡ with_member key.now (view value) (shown self.old)) }
     {
         put(&mut self.members, self.alloc, key, value)?;
@@ -72,14 +62,14 @@ impl Object {
     }
 
     /// Adds a number.
-    pub(crate) fn number(&mut self, key: &str, n: u64) -> Result<(), NoMemory>
+    pub fn number(&mut self, key: &str, n: u64) -> Result<(), NoMemory>
         ensures ok { OnOk result (shown self.new ≡ with_member key.now (count n) (shown self.old)) }
     {
         self.value(key, Value::from(n))
     }
 
-    /// Adds a limit, where none is -1.
-    pub(crate) fn limit(&mut self, key: &str, n: Option<u64>) -> Result<(), NoMemory>
+    /// Adds a limit. None is -1.
+    pub fn limit(&mut self, key: &str, n: Option<u64>) -> Result<(), NoMemory>
         ensures ok { OnOk result (shown self.new ≡ with_member key.now (limit n) (shown self.old)) }
     {
         match n {
@@ -89,21 +79,21 @@ impl Object {
     }
 
     /// Adds a number that is not 0.
-    pub(crate) fn number_unless_0(&mut self, key: &str, n: u64) -> Result<(), NoMemory>
+    pub fn number_unless_0(&mut self, key: &str, n: u64) -> Result<(), NoMemory>
         ensures ok { OnOk result (shown self.new ≡ count_unless_0 key.now n (shown self.old)) }
     {
         if n == 0 { Ok(()) } else { self.number(key, n) }
     }
 
     /// Adds that something is so.
-    pub(crate) fn truth(&mut self, key: &str) -> Result<(), NoMemory>
+    pub fn truth(&mut self, key: &str) -> Result<(), NoMemory>
         ensures ok { OnOk result (shown self.new ≡ with_member key.now (boolean true) (shown self.old)) }
     {
         self.value(key, Value::from(true))
     }
 
     /// Adds a text.
-    pub(crate) fn text(&mut self, key: &str, text: &[u8]) -> Result<(), NoMemory>
+    pub fn text(&mut self, key: &str, text: &[u8]) -> Result<(), NoMemory>
         requires utf8 { IsUtf8 text.now }
         ensures ok { OnOk result (shown self.new ≡ with_member key.now (string text.now) (shown self.old)) }
     {
@@ -112,7 +102,7 @@ impl Object {
     }
 
     /// Adds a text that is not empty.
-    pub(crate) fn text_unless_empty(&mut self, key: &str, text: &[u8]) -> Result<(), NoMemory>
+    pub fn text_unless_empty(&mut self, key: &str, text: &[u8]) -> Result<(), NoMemory>
         requires utf8 { IsUtf8 text.now }
         ensures ok { OnOk result (shown self.new ≡ text_unless_empty key.now text.now (shown self.old)) }
     {
@@ -124,37 +114,18 @@ impl Object {
     }
 
     /// Adds a moment.
-    pub(crate) fn time(&mut self, key: &str, at: Moment) -> Result<(), NoMemory>
+    pub fn time(&mut self, key: &str, at: Moment) -> Result<(), NoMemory>
         ensures ok { OnOk result (shown self.new ≡ with_member key.now (string (time_text at)) (shown self.old)) }
     {
-        js_json::laws::law_time_text();
+        crate::laws::law_time_text();
         // that a moment is in its range is what the proof takes from this call
         let _ = at.as_nanos();
         let text = time_text(self.alloc, at)?;
         self.text(key, text.as_slice())
     }
 
-    /// Adds bytes, spelled in base64.
-    pub(crate) fn bytes(&mut self, key: &str, bytes: &[u8]) -> Result<(), NoMemory>
-        ensures ok { OnOk result (shown self.new ≡ with_member key.now (base64_data bytes.now) (shown self.old)) }
-    {
-        let text = STANDARD.encode(self.alloc, bytes)?;
-        self.value(key, Value::String(text))
-    }
-
-    /// Adds bytes that are not empty, spelled in base64.
-    pub(crate) fn bytes_unless_empty(&mut self, key: &str, bytes: &[u8]) -> Result<(), NoMemory>
-        ensures ok { OnOk result (shown self.new ≡ base64_unless_empty key.now bytes.now (shown self.old)) }
-    {
-        if bytes.is_empty() {
-            Ok(())
-        } else {
-            self.bytes(key, bytes)
-        }
-    }
-
     /// Adds a list of texts.
-    pub(crate) fn texts(&mut self, key: &str, list: &[Blob]) -> Result<(), NoMemory>
+    pub fn texts(&mut self, key: &str, list: &[Blob]) -> Result<(), NoMemory>
         requires utf8 { All IsUtf8 list.now }
         ensures ok { OnOk result (shown self.new ≡ with_member key.now (array (texts list.now)) (shown self.old)) }
     {
@@ -163,26 +134,26 @@ impl Object {
     }
 
     /// Adds an object.
-    pub(crate) fn part(&mut self, key: &str, part: Object) -> Result<(), NoMemory>
+    pub fn part(&mut self, key: &str, part: ObjectBuilder) -> Result<(), NoMemory>
         ensures ok { OnOk result (shown self.new ≡ with_member key.now (object (shown part)) (shown self.old)) }
     {
         self.value(key, part.into_value())
     }
 
-    /// Adds what kind of reply it is, by its name.
-    pub(crate) fn kind(&mut self, name: &[u8]) -> Result<(), NoMemory>
-        requires utf8 { IsUtf8 name.now }
-        ensures ok { OnOk result (shown self.new ≡ with_member (codes "type") (kind name.now) (shown self.old)) }
-    {
-        let name = str_of(name);
-        let text = format!(in self.alloc; "io.nats.jetstream.api.v1.{name}_response")?;
-        self.value("type", Value::String(text))
-    }
-
     /// The object as a value.
-    pub(crate) fn into_value(self) -> Value
+    pub fn into_value(self) -> Value
         ensures value { view result ≡ object (shown self) }
     {
         Value::Object(self.members)
+    }
+
+    /// The text of the object, without spaces. None of its numbers may have a fraction.
+    pub fn into_text(self) -> Result<Blob, NoMemory>
+        requires whole { members_have_float (shown self) ≡ false }
+        ensures text { IfOk result (λ text. text ≡ compact_text (object (shown self))) }
+    {
+        let alloc = self.alloc;
+        let text = self.into_value().to_string(alloc)?;
+        Blob::of(alloc, text.as_bytes())
     }
 }

@@ -1,7 +1,7 @@
 use Rattle.std.proofs.Common.{◌≡◌, ℕ, ◌<◌, ◌^◌, IsUtf8, sym, ◌∙◌, subst}
 use Rattle.js_json.specs.Times.{time_text}
-use Rattle.api_replies.proofs.Times.{spelled_utf8}
-use Rattle.api_replies.proofs.object.Object.time.Goals as goal
+use Rattle.js_json.proofs.TimeBytes.{spelled_utf8}
+use Rattle.js_json.proofs.object_builder.ObjectBuilder.time.Goals as goal
 
 pub text-requires : goal.text-requires
 text-requires c =
