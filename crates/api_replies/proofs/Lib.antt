@@ -1,3 +1,4 @@
 pub mod StreamsWhole
 pub mod ConsumersWhole
 pub mod Whole
+pub mod AckRows

@@ -3,6 +3,7 @@ use Rattle.std.proofs.Common.{◌≡◌, [], ◌∷◌, false, codes, refl}
 use Rattle.serde_json.specs.Data.{array, Members, no_members, put}
 use Rattle.serde_json.specs.Written.{has_float, members_have_float}
 use Rattle.js_base.specs.Bytes.{Bytes}
+use Rattle.js_base.specs.declared.out.ApiError.{ApiError}
 use Rattle.js_model.specs.declared.stream.Message.{Message}
 use Rattle.api_replies.specs.declared.reply.ApiReply.{ApiReply}
 use Rattle.api_replies.specs.declared.reply.ApiReply.TheVariants as replies
@@ -12,6 +13,7 @@ use Rattle.js_model.specs.Limits.{names_a_page, infos_a_page}
 use Rattle.api_replies.specs.Infos.{infos}
 use Rattle.api_replies.specs.Messages.{base64_data, base64_unless_empty, message_of, message_data, stored_of, stored_members}
 use Rattle.api_replies.specs.Refusals.{refused_members}
+use Rattle.api_replies.specs.PubAcks.{unstored_members}
 use Rattle.api_replies.specs.Consumers.{consumers as consumer_items}
 use Rattle.api_replies.specs.Replies.{page_of, account_members, page_members, success_members, purge_members, reply_members, kind}
 use Rattle.api_replies.proofs.StreamsWhole.{info_whole, infos_whole}
@@ -49,6 +51,10 @@ members_whole replies.ConsumerDelete = refl
 members_whole (replies.ConsumerNames consumers offset total) = all_whole (page_of names_a_page (codes "consumers") (array (texts consumers)) offset total) no_members (refl, (refl, (texts_whole consumers, (refl, tt)))) refl
 members_whole (replies.ConsumerList consumers offset total) = all_whole (page_of infos_a_page (codes "consumers") (array (consumer_items consumers)) offset total) no_members (refl, (refl, (consumers_whole consumers, (refl, tt)))) refl
 members_whole (replies.Refused name e) = refl
+
+pub unstored_whole : (stream : Bytes) (e : ApiError) → members_have_float (unstored_members stream e) ≡ false
+unfolding unstored_members
+unstored_whole stream e = refl
 
 -- a reply with its kind
 pub reply_whole : (name : Bytes) (reply : ApiReply) → members_have_float (put (codes "type") (kind name) (reply_members reply)) ≡ false

@@ -1,10 +1,10 @@
 -- The answers to publishes and their texts, as JetStream's PubAck: JSON without spaces, its keys ascending.
-use Rattle.std.specs.Prelude.{ℕ, true, List, [], ◌∷◌, codes, Option, Some, None, IsUtf8}
-use Rattle.serde_json.specs.Data.{Data, boolean, string}
+use Rattle.std.specs.Prelude.{ℕ, true, List, [], ◌∷◌, codes, Option, Some, None}
+use Rattle.serde_json.specs.Data.{Data, boolean, string, object, Members, no_members}
 use Rattle.serde_json.specs.Written.{compact_text}
 use Rattle.js_base.specs.Bytes.{Bytes}
 use Rattle.js_base.specs.declared.out.ApiError.{ApiError}
-use Rattle.js_json.specs.Building.{object_with, count}
+use Rattle.js_json.specs.Building.{with_all, object_with, count}
 use Rattle.js_model.specs.declared.reply.Reply.{Reply}
 use Rattle.js_model.specs.declared.reply.Reply.TheVariants as replies
 use Rattle.api_replies.specs.Refusals.{error_of}
@@ -21,6 +21,9 @@ duplicate_of stream seq = (codes "duplicate", boolean true) ∷ stored_of stream
 abbrev pub unstored_of : Bytes → ApiError → List (Bytes × Data)
 unstored_of stream e = (codes "error", object_with (error_of e)) ∷ stored_of stream 0
 
+unfoldable pub unstored_members : Bytes → ApiError → Members
+unstored_members stream e = with_all (unstored_of stream e) no_members
+
 -- ---- the texts
 
 unfoldable pub stored_text : Bytes → ℕ → Bytes
@@ -30,7 +33,7 @@ unfoldable pub duplicate_text : Bytes → ℕ → Bytes
 duplicate_text stream seq = compact_text (object_with (duplicate_of stream seq))
 
 unfoldable pub unstored_text : Bytes → ApiError → Bytes
-unstored_text stream e = compact_text (object_with (unstored_of stream e))
+unstored_text stream e = compact_text (object (unstored_members stream e))
 
 -- the text that answers a publish to this stream, if the reply is one to a publish
 abbrev pub publish_text : Bytes → Reply → Option Bytes

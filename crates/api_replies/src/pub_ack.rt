@@ -1,7 +1,8 @@
 //! The answers to publishes, as JetStream's PubAck.
 
 ghost use Rattle.std.specs.Prelude.{◌≡◌, IfOk, IsUtf8};
-ghost use Rattle.api_replies.specs.PubAcks.{stored_text, duplicate_text, unstored_text, publish_text};
+ghost use Rattle.js_json.specs.Building.{shown};
+ghost use Rattle.api_replies.specs.PubAcks.{stored_text, duplicate_text, unstored_members, unstored_text, publish_text};
 ghost use Rattle.api_replies.specs.Printed.{IsAckText};
 
 use crate::refusal::error_object;
@@ -35,18 +36,33 @@ fn duplicate_text(alloc: Global, stream: &[u8], seq: u64) -> Result<Blob, NoMemo
     made.into_text()
 }
 
-/// The answer to a publish that was refused.
-#[tactic(auto, unfolding(crate::specs::PubAcks::unstored_text))]
-fn unstored_text(alloc: Global, stream: &[u8], refusal: &ApiError) -> Result<Blob, NoMemory>
+/// The members of the answer to a publish that was refused.
+#[tactic(auto, unfolding(crate::specs::PubAcks::unstored_members))]
+fn unstored_object(
+    alloc: Global,
+    stream: &[u8],
+    refusal: &ApiError,
+) -> Result<ObjectBuilder, NoMemory>
     requires utf8 { IsUtf8 stream.now }
     requires description { IsUtf8 refusal.now.text }
-    ensures text { IfOk result (λ text. text ≡ unstored_text stream.now refusal.now) }
+    ensures members { IfOk result (λ made. shown made ≡ unstored_members stream.now refusal.now) }
 {
     let error = error_object(alloc, refusal)?;
     let mut made = ObjectBuilder::new(alloc);
     made.part("error", error)?;
     made.number("seq", 0)?;
     made.text("stream", stream)?;
+    Ok(made)
+}
+
+/// The answer to a publish that was refused.
+#[tactic(auto, unfolding(crate::specs::PubAcks::unstored_text), using(crate::proofs::Whole::unstored_whole))]
+fn unstored_text(alloc: Global, stream: &[u8], refusal: &ApiError) -> Result<Blob, NoMemory>
+    requires utf8 { IsUtf8 stream.now }
+    requires description { IsUtf8 refusal.now.text }
+    ensures text { IfOk result (λ text. text ≡ unstored_text stream.now refusal.now) }
+{
+    let made = unstored_object(alloc, stream, refusal)?;
     made.into_text()
 }
 

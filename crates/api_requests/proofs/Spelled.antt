@@ -1,4 +1,4 @@
--- A subject is read as a call exactly where it is spelled as one.
+-- A subject is read as a call exactly if it is spelled as one.
 use Rattle.std.proofs.Common.{◌≡◌, Bool, true, false, not, ◌&&◌, nat_eq, ◌++◌, length, take, drop, Option, Some, None, option_map, refl, sym, ap, ◌∙◌, subst, if◌then◌else◌, take-append-drop}
 use Rattle.std.specs.List.{starts_with}
 use Rattle.std.specs.Option.{option_or}
@@ -77,7 +77,7 @@ behind_again words token one =
     (ap (λ t. has t 46) left ∙ one)
     left
 
--- where the first call is not it, the others are
+-- if the first call is not it, the others are
 called_or : (first call : StreamCall) (subject token : Bytes) (found : Option Bytes) (others : Option (StreamCall × Bytes)) → token_behind (stream_words first) subject ≡ found
     → option_or (option_map (λ t. (first, t)) found) others ≡ Some (call, token) → (others ≡ Some (call, token) → IsCallOn call token subject) → IsCallOn call token subject
 called_or first call subject token None others read is more = more is

@@ -39,7 +39,16 @@ IsRead (requests.StreamInfo stream) = IsStream stream
 IsRead (requests.StreamDelete stream) = IsStream stream
 IsRead (requests.StreamNames offset subject) = IsListing offset subject
 IsRead (requests.StreamList offset subject) = IsListing offset subject
-IsRead _ = ⊥
+IsRead (requests.StreamPurge stream pattern seq keep) = ⊥
+IsRead (requests.StreamMsgGet stream by) = ⊥
+IsRead (requests.StreamMsgDelete stream seq) = ⊥
+IsRead (requests.ConsumerCreate stream consumer config update) = ⊥
+IsRead (requests.ConsumerDurableCreate stream consumer config update) = ⊥
+IsRead (requests.ConsumerInfo stream consumer) = ⊥
+IsRead (requests.ConsumerDelete stream consumer) = ⊥
+IsRead (requests.ConsumerNames stream offset) = ⊥
+IsRead (requests.ConsumerList stream offset) = ⊥
+IsRead (requests.ConsumerMsgNext stream consumer ask) = ⊥
 
 -- the text of a refusal is UTF-8
 abbrev pub IsShown : ApiFault → Type 0

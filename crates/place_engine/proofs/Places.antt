@@ -66,7 +66,7 @@ pub ticks_nowhere : (last : ℕ) (now : ℕ) → PlaceAnswers (Vacant last) Tick
 unfolding answered
 ticks_nowhere last now incarnation = refl
 
--- ---- time passes where an incarnation is kept
+-- ---- time passes if an incarnation is kept
 
 pub passes_nowhere : (last incarnation now : ℕ) → Passes (nat_eq (last + 1) incarnation) incarnation now (Vacant last) (Vacant last)
 passes_nowhere last incarnation now =

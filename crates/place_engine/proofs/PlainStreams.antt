@@ -1,4 +1,4 @@
--- What the rules of streams come to where limits are the defaults and there are no consumers and ids.
+-- What the rules of streams come to if limits are the defaults and there are no consumers and ids.
 use Rattle.std.proofs.Common.{◌≡◌, ◌≢◌, ◌≤◌, ◌++◌, ◌-◌, length, drop, arith, ℕ, ◌+◌, ◌^◌, max, min, nat_lt, List, [], ◌∷◌, map, filter, Bool, true, false, ◌==◌, if◌then◌else◌, Option, None, Some, unwrap_or, refl, sym, ap, subst, ◌∙◌, IsTrue}
 use Rattle.std.proofs.Math.Nat.{max-eq_left, le-max_right}
 use Rattle.std.specs.List.{flat_map}

@@ -55,7 +55,7 @@ impl<V> Place<V> {
         self.slot.incarnation()
     }
 
-    /// The name of the stream, where there is one. The incarnation of a stream is below 2^62.
+    /// The name of the stream, if there is one. The incarnation of a stream is below 2^62.
     pub fn name(&self) -> Option<&Blob>
         ensures value { option_copied result ≡ name_in self.now.state }
         ensures utf8 { IfSome result (λ name. IsUtf8 name.now) }
@@ -64,14 +64,14 @@ impl<V> Place<V> {
         self.slot.name()
     }
 
-    /// The subjects of its configuration, none where there is no stream.
+    /// The subjects of its configuration, none if there is no stream.
     pub fn subjects(&self) -> &[Blob]
         ensures value { result.now ≡ subjects_in self.now.state }
     {
         self.slot.subjects()
     }
 
-    /// The volume's count of faults where one stopped the place. In memory none does.
+    /// The volume's count of faults if one stopped the place. In memory none does.
     pub fn stopped(&self) -> Option<u64>
         ensures value { result ≡ None }
     {
@@ -86,7 +86,7 @@ impl<V> Place<V> {
         vol
     }
 
-    /// Whether a consumer is ready at a moment, one to whom something can be delivered, where these push consumers are listened. It changes
+    /// Whether a consumer is ready at a moment, one to whom something can be delivered, if somebody listens to these push consumers. It changes
     /// nothing. There are no consumers yet, so none is.
     pub fn ready(&self, now: Moment, listening: &Listening) -> bool
         ensures value { result ≡ some_ready self.now.state now listening.now }
@@ -95,7 +95,7 @@ impl<V> Place<V> {
         self.slot.ready(now, listening)
     }
 
-    /// Lets time pass where this incarnation is kept, as the event `Tick` for it does, which is answered by nothing: whether it is kept. For
+    /// Lets time pass if this incarnation is kept, as the event `Tick` for it does, which is answered by nothing: whether it is kept. For
     /// another incarnation it does nothing. A stream without consumers sends nothing then. It takes no memory. A second time at the same moment
     /// nothing changes.
     pub fn tick(&mut self, incarnation: u64, now: Moment) -> bool

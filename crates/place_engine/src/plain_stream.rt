@@ -109,7 +109,7 @@ impl PlainStream {
         Ok(self.info_with(copy_stream_config(self.alloc, &self.config)?))
     }
 
-    /// Lets time pass: its moment is the handed one, or its own where that is later. A second time at the same moment it stays as it is.
+    /// Lets time pass: its moment is the handed one, or its own if that is later. A second time at the same moment it stays as it is.
     pub fn tick(&mut self, now: Moment)
         ensures answers { StreamAnswers self.old whats.Tick now Silent (Live self.new) }
         ensures again { StreamAnswers self.new whats.Tick now Silent (Live self.new) }
@@ -129,7 +129,7 @@ impl PlainStream {
         Ok(Reply::Info(info))
     }
 
-    /// Makes a stream that is there: it is shown where it has this configuration, and refused where it has another.
+    /// Makes a stream that is there: it is shown if it has this configuration, and refused if it has another.
     pub fn make_again(&mut self, config: &StreamConfig, now: Moment) -> Result<Reply, NoMemory>
         ensures answers { (subject : Option Bytes) → IfOk result (λ reply. StreamAnswers self.old (whats.Make subject config.now) now reply (Live self.new)) }
         ensures shown { IfOk result IsShown }
@@ -159,7 +159,7 @@ impl PlainStream {
         Ok(Reply::Info(info))
     }
 
-    /// What is left of the stream where it is dropped: its number. Nobody is told.
+    /// What is left of the stream if it is dropped: its number. Nobody is told.
     pub fn dropped(&self) -> u64
         ensures answers { (subject : Option Bytes) (now : ℕ) → StreamAnswers self.now (whats.Drop subject) now Done (Vacant result) }
         ensures bound { result < 2 ^ 62 }
@@ -167,8 +167,8 @@ impl PlainStream {
         self.incarnation
     }
 
-    /// Stores the message under the next sequence, at the moment or at the stream's own where that is later, and lets the oldest
-    /// message go where there are more than 2^24. Refused where the next sequence would be 2^62. An `Err` changes nothing.
+    /// Stores the message under the next sequence, at the moment or at the stream's own if that is later, and lets the oldest
+    /// message go if there are more than 2^24. Refused if the next sequence would be 2^62. An `Err` changes nothing.
     pub fn publish(&mut self, publish: &Publish, now: Moment) -> Result<Reply, NoMemory>
         requires plain { IsPlainPublish publish.now }
         requires proper { IsTrue (is_proper_publish publish.now) }

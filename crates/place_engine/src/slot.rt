@@ -85,7 +85,7 @@ impl Slot {
         }
     }
 
-    /// Its subjects, none where there is no stream.
+    /// Its subjects, none if there is no stream.
     pub fn subjects(&self) -> &[Blob]
         ensures value { result.now ≡ subjects_in self.now }
     {
@@ -142,7 +142,7 @@ impl Slot {
         }
     }
 
-    /// Makes a stream where there is none.
+    /// Makes a stream if there is none.
     fn make_new(&mut self, config: &StreamConfig, now: Moment) -> Result<Reply, NoMemory>
         requires vacant { IsVacant self.old }
         requires plain { IsServed config.now }
@@ -205,7 +205,7 @@ impl Slot {
         }
     }
 
-    /// Lets time pass where this incarnation is kept: whether it is. For another one it does nothing.
+    /// Lets time pass if this incarnation is kept: whether it is. For another one it does nothing.
     pub fn tick_for(&mut self, incarnation: u64, now: Moment) -> bool
         ensures passes { Passes result incarnation now self.old self.new }
         ensures bound { kept_incarnation self.old ≤ 2 ^ 62 }
