@@ -1,11 +1,11 @@
 -- A publish to a plain subject: it goes to the subscriptions, and then to the one stream whose subjects match. If nobody took it, the
 -- client is told.
-use Rattle.std.specs.Prelude.{◌≡◌, ◌≤◌, ◌+◌, ◌++◌, ◌⊎◌, ◌==◌, length, IsTrue, IfSome, ℕ, Bool, true, false, not, ◌&&◌, List, [], ◌∷◌, Option, Some, None, MatchOption, codes, nat_eq}
-use Rattle.std.specs.List.{starts_with}
+use Rattle.std.specs.Prelude.{◌≡◌, ◌≤◌, ◌+◌, ◌++◌, ◌⊎◌, ◌==◌, length, IsTrue, IfSome, ℕ, Bool, true, false, not, ◌&&◌, List, [], ◌∷◌, Option, Some, None, MatchOption}
 use Rattle.js_base.specs.Bytes.{Bytes}
 use Rattle.js_base.specs.Headers.{is_block}
 use Rattle.js_base.specs.Status.{status}
 use Rattle.js_base.specs.Subjects.{is_publish_text, is_subject_text}
+pub use Rattle.js_base.specs.ServerSubjects.{is_api, is_acknowledgement}
 use Rattle.js_base.specs.declared.out.Out.{Out}
 use Rattle.js_model.specs.declared.stream.State.{State}
 use Rattle.js_model.specs.declared.event.What.{What}
@@ -21,13 +21,6 @@ use Rattle.js_api.specs.Desks.{DeskEntry, Routed, Looked}
 use Rattle.js_api.specs.Holding.{AreRouted, AreCut, Made, Said, Gone, Holds, is_short}
 
 -- ---- the message
-
--- the subjects of the JetStream API, and those of acknowledgements, which go to no subscription
-abbrev pub is_api : Bytes → Bool
-is_api subject = starts_with nat_eq subject (codes "$JS.API.")
-
-abbrev pub is_acknowledgement : Bytes → Bool
-is_acknowledgement subject = starts_with nat_eq subject (codes "$JS.ACK.")
 
 -- a message that asks nothing of its stream
 abbrev pub wants_nothing : Wants

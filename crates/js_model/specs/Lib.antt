@@ -19,11 +19,7 @@ pub mod Deliver
 pub mod Ready
 pub mod Runs
 pub mod Lasting
-pub mod Firm
-pub mod Sound
 pub mod Router
 pub mod Routing
 pub mod Catalog
 pub mod Cataloging
-pub mod Legal
-pub mod Laws

@@ -11,7 +11,6 @@ mod desk;
 mod entry;
 mod event;
 mod kept_place;
-pub mod laws;
 mod limits;
 pub mod refusals;
 mod reply;

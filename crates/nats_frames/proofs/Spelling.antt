@@ -43,7 +43,7 @@ no_more bytes none =
     in
     ap (list_all is_blank) (sym all) ∙ c.passes
 
--- what begins with a blank has a gap in front
+-- what begins with a blank begins with a gap
 pub some_blank : (bytes : Bytes) → Stops is_solid bytes → 0 < length bytes → 0 < prefix_len is_blank bytes
 some_blank [] h some = absurd (omega arith)
 some_blank (b ∷ bytes) h some = rw (blank_is b h) (omega arith)

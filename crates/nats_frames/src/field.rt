@@ -6,7 +6,7 @@ ghost use Rattle.nats_frames.specs.Grammar.{is_blank, is_solid};
 ghost use Rattle.nats_frames.specs.Reading.{fields_of};
 ghost use Rattle.nats_frames.specs.Fields.{span, part, IsWithin, IsNextField, AreFields};
 
-/// Neighbouring bytes, from `start` up to `end`.
+/// The bytes from `start` up to `end`.
 #[derive(Clone, Copy, Debug)]
 pub(crate) struct Span {
     pub(crate) start: usize,
@@ -60,7 +60,7 @@ fn first_solid(text: &[u8]) -> Option<usize>
     text.iter().position(|byte| is_solid(*byte))
 }
 
-/// How many bytes stand before the first blank.
+/// How many bytes come before the first blank.
 #[tactic(auto, using(crate::proofs::FieldLemmas::place_or_len, crate::proofs::FieldLemmas::place_within))]
 pub(crate) fn solid_len(text: &[u8]) -> usize
     ensures value { result ≡ prefix_len is_solid text.now }

@@ -21,7 +21,7 @@ abbrev pub LawOne : Type 0
 LawOne = (start other : Option Bytes) (fields others : List Field) (block : Bytes) → Spells start fields block → Spells other others block →
     (start ≡ other) × (fields ≡ others)
 
--- a fault is told exactly where it is
+-- a fault is reported exactly if the bytes have it
 abbrev pub LawFault : Type 0
 LawFault = (block : Bytes) (fault : HeaderFault) → (block_fault block ≡ Some fault) ↔ HasFault fault block
 
