@@ -1,7 +1,7 @@
 //! What becomes of a client's message.
 
 ghost use Rattle.std.specs.Prelude.{◌≡◌, IfOk, true};
-ghost use Rattle.js_api.specs.Publishing.{IsMessage, is_acknowledgement, is_api, published};
+ghost use Rattle.js_api.specs.Publishing.{IsMessage, published};
 ghost use Rattle.desk_hold.specs.Grounds.{IsWithin, Keeps};
 ghost use Rattle.desk_hold.specs.HoldsAt.{HoldsAt};
 ghost use Rattle.desk_calls.specs.Publishes.{IsOffer, IsPlain, taken_so, PublishesApi, PublishesPlain, PublishesSo};
@@ -16,6 +16,7 @@ use desk_hold::{Ending, Ground, Outcome};
 use js_api::{ApiFault, call_name, read_request};
 use js_base::{Blob, Moment, NoMemory, Out};
 use js_model::{PlaceAt, Publish, Taken, Wants, What};
+use subject_match::{is_acknowledgement, is_api};
 
 /// A message that the API took.
 const BY_API: Taken = Taken {
@@ -28,18 +29,6 @@ const BY_API: Taken = Taken {
 pub struct Caller {
     pub session: u64,
     pub told: bool,
-}
-
-fn is_api(subject: &[u8]) -> bool
-    ensures value { result ≡ is_api subject.now }
-{
-    subject.starts_with(b"$JS.API.")
-}
-
-fn is_acknowledgement(subject: &[u8]) -> bool
-    ensures value { result ≡ is_acknowledgement subject.now }
-{
-    subject.starts_with(b"$JS.ACK.")
 }
 
 // ---- to a plain subject

@@ -1,17 +1,8 @@
-//! The server: one connection over standard input and output.
+//! The program: the server over standard input and output.
 #![tactic(auto)]
 
-pub mod laws;
-mod preparing;
-mod printing;
-mod running;
-mod serving;
-#[cfg(test)]
-mod tests;
-mod words;
-
 use link_edge::{OpenGate, PipeDoor, SystemClock, WriterSink};
-use running::{Finish, run};
+use server::{Finish, run};
 use std::alloc::AllocError;
 use std::env;
 use std::io::{self, ErrorKind, Write};
@@ -20,10 +11,10 @@ use std::process::ExitCode;
 /// How many volumes the program has.
 const VOLUMES: usize = 32;
 
-/// The status where standard output fails for a text that was asked for.
+/// The status if standard output fails while a text that was asked for is printed.
 const UNWRITTEN: u8 = 9;
 
-/// The status where memory runs out.
+/// The status if memory runs out.
 const STARVED: u8 = 7;
 
 /// What `--version` prints.
@@ -40,7 +31,7 @@ usage: jsblock pipe [--stream NAME --subject PATTERN]
 A client makes streams by the JetStream API. With --stream the stream NAME, which takes the subjects of PATTERN, is there from the start.
 ";
 
-/// The words after the program's name. Where one of them is not UTF-8 they are none of the forms, as no words are.
+/// The command line after the program's name. If a part of it is not UTF-8 it is empty, which is none of the forms either.
 fn words_of(rt: &HostRuntime) -> io::Result<Vec<String>> {
     let mut words = Vec::new(rt.alloc());
     match env::args(rt) {
@@ -55,7 +46,7 @@ fn words_of(rt: &HostRuntime) -> io::Result<Vec<String>> {
     }
 }
 
-/// The text that the words ask for, if they ask for one.
+/// The text that the command line asks for, if it asks for one.
 fn text_of(words: &[String]) -> Option<&'static [u8]> {
     match words {
         [word] if word.as_str() == "--help" => Some(HELP),
@@ -64,7 +55,7 @@ fn text_of(words: &[String]) -> Option<&'static [u8]> {
     }
 }
 
-/// Prints the text to standard output, and answers the status.
+/// Prints the text to standard output, and returns the status.
 fn print(rt: &HostRuntime, text: &[u8]) -> u8 {
     let mut output = io::writer(rt);
     if output.write_all(text).is_ok() && output.flush().is_ok() {
@@ -74,7 +65,7 @@ fn print(rt: &HostRuntime, text: &[u8]) -> u8 {
     }
 }
 
-/// Runs over standard input and output, and answers the status.
+/// Serves standard input and output, and returns the status.
 fn serve(rt: &HostRuntime, words: &[String]) -> Result<u8, AllocError> {
     let alloc = rt.alloc();
     let vols = vec![in alloc; (); VOLUMES]?;
@@ -85,7 +76,7 @@ fn serve(rt: &HostRuntime, words: &[String]) -> Result<u8, AllocError> {
     Ok(finish.status)
 }
 
-/// The status for the words.
+/// Does what the command line asks for, and returns the status.
 fn status(rt: &HostRuntime) -> u8 {
     let Ok(words) = words_of(rt) else {
         return STARVED;

@@ -1,0 +1,25 @@
+-- What a run accepts at its door.
+use Rattle.std.specs.Prelude.{◌≡◌, ℕ, ◌<◌, List, ◌++◌, Option, replicate}
+use Rattle.link_edge.specs.Told.{grown}
+use Rattle.link_edge.specs.Accepts.{accepted_of}
+use Rattle.link_edge.specs.declared.answers.Accept.{Accept}
+use Rattle.link_edge.specs.declared.answers.Accept.TheVariants as accepts
+use Rattle.link_edge.specs.declared.answers.Accepted.{Accepted}
+use Rattle.link_edge.specs.declared.answers.Accepted.TheVariants as accepted
+
+-- fewer than a million accepts were quiet, and then this was answered
+pub record IsAccepted (old new : Option (List Accepted)) (last : List Accepted) : Type 0 where
+  pub quiets : ℕ
+  pub few : quiets < 1000000
+  pub answered : new ≡ grown old (replicate quiets accepted.Quiet ++ last)
+
+-- a million accepts were quiet
+pub record IsQuiet (old new : Option (List Accepted)) : Type 0 where
+  pub quiets : ℕ
+  pub many : quiets ≡ 1000000
+  pub answered : new ≡ grown old (replicate quiets accepted.Quiet)
+
+-- the door's first answer that is not quiet, or quiet if a million were
+abbrev pub Arrives : {L : Type 0} → Accept L → Option (List Accepted) → Option (List Accepted) → Type 0
+Arrives accepts.Quiet old new = IsQuiet old new
+Arrives accept old new = IsAccepted old new (accepted_of accept)

@@ -1,0 +1,13 @@
+//! The server as a library: `run` does all that the program does for its command line, over any door, volumes, clock and sink.
+#![tactic(auto)]
+
+pub mod laws;
+mod preparing;
+mod printing;
+mod running;
+mod serving;
+#[cfg(test)]
+mod tests;
+mod words;
+
+pub use running::{Finish, run};

@@ -1,0 +1,32 @@
+//! The stream that the command line names, which is made before a link is served.
+
+ghost use Rattle.std.specs.Prelude.{◌≡◌, IfSome, IsTrue, length};
+ghost use Rattle.js_api.specs.Desks.{opening};
+ghost use Rattle.js_model.specs.Configs.{is_stream_subject};
+ghost use Rattle.server.specs.Preparing.{Prepares};
+
+use crate::words::NamedStream;
+use js_base::{ApiError, NoMemory};
+use js_desk::SoloDesk;
+use link_edge::Clock;
+
+/// Makes the stream in a desk that was just opened, if one is named, and answers why not. The clock is read for that alone.
+pub fn prepare<V, C: Clock>(
+    desk: &mut SoloDesk<V>,
+    stream: &Option<NamedStream>,
+    clock: &mut C,
+) -> Result<Option<ApiError>, NoMemory>
+    requires opened { desk.old.world ≡ opening (length desk.old.vols) }
+    requires subject { IfSome stream.now (λ named. IsTrue (is_stream_subject named.subject)) }
+    ensures prepares { Prepares (length desk.old.vols) stream.now result (C.to_come clock.old) (C.to_come clock.new) desk.new.world }
+    ensures vols { desk.new.vols ≡ desk.old.vols }
+    ensures is_open { desk.new.is_open ≡ desk.old.is_open }
+{
+    match stream {
+        Some(named) => {
+            let now = clock.now();
+            desk.make_stream(&named.name, named.subject.as_slice(), now)
+        }
+        None => Ok(None),
+    }
+}

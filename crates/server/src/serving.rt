@@ -1,0 +1,115 @@
+//! The first link that comes, which is served over a desk.
+
+ghost use Rattle.std.specs.Prelude.{◌≡◌, ◌≤◌, ◌<◌, ◌^◌, false, true, IfOk};
+ghost use Rattle.link_edge.specs.Accepts.{IfGot, gave_after};
+ghost use Rattle.link_edge.specs.Causes.{HasCause};
+ghost use Rattle.link_edge.specs.Reports.{HasOut, IsBalanced, IsFresh};
+ghost use Rattle.session.specs.Host.{is_plain};
+ghost use Rattle.server.specs.Accepting.{Arrives};
+ghost use Rattle.server.specs.Running.{pipe_limits, status_of, IsGivenBack, Waits};
+
+use js_base::{Blob, NoMemory};
+use js_desk::SoloDesk;
+use link_edge::{Accept, Clock, Door};
+use session::{Ended, Limits, serve_link};
+use std::alloc::Global;
+
+/// At how many accepts in a row that were quiet a run ends.
+const QUIET: u64 = 1_000_000;
+
+/// The limits of a session over a pipe.
+fn pipe_limits(alloc: Global) -> Result<Limits, NoMemory>
+    ensures limits { IfOk result (λ limits. limits ≡ pipe_limits) }
+{
+    Ok(Limits {
+        input: 1 << 30,
+        quiet: 1_000_000,
+        host: Blob::of(alloc, b"pipe")?,
+        port: 0,
+    })
+}
+
+/// The status that a session's end gives.
+fn status_of(ended: Ended) -> u8
+    ensures status { result ≡ status_of ended }
+{
+    match ended {
+        Ended::Closed => 0,
+        Ended::Refused(_) | Ended::Slow(_) | Ended::Stale => 10,
+        Ended::LinkFault => 3,
+        Ended::InputLimit => 6,
+        Ended::NoMemory => 7,
+    }
+}
+
+/// Accepts until the door's answer is not quiet, a million times at most.
+fn accept<R: Door>(door: &mut R) -> Accept<R::Link>
+    ensures arrives { Arrives result (R.answered door.old) (R.answered door.new) }
+    ensures gave { R.gave door.new ≡ gave_after (R.gave door.old) result }
+    ensures back { R.back door.new ≡ R.back door.old }
+    ensures fresh { IfGot result (λ link. IsFresh (R.Link.answered link) (R.Link.given link) (R.Link.faults link)) }
+    ensures cause { HasCause (R.faults door.old) (R.faults door.new) (result ≡ Accept.Failed) }
+{
+    for _ in 0..QUIET {
+        match door.accept() {
+            Accept::Quiet => {}
+            other => return other,
+        }
+    }
+    Accept::Quiet
+}
+
+/// Serves a fresh link over the desk, and gives it back to the door.
+fn serve<R: Door, V, C: Clock>(
+    alloc: Global,
+    desk: &mut SoloDesk<V>,
+    door: &mut R,
+    link: R::Link,
+    clock: &mut C,
+    limits: &Limits,
+) -> u8
+    requires closed { desk.old.is_open ≡ false }
+    requires out { HasOut (R.gave door.old) (R.back door.old) }
+    requires fresh { IsFresh (R.Link.answered link) (R.Link.given link) (R.Link.faults link) }
+    requires input { limits.now.input < 2 ^ 62 }
+    requires host { is_plain limits.now.host ≡ true }
+    ensures given_back { IsGivenBack limits.now desk.old.world result (R.back door.old) (R.back door.new) (C.to_come clock.old) (C.to_come clock.new) }
+    ensures vols { desk.new.vols ≡ desk.old.vols }
+    ensures answered { R.answered door.new ≡ R.answered door.old }
+    ensures gave { R.gave door.new ≡ R.gave door.old }
+    ensures later { R.faults door.old ≤ R.faults door.new }
+{
+    let mut link = link;
+    let ended = serve_link(alloc, desk, &mut link, clock, limits);
+    door.done(link);
+    status_of(ended)
+}
+
+/// Serves the first link that comes over the desk, and returns the status.
+pub fn serve_first<R: Door, V, C: Clock>(
+    alloc: Global,
+    desk: &mut SoloDesk<V>,
+    door: &mut R,
+    clock: &mut C,
+) -> u8
+    requires closed { desk.old.is_open ≡ false }
+    requires links { IsBalanced (R.gave door.old) (R.back door.old) }
+    ensures waits { Waits desk.old.world result
+        (record { answered = R.answered door.old; gave = R.gave door.old; back = R.back door.old; faults = R.faults door.old })
+        (record { answered = R.answered door.new; gave = R.gave door.new; back = R.back door.new; faults = R.faults door.new })
+        (C.to_come clock.old) (C.to_come clock.new) }
+    ensures vols { desk.new.vols ≡ desk.old.vols }
+    ensures later { R.faults door.old ≤ R.faults door.new }
+{
+    let limits = match pipe_limits(alloc) {
+        Ok(limits) => limits,
+        Err(_) => return 7,
+    };
+    match accept(door) {
+        Accept::Got(link) => serve(alloc, desk, door, link, clock, &limits),
+        Accept::Quiet => 6,
+        Accept::Closed => 0,
+        Accept::Failed => 8,
+        Accept::NoMemory => 7,
+    }
+}
