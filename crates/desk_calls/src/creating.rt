@@ -30,7 +30,7 @@ fn ask_make<V>(
     requires within { IsWithin ground.old at }
     requires asked { MayAsk (whats.Make to.now config) }
     ensures asks { HoldsAt result at (whats.Make to.now config) now ground.old.world ground.new.world }
-    ensures shown { ShowsBy (whats.Make to.now config) result }
+    ensures shown { ShowsBy result }
     ensures kept { Keeps ground.old ground.new }
 {
     match copy_reply(to) {
@@ -51,7 +51,7 @@ pub fn make_at<V>(
     requires known { Knows ground.old at }
     requires asked { MayAsk (whats.Make to.now config) }
     ensures makes { Leads (IsOnPlace result at (whats.Make to.now config) now (free_unless_made at)) ground.old.world ground.new.world }
-    ensures shown { ShowsBy (whats.Make to.now config) result }
+    ensures shown { ShowsBy result }
     ensures kept { Keeps ground.old ground.new }
 {
     let outcome = ask_make(ground, at, to, config, now);

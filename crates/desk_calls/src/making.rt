@@ -4,7 +4,7 @@ ghost use Rattle.std.specs.Prelude.{◌≡◌, ◌∷◌, [], IfOk, IsTrue, None
 ghost use Rattle.js_api.specs.Making.{IsAdding};
 ghost use Rattle.js_base.specs.Names.{name_of};
 ghost use Rattle.js_model.specs.Configs.{is_stream_subject};
-ghost use Rattle.desk_calls.specs.Defaults.{default_config};
+ghost use Rattle.stream_config.specs.Defaults.{default_config};
 ghost use Rattle.desk_hold.specs.Grounds.{Keeps};
 ghost use Rattle.desk_hold.specs.HoldsAt.{MayAsk};
 ghost use Rattle.desk_hold.specs.Leads.{Leads};
@@ -31,7 +31,7 @@ fn one_subject(alloc: Global, subject: &[u8]) -> Result<List<Blob>, NoMemory>
 }
 
 /// The configuration of a stream of this name and this one subject, with every default of JetStream.
-#[tactic(auto, unfolding(crate::specs::Defaults::default_config))]
+#[tactic(auto, unfolding(stream_config::specs::Defaults::default_config))]
 fn default_config(alloc: Global, name: &Name, subject: &[u8]) -> Result<StreamConfig, NoMemory>
     ensures config { IfOk result (λ config. config ≡ default_config name.now subject.now) }
     ensures name { IfOk result (λ config. name_of config.name ≡ Ok config.name) }

@@ -8,11 +8,9 @@ ghost use Rattle.desk_answers.specs.StreamInfos.{AreSound};
 
 use desk_hold::Ground;
 use js_base::{Moment, NoMemory};
-use js_model::{PlaceAt, StreamInfo, What};
+use js_model::{LAST_PLACE, PlaceAt, StreamInfo, What};
 
-/// The look-ups begin behind the last of 32 places.
-const LAST_PLACE: u32 = 31;
-
+/// The place behind which the next look-up begins: the last one at first.
 fn behind(last: Option<PlaceAt>) -> u32
     ensures value { result ≡ behind last }
 {

@@ -21,7 +21,7 @@ use Rattle.js_model.specs.Proper.{if_given, is_proper, is_proper_what, reply_of}
 use Rattle.js_model.specs.Refusals.{no_stream}
 use Rattle.js_model.specs.Router.{Router}
 use Rattle.js_api.specs.Holding.{AreRouted, AreCut}
-use Rattle.place_engine.specs.Shown.{ShowsOf}
+use Rattle.place_engine.specs.Shown.{IsShown}
 use Rattle.desk_hold.specs.declared.outcome.Outcome.{Outcome}
 use Rattle.desk_hold.specs.declared.outcome.Outcome.TheVariants as outcomes
 use Rattle.desk_hold.specs.declared.holding.MadeStep.{MadeStep}
@@ -78,11 +78,11 @@ number_dropped what outcome at now old new r_old r_new small h = tt
 -- ---- what is shown
 
 -- what a step's reply shows, the outcome shows
-pub shows_sent : (outcome : Outcome) (what : What) (step : MadeStep) (outs : List Out) (old new : Router) → SendsStep outcome step outs old new → ShowsOf what step.reply → ShowsBy what outcome
-shows_sent (outcomes.Said reply) what step outs old new h shown = subst (λ (r : Reply). ShowsOf what r) (sym h.0) shown
-shows_sent (outcomes.Cut reply) what step outs old new h shown = subst (λ (r : Reply). ShowsOf what r) (sym h.0) shown
-shows_sent outcomes.Unmade what step outs old new h shown = absurd h
-shows_sent outcomes.Gone what step outs old new h shown = absurd h
+pub shows_sent : (outcome : Outcome) (step : MadeStep) (outs : List Out) (old new : Router) → SendsStep outcome step outs old new → IsShown step.reply → ShowsBy outcome
+shows_sent (outcomes.Said reply) step outs old new h shown = subst (λ (r : Reply). IsShown r) (sym h.0) shown
+shows_sent (outcomes.Cut reply) step outs old new h shown = subst (λ (r : Reply). IsShown r) (sym h.0) shown
+shows_sent outcomes.Unmade step outs old new h shown = absurd h
+shows_sent outcomes.Gone step outs old new h shown = absurd h
 
 -- what is gone was not dropped
 pub number_gone : (what : What) (at : PlaceAt) → NumbersDropped what outcomes.Gone at

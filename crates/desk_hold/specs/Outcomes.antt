@@ -10,7 +10,7 @@ use Rattle.js_model.specs.declared.desk.PlaceAt.{PlaceAt}
 use Rattle.js_model.specs.Events.{answered}
 use Rattle.js_api.specs.Holding as api
 use Rattle.js_api.specs.Holding.{Made}
-use Rattle.place_engine.specs.Shown.{ShowsOf}
+use Rattle.place_engine.specs.Shown.{IsShown}
 use Rattle.desk_hold.specs.declared.outcome.Outcome.{Outcome}
 use Rattle.desk_hold.specs.declared.outcome.Outcome.TheVariants as outcomes
 use Rattle.desk_hold.specs.declared.outcome.Ending.{Ending}
@@ -64,10 +64,11 @@ last_of outcomes.Gone at before = before
 -- ---- what a caller may count on
 
 -- what the reply shows can be printed
-abbrev pub ShowsBy : What → Outcome → Type 0
-ShowsBy what (outcomes.Said reply) = ShowsOf what reply
-ShowsBy what (outcomes.Cut reply) = ShowsOf what reply
-ShowsBy what _ = Unit {0}
+abbrev pub ShowsBy : Outcome → Type 0
+ShowsBy (outcomes.Said reply) = IsShown reply
+ShowsBy (outcomes.Cut reply) = IsShown reply
+ShowsBy outcomes.Unmade = Unit {0}
+ShowsBy outcomes.Gone = Unit {0}
 
 -- a stream that was dropped had an incarnation below 2 ^ 62
 abbrev pub NumbersDropped : What → Outcome → PlaceAt → Type 0

@@ -26,14 +26,11 @@ use crate::ticking::tick_among;
 use catalog::Catalog;
 use desk_answers::copy_reply;
 use js_base::{Blob, List, Moment, Name, NoMemory, Out};
-use js_model::{CatalogFault, Collected, PlaceAt, RouteFault, StreamConfig, What};
+use js_model::{CatalogFault, Collected, LAST_PLACE, PlaceAt, RouteFault, StreamConfig, What};
 use place_engine::Place;
 use route_core::Router;
 use std::alloc::Global;
 use std::marker::Model;
-
-/// The first tick goes to the place behind this one, in cyclic order.
-const LAST_PLACE: u32 = 31;
 
 /// A router, a catalog and its places, at most 32; the place of the last tick; and the place of the last hold. Each call tells by which entries it
 /// leads from the one world to the other. The volumes stay as they are.
@@ -71,6 +68,7 @@ impl<V> Ground<V> {
             router: Router::new(alloc),
             catalog,
             places,
+            // so that the first tick goes to the first used place
             ticked: LAST_PLACE,
             last: None,
         }
@@ -235,7 +233,7 @@ impl<V> Ground<V> {
         requires within { IsWithin self.old at }
         requires asked { MayAsk what }
         ensures holds { HoldsAt result at what now self.old.world self.new.world }
-        ensures shown { ShowsBy what result }
+        ensures shown { ShowsBy result }
         ensures number { NumbersDropped what result at }
         ensures kept { Keeps self.old self.new }
     {

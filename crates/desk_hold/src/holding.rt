@@ -1,12 +1,12 @@
 //! One hold on a place: an event is made there, and what it sends is routed.
 
-ghost use Rattle.std.specs.Prelude.{◌≡◌, ◌≢◌, ◌<◌, ◌^◌, ◌++◌, true, false, IfOk, IsTrue, length};
+ghost use Rattle.std.specs.Prelude.{◌≡◌, ◌≢◌, ◌<◌, ◌^◌, ◌++◌, true, false, IfOk, IsTrue, IsUtf8, length};
 ghost use Rattle.js_api.specs.Outputs.{answer_of, said, stream_name};
 ghost use Rattle.js_model.specs.Events.{kept_incarnation};
 ghost use Rattle.js_model.specs.Proper.{is_proper};
 ghost use Rattle.js_model.specs.Routing.{KeepsOpen};
 ghost use Rattle.place_engine.specs.Places.{IsBuilt};
-ghost use Rattle.place_engine.specs.Shown.{ShowsOf};
+ghost use Rattle.place_engine.specs.Shown.{IsShown};
 ghost use Rattle.desk_hold.specs.Steps.{AsksPlace, HoldsPlace, IsNumbered, IsOneHold, MakesStep, SendsStep, event_at};
 ghost use Rattle.desk_hold.specs.HoldsAt.{HoldsAmong, MayAsk};
 ghost use Rattle.desk_hold.specs.Outcomes.{NumbersDropped, ShowsBy};
@@ -30,6 +30,7 @@ struct MadeStep {
 /// The name of the place's stream, empty if there is none. The incarnation of a stream is below 2^62.
 fn stream_name<V>(place: &Place<V>) -> Result<Blob, NoMemory>
     ensures name { IfOk result (λ name. name ≡ stream_name place.now.state) }
+    ensures utf8 { IfOk result (λ name. IsUtf8 name) }
     ensures number { IsNumbered place.now.state }
 {
     match place.name() {
@@ -40,7 +41,8 @@ fn stream_name<V>(place: &Place<V>) -> Result<Blob, NoMemory>
 
 /// Adds the answer behind the outputs. `true` if memory ran out for it, and nothing was added.
 fn add_answer(alloc: Global, stream: &[u8], what: &What, reply: &Reply, outs: &mut Outs) -> bool
-    requires shown { ShowsOf what.now reply.now }
+    requires utf8 { IsUtf8 stream.now }
+    requires shown { IsShown reply.now }
     ensures added { outs.new ≡ outs.old ++ said result (answer_of stream.now what.now reply.now) }
 {
     match answer_of(alloc, stream, what, reply) {
@@ -62,7 +64,7 @@ fn make<V>(
     requires proper { IsTrue (is_proper event.now) }
     ensures makes { MakesStep result event.now now place.old.state place.new.state outs.old outs.new }
     ensures number { IsNumbered place.old.state }
-    ensures shown { IfOk result (λ step. ShowsOf event.now.what step.reply) }
+    ensures shown { IfOk result (λ step. IsShown step.reply) }
     ensures vol { place.new.vol ≡ place.old.vol }
 {
     let stream = stream_name(place)?;
@@ -101,7 +103,7 @@ fn hold_place<V>(
     requires proper { IsTrue (is_proper event.now) }
     ensures holds { HoldsPlace result event.now now place.old.state place.new.state router.old router.new }
     ensures number { IsNumbered place.old.state }
-    ensures shown { ShowsBy event.now.what result }
+    ensures shown { ShowsBy result }
     ensures vol { place.new.vol ≡ place.old.vol }
     ensures stay { KeepsOpen router.old router.new }
 {
@@ -152,7 +154,7 @@ fn ask_kept<V>(
     requires asked { MayAsk what }
     requires kept { at.incarnation ≡ kept_incarnation place.old.state }
     ensures holds { IsOneHold result at what now place.old.state place.new.state router.old router.new }
-    ensures shown { ShowsBy what result }
+    ensures shown { ShowsBy result }
     ensures number { NumbersDropped what result at }
     ensures vol { place.new.vol ≡ place.old.vol }
     ensures stay { KeepsOpen router.old router.new }
@@ -173,7 +175,7 @@ fn ask_place<V>(
 ) -> Outcome
     requires asked { MayAsk what }
     ensures asks { AsksPlace result at what now place.old.state place.new.state router.old router.new }
-    ensures shown { ShowsBy what result }
+    ensures shown { ShowsBy result }
     ensures number { NumbersDropped what result at }
     ensures vol { place.new.vol ≡ place.old.vol }
     ensures stay { KeepsOpen router.old router.new }
@@ -197,7 +199,7 @@ pub fn hold_among<V>(
     requires within { at.place < length places.old.items }
     requires asked { MayAsk what }
     ensures holds { HoldsAmong result at what now places.old.items places.new.items router.old router.new }
-    ensures shown { ShowsBy what result }
+    ensures shown { ShowsBy result }
     ensures number { NumbersDropped what result at }
 {
     ask_place(alloc, &mut places[at.place as usize], router, at, what, now)

@@ -1,4 +1,4 @@
--- A publish to a plain subject: it goes to the subscriptions, and then to the one stream whose subjects match. Where nobody took it, the
+-- A publish to a plain subject: it goes to the subscriptions, and then to the one stream whose subjects match. If nobody took it, the
 -- client is told.
 use Rattle.std.specs.Prelude.{◌≡◌, ◌≤◌, ◌+◌, ◌++◌, ◌⊎◌, ◌==◌, length, IsTrue, IfSome, ℕ, Bool, true, false, not, ◌&&◌, List, [], ◌∷◌, Option, Some, None, MatchOption}
 use Rattle.js_base.specs.Bytes.{Bytes}
@@ -44,7 +44,7 @@ pub record IsMessage (message : Out) : Type 0 where
   pub block : IsTrue (is_headers message.headers)
   pub small : length message.headers + length message.payload ≤ 1048576
 
--- ---- the answer where nobody took a message
+-- ---- the answer if nobody took a message
 
 abbrev pub nobody : Taken
 nobody = record { subscriptions = 0; other = false }
@@ -57,16 +57,17 @@ no_responders to = record { to = to; subject = to; reply = None; headers = statu
 abbrev pub is_untaken : Taken → Bool
 is_untaken taken = (taken.subscriptions == 0) && not taken.other
 
--- the answer to a reply subject, where it is to be told
+-- the answer to a reply subject, if it is to be told
 abbrev pub told_nobody : Bool → Option Bytes → List Out
 told_nobody true (Some to) = no_responders to ∷ []
-told_nobody _ _ = []
+told_nobody true None = []
+told_nobody false to = []
 
--- what tells a client that nobody took its message, where it is told so
+-- what tells a client that nobody took its message, if it is told so
 abbrev pub untaken_outs : Bool → Out → Taken → List Out
 untaken_outs told message taken = told_nobody (told && is_untaken taken) message.reply
 
--- the client was to be told, and memory ran out for the answer or where it was routed
+-- the client was to be told, and memory ran out for the answer or as it was routed
 abbrev pub AreUntold : List Out → List DeskEntry → Type 0
 AreUntold [] entries = ⊥
 AreUntold (out ∷ outs) entries = (entries ≡ []) ⊎ AreCut (out ∷ outs) entries
@@ -88,7 +89,7 @@ abbrev pub Reaches : Out → ℕ → Bool → List DeskEntry → PlaceAt → Typ
 Reaches message now true held at = (reply : Reply) × (after : State) × Holds at (published message) now (Said reply after) held
 Reaches message now false held at = Holds at (published message) now Gone held
 
--- A stream takes it where it was found and is still there, also where it refuses it
+-- A stream takes it if it was found and is still there, also if it refuses it
 pub record IsOffered (client : Client) (message : Out) (now count : ℕ) (reached : Bool) (entries rest : List DeskEntry) : Type 0 where
   pub found : Option PlaceAt
   pub held : List DeskEntry
@@ -100,7 +101,7 @@ pub record IsPublish (client : Client) (message : Out) (now : ℕ) (taken : Take
   pub offered : IsOffered client message now taken.subscriptions taken.other entries untaken
   pub answered : AreRouted (untaken_outs client.told message taken) untaken
 
--- memory ran out in the place, for the answer of the step that was made, or where what that step sends was routed
+-- memory ran out in the place, for the answer of the step that was made, or as what that step sends was routed
 pub record IsHoldCut (client : Client) (message : Out) (now : ℕ) (entries : List DeskEntry) : Type 0 where
   pub count : ℕ
   pub at : PlaceAt
