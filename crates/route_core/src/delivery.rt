@@ -27,10 +27,11 @@ impl Delivery {
     ) -> Result<Delivery, NoMemory>
         ensures value { IfOk result (λ delivery. delivery ≡ delivery_with headers out.now sub.now) }
     {
-        let frame = MeasuredFrame::message(out, sub.sid(), headers)?;
+        let sid = sub.sid().clone()?;
+        let frame = MeasuredFrame::message(out, &sid, headers)?;
         Ok(Delivery {
             session: sub.session(),
-            sid: sub.sid().clone()?,
+            sid,
             frame: Parcel::of(alloc, frame)?,
         })
     }

@@ -89,8 +89,8 @@ fn message(out: &Out, sid: &Blob, headers: Blob) -> Result<Frame, NoMemory>
     Ok(Frame::Msg {
         subject: out.subject.clone()?,
         sid: sid.clone()?,
-        reply: share_reply(&out.reply)?,
         headers,
         payload: out.payload.clone()?,
+        reply: share_reply(&out.reply)?,
     })
 }
