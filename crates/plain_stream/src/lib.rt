@@ -27,7 +27,9 @@ pub use publishing::publish;
 pub use reading::{get_message, message_by};
 pub use removing::{delete, message_at, purge, purge_list};
 pub use retention::{has, is_kept, keep, needs, takes};
-pub use sameness::{same_ack_policy, same_consumer_config, same_deliver_policy, same_retention, same_stream_config};
+pub use sameness::{
+    same_ack_policy, same_consumer_config, same_deliver_policy, same_retention, same_stream_config,
+};
 pub use settling::{loudly, quietly, refused, settle, settled};
 pub use starting::{cursor_at, picks_at};
 pub use verdicts::verdict;
