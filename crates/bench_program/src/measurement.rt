@@ -15,9 +15,9 @@ impl Measurement {
     /// The measurement that the two words `decode SIZE` or `path SIZE` ask for; `None` for any others.
     pub(crate) fn read(name: &[u8], size: &[u8]) -> Option<Measurement> {
         let size = usize::try_from(read_decimal(size).ok()?).ok()?;
-        if name == b"decode" {
+        if name == b"decode".as_slice() {
             Some(Measurement::Decode { size })
-        } else if name == b"path" {
+        } else if name == b"path".as_slice() {
             Some(Measurement::Path { size })
         } else {
             None

@@ -5,6 +5,7 @@ use Rattle.std.proofs.lemmas.List.{drop-map, take-map}
 use Rattle.std.proofs.lemmas.List.Sums.{sum_by-le}
 use Rattle.std.proofs.lemmas.List.Elements.{All-cons, All-nil, All-head, All-tail, All-filter, All-take, All-drop, All-weaker, All-map}
 use Rattle.js_base.specs.Bytes.{Bytes}
+use Rattle.js_model.specs.Limits.{names_a_page}
 use Rattle.js_model.specs.declared.reply.StreamInfo.{StreamInfo}
 use Rattle.js_model.specs.Consumers.{is_before}
 use Rattle.stream_config.proofs.Parts.{printable}
@@ -101,8 +102,8 @@ page_map most offset is = simp (drop-map, take-map)
 
 -- the names on a page are the page of the names
 pub names_told : (offset : ℕ) (pattern : Option Bytes) (infos list : List StreamInfo) (streams : List Bytes) (total : ℕ) → list ≡ listed pattern infos
-    → streams ≡ map (λ (i : StreamInfo). i.config.name) (page 1024 offset list) → total ≡ length list → replies.StreamNames offset streams total ≡ names_reply offset pattern infos
-names_told offset pattern infos list streams total same is_page count = rw (is_page, page_map 1024 offset list, count, same)
+    → streams ≡ map (λ (i : StreamInfo). i.config.name) (page names_a_page offset list) → total ≡ length list → replies.StreamNames offset streams total ≡ names_reply offset pattern infos
+names_told offset pattern infos list streams total same is_page count = rw (is_page, page_map names_a_page offset list, count, same)
 
 -- ---- sums
 

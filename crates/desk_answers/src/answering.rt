@@ -1,25 +1,27 @@
 //! The message that answers what a stream was asked, for its reply subject.
 
-ghost use Rattle.std.specs.Prelude.{◌≡◌, IfOk, IfSome, IsUtf8, codes};
+ghost use Rattle.std.specs.Prelude.{◌≡◌, IfOk, IfSome, IsUtf8, option_map};
 ghost use Rattle.std.specs.Option.{option_copied, option_to_list};
+ghost use Rattle.api_calls.specs.declared.call.ApiCall.TheVariants as calls;
+ghost use Rattle.api_calls.specs.Names.{name_of};
 ghost use Rattle.api_replies.specs.Printed.{IsText};
+ghost use Rattle.api_replies.specs.Replies.{reply_text};
 ghost use Rattle.api_replies.specs.declared.reply.ApiReply.TheVariants as replies;
 ghost use Rattle.js_api.specs.Outputs.{answer_of, api_reply, dropped, informed, text_for};
 ghost use Rattle.js_model.specs.Proper.{reply_of};
-ghost use Rattle.place_engine.specs.Shown.{IsShown, ShowsOf};
+ghost use Rattle.place_engine.specs.Shown.{IsShown};
 
 use crate::copying::copy_info;
 use crate::replying::message_to;
-use js_api::{ApiReply, publish_text, reply_text};
+use js_api::{ApiCall, ApiReply, publish_text, reply_text};
 use js_base::{ApiError, Blob, NoMemory, Out};
 use js_model::{Publish, Reply, What};
 use std::alloc::Global;
 
-/// The refusal of the call with this name.
-fn refused(alloc: Global, name: &[u8], refusal: &ApiError) -> Result<ApiReply, NoMemory>
-    requires name { IsUtf8 name.now }
+/// The refusal of this call.
+fn refused(alloc: Global, call: ApiCall, refusal: &ApiError) -> Result<ApiReply, NoMemory>
     requires text { IsUtf8 refusal.now.text }
-    ensures value { IfOk result (λ told. told ≡ replies.Refused name.now refusal.now) }
+    ensures value { IfOk result (λ told. told ≡ replies.Refused (name_of call) refusal.now) }
     ensures texts { IfOk result IsText }
 {
     let copy = ApiError {
@@ -27,45 +29,79 @@ fn refused(alloc: Global, name: &[u8], refusal: &ApiError) -> Result<ApiReply, N
         err_code: refusal.err_code,
         text: refusal.text.clone()?,
     };
-    Ok(ApiReply::Refused(Blob::of(alloc, name)?, copy))
+    Ok(ApiReply::Refused(Blob::of(alloc, call.name())?, copy))
 }
 
+/// How the making of a stream is answered.
 fn created(alloc: Global, reply: &Reply) -> Result<Option<ApiReply>, NoMemory>
     requires shown { IsShown reply.now }
-    ensures value { IfOk result (λ told. told ≡ informed replies.StreamCreate (codes "stream_create") reply.now) }
+    ensures value { IfOk result (λ told. told ≡ informed replies.StreamCreate (name_of calls.StreamCreate) reply.now) }
     ensures texts { IfOk result (λ told. IfSome told IsText) }
 {
     match reply {
         Reply::Info(info) => Ok(Some(ApiReply::StreamCreate(copy_info(alloc, info)?))),
-        Reply::Refused(refusal) => Ok(Some(refused(alloc, b"stream_create", refusal)?)),
-        _ => Ok(None),
+        Reply::Refused(refusal) => Ok(Some(refused(alloc, ApiCall::StreamCreate, refusal)?)),
+        Reply::Done
+        | Reply::Published(_)
+        | Reply::Duplicate(_)
+        | Reply::Purged(_)
+        | Reply::ConsumerInfo(_)
+        | Reply::Message(_)
+        | Reply::Names { .. }
+        | Reply::Infos { .. }
+        | Reply::Confirmed
+        | Reply::Silent
+        | Reply::Nobody => Ok(None),
     }
 }
 
+/// How the change of a stream is answered.
 fn updated(alloc: Global, reply: &Reply) -> Result<Option<ApiReply>, NoMemory>
     requires shown { IsShown reply.now }
-    ensures value { IfOk result (λ told. told ≡ informed replies.StreamUpdate (codes "stream_update") reply.now) }
+    ensures value { IfOk result (λ told. told ≡ informed replies.StreamUpdate (name_of calls.StreamUpdate) reply.now) }
     ensures texts { IfOk result (λ told. IfSome told IsText) }
 {
     match reply {
         Reply::Info(info) => Ok(Some(ApiReply::StreamUpdate(copy_info(alloc, info)?))),
-        Reply::Refused(refusal) => Ok(Some(refused(alloc, b"stream_update", refusal)?)),
-        _ => Ok(None),
+        Reply::Refused(refusal) => Ok(Some(refused(alloc, ApiCall::StreamUpdate, refusal)?)),
+        Reply::Done
+        | Reply::Published(_)
+        | Reply::Duplicate(_)
+        | Reply::Purged(_)
+        | Reply::ConsumerInfo(_)
+        | Reply::Message(_)
+        | Reply::Names { .. }
+        | Reply::Infos { .. }
+        | Reply::Confirmed
+        | Reply::Silent
+        | Reply::Nobody => Ok(None),
     }
 }
 
+/// How the question for a stream's information is answered.
 fn shown(alloc: Global, reply: &Reply) -> Result<Option<ApiReply>, NoMemory>
     requires shown { IsShown reply.now }
-    ensures value { IfOk result (λ told. told ≡ informed replies.StreamInfo (codes "stream_info") reply.now) }
+    ensures value { IfOk result (λ told. told ≡ informed replies.StreamInfo (name_of calls.StreamInfo) reply.now) }
     ensures texts { IfOk result (λ told. IfSome told IsText) }
 {
     match reply {
         Reply::Info(info) => Ok(Some(ApiReply::StreamInfo(copy_info(alloc, info)?))),
-        Reply::Refused(refusal) => Ok(Some(refused(alloc, b"stream_info", refusal)?)),
-        _ => Ok(None),
+        Reply::Refused(refusal) => Ok(Some(refused(alloc, ApiCall::StreamInfo, refusal)?)),
+        Reply::Done
+        | Reply::Published(_)
+        | Reply::Duplicate(_)
+        | Reply::Purged(_)
+        | Reply::ConsumerInfo(_)
+        | Reply::Message(_)
+        | Reply::Names { .. }
+        | Reply::Infos { .. }
+        | Reply::Confirmed
+        | Reply::Silent
+        | Reply::Nobody => Ok(None),
     }
 }
 
+/// How the dropping of a stream is answered.
 fn deleted(alloc: Global, reply: &Reply) -> Result<Option<ApiReply>, NoMemory>
     requires shown { IsShown reply.now }
     ensures value { IfOk result (λ told. told ≡ dropped reply.now) }
@@ -73,14 +109,24 @@ fn deleted(alloc: Global, reply: &Reply) -> Result<Option<ApiReply>, NoMemory>
 {
     match reply {
         Reply::Done => Ok(Some(ApiReply::StreamDelete)),
-        Reply::Refused(refusal) => Ok(Some(refused(alloc, b"stream_delete", refusal)?)),
-        _ => Ok(None),
+        Reply::Refused(refusal) => Ok(Some(refused(alloc, ApiCall::StreamDelete, refusal)?)),
+        Reply::Info(_)
+        | Reply::Published(_)
+        | Reply::Duplicate(_)
+        | Reply::Purged(_)
+        | Reply::ConsumerInfo(_)
+        | Reply::Message(_)
+        | Reply::Names { .. }
+        | Reply::Infos { .. }
+        | Reply::Confirmed
+        | Reply::Silent
+        | Reply::Nobody => Ok(None),
     }
 }
 
-/// How the stream answers a call of the API, `None` if what it was asked is none.
+/// How the stream answers a call of the API, `None` if what it was asked is none that is answered.
 fn api_reply(alloc: Global, what: &What, reply: &Reply) -> Result<Option<ApiReply>, NoMemory>
-    requires shown { ShowsOf what.now reply.now }
+    requires shown { IsShown reply.now }
     ensures value { IfOk result (λ told. told ≡ api_reply what.now reply.now) }
     ensures texts { IfOk result (λ told. IfSome told IsText) }
 {
@@ -89,27 +135,49 @@ fn api_reply(alloc: Global, what: &What, reply: &Reply) -> Result<Option<ApiRepl
         What::Change { .. } => updated(alloc, reply),
         What::Drop { .. } => deleted(alloc, reply),
         What::StreamInfo { .. } => shown(alloc, reply),
-        _ => Ok(None),
+        What::Publish(_)
+        | What::Purge { .. }
+        | What::Delete { .. }
+        | What::MakeConsumer { .. }
+        | What::DropConsumer { .. }
+        | What::Ack { .. }
+        | What::Pull { .. }
+        | What::Tick
+        | What::MessageGet { .. }
+        | What::ConsumerInfo { .. }
+        | What::ConsumerNames { .. }
+        | What::ConsumerList { .. } => Ok(None),
     }
 }
 
-/// The text of the answer, if the stream has this name. `None` if there is nothing to answer.
+/// The text of this answer, if there is one.
+fn told_text(alloc: Global, told: &Option<ApiReply>) -> Result<Option<Blob>, NoMemory>
+    requires texts { IfSome told.now IsText }
+    ensures value { IfOk result (λ text. text ≡ option_map reply_text told.now) }
+{
+    match told {
+        Some(told) => Ok(Some(reply_text(alloc, told)?)),
+        None => Ok(None),
+    }
+}
+
+/// The text of the answer of the stream with this name. `None` if there is nothing to answer.
+#[tactic(auto, using(crate::proofs::AckTexts::ack_text))]
 fn text_for(
     alloc: Global,
     stream: &[u8],
     what: &What,
     reply: &Reply,
 ) -> Result<Option<Blob>, NoMemory>
-    requires shown { ShowsOf what.now reply.now }
+    requires utf8 { IsUtf8 stream.now }
+    requires shown { IsShown reply.now }
     ensures value { IfOk result (λ text. text ≡ text_for stream.now what.now reply.now) }
 {
     if let What::Publish(_) = what {
         return publish_text(alloc, stream, reply);
     }
-    match api_reply(alloc, what, reply)? {
-        Some(told) => Ok(Some(reply_text(alloc, &told)?)),
-        None => Ok(None),
-    }
+    let told = api_reply(alloc, what, reply)?;
+    told_text(alloc, &told)
 }
 
 /// The subject for the answer, if one is given.
@@ -144,7 +212,8 @@ pub fn answer_of(
     what: &What,
     reply: &Reply,
 ) -> Result<Option<Out>, NoMemory>
-    requires shown { ShowsOf what.now reply.now }
+    requires utf8 { IsUtf8 stream.now }
+    requires shown { IsShown reply.now }
     ensures answer { IfOk result (λ answer. option_to_list answer ≡ answer_of stream.now what.now reply.now) }
 {
     let Some(to) = reply_of(what) else {

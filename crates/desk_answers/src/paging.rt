@@ -10,14 +10,8 @@ use crate::copying::copy_info;
 use crate::ordering::{listed, page};
 use js_api::ApiReply;
 use js_base::{Blob, List, NoMemory};
-use js_model::StreamInfo;
+use js_model::{INFOS_A_PAGE, NAMES_A_PAGE, StreamInfo};
 use std::alloc::Global;
-
-/// The most names in an answer.
-const MAX_NAMES: u64 = 1024;
-
-/// The most informations in an answer.
-const MAX_INFOS: u64 = 256;
 
 /// The names of the streams.
 fn names_of(alloc: Global, infos: &[StreamInfo]) -> Result<List<Blob>, NoMemory>
@@ -54,7 +48,7 @@ pub fn names_reply(
     ensures texts { IfOk result IsText }
 {
     let list = listed(alloc, pattern, infos)?;
-    let streams = names_of(alloc, page(list.as_slice(), MAX_NAMES, offset))?;
+    let streams = names_of(alloc, page(list.as_slice(), NAMES_A_PAGE, offset))?;
     Ok(ApiReply::StreamNames {
         offset,
         streams,
@@ -74,7 +68,7 @@ pub fn list_reply(
     ensures texts { IfOk result IsText }
 {
     let list = listed(alloc, pattern, infos)?;
-    let streams = copies_of(alloc, page(list.as_slice(), MAX_INFOS, offset))?;
+    let streams = copies_of(alloc, page(list.as_slice(), INFOS_A_PAGE, offset))?;
     Ok(ApiReply::StreamList {
         offset,
         streams,

@@ -13,8 +13,6 @@ use Rattle.js_model.specs.Catalog as catalog
 use Rattle.js_model.specs.Cataloging.{HasPlace, MayRemove}
 use Rattle.js_model.specs.Proper.{if_given, reply_of}
 use Rattle.api_requests.specs.Read.{IsSetup}
-use Rattle.stream_config.specs.Laws.{IsServed}
-use Rattle.place_engine.specs.PlainConfigs.{IsPlainConfig}
 use Rattle.js_api.specs.Desks.{DeskEntry, World, DeskRun, Looked}
 use Rattle.js_api.specs.Holding.{reply_made}
 use Rattle.js_api.specs.Api.{IsNamed, IsOnStream, IsAdding, GoesOnAdded, IsChanging, GoesOnChanged, free_unless_made, free_if_dropped, keep_subjects}
@@ -31,23 +29,11 @@ use Rattle.desk_hold.proofs.Leading.{leads_both, leads_looked}
 
 -- ---- what is asked
 
--- a configuration that is read is one that a place takes
-plain_of : (c : StreamConfig) → IsServed c → IsPlainConfig c
-plain_of c s = record {
-  retention = s.retention;
-  discard = s.discard;
-  max_age = s.max_age;
-  max_bytes = s.max_bytes;
-  max_msg_size = s.max_msg_size;
-  max_msgs = s.max_msgs;
-  max_msgs_per_subject = s.max_msgs_per_subject;
-}
-
 pub may_make : (stream : Bytes) (config : StreamConfig) (to : Option Bytes) → IsSetup stream config → IsTrue (if_given is_subject_text to) → MayAsk (whats.Make to config)
-may_make stream config to s h = record { reply = h; proper = s.valid; built = plain_of config s.served }
+may_make stream config to s h = record { reply = h; proper = s.valid; built = s.served }
 
 pub may_change : (stream : Bytes) (config : StreamConfig) (to : Option Bytes) → IsSetup stream config → IsTrue (if_given is_subject_text to) → MayAsk (whats.Change to config)
-may_change stream config to s h = record { reply = h; proper = s.valid; built = plain_of config s.served }
+may_change stream config to s h = record { reply = h; proper = s.valid; built = s.served }
 
 -- ---- the hold, and the catalog
 

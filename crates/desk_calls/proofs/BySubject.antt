@@ -92,7 +92,7 @@ module _ (caller : Caller) (message : Out) (now : ℕ) (old new : World) where
         leads_as (IsPublishCut (client_of caller) message now) (PublishesCut (client_of caller) message now) old new h
         (λ entries a. not_api_cut entries (subst (λ (b : Bool). MatchBool b (AreUntold (untaken_outs caller.told message nobody) entries) (IsPublishCut (client_of caller) message now entries)) (sym ack) a))
 
--- ---- to a plain subject, where no stream took it
+-- ---- to a plain subject that no stream takes
 
 pub plain_untaken : (caller : Caller) (message : Out) (now : ℕ) (old mid after new : World) (count : ℕ) (result : Result Taken Starved)
     → Routes (routes.Publish message (Some caller.session)) (routes.Taken count) old mid → Leads (IsOffer outcomes.Gone message now) mid after

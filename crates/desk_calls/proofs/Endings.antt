@@ -57,7 +57,7 @@ told_one (outcomes.Cut reply) after info h = absurd (cc)
 told_one outcomes.Unmade after info h = absurd (cc)
 told_one outcomes.Gone after info h = absurd (cc)
 
-pub told_sound : (outcome : Outcome) (info : StreamInfo) → info_in outcome ≡ Some (Some info) → ShowsBy (whats.StreamInfo None) outcome → IsSoundInfo info
+pub told_sound : (outcome : Outcome) (info : StreamInfo) → info_in outcome ≡ Some (Some info) → ShowsBy outcome → IsSoundInfo info
 told_sound (outcomes.Said (Info other)) info h s = let same : other ≡ info = cc in subst IsSoundInfo same s
 told_sound (outcomes.Said _) info h s = absurd (cc)
 told_sound (outcomes.Cut reply) info h s = absurd (cc)

@@ -1,4 +1,4 @@
--- The stream that the server's words name: it may be asked for, and how its making ends.
+-- The stream that the command line names: it may be asked for, and how its making ends.
 use Rattle.std.proofs.Common.{◌≡◌, ℕ, Bool, true, false, List, [], ◌∷◌, ◌++◌, length, Option, None, Some, Result, Ok, Err, refl, sym, ap, subst, ◌∙◌, inr, if◌then◌else◌, IsTrue, arith}
 use Rattle.std.specs.Prelude.{is_none, is_some, nat_lt, nat_le}
 use Rattle.std.specs.Str.{is_utf8, chars}
@@ -22,7 +22,7 @@ use Rattle.js_api.specs.Making as makings
 use Rattle.js_api.specs.Making.{IsAdding}
 use Rattle.desk_hold.specs.declared.outcome.Outcome.{Outcome}
 use Rattle.desk_hold.specs.Changes.{IsOnPlace}
-use Rattle.desk_calls.specs.Defaults.{default_config}
+use Rattle.stream_config.specs.Defaults.{default_config}
 use Rattle.desk_hold.specs.HoldsAt.{MayAsk}
 use Rattle.desk_hold.specs.Outcomes.{made_of}
 use Rattle.desk_hold.specs.Leads.{Leads}
@@ -61,9 +61,10 @@ unfolding default_config is_utf8 chars
 default_is name subject n s =
     and_from _ _ (and_from _ _ (and_from _ _ (and_from _ _ (and_from _ _ (and_from _ _ (and_from _ _ (and_from _ _ (and_from _ _ (and_from _ _ (and_from _ _ (and_from _ _ (and_from _ _ n refl) refl) refl) (and_from _ _ s refl)) refl) refl) refl) refl) refl) refl) refl) refl) refl
 
-pub may_make_default : (config : StreamConfig) (name subject : Bytes) → config ≡ default_config name subject → name_of name ≡ Ok name → IsTrue (is_stream_subject subject) → MayAsk (whats.Make None config)
+pub may_make_default : (config : StreamConfig) (name subject : Bytes) → config ≡ default_config name subject → name_of config.name ≡ Ok config.name → IsTrue (is_stream_subject subject) → MayAsk (whats.Make None config)
 unfolding default_config
-may_make_default config name subject is n s =
+may_make_default config name subject is named s =
+    let n : name_of name ≡ Ok name = subst (λ (c : StreamConfig). name_of c.name ≡ Ok c.name) is named in
     subst (λ (c : StreamConfig). MayAsk (whats.Make None c)) (sym is) (record {
       reply = refl;
       proper = default_is name subject (name_is name n) s;

@@ -1,4 +1,4 @@
-pub mod Defaults
+pub use Rattle.stream_config.specs.Defaults
 pub mod Endings
 pub mod MakingDefault
 pub mod Publishes

@@ -1,4 +1,4 @@
--- The making of the stream that the server's words name.
+-- The making of the stream that the command line names.
 use Rattle.std.specs.Prelude.{◌≡◌, ℕ, Option, None, Some, Result, Ok, Err}
 use Rattle.js_base.specs.Bytes.{Bytes}
 use Rattle.js_base.specs.declared.memory.NoMemory.{NoMemory}
@@ -8,7 +8,7 @@ use Rattle.js_api.specs.Desks.{World}
 use Rattle.js_api.specs.Making as makings
 use Rattle.js_api.specs.Making.{Making, MakesStream, making_of}
 use Rattle.desk_hold.specs.declared.outcome.Outcome.{Outcome}
-use Rattle.desk_calls.specs.Defaults.{default_config}
+use Rattle.stream_config.specs.Defaults.{default_config}
 use Rattle.desk_hold.specs.Outcomes.{made_of}
 use Rattle.desk_hold.specs.Leads.{Leads}
 

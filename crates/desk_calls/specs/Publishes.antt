@@ -24,7 +24,7 @@ pub record IsPlain (subject : Bytes) : Type 0 where
   pub api : is_api subject ≡ false
   pub acknowledgement : is_acknowledgement subject ≡ false
 
--- the stream that takes the subject was looked up, and got the message where there is one
+-- the stream that takes the subject was looked up, and got the message if there is one
 pub record IsOffer (outcome : Outcome) (message : Out) (now : ℕ) (entries : List DeskEntry) : Type 0 where
   pub found : Option PlaceAt
   pub after : State
@@ -39,7 +39,7 @@ abbrev pub PublishesPlain : Result Taken NoMemory → Caller → Out → ℕ →
 PublishesPlain (Ok taken) caller message now old new = Leads (IsPublish (client_of caller) message now taken) old new
 PublishesPlain (Err _) caller message now old new = Leads (IsPublishCut (client_of caller) message now) old new
 
--- the API took it, where memory did not run out
+-- the API took it, unless memory ran out
 abbrev pub taken_so : Result (Unit {0}) NoMemory → Result Taken NoMemory
 taken_so (Ok _) = Ok taken_by_api
 taken_so (Err stop) = Err stop

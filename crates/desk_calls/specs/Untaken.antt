@@ -1,4 +1,4 @@
--- What a client is told where nobody took its message.
+-- What a client is told if nobody took its message.
 use Rattle.std.specs.Prelude.{◌≡◌, Bool, Result, Ok, Err}
 use Rattle.js_base.specs.declared.out.Out.{Out}
 use Rattle.js_base.specs.declared.memory.NoMemory.{NoMemory}

@@ -11,11 +11,11 @@ use Rattle.js_api.specs.Api.{Visit, Visits, infos_of, info_told, is_further}
 use Rattle.place_engine.specs.Shown.{IsSoundInfo}
 use Rattle.desk_hold.specs.Leads.{Leads}
 
--- the place that was found, where it is a further one
+-- the place that was found, if it is a further one
 abbrev pub further : Option PlaceAt → Option PlaceAt → Option PlaceAt
 further last found = if is_further last found then found else None
 
--- a place was visited, and its information added where it gave one
+-- a place was visited, and its information added if it gave one
 pub record IsVisited (at : PlaceAt) (now : ℕ) (infos_old infos_new : List StreamInfo) (old new : World) : Type 0 where
   pub made : Made
   pub leads : Leads (Holds at (whats.StreamInfo None) now made) old new

@@ -65,7 +65,7 @@ fn ask_drop<V>(ground: &mut Ground<V>, at: PlaceAt, to: &Option<Blob>, now: Mome
     }
 }
 
-/// Drops a stream, and frees its place where it is gone then.
+/// Drops a stream, and frees its place if it is gone then.
 fn drop_at<V>(ground: &mut Ground<V>, at: PlaceAt, to: &Option<Blob>, now: Moment) -> Outcome
     requires within { IsWithin ground.old at }
     requires known { Knows ground.old at }

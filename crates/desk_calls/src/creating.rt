@@ -19,7 +19,7 @@ use desk_hold::{Ground, Outcome};
 use js_base::{Blob, Moment, Name, NoMemory};
 use js_model::{CatalogFault, PlaceAt, StreamConfig, What};
 
-/// Asks the stream of a place, or the place where there is none, to be made so.
+/// Asks the stream of a place, or the vacant place, to be made so.
 fn ask_make<V>(
     ground: &mut Ground<V>,
     at: PlaceAt,
@@ -30,7 +30,7 @@ fn ask_make<V>(
     requires within { IsWithin ground.old at }
     requires asked { MayAsk (whats.Make to.now config) }
     ensures asks { HoldsAt result at (whats.Make to.now config) now ground.old.world ground.new.world }
-    ensures shown { ShowsBy (whats.Make to.now config) result }
+    ensures shown { ShowsBy result }
     ensures kept { Keeps ground.old ground.new }
 {
     match copy_reply(to) {
@@ -39,7 +39,7 @@ fn ask_make<V>(
     }
 }
 
-/// Makes the stream at the place that was taken for it. The place is free again where none was made.
+/// Makes the stream at the place that was taken for it. The place is free again if none was made.
 pub fn make_at<V>(
     ground: &mut Ground<V>,
     at: PlaceAt,
@@ -51,7 +51,7 @@ pub fn make_at<V>(
     requires known { Knows ground.old at }
     requires asked { MayAsk (whats.Make to.now config) }
     ensures makes { Leads (IsOnPlace result at (whats.Make to.now config) now (free_unless_made at)) ground.old.world ground.new.world }
-    ensures shown { ShowsBy (whats.Make to.now config) result }
+    ensures shown { ShowsBy result }
     ensures kept { Keeps ground.old ground.new }
 {
     let outcome = ask_make(ground, at, to, config, now);

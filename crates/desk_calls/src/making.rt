@@ -1,9 +1,10 @@
-//! The stream that the server's words name.
+//! The stream that the command line names.
 
-ghost use Rattle.std.specs.Prelude.{◌≡◌, ◌∷◌, [], IfOk, IsTrue, None};
+ghost use Rattle.std.specs.Prelude.{◌≡◌, ◌∷◌, [], IfOk, IsTrue, None, Ok};
 ghost use Rattle.js_api.specs.Making.{IsAdding};
+ghost use Rattle.js_base.specs.Names.{name_of};
 ghost use Rattle.js_model.specs.Configs.{is_stream_subject};
-ghost use Rattle.desk_calls.specs.Defaults.{default_config};
+ghost use Rattle.stream_config.specs.Defaults.{default_config};
 ghost use Rattle.desk_hold.specs.Grounds.{Keeps};
 ghost use Rattle.desk_hold.specs.HoldsAt.{MayAsk};
 ghost use Rattle.desk_hold.specs.Leads.{Leads};
@@ -30,9 +31,10 @@ fn one_subject(alloc: Global, subject: &[u8]) -> Result<List<Blob>, NoMemory>
 }
 
 /// The configuration of a stream of this name and this one subject, with every default of JetStream.
-#[tactic(auto, unfolding(crate::specs::Defaults::default_config))]
+#[tactic(auto, unfolding(stream_config::specs::Defaults::default_config))]
 fn default_config(alloc: Global, name: &Name, subject: &[u8]) -> Result<StreamConfig, NoMemory>
     ensures config { IfOk result (λ config. config ≡ default_config name.now subject.now) }
+    ensures name { IfOk result (λ config. name_of config.name ≡ Ok config.name) }
 {
     Ok(StreamConfig {
         description: Blob::empty(),
@@ -44,13 +46,13 @@ fn default_config(alloc: Global, name: &Name, subject: &[u8]) -> Result<StreamCo
         max_msg_size: None,
         max_msgs: None,
         max_msgs_per_subject: None,
-        name: name.as_blob().clone()?,
+        name: Blob::of(alloc, name.as_slice())?,
         retention: Retention::Limits,
         subjects: one_subject(alloc, subject)?,
     })
 }
 
-/// How the making ended: the stream is there, or why it was refused. `absent` is told where the place keeps another incarnation.
+/// How the making ended: the stream is there, or why it was refused. `absent` is told if the place keeps another incarnation.
 fn making_told(outcome: Outcome, absent: ApiError) -> Result<Option<ApiError>, NoMemory>
     requires absent { absent ≡ no_stream }
     ensures told { TellsMaking result outcome }
@@ -63,7 +65,7 @@ fn making_told(outcome: Outcome, absent: ApiError) -> Result<Option<ApiError>, N
     }
 }
 
-/// Takes a place for the stream of this configuration, and makes it there. The place is free again where none was made.
+/// Takes a place for the stream of this configuration, and makes it there. The place is free again if none was made.
 fn add_default<V>(
     ground: &mut Ground<V>,
     name: &Name,
@@ -83,7 +85,7 @@ fn add_default<V>(
     }
 }
 
-/// What the making of the stream needs: its configuration, and the refusal where its place is gone.
+/// What the making of the stream needs: its configuration, and the refusal if its place is gone.
 fn prepared(
     alloc: Global,
     name: &Name,
@@ -94,13 +96,11 @@ fn prepared(
     ensures config { IfOk result (λ made. made.0 ≡ default_config name.now subject.now) }
     ensures absent { IfOk result (λ made. made.1 ≡ no_stream) }
 {
-    // that the bytes are those of a name is what the proof takes from this call
-    let _ = name.as_slice();
     Ok((default_config(alloc, name, subject)?, no_stream(alloc)?))
 }
 
-/// Makes the stream of this name and this one subject, with every default, where there is none of this name. Without memory nothing is said of
-/// whether it was made.
+/// Makes the stream of this name and this one subject, with every default, unless there is one of this name, and answers why it was not made. An
+/// `Err` comes if memory runs out, and leaves open whether the stream was made.
 pub fn make_stream<V>(
     ground: &mut Ground<V>,
     name: &Name,

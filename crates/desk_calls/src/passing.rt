@@ -18,14 +18,10 @@ fn pass_at<V>(ground: &mut Ground<V>, at: PlaceAt, now: Moment) -> bool
     ensures router { ground.new.world.router ≡ ground.old.world.router }
     ensures kept { Keeps ground.old ground.new }
 {
-    if ground.tick(at, now) {
-        ground.ready(at, now)
-    } else {
-        false
-    }
+    ground.pass(at, now).unwrap_or(false)
 }
 
-/// Lets time pass at the next used place behind that of the last tick, where there is one.
+/// Lets time pass at the next used place behind that of the last tick, in cyclic order. It does nothing if no place is used.
 pub fn tick<V>(ground: &mut Ground<V>, now: Moment)
     ensures ticks { Leads (Ticks now true) ground.old.world ground.new.world }
     ensures router { ground.new.world.router ≡ ground.old.world.router }
@@ -52,17 +48,14 @@ pub fn settle<V>(ground: &mut Ground<V>, now: Moment) -> bool
     }
 }
 
-/// Lets time pass at a place, and then at that of the last hold, which is the same one where its stream is there.
+/// Lets time pass at a place, and then at that of the last hold, which is the same one if its stream is there.
 fn rest_at<V>(ground: &mut Ground<V>, at: PlaceAt, now: Moment)
     requires within { IsWithin ground.old at }
     ensures rests { RestsBy (λ entries. PassesAt now true false entries at) now ground.old.world ground.new.world }
     ensures router { ground.new.world.router ≡ ground.old.world.router }
     ensures kept { Keeps ground.old ground.new }
 {
-    if ground.tick(at, now) {
-        // that no consumer is ready is what the proof takes from this call; a second tick would change nothing
-        let _ = ground.ready(at, now);
-    } else {
+    if ground.pass(at, now).is_none() {
         let _ = settle(ground, now);
     }
 }

@@ -24,7 +24,7 @@ const BY_API: Taken = Taken {
     other: true,
 };
 
-/// The session's client: the number of its session, and whether it is told where nobody took its message.
+/// The client of an open session: the session's number, and whether it is told if nobody took its message.
 #[derive(Clone, Copy)]
 pub struct Caller {
     pub session: u64,
@@ -67,7 +67,7 @@ fn store<V>(ground: &mut Ground<V>, at: PlaceAt, message: &Out, now: Moment) -> 
     }
 }
 
-/// Offers the message to the stream whose subjects match. Where there is none, it is gone.
+/// Offers the message to the stream whose subjects match. The outcome is `Gone` if there is none.
 fn offer<V>(ground: &mut Ground<V>, message: &Out, now: Moment) -> Outcome
     requires message { IsMessage message.now }
     requires plain { IsPlain message.now.to }
@@ -116,7 +116,7 @@ fn publish_plain<V>(
 
 // ---- to the API
 
-/// The API took the message, where memory did not run out.
+/// The API took the message, unless memory ran out.
 fn taken_by_api(done: Result<(), NoMemory>) -> Result<Taken, NoMemory>
     ensures value { result ≡ taken_so done }
 {

@@ -1,6 +1,6 @@
 //! Answers to calls of the API that the server gives itself.
 
-ghost use Rattle.std.specs.Prelude.{◌≡◌, IfOk, IsUtf8, is_ok};
+ghost use Rattle.std.specs.Prelude.{IsUtf8, is_ok};
 ghost use Rattle.api_replies.specs.Printed.{IsText};
 ghost use Rattle.js_api.specs.Api.{answer, refusal as refusal_outs};
 ghost use Rattle.js_api.specs.Holding.{IsSent};
@@ -15,21 +15,16 @@ use js_api::ApiReply;
 use js_base::{ApiError, Blob, NoMemory};
 use js_model::refusals::no_stream;
 
-/// Sends the answer, where there is a subject for it.
-pub fn answer<V>(
-    ground: &mut Ground<V>,
-    to: &Option<Blob>,
-    reply: &ApiReply,
-) -> Result<(), NoMemory>
-    requires texts { IsText reply.now }
-    ensures answers { Leads (IsSent (is_ok result) (answer to.now reply.now)) ground.old.world ground.new.world }
+/// Sends the answer, if there is a subject for it.
+pub fn answer<V>(ground: &mut Ground<V>, to: &Option<Blob>, reply: ApiReply) -> Result<(), NoMemory>
+    requires texts { IsText reply }
+    ensures answers { Leads (IsSent (is_ok result) (answer to.now reply)) ground.old.world ground.new.world }
     ensures kept { Keeps ground.old ground.new }
 {
-    let outs = match answer_outs(ground.alloc(), to, reply) {
-        Ok(outs) => outs,
-        Err(_) => return Err(NoMemory),
-    };
-    ground.send(outs.as_slice())
+    match answer_outs(ground.alloc(), to, &reply) {
+        Ok(outs) => ground.send(outs.as_slice()),
+        Err(_) => Err(NoMemory),
+    }
 }
 
 /// Refuses the call of this name.
@@ -45,7 +40,7 @@ pub fn refuse<V>(
     ensures kept { Keeps ground.old ground.new }
 {
     match Blob::of(ground.alloc(), name) {
-        Ok(name) => answer(ground, to, &ApiReply::Refused(name, refusal)),
+        Ok(name) => answer(ground, to, ApiReply::Refused(name, refusal)),
         Err(_) => Err(NoMemory),
     }
 }
@@ -66,7 +61,7 @@ pub fn refuse_absent<V>(
     }
 }
 
-/// Ends the call of this name on a stream. Where the stream was gone, the server answers that.
+/// Ends the call of this name on a stream. If the stream was gone, the server answers that.
 pub fn end_call<V>(
     ground: &mut Ground<V>,
     name: &[u8],

@@ -8,11 +8,9 @@ ghost use Rattle.desk_answers.specs.StreamInfos.{AreSound};
 
 use desk_hold::Ground;
 use js_base::{Moment, NoMemory};
-use js_model::{PlaceAt, StreamInfo, What};
+use js_model::{LAST_PLACE, PlaceAt, StreamInfo, What};
 
-/// The look-ups begin behind the last of 32 places.
-const LAST_PLACE: u32 = 31;
-
+/// The place behind which the next look-up begins: the last one at first.
 fn behind(last: Option<PlaceAt>) -> u32
     ensures value { result ≡ behind last }
 {
@@ -22,7 +20,7 @@ fn behind(last: Option<PlaceAt>) -> u32
     }
 }
 
-/// The place that was found, where it is a further one, and not the first again.
+/// The place that was found, if it is a further one, and not the first again.
 fn further(last: Option<PlaceAt>, found: Option<PlaceAt>) -> Option<PlaceAt>
     ensures value { result ≡ further last found }
 {
@@ -41,7 +39,7 @@ fn add(infos: &mut Vec<StreamInfo>, info: StreamInfo) -> Result<(), NoMemory>
     Ok(())
 }
 
-/// Asks the stream of a place for its information, and adds it where there is one.
+/// Asks the stream of a place for its information, and adds it if there is one.
 fn visit<V>(
     ground: &mut Ground<V>,
     at: PlaceAt,

@@ -28,7 +28,7 @@ use Rattle.desk_hold.proofs.Known.{known_may_keep, single_changed, length-with_p
 
 -- ---- the catalog
 
--- where the change was done, the new subjects stand beside the old ones
+-- if the change was done, the new subjects stand beside the old ones
 pub done_is : (c new : Catalog) (place : ℕ) (subjects : List Bytes) → IsCatalogCall c (catalog.Change place subjects) catalog.Done new → new ≡ edited (on_used (changing subjects)) place c
 unfolding catalog_call
 done_is c new place subjects (inr h) = absurd (let no : catalog.Done ≡ catalog.NoMemory = h.0 in cc)
@@ -62,7 +62,7 @@ module _ (c mid new : Catalog) (place : ℕ) (subjects : List Bytes) (b : Bool) 
 
 -- ---- the whole change
 
--- the new subjects stay where the stream was changed, and else the old ones
+-- the new subjects stay if the stream was changed, and else the old ones
 pub changed_kept : (at : PlaceAt) (outcome : Outcome) (after : State) → keep_subjects at (reply_made (made_of outcome after)) ≡ Looked (catalog.Keep at.place (is_shown outcome)) catalog.Done ∷ []
 changed_kept at (outcomes.Said (replies.Info info)) after = refl
 changed_kept at (outcomes.Said _) after = refl

@@ -9,3 +9,4 @@ pub mod Grounded
 pub mod Changed
 pub mod Stays
 pub mod Opened
+pub mod Passed

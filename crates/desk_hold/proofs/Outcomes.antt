@@ -1,6 +1,6 @@
 -- What is asked of one place, and what became of that.
-use Rattle.std.proofs.Common.{◌≡◌, ℕ, ◌<◌, ◌≤◌, ◌^◌, ◌&&◌, Bool, true, false, List, Option, None, Some, Result, Ok, Err, refl, sym, ap, subst, inl, inr, IsTrue}
-use Rattle.std.specs.Prelude.{◌⊎◌, not, nat_le, IfSome, option_map}
+use Rattle.std.proofs.Common.{◌≡◌, ℕ, ◌<◌, ◌≤◌, ◌^◌, ◌&&◌, Bool, true, false, List, Option, Result, Ok, Err, refl, sym, ap, subst, inl, inr, IsTrue}
+use Rattle.std.specs.Prelude.{◌⊎◌, not, nat_le}
 use Rattle.std.specs.Result.{is_ok}
 use Rattle.std.proofs.lemmas.Bool.{and_from, le-leb}
 use Rattle.js_base.specs.Bytes.{Bytes}
@@ -21,8 +21,7 @@ use Rattle.js_model.specs.Proper.{if_given, is_proper, is_proper_what, reply_of}
 use Rattle.js_model.specs.Refusals.{no_stream}
 use Rattle.js_model.specs.Router.{Router}
 use Rattle.js_api.specs.Holding.{AreRouted, AreCut}
-use Rattle.place_engine.specs.Places.{name_in}
-use Rattle.place_engine.specs.Shown.{ShowsOf}
+use Rattle.place_engine.specs.Shown.{IsShown}
 use Rattle.desk_hold.specs.declared.outcome.Outcome.{Outcome}
 use Rattle.desk_hold.specs.declared.outcome.Outcome.TheVariants as outcomes
 use Rattle.desk_hold.specs.declared.holding.MadeStep.{MadeStep}
@@ -63,11 +62,6 @@ asked outcomes.Gone at what now old new r_old r_new h = absurd h.holds
 
 -- ---- dropping
 
--- a place that tells a name is one with a stream, whose number is small
-pub named_small : {X : Type 0} (name_of : X → Bytes) (name : Option X) (s : State) (n : ℕ) → option_map name_of name ≡ name_in s → IfSome name (λ x. n < 2 ^ 62) → (stream : Stream) → s ≡ Live stream → n < 2 ^ 62
-named_small name_of None s n is small stream live = absurd (let no : None ≡ Some stream.config.name = cc (ap name_in live) in cc)
-named_small name_of (Some x) s n is small stream live = small
-
 -- only a stream that is there is dropped
 dropped_live : (at : PlaceAt) (to : Option Bytes) (now n : ℕ) (old new : State) (outs : List Out) → ((stream : Stream) → old ≡ Live stream → n < 2 ^ 62)
     → answered old (event_at at (DropStream to)) now true ≡ record { reply = Done; outs = outs; state = new } → n < 2 ^ 62
@@ -84,11 +78,11 @@ number_dropped what outcome at now old new r_old r_new small h = tt
 -- ---- what is shown
 
 -- what a step's reply shows, the outcome shows
-pub shows_sent : (outcome : Outcome) (what : What) (step : MadeStep) (outs : List Out) (old new : Router) → SendsStep outcome step outs old new → ShowsOf what step.reply → ShowsBy what outcome
-shows_sent (outcomes.Said reply) what step outs old new h shown = subst (λ (r : Reply). ShowsOf what r) (sym h.0) shown
-shows_sent (outcomes.Cut reply) what step outs old new h shown = subst (λ (r : Reply). ShowsOf what r) (sym h.0) shown
-shows_sent outcomes.Unmade what step outs old new h shown = absurd h
-shows_sent outcomes.Gone what step outs old new h shown = absurd h
+pub shows_sent : (outcome : Outcome) (step : MadeStep) (outs : List Out) (old new : Router) → SendsStep outcome step outs old new → IsShown step.reply → ShowsBy outcome
+shows_sent (outcomes.Said reply) step outs old new h shown = subst (λ (r : Reply). IsShown r) (sym h.0) shown
+shows_sent (outcomes.Cut reply) step outs old new h shown = subst (λ (r : Reply). IsShown r) (sym h.0) shown
+shows_sent outcomes.Unmade step outs old new h shown = absurd h
+shows_sent outcomes.Gone step outs old new h shown = absurd h
 
 -- what is gone was not dropped
 pub number_gone : (what : What) (at : PlaceAt) → NumbersDropped what outcomes.Gone at

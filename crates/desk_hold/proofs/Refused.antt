@@ -55,7 +55,7 @@ true_is_not_false e = cc
 abbrev pub IsDone : routes.Router → routes.RouteCall → Type 0
 IsDone r call = (chosen : List routes.Subscription) → kind (routes.route r call chosen).told ≡ Done
 
--- such a call is refused for want of memory alone
+-- such a call is refused only if memory ran out
 pub wants : (r new : routes.Router) (call : routes.RouteCall) (fault : RouteFault) → IsDone r call → routes.IsRoute r call (fault_told fault) new → fault ≡ faults.NoMemory
 wants r new call fault done (inl h) =
     absurd (numbered fault (sym (told_kind fault) ∙ sym (ap (λ (x : routes.Routed). kind x.told) h.routed) ∙ done h.chosen))
@@ -67,7 +67,7 @@ never r new call fault done none (inl h) =
     numbered fault (sym (told_kind fault) ∙ sym (ap (λ (x : routes.Routed). kind x.told) h.routed) ∙ done h.chosen)
 never r new call fault done none (inr h) = true_is_not_false (sym h.may ∙ none)
 
--- a call is refused for a kind that its answers may have, or for want of memory
+-- a call is refused for a kind that its answers may have, or since memory ran out
 pub kind_of : (r new : routes.Router) (call : routes.RouteCall) (told : routes.RouteTold) (P : Kind → Type 0) → ((chosen : List routes.Subscription) → P (kind (routes.route r call chosen).told)) → P Starved
     → routes.IsRoute r call told new → P (kind told)
 kind_of r new call told P computed four (inl h) = subst P (ap (λ (x : routes.Routed). kind x.told) h.routed) (computed h.chosen)
@@ -118,7 +118,7 @@ collect_done r n max h = λ chosen. kind_opened r n (routes.telling (routes.coll
 
 -- ---- a subscription, and the opening of a session
 
--- done, too many of them, or for want of memory
+-- done, too many of them, or out of memory
 abbrev pub IsOfSub : Kind → Type 0
 IsOfSub Unopened = ⊥
 IsOfSub Used = ⊥
@@ -138,7 +138,7 @@ sub_kind r new n pattern queue sid told h k =
     (subs_if (routes.is_in_use r n sid) (routes.is_full r n) (routes.telling routes.Done r) (routes.telling routes.TooManySubs r)
     (routes.telling routes.Done (routes.with_subscription r (routes.new_subscription n pattern queue sid))) refl refl refl)) tt k
 
--- done, used up, or for want of memory
+-- done, used up, or out of memory
 abbrev pub IsOfOpening : Kind → Type 0
 IsOfOpening Unopened = ⊥
 IsOfOpening Full = ⊥

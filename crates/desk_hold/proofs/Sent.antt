@@ -41,7 +41,7 @@ none_left [] (suc i) h = refl
 none_left (out ∷ outs) zero h = absurd (omega (arith, h))
 none_left (out ∷ outs) (suc i) h = none_left outs i (omega (arith, h))
 
--- the front of the outputs was routed
+-- a prefix of the outputs was routed
 pub record Sent (outs rest : List Out) (old new : routes.Router) : Type 0 where
   pub front : List Out
   pub entries : List DeskEntry

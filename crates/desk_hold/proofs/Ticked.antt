@@ -43,7 +43,7 @@ pub asked_again : (at : PlaceAt) (now : ℕ) (old new : State) (router : Router)
     → IsPassed at.incarnation now old new → IsOneHold (Said Silent) at Tick now new new router router
 asked_again at now old new router small moment h = ticked at now new new router h.still (within at now old new small h) moment h.again
 
--- among several places, where it changes nothing
+-- among several places, of which it changes none
 module _ {V : Type 0} where
   pub again_among : (places : List (Seen V)) (i : ℕ) (new : Seen V) → i < length places → (at : PlaceAt) (now : ℕ) (router : Router) → at.place ≡ i
       → IsOneHold (Said Silent) at Tick now new.state new.state router router → HoldsAmong (Said Silent) at Tick now (set places i new) (set places i new) router router

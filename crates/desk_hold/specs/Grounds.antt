@@ -85,7 +85,7 @@ abbrev pub IsTold : CatalogFault → Type 0
 IsTold (faults.Refused refusal) = IsUtf8 refusal.text
 IsTold faults.NoMemory = Unit {0}
 
--- a consumer of the place is ready, where nobody listens
+-- whether a consumer of the place is ready, if nobody listens
 pub record IsReadyAt (ready : Bool) (at : PlaceAt) (now : ℕ) (places : List State) : Type 0 where
   pub state : State
   pub is_there : slice_get places at.place ≡ Some state

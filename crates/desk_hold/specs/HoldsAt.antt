@@ -12,6 +12,7 @@ use Rattle.js_api.specs.Holding as api
 use Rattle.place_engine.specs.Places.{Seen, IsBuilt}
 use Rattle.desk_hold.specs.declared.outcome.Outcome.{Outcome}
 use Rattle.desk_hold.specs.Grounds.{states, volumes}
+use Rattle.desk_hold.specs.Outcomes.{made_of, last_of}
 
 -- a reader gives what is asked so, and a place does it
 pub record MayAsk (what : What) : Type 0 where

@@ -10,7 +10,7 @@ use Rattle.js_model.specs.declared.desk.PlaceAt.{PlaceAt}
 use Rattle.js_model.specs.Events.{answered}
 use Rattle.js_api.specs.Holding as api
 use Rattle.js_api.specs.Holding.{Made}
-use Rattle.place_engine.specs.Shown.{ShowsOf}
+use Rattle.place_engine.specs.Shown.{IsShown}
 use Rattle.desk_hold.specs.declared.outcome.Outcome.{Outcome}
 use Rattle.desk_hold.specs.declared.outcome.Outcome.TheVariants as outcomes
 use Rattle.desk_hold.specs.declared.outcome.Ending.{Ending}
@@ -23,7 +23,7 @@ ending_of (outcomes.Cut reply) = endings.Short
 ending_of outcomes.Unmade = endings.Short
 ending_of outcomes.Gone = endings.Absent
 
--- the information that the stream told, where memory did not run out
+-- the information that the stream told, unless memory ran out
 abbrev pub info_in : Outcome → Option (Option StreamInfo)
 info_in (outcomes.Said (Info info)) = Some (Some info)
 info_in (outcomes.Said reply) = Some None
@@ -47,7 +47,7 @@ is_done (outcomes.Said Done) = true
 is_done (outcomes.Cut Done) = true
 is_done _ = false
 
--- what the outcome tells, where this state is left
+-- what the outcome tells, if this state is left
 abbrev pub made_of : Outcome → State → Made
 made_of (outcomes.Said reply) after = api.Said reply after
 made_of (outcomes.Cut reply) after = api.Cut reply after
@@ -64,10 +64,11 @@ last_of outcomes.Gone at before = before
 -- ---- what a caller may count on
 
 -- what the reply shows can be printed
-abbrev pub ShowsBy : What → Outcome → Type 0
-ShowsBy what (outcomes.Said reply) = ShowsOf what reply
-ShowsBy what (outcomes.Cut reply) = ShowsOf what reply
-ShowsBy what _ = Unit {0}
+abbrev pub ShowsBy : Outcome → Type 0
+ShowsBy (outcomes.Said reply) = IsShown reply
+ShowsBy (outcomes.Cut reply) = IsShown reply
+ShowsBy outcomes.Unmade = Unit {0}
+ShowsBy outcomes.Gone = Unit {0}
 
 -- a stream that was dropped had an incarnation below 2 ^ 62
 abbrev pub NumbersDropped : What → Outcome → PlaceAt → Type 0

@@ -3,6 +3,8 @@ use Rattle.std.specs.Prelude.{◌≡◌, ◌≢◌, ◌⊎◌, ◌<◌, ◌^◌,
 use Rattle.js_base.specs.declared.memory.NoMemory.{NoMemory}
 use Rattle.js_base.specs.declared.out.Out.{Out}
 use Rattle.js_model.specs.declared.stream.State.{State}
+use Rattle.js_model.specs.declared.stream.State.TheVariants.{Live}
+use Rattle.js_model.specs.declared.stream.Stream.{Stream}
 use Rattle.js_model.specs.declared.event.Event.{Event}
 use Rattle.js_model.specs.declared.event.What.{What}
 use Rattle.js_model.specs.declared.reply.Reply.{Reply}
@@ -17,7 +19,7 @@ use Rattle.desk_hold.specs.declared.outcome.Outcome.TheVariants as outcomes
 use Rattle.desk_hold.specs.declared.holding.MadeStep.{MadeStep}
 use Rattle.desk_hold.specs.Leads.{Sends}
 
--- the event was made and sends this: its outputs, and its answer where that is not unsaid
+-- the event was made and sends this: its outputs, and its answer unless that is unsaid
 pub record IsMade (unsaid : Bool) (event : Event) (now : ℕ) (old new : State) (reply : Reply) (sent : List Out) : Type 0 where
   pub outs : List Out
   pub answers : answered old event now true ≡ record { reply = reply; outs = outs; state = new }
@@ -35,6 +37,10 @@ pub record IsCut (event : Event) (now : ℕ) (reply : Reply) (old new : State) (
   pub sent : List Out
   pub made : IsMade unsaid event now old new reply sent
   pub routed : ((unsaid ≡ true) × Sends (AreRouted sent) router_old router_new) ⊎ Sends (AreCut sent) router_old router_new
+
+-- the incarnation of a stream that is there is below 2 ^ 62
+abbrev pub IsNumbered : State → Type 0
+IsNumbered state = (stream : Stream) → state ≡ Live stream → kept_incarnation state < 2 ^ 62
 
 -- nothing was made
 pub record IsUnmade (old new : State) (router_old router_new : Router) : Type 0 where

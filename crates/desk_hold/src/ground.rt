@@ -1,6 +1,6 @@
 //! What a desk stands on: its router, its catalog and its places.
 
-ghost use Rattle.std.specs.Prelude.{◌≡◌, ◌≤◌, ◌<◌, [], true, false, IfErr, IfOk, IfSome, OnErr, length, option_map, replicate};
+ghost use Rattle.std.specs.Prelude.{◌≡◌, ◌≤◌, ◌<◌, [], true, false, IfErr, IfOk, IfSome, OnErr, is_some, length, option_map, replicate, unwrap_or};
 ghost use Rattle.js_model.specs.Catalog.{Add, At, ByName, Find, IsCatalogCall, NextUsed, Remove, Done as Cataloged, new_place};
 ghost use Rattle.js_model.specs.Cataloging.{HasPlace, MayRemove, add_told};
 ghost use Rattle.js_model.specs.declared.event.What.TheVariants as whats;
@@ -8,13 +8,14 @@ ghost use Rattle.js_model.specs.declared.desk.Collected.TheVariants.{Frames};
 ghost use Rattle.js_model.specs.Router as routes;
 ghost use Rattle.js_model.specs.Routing.{LeavesFewer, Opens, collected_told, done_told, open_told, publish_told, waiting_for};
 ghost use Rattle.route_core.specs.Idle.{IsIdle};
+ghost use Rattle.js_api.specs.Calls.{PassesAt};
 ghost use Rattle.js_api.specs.Desks.{opening, place_or};
 ghost use Rattle.desk_hold.specs.Changes.{Changes};
 ghost use Rattle.desk_hold.specs.Grounds.{IsReadyAt, IsTold};
 ghost use Rattle.desk_hold.specs.Grounds.{AreFresh, IsWithin, Keeps, Knows, volumes};
 ghost use Rattle.desk_hold.specs.HoldsAt.{HoldsAt, MayAsk};
 ghost use Rattle.desk_hold.specs.Outcomes.{NumbersDropped, ShowsBy};
-ghost use Rattle.desk_hold.specs.Leads.{Routes};
+ghost use Rattle.desk_hold.specs.Leads.{Leads, Routes};
 ghost use Rattle.desk_hold.specs.Sending.{SendsAll};
 ghost use Rattle.desk_hold.specs.Outcomes.{passed};
 
@@ -25,14 +26,11 @@ use crate::ticking::tick_among;
 use catalog::Catalog;
 use desk_answers::copy_reply;
 use js_base::{Blob, List, Moment, Name, NoMemory, Out};
-use js_model::{CatalogFault, Collected, PlaceAt, RouteFault, StreamConfig, What};
+use js_model::{CatalogFault, Collected, LAST_PLACE, PlaceAt, RouteFault, StreamConfig, What};
 use place_engine::Place;
 use route_core::Router;
 use std::alloc::Global;
 use std::marker::Model;
-
-/// The first tick goes to the place behind this one, in cyclic order.
-const LAST_PLACE: u32 = 31;
 
 /// A router, a catalog and its places, at most 32; the place of the last tick; and the place of the last hold. Each call tells by which entries it
 /// leads from the one world to the other. The volumes stay as they are.
@@ -70,6 +68,7 @@ impl<V> Ground<V> {
             router: Router::new(alloc),
             catalog,
             places,
+            // so that the first tick goes to the first used place
             ticked: LAST_PLACE,
             last: None,
         }
@@ -91,7 +90,7 @@ impl<V> Ground<V> {
         places
     }
 
-    /// Where memory is asked for.
+    /// The allocator from which all its parts take memory.
     pub fn alloc(&self) -> Global {
         self.alloc
     }
@@ -217,7 +216,7 @@ impl<V> Ground<V> {
         self.catalog.add(name, subjects)
     }
 
-    /// Frees the place of a stream. Where the stream was dropped, the next one has the next incarnation.
+    /// Frees the place of a stream. If the stream was dropped, the next one there has the next incarnation.
     pub fn free(&mut self, place: u32, dropped: bool)
         requires used { HasPlace self.old.world.catalog place (MayRemove dropped) }
         ensures freed { IsCatalogCall self.old.world.catalog (Remove place dropped) Cataloged self.new.world.catalog }
@@ -234,7 +233,7 @@ impl<V> Ground<V> {
         requires within { IsWithin self.old at }
         requires asked { MayAsk what }
         ensures holds { HoldsAt result at what now self.old.world self.new.world }
-        ensures shown { ShowsBy what result }
+        ensures shown { ShowsBy result }
         ensures number { NumbersDropped what result at }
         ensures kept { Keeps self.old self.new }
     {
@@ -250,8 +249,8 @@ impl<V> Ground<V> {
         outcome
     }
 
-    /// Lets time pass for the stream of a place, where it is there: whether it is. A second time at the same moment nothing changes there.
-    pub fn tick(&mut self, at: PlaceAt, now: Moment) -> bool
+    /// Lets time pass for the stream of a place if it is there, and answers whether it is. A second time at the same moment nothing changes there.
+    fn tick(&mut self, at: PlaceAt, now: Moment) -> bool
         requires within { IsWithin self.old at }
         ensures holds { HoldsAt (passed result) at whats.Tick now self.old.world self.new.world }
         ensures again { result ≡ true → HoldsAt (passed true) at whats.Tick now self.new.world self.new.world }
@@ -264,6 +263,34 @@ impl<V> Ground<V> {
         }
         self.last = Some(at);
         true
+    }
+
+    /// Whether a consumer of the place is ready. There is no push consumer yet to whom somebody listens; nor is there any other yet, so none is.
+    fn ready(&self, at: PlaceAt, now: Moment) -> bool
+        requires within { IsWithin self.now at }
+        ensures value { IsReadyAt result at now self.now.world.places }
+        ensures none { result ≡ false }
+    {
+        let nobody = List::new(self.alloc);
+        self.places[at.place as usize].ready(now, &nobody)
+    }
+
+    /// Lets time pass for the stream of a place, and answers whether a consumer is ready there then; `None` if the stream is gone. A second time at
+    /// the same moment nothing changes there. No consumer is served yet, so none is ready.
+    pub fn pass(&mut self, at: PlaceAt, now: Moment) -> Option<bool>
+        requires within { IsWithin self.old at }
+        ensures passes { Leads (λ entries. PassesAt now true (unwrap_or result false) entries at) self.old.world self.new.world }
+        ensures none { unwrap_or result false ≡ false }
+        ensures again { is_some result ≡ true → Leads (λ entries. PassesAt now true false entries at) self.new.world self.new.world }
+        ensures last { is_some result ≡ true → self.new.world.last ≡ Some at }
+        ensures router { self.new.world.router ≡ self.old.world.router }
+        ensures kept { Keeps self.old self.new }
+    {
+        if self.tick(at, now) {
+            Some(self.ready(at, now))
+        } else {
+            None
+        }
     }
 
     /// Puts the subjects of the new configuration beside the old ones, has the stream take it, and keeps the subjects that it has then. An `Err`
@@ -302,16 +329,6 @@ impl<V> Ground<V> {
         self.last = outcome.last_of(at, self.last);
         self.catalog.keep(at.place, outcome.is_shown());
         Ok(outcome)
-    }
-
-    /// Whether a consumer of the place is ready. There is no push consumer yet to whom somebody listens; nor is there any other yet, so none is.
-    pub fn ready(&self, at: PlaceAt, now: Moment) -> bool
-        requires within { IsWithin self.now at }
-        ensures value { IsReadyAt result at now self.now.world.places }
-        ensures none { result ≡ false }
-    {
-        let nobody = List::new(self.alloc);
-        self.places[at.place as usize].ready(now, &nobody)
     }
 
     // ---- turns

@@ -1,15 +1,13 @@
 //! One hold on a place: an event is made there, and what it sends is routed.
 
-ghost use Rattle.std.specs.Prelude.{◌≡◌, ◌≢◌, ◌<◌, ◌^◌, ◌++◌, true, false, IfOk, IsTrue, length};
+ghost use Rattle.std.specs.Prelude.{◌≡◌, ◌≢◌, ◌<◌, ◌≤◌, ◌^◌, ◌++◌, true, false, IfOk, IsTrue, IsUtf8, length};
 ghost use Rattle.js_api.specs.Outputs.{answer_of, said, stream_name};
 ghost use Rattle.js_model.specs.Events.{kept_incarnation};
 ghost use Rattle.js_model.specs.Proper.{is_proper};
-ghost use Rattle.js_model.specs.declared.stream.Stream.{Stream};
-ghost use Rattle.js_model.specs.declared.stream.State.TheVariants.{Live};
 ghost use Rattle.js_model.specs.Routing.{KeepsOpen};
 ghost use Rattle.place_engine.specs.Places.{IsBuilt};
-ghost use Rattle.place_engine.specs.Shown.{ShowsOf};
-ghost use Rattle.desk_hold.specs.Steps.{AsksPlace, HoldsPlace, IsOneHold, MakesStep, SendsStep, event_at};
+ghost use Rattle.place_engine.specs.Shown.{IsShown};
+ghost use Rattle.desk_hold.specs.Steps.{AsksPlace, HoldsPlace, IsNumbered, IsOneHold, MakesStep, SendsStep, event_at};
 ghost use Rattle.desk_hold.specs.HoldsAt.{HoldsAmong, MayAsk};
 ghost use Rattle.desk_hold.specs.Outcomes.{NumbersDropped, ShowsBy};
 
@@ -29,9 +27,11 @@ struct MadeStep {
     unsaid: bool,
 }
 
-/// The name of the place's stream, empty if there is none.
+/// The name of the place's stream, empty if there is none. The incarnation of a stream is below 2^62.
 fn stream_name<V>(place: &Place<V>) -> Result<Blob, NoMemory>
     ensures name { IfOk result (λ name. name ≡ stream_name place.now.state) }
+    ensures utf8 { IfOk result (λ name. IsUtf8 name) }
+    ensures number { IsNumbered place.now.state }
 {
     match place.name() {
         Some(name) => Ok(name.clone()?),
@@ -41,7 +41,8 @@ fn stream_name<V>(place: &Place<V>) -> Result<Blob, NoMemory>
 
 /// Adds the answer behind the outputs. `true` if memory ran out for it, and nothing was added.
 fn add_answer(alloc: Global, stream: &[u8], what: &What, reply: &Reply, outs: &mut Outs) -> bool
-    requires shown { ShowsOf what.now reply.now }
+    requires utf8 { IsUtf8 stream.now }
+    requires shown { IsShown reply.now }
     ensures added { outs.new ≡ outs.old ++ said result (answer_of stream.now what.now reply.now) }
 {
     match answer_of(alloc, stream, what, reply) {
@@ -62,7 +63,8 @@ fn make<V>(
     requires built { IsBuilt event.now.what }
     requires proper { IsTrue (is_proper event.now) }
     ensures makes { MakesStep result event.now now place.old.state place.new.state outs.old outs.new }
-    ensures shown { IfOk result (λ step. ShowsOf event.now.what step.reply) }
+    ensures number { IsNumbered place.old.state }
+    ensures shown { IfOk result (λ step. IsShown step.reply) }
     ensures vol { place.new.vol ≡ place.old.vol }
 {
     let stream = stream_name(place)?;
@@ -100,7 +102,8 @@ fn hold_place<V>(
     requires built { IsBuilt event.now.what }
     requires proper { IsTrue (is_proper event.now) }
     ensures holds { HoldsPlace result event.now now place.old.state place.new.state router.old router.new }
-    ensures shown { ShowsBy event.now.what result }
+    ensures number { IsNumbered place.old.state }
+    ensures shown { ShowsBy result }
     ensures vol { place.new.vol ≡ place.old.vol }
     ensures stay { KeepsOpen router.old router.new }
 {
@@ -114,29 +117,10 @@ fn hold_place<V>(
 /// Whether the place keeps the incarnation that is asked for.
 fn is_kept<V>(place: &Place<V>, at: PlaceAt) -> bool
     ensures kept { result ≡ true → at.incarnation ≡ kept_incarnation place.now.state }
+    ensures small { result ≡ true → at.incarnation ≤ 2 ^ 62 }
     ensures other { result ≡ false → kept_incarnation place.now.state ≢ at.incarnation }
 {
     place.incarnation() == at.incarnation
-}
-
-/// The event for the stream that the place keeps.
-fn event_for<V>(place: &Place<V>, at: PlaceAt, what: What) -> Event
-    requires asked { MayAsk what }
-    requires kept { at.incarnation ≡ kept_incarnation place.now.state }
-    ensures event { result ≡ event_at at what }
-    ensures proper { IsTrue (is_proper result) }
-{
-    Event {
-        incarnation: place.incarnation(),
-        what,
-    }
-}
-
-/// The number of a stream that is there is below 2^62.
-fn law_numbered<V>(place: &Place<V>)
-    ensures number { (stream : Stream) → place.now.state ≡ Live stream → kept_incarnation place.now.state < 2 ^ 62 }
-{
-    let _ = place.name();
 }
 
 /// A moment is below 2^62.
@@ -146,47 +130,48 @@ pub(crate) fn law_moment(now: Moment)
     let _ = now.as_nanos();
 }
 
-/// Asks this of the stream that the place keeps.
+/// Makes the event for the stream that the place keeps.
 fn ask_kept<V>(
     alloc: Global,
     place: &mut Place<V>,
     router: &mut Router,
     at: PlaceAt,
-    what: What,
+    event: &Event,
     now: Moment,
 ) -> Outcome
-    requires asked { MayAsk what }
+    requires event { event.now ≡ event_at at event.now.what }
+    requires asked { MayAsk event.now.what }
     requires kept { at.incarnation ≡ kept_incarnation place.old.state }
-    ensures holds { IsOneHold result at what now place.old.state place.new.state router.old router.new }
-    ensures shown { ShowsBy what result }
-    ensures number { NumbersDropped what result at }
+    requires small { at.incarnation ≤ 2 ^ 62 }
+    ensures holds { IsOneHold result at event.now.what now place.old.state place.new.state router.old router.new }
+    ensures shown { ShowsBy result }
+    ensures number { NumbersDropped event.now.what result at }
     ensures vol { place.new.vol ≡ place.old.vol }
     ensures stay { KeepsOpen router.old router.new }
 {
     law_moment(now);
-    law_numbered(place);
-    let event = event_for(place, at, what);
-    hold_place(alloc, place, router, &event, now)
+    hold_place(alloc, place, router, event, now)
 }
 
-/// Asks this of the stream of a place. If memory runs out before it or the stream is gone, nothing changes.
+/// Makes the event for the stream of a place. If memory runs out before it or the stream is gone, nothing changes.
 fn ask_place<V>(
     alloc: Global,
     place: &mut Place<V>,
     router: &mut Router,
     at: PlaceAt,
-    what: What,
+    event: &Event,
     now: Moment,
 ) -> Outcome
-    requires asked { MayAsk what }
-    ensures asks { AsksPlace result at what now place.old.state place.new.state router.old router.new }
-    ensures shown { ShowsBy what result }
-    ensures number { NumbersDropped what result at }
+    requires event { event.now ≡ event_at at event.now.what }
+    requires asked { MayAsk event.now.what }
+    ensures asks { AsksPlace result at event.now.what now place.old.state place.new.state router.old router.new }
+    ensures shown { ShowsBy result }
+    ensures number { NumbersDropped event.now.what result at }
     ensures vol { place.new.vol ≡ place.old.vol }
     ensures stay { KeepsOpen router.old router.new }
 {
     if is_kept(place, at) {
-        ask_kept(alloc, place, router, at, what, now)
+        ask_kept(alloc, place, router, at, event, now)
     } else {
         Outcome::Gone
     }
@@ -204,8 +189,19 @@ pub fn hold_among<V>(
     requires within { at.place < length places.old.items }
     requires asked { MayAsk what }
     ensures holds { HoldsAmong result at what now places.old.items places.new.items router.old router.new }
-    ensures shown { ShowsBy what result }
+    ensures shown { ShowsBy result }
     ensures number { NumbersDropped what result at }
 {
-    ask_place(alloc, &mut places[at.place as usize], router, at, what, now)
+    let event = Event {
+        incarnation: at.incarnation,
+        what,
+    };
+    ask_place(
+        alloc,
+        &mut places[at.place as usize],
+        router,
+        at,
+        &event,
+        now,
+    )
 }

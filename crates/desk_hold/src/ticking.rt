@@ -12,7 +12,7 @@ use js_base::Moment;
 use js_model::PlaceAt;
 use place_engine::Place;
 
-/// Lets time pass for the stream of a place, where it is there: whether it is. Nothing is sent, and a second time at the same moment nothing
+/// Lets time pass for the stream of a place if it is there, and answers whether it is. Nothing is sent, and a second time at the same moment nothing
 /// changes.
 fn tick_place<V>(place: &mut Place<V>, at: PlaceAt, now: Moment) -> bool
     ensures asks { (router : Router) → AsksPlace (passed result) at Tick now place.old.state place.new.state router router }
@@ -23,7 +23,7 @@ fn tick_place<V>(place: &mut Place<V>, at: PlaceAt, now: Moment) -> bool
     place.tick(at.incarnation, now)
 }
 
-/// Lets time pass for the stream of the place with this number, where it is there: whether it is.
+/// Lets time pass for the stream of the place with this number if it is there, and answers whether it is.
 pub fn tick_among<V>(places: &mut Vec<Place<V>>, at: PlaceAt, now: Moment) -> bool
     requires within { at.place < length places.old.items }
     ensures holds { (router : Router) → HoldsAmong (passed result) at Tick now places.old.items places.new.items router router }

@@ -1,5 +1,5 @@
 -- Calls of the JetStream API over all streams: each place with a stream is held once, in order, and the answer is put together from what they told.
-use Rattle.std.specs.Prelude.{◌≡◌, ◌⊎◌, ◌++◌, ℕ, nat_lt, Bool, true, false, List, [], ◌∷◌, length, map, filter, take, drop, sum_by, Option, Some, None, Result, Ok, Err, codes, if◌then◌else◌}
+use Rattle.std.specs.Prelude.{◌≡◌, ◌⊎◌, ◌++◌, ℕ, nat_lt, Bool, true, false, List, [], ◌∷◌, length, map, filter, take, drop, sum_by, Option, Some, None, Result, Ok, Err, if◌then◌else◌}
 use Rattle.std.specs.List.{list_any, flat_map}
 use Rattle.js_base.specs.Bytes.{Bytes}
 use Rattle.js_base.specs.Subjects.{tokens, meets}
@@ -11,6 +11,7 @@ use Rattle.js_model.specs.declared.reply.Reply.TheVariants.{Info, Done, Publishe
 use Rattle.js_model.specs.declared.reply.StreamInfo.{StreamInfo}
 use Rattle.js_model.specs.declared.desk.PlaceAt.{PlaceAt}
 use Rattle.js_model.specs.Consumers.{is_before}
+use Rattle.js_model.specs.Limits.{last_place, names_a_page, infos_a_page}
 use Rattle.js_model.specs.Refusals.{store_fault, stream_stopped}
 use Rattle.js_model.specs.Catalog as catalog
 use Rattle.api_replies.specs.declared.reply.ApiReply.TheVariants as replies
@@ -31,9 +32,9 @@ pub record Visit : Type 0 where
   pub at : PlaceAt
   pub outcome : Outcome
 
--- the look-ups begin after the last of 32 places
+-- the look-ups begin after the last place
 abbrev pub behind : Option PlaceAt → ℕ
-behind None = 31
+behind None = last_place
 behind (Some at) = at.place
 
 -- the place that was found is a further one, and not the first again
@@ -161,8 +162,8 @@ page most offset list = take most (drop offset list)
 
 abbrev pub names : Option Bytes → ℕ → Option Bytes → List StreamInfo → List Out
 names to offset pattern infos =
-    answer to (replies.StreamNames offset (page 1024 offset (map (λ (i : StreamInfo). i.config.name) (listed pattern infos))) (length (listed pattern infos)))
+    answer to (replies.StreamNames offset (page names_a_page offset (map (λ (i : StreamInfo). i.config.name) (listed pattern infos))) (length (listed pattern infos)))
 
 abbrev pub informations : Option Bytes → ℕ → Option Bytes → List StreamInfo → List Out
 informations to offset pattern infos =
-    answer to (replies.StreamList offset (page 256 offset (listed pattern infos)) (length (listed pattern infos)))
+    answer to (replies.StreamList offset (page infos_a_page offset (listed pattern infos)) (length (listed pattern infos)))

@@ -1,9 +1,11 @@
 -- What a publish to a subject of the JetStream API makes, by the JetStream API reference: whether somebody took it.
-use Rattle.std.specs.Prelude.{◌≡◌, ◌⊎◌, ℕ, Bool, true, false, List, [], Option, Some, None, MatchBool, Result, Ok, Err, codes}
+use Rattle.std.specs.Prelude.{◌≡◌, ◌⊎◌, ℕ, Bool, true, false, List, [], Option, Some, None, MatchBool, Result, Ok, Err}
 use Rattle.js_base.specs.declared.out.Out.{Out}
 use Rattle.js_base.specs.declared.out.ApiError.{ApiError}
 use Rattle.js_base.specs.Bytes.{Bytes}
 use Rattle.js_model.specs.declared.desk.Taken.{Taken}
+use Rattle.api_calls.specs.declared.call.ApiCall.TheVariants as calls
+use Rattle.api_calls.specs.Names.{name_of}
 use Rattle.api_requests.specs.declared.request.ApiRequest.{ApiRequest}
 use Rattle.api_requests.specs.declared.request.ApiRequest.TheVariants as requests
 use Rattle.api_requests.specs.Names.{call_name}
@@ -18,14 +20,14 @@ use Rattle.js_api.specs.AllStreams.{IsOverAll, account, names, informations}
 
 -- The call was carried out so, and gives whether somebody took it. Calls of the forms that are not read yet are not carried out.
 abbrev pub Performs : ApiRequest → Option Bytes → ℕ → Result Bool DeskFault → List DeskEntry → Type 0
-Performs requests.AccountInfo to now result entries = IsOverAll (codes "account_info") to now (account to) result entries
+Performs requests.AccountInfo to now result entries = IsOverAll (name_of calls.AccountInfo) to now (account to) result entries
 Performs (requests.StreamCreate stream config) to now result entries = IsCreating stream config to now result entries
 Performs (requests.StreamUpdate stream config) to now result entries = IsUpdating stream config to now result entries
 Performs (requests.StreamInfo stream) to now result entries = IsShowing stream to now result entries
 Performs (requests.StreamDelete stream) to now result entries = IsDeleting stream to now result entries
 Performs (requests.StreamPurge stream pattern below keep) to now result entries = ⊥
-Performs (requests.StreamNames offset pattern) to now result entries = IsOverAll (codes "stream_names") to now (names to offset pattern) result entries
-Performs (requests.StreamList offset pattern) to now result entries = IsOverAll (codes "stream_list") to now (informations to offset pattern) result entries
+Performs (requests.StreamNames offset pattern) to now result entries = IsOverAll (name_of calls.StreamNames) to now (names to offset pattern) result entries
+Performs (requests.StreamList offset pattern) to now result entries = IsOverAll (name_of calls.StreamList) to now (informations to offset pattern) result entries
 Performs (requests.StreamMsgGet stream by) to now result entries = ⊥
 Performs (requests.StreamMsgDelete stream seq) to now result entries = ⊥
 Performs (requests.ConsumerCreate stream consumer config update) to now result entries = ⊥

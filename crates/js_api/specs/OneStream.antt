@@ -1,5 +1,5 @@
 -- Calls of the JetStream API on one stream: it is looked up by its name, a hold on its place follows, and what became of that decides the rest.
-use Rattle.std.specs.Prelude.{◌≡◌, ℕ, Bool, true, false, List, [], ◌∷◌, ◌++◌, Option, Some, None, MatchOption, Result, Ok, Err, codes, if◌then◌else◌}
+use Rattle.std.specs.Prelude.{◌≡◌, ℕ, Bool, true, false, List, [], ◌∷◌, ◌++◌, Option, Some, None, MatchOption, Result, Ok, Err, if◌then◌else◌}
 use Rattle.js_base.specs.Bytes.{Bytes}
 use Rattle.js_base.specs.declared.out.Out.{Out}
 use Rattle.js_base.specs.declared.out.ApiError.{ApiError}
@@ -12,6 +12,8 @@ use Rattle.js_model.specs.declared.desk.PlaceAt.{PlaceAt}
 use Rattle.js_model.specs.Proper.{reply_of}
 use Rattle.js_model.specs.Refusals.{no_stream, store_fault, stream_stopped}
 use Rattle.js_model.specs.Catalog as catalog
+use Rattle.api_calls.specs.declared.call.ApiCall.TheVariants as calls
+use Rattle.api_calls.specs.Names.{name_of}
 use Rattle.api_replies.specs.declared.reply.ApiReply.{ApiReply}
 use Rattle.api_replies.specs.declared.reply.ApiReply.TheVariants as replies
 use Rattle.api_replies.specs.Replies.{reply_text}
@@ -169,9 +171,9 @@ IsShort result entries = (result ≡ Err faults.NoMemory) × (entries ≡ [])
 -- the place that was taken for it, or why none was
 abbrev pub GoesOnAdded : StreamConfig → Option Bytes → ℕ → catalog.CatTold → Result Bool DeskFault → List DeskEntry → Type 0
 GoesOnAdded config to now (catalog.At (Some at)) result entries =
-    IsOnStream (codes "stream_create") at (whats.Make to config) now (free_unless_made at) result entries
+    IsOnStream (name_of calls.StreamCreate) at (whats.Make to config) now (free_unless_made at) result entries
 GoesOnAdded config to now (catalog.At None) result entries = ⊥
-GoesOnAdded config to now (catalog.Refused e) result entries = Answers (refusal (codes "stream_create") to e) result entries
+GoesOnAdded config to now (catalog.Refused e) result entries = Answers (refusal (name_of calls.StreamCreate) to e) result entries
 GoesOnAdded config to now catalog.NoMemory result entries = IsShort result entries
 GoesOnAdded config to now catalog.Done result entries = ⊥
 
@@ -186,14 +188,14 @@ pub record IsAdding {X : Type 0} (stream : Bytes) (config : StreamConfig) (goes_
 abbrev pub IsCreating : Bytes → StreamConfig → Option Bytes → ℕ → Result Bool DeskFault → List DeskEntry → Type 0
 IsCreating stream config to now result entries =
     IsNamed stream (IsAdding stream config (GoesOnAdded config to now))
-    (λ at. IsOnStream (codes "stream_create") at (whats.Make to config) now unchanged) result entries
+    (λ at. IsOnStream (name_of calls.StreamCreate) at (whats.Make to config) now unchanged) result entries
 
 -- ---- changing a stream
 
 abbrev pub GoesOnChanged : PlaceAt → StreamConfig → Option Bytes → ℕ → catalog.CatTold → Result Bool DeskFault → List DeskEntry → Type 0
 GoesOnChanged at config to now catalog.Done result entries =
-    IsOnStream (codes "stream_update") at (whats.Change to config) now (keep_subjects at) result entries
-GoesOnChanged at config to now (catalog.Refused e) result entries = Answers (refusal (codes "stream_update") to e) result entries
+    IsOnStream (name_of calls.StreamUpdate) at (whats.Change to config) now (keep_subjects at) result entries
+GoesOnChanged at config to now (catalog.Refused e) result entries = Answers (refusal (name_of calls.StreamUpdate) to e) result entries
 GoesOnChanged at config to now catalog.NoMemory result entries = IsShort result entries
 GoesOnChanged at config to now (catalog.At found) result entries = ⊥
 
@@ -206,16 +208,16 @@ pub record IsChanging (config : StreamConfig) (to : Option Bytes) (now : ℕ) (a
 
 abbrev pub IsUpdating : Bytes → StreamConfig → Option Bytes → ℕ → Result Bool DeskFault → List DeskEntry → Type 0
 IsUpdating stream config to now result entries =
-    IsNamed stream (IsAbsent (codes "stream_update") to) (IsChanging config to now) result entries
+    IsNamed stream (IsAbsent (name_of calls.StreamUpdate) to) (IsChanging config to now) result entries
 
 -- ---- showing and deleting a stream
 
 abbrev pub IsShowing : Bytes → Option Bytes → ℕ → Result Bool DeskFault → List DeskEntry → Type 0
 IsShowing stream to now result entries =
-    IsNamed stream (IsAbsent (codes "stream_info") to)
-    (λ at. IsOnStream (codes "stream_info") at (whats.StreamInfo to) now unchanged) result entries
+    IsNamed stream (IsAbsent (name_of calls.StreamInfo) to)
+    (λ at. IsOnStream (name_of calls.StreamInfo) at (whats.StreamInfo to) now unchanged) result entries
 
 abbrev pub IsDeleting : Bytes → Option Bytes → ℕ → Result Bool DeskFault → List DeskEntry → Type 0
 IsDeleting stream to now result entries =
-    IsNamed stream (IsAbsent (codes "stream_delete") to)
-    (λ at. IsOnStream (codes "stream_delete") at (whats.Drop to) now (free_if_dropped at)) result entries
+    IsNamed stream (IsAbsent (name_of calls.StreamDelete) to)
+    (λ at. IsOnStream (name_of calls.StreamDelete) at (whats.Drop to) now (free_if_dropped at)) result entries

@@ -24,7 +24,8 @@ use Rattle.js_api.specs.Clients.{Client}
 use Rattle.js_api.specs.Entries.{DeskEntry, Routed}
 use Rattle.js_api.specs.Stages.{Then, Gives, IsWorn, LooksUp, Sends, Ending}
 use Rattle.js_api.specs.Holding.{Holds}
-use Rattle.js_api.specs.Outputs.{publish_text, sent_text}
+use Rattle.api_replies.specs.PubAcks.{publish_text}
+use Rattle.js_api.specs.Outputs.{sent_text}
 
 -- ---- the message
 
@@ -50,7 +51,7 @@ pub record IsMessage (message : Out) : Type 0 where
   pub block : IsTrue (is_headers message.headers)
   pub small : length message.headers + length message.payload ≤ 1048576
 
--- ---- the answer where nobody took a message
+-- ---- the answer if nobody took a message
 
 abbrev pub nobody : Taken
 nobody = record { subscriptions = 0; other = false }
@@ -63,12 +64,13 @@ no_responders to = record { to = to; subject = to; reply = None; headers = statu
 abbrev pub is_untaken : Taken → Bool
 is_untaken taken = (taken.subscriptions == 0) && not taken.other
 
--- the answer to a reply subject, where it is to be told
+-- the answer to a reply subject, if it is to be told
 abbrev pub told_nobody : Bool → Option Bytes → List Out
 told_nobody true (Some to) = no_responders to ∷ []
-told_nobody _ _ = []
+told_nobody true None = []
+told_nobody false to = []
 
--- what tells a client that nobody took its message, where it is told so
+-- what tells a client that nobody took its message, if it is told so
 abbrev pub untaken_outs : Bool → Out → Taken → List Out
 untaken_outs told message taken = told_nobody (told && is_untaken taken) message.reply
 

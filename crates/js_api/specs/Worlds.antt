@@ -10,6 +10,7 @@ use Rattle.js_model.specs.declared.entry.PlaceEntry.TheVariants.{Step, Deliver, 
 use Rattle.js_model.specs.declared.desk.PlaceAt.{PlaceAt}
 use Rattle.js_model.specs.Events.{kept_incarnation}
 use Rattle.js_model.specs.Runs.{RunFrom, total_of}
+use Rattle.js_model.specs.Limits.{last_place}
 use Rattle.js_model.specs.PlaceStates.{VolumeAt, PlaceIn}
 use Rattle.js_model.specs.Router.{Router, RouteTold, IsRoute, Publish, Interest, Taken, Listens, NoMemory, empty_router}
 use Rattle.js_model.specs.Catalog.{Catalog, Place, IsCatalogCall, NextUsed, At}
@@ -47,7 +48,7 @@ kept_in (Live s) = record {
 abbrev pub opening : List PlaceIn → Scene
 opening places = record {
   world = record { router = empty_router; catalog = map (λ (p : PlaceIn). kept_in p.state) places; places = places };
-  cursor = record { ticked = 31; last = None };
+  cursor = record { ticked = last_place; last = None };
 }
 
 -- the place that was found, or the one before

@@ -2,6 +2,7 @@
 #![tactic(auto)]
 
 mod big_endian;
+mod blank;
 mod blob;
 mod decimal;
 mod frame;
@@ -16,6 +17,7 @@ mod spot;
 mod writing;
 
 pub use big_endian::{get_u16, get_u32, get_u64, put_u16, put_u32, put_u64};
+pub use blank::is_blank;
 pub use blob::Blob;
 pub use decimal::{DecFault, read_decimal};
 pub use frame::Frame;
@@ -27,6 +29,3 @@ pub use name::{Name, NameFault};
 pub use out::{ApiError, Out, Outs};
 pub use spot::Spot;
 pub use writing::{put_bytes, put_decimal};
-
-#[cfg(test)]
-mod tests;

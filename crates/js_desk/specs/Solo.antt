@@ -24,7 +24,7 @@ solo ground session told = record {
   is_open = is_some session;
 }
 
--- the session is open in the router, a collect gives nothing where that is known, and there is room for the volumes
+-- the session is open in the router, a collect gives nothing if that is known, and there is room for the volumes
 pub record IsConsistent {V : Type 0} (ground : Standing V) (session : Option ℕ) (idle : Bool) (given_back : List V) (capacity : ℕ) : Type 0 where
   pub opened : IfSome session (λ number. is_open ground.world.router number ≡ true)
   pub idle_is : idle ≡ true → IfSome session (IsIdle ground.world.router)

@@ -26,10 +26,10 @@ const LAST_SESSION: u64 = (1 << 62) - 1;
 #[derive(Drop)]
 pub struct SoloDesk<V> {
     ground: Ground<V>,
-    /// Where the volumes go at the end.
+    /// Empty, with room for the volumes at the end.
     vols: Vec<V>,
     session: Option<u64>,
-    /// Whether the session's client is told where nobody took its message.
+    /// Whether the session's client is told if nobody took its message.
     told: bool,
     /// Whether a collect is known to give nothing: the last one gave nothing, and nothing can have been sent since.
     idle: bool,
@@ -82,8 +82,8 @@ impl<V> SoloDesk<V> {
         }
     }
 
-    /// Makes the stream of this name and this one subject, with every default of JetStream, and answers why not. A stream of this name that is
-    /// there is left as it is. It needs no session.
+    /// Makes the stream of this name and this one subject, with every default of JetStream, and answers why it was not made. A
+    /// stream of this name that is there is left as it is. It needs no session. An `Err` comes if memory runs out.
     pub fn make_stream(
         &mut self,
         name: &Name,

@@ -19,3 +19,5 @@ pub mod Lacking
 pub mod Named
 pub mod Members
 pub mod Candidates
+pub mod NameTexts
+pub mod ConfigParts

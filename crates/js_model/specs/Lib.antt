@@ -2,6 +2,8 @@ pub mod Lists
 pub mod Streams
 pub mod Refusals
 pub mod Configs
+pub mod Served
+pub mod Limits
 pub mod Proper
 pub mod Advance
 pub mod Retention

@@ -2,4 +2,3 @@ pub mod Told
 pub use Rattle.js_base.proofs.Causes
 pub mod Reports
 pub mod Moments
-mod Scripts

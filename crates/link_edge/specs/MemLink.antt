@@ -25,16 +25,22 @@ link_of script failing = record { script = script; calls = calls_of failing; ans
 abbrev pub take_of : LinkState → ℕ → Take
 take_of link room = if next_fails link.calls then takes.Failed else next_take link.script room
 
+-- the link after a take that the script answered so
+abbrev pub after_played : LinkState → Take → List ℕ → LinkState
+after_played link take room = record link {
+  script = script_after link.script (length room);
+  calls = with_pass link.calls;
+  answered = link.answered ++ answers_of take room;
+}
+
 -- the link after a take that was answered so
 abbrev pub after_take : LinkState → Take → List ℕ → LinkState
 after_take link takes.NoMemory room = link
 after_take link takes.Failed room =
     record link { calls = with_failure link.calls; answered = link.answered ++ answers_of takes.Failed room }
-after_take link take room = record link {
-  script = script_after link.script (length room);
-  calls = with_pass link.calls;
-  answered = link.answered ++ answers_of take room;
-}
+after_take link (takes.Got n) room = after_played link (takes.Got n) room
+after_take link takes.Quiet room = after_played link takes.Quiet room
+after_take link takes.Ended room = after_played link takes.Ended room
 
 -- what a give of so many bytes answers, if memory suffices
 abbrev pub give_of : LinkState → ℕ → Give

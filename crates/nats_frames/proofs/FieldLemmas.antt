@@ -8,8 +8,8 @@ use Rattle.std.proofs.lemmas.List.Sums.{prefix_len-le-length}
 use Rattle.std.proofs.lemmas.List.Folds.{length-prefix_len}
 use Rattle.std.proofs.lemmas.List.Elements.{All-nil, All-cons}
 use Rattle.std.proofs.lemmas.List.Splits.{slice_split-cons_yes, slice_split_none, slice_split_at}
-use Rattle.js_base.specs.Bytes.{Bytes, is_empty}
-use Rattle.nats_frames.specs.Grammar.{is_blank, is_solid}
+use Rattle.js_base.specs.Bytes.{Bytes, is_empty, is_blank}
+use Rattle.nats_frames.specs.Grammar.{is_solid}
 use Rattle.nats_frames.specs.Reading.{fields_of}
 
 -- nothing, or first an element that does not pass

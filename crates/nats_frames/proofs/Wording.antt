@@ -5,14 +5,14 @@ use Rattle.std.specs.List.{prefix_len}
 use Rattle.std.proofs.lemmas.Bool.{and_parts, le-leb, leb-true}
 use Rattle.std.proofs.lemmas.List.{take-append-drop, drop_at, length-append}
 use Rattle.std.proofs.lemmas.List.Folds.{length-prefix_len}
-use Rattle.js_base.specs.Bytes.{Bytes}
+use Rattle.js_base.specs.Bytes.{Bytes, is_blank}
 use Rattle.js_base.specs.Decimal.{number_of}
 use Rattle.js_base.specs.declared.decimal.DecFault.{DecFault}
 use Rattle.nats_frames.specs.declared.fault.Fault.{Fault}
 use Rattle.nats_frames.specs.declared.fault.Fault.TheVariants.{BadArgs}
 use Rattle.nats_frames.specs.declared.verb.Verb.{Verb}
 use Rattle.nats_frames.specs.declared.verb.Verb.TheVariants.{Connect, Pub, HPub, Sub, Unsub, Ping, Pong}
-use Rattle.nats_frames.specs.Grammar.{is_blank, is_solid, IsText, IsCall, IsNumber, listed, IsConnect, Says, Line, ConnectLine, PubLine, HPubLine, SubLine, UnsubLine, PingLine, PongLine}
+use Rattle.nats_frames.specs.Grammar.{is_solid, IsText, IsCall, IsNumber, listed, IsConnect, Says, Line, ConnectLine, PubLine, HPubLine, SubLine, UnsubLine, PingLine, PongLine}
 use Rattle.nats_frames.specs.Reading.{fields_of, behind_blanks, connect_of, numbered, sized, headed, both_sized, limited, words_at, args_at, verb_of, pub_of, hpub_of, sub_of, unsub_of, bare_of}
 use Rattle.nats_frames.proofs.FieldLemmas.{Stops, cut, solid_is}
 use Rattle.nats_frames.proofs.Spelling.{blank_front, some_blank, fields_apart, fields_read, fields_spelled}

@@ -1,9 +1,9 @@
 -- How operations are spelled, by the NATS client protocol: a line of a name and fields, and after the line of a publish its payload and
 -- CR LF.
-use Rattle.std.specs.Prelude.{ℕ, ◌≡◌, ◌≢◌, ◌+◌, ◌<◌, ◌≤◌, Bool, ◌==◌, ◌||◌, not, IsTrue, ◌⊎◌, List, [], ◌∷◌, ◌++◌, length, slice_index, codes, Option, None, Some, IfSome, Ok}
+use Rattle.std.specs.Prelude.{ℕ, ◌≡◌, ◌≢◌, ◌+◌, ◌<◌, ◌≤◌, Bool, not, IsTrue, ◌⊎◌, List, [], ◌∷◌, ◌++◌, length, slice_index, codes, Option, None, Some, IfSome, Ok}
 use Rattle.std.specs.List.{list_all, list_any}
 use Rattle.std.specs.Str.{str_eq_ignore_ascii_case}
-use Rattle.js_base.specs.Bytes.{Bytes, crlf}
+use Rattle.js_base.specs.Bytes.{Bytes, crlf, is_blank}
 use Rattle.js_base.specs.Decimal.{number_of}
 use Rattle.nats_frames.specs.declared.op.Op.{Op}
 use Rattle.nats_frames.specs.declared.op.Op.TheVariants.{Connect, Pub, HPub, Sub, Unsub, Ping, Pong}
@@ -34,10 +34,6 @@ pub record IsLine (words line : Bytes) : Type 0 where
   pub short : length line ≤ 4098
 
 -- ---- its text
-
--- a space or a tab
-abbrev pub is_blank : ℕ → Bool
-is_blank byte = byte == 32 || byte == 9
 
 abbrev pub is_solid : ℕ → Bool
 is_solid byte = not (is_blank byte)

@@ -2,7 +2,7 @@
 use Rattle.std.specs.Prelude.{ℕ, nat_lt, nat_le, ◌-◌, ◌+◌, Bool, not, ◌==◌, ◌&&◌, if◌then◌else◌, List, [], ◌∷◌, length, take, drop, filter, codes, Option, None, Some, option_map, Result, Ok, Err}
 use Rattle.std.specs.List.{prefix_len, slice_split}
 use Rattle.std.specs.Str.{str_eq_ignore_ascii_case}
-use Rattle.js_base.specs.Bytes.{Bytes, same, is_empty}
+use Rattle.js_base.specs.Bytes.{Bytes, same, is_empty, is_blank}
 use Rattle.js_base.specs.Decimal.{number_of}
 use Rattle.js_base.specs.declared.decimal.DecFault.{DecFault}
 use Rattle.nats_frames.specs.declared.op.Op.{Op}
@@ -11,7 +11,7 @@ use Rattle.nats_frames.specs.declared.fault.Fault.{Fault}
 use Rattle.nats_frames.specs.declared.fault.Fault.TheVariants.{UnknownOp, LineTooLong, BadArgs, PayloadTooBig, BadEnd}
 use Rattle.nats_frames.specs.declared.verb.Verb.{Verb}
 use Rattle.nats_frames.specs.declared.verb.Verb.TheVariants.{Connect, Pub, HPub, Sub, Unsub, Ping, Pong}
-use Rattle.nats_frames.specs.Grammar.{is_blank, is_solid, Line, ConnectLine, PubLine, HPubLine, SubLine, UnsubLine, PingLine, PongLine}
+use Rattle.nats_frames.specs.Grammar.{is_solid, Line, ConnectLine, PubLine, HPubLine, SubLine, UnsubLine, PingLine, PongLine}
 
 -- what stands before and after the first such byte
 abbrev pub split_at : ℕ → Bytes → Option (Bytes × Bytes)

@@ -6,7 +6,7 @@ ghost use Rattle.nats_frames.specs.Faults.{told, reach};
 use crate::op::FrameFault;
 
 /// Why bytes begin with no operation, however they go on.
-#[derive(Clone, Copy, Debug, PartialEq, Eq)]
+#[derive(Clone, Copy)]
 pub(crate) enum Fault {
     UnknownOp,
     LineTooLong,

@@ -2,9 +2,12 @@
 
 ghost use Rattle.std.specs.Prelude.{◌≡◌, ◌+◌, ◌<◌, ◌≤◌, ◌^◌, [], ◌∷◌, length, drop, position, IfSome, IfNone};
 ghost use Rattle.std.specs.List.{prefix_len};
-ghost use Rattle.nats_frames.specs.Grammar.{is_blank, is_solid};
+ghost use Rattle.js_base.specs.Bytes.{is_blank};
+ghost use Rattle.nats_frames.specs.Grammar.{is_solid};
 ghost use Rattle.nats_frames.specs.Reading.{fields_of};
 ghost use Rattle.nats_frames.specs.Fields.{span, part, IsWithin, IsNextField, AreFields};
+
+use js_base::is_blank;
 
 /// The bytes from `start` up to `end`.
 #[derive(Clone, Copy, Debug)]
@@ -34,14 +37,7 @@ pub(crate) fn part(bytes: &[u8], span: Span) -> &[u8]
     &bytes[span.start..span.end]
 }
 
-/// A space or a tab.
-pub(crate) fn is_blank(byte: u8) -> bool
-    ensures { result ≡ is_blank byte }
-{
-    byte == b' ' || byte == b'\t'
-}
-
-/// Any other byte.
+/// Whether the byte is no blank, so that it belongs to a field.
 fn is_solid(byte: u8) -> bool
     ensures { result ≡ is_solid byte }
 {
@@ -96,7 +92,7 @@ fn next_field(line: &[u8], from: usize) -> Option<Span>
 }
 
 /// The fields of an operation. None has more than four.
-#[derive(Clone, Copy, Debug)]
+#[derive(Clone, Copy)]
 pub(crate) enum Fields {
     None,
     One(Span),

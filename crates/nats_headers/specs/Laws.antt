@@ -1,12 +1,12 @@
 -- The laws of reading, over all bytes.
 use Rattle.std.specs.Prelude.{ℕ, ◌≡◌, ◌<◌, ◌^◌, ◌↔◌, ◌&&◌, nat_lt, true, false, Bool, IsTrue, if◌then◌else◌, List, [], ◌∷◌, ◌++◌, map, Option, Some, None, decimal}
 use Rattle.std.specs.List.{list_all}
-use Rattle.js_base.specs.Bytes.{Bytes, same}
+use Rattle.js_base.specs.Bytes.{Bytes, is_blank, same}
 use Rattle.js_base.specs.Headers.{is_block}
 use Rattle.js_base.specs.Status.{status, status_text}
 use Rattle.nats_headers.specs.declared.fault.HeaderFault.{HeaderFault}
 use Rattle.nats_headers.specs.Grammar.{Field, is_text, is_name, Spells, IsBlock, HasFault}
-use Rattle.nats_headers.specs.Reading.{block_fault, header, trimmed, is_blank}
+use Rattle.nats_headers.specs.Reading.{block_fault, header, trimmed}
 
 -- what is read without a fault is a block, and what is spelled as a block is read so
 abbrev pub LawBlock : Type 0

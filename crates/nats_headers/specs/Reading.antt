@@ -1,6 +1,6 @@
 -- What is read of the bytes of a block: functions, which decide for all bytes what the grammar says by relations.
-use Rattle.std.specs.Prelude.{ℕ, ◌≡◌, ◌+◌, ◌-◌, ◌==◌, ◌&&◌, Bool, if◌then◌else◌, List, [], ◌∷◌, ◌++◌, length, take, drop, reverse, Option, Some, None, unwrap_or, position, Result, Ok, Err, IsOk}
-use Rattle.js_base.specs.Bytes.{Bytes, is_empty, same, has}
+use Rattle.std.specs.Prelude.{ℕ, ◌≡◌, ◌+◌, ◌-◌, ◌==◌, ◌&&◌, Bool, if◌then◌else◌, List, [], ◌∷◌, length, take, drop, reverse, Option, Some, None, unwrap_or, position, Result, Ok, Err, IsOk}
+use Rattle.js_base.specs.Bytes.{Bytes, is_blank, is_empty, same}
 use Rattle.js_base.specs.Headers.{block_lines, is_version_line, is_field_line}
 use Rattle.nats_headers.specs.Grammar.{IsBlock, HasFault}
 use Rattle.nats_headers.specs.declared.fault.HeaderFault.{HeaderFault}
@@ -51,10 +51,6 @@ Answers (Err NoMemory) block = IsBlock block
 Answers (Err fault) block = HasFault fault block
 
 -- ---- values
-
--- a space or a tab
-abbrev pub is_blank : ℕ → Bool
-is_blank byte = has (32 ∷ 9 ∷ []) byte
 
 -- the bytes from the first on that is no blank
 abbrev pub past_blanks : Bytes → Bytes

@@ -3,7 +3,9 @@
 ghost use Rattle.std.specs.Prelude.{◌≡◌, ◌+◌, ◌==◌, [], ◌∷◌, length, position, slice_index, MatchOption, IfSome};
 ghost use Rattle.js_base.specs.Bytes.{has};
 ghost use Rattle.js_base.specs.Headers.{block_lines, ends_with_cr, is_version_line, is_field_line};
-ghost use Rattle.nats_headers.specs.Reading.{is_blank, past_blanks, up_to_blanks, colon_at, is_named, value_of};
+ghost use Rattle.nats_headers.specs.Reading.{past_blanks, up_to_blanks, colon_at, is_named, value_of};
+
+use js_base::is_blank;
 
 /// The place of the first such byte.
 pub(crate) fn place_of(byte: u8, text: &[u8]) -> Option<usize>
@@ -69,13 +71,6 @@ pub(crate) fn is_named(name: &[u8], line: &[u8]) -> bool
     ensures value { result ≡ is_named name.now line.now }
 {
     is_field_line(line) && &line[..colon_at(line)] == name
-}
-
-/// Whether the byte is a space or a tab.
-fn is_blank(byte: u8) -> bool
-    ensures value { result ≡ is_blank byte }
-{
-    b" \t".contains(&byte)
 }
 
 /// The bytes from the first one on that is no blank.

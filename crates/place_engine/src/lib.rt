@@ -12,6 +12,3 @@ mod stored;
 pub use faults::{Left, OpenFault, PlaceFault};
 pub use memory_place::MemoryPlace;
 pub use place::Place;
-
-#[cfg(test)]
-mod tests;

@@ -9,7 +9,7 @@ ghost use Rattle.place_engine.specs.declared.faults.OpenFault.TheVariants as ope
 ghost use Rattle.place_engine.specs.InMemory.{HasCause, holds_nothing, seen_of};
 ghost use Rattle.place_engine.specs.Places.{IsBuilt};
 ghost use Rattle.place_engine.specs.Provisional.{LeavesNoneUnsaid};
-ghost use Rattle.place_engine.specs.Shown.{ShowsOf};
+ghost use Rattle.place_engine.specs.Shown.{IsShown};
 ghost use Rattle.place_engine.specs.Standing.{StandsAt};
 ghost use Rattle.place_engine.specs.Stepping.{Steps};
 
@@ -89,7 +89,7 @@ impl<V> Place for MemoryPlace<V> {
         requires built { IsBuilt event.now.what }
         requires proper { IsTrue (is_proper event.now) }
         ensures steps { Steps holds_nothing result event.now now (seen_of self.old.state) (seen_of self.new.state) outs.old outs.new }
-        ensures shown { IfOk result (ShowsOf event.now.what) }
+        ensures shown { IfOk result IsShown }
         ensures told { IfErr result LeavesNoneUnsaid }
         ensures vol { self.new.vol ≡ self.old.vol }
         ensures cause { IfErr result (HasCause self.old.state event.now) }

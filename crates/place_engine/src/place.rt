@@ -1,6 +1,6 @@
 //! A place for one stream, in memory or on a volume.
 
-ghost use Rattle.std.specs.Prelude.{◌≡◌, ◌≤◌, ◌<◌, ◌^◌, false, IfOk, IfErr, IfSome, IsTrue};
+ghost use Rattle.std.specs.Prelude.{◌≡◌, ◌≤◌, ◌<◌, ◌^◌, false, IfOk, IfErr, IfSome, IsTrue, IsUtf8};
 ghost use Rattle.std.specs.Option.{option_copied};
 ghost use Rattle.js_model.specs.declared.stream.State.{State};
 ghost use Rattle.js_model.specs.Events.{kept_incarnation};
@@ -8,7 +8,7 @@ ghost use Rattle.js_model.specs.Proper.{is_proper};
 ghost use Rattle.js_model.specs.Ready.{some_ready};
 ghost use Rattle.place_engine.specs.Places.{IsBuilt, name_in, subjects_in};
 ghost use Rattle.place_engine.specs.Provisional.{IsSilent, LeavesNoneUnsaid};
-ghost use Rattle.place_engine.specs.Shown.{ShowsOf};
+ghost use Rattle.place_engine.specs.Shown.{IsShown};
 ghost use Rattle.place_engine.specs.Stepping.{Image, IsKept, Seen, Steps};
 
 use crate::faults::PlaceFault;
@@ -39,6 +39,7 @@ pub trait Place {
     /// The name of the stream, if there is one. The incarnation of a stream is below 2^62.
     fn name(&self) -> Option<&Blob>
         ensures value { option_copied result ≡ name_in (seen self.now).place.state }
+        ensures utf8 { IfSome result (λ name. IsUtf8 name.now) }
         ensures number { IfSome result (λ _. kept_incarnation (seen self.now).place.state < 2 ^ 62) };
 
     /// The subjects of its configuration, none if there is no stream.
@@ -62,15 +63,15 @@ pub trait Place {
     /// said at [`PlaceFault`]; if a place is stopped, the event's incarnation is not looked at.
     ///
     /// Not every event can be made yet: streams have the default limits and no consumers, and publishes no headers that ask something of the
-    /// stream. What a reply shows can be printed: the configuration of an information is valid, and the text of a refusal is UTF-8, but for one
-    /// of a publish; and the numbers of an information are so small that those of 32 streams can be added.
+    /// stream. What a reply shows can be printed: the configuration of an information is valid, and the text of a refusal is UTF-8; and the
+    /// numbers of an information are so small that those of 32 streams can be added.
     ///
     /// As long as every place stands in memory, no event is made whose answer is left unsaid.
     fn step(&mut self, event: &Event, now: Moment, outs: &mut Outs) -> Result<Reply, PlaceFault>
         requires built { IsBuilt event.now.what }
         requires proper { IsTrue (is_proper event.now) }
         ensures steps { Steps holds result event.now now (seen self.old) (seen self.new) outs.old outs.new }
-        ensures shown { IfOk result (ShowsOf event.now.what) }
+        ensures shown { IfOk result IsShown }
         ensures told { IfErr result LeavesNoneUnsaid }
         ensures vol { keeps_vol (vol self.old) (vol self.new) };
 

@@ -1,6 +1,6 @@
 //! A stream whose limits are the defaults, without consumers and message ids, in memory.
 
-ghost use Rattle.std.specs.Prelude.{◌≡◌, ◌+◌, ◌^◌, ◌<◌, ℕ, false, Option, max, IfOk, OnErr, IsTrue, length};
+ghost use Rattle.std.specs.Prelude.{◌≡◌, ◌+◌, ◌^◌, ◌<◌, ℕ, false, Option, max, IfOk, OnErr, IsTrue, IsUtf8, length};
 ghost use Rattle.std.specs.List.{list_any};
 ghost use Rattle.std.specs.Option.{option_copied};
 ghost use Rattle.js_base.specs.Bytes.{Bytes};
@@ -14,7 +14,7 @@ ghost use Rattle.js_model.specs.Counts.{stream_info};
 ghost use Rattle.js_model.specs.Proper.{is_proper_publish};
 ghost use Rattle.js_model.specs.Ready.{is_ready};
 ghost use Rattle.js_model.specs.Streams.{first_seq};
-ghost use Rattle.place_engine.specs.PlainConfigs.{IsPlainConfig};
+ghost use Rattle.js_model.specs.Served.{IsServed};
 ghost use Rattle.place_engine.specs.PlainPublishes.{IsPlainPublish};
 ghost use Rattle.place_engine.specs.Answers.{StreamAnswers};
 ghost use Rattle.place_engine.specs.Provisional.{IsSilent};
@@ -63,7 +63,7 @@ impl PlainStream {
         config: &StreamConfig,
         now: Moment,
     ) -> Result<PlainStream, NoMemory>
-        requires plain { IsPlainConfig config.now }
+        requires plain { IsServed config.now }
         requires valid { IsTrue (is_stream_config config.now) }
         requires incarnation { incarnation < 2 ^ 62 }
         ensures made { IfOk result (λ stream. stream ≡ empty_stream incarnation config.now now) }
@@ -90,6 +90,7 @@ impl PlainStream {
     /// The name of the stream.
     pub fn name(&self) -> &Blob
         ensures value { result.now ≡ self.now.config.name }
+        ensures utf8 { IsUtf8 result.now }
     {
         &self.config.name
     }
@@ -145,7 +146,7 @@ impl PlainStream {
 
     /// Replaces the configuration. The messages stay.
     pub fn change(&mut self, config: &StreamConfig, now: Moment) -> Result<Reply, NoMemory>
-        requires plain { IsPlainConfig config.now }
+        requires plain { IsServed config.now }
         requires valid { IsTrue (is_stream_config config.now) }
         ensures answers { (subject : Option Bytes) → IfOk result (λ reply. StreamAnswers self.old (whats.Change subject config.now) now reply (Live self.new)) }
         ensures shown { IfOk result IsShown }
@@ -172,6 +173,7 @@ impl PlainStream {
         requires plain { IsPlainPublish publish.now }
         requires proper { IsTrue (is_proper_publish publish.now) }
         ensures answers { IfOk result (λ reply. StreamAnswers self.old (whats.Publish publish.now) now reply (Live self.new)) }
+        ensures shown { IfOk result IsShown }
         ensures err { OnErr result (self.new ≡ self.old) }
     {
         let moment = later(self.moment, now);

@@ -1,6 +1,6 @@
 //! What a place holds, in memory.
 
-ghost use Rattle.std.specs.Prelude.{◌≡◌, ◌≢◌, ◌≤◌, ◌<◌, ◌^◌, ℕ, false, IfOk, IfSome, OnOk, OnErr, Option, IsTrue};
+ghost use Rattle.std.specs.Prelude.{◌≡◌, ◌≢◌, ◌≤◌, ◌<◌, ◌^◌, ℕ, false, IfOk, IfSome, OnOk, OnErr, Option, IsTrue, IsUtf8};
 ghost use Rattle.std.specs.Option.{option_copied};
 ghost use Rattle.js_base.specs.Bytes.{Bytes};
 ghost use Rattle.js_model.specs.declared.stream.State.TheVariants.{Vacant};
@@ -10,10 +10,10 @@ ghost use Rattle.js_model.specs.Proper.{is_proper_what, is_proper_publish};
 ghost use Rattle.js_model.specs.Ready.{some_ready};
 ghost use Rattle.place_engine.specs.Answers.{PlaceAnswers};
 ghost use Rattle.place_engine.specs.Places.{IsBuilt, IsVacant, name_in, subjects_in};
-ghost use Rattle.place_engine.specs.PlainConfigs.{IsPlainConfig};
+ghost use Rattle.js_model.specs.Served.{IsServed};
 ghost use Rattle.place_engine.specs.PlainPublishes.{IsPlainPublish};
 ghost use Rattle.place_engine.specs.Provisional.{IsSilent};
-ghost use Rattle.place_engine.specs.Shown.{IsShown, ShowsOf};
+ghost use Rattle.place_engine.specs.Shown.{IsShown};
 ghost use Rattle.place_engine.specs.Standing.{StandsAt};
 
 use crate::plain_stream::{NUMBERS_END, PlainStream};
@@ -73,6 +73,7 @@ impl Slot {
     /// The name of the stream, if there is one.
     pub fn name(&self) -> Option<&Blob>
         ensures value { option_copied result ≡ name_in self.now }
+        ensures utf8 { IfSome result (λ name. IsUtf8 name.now) }
         ensures number { IfSome result (λ _. kept_incarnation self.now < 2 ^ 62) }
     {
         match &self.held {
@@ -113,7 +114,7 @@ impl Slot {
         requires built { IsBuilt what.now }
         requires proper { IsTrue (is_proper_what what.now) }
         ensures answers { IfOk result (λ reply. PlaceAnswers self.old what.now now reply self.new) }
-        ensures shown { IfOk result (ShowsOf what.now) }
+        ensures shown { IfOk result IsShown }
         ensures stands { OnOk result (what.now ≡ What.Tick → StandsAt self.new now) }
         ensures takes_none { OnErr result (what.now ≢ What.Tick) }
         ensures err { OnErr result (self.new ≡ self.old) }
@@ -134,7 +135,7 @@ impl Slot {
 
     /// Makes the stream.
     fn make(&mut self, config: &StreamConfig, now: Moment) -> Result<Reply, NoMemory>
-        requires plain { IsPlainConfig config.now }
+        requires plain { IsServed config.now }
         requires valid { IsTrue (is_stream_config config.now) }
         ensures answers { (subject : Option Bytes) → IfOk result (λ reply. PlaceAnswers self.old (What.Make subject config.now) now reply self.new) }
         ensures shown { IfOk result IsShown }
@@ -149,7 +150,7 @@ impl Slot {
     /// Makes a stream if there is none.
     fn make_new(&mut self, config: &StreamConfig, now: Moment) -> Result<Reply, NoMemory>
         requires vacant { IsVacant self.old }
-        requires plain { IsPlainConfig config.now }
+        requires plain { IsServed config.now }
         requires valid { IsTrue (is_stream_config config.now) }
         ensures answers { (subject : Option Bytes) → IfOk result (λ reply. PlaceAnswers self.old (What.Make subject config.now) now reply self.new) }
         ensures shown { IfOk result IsShown }
@@ -167,7 +168,7 @@ impl Slot {
 
     /// Replaces the configuration of the stream.
     fn change(&mut self, config: &StreamConfig, now: Moment) -> Result<Reply, NoMemory>
-        requires plain { IsPlainConfig config.now }
+        requires plain { IsServed config.now }
         requires valid { IsTrue (is_stream_config config.now) }
         ensures answers { (subject : Option Bytes) → IfOk result (λ reply. PlaceAnswers self.old (What.Change subject config.now) now reply self.new) }
         ensures shown { IfOk result IsShown }
@@ -200,6 +201,7 @@ impl Slot {
         requires plain { IsPlainPublish publish.now }
         requires proper { IsTrue (is_proper_publish publish.now) }
         ensures answers { IfOk result (λ reply. PlaceAnswers self.old (What.Publish publish.now) now reply self.new) }
+        ensures shown { IfOk result IsShown }
         ensures err { OnErr result (self.new ≡ self.old) }
     {
         match &mut self.held {

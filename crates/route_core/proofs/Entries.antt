@@ -48,10 +48,6 @@ module _ {X : Type 0} where
   abbrev pub AreBelow : ℕ → List (ℕ × X) → Type 0
   AreBelow id es = AllByRecursion (λ e. e.0 < id) es
 
-  pub below_more : (id : ℕ) (es : List (ℕ × X)) → AreBelow id es → AreBelow (id + 1) es
-  below_more id [] h = tt
-  below_more id (e ∷ es) h = (omega (arith, h.0), below_more id es h.1)
-
   pub below_added : (id : ℕ) (x : X) (es : List (ℕ × X)) → AreBelow id es → AreBelow (id + 1) (es ++ (id, x) ∷ [])
   below_added id x [] h = (omega arith, tt)
   below_added id x (e ∷ es) h = (omega (arith, h.0), below_added id x es h.1)

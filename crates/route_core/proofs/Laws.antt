@@ -1,18 +1,16 @@
 -- What the calls of the definition leave open, and how many frames they leave waiting.
-use Rattle.std.proofs.Common.{◌≡◌, inl, inr, ℕ, ◌+◌, ◌<◌, ◌==◌, ◌||◌, ◌^◌, Bool, true, false, cond, not, nat_lt, List, [], ◌∷◌, ◌++◌, Option, Some, None, Result, Ok, Err, length, map, filter, refl, sym, ap, ◌∙◌, arith, length-drop, eq-eqb}
+use Rattle.std.proofs.Common.{◌≡◌, inl, inr, ℕ, ◌+◌, ◌<◌, ◌==◌, ◌||◌, Bool, true, false, cond, not, nat_lt, List, [], ◌∷◌, ◌++◌, Option, Some, None, Result, Ok, Err, length, map, filter, refl, sym, ap, ◌∙◌, arith, length-drop, eq-eqb}
 use Rattle.std.specs.List.{list_any, find, fold}
-use Rattle.std.proofs.lemmas.List.Folds.{list_any-append}
 use Rattle.std.proofs.lemmas.Bool.{eqb-true}
 use Rattle.std.proofs.lemmas.Bool.Decides.{nat_tests}
-use Rattle.js_base.specs.Bytes.{Bytes}
 use Rattle.js_base.specs.declared.out.Out.{Out}
 use Rattle.js_base.specs.declared.frame.Frame.{Frame}
 use Rattle.js_model.specs.Router as router
-use Rattle.js_model.specs.Router.{Router, Session, Subscription, Waiting, Queue, Marked, RouteCall, RouteTold, Routed, IsRoute, route, telling, is_session, is_open, session_of, opened, closed, configured, with_options, unsubscribed, subscribing, with_subscription, new_subscription, is_in_use, is_full, new_session, publishing, takers, routed, handed, handed_to, emptied, collected_from, without_collected, left_over, collected, collect_told, frames_told, if_open, if_publisher_open}
+use Rattle.js_model.specs.Router.{Router, Session, Subscription, Waiting, Queue, Marked, RouteCall, RouteTold, Routed, IsRoute, route, telling, is_session, is_open, session_of, closed, configured, with_options, new_session, publishing, takers, routed, handed, handed_to, emptied, collected_from, without_collected, left_over, collected, collect_told, frames_told, if_open, if_publisher_open}
 use Rattle.js_model.specs.declared.desk.Collected.{Collected}
 use Rattle.js_model.specs.declared.desk.Collected.TheVariants as answers
 use Rattle.js_model.specs.declared.route_fault.RouteFault.{RouteFault}
-use Rattle.js_model.specs.Routing.{collected_told, frame_count, waiting_count, waiting_for, Opens, StaysOpen, KeepsOpen, ClosesOne, LeavesFewer}
+use Rattle.js_model.specs.Routing.{collected_told, frame_count, waiting_count, waiting_for, Opens, KeepsOpen, ClosesOne, LeavesFewer}
 use Rattle.route_core.proofs.Numbers.{KeepsNumber, number_stays}
 use Rattle.route_core.proofs.Handing.{handed_number}
 
@@ -24,19 +22,6 @@ any_mapped f keeps n (s ∷ ss) = ap (λ k. (k == n) || list_any (is_session n) 
 
 configured_keeps : (r : Router) (n : ℕ) (echo headers : Bool) → KeepsOpen r (configured r n echo headers)
 configured_keeps r n echo headers m = any_mapped (with_options n echo headers) (number_stays n (λ s. record s { echo = echo; headers = headers }) (λ s. refl)) m r.sessions
-
-subscribing_keeps : (r : Router) (n : ℕ) (pattern : Bytes) (queue : Option Bytes) (sid : Bytes) → KeepsOpen r (subscribing r n pattern queue sid).router
-subscribing_keeps r n pattern queue sid m = go (is_in_use r n sid) (is_full r n)
-  where
-    go : (used full : Bool)
-        → is_open (cond used (telling router.Done r) (cond full (telling router.TooManySubs r) (telling router.Done (with_subscription r (new_subscription n pattern queue sid))))).router m ≡ is_open r m
-    go true full = refl
-    go false true = refl
-    go false false = refl
-
-unsubscribed_keeps : (r : Router) (n : ℕ) (sid : Bytes) (max : Option ℕ) → KeepsOpen r (unsubscribed r n sid max)
-unsubscribed_keeps r n sid None m = refl
-unsubscribed_keeps r n sid (Some max) m = refl
 
 folded_keeps : (out : Out) (r : Router) (subs : List Subscription) → KeepsOpen r (fold (handed out) r subs)
 folded_keeps out r [] m = refl
@@ -65,16 +50,6 @@ pub options_keep : (r new : Router) (n : ℕ) (echo headers : Bool) (told : Rout
 unfolding route
 options_keep r new n echo headers told = keeps_by r new (router.Options n echo headers) told (λ chosen. configured_keeps r n echo headers)
 
-pub sub_keeps : (r new : Router) (n : ℕ) (pattern : Bytes) (queue : Option Bytes) (sid : Bytes) (told : RouteTold) → IsRoute r (router.Sub n pattern queue sid) told new → KeepsOpen r new
-unfolding route
-sub_keeps r new n pattern queue sid told =
-    keeps_by r new (router.Sub n pattern queue sid) told (λ chosen. if_open_keeps r n (subscribing r n pattern queue sid) (subscribing_keeps r n pattern queue sid))
-
-pub unsub_keeps : (r new : Router) (n : ℕ) (sid : Bytes) (max : Option ℕ) (told : RouteTold) → IsRoute r (router.Unsub n sid max) told new → KeepsOpen r new
-unfolding route
-unsub_keeps r new n sid max told =
-    keeps_by r new (router.Unsub n sid max) told (λ chosen. if_open_keeps r n (telling router.Done (unsubscribed r n sid max)) (unsubscribed_keeps r n sid max))
-
 pub publish_keeps : (r new : Router) (out : Out) (from : Option ℕ) (told : RouteTold) → IsRoute r (router.Publish out from) told new → KeepsOpen r new
 unfolding route
 publish_keeps r new out from told =
@@ -87,18 +62,6 @@ collect_keeps r new n max told =
     keeps_by r new (router.Collect n max) told (λ chosen. if_open_keeps r n (telling (collect_told max r (session_of r n)) (emptied r n max)) (emptied_keeps r n max))
 
 -- ---- opening and closing
-
-opened_stays : (r : Router) → StaysOpen r (opened r)
-opened_stays r n h = list_any-append (is_session n) r.sessions (new_session (r.latest + 1) ∷ []) ∙ ap (λ b. b || list_any (is_session n) (new_session (r.latest + 1) ∷ [])) h
-
-open_stays_at : (r : Router) (b : Bool) → StaysOpen r (cond b (telling router.Worn r) (telling (router.Opened (r.latest + 1)) (opened r))).router
-open_stays_at r true = λ n h. h
-open_stays_at r false = opened_stays r
-
-pub open_stays : (r new : Router) (told : RouteTold) → IsRoute r router.Open told new → StaysOpen r new
-unfolding route
-open_stays r new told (inl e) n h = ap (λ (x : Routed). is_open x.router n) (sym e.routed) ∙ open_stays_at r ((r.latest + 1) == 2 ^ 62) n h
-open_stays r new told (inr e) n h = ap (λ x. is_open x n) e.same ∙ h
 
 last_is_open : (n : ℕ) (s : Session) → s.number ≡ n → (sessions : List Session) → list_any (is_session n) (sessions ++ s ∷ []) ≡ true
 last_is_open n s h [] = ap (λ b. b || false) (eq-eqb s.number n h)

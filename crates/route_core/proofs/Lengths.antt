@@ -44,10 +44,6 @@ few_frames (f ∷ fs) = omega (arith, some_bytes f, few_frames fs, together-cons
 
 -- ---- one more frame waits
 
-pub put_marked : (mark : Option ℕ) (fs : List Frame) (f : Frame) → is_some mark ≡ true → waiting_of mark fs ≡ with_frame f (waiting_of mark fs)
-put_marked None fs f h = absurd (cc (h))
-put_marked (Some length) fs f h = refl
-
 abbrev waits : ℕ → List Frame → Waiting
 waits n fs = cond (nat_lt most_waiting n) (Marked n) (Queue fs)
 
@@ -71,9 +67,6 @@ module _ (fs : List Frame) (f : Frame) (len more : ℕ) (is : len ≡ bytes_toge
   pub put_within : (mark : Option ℕ) → is_some mark ≡ false → len + more ≤ most_waiting → waiting_of mark (fs ++ f ∷ []) ≡ with_frame f (waiting_of mark fs)
   put_within (Some length) h k = absurd (cc (h))
   put_within None h k = ap (λ b. cond b (Marked (len + more)) (Queue (fs ++ f ∷ []))) (sym (fits k)) ∙ put_at
-
-  pub within_push : len + more ≤ most_waiting → IsWithin (fs ++ f ∷ []) (len + more)
-  within_push h = record { length_is = sym together; within = h }
 
 -- ---- how many frames a collect takes
 
@@ -106,9 +99,6 @@ fitting true room fs = front_within room fs
 pub record Reaching (max : ℕ) (fs : List Frame) (count room : ℕ) : Type 0 where
   pub within : count ≤ length fs
   pub all : count + length (fitting (nat_lt 0 count) room (drop count fs)) ≡ length (collected max fs)
-
-pub reaching_none : (max : ℕ) (fs : List Frame) → Reaching max fs 0 max
-reaching_none max fs = record { within = omega arith; all = omega arith }
 
 nothing_fits : (b : Bool) (room : ℕ) → fitting b room [] ≡ []
 nothing_fits false room = refl

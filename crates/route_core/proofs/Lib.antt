@@ -1,6 +1,5 @@
 pub mod Places
 pub mod Lengths
-pub mod Passing
 pub mod Numbers
 pub mod Takers
 pub mod Handing

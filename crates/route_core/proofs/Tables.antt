@@ -423,9 +423,6 @@ module _ (es : Numbered) (names names' : Names) (index : List Sub) (next : ℕ) 
       one true = refl
       one false = refl
 
-  pub list_more : subs_of more ≡ subs_of es ++ sub ∷ []
-  list_more = map-append (λ e. e.1) es ((next, sub) ∷ [])
-
   pub holds_more : (es' : Numbered) (index' : List Sub) → es' ≡ more → IsStrictlySortedBy nat_cmp (keys_of es') → index' ≡ map indexed es' → Holds es' names' index' (next + 1)
   holds_more es' index' left rising patterns =
       subst (λ xs. Holds xs names' index' (next + 1)) (sym left) (record {

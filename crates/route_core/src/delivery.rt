@@ -10,7 +10,7 @@ use js_base::{Blob, NoMemory, Out};
 use std::alloc::Global;
 
 /// A message for a subscription: its session, its identifier, and the frame.
-#[derive(Drop, Debug)]
+#[derive(Drop)]
 pub(crate) struct Delivery {
     pub(crate) session: u64,
     pub(crate) sid: Blob,
@@ -27,10 +27,11 @@ impl Delivery {
     ) -> Result<Delivery, NoMemory>
         ensures value { IfOk result (λ delivery. delivery ≡ delivery_with headers out.now sub.now) }
     {
-        let frame = MeasuredFrame::message(out, sub.sid(), headers)?;
+        let sid = sub.sid().clone()?;
+        let frame = MeasuredFrame::message(out, &sid, headers)?;
         Ok(Delivery {
             session: sub.session(),
-            sid: sub.sid().clone()?,
+            sid,
             frame: Parcel::of(alloc, frame)?,
         })
     }

@@ -17,7 +17,7 @@ use js_base::{NoMemory, Out};
 use std::alloc::Global;
 
 /// A message for a subscription, and the number of the subscription in the table.
-#[derive(Drop, Debug)]
+#[derive(Drop)]
 pub(crate) struct Posted {
     number: u64,
     delivery: Delivery,

@@ -11,7 +11,7 @@ use std::marker::Model;
 const TOO_LONG: u128 = 1 << 63;
 
 /// A frame, and how many bytes it has.
-#[derive(Drop, Debug)]
+#[derive(Drop)]
 pub(crate) struct MeasuredFrame {
     frame: Frame,
     length: u64,
@@ -89,8 +89,8 @@ fn message(out: &Out, sid: &Blob, headers: Blob) -> Result<Frame, NoMemory>
     Ok(Frame::Msg {
         subject: out.subject.clone()?,
         sid: sid.clone()?,
-        reply: share_reply(&out.reply)?,
         headers,
         payload: out.payload.clone()?,
+        reply: share_reply(&out.reply)?,
     })
 }

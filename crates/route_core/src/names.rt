@@ -11,7 +11,7 @@ use std::alloc::Global;
 use std::collections::BTreeMap;
 
 /// The number of the subscription under each identifier of each session.
-#[derive(Drop, Debug)]
+#[derive(Drop)]
 pub(crate) struct Names {
     sessions: BTreeMap<u64, Identifiers>,
 }

@@ -10,7 +10,7 @@ use std::collections::LinkedList;
 use std::marker::Model;
 
 /// A frame in a list of its own, so that a queue takes it without taking memory.
-#[derive(Drop, Debug)]
+#[derive(Drop)]
 pub(crate) struct Parcel {
     frames: LinkedList<MeasuredFrame>,
     length: u64,

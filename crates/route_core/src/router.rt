@@ -22,7 +22,7 @@ use std::marker::Model;
 const END: u64 = 1 << 62;
 
 /// The open sessions with what waits for them, and their subscriptions.
-#[derive(Drop, Debug)]
+#[derive(Drop)]
 pub struct Router {
     /// In the order of their opening.
     sessions: Vec<Session>,

@@ -13,7 +13,7 @@ use std::alloc::Global;
 use std::marker::Model;
 
 /// An open session: what its client asked for, and what waits for it.
-#[derive(Drop, Debug)]
+#[derive(Drop)]
 pub(crate) struct Session {
     number: u64,
     /// Whether it hears its own messages.

@@ -11,7 +11,7 @@ use std::marker::Model;
 use subject_match::matches;
 
 /// A session's subscription to a pattern, under an identifier that is its own in the session.
-#[derive(Drop, Debug)]
+#[derive(Drop)]
 pub(crate) struct Subscription {
     session: u64,
     sid: Blob,

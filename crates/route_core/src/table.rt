@@ -29,14 +29,14 @@ const MOST: usize = 65_536;
 type Numbered = BTreeMap<u64, Subscription>;
 
 /// A subscription that may be sent a message, and its number.
-#[derive(Clone, Copy, Debug)]
+#[derive(Clone, Copy)]
 pub(crate) struct Heard<'a> {
     pub(crate) number: u64,
     pub(crate) sub: &'a Subscription,
 }
 
 /// The subscriptions. A call costs some steps in ordered maps, however many there are.
-#[derive(Drop, Debug)]
+#[derive(Drop)]
 pub(crate) struct Table {
     alloc: Global,
     /// By their numbers, which ascend in the order of their making.

@@ -17,7 +17,7 @@ use std::marker::Model;
 const MOST: u64 = 16_777_216;
 
 /// The frames that wait for a session, in their order; or a mark, if they would have been too long together.
-#[derive(Drop, Debug)]
+#[derive(Drop)]
 pub(crate) struct Waiting {
     /// None is kept of a marked session.
     frames: LinkedList<MeasuredFrame>,

@@ -182,7 +182,7 @@ module _ (input : Bytes) (ops : List Op) (valid : IsValid input ops) (session : 
 
   -- ---- the end
 
-  -- where the link told its end, all operations were carried out
+  -- if the link told its end, all operations were carried out
   all_done : journal.last ≡ talk.Told answers.Ended → ops_in journal.turns ≡ ops
   all_done e =
       let last = ap last_answers e in
@@ -289,7 +289,7 @@ unserved status old new (HasFailed s r a) rose quiet = absurd (rose r)
 unserved status old new (WasQuiet s a) rose quiet = absurd (quiet a)
 unserved status old new (HasStarved s a) rose quiet = inr s
 
--- the status of such an end, where the link did not fail
+-- the status of such an end, if the link did not fail
 statused : (ended : Ended) (status : ℕ) (P : Type 0) → ((ended ≡ ends.Closed) × P) ⊎ talk.IsUnwritten ended → status ≡ status_of ended → (status ≡ 3 → ⊥) → ((status ≡ 0) × P) ⊎ (status ≡ 7)
 statused ended status P (inl h) e sound = inl (e ∙ ap status_of h.0, h.1)
 statused ended status P (inr (inl h)) e sound = absurd (sound (e ∙ ap status_of h))

@@ -27,7 +27,7 @@ use Rattle.server.proofs.Arriving.{told_whole}
 
 -- ---- the status
 
--- it is neither that of words that are none of the forms, nor that of a stream that was refused
+-- it is neither that of a command line of another form, nor that of a stream that was refused
 record IsOther (status : ℕ) : Type 0 where
   words : status ≡ 2 → ⊥
   stream : status ≡ 11 → ⊥
@@ -52,7 +52,7 @@ waits_other world status old new c0 c1 (inl h) = unserved_other status old new h
 waits_other world status old new c0 c1 (inr h) =
     subst IsOther (sym h.given_back.served.status_is) (ended_other h.given_back.served.ended)
 
--- no run of `pipe` ends with the status of other words
+-- no run of `pipe` ends with the status of another command line
 pipe_worded : (count : ℕ) (stream : Option NamedStream) (status : ℕ) (old new : Outside) → PipeEnds count stream status old new → status ≡ 2 → ⊥
 pipe_worded count stream status old new (Starved h) e = omega (arith, h.status_is, e)
 pipe_worded count stream status old new (Refused h) e = omega (arith, h.status_is, e)
@@ -133,21 +133,21 @@ module _ (world : World) (a0 a1 : Option (List Accepted)) (g0 g1 : Option ℕ) (
 pub none_accepted : (a : Option (List Accepted)) → IsAccepted a a []
 none_accepted a = record { quiets = 0; few = omega arith; answered = sym (grown-nil a) }
 
--- ---- the words
+-- ---- the command line
 
 -- the clock was not read
 pub unread : (stream : Option NamedStream) (clock : Option (List ℕ)) → ReadsFor stream clock clock
 unread None clock = refl
 unread (Some stream) clock = inl refl
 
--- nothing was opened, for want of memory
+-- nothing was opened: out of memory
 pub starved : (count : ℕ) (stream : Option NamedStream) (door : DoorTold) (clock : Option (List ℕ)) (old new : Outside) → old.clock ≡ clock → new.clock ≡ clock → new.door ≡ old.door
     → PipeEnds count stream 7 old new
 starved count stream door clock old new e f d =
     Starved (record { status_is = refl; read = subst (λ (c : Option (List ℕ)). ReadsFor stream old.clock c) (e ∙ sym f) (unread stream old.clock); door = d })
 
 module _ (count : ℕ) (read : Option Command) (stream : Option NamedStream) (e : read ≡ Some (Pipe stream)) where
-  -- the status is not that of other words
+  -- the status is not that of another command line
   pub words_kept : (status : ℕ) (old new : Outside) → PipeEnds count stream status old new → (status ≡ 2) ↔ (read ≡ None)
   words_kept status old new h = (λ two. absurd (pipe_worded count stream status old new h two), λ none. cc)
 
@@ -158,7 +158,7 @@ module _ (count : ℕ) (read : Option Command) (stream : Option NamedStream) (e 
 command_starved : (count : ℕ) (command : Command) (outside : Outside) → CommandEnds count command 7 outside outside
 command_starved count (Pipe stream) outside = Starved (record { status_is = refl; read = unread stream outside.clock; door = refl })
 
--- nothing was run for want of memory
+-- nothing was run: out of memory
 pub ends_starved : (count : ℕ) (read : Option Command) (outside : Outside) → IfSome read (λ command. CommandEnds count command 7 outside outside)
 ends_starved count None outside = tt
 ends_starved count (Some command) outside = command_starved count command outside

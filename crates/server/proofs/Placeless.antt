@@ -71,7 +71,7 @@ wrong_none name subjects count = first_of _ _ false (there _ (none_named name (s
 wrong_placeless : (name : Bytes) (subjects : List Bytes) → wrong name subjects 0 ≡ Some no_free_place
 wrong_placeless name subjects = refl
 
--- where there is a place, the first one is taken
+-- if there is a place, the first one is taken
 added_first : (name : Bytes) (subjects : List Bytes) (count : ℕ) (told : catalog.CatTold) (kept : catalog.Catalog)
     → catalog.IsCatalogCall (fresh (suc count)) (catalog.Add name subjects) told kept → (told ≡ catalog.At (Some (record { place = 0; incarnation = 1 }))) ⊎ (told ≡ catalog.NoMemory)
 unfolding catalog.catalog_call
@@ -80,7 +80,7 @@ added_first name subjects count told kept (inl h) =
     (subst (λ (refused : Option ApiError). catalog.added name subjects (fresh (suc count)) refused ≡ catalog.telling told kept) (wrong_none name subjects count) h)))
 added_first name subjects count told kept (inr h) = inr h.0
 
--- where there is none, that is told
+-- if there is none, that is told
 added_none : (name : Bytes) (subjects : List Bytes) (told : catalog.CatTold) (kept : catalog.Catalog)
     → catalog.IsCatalogCall (fresh 0) (catalog.Add name subjects) told kept → (told ≡ catalog.Refused no_free_place) ⊎ (told ≡ catalog.NoMemory)
 unfolding catalog.catalog_call
@@ -142,7 +142,7 @@ module _ (count : ℕ) (config : StreamConfig) (now : ℕ) (e : ApiError) (old n
 making_error : (e f : ApiError) → IsRefused e ≡ IsRefused f → e ≡ f
 making_error e f h = cc
 
--- where there is a place, no making was refused
+-- if there is a place, no making was refused
 goes_on : (count : ℕ) (config : StreamConfig) (now : ℕ) (e : ApiError) (old new : World) (told : catalog.CatTold) (entries : List DeskEntry) → old.places ≡ replicate count (Vacant 0)
     → (told ≡ catalog.At (Some (record { place = 0; incarnation = 1 }))) ⊎ (told ≡ catalog.NoMemory) → GoesOn config now (IsRefused e) told entries → DeskRun old entries new → ⊥
 goes_on count config now e old new (catalog.At (Some at)) entries places (inl is) h run =
@@ -155,7 +155,7 @@ goes_on count config now e old new (catalog.Refused f) entries places (inr is) h
 goes_on count config now e old new catalog.NoMemory entries places is h run = let clash : IsRefused e ≡ NoMemory = h.0 in cc
 goes_on count config now e old new catalog.Done entries places is h run = absurd h
 
--- where there is none, that is why
+-- if there is none, that is why
 goes_nowhere : (config : StreamConfig) (now : ℕ) (e : ApiError) (told : catalog.CatTold) (entries : List DeskEntry)
     → (told ≡ catalog.Refused no_free_place) ⊎ (told ≡ catalog.NoMemory) → GoesOn config now (IsRefused e) told entries → e ≡ no_free_place
 goes_nowhere config now e (catalog.At found) entries (inl is) h = cc

@@ -30,7 +30,7 @@ printed_both first rest puts.Failed w0 w1 w2 f0 f1 f2 e le h cause = inr (
   ),
 )
 
--- as many bytes of its first part as are printed where that failed
+-- as many bytes of its first part as are printed if that failed
 front : (first rest : Bytes) (n : ℕ) → take (min n (length first)) (first ++ rest) ≡ take n first
 front first rest n = take-append-le (min n (length first)) first rest (omega arith) ∙ take_min n first
 

@@ -34,7 +34,7 @@ heard_ops (op ∷ ops) more = ap (λ (xs : List Op). op ∷ xs) (heard_ops ops m
 ticked_ops : (ops : List Op) (acts : List Act) → acts ≡ hearings ops ++ Ticks ∷ [] → ops_of acts ≡ ops
 ticked_ops ops acts e = ap ops_of e ∙ heard_ops ops (Ticks ∷ []) ∙ append-nil ops
 
--- those at the front of some bytes
+-- those in a prefix of some bytes
 pub front_ops : (bytes rest : Bytes) (acts : List Act) (a : AreActs bytes acts rest) → Fronts bytes (ops_of acts) rest
 front_ops bytes rest acts a = subst (λ (ops : List Op). Fronts bytes ops rest) (sym (by a.acts_are)) a.split
   where

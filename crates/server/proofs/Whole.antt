@@ -41,7 +41,7 @@ leaves bytes rest more (op ∷ some) (other ∷ ops) h k =
     let left = leaves h.1 rest more some ops h.4 (subst (λ (b : Bytes). Fronts b ops []) (sym same.2) k.4) in
     record { later = left.later; ops_are = (let op_is = same.0 in let ops_are = left.ops_are in cc); fronts = left.fronts }
 
--- where less than an operation is left, nothing is
+-- if less than an operation is left, nothing is
 pub leaves_none : (rest : Bytes) (later : List Op) → op_at rest ≡ Partial → Fronts rest later [] → later ≡ []
 leaves_none rest [] e h = refl
 leaves_none rest (op ∷ later) e h = let clash : Partial ≡ Whole op h.1 = sym e ∙ ap op_at h.3 ∙ spelled op h.0 h.1 h.2 in absurd (cc)

@@ -1,4 +1,4 @@
--- Laws of the words of the command line.
+-- Laws of the command line.
 use Rattle.std.proofs.Common.{◌≡◌, Bool, true, false, ◌&&◌, not, List, Option, None, Some, Result, Ok, Err, refl, subst, ap}
 use Rattle.std.specs.Prelude.{IsTrue, IfSome, if◌then◌else◌}
 use Rattle.js_base.specs.Bytes.{Bytes}

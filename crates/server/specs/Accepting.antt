@@ -19,7 +19,7 @@ pub record IsQuiet (old new : Option (List Accepted)) : Type 0 where
   pub many : quiets ≡ 1000000
   pub answered : new ≡ grown old (replicate quiets accepted.Quiet)
 
--- the door's first answer that is not quiet, or quiet where a million were
+-- the door's first answer that is not quiet, or quiet if a million were
 abbrev pub Arrives : {L : Type 0} → Accept L → Option (List Accepted) → Option (List Accepted) → Type 0
 Arrives accepts.Quiet old new = IsQuiet old new
 Arrives accept old new = IsAccepted old new (accepted_of accept)

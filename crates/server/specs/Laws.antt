@@ -1,4 +1,4 @@
--- What a run comes to whose client sends whole operations, where nothing stands in the way.
+-- What a run comes to whose client sends whole operations, if nothing stands in the way.
 use Rattle.std.specs.Prelude.{◌≡◌, ℕ, ◌<◌, false, ◌⊎◌, List, [], ◌∷◌, ◌++◌, length, replicate, All, IfSome, Option, None, Some}
 use Rattle.std.specs.List.{flat_map}
 use mathlib.Core.Logic.{inl, inr}
@@ -39,7 +39,7 @@ piece_of _ = []
 abbrev pub bytes_of : List Answer → Bytes
 bytes_of said = flat_map piece_of said
 
--- the link told this input: a front of it, and all of it where it told its end; and it was not quiet as often in a row as a session allows
+-- the link told this input: a prefix of it, and all of it if it told its end; and it was not quiet as often in a row as a session allows
 pub record Tells (input : Bytes) (said : List Answer) : Type 0 where
   pub front : IsFrontOf (bytes_of said) input
   pub whole : (before : List Answer) → said ≡ before ++ answers.Ended ∷ [] → bytes_of said ≡ input
@@ -47,12 +47,12 @@ pub record Tells (input : Bytes) (said : List Answer) : Type 0 where
 
 -- ---- nothing stands in the way
 
--- there is a place for the stream, where one is to be made
+-- there is a place for the stream, if one is to be made
 abbrev pub HasPlace : ℕ → Option NamedStream → Type 0
 HasPlace count None = Unit {0}
 HasPlace count (Some stream) = 0 < count
 
--- where the link was quiet last, the client was not stale
+-- if the link was quiet last, the client was not stale
 abbrev pub IsAlive : Journal → Type 0
 IsAlive journal = (session moment : ℕ) (stage : Stage) (said : Bytes) → AreTurns pipe_limits (start session) journal.turns stage said
     → journal.last ≡ AtQuiet moment → is_stale stage.peer.pings moment ≡ false
@@ -85,7 +85,7 @@ IsCalm input (Open run) = IsCalmWait input run.waits
 
 -- ---- what it comes to
 
--- an operation that was carried out, where it is no tick
+-- an operation that was carried out, if it is no tick
 abbrev pub op_of : Act → List Op
 op_of (Hears op) = op ∷ []
 op_of Ticks = []
@@ -103,7 +103,7 @@ pub record IsAnswered (ops : List Op) (journal : Journal) (bytes : Bytes) : Type
   pub all : ops_of (acts_of (flat_map turn_spoken journal.turns)) ≡ ops
   pub written : bytes ≡ greeting pipe_limits session ++ said
 
--- where a link was given out, its session answered each of the operations
+-- if a link was given out, its session answered each of the operations
 abbrev pub AreAnsweredAt : {world : World} {status : ℕ} {old new : DoorTold} {clock_old clock_new : Option (List ℕ)} → List Op → Waits world status old new clock_old clock_new → Type 0
 AreAnsweredAt ops (inl none) = Unit {0}
 AreAnsweredAt ops (inr link) = IsAnswered ops link.given_back.served.journal link.given_back.served.bytes

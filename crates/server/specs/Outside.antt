@@ -26,7 +26,7 @@ pub record Outside : Type 0 where
 
 -- ---- what is printed
 
--- the line that refuses the words
+-- the line that refuses the command line
 abbrev pub words_line : Bytes
 words_line = codes "words" ++ 10 ∷ []
 
@@ -34,7 +34,7 @@ words_line = codes "words" ++ 10 ∷ []
 abbrev pub number_line : ℕ → Bytes
 number_line number = decimal number ++ 10 ∷ []
 
--- the line was printed, or a front of it where the sink failed
+-- the line was printed, or a prefix of it if the sink failed
 abbrev pub Prints : Bytes → SinkTold → SinkTold → Type 0
 Prints line old new =
     (new.written ≡ grown old.written line) ⊎ (Rose old.faults new.faults × ((n : ℕ) × (new.written ≡ grown old.written (take n line))))

@@ -1,4 +1,4 @@
--- The making of the stream that the words name, before a link is served.
+-- The making of the stream that the command line names, before a link is served.
 use Rattle.std.specs.Prelude.{◌≡◌, ℕ, ◌⊎◌, List, [], ◌∷◌, Option, Some, None, Result, Ok, Err}
 use Rattle.js_base.specs.declared.memory.NoMemory.{NoMemory}
 use Rattle.js_base.specs.declared.out.ApiError.{ApiError}
@@ -17,18 +17,18 @@ pub record IsMaking (count : ℕ) (stream : NamedStream) (making : Making) (cloc
   pub makes : MakesStream stream.name (default_config stream.name stream.subject) moment making entries
   pub led : DeskRun (opening count) entries world
 
--- the world over which a link is served: the stream that the words name stands in it; where they name none, it is as it was opened, and the
+-- the world over which a link is served: the stream that the command line names stands in it; if it names none, it is as it was opened, and the
 -- clock was not read
 abbrev pub IsPrepared : ℕ → Option NamedStream → Option (List ℕ) → Option (List ℕ) → World → Type 0
 IsPrepared count None clock_old clock_new world = (world ≡ opening count) × (clock_new ≡ clock_old)
 IsPrepared count (Some stream) clock_old clock_new world = IsMaking count stream Stands clock_old clock_new world
 
--- the stream that the words name was refused by this error
+-- the stream that the command line names was refused by this error
 abbrev pub WasRefused : ℕ → Option NamedStream → ApiError → Option (List ℕ) → Option (List ℕ) → World → Type 0
 WasRefused count None error clock_old clock_new world = ⊥
 WasRefused count (Some stream) error clock_old clock_new world = IsMaking count stream (IsRefused error) clock_old clock_new world
 
--- the clock was not read, or once, where a stream is to be made
+-- the clock was not read, or once, if a stream is to be made
 abbrev pub ReadsFor : Option NamedStream → Option (List ℕ) → Option (List ℕ) → Type 0
 ReadsFor None clock_old clock_new = clock_new ≡ clock_old
 ReadsFor (Some stream) clock_old clock_new = (clock_new ≡ clock_old) ⊎ ((moment : ℕ) × ReadsMoments clock_old (moment ∷ []) clock_new)

@@ -1,4 +1,4 @@
--- The words of the command line.
+-- The command line.
 use Rattle.std.specs.Prelude.{◌≡◌, Bool, false, ◌&&◌, not, List, [], ◌∷◌, map, codes, string_bytes, nat_eq, Option, Some, None, Result, Ok, Err, IsSome, if◌then◌else◌}
 use Rattle.std.specs.List.{starts_with}
 use Rattle.std.specs.declared.string.String.{String}
@@ -30,7 +30,7 @@ values_of (command ∷ stream ∷ name ∷ subject ∷ pattern ∷ []) =
     if same command (codes "pipe") && same stream (codes "--stream") && same subject (codes "--subject") then Some (name, pattern) else None
 values_of _ = None
 
--- the stream of this name, where it is one
+-- the stream of this name, if it is one
 abbrev pub named : Bytes → Result Bytes NameFault → Option NamedStream
 named subject (Ok name) = Some (record { name = name; subject = subject })
 named subject (Err fault) = None
@@ -40,7 +40,7 @@ checked None = None
 checked (Some values) =
     if is_value values.0 && is_value values.1 && is_stream_subject values.1 then named values.1 (name_of values.0) else None
 
--- the stream that the words name, where they have the form for one
+-- the stream that the command line names, if it has the form for one
 abbrev pub stream_of : List Bytes → Option NamedStream
 stream_of words = checked (values_of words)
 
@@ -53,11 +53,11 @@ abbrev pub over : Option NamedStream → Option Command
 over None = None
 over (Some stream) = Some (Pipe (Some stream))
 
--- the command that the words are
+-- the command that the command line is
 abbrev pub command_of : List Bytes → Option Command
 command_of words = if is_pipe words then Some (Pipe None) else over (stream_of words)
 
--- they are a command that has a stream to make
+-- it is a command that has a stream to make
 abbrev pub NamesStream : Option Command → Type 0
 NamesStream None = ⊥
 NamesStream (Some (Pipe stream)) = IsSome stream

@@ -1,4 +1,4 @@
-//! The stream that the words name, which is made before a link is served.
+//! The stream that the command line names, which is made before a link is served.
 
 ghost use Rattle.std.specs.Prelude.{◌≡◌, IfSome, IsTrue, length};
 ghost use Rattle.js_api.specs.Desks.{opening};

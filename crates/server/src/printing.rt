@@ -5,7 +5,7 @@ ghost use Rattle.server.specs.Outside.{words_line, number_line, Prints};
 use itoa::Buffer;
 use link_edge::{Put, Sink};
 
-/// Prints the line that refuses the words.
+/// Prints the line that refuses the command line.
 pub fn print_words<O: Sink>(out: &mut O)
     ensures printed { Prints words_line (record { written = O.written out.old; faults = O.faults out.old }) (record { written = O.written out.new; faults = O.faults out.new }) }
 {

@@ -112,9 +112,9 @@ fn pipe<R: Door, V, C: Clock, O: Sink>(
     }
 }
 
-/// All that the program does for its words. `pipe` opens a desk over the volumes, makes the stream that the words name, if they name one, with
-/// every default and where no stream of its name is there, accepts one link and serves it. Other words are refused. The volumes come back as they
-/// were handed in.
+/// All that the program does for its command line. `pipe` opens a desk over the volumes, makes the stream that the command line names, if it names
+/// one and no stream of its name is there, with every default, accepts one link and serves it. Any other command line is refused. The volumes come
+/// back as they were handed in.
 pub fn run<R: Door, V, C: Clock, G: Gate, O: Sink>(
     alloc: Global,
     words: &[String],
@@ -127,12 +127,12 @@ pub fn run<R: Door, V, C: Clock, G: Gate, O: Sink>(
     requires volumes { vec_len vols ≤ 32 }
     requires links { IsBalanced (R.gave door) (R.back door) }
 
-    // Status 2 comes exactly where the words are none of the forms. They are refused in a line, the door is not touched and the clock not read.
+    // Status 2 comes exactly if the command line is none of the forms. It is refused in a line, the door is not touched and the clock not read.
     ensures words { (result.status ≡ 2) ↔ (command_of (texts words.now) ≡ None) }
     ensures refused { command_of (texts words.now) ≡ None → (result.door ≡ door) × (C.to_come clock.new ≡ C.to_come clock.old)
         × Prints words_line (record { written = O.written out.old; faults = O.faults out.old }) (record { written = O.written out.new; faults = O.faults out.new }) }
 
-    // Else the status tells why the run ended: 11 where the stream was refused, and the others by the link that came back, which was served over a
+    // Else the status tells why the run ended: 11 if the stream was refused, and the others by the link that came back, which was served over a
     // desk with the stream, or by why none came.
     ensures ends { IfSome (command_of (texts words.now)) (λ command. CommandEnds (vec_len vols) command result.status
         (record {
@@ -147,7 +147,7 @@ pub fn run<R: Door, V, C: Clock, G: Gate, O: Sink>(
         })) }
     ensures later { R.faults door ≤ R.faults result.door }
 
-    // A stream is refused only where no volume was handed in, and so no place is free for it, which is error 20007.
+    // A stream is refused only if no volume was handed in, and so no place is free for it, which is error 20007.
     ensures placeless { result.status ≡ 11 → NamesStream (command_of (texts words.now)) × (vec_len vols ≡ 0)
         × Prints (number_line 20007) (record { written = O.written out.old; faults = O.faults out.old }) (record { written = O.written out.new; faults = O.faults out.new }) }
 

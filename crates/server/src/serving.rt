@@ -85,7 +85,7 @@ fn serve<R: Door, V, C: Clock>(
     status_of(ended)
 }
 
-/// Serves the first link that comes over the desk, and answers the status.
+/// Serves the first link that comes over the desk, and returns the status.
 pub fn serve_first<R: Door, V, C: Clock>(
     alloc: Global,
     desk: &mut SoloDesk<V>,

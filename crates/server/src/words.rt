@@ -1,4 +1,4 @@
-//! The words of the command line.
+//! The command line.
 
 ghost use Rattle.std.specs.Prelude.{◌≡◌, option_map};
 ghost use Rattle.server.specs.Words.{texts, pair_now, is_value, is_pipe, values_of, stream_of, command_of, Reads};
@@ -8,7 +8,7 @@ use std::alloc::Global;
 use subject_match::is_stream_subject;
 use thiserror::Error;
 
-/// A stream that the words name, and the one subject that it takes.
+/// A stream that the command line names, and the one subject that it takes.
 #[derive(Drop, Debug)]
 pub struct NamedStream {
     pub name: Name,
@@ -18,14 +18,14 @@ pub struct NamedStream {
 /// What the program is asked to do.
 #[derive(Drop, Debug)]
 pub enum Command {
-    /// Serves one link over standard input and output. The stream that is named is made before, where it is not there.
+    /// Serves one link over standard input and output. The stream that is named is made before, if it is not there.
     Pipe { stream: Option<NamedStream> },
 }
 
-/// Why the words are no command.
+/// Why the command line is no command.
 #[derive(Clone, Copy, Debug, PartialEq, Eq, Error)]
 pub enum WordsFault {
-    #[error("the words are none of the forms")]
+    #[error("the command line is none of the forms")]
     Words,
     #[error("out of memory")]
     NoMemory,
@@ -38,7 +38,7 @@ fn is_value(text: &[u8]) -> bool
     !text.starts_with(b"-")
 }
 
-/// Whether the words are `pipe` alone.
+/// Whether the command line is `pipe` alone.
 fn is_pipe(words: &[String]) -> bool
     ensures { result ≡ is_pipe (texts words.now) }
 {
@@ -48,7 +48,7 @@ fn is_pipe(words: &[String]) -> bool
     }
 }
 
-/// The name and the subject of the stream, where the words have the form that names one.
+/// The name and the subject of the stream, if the command line has the form that names one.
 fn values_of(words: &[String]) -> Option<(&[u8], &[u8])>
     ensures { option_map pair_now result ≡ values_of (texts words.now) }
 {
@@ -67,7 +67,7 @@ fn values_of(words: &[String]) -> Option<(&[u8], &[u8])>
     }
 }
 
-/// The stream that the words name.
+/// The stream that the command line names.
 fn read_stream(alloc: Global, words: &[String]) -> Result<NamedStream, WordsFault>
     ensures { Reads result (stream_of (texts words.now)) }
 {
@@ -88,7 +88,7 @@ fn read_stream(alloc: Global, words: &[String]) -> Result<NamedStream, WordsFaul
     }
 }
 
-/// The command that the words are. Memory is taken only for words that are one.
+/// The command that the command line is. Memory is taken only for one that is a command.
 pub fn read_words(alloc: Global, words: &[String]) -> Result<Command, WordsFault>
     ensures { Reads result (command_of (texts words.now)) }
 {

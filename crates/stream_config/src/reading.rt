@@ -7,7 +7,7 @@ ghost use Rattle.js_model.specs.Configs.{is_stream_config};
 ghost use Rattle.stream_config.specs.Reading.{limit_in, retention_of, discard_of, window_of, subjects_or, found, word_in, config_in, reading};
 ghost use Rattle.stream_config.specs.Answers.{ReadsConfig};
 ghost use Rattle.stream_config.specs.Printing.{IsPrinted};
-ghost use Rattle.stream_config.specs.Laws.{IsServed};
+ghost use Rattle.js_model.specs.Served.{IsServed};
 
 use crate::fault::ConfigFault;
 use crate::judging::{check_fields, check_name};
@@ -54,7 +54,7 @@ fn discard(text: &[u8]) -> Discard
     }
 }
 
-/// The duplicate window where it is asked for so, and messages stay that long.
+/// The duplicate window if it is asked for so, and messages stay that long.
 fn window(max_age: u64, window: u64) -> u64
     ensures value { result ≡ window_of max_age window }
 {
@@ -76,7 +76,7 @@ fn name_alone(alloc: Global, name: &Name) -> Result<List<Blob>, NoMemory>
     Ok(subjects)
 }
 
-/// The subjects, or the name where there are none.
+/// The subjects, or the name if there are none.
 fn subjects(alloc: Global, fields: &Fields, name: &Name) -> Result<List<Blob>, NoMemory>
     ensures value { IfOk result (λ subjects. subjects ≡ subjects_or name.now (found (texts_in (codes "subjects") (members fields.now)))) }
 {

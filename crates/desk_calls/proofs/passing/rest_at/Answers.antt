@@ -1,14 +1,14 @@
-use Rattle.std.proofs.Common.{false, sym}
-use Rattle.js_model.specs.declared.reply.Reply.TheVariants.{Silent}
-use Rattle.desk_calls.proofs.Passed.{passed, settled_there}
+use Rattle.std.proofs.Common.{true, false, sym, ◌∙◌, not, ap}
+use Rattle.std.specs.Prelude.{is_some}
+use Rattle.desk_calls.proofs.Passed.{settled_there}
 use Rattle.desk_calls.proofs.passing.rest_at.Goals as goal
 
-pub returns-then-tick-clause-rests : goal.returns-then-tick-clause-rests
-returns-then-tick-clause-rests g c =
-    let ready = rw c.ready.ensures.none at c.ready.ensures.value in
+pub returns-else-is_none-clause-rests : goal.returns-else-is_none-clause-rests
+returns-else-is_none-clause-rests g c =
+    let there = c.is_none.ensures ∙ ap not c.if-is_none.false in
     record {
-      ticked = c.tick.new.self.world;
-      first = passed _ _ _ _ Silent false (rw c.if-tick.true at c.tick.ensures.holds) ready;
-      settle = settled_there _ _ _ c.args.at false (sym (c.tick.ensures.last c.if-tick.true)) (passed _ _ _ _ Silent false (c.tick.ensures.again c.if-tick.true) ready);
-      router = c.tick.ensures.router;
+      ticked = c.pass.new.self.world;
+      first = rw c.pass.ensures.none at c.pass.ensures.passes;
+      settle = settled_there _ _ _ c.args.at false (sym (c.pass.ensures.last there)) (c.pass.ensures.again there);
+      router = c.pass.ensures.router;
     }

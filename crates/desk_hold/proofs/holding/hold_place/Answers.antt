@@ -7,4 +7,4 @@ returns-in-Ok-clause-holds g c =
     holds_place _ c.in-Ok.step _ _ _ _ _ _ _ (rw c.new-outs.ensures at c.in-Ok.ensures.makes) (rw c.as_slice.ensures at c.send.ensures.sends)
 
 pub returns-in-Ok-clause-shown : goal.returns-in-Ok-clause-shown
-returns-in-Ok-clause-shown g c = shows_sent _ _ c.in-Ok.step _ _ _ c.send.ensures.sends c.in-Ok.ensures.shown
+returns-in-Ok-clause-shown g c = shows_sent _ c.in-Ok.step _ _ _ c.send.ensures.sends c.in-Ok.ensures.shown
