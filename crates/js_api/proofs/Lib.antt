@@ -1,0 +1,5 @@
+pub mod RunParts
+pub mod HeldRuns
+pub mod PlacesLed
+pub mod RoutesLed
+pub mod ThreeRuns
