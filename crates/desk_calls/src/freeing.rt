@@ -11,7 +11,7 @@ use crate::ground::Ground;
 use js_api::Became;
 use js_model::PlaceAt;
 
-/// Frees a place that was taken for a stream, unless the stream was made there. The place is stopped if its volume failed.
+/// Frees a place that was taken for a stream, unless the stream was made there. The place is stopped if its volume failed or had failed before.
 pub fn free_unless_made<G: Ground>(ground: &mut G, at: PlaceAt, became: &Became)
     requires turn { G.phase ground.old ≡ Within }
     requires known { Knows (G.kept ground.old) at }
@@ -26,9 +26,9 @@ pub fn free_unless_made<G: Ground>(ground: &mut G, at: PlaceAt, became: &Became)
             }
         }
         Became::Broke { stream: _ } => ground.stop(at.place),
+        Became::Stopped { stream: _ } => ground.stop(at.place),
         Became::Ticked => ground.remove(at.place, false),
         Became::Nothing => ground.remove(at.place, false),
-        Became::Stopped { stream: _ } => ground.remove(at.place, false),
         Became::Gone => ground.remove(at.place, false),
     }
 }

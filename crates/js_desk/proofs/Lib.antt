@@ -1,4 +1,9 @@
+pub mod Added
 pub mod Closing
+pub mod Edits
+pub mod Found
 pub mod GivenBack
-pub mod Rested
-pub mod Solos
+pub mod Lookups
+pub mod Refused
+pub mod Routed
+pub mod Turns

@@ -1,2 +1,4 @@
+pub mod Faults
 pub mod GivingBack
+pub mod Grounds
 pub mod Solo
