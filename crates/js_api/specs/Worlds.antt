@@ -82,6 +82,7 @@ pub record IsHeld (hold : Hold) (old new : PlaceIn) : Type 0 where
   pub was : old.state ≡ hold.before
   pub steps : RunFrom old.stored hold.before hold.steps hold.between
   pub deliveries : RunFrom (total_of old.stored hold.before hold.steps hold.between steps) hold.between hold.deliveries hold.after
+  pub ends : is_broken hold.steps ≡ true → hold.deliveries ≡ []
   pub is_state : new.state ≡ hold.after
   pub stored : new.stored ≤ total_of (total_of old.stored hold.before hold.steps hold.between steps) hold.between hold.deliveries hold.after deliveries
   pub stops : Stops (is_broken (entries_in hold)) hold.volume_before hold.volume_after new.stopped

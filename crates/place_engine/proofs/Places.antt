@@ -1,6 +1,6 @@
 -- What a place answers.
-use Rattle.std.proofs.Common.{◌≡◌, ◌≢◌, ℕ, ◌+◌, ◌^◌, [], Bool, if◌then◌else◌, Option, ap, ◌∙◌, refl, sym, nat_eq, true, inl, inr}
-use Rattle.std.proofs.lemmas.Bool.{cases_eq, eq-eqb, ne_eqb}
+use Rattle.std.proofs.Common.{◌≡◌, ◌≢◌, ℕ, ◌+◌, ◌^◌, [], Bool, if◌then◌else◌, Option, ap, ◌∙◌, refl}
+use Rattle.std.proofs.lemmas.Bool.{eq-eqb, ne_eqb}
 use Rattle.js_base.specs.Bytes.{Bytes}
 use Rattle.js_model.specs.declared.stream_config.StreamConfig.{StreamConfig}
 use Rattle.js_model.specs.declared.stream.Stream.{Stream}
@@ -17,7 +17,6 @@ use Rattle.js_model.specs.Counts.{stream_info}
 use Rattle.js_model.specs.Events.{answered, kept_incarnation, completed, vacantly, stream_told}
 use Rattle.js_model.specs.Served.{IsServed}
 use Rattle.place_engine.specs.Answers.{StreamAnswers, PlaceAnswers}
-use Rattle.place_engine.specs.Passing.{Passes}
 use Rattle.place_engine.specs.Places.{IsVacant}
 use Rattle.place_engine.proofs.PlainStreams.{settled-plain}
 
@@ -65,22 +64,3 @@ publishes_nowhere last p now incarnation = refl
 pub ticks_nowhere : (last : ℕ) (now : ℕ) → PlaceAnswers (Vacant last) Tick now Silent (Vacant last)
 unfolding answered
 ticks_nowhere last now incarnation = refl
-
--- ---- time passes if an incarnation is kept
-
-pub passes_nowhere : (last incarnation now : ℕ) → Passes (nat_eq (last + 1) incarnation) incarnation now (Vacant last) (Vacant last)
-passes_nowhere last incarnation now =
-    elim (cases_eq (last + 1) incarnation) [
-      | inl e ↦
-          rw (eq-eqb (last + 1) incarnation e) (record { kept = sym e; still = sym e; answers = ticks_nowhere last now; again = ticks_nowhere last now })
-      | inr other ↦ rw (ne_eqb (last + 1) incarnation other) (other, refl)
-    ]
-
-pub passes_there : (incarnation now : ℕ) (old new : Stream) → old.incarnation ≡ incarnation → new.incarnation ≡ old.incarnation → StreamAnswers old Tick now Silent (Live new)
-    → StreamAnswers new Tick now Silent (Live new) → Passes true incarnation now (Live old) (Live new)
-passes_there incarnation now old new kept same answers again = record {
-  kept = sym kept;
-  still = sym (same ∙ kept);
-  answers = there old Tick now Silent (Live new) answers;
-  again = there new Tick now Silent (Live new) again;
-}

@@ -1,23 +1,41 @@
--- What an answer of a place tells of a step.
-use Rattle.std.proofs.Common.{◌≡◌, ◌++◌, ℕ, true, List, append-nil, ap, ◌∙◌, sym, refl}
+-- What a place in memory answers is a step by the relation that each place keeps.
+use Rattle.std.proofs.Common.{◌≡◌, ◌++◌, ℕ, true, List, [], Ok, Err, append-nil, ap, ◌∙◌, sym, refl, arith, inr}
 use Rattle.js_base.specs.declared.out.Out.{Out}
 use Rattle.js_model.specs.declared.stream.State.{State}
 use Rattle.js_model.specs.declared.event.Event.{Event}
 use Rattle.js_model.specs.declared.reply.Reply.{Reply}
 use Rattle.js_model.specs.declared.reply.Answer.{Answer}
-use Rattle.js_model.specs.Events.{answered, kept_incarnation, IsEvent}
+use Rattle.js_model.specs.Events.{answered, kept_incarnation}
+use Rattle.place_engine.specs.declared.faults.PlaceFault.TheVariants.{NoMemory}
+use Rattle.place_engine.specs.declared.faults.Left.TheVariants.{Nothing}
 use Rattle.place_engine.specs.Answers.{PlaceAnswers}
+use Rattle.place_engine.specs.InMemory.{seen_of, holds_nothing}
+use Rattle.place_engine.specs.Stepping.{Elapses, Rests, Steps}
 
-pub reply_is : (old : State) (e : Event) (now : ℕ) (reply : Reply) (new : State) → PlaceAnswers old e.what now reply new → reply ≡ (answered old e now true).reply
-reply_is old e now reply new answers = sym (ap (λ (a : Answer). a.reply) (answers e.incarnation))
+elapses : (old new : State) → Elapses holds_nothing (seen_of old) (seen_of new)
+elapses old new = record { faults = omega arith; moments = omega arith; generations = omega arith; goes_on = λ t image le left. absurd left }
 
-pub outs_are : (old : State) (e : Event) (now : ℕ) (reply : Reply) (new : State) (outs : List Out) → PlaceAnswers old e.what now reply new → outs ≡ outs ++ (answered old e now true).outs
-outs_are old e now reply new outs answers = sym (append-nil outs) ∙ ap (λ (a : Answer). outs ++ a.outs) (sym (answers e.incarnation))
+-- it is answered
+pub tells : (old : State) (e : Event) (now : ℕ) (reply : Reply) (new : State) (outs : List Out) → e.incarnation ≡ kept_incarnation old
+    → PlaceAnswers old e.what now reply new → Steps holds_nothing (Ok reply) e now (seen_of old) (seen_of new) outs outs
+tells old e now reply new outs kept answers = record {
+  ends = record {
+    does = record { going = refl; kept = kept; state = sym (ap (λ (a : Answer). a.state) answer) };
+    goes = refl;
+    reply_is = sym (ap (λ (a : Answer). a.reply) answer);
+    outs = sym (append-nil outs) ∙ ap (λ (a : Answer). outs ++ a.outs) (sym answer);
+    commits = record { firm = λ firm. refl; base = inr refl };
+  };
+  stored = omega arith;
+  time = elapses old new;
+}
+  where
+    answer : answered old e now true ≡ record { reply = reply; outs = []; state = new }
+    answer = answers e.incarnation
 
-pub state_is : (old : State) (e : Event) (now : ℕ) (reply : Reply) (new : State) → PlaceAnswers old e.what now reply new → new ≡ (answered old e now true).state
-state_is old e now reply new answers = sym (ap (λ (a : Answer). a.state) (answers e.incarnation))
+rests : (old new : State) (outs : List Out) → new ≡ old → Rests (seen_of old) (seen_of new) outs outs
+rests old new outs same = record { state = same; stored = refl; stopped = refl; base = ap (λ (s : State). (seen_of s).base) same; outs = refl }
 
--- a step is an event by the rules of the stream machine
-pub is_event : (old : State) (e : Event) (now : ℕ) → e.incarnation ≡ kept_incarnation old
-    → IsEvent old e now (answered old e now true).reply (answered old e now true).outs (answered old e now true).state
-is_event old e now kept = record { kept = kept; room = true; answers = refl }
+-- memory ran out
+pub starves : (old : State) (e : Event) (now : ℕ) (new : State) (outs : List Out) → new ≡ old → Steps holds_nothing (Err (NoMemory Nothing)) e now (seen_of old) (seen_of new) outs outs
+starves old e now new outs same = record { ends = rests old new outs same; stored = omega arith; time = elapses old new }

@@ -2,7 +2,10 @@ pub mod PlainPublishes
 pub mod PlainStreams
 pub mod Stored
 pub mod Answers
-pub mod Passing
+pub mod Standing
 pub mod Held
 pub mod Shown
 pub mod Places
+pub mod Stepping
+pub mod Provisional
+pub mod InMemory

@@ -1,22 +1,12 @@
--- A place, as contracts see it: its state and its volume, what may be asked of it, and why a call fails.
-use Rattle.std.specs.Prelude.{◌≡◌, ◌≢◌, List, [], Option, None, Some}
+-- What may be asked of a place, and what is told of its stream.
+use Rattle.std.specs.Prelude.{List, [], Option, None, Some}
 use Rattle.js_base.specs.Bytes.{Bytes}
 use Rattle.js_model.specs.declared.stream.State.{State}
 use Rattle.js_model.specs.declared.stream.State.TheVariants.{Vacant, Live}
-use Rattle.js_model.specs.declared.event.Event.{Event}
 use Rattle.js_model.specs.declared.event.What.{What}
 use Rattle.js_model.specs.declared.event.What.TheVariants as whats
-use Rattle.js_model.specs.Events.{kept_incarnation}
 use Rattle.js_model.specs.Served.{IsServed}
 use Rattle.place_engine.specs.PlainPublishes.{IsPlainPublish}
-use Rattle.place_engine.specs.declared.faults.Left.TheVariants.{Nothing}
-use Rattle.place_engine.specs.declared.faults.PlaceFault.{PlaceFault}
-use Rattle.place_engine.specs.declared.faults.PlaceFault.TheVariants.{NoMemory, StoreFault, Stopped, Gone, Worn}
-
--- the state of a place, and its volume
-pub record Seen (V : Type 0) : Type 0 where
-  pub state : State
-  pub vol : V
 
 -- what a place is asked so far: to make, change, drop and show a stream of default limits, to store a message and to let time pass
 abbrev pub IsBuilt : What → Type 0
@@ -36,15 +26,6 @@ IsBuilt (whats.MessageGet reply by) = ⊥
 IsBuilt (whats.ConsumerInfo reply name) = ⊥
 IsBuilt (whats.ConsumerNames reply offset) = ⊥
 IsBuilt (whats.ConsumerList reply offset) = ⊥
-
--- It is gone exactly if the event is for another incarnation. Memory is asked for only if it is for this one, and nothing is left if there is
--- none. In memory no store fails, stops a place or wears out.
-abbrev pub HasCause : State → Event → PlaceFault → Type 0
-HasCause old event (NoMemory left) = (event.incarnation ≡ kept_incarnation old) × (left ≡ Nothing)
-HasCause old event StoreFault = ⊥
-HasCause old event (Stopped count) = ⊥
-HasCause old event (Gone kept) = (event.incarnation ≢ kept_incarnation old) × (kept ≡ kept_incarnation old)
-HasCause old event Worn = ⊥
 
 -- there is no stream
 abbrev pub IsVacant : State → Type 0

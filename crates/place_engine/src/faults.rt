@@ -27,21 +27,22 @@ pub enum Left {
     Unsaid,
 }
 
-/// Why an event was not made, or not answered. In memory it is `NoMemory(Left::Nothing)` or `Gone`.
+/// Why an event was not made, or not answered. A place in memory answers `NoMemory(Left::Nothing)` or `Gone`.
 #[derive(Clone, Copy, Debug, PartialEq, Eq, Error)]
 pub enum PlaceFault {
     #[error("out of memory")]
     NoMemory(Left),
-    /// The store failed in this call.
+    /// The store failed in this call. The event was made, the outputs are as they were, and the place is stopped at the count of faults that its
+    /// volume has now.
     #[error("the store failed")]
     StoreFault,
-    /// The store failed before, and had failed so often then.
+    /// The store failed before, and had failed so often then. All is as it was.
     #[error("stopped at fault {0}")]
     Stopped(u64),
-    /// The event is for another stream than the one of this incarnation.
+    /// The event is for another stream than the one of this incarnation, or than the next one if there is none. All is as it was.
     #[error("the place is at incarnation {0}")]
     Gone(u64),
-    /// The numbers of the store's generations are used up.
+    /// The numbers of the store's generations are used up. The event was made, and its answer goes to nobody.
     #[error("generations are used up")]
     Worn,
 }

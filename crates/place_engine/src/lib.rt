@@ -1,7 +1,8 @@
-//! A place for one stream: each event makes one step of the stream's rules. It keeps its stream in memory.
+//! A place for one stream: each event makes one step of the stream's rules. There is one that keeps its stream in memory.
 #![tactic(auto)]
 
 mod faults;
+mod memory_place;
 mod place;
 mod plain_stream;
 mod sameness;
@@ -9,4 +10,5 @@ mod slot;
 mod stored;
 
 pub use faults::{Left, OpenFault, PlaceFault};
+pub use memory_place::MemoryPlace;
 pub use place::Place;

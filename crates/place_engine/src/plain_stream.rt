@@ -17,6 +17,7 @@ ghost use Rattle.js_model.specs.Streams.{first_seq};
 ghost use Rattle.js_model.specs.Served.{IsServed};
 ghost use Rattle.place_engine.specs.PlainPublishes.{IsPlainPublish};
 ghost use Rattle.place_engine.specs.Answers.{StreamAnswers};
+ghost use Rattle.place_engine.specs.Provisional.{IsSilent};
 ghost use Rattle.place_engine.specs.Shown.{IsShown, IsSoundInfo};
 ghost use Rattle.place_engine.specs.Stored.{stored_message};
 
@@ -113,7 +114,6 @@ impl PlainStream {
     pub fn tick(&mut self, now: Moment)
         ensures answers { StreamAnswers self.old whats.Tick now Silent (Live self.new) }
         ensures again { StreamAnswers self.new whats.Tick now Silent (Live self.new) }
-        ensures kept { self.new.incarnation ≡ self.old.incarnation }
     {
         self.moment = later(self.moment, now);
     }
@@ -193,6 +193,7 @@ impl PlainStream {
     pub fn ready(&self, now: Moment, listening: &Listening) -> bool
         ensures value { result ≡ list_any (is_ready (advance self.now now) listening.now) (advance self.now now).consumers }
         ensures none { result ≡ false }
+        ensures silent { IsSilent (Live self.now) }
     {
         // that there are none is what the proof takes from this look
         let _ = &self.config;

@@ -1,6 +1,6 @@
 //! What a place holds, in memory.
 
-ghost use Rattle.std.specs.Prelude.{◌≡◌, ◌≤◌, ◌<◌, ◌^◌, ℕ, false, IfOk, IfSome, OnErr, Option, IsTrue, IsUtf8};
+ghost use Rattle.std.specs.Prelude.{◌≡◌, ◌≢◌, ◌≤◌, ◌<◌, ◌^◌, ℕ, false, IfOk, IfSome, OnOk, OnErr, Option, IsTrue, IsUtf8};
 ghost use Rattle.std.specs.Option.{option_copied};
 ghost use Rattle.js_base.specs.Bytes.{Bytes};
 ghost use Rattle.js_model.specs.declared.stream.State.TheVariants.{Vacant};
@@ -9,11 +9,12 @@ ghost use Rattle.js_model.specs.Configs.{is_stream_config};
 ghost use Rattle.js_model.specs.Proper.{is_proper_what, is_proper_publish};
 ghost use Rattle.js_model.specs.Ready.{some_ready};
 ghost use Rattle.place_engine.specs.Answers.{PlaceAnswers};
-ghost use Rattle.place_engine.specs.Passing.{Passes};
 ghost use Rattle.place_engine.specs.Places.{IsBuilt, IsVacant, name_in, subjects_in};
 ghost use Rattle.js_model.specs.Served.{IsServed};
 ghost use Rattle.place_engine.specs.PlainPublishes.{IsPlainPublish};
+ghost use Rattle.place_engine.specs.Provisional.{IsSilent};
 ghost use Rattle.place_engine.specs.Shown.{IsShown};
+ghost use Rattle.place_engine.specs.Standing.{StandsAt};
 
 use crate::plain_stream::{NUMBERS_END, PlainStream};
 use js_base::{Blob, Moment, NoMemory};
@@ -95,10 +96,11 @@ impl Slot {
         }
     }
 
-    /// Whether a consumer is ready at a moment.
+    /// Whether a consumer is ready at a moment. There are none.
     pub fn ready(&self, now: Moment, listening: &Listening) -> bool
         ensures value { result ≡ some_ready self.now now listening.now }
         ensures none { result ≡ false }
+        ensures silent { IsSilent self.now }
     {
         match &self.held {
             Held::Nothing(_) => false,
@@ -106,12 +108,15 @@ impl Slot {
         }
     }
 
-    /// Does what is asked at a moment, and answers it. An `Err` changes nothing.
+    /// Does what is asked at a moment, and answers it. An `Err` changes nothing. A tick takes no memory, and a second one at the same moment
+    /// changes nothing.
     pub fn answer(&mut self, what: &What, now: Moment) -> Result<Reply, NoMemory>
         requires built { IsBuilt what.now }
         requires proper { IsTrue (is_proper_what what.now) }
         ensures answers { IfOk result (λ reply. PlaceAnswers self.old what.now now reply self.new) }
         ensures shown { IfOk result IsShown }
+        ensures stands { OnOk result (what.now ≡ What.Tick → StandsAt self.new now) }
+        ensures takes_none { OnErr result (what.now ≢ What.Tick) }
         ensures err { OnErr result (self.new ≡ self.old) }
     {
         match what {
@@ -205,24 +210,10 @@ impl Slot {
         }
     }
 
-    /// Lets time pass if this incarnation is kept: whether it is. For another one it does nothing.
-    pub fn tick_for(&mut self, incarnation: u64, now: Moment) -> bool
-        ensures passes { Passes result incarnation now self.old self.new }
-        ensures bound { kept_incarnation self.old ≤ 2 ^ 62 }
-    {
-        match &mut self.held {
-            Held::Nothing(last) => *last + 1 == incarnation,
-            Held::Stream(stream) if stream.incarnation() == incarnation => {
-                stream.tick(now);
-                true
-            }
-            Held::Stream(_) => false,
-        }
-    }
-
-    /// Lets time pass for the stream.
+    /// Lets time pass for the stream. A second time at the same moment nothing changes.
     fn tick(&mut self, now: Moment)
         ensures answers { PlaceAnswers self.old What.Tick now Reply.Silent self.new }
+        ensures stands { StandsAt self.new now }
     {
         match &mut self.held {
             Held::Nothing(_) => {}

@@ -1,0 +1,118 @@
+//! A place in memory.
+
+ghost use Rattle.std.specs.Prelude.{◌≡◌, IfOk, IfErr, OnOk, IsTrue, refl};
+ghost use Rattle.std.proofs.Common.{◌∙◌};
+ghost use Rattle.js_model.specs.declared.stream.State.TheVariants.{Vacant};
+ghost use Rattle.js_model.specs.declared.event.What.TheVariants as whats;
+ghost use Rattle.js_model.specs.Proper.{is_proper};
+ghost use Rattle.place_engine.specs.declared.faults.OpenFault.TheVariants as opening;
+ghost use Rattle.place_engine.specs.InMemory.{HasCause, holds_nothing, seen_of};
+ghost use Rattle.place_engine.specs.Places.{IsBuilt};
+ghost use Rattle.place_engine.specs.Provisional.{LeavesNoneUnsaid};
+ghost use Rattle.place_engine.specs.Shown.{IsShown};
+ghost use Rattle.place_engine.specs.Standing.{StandsAt};
+ghost use Rattle.place_engine.specs.Stepping.{Steps};
+
+use crate::faults::{Left, OpenFault, PlaceFault};
+use crate::place::Place;
+use crate::slot::Slot;
+use js_base::{Blob, Moment, NoMemory, Outs};
+use js_model::{Event, Listening, Reply};
+use std::alloc::Global;
+use std::marker::Model;
+
+/// A place whose stream is kept in memory. Its volume is left as it is.
+#[derive(Drop)]
+pub struct MemoryPlace<V> {
+    slot: Slot,
+    vol: V,
+}
+
+impl<V> Model for MemoryPlace<V> {
+    ghost use Rattle.place_engine.specs.InMemory.{Contents};
+
+    ghost Value = { Contents V };
+
+    ghost view = { λ place. record { state = place.slot; vol = place.vol } };
+}
+
+impl<V> MemoryPlace<V> {
+    /// Opens the place of a volume. It is vacant, and never had a stream. An `Err` gives the volume back, and is `NoMemory`.
+    pub fn open(alloc: Global, vol: V) -> Result<MemoryPlace<V>, (OpenFault, V)>
+        ensures opened { IfOk result (λ place. place.state ≡ Vacant 0) }
+        ensures vol { IfOk result (λ place. place.vol ≡ vol) }
+        ensures fault { IfErr result (λ stop. stop.0 ≡ opening.NoMemory) }
+        ensures given_back { IfErr result (λ stop. stop.1 ≡ vol) }
+    {
+        Ok(MemoryPlace {
+            slot: Slot::new(alloc),
+            vol,
+        })
+    }
+}
+
+impl<V> Place for MemoryPlace<V> {
+    type Vol = V;
+
+    ghost seen = { λ place. seen_of place.state };
+
+    ghost holds = { holds_nothing };
+
+    ghost vol = { λ place. place.vol };
+
+    ghost keeps_vol = { λ old new. new ≡ old };
+
+    fn incarnation(&self) -> u64 {
+        self.slot.incarnation()
+    }
+
+    fn name(&self) -> Option<&Blob> {
+        self.slot.name()
+    }
+
+    fn subjects(&self) -> &[Blob] {
+        self.slot.subjects()
+    }
+
+    /// It is never stopped.
+    fn stopped(&self) -> Option<u64> {
+        None
+    }
+
+    fn ready(&self, now: Moment, listening: &Listening) -> bool {
+        self.slot.ready(now, listening)
+    }
+
+    /// An `Err` leaves the place as it was, and is `NoMemory(Left::Nothing)` or `Gone`. A tick takes no memory; a second one at the same moment
+    /// changes nothing.
+    fn step(&mut self, event: &Event, now: Moment, outs: &mut Outs) -> Result<Reply, PlaceFault>
+        requires built { IsBuilt event.now.what }
+        requires proper { IsTrue (is_proper event.now) }
+        ensures steps { Steps holds_nothing result event.now now (seen_of self.old.state) (seen_of self.new.state) outs.old outs.new }
+        ensures shown { IfOk result IsShown }
+        ensures told { IfErr result LeavesNoneUnsaid }
+        ensures vol { self.new.vol ≡ self.old.vol }
+        ensures cause { IfErr result (HasCause self.old.state event.now) }
+        ensures stands { OnOk result (event.now.what ≡ whats.Tick → StandsAt self.new.state now) }
+    {
+        let kept = self.slot.incarnation();
+        if event.incarnation != kept {
+            return Err(PlaceFault::Gone(kept));
+        }
+        match self.slot.answer(&event.what, now) {
+            Ok(reply) => Ok(reply),
+            Err(NoMemory) => Err(PlaceFault::NoMemory(Left::Nothing)),
+        }
+    }
+
+    fn into_vol(self) -> V {
+        let MemoryPlace { slot: _, vol } = self;
+        vol
+    }
+
+    ghost kept = { λ place. record { free = λ few. refl; now = λ image left. absurd left; earlier = λ t u image le left. absurd left } };
+
+    ghost keeps_none = { λ vol. refl };
+
+    ghost keeps_more = { λ a b c first more. more ∙ first };
+}
