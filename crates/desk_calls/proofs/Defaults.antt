@@ -13,7 +13,7 @@ use Rattle.js_model.specs.Configs.{is_name, is_stream_subject, is_stream_config}
 use Rattle.js_model.specs.declared.stream_config.StreamConfig.{StreamConfig}
 use Rattle.js_model.specs.declared.event.What.TheVariants as whats
 use Rattle.stream_config.specs.Defaults.{default_config}
-use Rattle.desk_calls.specs.Asking.{MayAsk}
+use Rattle.desk_answers.specs.Asking.{MayAsk}
 
 abbrev is_read : Result Bytes NameFault → Bool
 is_read (Ok text) = true

@@ -1,5 +1,5 @@
 -- Calls on one stream: the look-up by its name, the hold, what became of it makes of the catalog, and the end of the call.
-use Rattle.std.proofs.Common.{◌≡◌, ℕ, Bool, true, List, [], ◌∷◌, ◌++◌, append-nil, append_assoc, Option, Some, None, Result, Ok, Err, refl, sym, subst, ap, ◌∙◌, MatchOption}
+use Rattle.std.proofs.Common.{◌≡◌, ℕ, Bool, true, List, [], ◌∷◌, ◌++◌, append-nil, append_assoc, Option, Some, None, Result, Ok, Err, refl, sym, subst, ap, ◌∙◌, inl, MatchOption}
 use Rattle.js_base.specs.Bytes.{Bytes}
 use Rattle.js_base.specs.declared.out.ApiError.{ApiError}
 use Rattle.js_model.specs.declared.stream_config.StreamConfig.{StreamConfig}
@@ -19,6 +19,7 @@ use Rattle.js_api.specs.OneStream.{IsNamed, IsOnStream, IsEnded, IsAdding, IsCha
 use Rattle.js_api.specs.Making.{MakesAt, IsMaking}
 use Rattle.desk_calls.specs.MakingAt.{IsMadeAt}
 use Rattle.desk_calls.specs.Named.{GoesOnNamed}
+use Rattle.desk_calls.specs.Outcomes.{unmade}
 use Rattle.desk_calls.proofs.Stages.{goes_on, ended}
 
 module _ {D : Type 0} (made : D → List DeskEntry → D → Type 0) (more : (a b c : D) (first more : List DeskEntry) → made a first b → made b more c → made a (first ++ more) c) where
@@ -89,6 +90,15 @@ module _ {D : Type 0} (made : D → List DeskEntry → D → Type 0) (more : (a 
     are = record { changed = told; more = k.entries; entries_are = refl; went_on = k.are };
     led = more a b c (Looked true (catalog.Change at.place config.subjects) told ∷ []) k.entries h k.led;
   }
+
+-- ---- a hold that was not made
+
+pub unmade_here : {D : Type 0} (made : D → List DeskEntry → D → Type 0) (at : PlaceAt) (what : What) (now : ℕ) (a : D) → made a [] a → Makes made (Holds at what now unmade) a a
+unmade_here made at what now a led = record {
+  entries = [];
+  are = record { first = []; more = []; entries_are = refl; prepares = inl refl; holds = (refl, refl) };
+  led = led;
+}
 
 -- ---- the stream that the command line names
 

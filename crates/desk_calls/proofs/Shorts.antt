@@ -1,5 +1,5 @@
 -- Memory runs out before a message of the server's own is made, or there is no subject for it.
-use Rattle.std.proofs.Common.{◌≡◌, ◌<◌, ℕ, Bool, true, List, [], ◌∷◌, length, Option, Some, None, Result, Ok, Err, refl, sym, subst, inl, inr, arith}
+use Rattle.std.proofs.Common.{◌≡◌, ◌<◌, ℕ, Bool, true, false, is_none, List, [], ◌∷◌, length, Option, Some, None, Result, Ok, Err, refl, sym, subst, inl, inr, arith}
 use Rattle.js_base.specs.Bytes.{Bytes}
 use Rattle.js_base.specs.declared.out.Out.{Out}
 use Rattle.js_base.specs.declared.out.ApiError.{ApiError}
@@ -27,3 +27,11 @@ unanswered (Some to) reply is = absurd (cc)
 pub one_answer : (to : Option Bytes) (reply : ApiReply) → (to ≡ None → ⊥) → 0 < length (answer to reply)
 one_answer None reply some = absurd (some refl)
 one_answer (Some to) reply some = omega arith
+
+pub is_none_so : {X : Type 0} (o : Option X) → is_none o ≡ true → o ≡ None
+is_none_so None e = refl
+is_none_so (Some x) e = absurd (cc)
+
+pub is_some_so : {X : Type 0} (o : Option X) → o ≡ None → is_none o ≡ false → ⊥
+is_some_so None e f = cc
+is_some_so (Some x) e f = cc

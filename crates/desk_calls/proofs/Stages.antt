@@ -1,5 +1,5 @@
 -- What the parts of a call make, one after the other, is what the call makes.
-use Rattle.std.proofs.Common.{◌≡◌, List, [], ◌++◌, append-nil, Option, Some, None, Result, Ok, Err, refl, sym, subst, inl, inr, MatchOption}
+use Rattle.std.proofs.Common.{◌≡◌, List, [], ◌++◌, append-nil, Option, Some, None, Result, Ok, Err, refl, sym, subst, inl, inr, IsErrAnd, MatchOption}
 use Rattle.js_model.specs.declared.desk.PlaceAt.{PlaceAt}
 use Rattle.js_api.specs.declared.fault.DeskFault.{DeskFault}
 use Rattle.js_api.specs.Entries.{DeskEntry}
@@ -47,6 +47,11 @@ module _ {D : Type 0} (made : D → List DeskEntry → D → Type 0) where
     -- and then nothing more
     pub ended : (P : List DeskEntry → Type 0) (a b c : D) → Makes made P a b → made b [] c → Makes made P a c
     ended P a b c h k = record { entries = h.entries; are = h.are; led = subst (λ (entries : List DeskEntry). made a entries c) (append-nil h.entries) (more a b c h.entries [] h.led k) }
+
+-- a `?` handed the fault on
+pub by_fault : {Y : Type 0} (P : Result Y DeskFault → Type 0) (fault : DeskFault) (result : Result Y DeskFault) → IsErrAnd result (λ e. e ≡ fault) → P (Err fault) → P result
+by_fault P fault (Err e) is h = subst (λ (x : DeskFault). P (Err x)) (sym is) h
+by_fault P fault (Ok y) is h = absurd is
 
 -- ---- what was found or not
 

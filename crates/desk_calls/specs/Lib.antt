@@ -1,10 +1,10 @@
 pub use Rattle.stream_config.specs.Defaults
 pub mod Callers
 pub mod Grounds
-pub mod Asking
 pub mod Outcomes
 pub mod Reasons
 pub mod Named
 pub mod Plain
+pub mod Preparing
 pub mod MakingAt
 pub mod Walking

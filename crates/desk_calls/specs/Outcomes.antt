@@ -1,39 +1,18 @@
 -- What a hold came to, as those who asked for it rest on it.
-use Rattle.std.specs.Prelude.{◌≡◌, ◌<◌, ◌^◌, ℕ, Bool, true, false, Option, None, Some, IsUtf8, if◌then◌else◌}
+use Rattle.std.specs.Prelude.{◌≡◌, Some, if◌then◌else◌}
 use Rattle.js_model.specs.declared.event.What.{What}
 use Rattle.js_model.specs.declared.event.What.TheVariants as whats
 use Rattle.js_model.specs.declared.desk.PlaceAt.{PlaceAt}
-use Rattle.place_engine.specs.Shown.{IsShown}
-use Rattle.js_api.specs.declared.fault.DeskFault.{DeskFault}
 use Rattle.js_api.specs.declared.fault.DeskFault.TheVariants as faults
 use Rattle.js_api.specs.declared.outcome.Became.{Became}
 use Rattle.js_api.specs.declared.outcome.Became.TheVariants.{Made, Ticked, Nothing, Broke, Stopped, Gone}
 use Rattle.js_api.specs.declared.outcome.Outcome.{Outcome}
-use Rattle.js_api.specs.OneStream.{is_done}
+use Rattle.desk_answers.specs.Became.{is_dropped}
 use Rattle.desk_calls.specs.Grounds.{Phase, Within, Owing}
 
 -- memory ran out before it
 abbrev pub unmade : Outcome
 unmade = record { became = Nothing; ready = false; fault = Some faults.NoMemory }
-
--- without a fault it was made, or the volume failed, or the place is stopped, or it keeps another incarnation
-abbrev pub IsExplained : Option DeskFault → Became → Type 0
-IsExplained (Some fault) became = Unit {0}
-IsExplained None (Made reply) = Unit {0}
-IsExplained None Ticked = ⊥
-IsExplained None Nothing = ⊥
-IsExplained None (Broke stream) = Unit {0}
-IsExplained None (Stopped stream) = Unit {0}
-IsExplained None Gone = Unit {0}
-
--- what it shows can be printed
-abbrev pub CanBeShown : Became → Type 0
-CanBeShown (Made reply) = IsShown reply
-CanBeShown Ticked = Unit {0}
-CanBeShown Nothing = Unit {0}
-CanBeShown (Broke stream) = IsUtf8 stream
-CanBeShown (Stopped stream) = IsUtf8 stream
-CanBeShown Gone = Unit {0}
 
 -- the place keeps the incarnation that was asked for
 abbrev pub IsThere : Became → Type 0
@@ -45,15 +24,6 @@ IsThere (Stopped stream) = Unit {0}
 IsThere Gone = ⊥
 
 -- ---- the dropping of a stream
-
--- it was done
-abbrev pub is_dropped : Became → Bool
-is_dropped (Made reply) = is_done reply
-is_dropped Ticked = false
-is_dropped Nothing = false
-is_dropped (Broke stream) = false
-is_dropped (Stopped stream) = false
-is_dropped Gone = false
 
 -- a stream is dropped within a turn of the catalog
 abbrev pub MayHold : What → Phase → Type 0
@@ -92,22 +62,3 @@ phase_after (whats.MessageGet reply by) at became phase = phase
 phase_after (whats.ConsumerInfo reply name) at became phase = phase
 phase_after (whats.ConsumerNames reply offset) at became phase = phase
 phase_after (whats.ConsumerList reply offset) at became phase = phase
-
--- a stream that was dropped had an incarnation below 2 ^ 62
-abbrev pub NumbersDropped : What → Became → PlaceAt → Type 0
-NumbersDropped (whats.Drop reply) became at = is_dropped became ≡ true → at.incarnation < 2 ^ 62
-NumbersDropped (whats.Make reply config) became at = Unit {0}
-NumbersDropped (whats.Change reply config) became at = Unit {0}
-NumbersDropped (whats.Publish publish) became at = Unit {0}
-NumbersDropped (whats.Purge reply filter below keep) became at = Unit {0}
-NumbersDropped (whats.Delete reply seq) became at = Unit {0}
-NumbersDropped (whats.MakeConsumer reply name config update) became at = Unit {0}
-NumbersDropped (whats.DropConsumer reply name) became at = Unit {0}
-NumbersDropped (whats.Ack reply ack) became at = Unit {0}
-NumbersDropped (whats.Pull reply consumer ask) became at = Unit {0}
-NumbersDropped whats.Tick became at = Unit {0}
-NumbersDropped (whats.StreamInfo reply) became at = Unit {0}
-NumbersDropped (whats.MessageGet reply by) became at = Unit {0}
-NumbersDropped (whats.ConsumerInfo reply name) became at = Unit {0}
-NumbersDropped (whats.ConsumerNames reply offset) became at = Unit {0}
-NumbersDropped (whats.ConsumerList reply offset) became at = Unit {0}

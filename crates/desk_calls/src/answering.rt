@@ -5,7 +5,8 @@ ghost use Rattle.api_calls.specs.Names.{name_of};
 ghost use Rattle.js_api.specs.Leading.{Makes};
 ghost use Rattle.js_api.specs.OneStream.{IsEnded, is_done, is_info, is_taken};
 ghost use Rattle.js_api.specs.Stages.{Ending};
-ghost use Rattle.desk_calls.specs.Outcomes.{IsExplained, unmade};
+ghost use Rattle.desk_answers.specs.Became.{IsExplained};
+ghost use Rattle.desk_calls.specs.Outcomes.{unmade};
 
 use crate::ground::Ground;
 use crate::reason::Reason;

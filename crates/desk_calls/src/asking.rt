@@ -11,7 +11,7 @@ ghost use Rattle.js_api.specs.Leading.{Makes};
 ghost use Rattle.js_api.specs.OneStream.{IsAbsent, IsDeleting, IsOnStream, IsShowing, free_if_dropped};
 ghost use Rattle.desk_calls.specs.Grounds.{IsWithin, Knows, Outside, Owing, Within};
 ghost use Rattle.desk_calls.specs.Named.{GoesOnNamed};
-ghost use Rattle.desk_calls.specs.Outcomes.{IsExplained, is_dropped};
+ghost use Rattle.desk_answers.specs.Became.{IsExplained, is_dropped};
 
 use crate::answering::{end_call, unmade};
 use crate::freeing::free_if_dropped;

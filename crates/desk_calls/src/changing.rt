@@ -11,10 +11,10 @@ ghost use Rattle.js_model.specs.declared.event.What.TheVariants as whats;
 ghost use Rattle.js_api.specs.Holding.{Holds};
 ghost use Rattle.js_api.specs.Leading.{Makes};
 ghost use Rattle.js_api.specs.OneStream.{IsAbsent, IsChanging, IsOnStream, IsUpdating, keep_subjects};
-ghost use Rattle.desk_calls.specs.Asking.{MayAsk};
+ghost use Rattle.desk_answers.specs.Asking.{MayAsk};
 ghost use Rattle.desk_calls.specs.Grounds.{Between, IsBetween, IsWithin, Knows, Outside, Within};
 ghost use Rattle.desk_calls.specs.Named.{GoesOnNamed};
-ghost use Rattle.desk_calls.specs.Outcomes.{IsExplained};
+ghost use Rattle.desk_answers.specs.Became.{IsExplained};
 
 use crate::answering::{end_call, unmade};
 use crate::freeing::keep_subjects;

@@ -10,11 +10,12 @@ ghost use Rattle.js_model.specs.declared.event.What.TheVariants as whats;
 ghost use Rattle.js_api.specs.Holding.{Holds};
 ghost use Rattle.js_api.specs.Leading.{Makes};
 ghost use Rattle.js_api.specs.OneStream.{GoesOnAdded, IsAdding, IsCreating, IsOnStream, unchanged};
-ghost use Rattle.desk_calls.specs.Asking.{MayAsk};
+ghost use Rattle.desk_answers.specs.Asking.{MayAsk};
 ghost use Rattle.desk_calls.specs.Grounds.{IsWithin, Knows, Outside, Within};
 ghost use Rattle.desk_calls.specs.MakingAt.{IsMadeAt};
 ghost use Rattle.desk_calls.specs.Named.{GoesOnNamed};
-ghost use Rattle.desk_calls.specs.Outcomes.{IsExplained, IsThere};
+ghost use Rattle.desk_answers.specs.Became.{IsExplained};
+ghost use Rattle.desk_calls.specs.Outcomes.{IsThere};
 
 use crate::answering::{end_call, unmade};
 use crate::freeing::free_unless_made;

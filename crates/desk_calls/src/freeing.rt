@@ -4,7 +4,7 @@ ghost use Rattle.std.specs.Prelude.{◌≡◌, ◌<◌, ◌^◌, true, if◌then
 ghost use Rattle.js_model.specs.Cataloging.{HasPlace};
 ghost use Rattle.js_api.specs.OneStream.{free_if_dropped, free_unless_made, keep_subjects};
 ghost use Rattle.desk_calls.specs.Grounds.{Between, IsBetween, Knows, Owing, Within};
-ghost use Rattle.desk_calls.specs.Outcomes.{is_dropped};
+ghost use Rattle.desk_answers.specs.Became.{is_dropped};
 
 use crate::answering::{is_done, is_info};
 use crate::ground::Ground;

@@ -14,10 +14,11 @@ ghost use Rattle.js_api.specs.Holding.{Holds};
 ghost use Rattle.js_api.specs.Leading.{Makes};
 ghost use Rattle.js_api.specs.Publishing.{Offers};
 ghost use Rattle.js_api.specs.Stages.{LooksUp, SendsOne};
-ghost use Rattle.desk_calls.specs.Asking.{MayAsk};
+ghost use Rattle.desk_answers.specs.Asking.{MayAsk};
 ghost use Rattle.desk_calls.specs.Callers.{client_of};
 ghost use Rattle.desk_calls.specs.Grounds.{Between, IsBetween, IsTold, IsWithin, Knows, MayStop, Outside, Phase, Setting, Within, before_freeing, begun, changed_to};
-ghost use Rattle.desk_calls.specs.Outcomes.{CanBeShown, IsExplained, IsThere, MayHold, NumbersDropped, phase_after};
+ghost use Rattle.desk_answers.specs.Became.{CanBeShown, IsExplained, NumbersDropped};
+ghost use Rattle.desk_calls.specs.Outcomes.{IsThere, MayHold, phase_after};
 
 use crate::caller::Caller;
 use js_api::{DeskFault, Outcome};

@@ -12,7 +12,7 @@ ghost use Rattle.js_api.specs.Publishing.{IsMessage, IsReached, PublishesPlain, 
 ghost use Rattle.js_api.specs.Stages.{Ending};
 ghost use Rattle.desk_calls.specs.Callers.{client_of};
 ghost use Rattle.desk_calls.specs.Grounds.{IsWithin, Outside};
-ghost use Rattle.desk_calls.specs.Outcomes.{CanBeShown, IsExplained};
+ghost use Rattle.desk_answers.specs.Became.{CanBeShown, IsExplained};
 ghost use Rattle.desk_calls.specs.Plain.{IsPlain};
 
 use crate::answering::unmade;

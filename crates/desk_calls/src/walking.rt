@@ -5,7 +5,7 @@ ghost use Rattle.js_api.specs.AllStreams.{behind};
 ghost use Rattle.js_api.specs.Leading.{Makes};
 ghost use Rattle.desk_answers.specs.StreamInfos.{AreSound};
 ghost use Rattle.desk_calls.specs.Grounds.{IsWithin, Outside};
-ghost use Rattle.desk_calls.specs.Outcomes.{CanBeShown, IsExplained};
+ghost use Rattle.desk_answers.specs.Became.{CanBeShown, IsExplained};
 ghost use Rattle.desk_calls.specs.Walking.{AddsSound, AreSoundTo, IsVisit, IsVisitTold, IsWalk, further, most_to};
 
 use crate::ground::Ground;

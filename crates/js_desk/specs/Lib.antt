@@ -1,3 +1,4 @@
+pub mod Dropping
 pub mod Faults
 pub mod GivingBack
 pub mod Grounds

@@ -8,7 +8,7 @@ ghost use Rattle.js_model.specs.Routing.{waiting_for};
 ghost use Rattle.std.proofs.Common.{refl, ◌∙◌};
 ghost use Rattle.js_desk.specs.Grounds.{AreFresh, SoloMade, is_held, place_in, setting_of, volumes};
 ghost use Rattle.desk_calls.specs.Grounds.{Outside};
-ghost use Rattle.desk_calls.specs.Outcomes.{is_dropped};
+ghost use Rattle.desk_answers.specs.Became.{is_dropped};
 ghost use Rattle.std.specs.Prelude.{replicate};
 
 use crate::faults::desk_fault;
