@@ -2,6 +2,7 @@ mod Stages
 mod Outs
 mod Shorts
 mod OneStream
+mod Asked
 mod Known
 mod Defaults
 mod Published

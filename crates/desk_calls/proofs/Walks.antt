@@ -89,7 +89,7 @@ module _ {D : Type 0} (made : D → List DeskEntry → D → Type 0) (now : ℕ)
     looked = subst (λ (o : Option PlaceAt). LooksUp (catalog.NextUsed (behind last)) (Ok o) h.entries) (next last found at next_is).found_is
         (subst (λ (r : Result (Option PlaceAt) DeskFault). LooksUp (catalog.NextUsed (behind last)) r h.entries) is h.are)
 
-    visited : {reason : Result (Option Reason) DeskFault} {infos mids : List StreamInfo} {entries : List DeskEntry} → IsVisit at now reason infos mids entries → Visit
+    abbrev visited : {reason : Result (Option Reason) DeskFault} {infos mids : List StreamInfo} {entries : List DeskEntry} → IsVisit at now reason infos mids entries → Visit
     visited v = record { at = at; outcome = v.outcome }
 
     -- the walk goes on after this place

@@ -122,7 +122,7 @@ pub record Facts (at : PlaceAt) (what : What) (told : Became) (entries : List De
   pub counts : is_drop what ≡ true → is_dropped told ≡ true → kept_incarnation new.state ≡ kept_incarnation old.state + 1
   pub gone : told ≡ became.Gone → kept_incarnation old.state ≡ at.incarnation → ⊥
 
-is_gone : Became → Bool
+abbrev is_gone : Became → Bool
 is_gone became.Gone = true
 is_gone _ = false
 

@@ -6,12 +6,14 @@ use Rattle.js_model.specs.declared.desk.PlaceAt.{PlaceAt}
 use Rattle.js_model.specs.declared.route_fault.RouteFault.{RouteFault}
 use Rattle.js_model.specs.declared.route_fault.RouteFault.TheVariants as refused
 use Rattle.js_model.specs.Router as routes
-use Rattle.js_model.specs.Routing.{fault_told, publish_told, KeepsOpen}
+use Rattle.js_model.specs.Routing.{fault_told, collected_told, KeepsOpen}
+use Rattle.js_model.specs.declared.desk.Collected.{Collected}
+use Rattle.js_model.specs.declared.desk.Collected.TheVariants.{Frames, Slow}
 use Rattle.js_model.specs.Catalog.{Catalog}
 use Rattle.place_engine.specs.InMemory.{Contents}
 use Rattle.js_api.specs.declared.fault.DeskFault.{DeskFault}
 use Rattle.js_api.specs.declared.fault.DeskFault.TheVariants as faults
-use Rattle.js_api.specs.Answering.{DeskAnswer}
+use Rattle.js_api.specs.Answering.{DeskAnswer, gives}
 use Rattle.js_api.specs.Calls.{MaySay, Routes, Says}
 use Rattle.js_api.specs.Entries.{DeskEntry, Routed}
 use Rattle.js_api.specs.Leading.{Makes}
@@ -53,3 +55,8 @@ module _ {V : Type 0} (r new : routes.Router) (c : Catalog) (places : List (Cont
   -- the same sessions are open
   pub same_setting : KeepsOpen r new → setting_of (standing new c places ticked last turn).scene ≡ setting_of (standing r c places ticked last turn).scene
   same_setting h = ap (λ (o : ℕ → _). (record { opened = o; places = (setting_of (standing r c places ticked last turn).scene).places } : Setting)) (λ i n. h n i)
+
+  pub collected_so : (n max : ℕ) (got : Collected) → routes.IsRoute r (routes.Collect n max) (collected_told (Ok got)) new
+      → Makes SoloMade (Routes (routes.Collect n max) (Ok (gives got))) (standing r c places ticked last turn) (standing new c places ticked last turn)
+  collected_so n max (Frames list rest) h = routes_so (routes.Collect n max) (routes.Frames list rest) (Ok (gives (Frames list rest))) h tt refl
+  collected_so n max (Slow size) h = routes_so (routes.Collect n max) (routes.Slow size) (Ok (gives (Slow size))) h tt refl

@@ -107,6 +107,10 @@ AreFresh (place ∷ places) = (place.state ≡ Vacant 0) × AreFresh places
 
 -- ---- holds
 
+-- the turn after a hold, by which a stream was dropped or not
+abbrev pub after_hold : Turn → Bool → ℕ → Turn
+after_hold turn dropped place = if dropped then turns.Owing place else turn
+
 -- the place was held, also if its volume failed then
 abbrev pub is_held : Became → Bool
 is_held (Made reply) = true

@@ -1,16 +1,15 @@
 -- What contracts see of the desk of one caller.
-use Rattle.std.specs.Prelude.{◌≡◌, ◌≤◌, ◌++◌, ℕ, Bool, true, List, [], length}
+use Rattle.std.specs.Prelude.{◌≡◌, ◌≤◌, ℕ, true, List, [], length}
 use Rattle.js_model.specs.Router.{is_open}
 use Rattle.js_model.specs.Routing.{waiting_for}
 use Rattle.js_api.specs.Clients.{Client}
 use Rattle.js_api.specs.Entries.{DeskEntry}
-use Rattle.js_api.specs.Leading.{Leads, leads_more, leads_nothing}
+use Rattle.js_api.specs.Leading.{Leads}
 use Rattle.js_api.specs.Worlds.{Scene, SoloStep}
 use Rattle.desk_calls.specs.Callers.{client_of}
 use Rattle.desk_calls.specs.Grounds.{Outside}
 use Rattle.desk_calls.specs.declared.caller.Caller.{Caller}
 use Rattle.js_desk.specs.Grounds.{Standing}
-use Rattle.std.proofs.Common.{refl, ◌∙◌}
 
 -- what it stands on, its volumes, and the client of its session
 pub record Solo (V : Type 0) : Type 0 where
@@ -20,6 +19,10 @@ pub record Solo (V : Type 0) : Type 0 where
 
 abbrev pub solo : {V : Type 0} → Standing V → Caller → Solo V
 solo ground caller = record { scene = ground.scene; vols = ground.vols; client = client_of caller }
+
+-- entries lead from the one desk to the other, which keeps its volumes
+abbrev pub DeskMade : {V : Type 0} → Solo V → List DeskEntry → Solo V → Type 0
+DeskMade old entries new = Leads SoloStep old.scene entries new.scene × (new.vols ≡ old.vols)
 
 -- it is in no turn of the catalog, its open session is open in the router, and there is room for the volumes
 pub record IsConsistent {V : Type 0} (ground : Standing V) (caller : Caller) (given_back : List V) (capacity : ℕ) : Type 0 where

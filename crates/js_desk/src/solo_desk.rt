@@ -8,7 +8,7 @@ ghost use Rattle.js_api.specs.Leading.{Leads, Makes, leads_more, leads_nothing};
 ghost use Rattle.js_api.specs.Making.{MakesStream};
 ghost use Rattle.js_api.specs.Worlds.{SoloStep, opening};
 ghost use Rattle.js_desk.specs.GivingBack.{GivesBack};
-ghost use Rattle.js_desk.specs.Solo.{frames_left};
+ghost use Rattle.js_desk.specs.Solo.{DeskMade, frames_left};
 ghost use Rattle.std.proofs.Common.{refl, ◌∙◌};
 
 use crate::faults::{Closed, HubFault};
@@ -112,7 +112,7 @@ impl<V> SoloDesk<V> {
 impl<V> Desk for SoloDesk<V> {
     ghost client = { λ desk. desk.client };
 
-    ghost made = { λ old entries new. Leads SoloStep old.scene entries new.scene × (new.vols ≡ old.vols) };
+    ghost made = { λ old entries new. DeskMade old entries new };
 
     ghost left = { λ desk. frames_left desk };
 

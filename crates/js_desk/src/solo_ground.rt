@@ -1,11 +1,12 @@
 //! What the desk of one caller stands on: the router, the catalog and the places, which all are its own.
 
-ghost use Rattle.std.specs.Prelude.{◌≡◌, ◌≤◌, IfOk, None, length, map};
+ghost use Rattle.std.specs.Prelude.{◌≡◌, ◌≤◌, None, Some, if◌then◌else◌, length, map};
 ghost use Rattle.js_api.specs.Leading.{leads_more, leads_nothing};
 ghost use Rattle.js_api.specs.Worlds.{SoloStep, opening};
 ghost use Rattle.js_model.specs.Catalog.{new_place};
 ghost use Rattle.js_model.specs.Routing.{waiting_for};
 ghost use Rattle.std.proofs.Common.{refl, ◌∙◌};
+ghost use Rattle.js_desk.specs.Dropping.{is_drop};
 ghost use Rattle.js_desk.specs.Grounds.{AreFresh, SoloMade, is_held, place_in, setting_of, volumes};
 ghost use Rattle.desk_calls.specs.Grounds.{Outside};
 ghost use Rattle.desk_answers.specs.Became.{is_dropped};
@@ -62,17 +63,24 @@ fn is_dropped(became: &Became) -> bool
     }
 }
 
-/// Whether the place was held, also if its volume failed then.
-fn is_held(became: &Became) -> bool
-    ensures value { result ≡ is_held became.now }
+/// Whether a stream is asked to be dropped.
+fn is_drop(what: &What) -> bool
+    ensures value { result ≡ is_drop what.now }
+{
+    matches!(what, What::Drop { .. })
+}
+
+/// The place of the last hold after one at a place that became so: one that was made, or in which the volume failed, counts.
+fn last_of(became: &Became, at: PlaceAt, before: Option<PlaceAt>) -> Option<PlaceAt>
+    ensures value { result ≡ (if is_held became.now then Some at else before) }
 {
     match became {
-        Became::Made(_) => true,
-        Became::Ticked => true,
-        Became::Broke { stream: _ } => true,
-        Became::Nothing => false,
-        Became::Stopped { stream: _ } => false,
-        Became::Gone => false,
+        Became::Made(_) => Some(at),
+        Became::Ticked => Some(at),
+        Became::Broke { stream: _ } => Some(at),
+        Became::Nothing => before,
+        Became::Stopped { stream: _ } => before,
+        Became::Gone => before,
     }
 }
 
@@ -263,21 +271,19 @@ impl<V> Ground for SoloGround<V> {
     }
 
     fn hold(&mut self, at: PlaceAt, what: What, now: Moment) -> Outcome {
-        let drops = matches!(what, What::Drop { .. });
-        let held = hold_on(
+        let drops = is_drop(&what);
+        let outcome = hold_on(
+            self.alloc,
             &mut self.places[at.place as usize],
             &mut self.router,
             at,
             what,
             now,
         );
-        if drops && is_dropped(&held.became) {
-            self.turn = Turn::Owing(at.place);
-        }
-        if is_held(&held.became) {
-            self.last = Some(at);
-        }
-        held
+        let dropped = drops && is_dropped(&outcome.became);
+        self.turn = self.turn.after_hold(dropped, at.place);
+        self.last = last_of(&outcome.became, at, self.last);
+        outcome
     }
 
     ghost made_nothing = { λ ground. (leads_nothing SoloStep ground.scene, refl) };

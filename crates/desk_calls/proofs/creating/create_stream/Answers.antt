@@ -1,3 +1,4 @@
+use Rattle.desk_calls.proofs.Asked.{may_make}
 use Rattle.js_api.specs.Leading.{Makes}
 use Rattle.api_calls.specs.declared.call.ApiCall.TheVariants as calls
 use Rattle.api_calls.specs.Names.{name_of}
@@ -14,3 +15,6 @@ returns-in_err-found-clause-made g c = by_fault (λ r. Makes g.G.Ground.made (Is
 
 pub returns-clause-made : goal.returns-clause-made
 returns-clause-made g c = named_within g.G.Ground.made g.met.G.Ground.made_more c.args.stream.now (IsAdding c.args.stream.now c.args.config (GoesOnAdded c.args.config c.args.to.now c.args.now)) (λ at. IsOnStream (name_of calls.StreamCreate) at (whats.Make c.args.to.now c.args.config) c.args.now unchanged) c.begin.result c.in_ok-found.found c.create_found-result.result _ _ _ _ c.in_ok-found.was c.begin.ensures.made c.create_found-result.ensures.made c.end.ensures.made
+
+pub create_found-requires-clause-asked : goal.create_found-requires-clause-asked
+create_found-requires-clause-asked g c = may_make c.args.stream.now c.args.config c.args.to.now c.requires.setup c.requires.to
