@@ -1,21 +1,23 @@
 -- A hold by a router is a step of a desk that is alone.
 use Rattle.std.proofs.Common.{◌≡◌, ◌≢◌, ℕ, zero, suc, Bool, List, [], ◌∷◌, ◌++◌, Option, None, Some, refl, sym, ap, subst, ◌∙◌, inl, inr}
 use Rattle.std.specs.Prelude.{slice_get, slice_set}
+use Rattle.std.proofs.lemmas.Option.{same_Some}
 use Rattle.js_base.specs.Bytes.{Bytes}
+use Rattle.js_base.specs.declared.out.Out.{Out}
 use Rattle.js_model.specs.declared.desk.PlaceAt.{PlaceAt}
 use Rattle.js_model.specs.declared.event.What.{What}
 use Rattle.js_model.specs.PlaceStates.{PlaceIn}
-use Rattle.js_model.specs.Router.{Router, RouteTold, Routed as Answered, IsRoute, Interest, Listens, route, telling}
-use Rattle.js_base.specs.declared.out.Out.{Out}
+use Rattle.js_model.specs.Router.{Router, RouteTold, Routed as Answered, IsRoute, Interest, Listens, route}
 use Rattle.js_api.specs.declared.outcome.Became.{Became}
 use Rattle.js_api.specs.declared.outcome.Became.TheVariants.{Made, Ticked, Nothing, Broke, Stopped, Gone}
 use Rattle.js_api.specs.declared.outcome.Outcome.{Outcome}
-use Rattle.js_api.specs.Entries.{Reading, Hold, DeskEntry, Routed, Looked, Turned, Resumed, Held, Stirred, Halted, Missed, Spent}
+use Rattle.js_api.specs.Entries.{Reading, Hold, entries_in, DeskEntry, Routed, Looked, Turned, Resumed, Held, Stirred, Halted, Missed, Spent}
 use Rattle.js_api.specs.declared.fault.DeskFault.{DeskFault}
 use Rattle.js_api.specs.declared.fault.DeskFault.TheVariants as faults
 use Rattle.js_api.specs.Holding.{Holds, HoldsBy, Prepares, Unmakes}
 use Rattle.js_api.specs.Leading.{Leads, Makes}
-use Rattle.js_api.specs.Worlds.{AreRead, AreTried, Cursor, Scene, SoloStep, World}
+use Rattle.js_api.specs.Outputs.{outs_of}
+use Rattle.js_api.specs.Worlds.{AreRead, AreTried, Scene, SoloStep}
 use Rattle.desk_hold.specs.OnePlace.{HoldsOn, OnPlace, PlaceStep, on}
 use Rattle.desk_hold.specs.Ports.{AreHeard, AreSent}
 
@@ -48,20 +50,21 @@ tried_alone r (out ∷ outs) (t ∷ taken) s h = (h.0, h.1, h.2, h.3, tried_alon
 
 -- ---- the places
 
-set_same : {X : Type 0} (xs : List X) (i : ℕ) (x : X) → slice_get xs i ≡ Some x → slice_set xs i x ≡ xs
-set_same [] i x there = refl
-set_same (y ∷ xs) zero x there = ap (λ (o : X). o ∷ xs) (let is : y ≡ x = cc in sym is)
-set_same (y ∷ xs) (suc i) x there = ap (λ (l : List X). y ∷ l) (set_same xs i x there)
+module _ {X : Type 0} where
+  set_same : (xs : List X) (i : ℕ) (x : X) → slice_get xs i ≡ Some x → slice_set xs i x ≡ xs
+  set_same [] i x there = refl
+  set_same (y ∷ xs) zero x there = ap (λ (o : X). o ∷ xs) (sym (same_Some y x there))
+  set_same (y ∷ xs) (suc i) x there = ap (λ (l : List X). y ∷ l) (set_same xs i x there)
 
-set_there : {X : Type 0} (xs : List X) (i : ℕ) (old new : X) → slice_get xs i ≡ Some old → slice_get (slice_set xs i new) i ≡ Some new
-set_there [] i old new there = let no : ⊥ = cc in absurd no
-set_there (x ∷ xs) zero old new there = refl
-set_there (x ∷ xs) (suc i) old new there = set_there xs i old new there
+  set_there : (xs : List X) (i : ℕ) (old new : X) → slice_get xs i ≡ Some old → slice_get (slice_set xs i new) i ≡ Some new
+  set_there [] i old new there = let no : ⊥ = cc in absurd no
+  set_there (x ∷ xs) zero old new there = refl
+  set_there (x ∷ xs) (suc i) old new there = set_there xs i old new there
 
-set_twice : {X : Type 0} (xs : List X) (i : ℕ) (x y : X) → slice_set (slice_set xs i x) i y ≡ slice_set xs i y
-set_twice [] i x y = refl
-set_twice (z ∷ xs) zero x y = refl
-set_twice (z ∷ xs) (suc i) x y = ap (λ (l : List _). z ∷ l) (set_twice xs i x y)
+  set_twice : (xs : List X) (i : ℕ) (x y : X) → slice_set (slice_set xs i x) i y ≡ slice_set xs i y
+  set_twice [] i x y = refl
+  set_twice (z ∷ xs) zero x y = refl
+  set_twice (z ∷ xs) (suc i) x y = ap (λ (l : List X). z ∷ l) (set_twice xs i x y)
 
 -- ---- the scene
 
@@ -114,7 +117,8 @@ module _ (at : PlaceAt) where
               is_there = ap (λ (a : PlaceAt). slice_get scene.world.places a.place) h.at_is ∙ is;
               held = h.held;
               read = subst (λ (r : Router). AreRead r hold.readings) (sym router) read.1;
-              tried = subst (λ (r : Router). AreTried r _ k.taken new.port) (read.0 ∙ sym router) (tried_alone h.told _ k.taken new.port k.sent);
+              tried = subst (λ (r : Router). AreTried r (outs_of hold.before (entries_in hold)) k.taken new.port) (read.0 ∙ sym router)
+                  (tried_alone h.told (outs_of hold.before (entries_in hold)) k.taken new.port k.sent);
               sending = k.sending_is;
               places = ap (λ (a : PlaceAt). slice_set scene.world.places a.place new.place) (sym h.at_is);
               catalog = refl;
@@ -163,7 +167,7 @@ module _ (at : PlaceAt) where
 
   -- ---- the place of the last hold
 
-  pub last_of : Became → Option PlaceAt → Option PlaceAt
+  abbrev pub last_of : Became → Option PlaceAt → Option PlaceAt
   last_of (Made reply) last = Some at
   last_of Ticked last = Some at
   last_of Nothing last = last

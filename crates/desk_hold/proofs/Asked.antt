@@ -1,6 +1,6 @@
 -- What is asked of one place, and what its answer tells.
 use Rattle.std.proofs.Common.{◌≡◌, ℕ, ◌<◌, ◌≤◌, ◌^◌, ◌&&◌, Bool, true, false, List, Option, Some, None, refl, sym, ap, subst, ◌∙◌, IsTrue}
-use Rattle.std.specs.Prelude.{nat_le}
+use Rattle.std.specs.Prelude.{is_some, nat_le}
 use Rattle.std.proofs.lemmas.Bool.{and_from, le-leb}
 use Rattle.js_base.specs.Bytes.{Bytes}
 use Rattle.js_base.specs.Subjects.{is_subject_text}
@@ -67,3 +67,13 @@ number_made what became at now old new reply outs numbered e h = tt
 pub number_undone : (what : What) (became : Became) (at : PlaceAt) → is_dropped became ≡ false → NumbersDropped what became at
 number_undone (DropStream to) became at e = λ dropped. absurd (let not_both : false ≡ true = sym e ∙ dropped in cc)
 number_undone what became at e = tt
+
+-- ---- whether a place is stopped
+
+pub going_if : (stopped : Option ℕ) → is_some stopped ≡ false → stopped ≡ None
+going_if None e = refl
+going_if (Some count) e = absurd (let not_both : true ≡ false = e in cc)
+
+pub stopped_if : (stopped : Option ℕ) → is_some stopped ≡ true → (count : ℕ) × (stopped ≡ Some count)
+stopped_if None e = absurd (let not_both : false ≡ true = e in cc)
+stopped_if (Some count) e = (count, refl)

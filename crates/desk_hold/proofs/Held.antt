@@ -6,6 +6,7 @@ use Rattle.js_base.specs.declared.out.Out.{Out}
 use Rattle.js_model.specs.declared.stream.State.{State}
 use Rattle.js_model.specs.declared.stream.State.TheVariants.{Vacant, Live}
 use Rattle.js_model.specs.declared.consumer.Consumer.{Consumer}
+use Rattle.js_model.specs.declared.event.Event.{Event}
 use Rattle.js_model.specs.declared.event.What.{What}
 use Rattle.js_model.specs.declared.event.What.TheVariants.{Tick}
 use Rattle.js_model.specs.declared.reply.Reply.{Reply}
@@ -100,6 +101,16 @@ ends_unready (Some fault) ready hold none = tt
 -- ---- what a hold came to
 
 module _ {R : Type 0} (routes : R → RouteCall → RouteTold → R → Type 0) (worn : R → ℕ → R → Type 0) (at : PlaceAt) (what : What) (now : ℕ) where
+  pub as_told : (outcome told : Outcome) (a b : OnPlace R) → outcome ≡ told → HoldsOn routes worn at what now told a b → HoldsOn routes worn at what now outcome a b
+  as_told outcome told a b e h = subst (λ (o : Outcome). HoldsOn routes worn at what now o a b) (sym e) h
+
+  -- what ended an event, which is this one, with outputs that were none before
+  pub ends_at : (result : Result MadeStep PlaceFault) (event : Event) (old new : PlaceIn) (before outs : List Out) → event ≡ event_at at what → before ≡ []
+      → EndsStep result event now old new before outs → EndsStep result (event_at at what) now old new [] outs
+  ends_at result event old new before outs same none h =
+      subst (λ (os : List Out). EndsStep result (event_at at what) now old new os outs) none
+      (subst (λ (e : Event). EndsStep result e now old new before outs) same h)
+
   -- it was made
   pub held_made : (outcome : Outcome) (made : MadeStep) (old new : PlaceIn) (outs : List Out) (r s : R) → EndsStep (Ok made) (event_at at what) now old new [] outs
       → outcome.became ≡ Made made.reply → IsSilent new.state → outcome.ready ≡ some_ready new.state now [] → outcome.ready ≡ false → SendsStep routes worn outcome.fault made.unsaid outs r s

@@ -29,8 +29,14 @@ pub fn fault_of(sent: Result<(), PortFault>, unsaid: bool) -> Option<DeskFault>
     ensures value { result ≡ fault_of (sending_by sent) unsaid }
 {
     match sent {
-        Ok(()) if !unsaid => None,
-        Ok(()) | Err(PortFault::NoMemory) => Some(DeskFault::NoMemory),
+        Ok(()) => {
+            if unsaid {
+                Some(DeskFault::NoMemory)
+            } else {
+                None
+            }
+        }
+        Err(PortFault::NoMemory) => Some(DeskFault::NoMemory),
         Err(PortFault::Worn(number)) => Some(DeskFault::Worn(number)),
     }
 }
