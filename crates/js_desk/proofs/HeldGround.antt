@@ -11,7 +11,7 @@ use Rattle.js_model.specs.Catalog.{Catalog, Place}
 use Rattle.js_model.specs.Cataloging.{HasPlace}
 use Rattle.js_model.specs.Events.{kept_incarnation}
 use Rattle.js_model.specs.PlaceStates.{PlaceIn, in_memory}
-use Rattle.js_model.specs.Router.{Router}
+use Rattle.js_model.specs.Router.{Router, IsRoute}
 use Rattle.place_engine.specs.InMemory.{Contents}
 use Rattle.place_engine.specs.Places.{IsBuilt}
 use Rattle.js_api.specs.declared.outcome.Became.{Became}
@@ -30,7 +30,7 @@ use Rattle.js_desk.specs.declared.turn.Turn.{Turn}
 use Rattle.js_desk.specs.declared.turn.Turn.TheVariants as turns
 use Rattle.js_desk.specs.Dropping.{is_drop}
 use Rattle.js_desk.specs.Grounds.{AreAgreed, AreSingle, IsGrounded, SoloMade, after_hold, is_held, is_owing, phase_of, place_in, standing, told_incarnation, vol_of, volumes}
-use Rattle.js_desk.proofs.HeldAlone.{Calls, Never, last_after, led_alone, with_place}
+use Rattle.desk_hold.proofs.Alone.{held_alone, last_of, never, with_place}
 use Rattle.js_desk.proofs.HoldFacts.{Facts, hold_facts}
 use Rattle.js_desk.proofs.Looked.{within_is}
 use Rattle.js_desk.proofs.Sets.{get_other, get_set, length_set, map_get, map_set, set_same}
@@ -167,24 +167,32 @@ module _ {V : Type 0} (c : Catalog) (places : List (Contents V)) (last : Option 
 -- ---- the entries
 
 module _ {V : Type 0} (r router : Router) (c : Catalog) (places : List (Contents V)) (ticked : ℕ) (last : Option PlaceAt) (turn : Turn) (at : PlaceAt) (old new : Contents V) (there : slice_get places at.place ≡ Some old)
-    (what : What) (now : ℕ) (outcome : Outcome) (built : IsBuilt what) (h : HoldsOn Calls Never at what now outcome (on (place_in old) r) (on (place_in new) router)) where
+    (what : What) (now : ℕ) (outcome : Outcome) (built : IsBuilt what) (h : HoldsOn IsRoute never at what now outcome (on (place_in old) r) (on (place_in new) router)) where
   pub facts_of : Facts at what outcome.became h.entries (place_in old) (place_in new)
   facts_of = hold_facts at what now built outcome h.entries (on (place_in old) r) (on (place_in new) router) h.holds h.led refl
+
+  last_so : (told : Became) → last_of at told last ≡ (if is_held told then Some at else last)
+  last_so (became.Made reply) = refl
+  last_so became.Ticked = refl
+  last_so became.Nothing = refl
+  last_so (became.Broke stream) = refl
+  last_so (became.Stopped stream) = refl
+  last_so became.Gone = refl
 
   pub made_of : (after : Turn) → new.vol ≡ old.vol
       → Makes SoloMade (Holds at what now outcome) (standing r c places ticked last turn) (standing router c (slice_set places at.place new) ticked (if is_held outcome.became then Some at else last) after)
   made_of after same =
       let s : Scene = (standing r c places ticked last turn).scene in
-      let led = led_alone at s (on (place_in old) r) (on (place_in new) router) h.entries (map_get place_in places at.place old there) refl h.led in
-      let ends : with_place at s (on (place_in new) router) (last_after h.entries last) ≡ (standing router c (slice_set places at.place new) ticked (if is_held outcome.became then Some at else last) after).scene =
-          ap (λ (l : Option PlaceAt). with_place at s (on (place_in new) router) l) (facts_of.last last)
+      let m = held_alone at what now outcome s (place_in old) (place_in new) router (map_get place_in places at.place old there) h in
+      let ends : with_place s at.place (on (place_in new) router) (last_of at outcome.became last) ≡ (standing router c (slice_set places at.place new) ticked (if is_held outcome.became then Some at else last) after).scene =
+          ap (λ (l : Option PlaceAt). with_place s at.place (on (place_in new) router) l) (last_so outcome.became)
           ∙ ap (λ (ps : List PlaceIn). record { world = record { router = router; catalog = c; places = ps }; cursor = record { ticked = ticked; last = if is_held outcome.became then Some at else last } })
           (sym (map_set place_in places at.place new)) in
       record {
-        entries = h.entries;
-        are = h.holds;
+        entries = m.entries;
+        are = m.are;
         led = (
-          subst (λ (x : Scene). Leads SoloStep s h.entries x) ends led,
+          subst (λ (x : Scene). Leads SoloStep s m.entries x) ends m.led,
           map_set vol_of places at.place new ∙ set_same (volumes places) at.place new.vol (map_get vol_of places at.place old there ∙ ap Some (sym same)),
         );
       }

@@ -1,4 +1,4 @@
--- What a hold that was told so made of its place: the incarnation that is kept there, and the place of the last hold.
+-- What a hold that was told so made of the incarnation that its place keeps.
 use Rattle.std.proofs.Common.{◌≡◌, ◌⊎◌, ◌+◌, ℕ, Bool, true, false, List, [], ◌∷◌, ◌++◌, length, Option, Some, None, refl, sym, ap, subst, ◌∙◌, inl, inr, append-nil, if◌then◌else◌}
 use Rattle.js_base.specs.Bytes.{Bytes}
 use Rattle.js_base.specs.declared.out.Out.{Out}
@@ -15,7 +15,7 @@ use Rattle.js_model.specs.declared.reply.Reply.TheVariants.{Done, Silent}
 use Rattle.js_model.specs.declared.desk.PlaceAt.{PlaceAt}
 use Rattle.js_model.specs.Events.{Answer, IsEvent, answered, kept_incarnation}
 use Rattle.js_model.specs.PlaceStates.{PlaceIn, VolumeAt}
-use Rattle.js_model.specs.Router.{Router}
+use Rattle.js_model.specs.Router.{Router, IsRoute}
 use Rattle.js_model.specs.Runs.{RunFrom, IsStep, new_messages}
 use Rattle.place_engine.specs.Places.{IsBuilt}
 use Rattle.js_api.specs.declared.fault.DeskFault.{DeskFault}
@@ -30,9 +30,8 @@ use Rattle.js_api.specs.OneStream.{is_done}
 use Rattle.js_api.specs.Worlds.{IsHeld, Stops, is_broken}
 use Rattle.desk_answers.specs.Became.{is_dropped}
 use Rattle.desk_hold.specs.OnePlace.{OnPlace, PlaceStep, IsHeldOn}
+use Rattle.desk_hold.proofs.Alone.{never}
 use Rattle.js_desk.specs.Dropping.{is_drop}
-use Rattle.js_desk.specs.Grounds.{is_held}
-use Rattle.js_desk.proofs.HeldAlone.{Calls, Never, last_after}
 use Rattle.js_desk.proofs.Incarnations.{event_keeps, drop_counts, undropped_keeps, delivery_keeps}
 
 -- ---- the runs of a hold
@@ -117,7 +116,6 @@ is_done_so (replies.Refused error) e = absurd (cc)
 
 -- what a hold that became so made of its place
 pub record Facts (at : PlaceAt) (what : What) (told : Became) (entries : List DeskEntry) (old new : PlaceIn) : Type 0 where
-  pub last : (before : Option PlaceAt) → last_after entries before ≡ (if is_held told then Some at else before)
   pub keeps : (is_drop what ≡ true → is_dropped told ≡ false) → kept_incarnation new.state ≡ kept_incarnation old.state
   pub counts : is_drop what ≡ true → is_dropped told ≡ true → kept_incarnation new.state ≡ kept_incarnation old.state + 1
   pub gone : told ≡ became.Gone → kept_incarnation old.state ≡ at.incarnation → ⊥
@@ -128,13 +126,12 @@ is_gone _ = false
 
 module _ (at : PlaceAt) (what : What) (now : ℕ) (built : IsBuilt what) where
   -- a hold of one entry
-  one_held : (hold : Hold) (old new : OnPlace Router) → Leads (PlaceStep Calls Never at) old (Held hold ∷ []) new → IsHeld hold old.place new.place
+  one_held : (hold : Hold) (old new : OnPlace Router) → Leads (PlaceStep IsRoute never at) old (Held hold ∷ []) new → IsHeld hold old.place new.place
   one_held hold old new l = subst (λ (o : OnPlace Router). IsHeld hold old.place o.place) l.2 l.1.held
 
   made_facts : (reply : Reply) (ready : Bool) (fault : Option DeskFault) (hold : Hold) → IsHold at what now reply ready fault hold → (old new : PlaceIn) → IsHeld hold old new
       → Facts at what (became.Made reply) (Held hold ∷ []) old new
   made_facts reply ready fault hold h old new held = record {
-    last = λ before. ap Some h.at_is;
     keeps = keeps_if (is_drop what) refl;
     counts = λ is done. made_counts at what now reply ready fault hold h old new held is (is_done_so reply done);
     gone = λ is. absurd (let no : false ≡ true = ap is_gone is in cc);
@@ -145,77 +142,70 @@ module _ (at : PlaceAt) (what : What) (now : ℕ) (built : IsBuilt what) where
       keeps_if true e other = made_undropped at what now reply ready fault hold h old new held e (λ done. absurd (let yes : is_done reply ≡ true = ap is_done done in cc (yes, other e)))
 
   -- the place is as it was
-  rests : (told : Became) (entries : List DeskEntry) (old new : PlaceIn) → is_held told ≡ false → is_dropped told ≡ false → ((before : Option PlaceAt) → last_after entries before ≡ before)
-      → new.state ≡ old.state → (told ≡ became.Gone → kept_incarnation old.state ≡ at.incarnation → ⊥) → Facts at what told entries old new
-  rests told entries old new unheld undropped last same gone = record {
-    last = λ before. last before ∙ sym (ap (λ (b : Bool). if b then Some at else before) unheld);
+  rests : (told : Became) (entries : List DeskEntry) (old new : PlaceIn) → is_dropped told ≡ false → new.state ≡ old.state → (told ≡ became.Gone → kept_incarnation old.state ≡ at.incarnation → ⊥) → Facts at what told entries old new
+  rests told entries old new undropped same gone = record {
     keeps = λ other. ap kept_incarnation same;
     counts = λ is done. absurd (cc (undropped, done));
     gone = gone;
   }
 
   by_became : (told : Became) (ready : Bool) (fault : Option DeskFault) (entries : List DeskEntry) (old new : OnPlace Router) → HoldsBy told at what now ready fault entries
-      → Leads (PlaceStep Calls Never at) old entries new → new.place.stopped ≡ None → Facts at what told entries old.place new.place
+      → Leads (PlaceStep IsRoute never at) old entries new → new.place.stopped ≡ None → Facts at what told entries old.place new.place
   by_became (became.Made reply) ready fault entries old new h l going =
-      let led = subst (λ (es : List DeskEntry). Leads (PlaceStep Calls Never at) old es new) h.1 l in
+      let led = subst (λ (es : List DeskEntry). Leads (PlaceStep IsRoute never at) old es new) h.1 l in
       subst (λ (es : List DeskEntry). Facts at what (became.Made reply) es old.place new.place) (sym h.1) (made_facts reply ready fault h.0 h.2 old.place new.place (one_held h.0 old new led))
   by_became became.Ticked ready fault entries old new h l going =
-      let led = subst (λ (es : List DeskEntry). Leads (PlaceStep Calls Never at) old es new) h.1 l in
+      let led = subst (λ (es : List DeskEntry). Leads (PlaceStep IsRoute never at) old es new) h.1 l in
       let held = one_held h.0 old new led in
       let same : kept_incarnation new.place.state ≡ kept_incarnation old.place.state = made_keeps at whats.Tick now Silent ready fault h.0 h.2 old.place new.place held tt refl in
       subst (λ (es : List DeskEntry). Facts at what became.Ticked es old.place new.place) (sym h.1) (record {
-        last = λ before. ap Some h.2.at_is;
         keeps = λ other. same;
         counts = λ is done. absurd (cc);
         gone = λ is. absurd (let no : false ≡ true = ap is_gone is in cc);
       })
   by_became became.Nothing ready None entries old new h l going = absurd h.1
   by_became became.Nothing ready (Some faults.NoMemory) entries old new h l going =
-      let led = subst (λ (es : List DeskEntry). Leads (PlaceStep Calls Never at) old es new) h.1 l in
-      rests became.Nothing entries old.place new.place refl refl (λ before. ap (λ (es : List DeskEntry). last_after es before) h.1) (ap (λ (o : OnPlace Router). o.place.state) (sym led))
+      let led = subst (λ (es : List DeskEntry). Leads (PlaceStep IsRoute never at) old es new) h.1 l in
+      rests became.Nothing entries old.place new.place refl (ap (λ (o : OnPlace Router). o.place.state) (sym led))
       (λ is. absurd (let no : false ≡ true = ap is_gone is in cc))
   by_became became.Nothing ready (Some faults.TooManySubs) entries old new h l going = absurd h.1
   by_became became.Nothing ready (Some (faults.Worn number)) entries old new h l going = by h.1
     where
       by : Unmakes at (Some (faults.Worn number)) entries → Facts at what became.Nothing entries old.place new.place
-      by (inl spent) = absurd (subst (λ (es : List DeskEntry). Leads (PlaceStep Calls Never at) old es new) spent l).1
+      by (inl spent) = absurd (subst (λ (es : List DeskEntry). Leads (PlaceStep IsRoute never at) old es new) spent l).1
       by (inr stirred) =
-          let led = subst (λ (es : List DeskEntry). Leads (PlaceStep Calls Never at) old es new) stirred.2 l in
-          rests became.Nothing entries old.place new.place refl refl (λ before. ap (λ (es : List DeskEntry). last_after es before) stirred.2)
-          (ap (λ (o : OnPlace Router). o.place.state) (sym led.2) ∙ led.1.stirred.state) (λ is. absurd (let no : false ≡ true = ap is_gone is in cc))
+          let led = subst (λ (es : List DeskEntry). Leads (PlaceStep IsRoute never at) old es new) stirred.2 l in
+          rests became.Nothing entries old.place new.place refl (ap (λ (o : OnPlace Router). o.place.state) (sym led.2) ∙ led.1.stirred.state) (λ is. absurd (let no : false ≡ true = ap is_gone is in cc))
   by_became became.Nothing ready (Some (faults.NoSession latest)) entries old new h l going = absurd h.1
   by_became (became.Broke stream) ready fault entries old new h l going =
-      let led = subst (λ (es : List DeskEntry). Leads (PlaceStep Calls Never at) old es new) h.1 l in
+      let led = subst (λ (es : List DeskEntry). Leads (PlaceStep IsRoute never at) old es new) h.1 l in
       let held = one_held h.0 old new led in
       let broken : is_broken (entries_in h.0) ≡ true =
           ap (λ (es : List PlaceEntry). is_broken (es ++ h.0.deliveries)) h.2.steps in
       let stops = subst (λ (b : Bool). Stops b h.0.volume_before h.0.volume_after new.place.stopped) broken held.stops in
       absurd (cc (stops.0, going))
   by_became (became.Stopped stream) ready fault entries old new h l going =
-      let led = subst (λ (es : List DeskEntry). Leads (PlaceStep Calls Never at) old es new) h.1 l in
-      rests (became.Stopped stream) entries old.place new.place refl refl (λ before. ap (λ (es : List DeskEntry). last_after es before) h.1)
-      (ap (λ (o : OnPlace Router). o.place.state) (sym led.2 ∙ led.1.same)) (λ is. absurd (let no : false ≡ true = ap is_gone is in cc))
+      let led = subst (λ (es : List DeskEntry). Leads (PlaceStep IsRoute never at) old es new) h.1 l in
+      rests (became.Stopped stream) entries old.place new.place refl (ap (λ (o : OnPlace Router). o.place.state) (sym led.2 ∙ led.1.same)) (λ is. absurd (let no : false ≡ true = ap is_gone is in cc))
   by_became became.Gone ready fault entries old new h l going =
-      let led = subst (λ (es : List DeskEntry). Leads (PlaceStep Calls Never at) old es new) h.1 l in
-      rests became.Gone entries old.place new.place refl refl (λ before. ap (λ (es : List DeskEntry). last_after es before) h.1)
-      (ap (λ (o : OnPlace Router). o.place.state) (sym led.2 ∙ led.1.same)) (λ is same. led.1.other (sym led.1.kept_is ∙ same))
+      let led = subst (λ (es : List DeskEntry). Leads (PlaceStep IsRoute never at) old es new) h.1 l in
+      rests became.Gone entries old.place new.place refl (ap (λ (o : OnPlace Router). o.place.state) (sym led.2 ∙ led.1.same)) (λ is same. led.1.other (sym led.1.kept_is ∙ same))
 
-  pub hold_facts : (outcome : Outcome) (entries : List DeskEntry) (old new : OnPlace Router) → Holds at what now outcome entries → Leads (PlaceStep Calls Never at) old entries new → new.place.stopped ≡ None
+  pub hold_facts : (outcome : Outcome) (entries : List DeskEntry) (old new : OnPlace Router) → Holds at what now outcome entries → Leads (PlaceStep IsRoute never at) old entries new → new.place.stopped ≡ None
       → Facts at what outcome.became entries old.place new.place
-  hold_facts outcome entries old new h l going = by h.first h.prepares (subst (λ (es : List DeskEntry). Leads (PlaceStep Calls Never at) old es new) h.entries_are l) h.entries_are
+  hold_facts outcome entries old new h l going = by h.first h.prepares (subst (λ (es : List DeskEntry). Leads (PlaceStep IsRoute never at) old es new) h.entries_are l) h.entries_are
     where
-      by : (first : List DeskEntry) → Prepares at first → Leads (PlaceStep Calls Never at) old (first ++ h.more) new → entries ≡ first ++ h.more → Facts at what outcome.became entries old.place new.place
+      by : (first : List DeskEntry) → Prepares at first → Leads (PlaceStep IsRoute never at) old (first ++ h.more) new → entries ≡ first ++ h.more → Facts at what outcome.became entries old.place new.place
       by first (inl none) led e =
-          let bare = subst (λ (fs : List DeskEntry). Leads (PlaceStep Calls Never at) old (fs ++ h.more) new) none led in
+          let bare = subst (λ (fs : List DeskEntry). Leads (PlaceStep IsRoute never at) old (fs ++ h.more) new) none led in
           let same : entries ≡ h.more = e ∙ ap (λ (fs : List DeskEntry). fs ++ h.more) none in
           subst (λ (es : List DeskEntry). Facts at what outcome.became es old.place new.place) (sym same) (by_became outcome.became outcome.ready outcome.fault h.more old new h.holds bare going)
       by first (inr stirred) led e =
-          let both = subst (λ (fs : List DeskEntry). Leads (PlaceStep Calls Never at) old (fs ++ h.more) new) stirred.3 led in
+          let both = subst (λ (fs : List DeskEntry). Leads (PlaceStep IsRoute never at) old (fs ++ h.more) new) stirred.3 led in
           let same : entries ≡ Stirred at stirred.0 stirred.1 stirred.2 ∷ h.more = e ∙ ap (λ (fs : List DeskEntry). fs ++ h.more) stirred.3 in
           let f = by_became outcome.became outcome.ready outcome.fault h.more both.0 new h.holds both.2 going in
           let state : both.0.place.state ≡ old.place.state = both.1.stirred.state in
           subst (λ (es : List DeskEntry). Facts at what outcome.became es old.place new.place) (sym same) (record {
-            last = f.last;
             keeps = λ other. f.keeps other ∙ ap kept_incarnation state;
             counts = λ is done. f.counts is done ∙ ap (λ (s : State). kept_incarnation s + 1) state;
             gone = λ is kept. f.gone is (ap kept_incarnation state ∙ kept);

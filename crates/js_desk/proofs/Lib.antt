@@ -4,13 +4,11 @@ pub mod Closing
 pub mod Edits
 pub mod Found
 pub mod GivenBack
-pub mod HeldAlone
 pub mod HeldGround
 pub mod HoldFacts
 pub mod Incarnations
 pub mod Looked
 pub mod Lookups
-pub mod Refused
 pub mod Routed
 pub mod Sets
 pub mod Solos

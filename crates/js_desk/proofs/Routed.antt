@@ -21,7 +21,7 @@ use Rattle.desk_calls.specs.Grounds.{Setting}
 use Rattle.js_desk.specs.declared.turn.Turn.{Turn}
 use Rattle.js_desk.specs.Faults.{desk_fault}
 use Rattle.js_desk.specs.Grounds.{SoloMade, setting_of, standing}
-use Rattle.js_desk.proofs.Refused.{open_kind, sub_kind, wants, never}
+use Rattle.desk_hold.proofs.Refused.{open_kind, sub_kind, wants, never}
 
 -- ---- why a call is refused
 

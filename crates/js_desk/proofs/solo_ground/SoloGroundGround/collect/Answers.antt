@@ -4,7 +4,7 @@ use Rattle.js_api.specs.Answering.{Done, Gave, Opened, Slow, gives}
 use Rattle.js_desk.specs.Faults.{desk_fault}
 use Rattle.js_model.specs.Routing.{fault_told}
 use Rattle.js_api.specs.declared.fault.DeskFault.TheVariants as faults
-use Rattle.js_desk.proofs.Refused.{collect_done, wants}
+use Rattle.desk_hold.proofs.Refused.{collect_done, wants}
 use Rattle.js_desk.proofs.Routed.{collected_so, routes_so, same_setting}
 use Rattle.js_desk.proofs.solo_ground.SoloGroundGround.collect.Goals as goal
 

@@ -1,7 +1,7 @@
 use Rattle.std.proofs.Common.{Ok, Some, refl, ◌∷◌, []}
 use Rattle.js_model.specs.Router as routes
 use Rattle.js_api.specs.Entries.{Routed}
-use Rattle.js_desk.proofs.Refused.{publish_done, wants}
+use Rattle.desk_hold.proofs.Refused.{publish_done, wants}
 use Rattle.js_desk.proofs.Routed.{routed, same_setting}
 use Rattle.js_desk.proofs.solo_ground.SoloGroundGround.publish.Goals as goal
 

@@ -1,7 +1,7 @@
 use Rattle.std.proofs.Common.{Ok, refl}
 use Rattle.js_model.specs.Router as routes
 use Rattle.js_api.specs.Answering.{Done, Gave, Opened, Slow, gives}
-use Rattle.js_desk.proofs.Refused.{never, unsub_done}
+use Rattle.desk_hold.proofs.Refused.{never, unsub_done}
 use Rattle.js_desk.proofs.Routed.{routes_so, same_setting}
 use Rattle.js_desk.proofs.solo_ground.SoloGroundGround.unsub.Goals as goal
 
