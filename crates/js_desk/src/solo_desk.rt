@@ -7,7 +7,7 @@ ghost use Rattle.stream_config.specs.Defaults.{default_config};
 ghost use Rattle.js_api.specs.Leading.{Leads, Makes, leads_more, leads_nothing};
 ghost use Rattle.js_api.specs.Making.{MakesStream};
 ghost use Rattle.js_api.specs.Worlds.{SoloStep, opening};
-ghost use Rattle.js_desk.specs.GivingBack.{GivesBack};
+ghost use Rattle.js_desk.specs.GivingBack.{Closes, GivesBack};
 ghost use Rattle.js_desk.specs.Solo.{DeskMade, frames_left};
 ghost use Rattle.std.proofs.Common.{refl, ◌∙◌};
 
@@ -95,6 +95,7 @@ impl<V> SoloDesk<V> {
     pub fn close_all(self) -> Closed<V>
         ensures vols { result.vols.items ≡ self.vols }
         ensures failed { result.failed ≡ None }
+        ensures closes { Closes self.scene.world result }
     {
         let SoloDesk {
             ground,
