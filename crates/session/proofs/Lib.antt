@@ -11,7 +11,6 @@ pub mod Parted
 pub mod Stopped
 pub mod Ticked
 pub mod Heard
-pub mod Rested
 pub mod Turned
 pub mod Conversing
 pub mod Served

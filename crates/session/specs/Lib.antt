@@ -4,6 +4,7 @@ pub mod Keeping
 pub mod Peer
 pub mod Calling
 pub mod Gathering
+pub mod Stopping
 pub mod Leading
 pub mod Talk
 pub mod Manners

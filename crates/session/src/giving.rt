@@ -34,7 +34,7 @@ impl From<GiveFault> for Ended {
     }
 }
 
-/// Gives all of the bytes. An `Err` gave a front of them.
+/// Gives all of the bytes. An `Err` gave a prefix of them.
 pub(crate) fn give_all<L: Link>(link: &mut L, bytes: &[u8]) -> Result<(), GiveFault>
     ensures given { Gives result (L.given link.old) (L.given link.new) bytes.now }
     ensures answered { L.answered link.new ≡ L.answered link.old }
@@ -52,7 +52,7 @@ pub(crate) fn give_all<L: Link>(link: &mut L, bytes: &[u8]) -> Result<(), GiveFa
     Ok(())
 }
 
-/// Gives the bytes that wait, where they are many.
+/// Gives the bytes that wait, if they are many.
 pub(crate) fn flush<L: Link>(link: &mut L, waiting: &mut Vec<u8>) -> Result<(), GiveFault>
     ensures flushes { Flushes result (L.given link.old) (L.given link.new) waiting.old.items waiting.new.items }
     ensures answered { L.answered link.new ≡ L.answered link.old }
@@ -70,7 +70,7 @@ pub(crate) fn flush<L: Link>(link: &mut L, waiting: &mut Vec<u8>) -> Result<(), 
     }
 }
 
-/// Gives a frame. An `Err` gave a front of its bytes.
+/// Gives a frame. An `Err` gave a prefix of its bytes.
 pub(crate) fn give_frame<L: Link>(
     alloc: Global,
     link: &mut L,
