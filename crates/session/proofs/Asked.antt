@@ -79,11 +79,14 @@ module _ {D : Type 0} (made : D → List DeskEntry → D → Type 0) (client : C
 
   -- ---- the session ends there
 
+  -- it ended so
+  abbrev CutsOff : Request → Ended → D → D → Bytes → Bytes → Type 0
+  CutsOff request cause old new a b = Cuts made cause old new a b (EndsInCall client request cause)
+
   -- in the call, or for what is said after it
-  pub asked_last : (stop : Stop) (said : List Called → Bytes) (old new : D) (a b : Bytes) (request : Request) (call : DeskCall) (answer : Result DeskAnswer DeskFault)
-      → request ≡ Calls call → Makes made (Does client call answer) old new → cause_of stop ≡ end_after answer → IsAdded (cause_of stop) b a
-      → Asks made client request said old new a b (Err stop)
-  asked_last stop said old new a b request call answer r m e w =
+  pub asked_last : (cause : Ended) (old new : D) (a b : Bytes) (request : Request) (call : DeskCall) (answer : Result DeskAnswer DeskFault)
+      → request ≡ Calls call → Makes made (Does client call answer) old new → cause ≡ end_after answer → IsAdded cause b a → CutsOff request cause old new a b
+  asked_last cause old new a b request call answer r m e w =
       let called : Called = record { call = call; answer = answer; entries = m.entries } in
       record {
         calls = called ∷ [];
@@ -94,14 +97,14 @@ module _ {D : Type 0} (made : D → List DeskEntry → D → Type 0) (client : C
       }
 
   -- the call was answered, and memory ran out for what is said
-  pub unsaid : (said : List Called → Bytes) (old new : D) (a b : Bytes) (request : Request) (call : DeskCall) (answer : Result DeskAnswer DeskFault)
-      → request ≡ Calls call → Makes made (Does client call answer) old new → ends.NoMemory ≡ end_after answer → Asks made client request said old new a b (Err stops.NoMemory)
-  unsaid said old new a b request call answer r m e = asked_last stops.NoMemory said old new a b request call answer r m e (λ n. cc)
+  pub unsaid : (old new : D) (a b : Bytes) (request : Request) (call : DeskCall) (answer : Result DeskAnswer DeskFault)
+      → request ≡ Calls call → Makes made (Does client call answer) old new → ends.NoMemory ≡ end_after answer → CutsOff request ends.NoMemory old new a b
+  unsaid old new a b request call answer r m e = asked_last ends.NoMemory old new a b request call answer r m e (λ n. cc)
 
   -- nothing was asked
-  pub declined : (refusal : Refusal) (said : List Called → Bytes) (old : D) (a : Bytes) (request : Request) → request ≡ IsRefused refusal → made old [] old
-      → Asks made client request said old old a a (Err (stops.Refused refusal))
-  declined refusal said old a request r h = record {
+  pub declined : (refusal : Refusal) (old : D) (a : Bytes) (request : Request) → request ≡ IsRefused refusal → made old [] old
+      → CutsOff request (ends.Refused refusal) old old a a
+  declined refusal old a request r h = record {
     calls = [];
     said = [];
     are = (Declined refusal r refl refl, refl);
@@ -109,21 +112,21 @@ module _ {D : Type 0} (made : D → List DeskEntry → D → Type 0) (client : C
     added = λ n. sym (append-nil a);
   }
 
-  pub unasked : (said : List Called → Bytes) (old : D) (a b : Bytes) (request : Request) → made old [] old → Asks made client request said old old a b (Err stops.NoMemory)
-  unasked said old a b request h = record { calls = []; said = []; are = (Unasked refl refl, refl); led = h; added = λ n. cc }
+  pub unasked : (old : D) (a b : Bytes) (request : Request) → made old [] old → CutsOff request ends.NoMemory old old a b
+  unasked old a b request h = record { calls = []; said = []; are = (Unasked refl refl, refl); led = h; added = λ n. cc }
 
   -- ---- the stop is told
 
   pub stopped_as : (request : Request) (said : List Called → Bytes) (old new : D) (a b : Bytes) (result : Result (Unit {0}) Stop) (stop : Stop)
-      → IsErrAnd result (λ (other : Stop). other ≡ stop) → Asks made client request said old new a b (Err stop) → Asks made client request said old new a b result
+      → IsErrAnd result (λ (other : Stop). other ≡ stop) → CutsOff request (cause_of stop) old new a b → Asks made client request said old new a b result
   stopped_as request said old new a b (Ok x) stop e h = absurd e
-  stopped_as request said old new a b (Err other) stop e h = subst (λ (s : Stop). Asks made client request said old new a b (Err s)) (sym e) h
+  stopped_as request said old new a b (Err other) stop e h = subst (λ (s : Stop). CutsOff request (cause_of s) old new a b) (sym e) h
 
   pub stopped_by : (request : Request) (said : List Called → Bytes) (old new : D) (a b : Bytes) (result : Result (Unit {0}) Stop) (call : DeskCall) (answer : Result DeskAnswer DeskFault)
       → IsErrAnd result (λ (stop : Stop). cause_of stop ≡ end_after answer) → request ≡ Calls call → Makes made (Does client call answer) old new → b ≡ a
       → Asks made client request said old new a b result
   stopped_by request said old new a b (Ok x) call answer e r m w = absurd e
-  stopped_by request said old new a b (Err stop) call answer e r m w = asked_last stop said old new a b request call answer r m e (λ n. w)
+  stopped_by request said old new a b (Err stop) call answer e r m w = asked_last (cause_of stop) old new a b request call answer r m e (λ n. w)
 
 -- ---- a publish
 

@@ -6,6 +6,7 @@ pub mod Carried
 pub mod Connected
 pub mod Framed
 pub mod GivenBytes
+pub mod Failed
 pub mod Behind
 pub mod Parted
 pub mod Stopped

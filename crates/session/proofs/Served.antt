@@ -1,5 +1,5 @@
 -- Laws of a whole session: its opening, its turns, and its close.
-use Rattle.std.proofs.Common.{◌≡◌, ℕ, Bool, true, List, [], ◌∷◌, ◌++◌, Option, Result, Ok, Err, refl, sym, subst, append_assoc}
+use Rattle.std.proofs.Common.{◌≡◌, ℕ, Bool, true, List, [], ◌∷◌, ◌++◌, Option, Result, Ok, Err, refl, sym, subst, append_assoc, inl, inr}
 use Rattle.std.specs.List.{flat_map}
 use Rattle.std.proofs.lemmas.List.{append-nil}
 use Rattle.js_base.specs.Bytes.{Bytes}
@@ -10,21 +10,38 @@ use Rattle.js_api.specs.Entries.{DeskEntry}
 use Rattle.js_api.specs.Leading.{Makes}
 use Rattle.js_api.specs.Clients.{Client, new_client}
 use Rattle.js_api.specs.Answering.{DeskAnswer, Open, Close, Opened}
-use Rattle.js_api.specs.Calls.{Does, IfOpen, Routes}
+use Rattle.js_api.specs.Calls.{Does, IfOpen, MaySay, Routes, Says}
 use Rattle.js_model.specs.Router as router
 use Rattle.session.specs.Calling.{Called, entries_of_calls}
 use Rattle.session.specs.Stopping.{end_of_fault}
-use Rattle.session.specs.Talk.{Nothing, IsSilent, TalksBy, greeting, before_last, entries_of_turn, entries_of_last}
+use Rattle.session.specs.Talk.{Nothing, IsClosing, greeting, before_last, entries_of_turn, entries_of_last}
 use Rattle.session.specs.Session.{Converses, Serves}
 use Rattle.session.specs.declared.ending.Limits.{Limits}
 use Rattle.session.specs.declared.ending.Ended.{Ended}
 
 -- the close of an open session is that of any client with its number
-closes : (client : Client) (session : ℕ) (answer : Result DeskAnswer DeskFault) (entries : List DeskEntry) → client.session ≡ session → client.is_open ≡ true
+is_close : (client : Client) (session : ℕ) (answer : Result DeskAnswer DeskFault) (entries : List DeskEntry) → client.session ≡ session → client.is_open ≡ true
     → Does client Close answer entries → Does (new_client session) Close answer entries
-closes client session answer entries e o h =
+is_close client session answer entries e o h =
     subst (λ (number : ℕ). Routes (router.Close number) answer entries) e
     (subst (λ (b : Bool). IfOpen (record client { is_open = b }) (Routes (router.Close client.session)) answer entries) o h)
+
+-- it takes no memory
+closing_told : (n : ℕ) (told : router.RouteTold) (answer : Result DeskAnswer DeskFault) → MaySay (router.Close n) told → Says told answer → IsClosing answer
+closing_told n router.Done answer m s = subst IsClosing (sym s) tt
+closing_told n (router.Opened number) answer m s = subst IsClosing (sym s) tt
+closing_told n (router.Taken count) answer m s = absurd s
+closing_told n (router.Listens heard) answer m s = absurd s
+closing_told n (router.Frames list more) answer m s = subst IsClosing (sym s) tt
+closing_told n (router.Slow length) answer m s = subst IsClosing (sym s) tt
+closing_told n (router.NoSession latest) answer m s = absurd s
+closing_told n router.TooManySubs answer m s = absurd m
+closing_told n router.Worn answer m s = absurd m
+closing_told n router.NoMemory answer m s = cc
+
+closing : (n : ℕ) (answer : Result DeskAnswer DeskFault) (entries : List DeskEntry) → Routes (router.Close n) answer entries → IsClosing answer
+closing n answer entries (inl h) = closing_told n h.0 answer h.2 h.3
+closing n answer entries (inr h) = subst IsClosing (sym h.1) tt
 
 pub served : {D : Type 0} (made : D → List DeskEntry → D → Type 0) (more_led : (a b c : D) (xs ys : List DeskEntry) → made a xs b → made b ys c → made a (xs ++ ys) c)
     (limits : Limits) (session : ℕ) (opener client : Client) (d0 d1 d2 d3 : D) (a0 a1 : Option (List Answer)) (g0 g1 : Option Bytes) (c0 c1 : Option (List ℕ)) (ended : Ended)
@@ -33,10 +50,11 @@ pub served : {D : Type 0} (made : D → List DeskEntry → D → Type 0) (more_l
 served made more_led limits session opener client d0 d1 d2 d3 a0 a1 g0 g1 c0 c1 ended answer m h e o k =
     let opened : Called = record { call = Open; answer = Ok (Opened session); entries = m.entries } in
     let closed : Called = record { call = Close; answer = answer; entries = k.entries } in
+    let closes = is_close client session answer k.entries e o k.are in
     let turns_led = flat_map entries_of_turn h.turns in
-    let closing = subst (λ (es : List DeskEntry). made d2 es d3) (sym (append-nil k.entries)) k.led in
+    let close_led = subst (λ (es : List DeskEntry). made d2 es d3) (sym (append-nil k.entries)) k.led in
     let after = subst (λ (es : List DeskEntry). made d1 es d3) (append_assoc turns_led (entries_of_last h.last) (entries_of_calls (closed ∷ [])))
-    (more_led d1 d2 d3 (turns_led ++ entries_of_last h.last) (entries_of_calls (closed ∷ [])) h.led closing) in
+    (more_led d1 d2 d3 (turns_led ++ entries_of_last h.last) (entries_of_calls (closed ∷ [])) h.led close_led) in
     record {
       journal = record { opened = opened; turns = h.turns; last = h.last; closed = closed ∷ [] };
       bytes = before_last (greeting limits session) h.last h.said ++ h.more;
@@ -50,7 +68,7 @@ served made more_led limits session opener client d0 d1 d2 d3 a0 a1 g0 g1 c0 c1 
             more = h.more;
             turns = h.are_turns;
             ends = h.ends;
-            closed = (closed, refl, refl, closes client session answer k.entries e o k.are);
+            closed = (closed, refl, refl, closing session answer k.entries closes, closes);
             written = refl;
           },
         );

@@ -9,6 +9,7 @@ pub mod Leading
 pub mod Talk
 pub mod Manners
 pub mod Giving
+pub mod Failing
 pub mod Parting
 pub mod Carrying
 pub mod Asking

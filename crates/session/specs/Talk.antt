@@ -469,9 +469,16 @@ abbrev pub before_last : Bytes → Last → Bytes → Bytes
 before_last greeting Greeting said = []
 before_last greeting _ said = greeting ++ said
 
--- The session is closed in the desk, whatever that call answers. If the numbers of turns are used up, the router keeps it.
+-- The closing takes no memory. If the numbers of turns are used up, the session is closed in the desk, and the router keeps it.
+abbrev pub IsClosing : Result DeskAnswer DeskFault → Type 0
+IsClosing (Ok answer) = Unit {0}
+IsClosing (Err faults.NoMemory) = ⊥
+IsClosing (Err faults.TooManySubs) = ⊥
+IsClosing (Err (faults.Worn number)) = Unit {0}
+IsClosing (Err (faults.NoSession latest)) = ⊥
+
 abbrev pub IsClosedBy : Client → List Called → Type 0
-IsClosedBy client calls = (called : Called) × (calls ≡ called ∷ []) × (called.call ≡ Close) × IsMade client called
+IsClosedBy client calls = (called : Called) × (calls ≡ called ∷ []) × (called.call ≡ Close) × IsClosing called.answer × IsMade client called
 
 -- a session that was opened
 pub record IsTalk (limits : Limits) (session : ℕ) (journal : Journal) (bytes : Bytes) (ended : Ended) : Type 0 where

@@ -4,6 +4,7 @@ ghost use Rattle.std.specs.Prelude.{◌≡◌};
 ghost use Rattle.link_edge.specs.Causes.{HasCause};
 ghost use Rattle.js_base.specs.Framing.{frame as bytes_of};
 ghost use Rattle.session.specs.Giving.{Gives, Flushes, IsLinkFault, end_of};
+ghost use Rattle.session.specs.Failing.{FailsGiving};
 
 use crate::ending::Ended;
 use js_base::Frame;
@@ -38,6 +39,7 @@ impl From<GiveFault> for Ended {
 pub(crate) fn give_all<L: Link>(link: &mut L, bytes: &[u8]) -> Result<(), GiveFault>
     ensures given { Gives result (L.given link.old) (L.given link.new) bytes.now }
     ensures answered { L.answered link.new ≡ L.answered link.old }
+    ensures failings { FailsGiving result (L.failings link.old) (L.failings link.new) }
     ensures cause { HasCause (L.faults link.old) (L.faults link.new) (IsLinkFault result) }
 {
     let mut at = 0;
@@ -56,6 +58,7 @@ pub(crate) fn give_all<L: Link>(link: &mut L, bytes: &[u8]) -> Result<(), GiveFa
 pub(crate) fn flush<L: Link>(link: &mut L, waiting: &mut Vec<u8>) -> Result<(), GiveFault>
     ensures flushes { Flushes result (L.given link.old) (L.given link.new) waiting.old.items waiting.new.items }
     ensures answered { L.answered link.new ≡ L.answered link.old }
+    ensures failings { FailsGiving result (L.failings link.old) (L.failings link.new) }
     ensures cause { HasCause (L.faults link.old) (L.faults link.new) (IsLinkFault result) }
 {
     if waiting.len() < FLUSH {
@@ -78,6 +81,7 @@ pub(crate) fn give_frame<L: Link>(
 ) -> Result<(), GiveFault>
     ensures given { Gives result (L.given link.old) (L.given link.new) (bytes_of frame.now) }
     ensures answered { L.answered link.new ≡ L.answered link.old }
+    ensures failings { FailsGiving result (L.failings link.old) (L.failings link.new) }
     ensures cause { HasCause (L.faults link.old) (L.faults link.new) (IsLinkFault result) }
 {
     let mut bytes = Vec::new(alloc);

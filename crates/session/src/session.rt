@@ -6,6 +6,7 @@ ghost use Rattle.js_api.specs.Clients.{new_client};
 ghost use Rattle.session.specs.Host.{is_plain};
 ghost use Rattle.session.specs.Talk.{greeting};
 ghost use Rattle.session.specs.Giving.{Gives, IsLinkFault};
+ghost use Rattle.session.specs.Failing.{FailsBy, FailsGiving};
 ghost use Rattle.session.specs.Session.{Converses, Serves};
 
 use crate::ending::{Ended, Limits};
@@ -28,6 +29,7 @@ fn greet<L: Link>(
 ) -> Result<(), GiveFault>
     ensures given { Gives result (L.given link.old) (L.given link.new) (greeting limits.now session) }
     ensures answered { L.answered link.new ≡ L.answered link.old }
+    ensures failings { FailsGiving result (L.failings link.old) (L.failings link.new) }
     ensures cause { HasCause (L.faults link.old) (L.faults link.new) (IsLinkFault result) }
 {
     let host = match limits.host.clone() {
@@ -68,6 +70,7 @@ fn converse<D: Desk, L: Link, C: Clock>(
         (L.given link.old) (L.given link.new) (C.to_come clock.old) (C.to_come clock.new) result }
     ensures session { (D.client desk.new).session ≡ session }
     ensures is_open { (D.client desk.new).is_open ≡ true }
+    ensures failings { FailsBy result (L.failings link.old) (L.failings link.new) }
     ensures cause { HasCause (L.faults link.old) (L.faults link.new) (result ≡ Ended.LinkFault) }
 {
     let mut room = match new_room(alloc) {
@@ -103,6 +106,7 @@ pub fn serve_link<D: Desk, L: Link, C: Clock>(
     ensures serves { Serves D.made limits.now desk.old desk.new (L.answered link.old) (L.answered link.new)
         (L.given link.old) (L.given link.new) (C.to_come clock.old) (C.to_come clock.new) result }
     ensures closed { (D.client desk.new).is_open ≡ false }
+    ensures failings { FailsBy result (L.failings link.old) (L.failings link.new) }
     ensures cause { HasCause (L.faults link.old) (L.faults link.new) (result ≡ Ended.LinkFault) }
 {
     match desk.open() {

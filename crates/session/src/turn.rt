@@ -4,6 +4,7 @@ ghost use Rattle.std.specs.Prelude.{◌≡◌, ◌≤◌, ◌<◌, ◌+◌, ◌^
 ghost use Rattle.link_edge.specs.Causes.{HasCause};
 ghost use Rattle.nats_frames.specs.Decoding.{total};
 ghost use Rattle.js_api.specs.Clients.{new_client};
+ghost use Rattle.session.specs.Failing.{FailsIn};
 ghost use Rattle.session.specs.Manners.{moments};
 ghost use Rattle.session.specs.Talk.{start, IsUnspent};
 ghost use Rattle.session.specs.Turning.{stage_of, turns_left, Keeps, Rests, Turns};
@@ -73,6 +74,7 @@ fn keep_alive<L: Link>(
 ) -> Result<(), Ended>
     ensures keeps { Keeps result came now (moments pings.old) (moments pings.new) (L.given link.old) (L.given link.new) }
     ensures answered { L.answered link.new ≡ L.answered link.old }
+    ensures failings { FailsIn result (L.failings link.old) (L.failings link.new) }
     ensures cause { HasCause (L.faults link.old) (L.faults link.new) (result ≡ Err Ended.LinkFault) }
 {
     if pings.is_stale(now) {
@@ -109,6 +111,7 @@ fn rest<D: Desk, L: Link>(
     ensures client { D.client desk.new ≡ D.client desk.old }
     ensures is_open { (D.client desk.new).is_open ≡ true }
     ensures answered { L.answered link.new ≡ L.answered link.old }
+    ensures failings { FailsIn result (L.failings link.old) (L.failings link.new) }
     ensures cause { HasCause (L.faults link.old) (L.faults link.new) (result ≡ Err Ended.LinkFault) }
 {
     let came = course.came.unwrap_or(now);
@@ -150,6 +153,7 @@ pub(crate) fn take_turn<D: Desk, L: Link, C: Clock>(
     ensures fewer { OnOk result (turns_left limits.now course.new < turns_left limits.now course.old) }
     ensures session { (D.client desk.new).session ≡ (D.client desk.old).session }
     ensures is_open { (D.client desk.new).is_open ≡ true }
+    ensures failings { FailsIn result (L.failings link.old) (L.failings link.new) }
     ensures cause { HasCause (L.faults link.old) (L.faults link.new) (result ≡ Err Ended.LinkFault) }
 {
     let most = room_within(room.len(), limits.input - course.taken);

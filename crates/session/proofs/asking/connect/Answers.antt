@@ -11,7 +11,7 @@ returns-in_err-options-clause-asks g c =
 pub returns-in_err-write_fine-clause-asks : goal.returns-in_err-write_fine-clause-asks
 returns-in_err-write_fine-clause-asks g c =
     stopped_as _ _ _ _ _ _ _ _ c.from_residual-in_err-write_fine.result _ c.from_residual-in_err-write_fine.ensures.1
-    (unsaid _ _ _ _ _ _ _ _ _ _ (ap connecting c.in-Ok.ensures.reads) c.in_ok-options.ensures.made refl)
+    (unsaid _ _ _ _ _ _ _ _ _ (ap connecting c.in-Ok.ensures.reads) c.in_ok-options.ensures.made refl)
 
 pub returns-clause-asks : goal.returns-clause-asks
 returns-clause-asks g c =

@@ -13,7 +13,7 @@ returns-in_err-publish-clause-asks g c =
 pub returns-in_err-write_fine-clause-asks : goal.returns-in_err-write_fine-clause-asks
 returns-in_err-write_fine-clause-asks g c =
     stopped_as _ _ _ _ _ _ _ _ c.from_residual-in_err-write_fine.result _ c.from_residual-in_err-write_fine.ensures.1
-    (unsaid _ _ _ _ _ _ _ _ _ _ (publishing_right _ _ (sym c.if-not-is_publishable.ensures.value)) c.in_ok-publish.ensures.made refl)
+    (unsaid _ _ _ _ _ _ _ _ _ (publishing_right _ _ (sym c.if-not-is_publishable.ensures.value)) c.in_ok-publish.ensures.made refl)
 
 pub returns-clause-asks : goal.returns-clause-asks
 returns-clause-asks g c =

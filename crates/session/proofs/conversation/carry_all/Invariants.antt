@@ -16,6 +16,7 @@ invariant-loop-stop g l =
       session : (desk.client l.desk).session ≡ (desk.client l.fn.desk).session;
       is_open : (desk.client l.desk).is_open ≡ true;
       answered : link.answered l.link ≡ link.answered l.fn.link;
+      failings : link.failings l.link ≡ link.failings l.fn.link;
       later : link.faults l.fn.link ≤ link.faults l.link;
     }
 

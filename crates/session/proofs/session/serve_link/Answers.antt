@@ -1,4 +1,6 @@
 use Rattle.session.proofs.Served.{served, unserved}
+use Rattle.std.proofs.Common.{refl}
+use Rattle.session.proofs.Failed.{none_fails}
 use Rattle.session.proofs.session.serve_link.Goals as goal
 
 pub returns-in-Ok-clause-serves : goal.returns-in-Ok-clause-serves
@@ -8,3 +10,6 @@ returns-in-Ok-clause-serves g c =
 
 pub returns-in-Err-clause-serves : goal.returns-in-Err-clause-serves
 returns-in-Err-clause-serves g c = unserved _ _ _ c.in-Err.fault _ _ _ _ _ _ c.in-Err.ensures.made c.from.ensures
+
+pub returns-in-Err-clause-failings : goal.returns-in-Err-clause-failings
+returns-in-Err-clause-failings g c = none_fails c.from.result _ _ refl

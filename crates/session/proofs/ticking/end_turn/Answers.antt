@@ -1,4 +1,6 @@
 use Rattle.session.proofs.Ticked.{ticked_whole, tick_parted, tick_given}
+use Rattle.std.proofs.Common.{refl}
+use Rattle.session.proofs.Failed.{giving_fails}
 use Rattle.session.proofs.ticking.end_turn.Goals as goal
 
 pub returns-in-Err-clause-ticks : goal.returns-in-Err-clause-ticks
@@ -12,3 +14,6 @@ pub returns-in-Err-give_all-clause-ticks : goal.returns-in-Err-give_all-clause-t
 returns-in-Err-give_all-clause-ticks g c =
     λ manners. tick_given _ _ _ _ _ _ _ _ _ c.in-Err-give_all.fault _ (c.in-Ok.ensures.carries manners)
     (rw c.as_slice.ensures.value at c.in-Err-give_all.ensures.given) c.from.ensures
+
+pub returns-in-Err-give_all-clause-failings : goal.returns-in-Err-give_all-clause-failings
+returns-in-Err-give_all-clause-failings g c = giving_fails c.in-Err-give_all.fault _ _ _ _ refl c.from.ensures c.in-Err-give_all.ensures.failings
