@@ -20,10 +20,11 @@ use Rattle.session.specs.Manners.{peer_of}
 use Rattle.session.specs.Calling.{Called}
 use Rattle.session.specs.Leading.{Cuts, IsAdded}
 use Rattle.session.specs.Stopping.{IsOwnEnd, Asked, Unasked, Declined, EndsInCall, cause_of, end_after}
-use Rattle.session.specs.Peer.{Request, Calls, IsWrong, IsRefused, called_bytes, is_reply, message as message_of, op_request, peer_after_op, publishing, subscribing}
+use Rattle.session.specs.Peer.{Request, Calls, IsWrong, IsRefused, called_bytes, is_reply, message as message_of, connecting, op_request, peer_after_op, publishing, subscribing}
 use Rattle.session.specs.Talk.{AreAsked, IsAnswered, all_called_bytes, op_answer}
 use Rattle.session.proofs.Led.{one_led}
-use Rattle.session.specs.Asking.{IsUnchecked, said_for, IsAsked, Asks}
+use Rattle.session.specs.Asking.{IsUnchecked, ReadsConnect, said_for, IsAsked, Asks}
+use Rattle.session.specs.declared.connect.ConnectOptions.{ConnectOptions}
 use Rattle.session.specs.declared.ending.Ended.{Ended}
 use Rattle.session.specs.declared.ending.Ended.TheVariants as ends
 use Rattle.session.specs.declared.ending.Refusal.{Refusal}
@@ -114,6 +115,13 @@ module _ {D : Type 0} (made : D → List DeskEntry → D → Type 0) (client : C
 
   pub unasked : (old : D) (a b : Bytes) (request : Request) → made old [] old → CutsOff request ends.NoMemory old old a b
   unasked old a b request h = record { calls = []; said = []; are = (Unasked refl refl, refl); led = h; added = λ n. cc }
+
+  -- a CONNECT is refused for its text, or memory ran out as it was read
+  pub unread : (stop : Stop) (found : Option ConnectOptions) (old : D) (a : Bytes) → ReadsConnect (Err stop) found → made old [] old
+      → CutsOff (connecting found) (cause_of stop) old old a a
+  unread (stops.Refused refusal) found old a r h = declined refusal old a (connecting found) (ap connecting r.1 ∙ sym (ap IsRefused r.0)) h
+  unread (stops.Slow size) found old a r h = absurd r
+  unread stops.NoMemory found old a r h = unasked old a a (connecting found) h
 
   -- ---- the stop is told
 

@@ -1,7 +1,10 @@
 use Rattle.std.proofs.Common.{ap, refl}
 use Rattle.session.specs.Peer.{connecting}
-use Rattle.session.proofs.Asked.{asked_as, stopped_as, stopped_by, unsaid}
+use Rattle.session.proofs.Asked.{asked_as, stopped_as, stopped_by, unread, unsaid}
 use Rattle.session.proofs.asking.connect.Goals as goal
+
+pub returns-in-Err-clause-asks : goal.returns-in-Err-clause-asks
+returns-in-Err-clause-asks g c = unread _ _ c.in-Err.stop _ _ _ c.in-Err.ensures.reads (g.met.D.Desk.made_nothing c.args.desk.now)
 
 pub returns-in_err-options-clause-asks : goal.returns-in_err-options-clause-asks
 returns-in_err-options-clause-asks g c =
