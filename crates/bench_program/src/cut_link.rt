@@ -86,6 +86,8 @@ impl Link for CutLink {
 
     ghost given = { λ _. None };
 
+    ghost failings = { λ _. None };
+
     ghost faults = { λ _. 0 };
 
     /// Takes the next piece, or as much of it as there is room for.

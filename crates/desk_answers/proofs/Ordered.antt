@@ -12,7 +12,7 @@ use Rattle.stream_config.proofs.Parts.{printable}
 use Rattle.api_replies.specs.Printed.{InfoIsText}
 use Rattle.api_replies.specs.declared.reply.ApiReply.TheVariants as replies
 use Rattle.place_engine.specs.Shown.{IsSoundInfo}
-use Rattle.js_api.specs.Api.{in_order, is_listed, listed, page, with_info}
+use Rattle.js_api.specs.AllStreams.{in_order, is_listed, listed, page, with_info}
 use Rattle.desk_answers.specs.Pages.{names_reply}
 use Rattle.desk_answers.specs.StreamInfos.{AreSound}
 

@@ -1,2 +1,4 @@
 pub mod StreamInfos
 pub mod Pages
+pub mod Asking
+pub mod Became

@@ -5,7 +5,7 @@ use Rattle.js_model.specs.declared.reply.StreamInfo.{StreamInfo}
 use Rattle.api_replies.specs.declared.reply.ApiReply.{ApiReply}
 use Rattle.api_replies.specs.declared.reply.ApiReply.TheVariants as replies
 use Rattle.js_model.specs.Limits.{names_a_page, infos_a_page}
-use Rattle.js_api.specs.Api.{listed, page}
+use Rattle.js_api.specs.AllStreams.{listed, page}
 
 abbrev pub names_reply : ℕ → Option Bytes → List StreamInfo → ApiReply
 names_reply offset pattern infos =

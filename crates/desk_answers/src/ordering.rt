@@ -2,7 +2,7 @@
 
 ghost use Rattle.std.specs.Prelude.{◌≡◌, ◌≤◌, IfOk, OnOk, length};
 ghost use Rattle.std.specs.List.{list_any, prefix_len};
-ghost use Rattle.js_api.specs.Api.{is_listed, listed, page, with_info};
+ghost use Rattle.js_api.specs.AllStreams.{is_listed, listed, page, with_info};
 ghost use Rattle.js_base.specs.Subjects.{meets, tokens};
 ghost use Rattle.js_model.specs.Consumers.{is_before};
 ghost use Rattle.js_model.specs.declared.reply.StreamInfo.{StreamInfo};

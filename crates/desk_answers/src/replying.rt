@@ -1,12 +1,14 @@
 //! Messages from the server itself.
 
-ghost use Rattle.std.specs.Prelude.{◌≡◌, IfOk};
+ghost use Rattle.std.specs.Prelude.{◌≡◌, ◌<◌, IfOk, IsUtf8, OnErr, length};
 ghost use Rattle.api_replies.specs.Printed.{IsText};
-ghost use Rattle.js_api.specs.Api.{answer};
+ghost use Rattle.js_api.specs.OneStream.{answer};
 ghost use Rattle.js_api.specs.Outputs.{message_to};
+ghost use Rattle.js_api.specs.Publishing.{publish_refusal};
 
-use js_api::{ApiReply, reply_text};
-use js_base::{Blob, List, NoMemory, Out, Outs};
+use js_api::{ApiReply, publish_text, reply_text};
+use js_base::{ApiError, Blob, List, NoMemory, Out, Outs};
+use js_model::Reply;
 use std::alloc::Global;
 
 /// A message from the server itself, to a subject.
@@ -22,15 +24,37 @@ pub fn message_to(to: &Blob, payload: Blob) -> Result<Out, NoMemory>
     })
 }
 
-/// The message with this answer, or no message if there is no subject for it.
+/// The message with this answer, or no message if there is no subject for it. An `Err` comes only if there is one.
 pub fn answer_outs(alloc: Global, to: &Option<Blob>, reply: &ApiReply) -> Result<Outs, NoMemory>
     requires texts { IsText reply.now }
     ensures outs { IfOk result (λ outs. outs ≡ answer to.now reply.now) }
+    ensures err { OnErr result (0 < length (answer to.now reply.now)) }
 {
     let mut outs = List::new(alloc);
     if let Some(to) = to {
         let text = reply_text(alloc, reply)?;
         outs.push(message_to(to, text)?)?;
+    }
+    Ok(outs)
+}
+
+/// The message that refuses a publish to the stream of this name, or no message if there is no subject for it. An `Err` comes only if there is one.
+pub fn publish_refusal(
+    alloc: Global,
+    to: &Option<Blob>,
+    stream: &[u8],
+    refusal: ApiError,
+) -> Result<Outs, NoMemory>
+    requires utf8 { IsUtf8 stream.now }
+    requires text { IsUtf8 refusal.text }
+    ensures outs { IfOk result (λ outs. outs ≡ publish_refusal to.now stream.now refusal) }
+    ensures err { OnErr result (0 < length (publish_refusal to.now stream.now refusal)) }
+{
+    let mut outs = List::new(alloc);
+    if let Some(to) = to {
+        if let Some(text) = publish_text(alloc, stream, &Reply::Refused(refusal))? {
+            outs.push(message_to(to, text)?)?;
+        }
     }
     Ok(outs)
 }

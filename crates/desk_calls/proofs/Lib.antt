@@ -1,11 +1,10 @@
-pub mod Answered
-pub mod Asked
-pub mod BySubject
-pub mod Endings
-pub mod Made
-pub mod Offered
-pub mod Passed
-pub mod Plain
-pub mod Published
-pub mod Visited
-pub mod Walks
+mod Stages
+mod Outs
+mod Shorts
+mod OneStream
+mod Asked
+mod Known
+mod Defaults
+mod Published
+mod Publishes
+mod Walks

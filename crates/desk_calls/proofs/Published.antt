@@ -9,8 +9,8 @@ use Rattle.js_base.specs.Subjects.{is_subject_text, is_pattern_text}
 use Rattle.js_base.specs.declared.out.Out.{Out}
 use Rattle.js_model.specs.Proper.{if_given}
 use Rattle.js_api.specs.Publishing.{IsMessage, is_headers, published}
-use Rattle.desk_hold.specs.HoldsAt.{MayAsk}
-use Rattle.desk_calls.specs.Publishes.{IsPlain}
+use Rattle.desk_answers.specs.Asking.{MayAsk}
+use Rattle.desk_calls.specs.Plain.{IsPlain}
 
 -- a publish subject that is none of the API's is a subject
 plain_of : (a b p : Bool) → IsTrue (a || (b && p)) → b ≡ false → IsTrue a

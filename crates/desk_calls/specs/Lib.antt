@@ -1,7 +1,10 @@
 pub use Rattle.stream_config.specs.Defaults
-pub mod Endings
-pub mod MakingDefault
-pub mod Publishes
-pub mod TurnEnds
-pub mod Untaken
+pub mod Callers
+pub mod Grounds
+pub mod Outcomes
+pub mod Reasons
+pub mod Named
+pub mod Plain
+pub mod Preparing
+pub mod MakingAt
 pub mod Walking

@@ -1,52 +1,60 @@
 -- All streams are asked for their informations, in the order of their places.
-use Rattle.std.specs.Prelude.{◌≡◌, ◌≤◌, ◌+◌, ◌++◌, ℕ, true, false, List, length, Option, None, Some, Result, Ok, Err, if◌then◌else◌}
+use Rattle.std.specs.Prelude.{◌≡◌, ◌≤◌, ◌+◌, ◌++◌, ℕ, List, length, Option, None, Some, option_map, Result, Ok, Err, if◌then◌else◌}
 use Rattle.std.specs.List.{All}
-use Rattle.js_base.specs.declared.memory.NoMemory.{NoMemory}
+use Rattle.js_base.specs.declared.out.ApiError.{ApiError}
 use Rattle.js_model.specs.declared.event.What.TheVariants as whats
 use Rattle.js_model.specs.declared.reply.StreamInfo.{StreamInfo}
 use Rattle.js_model.specs.declared.desk.PlaceAt.{PlaceAt}
-use Rattle.js_api.specs.Desks.{World}
-use Rattle.js_api.specs.Holding.{Made, Holds, is_short}
-use Rattle.js_api.specs.Api.{Visit, Visits, infos_of, info_told, is_further}
 use Rattle.place_engine.specs.Shown.{IsSoundInfo}
-use Rattle.desk_hold.specs.Leads.{Leads}
+use Rattle.js_api.specs.declared.fault.DeskFault.{DeskFault}
+use Rattle.js_api.specs.declared.outcome.Outcome.{Outcome}
+use Rattle.js_api.specs.Entries.{DeskEntry}
+use Rattle.js_api.specs.Holding.{Holds}
+use Rattle.js_api.specs.AllStreams.{Visit, Walks, failure, infos_of, info_told, is_further}
+use Rattle.desk_calls.specs.declared.reason.Reason.{Reason}
+use Rattle.desk_calls.specs.Reasons.{error_of}
 
 -- the place that was found, if it is a further one
 abbrev pub further : Option PlaceAt → Option PlaceAt → Option PlaceAt
 further last found = if is_further last found then found else None
 
--- a place was visited, and its information added if it gave one
-pub record IsVisited (at : PlaceAt) (now : ℕ) (infos_old infos_new : List StreamInfo) (old new : World) : Type 0 where
-  pub made : Made
-  pub leads : Leads (Holds at (whats.StreamInfo None) now made) old new
-  pub told : is_short made ≡ false
-  pub infos : infos_new ≡ infos_old ++ info_told made
+-- by which failure the call is refused, if by any
+abbrev pub failing : Result (Option Reason) DeskFault → Result (Option ApiError) DeskFault
+failing (Ok reason) = Ok (option_map error_of reason)
+failing (Err fault) = Err fault
 
--- a place was visited, and memory ran out
-pub record IsVisitCut (at : PlaceAt) (now : ℕ) (old new : World) : Type 0 where
-  pub made : Made
-  pub leads : Leads (Holds at (whats.StreamInfo None) now made) old new
+-- ---- one place
 
-abbrev pub VisitsPlace : Result (Unit {0}) NoMemory → PlaceAt → ℕ → List StreamInfo → List StreamInfo → World → World → Type 0
-VisitsPlace (Ok _) at now infos_old infos_new old new = IsVisited at now infos_old infos_new old new
-VisitsPlace (Err _) at now infos_old infos_new old new = IsVisitCut at now old new
+-- what was told of the hold, and which informations stand there after it
+abbrev pub IsVisitTold : Result (Option Reason) DeskFault → Outcome → List StreamInfo → List StreamInfo → Type 0
+IsVisitTold (Ok None) outcome before after =
+    (outcome.fault ≡ None) × (failure outcome.became ≡ None) × (after ≡ before ++ info_told outcome.became)
+IsVisitTold (Ok (Some reason)) outcome before after = (outcome.fault ≡ None) × (failure outcome.became ≡ Some (error_of reason))
+IsVisitTold (Err fault) outcome before after = outcome.fault ≡ Some fault
 
--- the places behind the last one were visited, and their informations added
-pub record IsWalked (now : ℕ) (last : Option PlaceAt) (infos_old infos_new : List StreamInfo) (old new : World) : Type 0 where
+-- a place was asked for the information of its stream
+pub record IsVisit (at : PlaceAt) (now : ℕ) (result : Result (Option Reason) DeskFault) (before after : List StreamInfo) (entries : List DeskEntry) : Type 0 where
+  pub outcome : Outcome
+  pub holds : Holds at (whats.StreamInfo None) now outcome entries
+  pub told : IsVisitTold result outcome before after
+
+-- ---- all places
+
+-- the informations were added, if all could be asked
+abbrev pub AddsInfos : Result (Option Reason) DeskFault → List Visit → List StreamInfo → List StreamInfo → Type 0
+AddsInfos (Ok None) visits before after = after ≡ before ++ infos_of visits
+AddsInfos (Ok (Some reason)) visits before after = Unit {0}
+AddsInfos (Err fault) visits before after = Unit {0}
+
+-- the places after the last one were visited
+pub record IsWalk (now : ℕ) (last : Option PlaceAt) (result : Result (Option Reason) DeskFault) (before after : List StreamInfo) (entries : List DeskEntry) : Type 0 where
   pub visits : List Visit
-  pub leads : Leads (Visits now last true visits) old new
-  pub infos : infos_new ≡ infos_old ++ infos_of visits
+  pub walks : Walks now last visits (failing result) entries
+  pub adds : AddsInfos result visits before after
 
--- they were visited until memory ran out
-pub record IsWalkCut (now : ℕ) (last : Option PlaceAt) (old new : World) : Type 0 where
-  pub visits : List Visit
-  pub leads : Leads (Visits now last false visits) old new
+-- ---- the informations
 
-abbrev pub WalksBehind : Result (Unit {0}) NoMemory → ℕ → Option PlaceAt → List StreamInfo → List StreamInfo → World → World → Type 0
-WalksBehind (Ok _) now last infos_old infos_new old new = IsWalked now last infos_old infos_new old new
-WalksBehind (Err _) now last infos_old infos_new old new = IsWalkCut now last old new
-
--- before the place behind the last one there are at most so many
+-- up to this place there are at most so many
 abbrev pub most_to : Option PlaceAt → ℕ
 most_to None = 0
 most_to (Some at) = at.place + 1

@@ -1,31 +1,33 @@
 //! The call that shows the account.
 
-ghost use Rattle.std.specs.Prelude.{IsTrue, is_ok};
-ghost use Rattle.api_requests.specs.declared.request.ApiRequest.TheVariants as requests;
-ghost use Rattle.js_api.specs.Api.{Performs};
-ghost use Rattle.js_base.specs.Subjects.{is_subject_text};
-ghost use Rattle.js_model.specs.Proper.{if_given};
-ghost use Rattle.desk_hold.specs.Grounds.{Keeps};
-ghost use Rattle.desk_hold.specs.Leads.{Leads};
+ghost use Rattle.std.specs.Prelude.{◌≡◌};
+ghost use Rattle.api_calls.specs.Names.{name_of};
+ghost use Rattle.api_calls.specs.declared.call.ApiCall.TheVariants as calls;
+ghost use Rattle.js_api.specs.AllStreams.{IsOverAll, account};
+ghost use Rattle.js_api.specs.Leading.{Makes};
+ghost use Rattle.desk_calls.specs.Grounds.{Outside};
 
-use crate::refusing::answer;
+use crate::ground::Ground;
+use crate::telling::{answer, refuse_for};
 use crate::walking::walk;
 use desk_answers::account_reply;
-use desk_hold::Ground;
-use js_base::{Blob, Moment, NoMemory};
+use js_api::{ApiCall, DeskFault};
+use js_base::{Blob, Moment};
 
 /// Shows the account: how many streams and consumers there are, and what they hold.
-pub fn show_account<V>(
-    ground: &mut Ground<V>,
+pub fn show_account<G: Ground>(
+    ground: &mut G,
     to: &Option<Blob>,
     now: Moment,
-) -> Result<(), NoMemory>
-    requires to { IsTrue (if_given is_subject_text to.now) }
-    ensures performs { Leads (Performs requests.AccountInfo to.now now (is_ok result)) ground.old.world ground.new.world }
-    ensures kept { Keeps ground.old ground.new }
+) -> Result<bool, DeskFault>
+    requires outside { G.phase ground.old ≡ Outside }
+    ensures made { Makes G.made (IsOverAll (name_of calls.AccountInfo) to.now now (account to.now) result) ground.old ground.new }
+    ensures setting { G.setting ground.new ≡ G.setting ground.old }
+    ensures phase { G.phase ground.new ≡ Outside }
 {
-    match walk(ground, now) {
-        Ok(infos) => answer(ground, to, account_reply(infos.as_slice())),
-        Err(stop) => Err(stop),
+    let mut infos = Vec::new(ground.alloc());
+    match walk(ground, &mut infos, now)? {
+        None => answer(ground, to, &account_reply(infos.as_slice())),
+        Some(reason) => refuse_for(ground, ApiCall::AccountInfo, to, reason),
     }
 }

@@ -1,101 +1,145 @@
 //! The calls that show or delete one stream.
 
-ghost use Rattle.std.specs.Prelude.{is_ok, IsTrue};
-ghost use Rattle.api_requests.specs.declared.request.ApiRequest.TheVariants as requests;
-ghost use Rattle.js_api.specs.Api.{Performs, free_if_dropped};
+ghost use Rattle.std.specs.Prelude.{◌≡◌, ◌<◌, ◌^◌, IfSome, IsTrue, true, if◌then◌else◌};
+ghost use Rattle.api_calls.specs.Names.{name_of};
+ghost use Rattle.api_calls.specs.declared.call.ApiCall.TheVariants as calls;
 ghost use Rattle.js_base.specs.Subjects.{is_subject_text};
-ghost use Rattle.js_model.specs.declared.event.What.TheVariants as whats;
 ghost use Rattle.js_model.specs.Proper.{if_given};
-ghost use Rattle.desk_hold.specs.Changes.{IsOnPlace};
-ghost use Rattle.desk_hold.specs.Grounds.{IsWithin, Keeps, Knows};
-ghost use Rattle.desk_hold.specs.HoldsAt.{HoldsAt};
-ghost use Rattle.desk_hold.specs.Outcomes.{NumbersDropped};
-ghost use Rattle.desk_hold.specs.Leads.{Leads};
+ghost use Rattle.js_model.specs.declared.event.What.TheVariants as whats;
+ghost use Rattle.js_api.specs.Holding.{Holds};
+ghost use Rattle.js_api.specs.Leading.{Makes};
+ghost use Rattle.js_api.specs.OneStream.{IsAbsent, IsDeleting, IsOnStream, IsShowing, free_if_dropped};
+ghost use Rattle.desk_calls.specs.Grounds.{IsWithin, Knows, Outside, Owing, Within};
+ghost use Rattle.desk_calls.specs.Named.{GoesOnNamed};
+ghost use Rattle.desk_answers.specs.Became.{IsExplained, is_dropped};
 
-use crate::refusing::{end_call, refuse_absent};
+use crate::answering::{end_call, unmade};
+use crate::freeing::free_if_dropped;
+use crate::ground::Ground;
+use crate::reason::Reason;
+use crate::telling::refuse_for;
 use desk_answers::copy_reply;
-use desk_hold::{Ground, Outcome};
-use js_base::{Blob, Moment, Name, NoMemory};
+use js_api::{ApiCall, DeskFault, Outcome};
+use js_base::{Blob, Moment, Name};
 use js_model::{PlaceAt, What};
 
+// ---- STREAM.INFO
+
 /// Asks a stream for its information.
-fn ask_info<V>(ground: &mut Ground<V>, at: PlaceAt, to: &Option<Blob>, now: Moment) -> Outcome
-    requires within { IsWithin ground.old at }
+fn ask_info<G: Ground>(ground: &mut G, at: PlaceAt, to: &Option<Blob>, now: Moment) -> Outcome
+    requires within { IsWithin (G.setting ground.old) at }
     requires to { IsTrue (if_given is_subject_text to.now) }
-    ensures asks { HoldsAt result at (whats.StreamInfo to.now) now ground.old.world ground.new.world }
-    ensures kept { Keeps ground.old ground.new }
+    ensures made { Makes G.made (Holds at (whats.StreamInfo to.now) now result) ground.old ground.new }
+    ensures explained { IsExplained result.fault result.became }
+    ensures setting { G.setting ground.new ≡ G.setting ground.old }
+    ensures phase { G.phase ground.new ≡ G.phase ground.old }
 {
     match copy_reply(to) {
         Ok(reply) => ground.hold(at, What::StreamInfo { reply }, now),
-        Err(_) => Outcome::Unmade,
+        Err(_) => unmade(),
     }
 }
 
 /// Shows the stream of this name.
-pub fn show_stream<V>(
-    ground: &mut Ground<V>,
+pub fn show_stream<G: Ground>(
+    ground: &mut G,
     stream: &Name,
     to: &Option<Blob>,
     now: Moment,
-) -> Result<(), NoMemory>
+) -> Result<bool, DeskFault>
+    requires outside { G.phase ground.old ≡ Outside }
     requires to { IsTrue (if_given is_subject_text to.now) }
-    ensures performs { Leads (Performs (requests.StreamInfo stream.now) to.now now (is_ok result)) ground.old.world ground.new.world }
-    ensures kept { Keeps ground.old ground.new }
+    ensures made { Makes G.made (IsShowing stream.now to.now now result) ground.old ground.new }
+    ensures setting { G.setting ground.new ≡ G.setting ground.old }
+    ensures phase { G.phase ground.new ≡ Outside }
 {
-    match ground.by_name(stream) {
+    match ground.by_name(stream)? {
         Some(at) => {
             let outcome = ask_info(ground, at, to, now);
-            end_call(ground, b"stream_info", to, outcome)
+            end_call(ground, ApiCall::StreamInfo, to, outcome)
         }
-        None => refuse_absent(ground, b"stream_info", to),
+        None => refuse_for(ground, ApiCall::StreamInfo, to, Reason::NoStream),
     }
 }
 
+// ---- STREAM.DELETE
+
 /// Asks a stream to end.
-fn ask_drop<V>(ground: &mut Ground<V>, at: PlaceAt, to: &Option<Blob>, now: Moment) -> Outcome
-    requires within { IsWithin ground.old at }
+fn ask_drop<G: Ground>(ground: &mut G, at: PlaceAt, to: &Option<Blob>, now: Moment) -> Outcome
+    requires within { IsWithin (G.setting ground.old) at }
     requires to { IsTrue (if_given is_subject_text to.now) }
-    ensures asks { HoldsAt result at (whats.Drop to.now) now ground.old.world ground.new.world }
-    ensures number { NumbersDropped (whats.Drop to.now) result at }
-    ensures kept { Keeps ground.old ground.new }
+    requires turn { G.phase ground.old ≡ Within }
+    ensures made { Makes G.made (Holds at (whats.Drop to.now) now result) ground.old ground.new }
+    ensures explained { IsExplained result.fault result.became }
+    ensures number { is_dropped result.became ≡ true → at.incarnation < 2 ^ 62 }
+    ensures kept { G.kept ground.new ≡ G.kept ground.old }
+    ensures setting { G.setting ground.new ≡ G.setting ground.old }
+    ensures phase { G.phase ground.new ≡ (if is_dropped result.became then Owing at.place else Within) }
 {
     match copy_reply(to) {
         Ok(reply) => ground.hold(at, What::Drop { reply }, now),
-        Err(_) => Outcome::Unmade,
+        Err(_) => unmade(),
     }
 }
 
-/// Drops a stream, and frees its place if it is gone then.
-fn drop_at<V>(ground: &mut Ground<V>, at: PlaceAt, to: &Option<Blob>, now: Moment) -> Outcome
-    requires within { IsWithin ground.old at }
-    requires known { Knows ground.old at }
+/// Drops the stream of a place, and frees the place if it is gone then.
+fn drop_at<G: Ground>(
+    ground: &mut G,
+    at: PlaceAt,
+    to: &Option<Blob>,
+    now: Moment,
+) -> Result<bool, DeskFault>
+    requires within { IsWithin (G.setting ground.old) at }
     requires to { IsTrue (if_given is_subject_text to.now) }
-    ensures drops { Leads (IsOnPlace result at (whats.Drop to.now) now (free_if_dropped at)) ground.old.world ground.new.world }
-    ensures kept { Keeps ground.old ground.new }
+    requires turn { G.phase ground.old ≡ Within }
+    requires known { Knows (G.kept ground.old) at }
+    ensures made { Makes G.made (IsOnStream (name_of calls.StreamDelete) at (whats.Drop to.now) now (free_if_dropped at) result) ground.old ground.new }
+    ensures setting { G.setting ground.new ≡ G.setting ground.old }
+    ensures phase { G.phase ground.new ≡ Within }
 {
     let outcome = ask_drop(ground, at, to, now);
-    if outcome.is_done() {
-        ground.free(at.place, true);
+    free_if_dropped(ground, at, &outcome.became);
+    end_call(ground, ApiCall::StreamDelete, to, outcome)
+}
+
+/// Drops the stream that was looked up, if it is there.
+fn drop_found<G: Ground>(
+    ground: &mut G,
+    found: Option<PlaceAt>,
+    to: &Option<Blob>,
+    now: Moment,
+) -> Result<bool, DeskFault>
+    requires within { IfSome found (IsWithin (G.setting ground.old)) }
+    requires to { IsTrue (if_given is_subject_text to.now) }
+    requires turn { G.phase ground.old ≡ Within }
+    requires known { IfSome found (Knows (G.kept ground.old)) }
+    ensures made { Makes G.made
+        (GoesOnNamed (IsAbsent (name_of calls.StreamDelete) to.now)
+        (λ at. IsOnStream (name_of calls.StreamDelete) at (whats.Drop to.now) now (free_if_dropped at)) found result) ground.old ground.new }
+    ensures setting { G.setting ground.new ≡ G.setting ground.old }
+    ensures phase { G.phase ground.new ≡ Within }
+{
+    match found {
+        Some(at) => drop_at(ground, at, to, now),
+        None => refuse_for(ground, ApiCall::StreamDelete, to, Reason::NoStream),
     }
-    outcome
 }
 
 /// Deletes the stream of this name.
-pub fn delete_stream<V>(
-    ground: &mut Ground<V>,
+pub fn delete_stream<G: Ground>(
+    ground: &mut G,
     stream: &Name,
     to: &Option<Blob>,
     now: Moment,
-) -> Result<(), NoMemory>
+) -> Result<bool, DeskFault>
+    requires outside { G.phase ground.old ≡ Outside }
     requires to { IsTrue (if_given is_subject_text to.now) }
-    ensures performs { Leads (Performs (requests.StreamDelete stream.now) to.now now (is_ok result)) ground.old.world ground.new.world }
-    ensures kept { Keeps ground.old ground.new }
+    ensures made { Makes G.made (IsDeleting stream.now to.now now result) ground.old ground.new }
+    ensures setting { G.setting ground.new ≡ G.setting ground.old }
+    ensures phase { G.phase ground.new ≡ Outside }
 {
-    match ground.by_name(stream) {
-        Some(at) => {
-            let outcome = drop_at(ground, at, to, now);
-            end_call(ground, b"stream_delete", to, outcome)
-        }
-        None => refuse_absent(ground, b"stream_delete", to),
-    }
+    let found = ground.begin(stream)?;
+    let result = drop_found(ground, found, to, now);
+    ground.end();
+    result
 }

@@ -1,57 +1,139 @@
 //! The call that changes a stream's configuration.
 
-ghost use Rattle.std.specs.Prelude.{is_ok, IsTrue};
-ghost use Rattle.api_requests.specs.declared.request.ApiRequest.TheVariants as requests;
+ghost use Rattle.std.specs.Prelude.{◌≡◌, IfSome, IsTrue};
+ghost use Rattle.api_calls.specs.Names.{name_of};
+ghost use Rattle.api_calls.specs.declared.call.ApiCall.TheVariants as calls;
 ghost use Rattle.api_requests.specs.Read.{IsSetup};
-ghost use Rattle.js_api.specs.Api.{IsChanging, Performs};
 ghost use Rattle.js_base.specs.Subjects.{is_subject_text};
-ghost use Rattle.js_model.specs.declared.event.What.TheVariants as whats;
+ghost use Rattle.js_model.specs.Cataloging.{HasPlace};
 ghost use Rattle.js_model.specs.Proper.{if_given};
-ghost use Rattle.desk_hold.specs.Grounds.{IsWithin, Keeps, Knows};
-ghost use Rattle.desk_hold.specs.HoldsAt.{MayAsk};
-ghost use Rattle.desk_hold.specs.Leads.{Leads};
+ghost use Rattle.js_model.specs.declared.event.What.TheVariants as whats;
+ghost use Rattle.js_api.specs.Holding.{Holds};
+ghost use Rattle.js_api.specs.Leading.{Makes};
+ghost use Rattle.js_api.specs.OneStream.{IsAbsent, IsChanging, IsOnStream, IsUpdating, keep_subjects};
+ghost use Rattle.desk_answers.specs.Asking.{MayAsk};
+ghost use Rattle.desk_calls.specs.Grounds.{Between, IsBetween, IsWithin, Knows, Outside, Within};
+ghost use Rattle.desk_calls.specs.Named.{GoesOnNamed};
+ghost use Rattle.desk_answers.specs.Became.{IsExplained};
 
-use crate::refusing::{end_call, refuse, refuse_absent};
-use desk_hold::Ground;
-use js_base::{Blob, Moment, Name, NoMemory};
-use js_model::{CatalogFault, PlaceAt, StreamConfig};
+use crate::answering::{end_call, unmade};
+use crate::freeing::keep_subjects;
+use crate::ground::Ground;
+use crate::reason::Reason;
+use crate::telling::{refuse, refuse_for};
+use desk_answers::copy_reply;
+use js_api::{ApiCall, DeskFault, Outcome};
+use js_base::{Blob, Moment, Name};
+use js_model::{CatalogFault, PlaceAt, StreamConfig, What};
 
-/// Changes the stream of a place.
-fn change_at<V>(
-    ground: &mut Ground<V>,
+/// Asks a stream to take this configuration.
+fn ask_change<G: Ground>(
+    ground: &mut G,
+    at: PlaceAt,
+    to: &Option<Blob>,
+    config: StreamConfig,
+    now: Moment,
+) -> Outcome
+    requires within { IsWithin (G.setting ground.old) at }
+    requires asked { MayAsk (whats.Change to.now config) }
+    ensures made { Makes G.made (Holds at (whats.Change to.now config) now result) ground.old ground.new }
+    ensures explained { IsExplained result.fault result.became }
+    ensures kept { G.kept ground.new ≡ G.kept ground.old }
+    ensures setting { G.setting ground.new ≡ G.setting ground.old }
+    ensures phase { G.phase ground.new ≡ G.phase ground.old }
+{
+    match copy_reply(to) {
+        Ok(reply) => ground.hold(at, What::Change { reply, config }, now),
+        Err(_) => unmade(),
+    }
+}
+
+/// Changes a stream that has its new subjects beside its old ones, and keeps those that it has then.
+fn change_between<G: Ground>(
+    ground: &mut G,
     at: PlaceAt,
     config: StreamConfig,
     to: &Option<Blob>,
     now: Moment,
-) -> Result<(), NoMemory>
-    requires within { IsWithin ground.old at }
-    requires known { Knows ground.old at }
+) -> Result<bool, DeskFault>
+    requires within { IsWithin (G.setting ground.old) at }
     requires asked { MayAsk (whats.Change to.now config) }
-    ensures changes { Leads (IsChanging config to.now now (is_ok result) at) ground.old.world ground.new.world }
-    ensures kept { Keeps ground.old ground.new }
+    requires turn { G.phase ground.old ≡ Between at.place }
+    requires between { HasPlace (G.kept ground.old) at.place (IsBetween at) }
+    ensures made { Makes G.made (IsOnStream (name_of calls.StreamUpdate) at (whats.Change to.now config) now (keep_subjects at) result) ground.old ground.new }
+    ensures setting { G.setting ground.new ≡ G.setting ground.old }
+    ensures phase { G.phase ground.new ≡ Within }
 {
-    match ground.change(at, to, config, now) {
-        Ok(outcome) => end_call(ground, b"stream_update", to, outcome),
-        Err(CatalogFault::Refused(refusal)) => refuse(ground, b"stream_update", to, refusal),
-        Err(CatalogFault::NoMemory) => Err(NoMemory),
+    let outcome = ask_change(ground, at, to, config, now);
+    keep_subjects(ground, at, &outcome.became);
+    end_call(ground, ApiCall::StreamUpdate, to, outcome)
+}
+
+/// Changes the stream of a place.
+fn change_at<G: Ground>(
+    ground: &mut G,
+    at: PlaceAt,
+    config: StreamConfig,
+    to: &Option<Blob>,
+    now: Moment,
+) -> Result<bool, DeskFault>
+    requires within { IsWithin (G.setting ground.old) at }
+    requires asked { MayAsk (whats.Change to.now config) }
+    requires turn { G.phase ground.old ≡ Within }
+    requires known { Knows (G.kept ground.old) at }
+    ensures made { Makes G.made (IsChanging config to.now now at result) ground.old ground.new }
+    ensures setting { G.setting ground.new ≡ G.setting ground.old }
+    ensures phase { G.phase ground.new ≡ Within }
+{
+    match ground.change(at, config.subjects.as_slice()) {
+        Ok(()) => change_between(ground, at, config, to, now),
+        Err(CatalogFault::Refused(refusal)) => {
+            refuse(ground, ApiCall::StreamUpdate.name(), to, refusal)
+        }
+        Err(CatalogFault::NoMemory) => Err(DeskFault::NoMemory),
+    }
+}
+
+/// Changes the stream that was looked up, if it is there.
+fn change_found<G: Ground>(
+    ground: &mut G,
+    found: Option<PlaceAt>,
+    config: StreamConfig,
+    to: &Option<Blob>,
+    now: Moment,
+) -> Result<bool, DeskFault>
+    requires within { IfSome found (IsWithin (G.setting ground.old)) }
+    requires asked { MayAsk (whats.Change to.now config) }
+    requires turn { G.phase ground.old ≡ Within }
+    requires known { IfSome found (Knows (G.kept ground.old)) }
+    ensures made { Makes G.made
+        (GoesOnNamed (IsAbsent (name_of calls.StreamUpdate) to.now) (IsChanging config to.now now) found result) ground.old ground.new }
+    ensures setting { G.setting ground.new ≡ G.setting ground.old }
+    ensures phase { G.phase ground.new ≡ Within }
+{
+    match found {
+        Some(at) => change_at(ground, at, config, to, now),
+        None => refuse_for(ground, ApiCall::StreamUpdate, to, Reason::NoStream),
     }
 }
 
 /// Changes the stream of this name.
-pub fn update_stream<V>(
-    ground: &mut Ground<V>,
+pub fn update_stream<G: Ground>(
+    ground: &mut G,
     stream: &Name,
     config: StreamConfig,
     to: &Option<Blob>,
     now: Moment,
-) -> Result<(), NoMemory>
+) -> Result<bool, DeskFault>
+    requires outside { G.phase ground.old ≡ Outside }
     requires to { IsTrue (if_given is_subject_text to.now) }
     requires setup { IsSetup stream.now config }
-    ensures performs { Leads (Performs (requests.StreamUpdate stream.now config) to.now now (is_ok result)) ground.old.world ground.new.world }
-    ensures kept { Keeps ground.old ground.new }
+    ensures made { Makes G.made (IsUpdating stream.now config to.now now result) ground.old ground.new }
+    ensures setting { G.setting ground.new ≡ G.setting ground.old }
+    ensures phase { G.phase ground.new ≡ Outside }
 {
-    match ground.by_name(stream) {
-        Some(at) => change_at(ground, at, config, to, now),
-        None => refuse_absent(ground, b"stream_update", to),
-    }
+    let found = ground.begin(stream)?;
+    let result = change_found(ground, found, config, to, now);
+    ground.end();
+    result
 }

@@ -1,26 +1,34 @@
 //! The stream that the command line names.
 
-ghost use Rattle.std.specs.Prelude.{◌≡◌, ◌∷◌, [], IfOk, IsTrue, None, Ok};
-ghost use Rattle.js_api.specs.Making.{IsAdding};
+ghost use Rattle.std.specs.Prelude.{◌≡◌, ◌∷◌, [], IfOk, IfSome, IsTrue, None, Ok};
 ghost use Rattle.js_base.specs.Names.{name_of};
 ghost use Rattle.js_model.specs.Configs.{is_stream_subject};
-ghost use Rattle.stream_config.specs.Defaults.{default_config};
-ghost use Rattle.desk_hold.specs.Grounds.{Keeps};
-ghost use Rattle.desk_hold.specs.HoldsAt.{MayAsk};
-ghost use Rattle.desk_hold.specs.Leads.{Leads};
-ghost use Rattle.desk_calls.specs.MakingDefault.{MakesDefault, TellsMaking, making_told};
-ghost use Rattle.js_model.specs.Refusals.{no_stream};
+ghost use Rattle.js_model.specs.Refusals as refusals;
 ghost use Rattle.js_model.specs.declared.event.What.TheVariants as whats;
+ghost use Rattle.stream_config.specs.Defaults.{default_config};
+ghost use Rattle.js_api.specs.Leading.{Makes};
+ghost use Rattle.js_api.specs.Making.{GoesOnTaken, IsMaking};
+ghost use Rattle.js_api.specs.OneStream.{IsAdding};
+ghost use Rattle.js_api.specs.Stages.{Ending, Gives};
+ghost use Rattle.desk_answers.specs.Asking.{MayAsk};
+ghost use Rattle.desk_calls.specs.Grounds.{Outside, Within};
+ghost use Rattle.desk_calls.specs.Named.{GoesOnNamed};
+ghost use Rattle.desk_answers.specs.Became.{IsExplained};
+ghost use Rattle.desk_calls.specs.Outcomes.{IsThere};
+ghost use Rattle.desk_calls.specs.Preparing.{IsPreparing, MakesPrepared};
 
 use crate::creating::make_at;
-use desk_hold::{Ground, Outcome};
+use crate::ground::Ground;
+use js_api::{Became, DeskFault, Outcome};
 use js_base::{ApiError, Blob, List, Moment, Name, NoMemory};
-use js_model::refusals::no_stream;
-use js_model::{CatalogFault, Discard, Reply, Retention, StreamConfig};
+use js_model::refusals::{store_fault, stream_stopped};
+use js_model::{CatalogFault, Discard, PlaceAt, Reply, Retention, StreamConfig};
 use std::alloc::Global;
 
 /// How long a stream remembers ids by default: 2 minutes, in nanoseconds.
 const DUPLICATE_WINDOW: u64 = 120_000_000_000;
+
+// ---- what is needed before
 
 fn one_subject(alloc: Global, subject: &[u8]) -> Result<List<Blob>, NoMemory>
     ensures list { IfOk result (λ list. list ≡ subject.now ∷ []) }
@@ -52,70 +60,142 @@ fn default_config(alloc: Global, name: &Name, subject: &[u8]) -> Result<StreamCo
     })
 }
 
-/// How the making ended: the stream is there, or why it was refused. `absent` is told if the place keeps another incarnation.
-fn making_told(outcome: Outcome, absent: ApiError) -> Result<Option<ApiError>, NoMemory>
-    requires absent { absent ≡ no_stream }
-    ensures told { TellsMaking result outcome }
-{
-    match outcome {
-        Outcome::Said(Reply::Refused(refusal)) => Ok(Some(refusal)),
-        Outcome::Said(_) => Ok(None),
-        Outcome::Cut(_) | Outcome::Unmade => Err(NoMemory),
-        Outcome::Gone => Ok(Some(absent)),
-    }
-}
-
-/// Takes a place for the stream of this configuration, and makes it there. The place is free again if none was made.
-fn add_default<V>(
-    ground: &mut Ground<V>,
-    name: &Name,
+/// What the making of a stream needs: its configuration, and what is told if the volume of its place fails or had failed before.
+#[derive(Drop)]
+struct Prepared {
     config: StreamConfig,
-    absent: ApiError,
-    now: Moment,
-) -> Result<Option<ApiError>, NoMemory>
-    requires asked { MayAsk (whats.Make None config) }
-    requires absent { absent ≡ no_stream }
-    ensures adds { Leads (IsAdding name.now config now (making_told result)) ground.old.world ground.new.world }
-    ensures kept { Keeps ground.old ground.new }
+    broke: ApiError,
+    stopped: ApiError,
+}
+
+fn prepare(alloc: Global, name: &Name, subject: &[u8]) -> Result<Prepared, NoMemory>
+    requires subject { IsTrue (is_stream_subject subject.now) }
+    ensures asked { IfOk result (λ made. MayAsk (whats.Make None made.config)) }
+    ensures config { IfOk result (λ made. made.config ≡ default_config name.now subject.now) }
+    ensures broke { IfOk result (λ made. made.broke ≡ refusals.store_fault) }
+    ensures stopped { IfOk result (λ made. made.stopped ≡ refusals.stream_stopped) }
 {
+    Ok(Prepared {
+        config: default_config(alloc, name, subject)?,
+        broke: store_fault(alloc)?,
+        stopped: stream_stopped(alloc)?,
+    })
+}
+
+// ---- the making
+
+/// Why the stream was not made, by what became of the hold.
+fn making_told(
+    outcome: Outcome,
+    broke: ApiError,
+    stopped: ApiError,
+) -> Result<Option<ApiError>, DeskFault>
+    requires explained { IsExplained outcome.fault outcome.became }
+    requires there { IsThere outcome.became }
+    requires broke { broke ≡ refusals.store_fault }
+    requires stopped { stopped ≡ refusals.stream_stopped }
+    ensures told { Ending outcome.fault (IsMaking outcome.became) result [] }
+{
+    if let Some(fault) = outcome.fault {
+        return Err(fault);
+    }
+    match outcome.became {
+        Became::Made(Reply::Refused(refusal)) => Ok(Some(refusal)),
+        Became::Made(_) => Ok(None),
+        Became::Broke { stream: _ } => Ok(Some(broke)),
+        Became::Stopped { stream: _ } => Ok(Some(stopped)),
+        Became::Ticked => unreachable!(),
+        Became::Nothing => unreachable!(),
+        Became::Gone => unreachable!(),
+    }
+}
+
+/// Takes a place for the stream, and makes it there.
+fn add_prepared<G: Ground>(
+    ground: &mut G,
+    name: &Name,
+    prepared: Prepared,
+    now: Moment,
+) -> Result<Option<ApiError>, DeskFault>
+    requires turn { G.phase ground.old ≡ Within }
+    requires asked { MayAsk (whats.Make None prepared.config) }
+    requires broke { prepared.broke ≡ refusals.store_fault }
+    requires stopped { prepared.stopped ≡ refusals.stream_stopped }
+    ensures made { Makes G.made (IsAdding name.now prepared.config (GoesOnTaken prepared.config now) result) ground.old ground.new }
+    ensures setting { G.setting ground.new ≡ G.setting ground.old }
+    ensures phase { G.phase ground.new ≡ Within }
+{
+    let Prepared {
+        config,
+        broke,
+        stopped,
+    } = prepared;
     match ground.add(name, config.subjects.as_slice()) {
-        Ok(at) => making_told(make_at(ground, at, &None, config, now), absent),
+        Ok(at) => {
+            let outcome = make_at(ground, at, &None, config, now);
+            making_told(outcome, broke, stopped)
+        }
         Err(CatalogFault::Refused(refusal)) => Ok(Some(refusal)),
-        Err(CatalogFault::NoMemory) => Err(NoMemory),
+        Err(CatalogFault::NoMemory) => Err(DeskFault::NoMemory),
     }
 }
 
-/// What the making of the stream needs: its configuration, and the refusal if its place is gone.
-fn prepared(
-    alloc: Global,
-    name: &Name,
-    subject: &[u8],
-) -> Result<(StreamConfig, ApiError), NoMemory>
-    requires subject { IsTrue (is_stream_subject subject.now) }
-    ensures asked { IfOk result (λ made. MayAsk (whats.Make None made.0)) }
-    ensures config { IfOk result (λ made. made.0 ≡ default_config name.now subject.now) }
-    ensures absent { IfOk result (λ made. made.1 ≡ no_stream) }
-{
-    Ok((default_config(alloc, name, subject)?, no_stream(alloc)?))
-}
-
-/// Makes the stream of this name and this one subject, with every default, unless there is one of this name, and answers why it was not made. An
-/// `Err` comes if memory runs out, and leaves open whether the stream was made.
-pub fn make_stream<V>(
-    ground: &mut Ground<V>,
+/// Makes the stream, of which none is there.
+fn make_absent<G: Ground>(
+    ground: &mut G,
     name: &Name,
     subject: &[u8],
     now: Moment,
-) -> Result<Option<ApiError>, NoMemory>
+) -> Result<Option<ApiError>, DeskFault>
+    requires turn { G.phase ground.old ≡ Within }
     requires subject { IsTrue (is_stream_subject subject.now) }
-    ensures makes { MakesDefault result name.now subject.now now ground.old.world ground.new.world }
-    ensures kept { Keeps ground.old ground.new }
+    ensures made { Makes G.made (IsPreparing name.now (default_config name.now subject.now) now result) ground.old ground.new }
+    ensures setting { G.setting ground.new ≡ G.setting ground.old }
+    ensures phase { G.phase ground.new ≡ Within }
 {
-    if ground.by_name(name).is_some() {
-        return Ok(None);
+    match prepare(ground.alloc(), name, subject) {
+        Ok(prepared) => add_prepared(ground, name, prepared, now),
+        Err(_) => Err(DeskFault::NoMemory),
     }
-    match prepared(ground.alloc(), name, subject) {
-        Ok((config, absent)) => add_default(ground, name, config, absent, now),
-        Err(_) => Err(NoMemory),
+}
+
+/// Makes the stream that was looked up, unless it is there.
+fn make_found<G: Ground>(
+    ground: &mut G,
+    name: &Name,
+    found: Option<PlaceAt>,
+    subject: &[u8],
+    now: Moment,
+) -> Result<Option<ApiError>, DeskFault>
+    requires turn { G.phase ground.old ≡ Within }
+    requires subject { IsTrue (is_stream_subject subject.now) }
+    ensures made { Makes G.made
+        (GoesOnNamed (IsPreparing name.now (default_config name.now subject.now) now) (λ at. Gives None) found result) ground.old ground.new }
+    ensures setting { G.setting ground.new ≡ G.setting ground.old }
+    ensures phase { G.phase ground.new ≡ Within }
+{
+    match found {
+        Some(_) => Ok(None),
+        None => make_absent(ground, name, subject, now),
     }
+}
+
+/// Makes the stream of this name and this one subject, with every default of JetStream, unless there is one of this name, and answers why it was not
+/// made. An `Err` leaves open whether it was.
+pub fn make_stream<G: Ground>(
+    ground: &mut G,
+    name: &Name,
+    subject: &[u8],
+    now: Moment,
+) -> Result<Option<ApiError>, DeskFault>
+    requires outside { G.phase ground.old ≡ Outside }
+    requires subject { IsTrue (is_stream_subject subject.now) }
+    ensures made { Makes G.made (MakesPrepared name.now (default_config name.now subject.now) now result) ground.old ground.new }
+    ensures setting { G.setting ground.new ≡ G.setting ground.old }
+    ensures phase { G.phase ground.new ≡ Outside }
+{
+    let found = ground.begin(name)?;
+    let result = make_found(ground, name, found, subject, now);
+    ground.end();
+    result
 }

@@ -1,75 +1,66 @@
 //! Time passes at a place.
 
-ghost use Rattle.std.specs.Prelude.{◌≡◌, true, false};
-ghost use Rattle.js_api.specs.Calls.{PassesAt, Settles, Ticks};
-ghost use Rattle.desk_hold.specs.Grounds.{IsWithin, Keeps};
-ghost use Rattle.desk_hold.specs.Leads.{Leads};
-ghost use Rattle.desk_calls.specs.TurnEnds.{RestsBy};
+ghost use Rattle.std.specs.Prelude.{◌≡◌, IfSome};
+ghost use Rattle.js_api.specs.Answering.{Done, Settled, done, settled};
+ghost use Rattle.js_api.specs.Calls.{Answered, Passes, PassesAt, Settles, Ticks};
+ghost use Rattle.js_api.specs.Leading.{Makes};
+ghost use Rattle.desk_calls.specs.Grounds.{IsWithin, Outside};
 
-use desk_hold::Ground;
+use crate::ground::Ground;
+use js_api::DeskFault;
 use js_base::Moment;
-use js_model::PlaceAt;
+use js_model::{PlaceAt, What};
 
-/// Lets time pass at a place, and answers whether a consumer is ready there then. There are none yet.
-fn pass_at<V>(ground: &mut Ground<V>, at: PlaceAt, now: Moment) -> bool
-    requires within { IsWithin ground.old at }
-    ensures passes { Leads (λ entries. PassesAt now true result entries at) ground.old.world ground.new.world }
-    ensures none { result ≡ false }
-    ensures router { ground.new.world.router ≡ ground.old.world.router }
-    ensures kept { Keeps ground.old ground.new }
+/// Lets time pass at a place, and answers whether a consumer is ready there then.
+fn pass_at<G: Ground>(ground: &mut G, at: PlaceAt, now: Moment) -> Result<bool, DeskFault>
+    requires within { IsWithin (G.setting ground.old) at }
+    ensures made { Makes G.made (PassesAt now at result) ground.old ground.new }
+    ensures setting { G.setting ground.new ≡ G.setting ground.old }
+    ensures phase { G.phase ground.new ≡ G.phase ground.old }
 {
-    ground.pass(at, now).unwrap_or(false)
+    let outcome = ground.hold(at, What::Tick, now);
+    match outcome.fault {
+        Some(fault) => Err(fault),
+        None => Ok(outcome.ready),
+    }
 }
 
-/// Lets time pass at the next used place behind that of the last tick, in cyclic order. It does nothing if no place is used.
-pub fn tick<V>(ground: &mut Ground<V>, now: Moment)
-    ensures ticks { Leads (Ticks now true) ground.old.world ground.new.world }
-    ensures router { ground.new.world.router ≡ ground.old.world.router }
-    ensures kept { Keeps ground.old ground.new }
+/// Lets time pass at a place, if there is one.
+fn pass<G: Ground>(
+    ground: &mut G,
+    found: Option<PlaceAt>,
+    now: Moment,
+) -> Result<bool, DeskFault>
+    requires within { IfSome found (IsWithin (G.setting ground.old)) }
+    ensures made { Makes G.made (Passes now found result) ground.old ground.new }
+    ensures setting { G.setting ground.new ≡ G.setting ground.old }
+    ensures phase { G.phase ground.new ≡ G.phase ground.old }
 {
-    match ground.turn() {
-        Some(at) => {
-            let _ = pass_at(ground, at, now);
-        }
-        None => {}
+    match found {
+        Some(at) => pass_at(ground, at, now),
+        None => Ok(false),
     }
+}
+
+/// Lets time pass at the next used place after that of the last tick, in cyclic order. It does nothing if no place is used.
+pub fn tick<G: Ground>(ground: &mut G, now: Moment) -> Result<(), DeskFault>
+    requires outside { G.phase ground.old ≡ Outside }
+    ensures made { Makes G.made (Answered (λ (u : Unit {0}). Done) (Ticks now) (done result)) ground.old ground.new }
+    ensures setting { G.setting ground.new ≡ G.setting ground.old }
+    ensures phase { G.phase ground.new ≡ Outside }
+{
+    let found = ground.turn()?;
+    let _ = pass(ground, found, now)?;
+    Ok(())
 }
 
 /// Lets time pass at the place of the last hold, and answers whether a consumer is ready there then. Before the first hold it does nothing.
-pub fn settle<V>(ground: &mut Ground<V>, now: Moment) -> bool
-    ensures settles { Leads (Settles now true result) ground.old.world ground.new.world }
-    ensures none { result ≡ false }
-    ensures router { ground.new.world.router ≡ ground.old.world.router }
-    ensures kept { Keeps ground.old ground.new }
+pub fn settle<G: Ground>(ground: &mut G, now: Moment) -> Result<bool, DeskFault>
+    requires outside { G.phase ground.old ≡ Outside }
+    ensures made { Makes G.made (Answered Settled (Settles now) (settled result)) ground.old ground.new }
+    ensures setting { G.setting ground.new ≡ G.setting ground.old }
+    ensures phase { G.phase ground.new ≡ Outside }
 {
-    match ground.last() {
-        Some(at) => pass_at(ground, at, now),
-        None => false,
-    }
-}
-
-/// Lets time pass at a place, and then at that of the last hold, which is the same one if its stream is there.
-fn rest_at<V>(ground: &mut Ground<V>, at: PlaceAt, now: Moment)
-    requires within { IsWithin ground.old at }
-    ensures rests { RestsBy (λ entries. PassesAt now true false entries at) now ground.old.world ground.new.world }
-    ensures router { ground.new.world.router ≡ ground.old.world.router }
-    ensures kept { Keeps ground.old ground.new }
-{
-    if ground.pass(at, now).is_none() {
-        let _ = settle(ground, now);
-    }
-}
-
-/// Does as `tick` and then `settle`, of which no consumer is ready.
-pub fn rest<V>(ground: &mut Ground<V>, now: Moment)
-    ensures rests { RestsBy (Ticks now true) now ground.old.world ground.new.world }
-    ensures router { ground.new.world.router ≡ ground.old.world.router }
-    ensures kept { Keeps ground.old ground.new }
-{
-    match ground.turn() {
-        Some(at) => rest_at(ground, at, now),
-        None => {
-            let _ = settle(ground, now);
-        }
-    }
+    let last = ground.resume();
+    pass(ground, last, now)
 }

@@ -1,20 +1,29 @@
 //! What becomes of a client's message.
 
-ghost use Rattle.std.specs.Prelude.{◌≡◌, IfOk, true};
-ghost use Rattle.js_api.specs.Publishing.{IsMessage, published};
-ghost use Rattle.desk_hold.specs.Grounds.{IsWithin, Keeps};
-ghost use Rattle.desk_hold.specs.HoldsAt.{HoldsAt};
-ghost use Rattle.desk_calls.specs.Publishes.{IsOffer, IsPlain, taken_so, PublishesApi, PublishesPlain, PublishesSo};
-ghost use Rattle.js_model.specs.Router.{is_open};
-ghost use Rattle.desk_hold.specs.Leads.{Leads};
+ghost use Rattle.std.specs.Prelude.{◌≡◌, ℕ, Err, IfOk, IfSome, IsUtf8, None, Ok, Some, false, true};
+ghost use Rattle.api_requests.specs.Read.{IsRead};
+ghost use Rattle.js_base.specs.ServerSubjects.{is_acknowledgement, is_api};
+ghost use Rattle.js_api.specs.Answering.{Publish as PublishIt, took};
+ghost use Rattle.js_api.specs.Api.{IsAsked, PublishesToApi, TakesByApi};
+ghost use Rattle.js_api.specs.Calls.{Does, Publishes};
+ghost use Rattle.js_api.specs.Holding.{Holds};
+ghost use Rattle.js_api.specs.Leading.{Makes};
+ghost use Rattle.js_api.specs.Publishing.{IsMessage, IsReached, PublishesPlain, Stores, published};
+ghost use Rattle.js_api.specs.Stages.{Ending};
+ghost use Rattle.desk_calls.specs.Callers.{client_of};
+ghost use Rattle.desk_calls.specs.Grounds.{IsWithin, Outside};
+ghost use Rattle.desk_answers.specs.Became.{CanBeShown, IsExplained};
+ghost use Rattle.desk_calls.specs.Plain.{IsPlain};
 
-use crate::calls::carry_out;
-use crate::refusing::refuse;
-use crate::untaken::tell_untaken;
+use crate::answering::unmade;
+use crate::api::carry_out;
+use crate::caller::Caller;
+use crate::ground::Ground;
+use crate::reason::Reason;
+use crate::telling::{refuse, refuse_publish, tell_untaken};
 use desk_answers::NOBODY;
-use desk_hold::{Ending, Ground, Outcome};
-use js_api::{ApiFault, call_name, read_request};
-use js_base::{Blob, Moment, NoMemory, Out};
+use js_api::{ApiFault, ApiRequest, Became, DeskFault, Outcome, call_name, read_request};
+use js_base::{ApiError, Blob, Moment, NoMemory, Out};
 use js_model::{PlaceAt, Publish, Taken, Wants, What};
 use subject_match::{is_acknowledgement, is_api};
 
@@ -24,14 +33,7 @@ const BY_API: Taken = Taken {
     other: true,
 };
 
-/// The client of an open session: the session's number, and whether it is told if nobody took its message.
-#[derive(Clone, Copy)]
-pub struct Caller {
-    pub session: u64,
-    pub told: bool,
-}
-
-// ---- to a plain subject
+// ---- the stream of the subject
 
 /// What a published message asks of its stream.
 fn published(message: &Out) -> Result<What, NoMemory>
@@ -53,121 +55,233 @@ fn published(message: &Out) -> Result<What, NoMemory>
     }))
 }
 
-/// Stores the message in the stream of a place.
-fn store<V>(ground: &mut Ground<V>, at: PlaceAt, message: &Out, now: Moment) -> Outcome
-    requires within { IsWithin ground.old at }
+/// Asks a stream to take the message.
+fn ask_store<G: Ground>(ground: &mut G, at: PlaceAt, message: &Out, now: Moment) -> Outcome
+    requires within { IsWithin (G.setting ground.old) at }
     requires message { IsMessage message.now }
     requires plain { IsPlain message.now.to }
-    ensures stores { HoldsAt result at (published message.now) now ground.old.world ground.new.world }
-    ensures kept { Keeps ground.old ground.new }
+    ensures made { Makes G.made (Holds at (published message.now) now result) ground.old ground.new }
+    ensures explained { IsExplained result.fault result.became }
+    ensures shown { CanBeShown result.became }
+    ensures setting { G.setting ground.new ≡ G.setting ground.old }
+    ensures phase { G.phase ground.new ≡ G.phase ground.old }
 {
     match published(message) {
         Ok(what) => ground.hold(at, what, now),
-        Err(_) => Outcome::Unmade,
+        Err(_) => unmade(),
     }
 }
 
-/// Offers the message to the stream whose subjects match. The outcome is `Gone` if there is none.
-fn offer<V>(ground: &mut Ground<V>, message: &Out, now: Moment) -> Outcome
+/// Whether a stream took the message. If its volume failed, the server answers that.
+fn reached<G: Ground>(ground: &mut G, message: &Out, became: Became) -> Result<bool, DeskFault>
+    requires explained { IsExplained None became }
+    requires shown { CanBeShown became }
+    ensures made { Makes G.made (IsReached message.now became result) ground.old ground.new }
+    ensures setting { G.setting ground.new ≡ G.setting ground.old }
+    ensures phase { G.phase ground.new ≡ G.phase ground.old }
+{
+    match became {
+        Became::Made(_) => Ok(true),
+        Became::Ticked => unreachable!(),
+        Became::Nothing => unreachable!(),
+        Became::Broke { stream } => {
+            refuse_publish(ground, &message.reply, &stream, Reason::StoreFault)
+        }
+        Became::Stopped { stream } => {
+            refuse_publish(ground, &message.reply, &stream, Reason::StreamStopped)
+        }
+        Became::Gone => Ok(false),
+    }
+}
+
+/// Goes on after a hold with the message, unless the call ended in it.
+fn end_store<G: Ground>(
+    ground: &mut G,
+    message: &Out,
+    outcome: Outcome,
+) -> Result<bool, DeskFault>
+    requires explained { IsExplained outcome.fault outcome.became }
+    requires shown { CanBeShown outcome.became }
+    ensures made { Makes G.made (Ending outcome.fault (IsReached message.now outcome.became) result) ground.old ground.new }
+    ensures setting { G.setting ground.new ≡ G.setting ground.old }
+    ensures phase { G.phase ground.new ≡ G.phase ground.old }
+{
+    match outcome.fault {
+        Some(fault) => Err(fault),
+        None => reached(ground, message, outcome.became),
+    }
+}
+
+/// Stores the message in the stream that was found, if there is one, and answers whether a stream took it.
+fn store<G: Ground>(
+    ground: &mut G,
+    message: &Out,
+    found: Option<PlaceAt>,
+    now: Moment,
+) -> Result<bool, DeskFault>
+    requires within { IfSome found (IsWithin (G.setting ground.old)) }
     requires message { IsMessage message.now }
     requires plain { IsPlain message.now.to }
-    ensures offers { Leads (IsOffer result message.now now) ground.old.world ground.new.world }
-    ensures kept { Keeps ground.old ground.new }
+    ensures made { Makes G.made (Stores message.now now found result) ground.old ground.new }
+    ensures setting { G.setting ground.new ≡ G.setting ground.old }
+    ensures phase { G.phase ground.new ≡ G.phase ground.old }
 {
-    match ground.find(message.to.as_slice()) {
-        Some(at) => store(ground, at, message, now),
-        None => Outcome::Gone,
+    match found {
+        Some(at) => {
+            let outcome = ask_store(ground, at, message, now);
+            end_store(ground, message, outcome)
+        }
+        None => Ok(false),
     }
 }
 
+// ---- to a plain subject
+
 /// Publishes to the subscriptions, and then to the stream whose subjects match.
-fn publish_plain<V>(
-    ground: &mut Ground<V>,
+fn publish_plain<G: Ground>(
+    ground: &mut G,
     caller: Caller,
     message: &Out,
     now: Moment,
-) -> Result<Taken, NoMemory>
+) -> Result<Taken, DeskFault>
+    requires outside { G.phase ground.old ≡ Outside }
+    requires open { (G.setting ground.old).opened caller.session ≡ true }
     requires message { IsMessage message.now }
     requires plain { IsPlain message.now.to }
-    requires opened { is_open ground.old.world.router caller.session ≡ true }
-    ensures publishes { PublishesPlain result caller message.now now ground.old.world ground.new.world }
-    ensures kept { Keeps ground.old ground.new }
+    ensures made { Makes G.made (PublishesPlain (client_of caller) message.now now result) ground.old ground.new }
+    ensures setting { G.setting ground.new ≡ G.setting ground.old }
+    ensures phase { G.phase ground.new ≡ Outside }
 {
-    let subscriptions = match ground.publish(message, caller.session) {
-        Ok(subscriptions) => subscriptions,
-        Err(_) => return Err(NoMemory),
+    let subscriptions = ground.publish(message, caller)?;
+    let found = ground.find(message.to.as_slice())?;
+    let other = store(ground, message, found, now)?;
+    let taken = Taken {
+        subscriptions,
+        other,
     };
-    let outcome = offer(ground, message, now);
-    match outcome.ending() {
-        Ending::Told => Ok(Taken {
-            subscriptions,
-            other: true,
-        }),
-        Ending::Short => Err(NoMemory),
-        Ending::Absent => {
-            let taken = Taken {
-                subscriptions,
-                other: false,
-            };
-            tell_untaken(ground, caller.told, message, taken)
-        }
-    }
+    tell_untaken(ground, caller, message, taken)
 }
 
 // ---- to the API
 
-/// The API took the message, unless memory ran out.
-fn taken_by_api(done: Result<(), NoMemory>) -> Result<Taken, NoMemory>
-    ensures value { result ≡ taken_so done }
+/// Answers that the API took the message, or tells its client that nobody did.
+fn taken_by_api<G: Ground>(
+    ground: &mut G,
+    caller: Caller,
+    message: &Out,
+    taken: bool,
+) -> Result<Taken, DeskFault>
+    ensures made { Makes G.made (TakesByApi (client_of caller) message.now taken result) ground.old ground.new }
+    ensures setting { G.setting ground.new ≡ G.setting ground.old }
+    ensures phase { G.phase ground.new ≡ G.phase ground.old }
 {
-    match done {
-        Ok(()) => Ok(BY_API),
-        Err(stop) => Err(stop),
+    if taken {
+        Ok(BY_API)
+    } else {
+        tell_untaken(ground, caller, message, NOBODY)
     }
 }
 
+/// Carries out a call that was read.
+fn publish_call<G: Ground>(
+    ground: &mut G,
+    caller: Caller,
+    message: &Out,
+    request: ApiRequest,
+    now: Moment,
+) -> Result<Taken, DeskFault>
+    requires outside { G.phase ground.old ≡ Outside }
+    requires message { IsMessage message.now }
+    requires read { IsRead request }
+    ensures made { Makes G.made (IsAsked (client_of caller) message.now now (Some (Ok request)) result) ground.old ground.new }
+    ensures setting { G.setting ground.new ≡ G.setting ground.old }
+    ensures phase { G.phase ground.new ≡ Outside }
+{
+    let taken = carry_out(ground, request, &message.reply, now)?;
+    taken_by_api(ground, caller, message, taken)
+}
+
+/// Refuses a call as it was read.
+fn refuse_call<G: Ground>(
+    ground: &mut G,
+    caller: Caller,
+    message: &Out,
+    refusal: ApiError,
+) -> Result<Taken, DeskFault>
+    requires text { IsUtf8 refusal.text }
+    ensures made { (now : ℕ) → Makes G.made (IsAsked (client_of caller) message.now now (Some (Err refusal)) result) ground.old ground.new }
+    ensures setting { G.setting ground.new ≡ G.setting ground.old }
+    ensures phase { G.phase ground.new ≡ G.phase ground.old }
+{
+    let name = call_name(message.to.as_slice());
+    let taken = refuse(ground, name, &message.reply, refusal)?;
+    taken_by_api(ground, caller, message, taken)
+}
+
 /// Reads the call of the API that the message is, carries it out and answers it. What is no call reaches nobody.
-fn publish_to_api<V>(
-    ground: &mut Ground<V>,
+fn publish_to_api<G: Ground>(
+    ground: &mut G,
     caller: Caller,
     message: &Out,
     now: Moment,
-) -> Result<Taken, NoMemory>
+) -> Result<Taken, DeskFault>
+    requires outside { G.phase ground.old ≡ Outside }
     requires message { IsMessage message.now }
-    ensures publishes { PublishesApi result caller message.now now ground.old.world ground.new.world }
-    ensures kept { Keeps ground.old ground.new }
+    ensures made { Makes G.made (PublishesToApi (client_of caller) message.now now result) ground.old ground.new }
+    ensures setting { G.setting ground.new ≡ G.setting ground.old }
+    ensures phase { G.phase ground.new ≡ Outside }
 {
     let to = message.to.as_slice();
     match read_request(ground.alloc(), to, message.payload.as_slice()) {
-        Ok(Some(request)) => taken_by_api(carry_out(ground, request, &message.reply, now)),
-        Ok(None) => tell_untaken(ground, caller.told, message, NOBODY),
-        Err(ApiFault::Refused(refusal)) => {
-            taken_by_api(refuse(ground, call_name(to), &message.reply, refusal))
-        }
-        Err(ApiFault::NoMemory) => Err(NoMemory),
+        Ok(Some(request)) => publish_call(ground, caller, message, request, now),
+        Ok(None) => tell_untaken(ground, caller, message, NOBODY),
+        Err(ApiFault::Refused(refusal)) => refuse_call(ground, caller, message, refusal),
+        Err(ApiFault::NoMemory) => Err(DeskFault::NoMemory),
     }
 }
 
 // ---- to any subject
 
-/// Publishes a client's message, and answers who took it. No consumer is served yet, so an acknowledgement reaches nobody.
-pub fn publish<V>(
-    ground: &mut Ground<V>,
+/// Publishes a message by its subject. No consumer is served yet, so an acknowledgement reaches nobody.
+fn publish_open<G: Ground>(
+    ground: &mut G,
     caller: Caller,
     message: &Out,
     now: Moment,
-) -> Result<Taken, NoMemory>
+) -> Result<Taken, DeskFault>
+    requires outside { G.phase ground.old ≡ Outside }
+    requires open { (G.setting ground.old).opened caller.session ≡ true }
     requires message { IsMessage message.now }
-    requires opened { is_open ground.old.world.router caller.session ≡ true }
-    ensures publishes { PublishesSo result caller message.now now ground.old.world ground.new.world }
-    ensures kept { Keeps ground.old ground.new }
+    ensures made { Makes G.made (Publishes (client_of caller) message.now now result) ground.old ground.new }
+    ensures setting { G.setting ground.new ≡ G.setting ground.old }
+    ensures phase { G.phase ground.new ≡ Outside }
 {
     let to = message.to.as_slice();
     if is_api(to) {
         publish_to_api(ground, caller, message, now)
     } else if is_acknowledgement(to) {
-        tell_untaken(ground, caller.told, message, NOBODY)
+        tell_untaken(ground, caller, message, NOBODY)
     } else {
         publish_plain(ground, caller, message, now)
     }
+}
+
+/// Publishes a client's message, and answers who took it.
+pub fn publish<G: Ground>(
+    ground: &mut G,
+    caller: Caller,
+    message: &Out,
+    now: Moment,
+) -> Result<Taken, DeskFault>
+    requires outside { G.phase ground.old ≡ Outside }
+    requires open { caller.is_open ≡ true → (G.setting ground.old).opened caller.session ≡ true }
+    requires message { IsMessage message.now }
+    ensures made { Makes G.made (Does (client_of caller) (PublishIt message.now now) (took result)) ground.old ground.new }
+    ensures setting { G.setting ground.new ≡ G.setting ground.old }
+    ensures phase { G.phase ground.new ≡ Outside }
+{
+    if !caller.is_open {
+        return Err(DeskFault::NoSession(caller.session));
+    }
+    publish_open(ground, caller, message, now)
 }

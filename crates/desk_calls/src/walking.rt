@@ -1,16 +1,20 @@
 //! All streams are asked for their informations.
 
-ghost use Rattle.std.specs.Prelude.{◌≡◌, ◌≤◌, ◌++◌, ◌∷◌, [], IfOk, OnOk, OnErr, MatchResult};
-ghost use Rattle.js_api.specs.Api.{behind};
-ghost use Rattle.desk_hold.specs.Grounds.{IsWithin, Keeps};
-ghost use Rattle.desk_calls.specs.Walking.{AddsSound, AreSoundTo, IsWalkCut, IsWalked, VisitsPlace, WalksBehind, further, most_to};
+ghost use Rattle.std.specs.Prelude.{◌≡◌, ◌≤◌, ◌+◌, [], None, vec_capacity, vec_len};
+ghost use Rattle.js_api.specs.AllStreams.{behind};
+ghost use Rattle.js_api.specs.Leading.{Makes};
 ghost use Rattle.desk_answers.specs.StreamInfos.{AreSound};
+ghost use Rattle.desk_calls.specs.Grounds.{IsWithin, Outside};
+ghost use Rattle.desk_answers.specs.Became.{CanBeShown, IsExplained};
+ghost use Rattle.desk_calls.specs.Walking.{AddsSound, AreSoundTo, IsVisit, IsVisitTold, IsWalk, further, most_to};
 
-use desk_hold::Ground;
-use js_base::{Moment, NoMemory};
-use js_model::{LAST_PLACE, PlaceAt, StreamInfo, What};
+use crate::ground::Ground;
+use crate::reason::Reason;
+use js_api::{Became, DeskFault, Outcome};
+use js_base::Moment;
+use js_model::{LAST_PLACE, PlaceAt, Reply, StreamInfo, What};
 
-/// The place behind which the next look-up begins: the last one at first.
+/// The place after which the next look-up begins: the last one at first.
 fn behind(last: Option<PlaceAt>) -> u32
     ensures value { result ≡ behind last }
 {
@@ -30,67 +34,87 @@ fn further(last: Option<PlaceAt>, found: Option<PlaceAt>) -> Option<PlaceAt>
     }
 }
 
-/// Adds an information at the end. An `Err` changes nothing.
-fn add(infos: &mut Vec<StreamInfo>, info: StreamInfo) -> Result<(), NoMemory>
-    ensures ok { OnOk result (infos.new.items ≡ infos.old.items ++ info ∷ []) }
-    ensures err { OnErr result (infos.new.items ≡ infos.old.items) }
+/// Adds the information that a hold told, if it told one, and answers by which failure the call is refused.
+fn add_told(outcome: Outcome, infos: &mut Vec<StreamInfo>) -> Result<Option<Reason>, DeskFault>
+    requires explained { IsExplained outcome.fault outcome.became }
+    requires shown { CanBeShown outcome.became }
+    requires room { vec_len infos.old + 1 ≤ vec_capacity infos.old }
+    ensures told { IsVisitTold result outcome infos.old.items infos.new.items }
+    ensures sound { AddsSound infos.old.items infos.new.items }
 {
-    infos.push(info)?;
-    Ok(())
+    if let Some(fault) = outcome.fault {
+        return Err(fault);
+    }
+    match outcome.became {
+        Became::Made(Reply::Info(info)) => {
+            infos.push_reserved(info);
+            Ok(None)
+        }
+        Became::Broke { stream: _ } => Ok(Some(Reason::StoreFault)),
+        Became::Stopped { stream: _ } => Ok(Some(Reason::StreamStopped)),
+        Became::Made(_) | Became::Ticked | Became::Nothing | Became::Gone => Ok(None),
+    }
 }
 
 /// Asks the stream of a place for its information, and adds it if there is one.
-fn visit<V>(
-    ground: &mut Ground<V>,
+fn visit<G: Ground>(
+    ground: &mut G,
     at: PlaceAt,
     infos: &mut Vec<StreamInfo>,
     now: Moment,
-) -> Result<(), NoMemory>
-    requires within { IsWithin ground.old at }
-    ensures visits { VisitsPlace result at now infos.old.items infos.new.items ground.old.world ground.new.world }
+) -> Result<Option<Reason>, DeskFault>
+    requires within { IsWithin (G.setting ground.old) at }
+    requires room { vec_len infos.old + 1 ≤ vec_capacity infos.old }
+    ensures made { Makes G.made (IsVisit at now result infos.old.items infos.new.items) ground.old ground.new }
     ensures sound { AddsSound infos.old.items infos.new.items }
-    ensures kept { Keeps ground.old ground.new }
+    ensures setting { G.setting ground.new ≡ G.setting ground.old }
+    ensures phase { G.phase ground.new ≡ G.phase ground.old }
 {
     let outcome = ground.hold(at, What::StreamInfo { reply: None }, now);
-    match outcome.info() {
-        Ok(Some(info)) => add(infos, info),
-        Ok(None) => Ok(()),
-        Err(stop) => Err(stop),
-    }
+    add_told(outcome, infos)
 }
 
-/// Visits the used places behind the last one, in their order.
-fn walk_behind<V>(
-    ground: &mut Ground<V>,
+/// Visits the used places after the last one, in their order.
+fn walk_behind<G: Ground>(
+    ground: &mut G,
     last: Option<PlaceAt>,
     infos: &mut Vec<StreamInfo>,
     now: Moment,
-) -> Result<(), NoMemory>
+) -> Result<Option<Reason>, DeskFault>
+    requires outside { G.phase ground.old ≡ Outside }
     requires last { most_to last ≤ 32 }
     requires sound { AreSoundTo last infos.old.items }
-    ensures walks { WalksBehind result now last infos.old.items infos.new.items ground.old.world ground.new.world }
+    ensures made { Makes G.made (IsWalk now last result infos.old.items infos.new.items) ground.old ground.new }
     ensures sound { AreSound infos.new.items }
-    ensures kept { Keeps ground.old ground.new }
+    ensures setting { G.setting ground.new ≡ G.setting ground.old }
+    ensures phase { G.phase ground.new ≡ Outside }
 {
-    let found = ground.next_used(behind(last));
+    if infos.reserve(1).is_err() {
+        return Err(DeskFault::NoMemory);
+    }
+    let found = ground.next_used(behind(last))?;
     let Some(at) = further(last, found) else {
-        return Ok(());
+        return Ok(None);
     };
-    match visit(ground, at, infos, now) {
-        Ok(()) => walk_behind(ground, Some(at), infos, now),
-        Err(stop) => Err(stop),
+    match visit(ground, at, infos, now)? {
+        None => walk_behind(ground, Some(at), infos, now),
+        Some(reason) => Ok(Some(reason)),
     }
 }
 
-/// The informations of all streams, in the order of their places.
-pub fn walk<V>(ground: &mut Ground<V>, now: Moment) -> Result<Vec<StreamInfo>, NoMemory>
-    ensures walks { MatchResult result (λ infos. IsWalked now None [] infos.items ground.old.world ground.new.world) (λ _. IsWalkCut now None ground.old.world ground.new.world) }
-    ensures sound { IfOk result (λ infos. AreSound infos.items) }
-    ensures kept { Keeps ground.old ground.new }
+/// Adds the informations of all streams, in the order of their places, and answers by which failure the call is refused: the volume of a place failed,
+/// or had failed before.
+pub fn walk<G: Ground>(
+    ground: &mut G,
+    infos: &mut Vec<StreamInfo>,
+    now: Moment,
+) -> Result<Option<Reason>, DeskFault>
+    requires outside { G.phase ground.old ≡ Outside }
+    requires empty { infos.old.items ≡ [] }
+    ensures made { Makes G.made (IsWalk now None result [] infos.new.items) ground.old ground.new }
+    ensures sound { AreSound infos.new.items }
+    ensures setting { G.setting ground.new ≡ G.setting ground.old }
+    ensures phase { G.phase ground.new ≡ Outside }
 {
-    let mut infos = Vec::new(ground.alloc());
-    match walk_behind(ground, None, &mut infos, now) {
-        Ok(()) => Ok(infos),
-        Err(stop) => Err(stop),
-    }
+    walk_behind(ground, None, infos, now)
 }

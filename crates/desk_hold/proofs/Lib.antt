@@ -1,12 +1,7 @@
 pub mod Refused
+pub mod Ticks
+pub mod Stepped
 pub mod Sent
-pub mod Leading
-pub mod Outcomes
-pub mod Holds
-pub mod Ticked
-pub mod Known
-pub mod Grounded
-pub mod Changed
-pub mod Stays
-pub mod Opened
-pub mod Passed
+pub mod Held
+pub mod Asked
+pub mod Alone

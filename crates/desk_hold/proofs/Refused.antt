@@ -94,6 +94,11 @@ pub sending_done : (r : routes.Router) (out : Out) → IsDone r (routes.Publish 
 unfolding routes.route
 sending_done r out = λ chosen. refl
 
+pub send_short : (r new : routes.Router) (out : Out) (fault : RouteFault) → routes.IsRoute r (routes.Publish out None) (fault_told fault) new
+    → routes.IsRoute r (routes.Publish out None) routes.NoMemory new
+send_short r new out fault h =
+    subst (λ (f : RouteFault). routes.IsRoute r (routes.Publish out None) (fault_told f) new) (wants r new (routes.Publish out None) fault (sending_done r out) h) h
+
 pub unsub_done : (r : routes.Router) (n : ℕ) (sid : Bytes) (max : Option ℕ) → routes.is_open r n ≡ true → IsDone r (routes.Unsub n sid max)
 unfolding routes.route
 unsub_done r n sid max h = λ chosen. kind_opened r n (routes.telling routes.Done (routes.unsubscribed r n sid max)) h refl

@@ -1,35 +1,15 @@
--- Outputs that are sent one after another, and where that leads.
-use Rattle.std.proofs.Common.{◌≡◌, ℕ, zero, suc, ◌+◌, ◌<◌, ◌≤◌, length, drop, get_or, add-one, arith, List, [], ◌∷◌, ◌++◌, None, refl, sym, ap, subst, ◌∙◌, append_assoc, inl, inr}
+-- Outputs that are sent one after another, and what became of them.
+use Rattle.std.proofs.Common.{◌≡◌, ℕ, zero, suc, ◌+◌, ◌<◌, ◌≤◌, length, drop, get_or, add-one, arith, Bool, true, false, List, [], ◌∷◌, ◌++◌, None, Ok, Err, refl, sym, ap, subst, ◌∙◌, append_assoc, inl, inr}
+use Rattle.std.specs.Prelude.{Result}
 use Rattle.std.proofs.lemmas.List.{append-nil}
 use Rattle.std.proofs.Math.Seq.{drop-cons}
 use Rattle.js_base.specs.declared.out.Out.{Out}
-use Rattle.js_model.specs.Router as routes
-use Rattle.js_api.specs.Desks.{DeskEntry, World, DeskRun, Routed}
-use Rattle.desk_hold.specs.Following.{run_append}
-use Rattle.js_api.specs.Holding.{AreRouted, AreCut}
-use Rattle.js_model.specs.Routing.{fault_told}
-use Rattle.js_model.specs.declared.route_fault.RouteFault.{RouteFault}
-use Rattle.desk_hold.proofs.Refused.{wants, sending_done}
-use Rattle.desk_hold.specs.Leads.{Sends}
-
--- ---- outputs
-
-abbrev sending : Out → ℕ → DeskEntry
-sending out count = Routed (routes.Publish out None) (routes.Taken count)
-
--- one more was routed
-routed_push : (front : List Out) (out : Out) (count : ℕ) (entries : List DeskEntry) → AreRouted front entries
-    → AreRouted (front ++ out ∷ []) (entries ++ sending out count ∷ [])
-routed_push [] out count entries h = (count, [], ap (λ (es : List DeskEntry). es ++ sending out count ∷ []) h, refl)
-routed_push (first ∷ front) out count entries h =
-    (h.0, h.1 ++ sending out count ∷ [], ap (λ (es : List DeskEntry). es ++ sending out count ∷ []) h.2, routed_push front out count h.1 h.3)
-
--- the next one found no memory
-cut_push : (front : List Out) (out : Out) (rest : List Out) (entries : List DeskEntry) → AreRouted front entries
-    → AreCut (front ++ out ∷ rest) (entries ++ Routed (routes.Publish out None) routes.NoMemory ∷ [])
-cut_push [] out rest entries h = inl (ap (λ (es : List DeskEntry). es ++ Routed (routes.Publish out None) routes.NoMemory ∷ []) h)
-cut_push (first ∷ front) out rest entries h =
-    inr (h.0, h.1 ++ Routed (routes.Publish out None) routes.NoMemory ∷ [], ap (λ (es : List DeskEntry). es ++ Routed (routes.Publish out None) routes.NoMemory ∷ []) h.2, cut_push front out rest h.1 h.3)
+use Rattle.js_model.specs.Router.{RouteCall, RouteTold, Publish, Taken, NoMemory}
+use Rattle.js_api.specs.Entries.{Sending, Sent, Short, Unsent}
+use Rattle.js_api.specs.Worlds.{IsTried, WasTaken, WasShort, sending_of}
+use Rattle.desk_hold.specs.declared.port.PortFault.{PortFault}
+use Rattle.desk_hold.specs.declared.port.PortFault.TheVariants as faults
+use Rattle.desk_hold.specs.Ports.{AreSent, Sends, SendsBy, sending_by}
 
 -- what is left begins with the next one
 pub next_left : (outs : List Out) (i : ℕ) (out : Out) → i < length outs → out ≡ get_or outs i out → drop i outs ≡ out ∷ drop (i + 1) outs
@@ -41,41 +21,73 @@ none_left [] (suc i) h = refl
 none_left (out ∷ outs) zero h = absurd (omega (arith, h))
 none_left (out ∷ outs) (suc i) h = none_left outs i (omega (arith, h))
 
--- a prefix of the outputs was routed
-pub record Sent (outs rest : List Out) (old new : routes.Router) : Type 0 where
-  pub front : List Out
-  pub entries : List DeskEntry
-  pub whole : outs ≡ front ++ rest
-  pub are : AreRouted front entries
-  pub led : (world : World) → DeskRun (record world { router = old }) entries (record world { router = new })
+taken_more : (taken : List Bool) → sending_of (taken ++ true ∷ []) ≡ sending_of taken
+taken_more [] = refl
+taken_more (true ∷ taken) = taken_more taken
+taken_more (false ∷ taken) = refl
 
-pub none_sent : (outs rest : List Out) (r : routes.Router) → rest ≡ outs → Sent outs rest r r
-none_sent outs rest r e = record { front = []; entries = []; whole = sym e; are = refl; led = λ world. refl }
+short_more : (taken : List Bool) → sending_of (taken ++ false ∷ []) ≡ Short
+short_more [] = refl
+short_more (true ∷ taken) = short_more taken
+short_more (false ∷ taken) = refl
 
-pub one_sent : (outs : List Out) (out : Out) (rest : List Out) (count : ℕ) (old mid new : routes.Router) → Sent outs (out ∷ rest) old mid
-    → routes.IsRoute mid (routes.Publish out None) (routes.Taken count) new → Sent outs rest old new
-one_sent outs out rest count old mid new h k = record {
-  front = h.front ++ out ∷ [];
-  entries = h.entries ++ sending out count ∷ [];
-  whole = h.whole ∙ sym (append_assoc h.front (out ∷ []) rest);
-  are = routed_push h.front out count h.entries h.are;
-  led = λ world. run_append (record world { router = old }) (record world { router = mid }) (record world { router = new }) h.entries (sending out count ∷ []) (h.led world) (new, k, refl);
-}
+module _ {R : Type 0} (routes : R → RouteCall → RouteTold → R → Type 0) (worn : R → ℕ → R → Type 0) where
+  one_more : (first : List Out) (out : Out) (taken : List Bool) (last : Bool) (told : RouteTold) (old mid new : R) → AreSent routes worn old first taken mid
+      → IsTried told last → routes mid (Publish out None) told new → AreSent routes worn old (first ++ out ∷ []) (taken ++ last ∷ []) new
+  one_more [] out [] last told old mid new h tried k = (told, new, tried, subst (λ (r : R). routes r (Publish out None) told new) (sym h) k, refl)
+  one_more [] out (t ∷ taken) last told old mid new h tried k = absurd h
+  one_more (o ∷ first) out [] last told old mid new h tried k = absurd h
+  one_more (o ∷ first) out (t ∷ taken) last told old mid new h tried k = (h.0, h.1, h.2, h.3, one_more first out taken last told h.1 mid new h.4 tried k)
 
-pub all_sent : (outs rest : List Out) (old new : routes.Router) → Sent outs rest old new → rest ≡ [] → Sends (AreRouted outs) old new
-all_sent outs rest old new h e = record {
-  entries = h.entries;
-  are = subst (λ (os : List Out). AreRouted os h.entries) (sym (h.whole ∙ ap (λ (os : List Out). h.front ++ os) e ∙ append-nil h.front)) h.are;
-  led = h.led;
-}
+  -- a prefix of the outputs was tried
+  pub record Tried (outs rest : List Out) (sent : Result (Unit {0}) PortFault) (old new : R) : Type 0 where
+    pub first : List Out
+    pub taken : List Bool
+    pub whole : outs ≡ first ++ rest
+    pub are : AreSent routes worn old first taken new
+    pub is : sending_by sent ≡ sending_of taken
 
-pub cut_sent : (outs : List Out) (out : Out) (rest : List Out) (fault : RouteFault) (old mid new : routes.Router) → Sent outs (out ∷ rest) old mid
-    → routes.IsRoute mid (routes.Publish out None) (fault_told fault) new → Sends (AreCut outs) old new
-cut_sent outs out rest fault old mid new h k =
-    let last = Routed (routes.Publish out None) routes.NoMemory ∷ [] in
-    let starved = subst (λ (f : RouteFault). routes.IsRoute mid (routes.Publish out None) (fault_told f) new) (wants mid new (routes.Publish out None) fault (sending_done mid out) k) k in
-    record {
-      entries = h.entries ++ last;
-      are = subst (λ (os : List Out). AreCut os (h.entries ++ last)) (sym h.whole) (cut_push h.front out rest h.entries h.are);
-      led = λ world. run_append (record world { router = old }) (record world { router = mid }) (record world { router = new }) h.entries last (h.led world) (new, starved, refl);
-    }
+  pub none_tried : (outs rest : List Out) (r : R) → rest ≡ outs → Tried outs rest (Ok tt) r r
+  none_tried outs rest r e = record { first = []; taken = []; whole = sym e; are = refl; is = refl }
+
+  pub one_taken : (outs : List Out) (out : Out) (rest : List Out) (sent : Result (Unit {0}) PortFault) (u : Unit {0}) (old mid new : R) → Tried outs (out ∷ rest) sent old mid
+      → SendsBy routes worn mid out (Ok u) new → Tried outs rest sent old new
+  one_taken outs out rest sent u old mid new h k = record {
+    first = h.first ++ out ∷ [];
+    taken = h.taken ++ true ∷ [];
+    whole = h.whole ∙ sym (append_assoc h.first (out ∷ []) rest);
+    are = one_more h.first out h.taken true (Taken k.0) old mid new h.are WasTaken k.1;
+    is = h.is ∙ sym (taken_more h.taken);
+  }
+
+  pub one_short : (outs : List Out) (out : Out) (rest : List Out) (sent : Result (Unit {0}) PortFault) (old mid new : R) → Tried outs (out ∷ rest) sent old mid
+      → SendsBy routes worn mid out (Err faults.NoMemory) new → Tried outs rest (Err faults.NoMemory) old new
+  one_short outs out rest sent old mid new h k = record {
+    first = h.first ++ out ∷ [];
+    taken = h.taken ++ false ∷ [];
+    whole = h.whole ∙ sym (append_assoc h.first (out ∷ []) rest);
+    are = one_more h.first out h.taken false NoMemory old mid new h.are WasShort k;
+    is = sym (short_more h.taken);
+  }
+
+  pub all_tried : (outs rest : List Out) (sent : Result (Unit {0}) PortFault) (old new : R) → Tried outs rest sent old new → rest ≡ [] → Sends routes worn old outs (sending_by sent) new
+  all_tried outs rest sent old new h e = inl (record {
+    taken = h.taken;
+    sent = subst (λ (os : List Out). AreSent routes worn old os h.taken new) (sym (h.whole ∙ ap (λ (os : List Out). h.first ++ os) e ∙ append-nil h.first)) h.are;
+    sending_is = h.is;
+  })
+
+  pub worn_out : (outs : List Out) (out : Out) (rest : List Out) (sent : Result (Unit {0}) PortFault) (number : ℕ) (old mid new : R) → Tried outs (out ∷ rest) sent old mid
+      → SendsBy routes worn mid out (Err (faults.Worn number)) new → Sends routes worn old outs (sending_by (Err (faults.Worn number))) new
+  worn_out outs out rest sent number old mid new h k = inr (record {
+    first = h.first;
+    out = out;
+    more = rest;
+    outs_are = h.whole;
+    taken = h.taken;
+    mid = mid;
+    sent = h.are;
+    number = number;
+    is_worn = k;
+    sending_is = refl;
+  })

@@ -1,8 +1,4 @@
-pub mod Following
-pub mod Grounds
-pub mod Leads
-pub mod Sending
+pub mod Ports
 pub mod Outcomes
 pub mod Steps
-pub mod HoldsAt
-pub mod Changes
+pub mod OnePlace

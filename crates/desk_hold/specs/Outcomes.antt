@@ -1,84 +1,68 @@
--- What became of a hold: what its outcome tells, and what a caller may count on.
-use Rattle.std.specs.Prelude.{◌<◌, ◌^◌, Bool, true, false, Option, None, Some, Result, Ok, Err}
-use Rattle.js_base.specs.declared.memory.NoMemory.{NoMemory}
-use Rattle.js_model.specs.declared.stream.State.{State}
-use Rattle.js_model.specs.declared.event.What.{What}
-use Rattle.js_model.specs.declared.event.What.TheVariants.{Drop as DropStream}
-use Rattle.js_model.specs.declared.reply.Reply.TheVariants.{Done, Info, Silent}
-use Rattle.js_model.specs.declared.reply.StreamInfo.{StreamInfo}
-use Rattle.js_model.specs.declared.desk.PlaceAt.{PlaceAt}
-use Rattle.js_model.specs.Events.{answered}
-use Rattle.js_api.specs.Holding as api
-use Rattle.js_api.specs.Holding.{Made}
-use Rattle.place_engine.specs.Shown.{IsShown}
-use Rattle.desk_hold.specs.declared.outcome.Outcome.{Outcome}
-use Rattle.desk_hold.specs.declared.outcome.Outcome.TheVariants as outcomes
-use Rattle.desk_hold.specs.declared.outcome.Ending.{Ending}
-use Rattle.desk_hold.specs.declared.outcome.Ending.TheVariants as endings
+-- What a hold came to, as its parts tell it.
+use Rattle.std.specs.Prelude.{◌≡◌, ℕ, Bool, true, false, List, Option, None, Some}
+use Rattle.js_base.specs.Bytes.{Bytes}
+use Rattle.js_base.specs.declared.out.Out.{Out}
+use Rattle.js_model.specs.Router.{RouteCall, RouteTold}
+use Rattle.js_api.specs.declared.fault.DeskFault.{DeskFault}
+use Rattle.js_api.specs.declared.fault.DeskFault.TheVariants as faults
+use Rattle.js_api.specs.declared.outcome.Became.{Became}
+use Rattle.js_api.specs.declared.outcome.Became.TheVariants.{Nothing, Ticked, Broke}
+use Rattle.js_api.specs.declared.outcome.Outcome.{Outcome}
+use Rattle.js_api.specs.Entries.{Sending, Sent, Short, Unsent}
+use Rattle.place_engine.specs.declared.faults.PlaceFault.{PlaceFault}
+use Rattle.place_engine.specs.declared.faults.PlaceFault.TheVariants as places
+use Rattle.place_engine.specs.declared.faults.Left.TheVariants as left
+use Rattle.desk_hold.specs.Ports.{Sends}
 
--- how the hold ended, whatever was answered
-abbrev pub ending_of : Outcome → Ending
-ending_of (outcomes.Said reply) = endings.Told
-ending_of (outcomes.Cut reply) = endings.Short
-ending_of outcomes.Unmade = endings.Short
-ending_of outcomes.Gone = endings.Absent
+-- why a call ends with a hold, if there is a reason: its answer is unsaid, or an output found no memory, or no turn was left
+abbrev pub fault_of : Sending → Bool → Option DeskFault
+fault_of Sent false = None
+fault_of Sent true = Some faults.NoMemory
+fault_of Short unsaid = Some faults.NoMemory
+fault_of (Unsent number) unsaid = Some (faults.Worn number)
 
--- the information that the stream told, unless memory ran out
-abbrev pub info_in : Outcome → Option (Option StreamInfo)
-info_in (outcomes.Said (Info info)) = Some (Some info)
-info_in (outcomes.Said reply) = Some None
-info_in (outcomes.Cut reply) = None
-info_in outcomes.Unmade = None
-info_in outcomes.Gone = Some None
+-- without a fault, and no consumer is ready
+abbrev pub quietly : Became → Outcome
+quietly became = record { became = became; ready = false; fault = None }
 
-abbrev pub unless_short : {X : Type 0} → Result X NoMemory → Option X
-unless_short (Ok x) = Some x
-unless_short (Err _) = None
+-- memory ran out
+abbrev pub shortly : Became → Outcome
+shortly became = record { became = became; ready = false; fault = Some faults.NoMemory }
 
--- it was answered by its stream's information
-abbrev pub is_shown : Outcome → Bool
-is_shown (outcomes.Said (Info info)) = true
-is_shown (outcomes.Cut (Info info)) = true
-is_shown _ = false
+-- The faults of a step at a place that is not stopped and keeps the incarnation: memory ran out before the event or in it, or the volume failed. No
+-- place leaves an answer unsaid yet.
+abbrev pub IsOfStep : PlaceFault → Type 0
+IsOfStep (places.NoMemory left.Nothing) = Unit {0}
+IsOfStep (places.NoMemory left.Ticked) = Unit {0}
+IsOfStep (places.NoMemory left.Unsaid) = ⊥
+IsOfStep places.StoreFault = Unit {0}
+IsOfStep (places.Stopped count) = ⊥
+IsOfStep (places.Gone kept) = ⊥
+IsOfStep places.Worn = ⊥
 
--- it was answered by no more than that it was done
-abbrev pub is_done : Outcome → Bool
-is_done (outcomes.Said Done) = true
-is_done (outcomes.Cut Done) = true
-is_done _ = false
+-- what a hold comes to whose step failed so
+abbrev pub failed_by : PlaceFault → Bytes → Outcome
+failed_by (places.NoMemory left.Nothing) stream = shortly Nothing
+failed_by (places.NoMemory left.Ticked) stream = shortly Ticked
+failed_by (places.NoMemory left.Unsaid) stream = shortly Nothing
+failed_by places.StoreFault stream = quietly (Broke stream)
+failed_by (places.Stopped count) stream = shortly Nothing
+failed_by (places.Gone kept) stream = shortly Nothing
+failed_by places.Worn stream = shortly Nothing
 
--- what the outcome tells, if this state is left
-abbrev pub made_of : Outcome → State → Made
-made_of (outcomes.Said reply) after = api.Said reply after
-made_of (outcomes.Cut reply) after = api.Cut reply after
-made_of outcomes.Unmade after = api.Unmade
-made_of outcomes.Gone after = api.Gone
+module _ {R : Type 0} (routes : R → RouteCall → RouteTold → R → Type 0) (worn : R → ℕ → R → Type 0) where
+  -- the outputs were sent, and this fault tells what became of them and of the answer
+  pub record SendsStep (fault : Option DeskFault) (unsaid : Bool) (outs : List Out) (old new : R) : Type 0 where
+    pub sending : Sending
+    pub sends : Sends routes worn old outs sending new
+    pub fault_is : fault ≡ fault_of sending unsaid
 
--- the place of the last hold
-abbrev pub last_of : Outcome → PlaceAt → Option PlaceAt → Option PlaceAt
-last_of (outcomes.Said reply) at before = Some at
-last_of (outcomes.Cut reply) at before = Some at
-last_of outcomes.Unmade at before = before
-last_of outcomes.Gone at before = before
-
--- ---- what a caller may count on
-
--- what the reply shows can be printed
-abbrev pub ShowsBy : Outcome → Type 0
-ShowsBy (outcomes.Said reply) = IsShown reply
-ShowsBy (outcomes.Cut reply) = IsShown reply
-ShowsBy outcomes.Unmade = Unit {0}
-ShowsBy outcomes.Gone = Unit {0}
-
--- a stream that was dropped had an incarnation below 2 ^ 62
-abbrev pub NumbersDropped : What → Outcome → PlaceAt → Type 0
-NumbersDropped (DropStream to) (outcomes.Said Done) at = at.incarnation < 2 ^ 62
-NumbersDropped (DropStream to) (outcomes.Cut Done) at = at.incarnation < 2 ^ 62
-NumbersDropped what outcome at = Unit {0}
-
--- ---- a tick
-
--- it was made, and answered by nothing; or the stream is gone
-abbrev pub passed : Bool → Outcome
-passed true = outcomes.Said Silent
-passed false = outcomes.Gone
+  -- if time passed, what it sends was sent
+  abbrev pub SendsTick : PlaceFault → List Out → R → R → Type 0
+  SendsTick (places.NoMemory left.Nothing) outs old new = new ≡ old
+  SendsTick (places.NoMemory left.Ticked) outs old new = (sending : Sending) × Sends routes worn old outs sending new
+  SendsTick (places.NoMemory left.Unsaid) outs old new = ⊥
+  SendsTick places.StoreFault outs old new = new ≡ old
+  SendsTick (places.Stopped count) outs old new = ⊥
+  SendsTick (places.Gone kept) outs old new = ⊥
+  SendsTick places.Worn outs old new = ⊥

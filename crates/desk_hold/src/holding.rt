@@ -1,207 +1,193 @@
-//! One hold on a place: an event is made there, and what it sends is routed.
+//! One hold on a place: an event is made there, and what it sends goes to the port. No place delivers to a consumer yet.
 
-ghost use Rattle.std.specs.Prelude.{◌≡◌, ◌≢◌, ◌<◌, ◌≤◌, ◌^◌, ◌++◌, true, false, IfOk, IsTrue, IsUtf8, length};
-ghost use Rattle.js_api.specs.Outputs.{answer_of, said, stream_name};
+ghost use Rattle.std.specs.Prelude.{◌≡◌, ◌≢◌, ◌≤◌, ◌^◌, [], None, false, true, IsUtf8};
+ghost use Rattle.js_api.specs.declared.outcome.Became.TheVariants.{Made};
+ghost use Rattle.js_api.specs.Outputs.{stream_name};
 ghost use Rattle.js_model.specs.Events.{kept_incarnation};
-ghost use Rattle.js_model.specs.Proper.{is_proper};
-ghost use Rattle.js_model.specs.Routing.{KeepsOpen};
-ghost use Rattle.place_engine.specs.Places.{IsBuilt};
+ghost use Rattle.js_model.specs.Ready.{some_ready};
+ghost use Rattle.js_api.specs.Holding.{event_at};
+ghost use Rattle.place_engine.specs.Provisional.{IsSilent};
 ghost use Rattle.place_engine.specs.Shown.{IsShown};
-ghost use Rattle.desk_hold.specs.Steps.{AsksPlace, HoldsPlace, IsNumbered, IsOneHold, MakesStep, SendsStep, event_at};
-ghost use Rattle.desk_hold.specs.HoldsAt.{HoldsAmong, MayAsk};
-ghost use Rattle.desk_hold.specs.Outcomes.{NumbersDropped, ShowsBy};
+ghost use Rattle.desk_answers.specs.Asking.{MayAsk};
+ghost use Rattle.desk_answers.specs.Became.{CanBeShown, IsExplained, NumbersDropped};
+ghost use Rattle.desk_hold.specs.OnePlace.{HoldsOn, on};
+ghost use Rattle.desk_hold.specs.Outcomes.{IsOfStep, SendsStep, SendsTick, failed_by, quietly, shortly};
+ghost use Rattle.desk_hold.specs.Steps.{IsNumbered};
 
-use crate::outcome::Outcome;
-use crate::routing::route_all;
-use desk_answers::answer_of;
-use js_base::{Blob, List, Moment, NoMemory, Out, Outs};
-use js_model::{Event, PlaceAt, Reply, What};
-use place_engine::Place;
-use route_core::Router;
+use crate::port::Port;
+use crate::sending::{fault_of, send_all};
+use crate::stepping::{MadeStep, make, stream_name};
+use js_api::{Became, DeskFault, Outcome};
+use js_base::{Blob, List, Moment, Out};
+use js_model::{Event, PlaceAt, What};
+use place_engine::{Left, Place, PlaceFault};
 use std::alloc::Global;
 
-/// An event that was made, its reply, and whether memory ran out for its answer.
-#[derive(Drop)]
-struct MadeStep {
-    reply: Reply,
-    unsaid: bool,
-}
-
-/// The name of the place's stream, empty if there is none. The incarnation of a stream is below 2^62.
-fn stream_name<V>(place: &Place<V>) -> Result<Blob, NoMemory>
-    ensures name { IfOk result (λ name. name ≡ stream_name place.now.state) }
-    ensures utf8 { IfOk result (λ name. IsUtf8 name) }
-    ensures number { IsNumbered place.now.state }
+/// A hold in which memory ran out.
+fn shortly(became: Became) -> Outcome
+    ensures value { result ≡ shortly became }
 {
-    match place.name() {
-        Some(name) => Ok(name.clone()?),
-        None => Ok(Blob::empty()),
+    Outcome {
+        became,
+        ready: false,
+        fault: Some(DeskFault::NoMemory),
     }
 }
 
-/// Adds the answer behind the outputs. `true` if memory ran out for it, and nothing was added.
-fn add_answer(alloc: Global, stream: &[u8], what: &What, reply: &Reply, outs: &mut Outs) -> bool
-    requires utf8 { IsUtf8 stream.now }
-    requires shown { IsShown reply.now }
-    ensures added { outs.new ≡ outs.old ++ said result (answer_of stream.now what.now reply.now) }
+/// A hold after which the call goes on, and no consumer is ready.
+fn quietly(became: Became) -> Outcome
+    ensures value { result ≡ quietly became }
 {
-    match answer_of(alloc, stream, what, reply) {
-        Ok(Some(answer)) => outs.push(answer).is_err(),
-        Ok(None) => false,
-        Err(_) => true,
+    Outcome {
+        became,
+        ready: false,
+        fault: None,
     }
 }
 
-/// Makes the event on the place, and adds what it sends: its outputs, and its answer if one is asked for. An `Err` changes nothing.
-fn make<V>(
-    alloc: Global,
-    place: &mut Place<V>,
-    event: &Event,
-    now: Moment,
-    outs: &mut Outs,
-) -> Result<MadeStep, NoMemory>
-    requires built { IsBuilt event.now.what }
-    requires proper { IsTrue (is_proper event.now) }
-    ensures makes { MakesStep result event.now now place.old.state place.new.state outs.old outs.new }
-    ensures number { IsNumbered place.old.state }
-    ensures shown { IfOk result (λ step. IsShown step.reply) }
-    ensures vol { place.new.vol ≡ place.old.vol }
+/// Whether a consumer of the place is ready, if nobody listens for a push consumer. None is ready yet.
+fn is_ready<P: Place>(alloc: Global, place: &P, now: Moment) -> bool
+    ensures value { result ≡ some_ready (P.seen place.now).place.state now [] }
+    ensures none { result ≡ false }
+    ensures silent { IsSilent (P.seen place.now).place.state }
 {
-    let stream = stream_name(place)?;
-    match place.step(event, now, outs) {
-        Ok(reply) => {
-            let unsaid = add_answer(alloc, stream.as_slice(), &event.what, &reply, outs);
-            Ok(MadeStep { reply, unsaid })
+    let nobody = List::new(alloc);
+    place.ready(now, &nobody)
+}
+
+/// Sends what a step added.
+fn finish<R: Port>(port: &mut R, outs: &[Out], step: MadeStep, ready: bool) -> Outcome
+    requires shown { IsShown step.reply }
+    ensures became { result.became ≡ Made step.reply }
+    ensures ready { result.ready ≡ ready }
+    ensures sends { SendsStep R.routes R.worn result.fault step.unsaid outs.now port.old port.new }
+    ensures shown { CanBeShown result.became }
+    ensures explained { IsExplained result.fault result.became }
+{
+    let sent = send_all(port, outs);
+    Outcome {
+        became: Became::Made(step.reply),
+        ready,
+        fault: fault_of(sent, step.unsaid),
+    }
+}
+
+/// Sends what was added before a step failed, and tells what it came to at the stream of this name.
+fn fail<R: Port>(port: &mut R, outs: &[Out], fault: PlaceFault, stream: Blob) -> Outcome
+    requires utf8 { IsUtf8 stream }
+    requires fault { IsOfStep fault }
+    ensures value { result ≡ failed_by fault stream }
+    ensures sends { SendsTick R.routes R.worn fault outs.now port.old port.new }
+    ensures shown { CanBeShown result.became }
+    ensures explained { IsExplained result.fault result.became }
+{
+    match fault {
+        PlaceFault::NoMemory(Left::Nothing) => shortly(Became::Nothing),
+        PlaceFault::NoMemory(Left::Ticked) => {
+            let _ = send_all(port, outs);
+            shortly(Became::Ticked)
         }
-        Err(_) => Err(NoMemory),
+        PlaceFault::StoreFault => quietly(Became::Broke { stream }),
+        PlaceFault::NoMemory(Left::Unsaid)
+        | PlaceFault::Stopped(_)
+        | PlaceFault::Gone(_)
+        | PlaceFault::Worn => unreachable!(),
     }
 }
 
-/// Routes what a step sends.
-fn send(router: &mut Router, outs: &[Out], step: MadeStep) -> Outcome
-    ensures sends { SendsStep result step outs.now router.old router.new }
-    ensures stay { KeepsOpen router.old router.new }
-{
-    let routed = route_all(router, outs).is_ok();
-    if routed && !step.unsaid {
-        Outcome::Said(step.reply)
-    } else {
-        Outcome::Cut(step.reply)
-    }
-}
-
-/// Makes the event on the place, and routes what it sends.
-fn hold_place<V>(
+/// Makes the event for the stream that the place keeps, and that has this name.
+fn hold_kept<P: Place, R: Port>(
     alloc: Global,
-    place: &mut Place<V>,
-    router: &mut Router,
+    place: &mut P,
+    port: &mut R,
+    at: PlaceAt,
     event: &Event,
+    stream: Blob,
     now: Moment,
 ) -> Outcome
-    requires kept { event.now.incarnation ≡ kept_incarnation place.old.state }
-    requires built { IsBuilt event.now.what }
-    requires proper { IsTrue (is_proper event.now) }
-    ensures holds { HoldsPlace result event.now now place.old.state place.new.state router.old router.new }
-    ensures number { IsNumbered place.old.state }
-    ensures shown { ShowsBy result }
-    ensures vol { place.new.vol ≡ place.old.vol }
-    ensures stay { KeepsOpen router.old router.new }
+    requires event { event.now ≡ event_at at event.now.what }
+    requires asked { MayAsk event.now.what }
+    requires going { (P.seen place.old).place.stopped ≡ None }
+    requires kept { at.incarnation ≡ kept_incarnation (P.seen place.old).place.state }
+    requires small { at.incarnation ≤ 2 ^ 62 }
+    requires stream { stream ≡ stream_name (P.seen place.old).place.state }
+    requires utf8 { IsUtf8 stream }
+    requires numbered { IsNumbered (P.seen place.old).place.state }
+    ensures holds { HoldsOn R.routes R.worn at event.now.what now result (on (P.seen place.old).place port.old) (on (P.seen place.new).place port.new) }
+    ensures shown { CanBeShown result.became }
+    ensures explained { IsExplained result.fault result.became }
+    ensures number { NumbersDropped event.now.what result.became at }
+    ensures vol { P.keeps_vol (P.vol place.old) (P.vol place.new) }
 {
     let mut outs = List::new(alloc);
-    match make(alloc, place, event, now, &mut outs) {
-        Ok(step) => send(router, outs.as_slice(), step),
-        Err(_) => Outcome::Unmade,
+    match make(alloc, place, stream.as_slice(), event, now, &mut outs) {
+        Ok(step) => {
+            let ready = is_ready(alloc, place, now);
+            finish(port, outs.as_slice(), step, ready)
+        }
+        Err(fault) => fail(port, outs.as_slice(), fault, stream),
     }
 }
 
 /// Whether the place keeps the incarnation that is asked for.
-fn is_kept<V>(place: &Place<V>, at: PlaceAt) -> bool
-    ensures kept { result ≡ true → at.incarnation ≡ kept_incarnation place.now.state }
+fn is_kept<P: Place>(place: &P, at: PlaceAt) -> bool
+    ensures kept { result ≡ true → at.incarnation ≡ kept_incarnation (P.seen place.now).place.state }
     ensures small { result ≡ true → at.incarnation ≤ 2 ^ 62 }
-    ensures other { result ≡ false → kept_incarnation place.now.state ≢ at.incarnation }
+    ensures other { result ≡ false → kept_incarnation (P.seen place.now).place.state ≢ at.incarnation }
 {
     place.incarnation() == at.incarnation
 }
 
-/// A moment is below 2^62.
-pub(crate) fn law_moment(now: Moment)
-    ensures bound { now < 2 ^ 62 }
-{
-    let _ = now.as_nanos();
-}
-
-/// Makes the event for the stream that the place keeps.
-fn ask_kept<V>(
+/// Makes the event for the stream of a place.
+fn hold_event<P: Place, R: Port>(
     alloc: Global,
-    place: &mut Place<V>,
-    router: &mut Router,
+    place: &mut P,
+    port: &mut R,
     at: PlaceAt,
     event: &Event,
     now: Moment,
 ) -> Outcome
     requires event { event.now ≡ event_at at event.now.what }
     requires asked { MayAsk event.now.what }
-    requires kept { at.incarnation ≡ kept_incarnation place.old.state }
-    requires small { at.incarnation ≤ 2 ^ 62 }
-    ensures holds { IsOneHold result at event.now.what now place.old.state place.new.state router.old router.new }
-    ensures shown { ShowsBy result }
-    ensures number { NumbersDropped event.now.what result at }
-    ensures vol { place.new.vol ≡ place.old.vol }
-    ensures stay { KeepsOpen router.old router.new }
+    ensures holds { HoldsOn R.routes R.worn at event.now.what now result (on (P.seen place.old).place port.old) (on (P.seen place.new).place port.new) }
+    ensures shown { CanBeShown result.became }
+    ensures explained { IsExplained result.fault result.became }
+    ensures number { NumbersDropped event.now.what result.became at }
+    ensures vol { P.keeps_vol (P.vol place.old) (P.vol place.new) }
 {
-    law_moment(now);
-    hold_place(alloc, place, router, event, now)
-}
-
-/// Makes the event for the stream of a place. If memory runs out before it or the stream is gone, nothing changes.
-fn ask_place<V>(
-    alloc: Global,
-    place: &mut Place<V>,
-    router: &mut Router,
-    at: PlaceAt,
-    event: &Event,
-    now: Moment,
-) -> Outcome
-    requires event { event.now ≡ event_at at event.now.what }
-    requires asked { MayAsk event.now.what }
-    ensures asks { AsksPlace result at event.now.what now place.old.state place.new.state router.old router.new }
-    ensures shown { ShowsBy result }
-    ensures number { NumbersDropped event.now.what result at }
-    ensures vol { place.new.vol ≡ place.old.vol }
-    ensures stay { KeepsOpen router.old router.new }
-{
-    if is_kept(place, at) {
-        ask_kept(alloc, place, router, at, event, now)
-    } else {
-        Outcome::Gone
+    let stream = match stream_name(place) {
+        Ok(stream) => stream,
+        Err(_) => return shortly(Became::Nothing),
+    };
+    if place.stopped().is_some() {
+        return quietly(Became::Stopped { stream });
     }
+    if !is_kept(place, at) {
+        return quietly(Became::Gone);
+    }
+    hold_kept(alloc, place, port, at, event, stream, now)
 }
 
-/// Asks this of the stream of the place with this number.
-pub fn hold_among<V>(
+/// Asks this of the stream of a place at a moment, and sends by the port all that this sends. What came of it is told as a desk's entry; nothing is
+/// done if the place is stopped, keeps another incarnation, or memory runs out first.
+pub fn hold_on<P: Place, R: Port>(
     alloc: Global,
-    places: &mut Vec<Place<V>>,
-    router: &mut Router,
+    place: &mut P,
+    port: &mut R,
     at: PlaceAt,
     what: What,
     now: Moment,
 ) -> Outcome
-    requires within { at.place < length places.old.items }
     requires asked { MayAsk what }
-    ensures holds { HoldsAmong result at what now places.old.items places.new.items router.old router.new }
-    ensures shown { ShowsBy result }
-    ensures number { NumbersDropped what result at }
+    ensures holds { HoldsOn R.routes R.worn at what now result (on (P.seen place.old).place port.old) (on (P.seen place.new).place port.new) }
+    ensures shown { CanBeShown result.became }
+    ensures explained { IsExplained result.fault result.became }
+    ensures number { NumbersDropped what result.became at }
+    ensures vol { P.keeps_vol (P.vol place.old) (P.vol place.new) }
 {
     let event = Event {
         incarnation: at.incarnation,
         what,
     };
-    ask_place(
-        alloc,
-        &mut places[at.place as usize],
-        router,
-        at,
-        &event,
-        now,
-    )
+    hold_event(alloc, place, port, at, &event, now)
 }

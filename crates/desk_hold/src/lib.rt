@@ -1,11 +1,11 @@
-//! What a desk stands on, and one hold on it: an event is made on a place, it is answered, and what it sends is routed in order.
+//! One hold on a place, for a desk that has its router alone and for one that shares it: an event is made there, it is answered, and all that this
+//! sends goes to the router.
 #![tactic(auto)]
 
-mod ground;
 mod holding;
-mod outcome;
-mod routing;
-mod ticking;
+mod port;
+mod sending;
+mod stepping;
 
-pub use ground::Ground;
-pub use outcome::{Ending, Outcome};
+pub use holding::hold_on;
+pub use port::{Port, PortFault};

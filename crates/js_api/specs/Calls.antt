@@ -1,5 +1,5 @@
 -- Which entries each call of a desk makes, and with which answer.
-use Rattle.std.specs.Prelude.{◌≡◌, ◌⊎◌, ℕ, ◌^◌, ◌-◌, Bool, true, false, List, [], ◌∷◌, Option, Some, None, MatchBool, MatchOption, Result, Ok, Err}
+use Rattle.std.specs.Prelude.{◌≡◌, ◌⊎◌, ℕ, ◌^◌, ◌-◌, Bool, true, false, List, [], ◌∷◌, Option, Some, None, MatchBool, MatchOption, Result, Ok, Err, IsTrue}
 use Rattle.js_base.specs.declared.out.Out.{Out}
 use Rattle.js_model.specs.declared.event.What.TheVariants.{Tick as LetPass}
 use Rattle.js_model.specs.declared.desk.Taken.{Taken}
@@ -32,10 +32,19 @@ Says router.TooManySubs result = result ≡ Err faults.TooManySubs
 Says router.Worn result = result ≡ Err (faults.Worn (2 ^ 62 - 1))
 Says router.NoMemory result = result ≡ Err faults.NoMemory
 
+-- the router may tell so of the call
+abbrev pub MaySay : router.RouteCall → router.RouteTold → Type 0
+MaySay call router.NoMemory = IsTrue (router.may_want call)
+MaySay (router.Sub n pattern queue sid) router.TooManySubs = Unit {0}
+MaySay call router.TooManySubs = ⊥
+MaySay router.Open router.Worn = Unit {0}
+MaySay call router.Worn = ⊥
+MaySay call told = Unit {0}
+
 -- the one entry of the call, or the router's turn cannot be entered
 abbrev pub Routes : router.RouteCall → Result DeskAnswer DeskFault → List DeskEntry → Type 0
 Routes call result entries =
-    ((told : router.RouteTold) × (entries ≡ Routed call told ∷ []) × Says told result)
+    ((told : router.RouteTold) × (entries ≡ Routed call told ∷ []) × MaySay call told × Says told result)
     ⊎ ((number : ℕ) × (result ≡ Err (faults.Worn number)) × IsWorn number entries)
 
 -- a call for an open session makes that; if none is open, it makes nothing
@@ -69,12 +78,12 @@ Turns (Err faults.TooManySubs) entries = ⊥
 Turns (Err (faults.Worn number)) entries = IsWorn number entries
 Turns (Err (faults.NoSession latest)) entries = ⊥
 
--- what a tick makes besides: nothing, since no stream is a mirror of another
-abbrev pub Feeds : Result (Unit {0}) DeskFault → List DeskEntry → Type 0
-Feeds result entries = Gives tt result entries
+-- what a tick makes besides at the place that it held: nothing, since no stream is a mirror of another
+abbrev pub Feeds : ℕ → Option PlaceAt → Result (Unit {0}) DeskFault → List DeskEntry → Type 0
+Feeds now found result entries = Gives tt result entries
 
 abbrev pub Ticks : ℕ → Result (Unit {0}) DeskFault → List DeskEntry → Type 0
-Ticks now result entries = Then Turns (λ found. Then (Passes now found) (λ ready. Feeds)) result entries
+Ticks now result entries = Then Turns (λ found. Then (Passes now found) (λ ready. Feeds now found)) result entries
 
 -- the place of the last hold
 abbrev pub Resumes : Result (Option PlaceAt) DeskFault → List DeskEntry → Type 0

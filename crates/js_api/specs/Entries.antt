@@ -16,14 +16,15 @@ pub record Reading : Type 0 where
   pub heard : Bool
 
 -- What became of the outputs of a hold: each was taken by the router; each was tried, and some found no memory; or the numbers of the router's
--- turns were used up before each was tried.
+-- turns were used up before each was tried, and this is the last one.
 pub data Sending : Type 0 where
   Sent : Sending
   Short : Sending
-  Unsent : Sending
+  Unsent : (number : ℕ) → Sending
 
 -- One hold on a place, with the incarnation that was asked for: what was asked of it, one step after the other; then who listens for its push
--- consumers; then deliveries; and then the routing of all that these entries send. The volume stands at one point before and at one after.
+-- consumers; then deliveries; and then the routing of all that these entries send. Where the volume stands is
+-- told before, after the steps and after all.
 pub record Hold : Type 0 where
   pub at : PlaceAt
   pub before : State
@@ -34,6 +35,7 @@ pub record Hold : Type 0 where
   pub after : State
   pub sending : Sending
   pub volume_before : VolumeAt
+  pub volume_between : VolumeAt
   pub volume_after : VolumeAt
 
 -- the entries of the place's run
@@ -46,6 +48,7 @@ entries_in hold = hold.steps ++ hold.deliveries
 --   Turned: the look-up with which a tick begins, for the next used place after that of the caller's last tick;
 --   Resumed: a call goes on at the place of the caller's last hold, if there was one;
 --   Held: a hold on a place;
+--   Stirred: the volume of a place was called, and no entry of its run was made. If it failed in that, the place is stopped;
 --   Halted: a place was to be held, and is stopped;
 --   Missed: a place was to be held, and keeps another incarnation than was asked for;
 --   Spent: a turn was to be entered, and its numbers are used up.
@@ -55,6 +58,7 @@ pub data DeskEntry : Type 0 where
   Turned : (after : ℕ) (found : Option PlaceAt) → DeskEntry
   Resumed : (last : Option PlaceAt) → DeskEntry
   Held : (hold : Hold) → DeskEntry
+  Stirred : (at : PlaceAt) (before after : VolumeAt) (failed : Bool) → DeskEntry
   Halted : (at : PlaceAt) (state : State) → DeskEntry
   Missed : (at : PlaceAt) (kept : ℕ) → DeskEntry
   Spent : (number : ℕ) → DeskEntry

@@ -1,5 +1,5 @@
 -- One hold on a place: what was asked of it at a moment is made there, deliveries follow, and all that these send is routed.
-use Rattle.std.specs.Prelude.{◌≡◌, ◌⊎◌, ◌≤◌, ◌+◌, ℕ, Bool, true, false, List, [], ◌∷◌, ◌++◌, length, filter, map, sum_by, Option, Some, None, if◌then◌else◌}
+use Rattle.std.specs.Prelude.{◌≡◌, ◌⊎◌, ◌≤◌, ◌+◌, ◌-◌, ◌^◌, ℕ, Bool, true, false, List, [], ◌∷◌, ◌++◌, length, filter, map, sum_by, MatchOption, Option, Some, None, if◌then◌else◌}
 use Rattle.js_base.specs.Bytes.{Bytes, is_empty}
 use Rattle.js_base.specs.declared.out.Out.{Out}
 use Rattle.js_model.specs.declared.stream.State.{State}
@@ -21,7 +21,8 @@ use Rattle.js_api.specs.declared.fault.DeskFault.TheVariants as faults
 use Rattle.js_api.specs.declared.outcome.Became.{Became}
 use Rattle.js_api.specs.declared.outcome.Became.TheVariants.{Made, Ticked, Nothing, Broke, Stopped, Gone}
 use Rattle.js_api.specs.declared.outcome.Outcome.{Outcome}
-use Rattle.js_api.specs.Entries.{Reading, Sending, Sent, Unsent, Hold, entries_in, DeskEntry, Held, Halted, Missed}
+use Rattle.js_model.specs.PlaceStates.{VolumeAt}
+use Rattle.js_api.specs.Entries.{Reading, Sending, Sent, Unsent, Hold, entries_in, DeskEntry, Held, Stirred, Halted, Missed}
 use Rattle.js_api.specs.Stages.{IsWorn}
 use Rattle.js_api.specs.Outputs.{outs_of, stream_name}
 
@@ -60,13 +61,21 @@ listening_of readings = map (λ (r : Reading). r.consumer) (filter (λ (r : Read
 
 -- ---- the deliveries
 
--- A delivery at the moment, to whom somebody listens. The last one may have broken, or time may have passed in its place, if memory ran out.
-abbrev pub AreDeliveries : PlaceAt → ℕ → List Bytes → List PlaceEntry → Type 0
-AreDeliveries at now listening [] = Unit {0}
-AreDeliveries at now listening (Deliver seat moment heard d outs ∷ more) = (moment ≡ now) × (heard ≡ listening) × AreDeliveries at now listening more
-AreDeliveries at now listening (Step seat event moment reply outs unsaid ∷ more) = (event ≡ event_at at LetPass) × (moment ≡ now) × (more ≡ [])
-AreDeliveries at now listening (Broken seat moment (DeliverOf heard d) ∷ more) = (moment ≡ now) × (heard ≡ listening) × (more ≡ [])
-AreDeliveries at now listening (Broken seat moment (StepOf event) ∷ more) = ⊥
+-- Deliveries at the moment, by the same seat, to whom somebody listens. The last one may have broken, or time may have passed in its place because
+-- memory ran out.
+abbrev pub AreDeliveries : ℕ → PlaceAt → ℕ → List Bytes → Option DeskFault → List PlaceEntry → Type 0
+AreDeliveries seat at now listening fault [] = Unit {0}
+AreDeliveries seat at now listening fault (Deliver by moment heard d outs ∷ more) =
+    (by ≡ seat) × (moment ≡ now) × (heard ≡ listening) × AreDeliveries seat at now listening fault more
+AreDeliveries seat at now listening fault (Step by event moment reply outs unsaid ∷ more) =
+    (by ≡ seat) × (event ≡ event_at at LetPass) × (moment ≡ now) × (fault ≡ Some faults.NoMemory) × (more ≡ [])
+AreDeliveries seat at now listening fault (Broken by moment (DeliverOf heard d) ∷ more) = (by ≡ seat) × (moment ≡ now) × (heard ≡ listening) × (more ≡ [])
+AreDeliveries seat at now listening fault (Broken by moment (StepOf event) ∷ more) = ⊥
+
+-- who listens was read for each push consumer; or the call ended before that, and nothing was delivered
+abbrev pub AreAsked : Option DeskFault → Hold → Type 0
+AreAsked None hold = AreReadings (push_consumers hold.between) hold.readings
+AreAsked (Some fault) hold = AreReadings (push_consumers hold.between) hold.readings ⊎ ((hold.readings ≡ []) × (hold.deliveries ≡ []))
 
 -- the bytes of an output are those of its five fields
 abbrev pub bytes_or_none : Option Bytes → ℕ
@@ -99,12 +108,16 @@ is_ready_at now hold = if delivery_broke hold.deliveries then false else some_re
 
 -- ---- its end
 
--- nothing is left unsaid, unless memory or the numbers of turns ran out
+-- the numbers of generations are used up, and this is the last one
+abbrev pub IsLastGeneration : ℕ → VolumeAt → Type 0
+IsLastGeneration number volume = (number ≡ volume.generation) × (number ≡ 2 ^ 62 - 1)
+
+-- nothing is left unsaid, unless memory ran out, or the numbers of the router's turns or of the store's generations
 abbrev pub Explains : Option DeskFault → Bool → Hold → Type 0
 Explains None unsaid hold = (unsaid ≡ false) × (hold.sending ≡ Sent)
 Explains (Some faults.NoMemory) unsaid hold = Unit {0}
 Explains (Some faults.TooManySubs) unsaid hold = ⊥
-Explains (Some (faults.Worn number)) unsaid hold = hold.sending ≡ Unsent
+Explains (Some (faults.Worn number)) unsaid hold = (hold.sending ≡ Unsent number) ⊎ IsLastGeneration number hold.volume_after
 Explains (Some (faults.NoSession latest)) unsaid hold = ⊥
 
 -- the call goes on, and a consumer is ready only if the hold was full
@@ -119,9 +132,9 @@ pub record IsHold (at : PlaceAt) (what : What) (now : ℕ) (reply : Reply) (read
   pub unsaid : Bool
   pub at_is : hold.at ≡ at
   pub steps : hold.steps ≡ step seat at what now reply outs unsaid
-  pub readings : AreReadings (push_consumers hold.between) hold.readings
-  pub deliveries : AreDeliveries at now (listening_of hold.readings) hold.deliveries
-  pub ready_is : ready ≡ is_ready_at now hold
+  pub asked : AreAsked fault hold
+  pub deliveries : AreDeliveries seat at now (listening_of hold.readings) fault hold.deliveries
+  pub ready_is : MatchOption fault (ready ≡ is_ready_at now hold) (λ f. Unit {0})
   pub explained : Explains fault unsaid hold
   pub ends : MayEnd fault ready hold
 
@@ -132,17 +145,20 @@ pub record IsBrokenHold (at : PlaceAt) (what : What) (now : ℕ) (stream : Bytes
   pub steps : hold.steps ≡ Broken seat now (StepOf (event_at at what)) ∷ []
   pub readings : hold.readings ≡ []
   pub deliveries : hold.deliveries ≡ []
+  pub sending : hold.sending ≡ Sent
   pub stream_is : stream ≡ stream_name hold.before
 
 -- ---- what became of it
 
--- no step was made: memory ran out, or the place's turn cannot be entered
-abbrev pub Unmakes : Option DeskFault → List DeskEntry → Type 0
-Unmakes None entries = ⊥
-Unmakes (Some faults.NoMemory) entries = entries ≡ []
-Unmakes (Some faults.TooManySubs) entries = ⊥
-Unmakes (Some (faults.Worn number)) entries = IsWorn number entries
-Unmakes (Some (faults.NoSession latest)) entries = ⊥
+-- no step was made: memory ran out, the place's turn cannot be entered, or the numbers of its store's generations are used up
+abbrev pub Unmakes : PlaceAt → Option DeskFault → List DeskEntry → Type 0
+Unmakes at None entries = ⊥
+Unmakes at (Some faults.NoMemory) entries = entries ≡ []
+Unmakes at (Some faults.TooManySubs) entries = ⊥
+Unmakes at (Some (faults.Worn number)) entries =
+    IsWorn number entries
+    ⊎ ((before after : VolumeAt) × (entries ≡ Stirred at before after false ∷ []) × IsLastGeneration number after)
+Unmakes at (Some (faults.NoSession latest)) entries = ⊥
 
 -- it is told without a fault, and no consumer is ready
 abbrev pub IsQuiet : Bool → Option DeskFault → Type 0
@@ -153,13 +169,22 @@ HoldsBy (Made reply) at what now ready fault entries =
     (hold : Hold) × (entries ≡ Held hold ∷ []) × IsHold at what now reply ready fault hold
 HoldsBy Ticked at what now ready fault entries =
     (hold : Hold) × (entries ≡ Held hold ∷ []) × IsHold at LetPass now Silent ready fault hold × (fault ≡ Some faults.NoMemory)
-HoldsBy Nothing at what now ready fault entries = (ready ≡ false) × Unmakes fault entries
+HoldsBy Nothing at what now ready fault entries = (ready ≡ false) × Unmakes at fault entries
 HoldsBy (Broke stream) at what now ready fault entries =
     (hold : Hold) × (entries ≡ Held hold ∷ []) × IsBrokenHold at what now stream hold × IsQuiet ready fault
 HoldsBy (Stopped stream) at what now ready fault entries =
     (state : State) × (entries ≡ Halted at state ∷ []) × (stream ≡ stream_name state) × IsQuiet ready fault
 HoldsBy Gone at what now ready fault entries = (kept : ℕ) × (entries ≡ Missed at kept ∷ []) × IsQuiet ready fault
 
+-- the volume may have been called before what was asked, or without it
+abbrev pub Prepares : PlaceAt → List DeskEntry → Type 0
+Prepares at entries =
+    (entries ≡ []) ⊎ ((before after : VolumeAt) × (failed : Bool) × (entries ≡ Stirred at before after failed ∷ []))
+
 -- a hold on this place, of what was asked there at the moment, came to that
-abbrev pub Holds : PlaceAt → What → ℕ → Outcome → List DeskEntry → Type 0
-Holds at what now outcome entries = HoldsBy outcome.became at what now outcome.ready outcome.fault entries
+pub record Holds (at : PlaceAt) (what : What) (now : ℕ) (outcome : Outcome) (entries : List DeskEntry) : Type 0 where
+  pub first : List DeskEntry
+  pub more : List DeskEntry
+  pub entries_are : entries ≡ first ++ more
+  pub prepares : Prepares at first
+  pub holds : HoldsBy outcome.became at what now outcome.ready outcome.fault more

@@ -5,7 +5,7 @@ use Rattle.js_model.specs.declared.entry.PlaceEntry.{PlaceEntry}
 use Rattle.js_model.specs.Runs.{Run, messages_of}
 use Rattle.js_model.specs.Router.{RouteCall, RouteTold, RouteEntry, RouteRun, Publish, Interest, Listens}
 use Rattle.js_model.specs.Catalog.{CatCall, CatTold, CatEntry, CatRun, NextUsed, At}
-use Rattle.js_api.specs.Entries.{Reading, Hold, entries_in, DeskEntry, Routed, Looked, Turned, Resumed, Held, Halted, Missed, Spent}
+use Rattle.js_api.specs.Entries.{Reading, Hold, entries_in, DeskEntry, Routed, Looked, Turned, Resumed, Held, Stirred, Halted, Missed, Spent}
 use Rattle.js_model.specs.PlaceStates.{PlaceIn}
 use Rattle.js_api.specs.Worlds.{Scene, SoloStep}
 use Rattle.js_api.specs.Leading.{Leads}
@@ -37,6 +37,7 @@ AreOfEntry (Looked joined call told) calls = calls ≡ []
 AreOfEntry (Turned after found) calls = calls ≡ []
 AreOfEntry (Resumed last) calls = calls ≡ []
 AreOfEntry (Held hold) calls = AreOfHold hold calls
+AreOfEntry (Stirred at before after failed) calls = calls ≡ []
 AreOfEntry (Halted at state) calls = calls ≡ []
 AreOfEntry (Missed at kept) calls = calls ≡ []
 AreOfEntry (Spent number) calls = calls ≡ []
@@ -57,6 +58,7 @@ looks (Looked joined call told ∷ more) = look_made call told ∷ looks more
 looks (Turned after found ∷ more) = look_made (NextUsed after) (At found) ∷ looks more
 looks (Resumed last ∷ more) = looks more
 looks (Held hold ∷ more) = looks more
+looks (Stirred at before after failed ∷ more) = looks more
 looks (Halted at state ∷ more) = looks more
 looks (Missed at kept ∷ more) = looks more
 looks (Spent number ∷ more) = looks more
@@ -73,6 +75,7 @@ steps_at place (Looked joined call told ∷ more) = steps_at place more
 steps_at place (Turned after found ∷ more) = steps_at place more
 steps_at place (Resumed last ∷ more) = steps_at place more
 steps_at place (Held hold ∷ more) = held_at place hold ++ steps_at place more
+steps_at place (Stirred at before after failed ∷ more) = steps_at place more
 steps_at place (Halted at state ∷ more) = steps_at place more
 steps_at place (Missed at kept ∷ more) = steps_at place more
 steps_at place (Spent number ∷ more) = steps_at place more

@@ -124,13 +124,13 @@ stopped at = Looked true (catalog.Stop at.place) catalog.Done ∷ []
 abbrev pub kept : PlaceAt → Bool → List DeskEntry
 kept at new = Looked true (catalog.Keep at.place new) catalog.Done ∷ []
 
--- a place that was taken for a stream is free again unless the stream was made; it is stopped if its volume failed
+-- a place that was taken for a stream is free again unless the stream was made; it is stopped if its volume failed or had failed
 abbrev pub free_unless_made : PlaceAt → Became → List DeskEntry
 free_unless_made at (Made reply) = if is_info reply then [] else removed at false
 free_unless_made at Ticked = removed at false
 free_unless_made at Nothing = removed at false
 free_unless_made at (Broke stream) = stopped at
-free_unless_made at (Stopped stream) = removed at false
+free_unless_made at (Stopped stream) = stopped at
 free_unless_made at Gone = removed at false
 
 -- a stream that was changed has its new subjects, and any other its old ones; with both lists it is stopped if its volume failed

@@ -14,7 +14,7 @@ use Rattle.js_model.specs.Limits.{last_place}
 use Rattle.js_model.specs.PlaceStates.{VolumeAt, PlaceIn}
 use Rattle.js_model.specs.Router.{Router, RouteTold, IsRoute, Publish, Interest, Taken, Listens, NoMemory, empty_router}
 use Rattle.js_model.specs.Catalog.{Catalog, Place, IsCatalogCall, NextUsed, At}
-use Rattle.js_api.specs.Entries.{Reading, Sending, Sent, Short, Hold, entries_in, DeskEntry, Routed, Looked, Turned, Resumed, Held, Halted, Missed, Spent}
+use Rattle.js_api.specs.Entries.{Reading, Sending, Sent, Short, Hold, entries_in, DeskEntry, Routed, Looked, Turned, Resumed, Held, Stirred, Halted, Missed, Spent}
 use Rattle.js_api.specs.Outputs.{outs_of}
 
 -- ---- what there is
@@ -70,19 +70,36 @@ abbrev pub Stops : Bool → VolumeAt → VolumeAt → Option ℕ → Type 0
 Stops true before after stopped = (stopped ≡ Some after.faults) × Rose before.faults after.faults
 Stops false before after stopped = stopped ≡ None
 
+-- its count of faults, its calls and its generations do not fall
+pub record IsLater (before after : VolumeAt) : Type 0 where
+  pub faults : before.faults ≤ after.faults
+  pub moments : before.moment ≤ after.moment
+  pub generations : before.generation ≤ after.generation
+
 -- the entries of the hold lead from what stood at its place to what stands there
 pub record IsHeld (hold : Hold) (old new : PlaceIn) : Type 0 where
   pub going : old.stopped ≡ None
   pub was : old.state ≡ hold.before
   pub steps : RunFrom old.stored hold.before hold.steps hold.between
   pub deliveries : RunFrom (total_of old.stored hold.before hold.steps hold.between steps) hold.between hold.deliveries hold.after
+  pub ends : is_broken hold.steps ≡ true → hold.deliveries ≡ []
   pub is_state : new.state ≡ hold.after
   pub stored : new.stored ≤ total_of (total_of old.stored hold.before hold.steps hold.between steps) hold.between hold.deliveries hold.after deliveries
   pub stops : Stops (is_broken (entries_in hold)) hold.volume_before hold.volume_after new.stopped
   pub volume_was : old.volume ≡ hold.volume_before
   pub volume_is : new.volume ≡ hold.volume_after
-  pub faults : hold.volume_before.faults ≤ hold.volume_after.faults
-  pub moments : hold.volume_before.moment ≤ hold.volume_after.moment
+  pub before_between : IsLater hold.volume_before hold.volume_between
+  pub between_after : IsLater hold.volume_between hold.volume_after
+
+-- the volume of a place was called without an entry of its run
+pub record IsStirred (before after : VolumeAt) (failed : Bool) (old new : PlaceIn) : Type 0 where
+  pub going : old.stopped ≡ None
+  pub state : new.state ≡ old.state
+  pub stored : new.stored ≡ old.stored
+  pub stops : Stops failed before after new.stopped
+  pub volume_was : old.volume ≡ before
+  pub volume_is : new.volume ≡ after
+  pub later : IsLater before after
 
 -- the router told so who listens
 abbrev pub AreRead : Router → List Reading → Type 0
@@ -121,6 +138,16 @@ pub record IsHeldAlone (hold : Hold) (old new : World) : Type 0 where
   pub places : new.places ≡ slice_set old.places hold.at.place after
   pub catalog : new.catalog ≡ old.catalog
 
+-- of one place its volume was called, and all else is as it was
+pub record IsStirredAlone (at : PlaceAt) (before after : VolumeAt) (failed : Bool) (old new : World) : Type 0 where
+  pub place : PlaceIn
+  pub stirred : PlaceIn
+  pub is_there : slice_get old.places at.place ≡ Some place
+  pub is_stirred : IsStirred before after failed place stirred
+  pub places : new.places ≡ slice_set old.places at.place stirred
+  pub router : new.router ≡ old.router
+  pub catalog : new.catalog ≡ old.catalog
+
 -- the place is stopped, and this stands there
 pub record IsHalted (at : PlaceAt) (state : State) (places : List PlaceIn) : Type 0 where
   pub place : PlaceIn
@@ -151,6 +178,7 @@ SoloStep old (Turned after found) new =
     × (new ≡ record old { cursor = record old.cursor { ticked = place_or after found } })
 SoloStep old (Resumed last) new = (last ≡ old.cursor.last) × (new ≡ old)
 SoloStep old (Held hold) new = IsHeldAlone hold old.world new.world × (new.cursor ≡ record old.cursor { last = Some hold.at })
+SoloStep old (Stirred at before after failed) new = IsStirredAlone at before after failed old.world new.world × (new.cursor ≡ old.cursor)
 SoloStep old (Halted at state) new = IsHalted at state old.world.places × (new ≡ old)
 SoloStep old (Missed at kept) new = IsMissed at kept old.world.places × (new ≡ old)
 SoloStep old (Spent number) new = ⊥

@@ -10,7 +10,7 @@ pub enum DeskFault {
     /// The session has all the subscriptions that it may have, and none of them under this identifier.
     #[error("too many subscriptions")]
     TooManySubs,
-    /// The numbers of sessions or of turns are used up: this is the last one.
+    /// The numbers of sessions, of turns or of a store's generations are used up: this is the last one.
     #[error("no number is left after {0}")]
     Worn(u64),
     /// No session is open. The last one that this desk had has this number, or 0 if it had none.

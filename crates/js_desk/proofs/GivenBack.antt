@@ -2,30 +2,30 @@
 use Rattle.std.proofs.Common.{◌≡◌, List, [], ◌∷◌, ◌++◌, refl, sym, ap, subst, ◌∙◌, append_assoc, append-nil}
 use Rattle.std.specs.Prelude.{reverse}
 use Rattle.std.proofs.lemmas.List.{map-append, reverse-append}
-use Rattle.place_engine.specs.Places.{Seen}
+use Rattle.place_engine.specs.InMemory.{Contents}
 use Rattle.js_model.specs.declared.stream.State.TheVariants.{Vacant}
-use Rattle.desk_hold.specs.Grounds.{volumes, vol_of, AreFresh}
+use Rattle.js_desk.specs.Grounds.{volumes, vol_of, AreFresh}
 
 module _ {V : Type 0} where
   -- the volume of the last place comes first in the other order
-  pub last_first : (places : List (Seen V)) (place : Seen V) → reverse (volumes (places ++ place ∷ [])) ≡ place.vol ∷ reverse (volumes places)
+  pub last_first : (places : List (Contents V)) (place : Contents V) → reverse (volumes (places ++ place ∷ [])) ≡ place.vol ∷ reverse (volumes places)
   last_first places place = ap reverse (map-append vol_of places (place ∷ [])) ∙ reverse-append (volumes places) (place.vol ∷ [])
 
   -- one more volume was given back
-  pub one_back : (given given_new whole : List V) (places mid : List (Seen V)) (place : Seen V) → mid ≡ places ++ place ∷ [] → given_new ≡ given ++ place.vol ∷ []
+  pub one_back : (given given_new whole : List V) (places mid : List (Contents V)) (place : Contents V) → mid ≡ places ++ place ∷ [] → given_new ≡ given ++ place.vol ∷ []
       → given ++ reverse (volumes mid) ≡ whole → given_new ++ reverse (volumes places) ≡ whole
   one_back given given_new whole places mid place is new e =
       ap (λ (vs : List V). vs ++ reverse (volumes places)) new
       ∙ append_assoc given (place.vol ∷ []) (reverse (volumes places))
       ∙ ap (λ (vs : List V). given ++ vs) (sym (last_first places place))
-      ∙ ap (λ (ps : List (Seen V)). given ++ reverse (volumes ps)) (sym is)
+      ∙ ap (λ (ps : List (Contents V)). given ++ reverse (volumes ps)) (sym is)
       ∙ e
 
-  pub all_back : (given whole : List V) (places : List (Seen V)) → places ≡ [] → given ++ reverse (volumes places) ≡ whole → given ≡ whole
-  all_back given whole places none e = sym (append-nil given) ∙ ap (λ (ps : List (Seen V)). given ++ reverse (volumes ps)) (sym none) ∙ e
+  pub all_back : (given whole : List V) (places : List (Contents V)) → places ≡ [] → given ++ reverse (volumes places) ≡ whole → given ≡ whole
+  all_back given whole places none e = sym (append-nil given) ∙ ap (λ (ps : List (Contents V)). given ++ reverse (volumes ps)) (sym none) ∙ e
 
   -- one more place was opened
-  pub one_opened : (left mid whole : List V) (places : List (Seen V)) (place : Seen V) (vol : V) → mid ≡ left ++ vol ∷ [] → place.vol ≡ vol
+  pub one_opened : (left mid whole : List V) (places : List (Contents V)) (place : Contents V) (vol : V) → mid ≡ left ++ vol ∷ [] → place.vol ≡ vol
       → mid ++ reverse (volumes places) ≡ whole → left ++ reverse (volumes (places ++ place ∷ [])) ≡ whole
   one_opened left mid whole places place vol is same e =
       ap (λ (vs : List V). left ++ vs) (last_first places place ∙ ap (λ (v : V). v ∷ reverse (volumes places)) same)
@@ -33,13 +33,13 @@ module _ {V : Type 0} where
       ∙ ap (λ (vs : List V). vs ++ reverse (volumes places)) (sym is)
       ∙ e
 
-  pub fresh_more : (places : List (Seen V)) (place : Seen V) → AreFresh places → place.state ≡ Vacant 0 → AreFresh (places ++ place ∷ [])
+  pub fresh_more : (places : List (Contents V)) (place : Contents V) → AreFresh places → place.state ≡ Vacant 0 → AreFresh (places ++ place ∷ [])
   fresh_more [] place h new = (new, tt)
   fresh_more (first ∷ places) place h new = (h.0, fresh_more places place h.1 new)
 
   -- ---- the places in the other order
 
-  pub volumes_reverse : (places : List (Seen V)) → volumes (reverse places) ≡ reverse (volumes places)
+  pub volumes_reverse : (places : List (Contents V)) → volumes (reverse places) ≡ reverse (volumes places)
   volumes_reverse [] = refl
   volumes_reverse (place ∷ places) =
       ap volumes (reverse-append (place ∷ []) places)
@@ -47,6 +47,6 @@ module _ {V : Type 0} where
       ∙ ap (λ (vs : List V). vs ++ place.vol ∷ []) (volumes_reverse places)
       ∙ sym (reverse-append (place.vol ∷ []) (volumes places))
 
-  pub fresh_reverse : (places : List (Seen V)) → AreFresh places → AreFresh (reverse places)
+  pub fresh_reverse : (places : List (Contents V)) → AreFresh places → AreFresh (reverse places)
   fresh_reverse [] h = tt
   fresh_reverse (place ∷ places) h = subst AreFresh (sym (reverse-append (place ∷ []) places)) (fresh_more (reverse places) place (fresh_reverse places h.1) h.0)

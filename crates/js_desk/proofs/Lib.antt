@@ -1,4 +1,15 @@
+pub mod Added
+pub mod Cataloged
 pub mod Closing
+pub mod Edits
+pub mod Found
 pub mod GivenBack
-pub mod Rested
+pub mod HeldGround
+pub mod HoldFacts
+pub mod Incarnations
+pub mod Looked
+pub mod Lookups
+pub mod Routed
+pub mod Sets
 pub mod Solos
+pub mod Turns

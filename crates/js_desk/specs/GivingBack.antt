@@ -1,5 +1,9 @@
 -- Why a desk was not opened, and what is left of it.
-use Rattle.std.specs.Prelude.{◌≡◌, List}
+use Rattle.std.specs.Prelude.{◌≡◌, List, length, None}
+use Rattle.std.specs.List.{All}
+use Rattle.js_model.specs.PlaceStates.{PlaceIn}
+use Rattle.js_api.specs.Worlds.{World}
+use Rattle.js_desk.specs.declared.faults.Closed.{Closed}
 use Rattle.js_desk.specs.declared.faults.HubFault.{HubFault}
 use Rattle.js_desk.specs.declared.faults.HubFault.TheVariants as faults
 
@@ -7,3 +11,8 @@ use Rattle.js_desk.specs.declared.faults.HubFault.TheVariants as faults
 abbrev pub GivesBack : {V : Type 0} → List V → HubFault V → Type 0
 GivesBack vols (faults.NoMemory back) = back.items ≡ vols
 GivesBack vols _ = ⊥
+
+-- of the world at the closing there is a volume for each place, and no place of it could not be brought to its volume unless one is stopped
+pub record Closes {V : Type 0} (world : World) (closed : Closed V) : Type 0 where
+  pub count : length closed.vols.items ≡ length world.places
+  pub going : closed.failed ≡ None → All (λ (place : PlaceIn). place.stopped ≡ None) world.places

@@ -1,2 +1,5 @@
+pub mod Dropping
+pub mod Faults
 pub mod GivingBack
+pub mod Grounds
 pub mod Solo

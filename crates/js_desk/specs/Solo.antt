@@ -1,48 +1,36 @@
 -- What contracts see of the desk of one caller.
-use Rattle.std.specs.Prelude.{◌≡◌, ◌≤◌, ◌++◌, ℕ, Bool, true, List, [], length, Option, IfSome, is_some, unwrap_or}
+use Rattle.std.specs.Prelude.{◌≡◌, ◌≤◌, ℕ, true, List, [], length}
 use Rattle.js_model.specs.Router.{is_open}
 use Rattle.js_model.specs.Routing.{waiting_for}
-use Rattle.route_core.specs.Idle.{IsIdle}
-use Rattle.js_api.specs.Desks.{World, DeskEntry, DeskRun}
 use Rattle.js_api.specs.Clients.{Client}
-use Rattle.desk_hold.specs.Grounds.{Standing}
-use Rattle.std.proofs.Common.{refl, ◌∙◌}
-use Rattle.desk_hold.specs.Following.{run_append}
+use Rattle.js_api.specs.Entries.{DeskEntry}
+use Rattle.js_api.specs.Leading.{Leads}
+use Rattle.js_api.specs.Worlds.{Scene, SoloStep}
+use Rattle.desk_calls.specs.Callers.{client_of}
+use Rattle.desk_calls.specs.Grounds.{Outside}
+use Rattle.desk_calls.specs.declared.caller.Caller.{Caller}
+use Rattle.js_desk.specs.Grounds.{Standing}
 
--- what it stands on, its volumes, and the open session
+-- what it stands on, its volumes, and the client of its session
 pub record Solo (V : Type 0) : Type 0 where
-  pub world : World
+  pub scene : Scene
   pub vols : List V
   pub client : Client
-  pub is_open : Bool
 
-abbrev pub solo : {V : Type 0} → Standing V → Option ℕ → Bool → Solo V
-solo ground session told = record {
-  world = ground.world;
-  vols = ground.vols;
-  client = record { session = unwrap_or session 0; told = told };
-  is_open = is_some session;
-}
+abbrev pub solo : {V : Type 0} → Standing V → Caller → Solo V
+solo ground caller = record { scene = ground.scene; vols = ground.vols; client = client_of caller }
 
--- the session is open in the router, a collect gives nothing if that is known, and there is room for the volumes
-pub record IsConsistent {V : Type 0} (ground : Standing V) (session : Option ℕ) (idle : Bool) (given_back : List V) (capacity : ℕ) : Type 0 where
-  pub opened : IfSome session (λ number. is_open ground.world.router number ≡ true)
-  pub idle_is : idle ≡ true → IfSome session (IsIdle ground.world.router)
+-- entries lead from the one desk to the other, which keeps its volumes
+abbrev pub DeskMade : {V : Type 0} → Solo V → List DeskEntry → Solo V → Type 0
+DeskMade old entries new = Leads SoloStep old.scene entries new.scene × (new.vols ≡ old.vols)
+
+-- it is in no turn of the catalog, its open session is open in the router, and there is room for the volumes
+pub record IsConsistent {V : Type 0} (ground : Standing V) (caller : Caller) (given_back : List V) (capacity : ℕ) : Type 0 where
+  pub outside : ground.phase ≡ Outside
+  pub opened : caller.is_open ≡ true → is_open ground.scene.world.router caller.session ≡ true
   pub empty : given_back ≡ []
   pub room : length ground.vols ≤ capacity
 
--- entries lead from the one desk to the other, which keeps its volumes
-pub record SoloRun {V : Type 0} (old : Solo V) (entries : List DeskEntry) (new : Solo V) : Type 0 where
-  pub led : DeskRun old.world entries new.world
-  pub vols : new.vols ≡ old.vols
-
--- how many frames wait for the open session
+-- how many frames wait for the session
 abbrev pub frames_left : {V : Type 0} → Solo V → ℕ
-frames_left desk = waiting_for desk.world.router desk.client.session
-
--- ---- runs that follow one another
-pub solo_nothing : {V : Type 0} (desk : Solo V) → SoloRun desk [] desk
-solo_nothing desk = record { led = refl; vols = refl }
-
-pub solo_append : {V : Type 0} (a b c : Solo V) (first more : List DeskEntry) → SoloRun a first b → SoloRun b more c → SoloRun a (first ++ more) c
-solo_append a b c first more h k = record { led = run_append a.world b.world c.world first more h.led k.led; vols = k.vols ∙ h.vols }
+frames_left desk = waiting_for desk.scene.world.router desk.client.session

@@ -1,6 +1,14 @@
-//! Why a desk was not opened, and what is left of one.
+//! Why a desk was not opened, what is left of one, and why a call of its router is refused.
 
+ghost use Rattle.std.specs.Prelude.{◌≡◌};
+ghost use Rattle.js_desk.specs.Faults.{desk_fault};
+
+use js_api::DeskFault;
+use js_model::RouteFault;
 use place_engine::{OpenFault, PlaceFault};
+
+/// The greatest number that a session can have.
+const LAST_SESSION: u64 = (1 << 62) - 1;
 
 /// Why a desk was not opened. The volumes are given back in their order. In memory it is `NoMemory` alone.
 #[derive(Drop, Debug)]
@@ -27,4 +35,16 @@ pub enum HubFault<V> {
 pub struct Closed<V> {
     pub vols: Vec<V>,
     pub failed: Option<(u32, PlaceFault)>,
+}
+
+/// Why a call of a desk is refused, by why its router refused it.
+pub(crate) fn desk_fault(fault: RouteFault) -> DeskFault
+    ensures value { result ≡ desk_fault fault }
+{
+    match fault {
+        RouteFault::NoSession(latest) => DeskFault::NoSession(latest),
+        RouteFault::TooManySubs => DeskFault::TooManySubs,
+        RouteFault::NoMemory => DeskFault::NoMemory,
+        RouteFault::Worn => DeskFault::Worn(LAST_SESSION),
+    }
 }

@@ -3,6 +3,8 @@
 
 mod faults;
 mod solo_desk;
+mod solo_ground;
+mod turn;
 mod volumes;
 
 pub use faults::{Closed, HubFault};

@@ -1,38 +1,37 @@
 //! The desk of one caller, who owns the router, the catalog and the places.
 
-ghost use Rattle.std.specs.Prelude.{◌≡◌, ◌≤◌, [], IfErr, IfOk, IsTrue, None, true, false, length};
-ghost use Rattle.js_model.specs.declared.desk.Collected.TheVariants.{Frames};
+ghost use Rattle.std.specs.Prelude.{◌≡◌, ◌≤◌, IfErr, IfOk, IsTrue, None, false, length, map, replicate};
 ghost use Rattle.js_model.specs.Configs.{is_stream_subject};
-ghost use Rattle.js_api.specs.Desks.{opening};
-ghost use Rattle.js_desk.specs.GivingBack.{GivesBack};
-ghost use Rattle.desk_calls.specs.MakingDefault.{MakesDefault};
-ghost use Rattle.js_desk.specs.Solo.{SoloRun, frames_left, solo_append, solo_nothing};
+ghost use Rattle.js_model.specs.PlaceStates.{vacant_place};
+ghost use Rattle.stream_config.specs.Defaults.{default_config};
+ghost use Rattle.js_api.specs.Leading.{Leads, Makes, leads_more, leads_nothing};
+ghost use Rattle.js_api.specs.Making.{MakesStream};
+ghost use Rattle.js_api.specs.Worlds.{SoloStep, opening};
+ghost use Rattle.js_desk.specs.GivingBack.{Closes, GivesBack};
+ghost use Rattle.js_desk.specs.Solo.{DeskMade, frames_left};
+ghost use Rattle.std.proofs.Common.{refl, ◌∙◌};
 
 use crate::faults::{Closed, HubFault};
+use crate::solo_ground::SoloGround;
 use crate::volumes::{give_back, open_places};
 use catalog::Catalog;
-use desk_calls::{Caller, make_stream, publish, rest, settle, tick};
-use desk_hold::Ground;
-use js_api::{Desk, OpenFault, SubFault};
-use js_base::{ApiError, Moment, Name, NoMemory, Out};
-use js_model::{Collected, RouteFault, Taken};
+use desk_calls::{
+    Caller, Ground, close, collect, make_stream, options, publish, settle, sub, tick, unsub,
+};
+use js_api::{Desk, DeskFault};
+use js_base::{ApiError, Moment, Name, Out};
+use js_model::{Collected, Taken};
 use std::alloc::Global;
 use std::marker::Model;
-
-/// The greatest number that a session can have.
-const LAST_SESSION: u64 = (1 << 62) - 1;
 
 /// A desk with its own router, catalog and places, one for each volume.
 #[derive(Drop)]
 pub struct SoloDesk<V> {
-    ground: Ground<V>,
+    ground: SoloGround<V>,
+    /// The client of its session.
+    caller: Caller,
     /// Empty, with room for the volumes at the end.
     vols: Vec<V>,
-    session: Option<u64>,
-    /// Whether the session's client is told if nobody took its message.
-    told: bool,
-    /// Whether a collect is known to give nothing: the last one gave nothing, and nothing can have been sent since.
-    idle: bool,
 }
 
 impl<V> Model for SoloDesk<V> {
@@ -41,28 +40,18 @@ impl<V> Model for SoloDesk<V> {
 
     ghost Value = { Solo V };
 
-    ghost view = { λ desk. solo desk.ground desk.session desk.told };
+    ghost view = { λ desk. solo desk.ground desk.caller };
 
-    ghost invariant = { λ desk. IsConsistent desk.ground desk.session desk.idle desk.vols.items (vec_capacity desk.vols) };
-}
-
-/// Whether no frame was given, and none is left.
-fn is_nothing(collected: &Collected) -> bool
-    ensures nothing { result ≡ true → collected.now ≡ Frames [] false }
-{
-    match collected {
-        Collected::Frames { list, more } => list.is_empty() && !*more,
-        Collected::Slow { length: _ } => false,
-    }
+    ghost invariant = { λ desk. IsConsistent desk.ground desk.caller desk.vols.items (vec_capacity desk.vols) };
 }
 
 impl<V> SoloDesk<V> {
     /// Opens a place on each volume, at most 32, in their order. No stream is there, and no session is open. An `Err` gives the volumes back.
     pub fn open(alloc: Global, vols: Vec<V>) -> Result<SoloDesk<V>, HubFault<V>>
         requires few { length vols.items ≤ 32 }
-        ensures world { IfOk result (λ desk. desk.world ≡ opening (length vols.items)) }
+        ensures scene { IfOk result (λ desk. desk.scene ≡ opening (replicate (length vols.items) vacant_place)) }
         ensures vols { IfOk result (λ desk. desk.vols ≡ vols.items) }
-        ensures closed { IfOk result (λ desk. desk.is_open ≡ false) }
+        ensures closed { IfOk result (λ desk. desk.client.is_open ≡ false) }
         ensures err { IfErr result (GivesBack vols.items) }
     {
         let mut vols = vols;
@@ -72,45 +61,46 @@ impl<V> SoloDesk<V> {
         };
         match open_places(alloc, &mut vols) {
             Ok(places) => Ok(SoloDesk {
-                ground: Ground::of(alloc, catalog, places),
+                ground: SoloGround::of(alloc, catalog, places),
+                caller: Caller {
+                    session: 0,
+                    is_open: false,
+                    told: false,
+                },
                 vols,
-                session: None,
-                told: false,
-                idle: false,
             }),
             Err(_) => Err(HubFault::NoMemory { vols }),
         }
     }
 
     /// Makes the stream of this name and this one subject, with every default of JetStream, and answers why it was not made. A
-    /// stream of this name that is there is left as it is. It needs no session. An `Err` comes if memory runs out.
+    /// stream of this name that is there is left as it is. It needs no session. An `Err` leaves open whether the stream was made; in memory it is
+    /// `NoMemory`.
     pub fn make_stream(
         &mut self,
         name: &Name,
         subject: &[u8],
         now: Moment,
-    ) -> Result<Option<ApiError>, NoMemory>
+    ) -> Result<Option<ApiError>, DeskFault>
         requires subject { IsTrue (is_stream_subject subject.now) }
-        ensures makes { MakesDefault result name.now subject.now now self.old.world self.new.world }
+        ensures made { Makes (λ old entries new. Leads SoloStep old entries new) (MakesStream name.now (default_config name.now subject.now) now result) self.old.scene self.new.scene }
         ensures vols { self.new.vols ≡ self.old.vols }
         ensures client { self.new.client ≡ self.old.client }
-        ensures is_open { self.new.is_open ≡ self.old.is_open }
     {
-        self.idle = false;
         make_stream(&mut self.ground, name, subject, now)
     }
 
-    /// Gives the volumes back, in their order. In memory nothing has to be brought to them, and so nothing fails.
+    /// Gives the volumes back, in their order. In memory nothing has to be brought to them, and so nothing fails. The world at the closing is that of
+    /// `self`.
     pub fn close_all(self) -> Closed<V>
         ensures vols { result.vols.items ≡ self.vols }
         ensures failed { result.failed ≡ None }
+        ensures closes { Closes self.scene.world result }
     {
         let SoloDesk {
             ground,
+            caller: _,
             vols,
-            session: _,
-            told: _,
-            idle: _,
         } = self;
         let mut vols = vols;
         let mut places = ground.into_places();
@@ -123,114 +113,57 @@ impl<V> SoloDesk<V> {
 impl<V> Desk for SoloDesk<V> {
     ghost client = { λ desk. desk.client };
 
-    ghost is_open = { λ desk. desk.is_open };
+    ghost made = { λ old entries new. DeskMade old entries new };
 
-    ghost made = { λ old entries new. SoloRun old entries new };
+    ghost left = { λ desk. frames_left desk };
 
-    ghost to_collect = { λ desk. frames_left desk };
-
-    fn open(&mut self) -> Result<u64, OpenFault> {
-        self.idle = false;
-        match self.ground.open() {
-            Ok(session) => {
-                self.session = Some(session);
-                self.told = false;
-                Ok(session)
-            }
-            Err(RouteFault::Worn) => Err(OpenFault::Worn(LAST_SESSION)),
-            Err(RouteFault::NoMemory) => Err(OpenFault::NoMemory),
-            Err(RouteFault::NoSession(_)) => unreachable!(),
-            Err(RouteFault::TooManySubs) => unreachable!(),
-        }
-    }
-
-    fn options(&mut self, echo: bool, headers: bool, no_responders: bool) {
-        let Some(session) = self.session else {
-            unreachable!()
-        };
-        self.idle = false;
-        self.ground.options(session, echo, headers);
-        self.told = headers && no_responders;
-    }
-
-    fn sub(&mut self, subject: &[u8], queue: Option<&[u8]>, sid: &[u8]) -> Result<(), SubFault> {
-        let Some(session) = self.session else {
-            unreachable!()
-        };
-        self.idle = false;
-        match self.ground.sub(session, subject, queue, sid) {
-            Ok(()) => Ok(()),
-            Err(RouteFault::TooManySubs) => Err(SubFault::TooManySubs),
-            Err(RouteFault::NoMemory) => Err(SubFault::NoMemory),
-            Err(RouteFault::NoSession(_)) => unreachable!(),
-            Err(RouteFault::Worn) => unreachable!(),
-        }
-    }
-
-    fn unsub(&mut self, sid: &[u8], max: Option<u64>) {
-        let Some(session) = self.session else {
-            unreachable!()
-        };
-        self.idle = false;
-        match self.ground.unsub(session, sid, max) {
-            Ok(()) => {}
-            Err(_) => unreachable!(),
-        }
-    }
-
-    fn publish(&mut self, message: &Out, now: Moment) -> Result<Taken, NoMemory> {
-        let Some(session) = self.session else {
-            unreachable!()
-        };
-        self.idle = false;
-        let caller = Caller {
+    fn open(&mut self) -> Result<u64, DeskFault> {
+        let session = self.ground.open()?;
+        self.caller = Caller {
             session,
-            told: self.told,
+            is_open: true,
+            told: false,
         };
-        publish(&mut self.ground, caller, message, now)
+        Ok(session)
     }
 
-    fn tick(&mut self, now: Moment) -> Result<(), NoMemory> {
-        tick(&mut self.ground, now);
+    fn options(&mut self, echo: bool, headers: bool, no_responders: bool) -> Result<(), DeskFault> {
+        options(&mut self.ground, self.caller, echo, headers)?;
+        self.caller.told = headers && no_responders;
         Ok(())
     }
 
-    fn settle(&mut self, now: Moment) -> Result<bool, NoMemory> {
-        Ok(settle(&mut self.ground, now))
+    fn sub(&mut self, subject: &[u8], queue: Option<&[u8]>, sid: &[u8]) -> Result<(), DeskFault> {
+        sub(&mut self.ground, self.caller, subject, queue, sid)
     }
 
-    fn collect(&mut self, max: usize) -> Result<Collected, NoMemory> {
-        let Some(session) = self.session else {
-            unreachable!()
-        };
-        self.idle = false;
-        match self.ground.collect(session, max) {
-            Ok(collected) => {
-                self.idle = is_nothing(&collected);
-                Ok(collected)
-            }
-            Err(_) => Err(NoMemory),
-        }
+    fn unsub(&mut self, sid: &[u8], max: Option<u64>) -> Result<(), DeskFault> {
+        unsub(&mut self.ground, self.caller, sid, max)
     }
 
-    fn rest(&mut self, now: Moment) -> bool {
-        if !self.idle {
-            return false;
-        }
-        rest(&mut self.ground, now);
-        true
+    fn publish(&mut self, message: &Out, now: Moment) -> Result<Taken, DeskFault> {
+        publish(&mut self.ground, self.caller, message, now)
     }
 
-    fn close(&mut self) {
-        let Some(session) = self.session else {
-            unreachable!()
-        };
-        self.ground.close(session);
-        self.session = None;
-        self.idle = false;
+    fn tick(&mut self, now: Moment) -> Result<(), DeskFault> {
+        tick(&mut self.ground, now)
     }
 
-    ghost made_nothing = { λ desk. solo_nothing desk };
+    fn settle(&mut self, now: Moment) -> Result<bool, DeskFault> {
+        settle(&mut self.ground, now)
+    }
 
-    ghost made_more = { λ a b c first more h k. solo_append a b c first more h k };
+    fn collect(&mut self, max: usize) -> Result<Collected, DeskFault> {
+        collect(&mut self.ground, self.caller, max)
+    }
+
+    fn close(&mut self) -> Result<(), DeskFault> {
+        let closed = close(&mut self.ground, self.caller);
+        self.caller.is_open = false;
+        closed
+    }
+
+    ghost made_nothing = { λ desk. (leads_nothing SoloStep desk.scene, refl) };
+
+    ghost made_more = { λ a b c first more h k. (leads_more SoloStep a.scene b.scene c.scene first more h.0 k.0, k.1 ∙ h.1) };
 }

@@ -1,14 +1,14 @@
 //! The volumes of a desk: each becomes a place, and is given back at the end.
 
 ghost use Rattle.std.specs.Prelude.{◌≡◌, ◌≤◌, ◌<◌, ◌+◌, ◌++◌, [], IfErr, IfOk, length, reverse, vec_capacity, vec_len};
-ghost use Rattle.desk_hold.specs.Grounds.{AreFresh, volumes};
+ghost use Rattle.js_desk.specs.Grounds.{AreFresh, volumes};
 
 use js_base::NoMemory;
-use place_engine::Place;
+use place_engine::{MemoryPlace, Place};
 use std::alloc::Global;
 
 /// Gives back the volumes of places that stand in the other order, behind those that are there. It takes no memory.
-pub fn give_back<V>(places: Vec<Place<V>>, vols: &mut Vec<V>)
+pub fn give_back<V>(places: Vec<MemoryPlace<V>>, vols: &mut Vec<V>)
     requires room { vec_len vols.old + length places.items ≤ vec_capacity vols.old }
     ensures given { vols.new.items ≡ vols.old.items ++ reverse (volumes places.items) }
 {
@@ -21,7 +21,7 @@ pub fn give_back<V>(places: Vec<Place<V>>, vols: &mut Vec<V>)
 }
 
 /// Opens the places of the volumes, the last one first, and leaves the emptied vector. If one is not opened, all volumes are given back.
-fn open_reversed<V>(alloc: Global, vols: &mut Vec<V>) -> Result<Vec<Place<V>>, NoMemory>
+fn open_reversed<V>(alloc: Global, vols: &mut Vec<V>) -> Result<Vec<MemoryPlace<V>>, NoMemory>
     ensures opened { IfOk result (λ places. reverse (volumes places.items) ≡ vols.old.items) }
     ensures fresh { IfOk result (λ places. AreFresh places.items) }
     ensures emptied { IfOk result (λ places. vols.new.items ≡ []) }
@@ -34,7 +34,7 @@ fn open_reversed<V>(alloc: Global, vols: &mut Vec<V>) -> Result<Vec<Place<V>>, N
         return Err(NoMemory);
     }
     while !vols.is_empty() {
-        match Place::open(alloc, vols.take_last()) {
+        match MemoryPlace::open(alloc, vols.take_last()) {
             Ok(place) => places.push_reserved(place),
             Err((_, vol)) => {
                 vols.push_reserved(vol);
@@ -48,7 +48,7 @@ fn open_reversed<V>(alloc: Global, vols: &mut Vec<V>) -> Result<Vec<Place<V>>, N
 
 /// Opens the places of the volumes, in their order, and leaves the emptied vector, into which the volumes can be given back. An `Err` leaves them
 /// as they were.
-pub fn open_places<V>(alloc: Global, vols: &mut Vec<V>) -> Result<Vec<Place<V>>, NoMemory>
+pub fn open_places<V>(alloc: Global, vols: &mut Vec<V>) -> Result<Vec<MemoryPlace<V>>, NoMemory>
     ensures opened { IfOk result (λ places. volumes places.items ≡ vols.old.items) }
     ensures fresh { IfOk result (λ places. AreFresh places.items) }
     ensures emptied { IfOk result (λ places. vols.new.items ≡ []) }

@@ -3,10 +3,11 @@ use Rattle.std.specs.Prelude.{ℕ, Option, None}
 use Rattle.js_model.specs.declared.stream.State.{State}
 use Rattle.js_model.specs.declared.stream.State.TheVariants.{Vacant}
 
--- where a volume stands: its count of faults, and how many of its calls it had answered
+-- where a volume stands: its count of faults, how many of its calls it had answered, and the generation of its log, 0 if nothing is told of these
 pub record VolumeAt : Type 0 where
   pub faults : ℕ
   pub moment : ℕ
+  pub generation : ℕ
 
 -- A place: its stream or none; how many messages count against the blocks of its store; the count of faults of its volume as it stopped, if it
 -- is stopped; and where its volume stands.
@@ -18,7 +19,7 @@ pub record PlaceIn : Type 0 where
 
 -- where a volume stands of which nothing is told
 abbrev pub untold : VolumeAt
-untold = record { faults = 0; moment = 0 }
+untold = record { faults = 0; moment = 0; generation = 0 }
 
 -- a place in memory, whose store has a block for each message
 abbrev pub in_memory : State → PlaceIn

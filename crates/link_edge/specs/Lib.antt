@@ -3,6 +3,7 @@ pub use Rattle.js_base.specs.Causes
 pub mod Takes
 pub mod Gives
 pub mod Accepts
+pub mod Failings
 pub mod Reports
 pub mod Puts
 pub mod Moments

@@ -9,19 +9,21 @@ use Rattle.link_edge.specs.declared.mem_door.Knock.TheVariants as knocks
 use Rattle.link_edge.specs.Reports.{Report}
 use Rattle.link_edge.specs.Calls.{CallState, calls_of, next_fails, with_pass, with_failure}
 use Rattle.link_edge.specs.MemLink.{LinkState, link_of}
+use Rattle.js_base.specs.Causes.{raised}
 
--- who is still to knock, the accepts and their answers, how many links were given out, and which came back
+-- who is still to knock, the accepts and their answers, how many links were given out, which came back, and how many accepts found no memory
 pub record DoorState : Type 0 where
   pub knocks : List Knock
   pub calls : CallState
   pub answered : List Accepted
   pub gave : ℕ
   pub back : List LinkState
+  pub starved : ℕ
 
 -- a door with a script, of whose accepts those with these numbers fail
 abbrev pub door_of : List Knock → List ℕ → DoorState
 door_of knocks failing =
-    record { knocks = knocks; calls = calls_of failing; answered = []; gave = 0; back = [] }
+    record { knocks = knocks; calls = calls_of failing; answered = []; gave = 0; back = []; starved = 0 }
 
 -- whether it is a link that comes
 abbrev pub is_link : Knock → Bool
@@ -30,7 +32,7 @@ is_link knocks.Quiet = false
 
 -- what is known of a link that came back
 abbrev pub report_of : LinkState → Report
-report_of link = record { answered = Some link.answered; given = Some link.given; faults = link.calls.failed }
+report_of link = record { answered = Some link.answered; given = Some link.given; failings = Some link.failings; faults = link.calls.failed }
 
 -- what the script answers next
 abbrev pub next_accept : List Knock → Accept LinkState
@@ -57,7 +59,7 @@ after_knock door answer = record door {
 
 -- the door after an accept that was answered so
 abbrev pub after_accept : DoorState → Accept LinkState → DoorState
-after_accept door accepts.NoMemory = door
+after_accept door accepts.NoMemory = record door { starved = raised door.starved }
 after_accept door accepts.Failed =
     record door { calls = with_failure door.calls; answered = door.answered ++ accepted.Failed ∷ [] }
 after_accept door (accepts.Got link) =

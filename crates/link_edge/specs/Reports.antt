@@ -1,12 +1,15 @@
 -- What is known of the links that a door gave out and took back.
-use Rattle.std.specs.Prelude.{◌≡◌, ℕ, ◌<◌, ◌≤◌, List, length, Option, IfSome}
+use Rattle.std.specs.Prelude.{◌≡◌, ℕ, ◌<◌, ◌≤◌, List, length, Option, option_map, IfSome}
 use Rattle.link_edge.specs.declared.answers.Answer.{Answer}
 use Rattle.link_edge.specs.Told.{emptied}
+use Rattle.link_edge.specs.Failings.{no_failings}
+use Rattle.link_edge.specs.declared.failings.Failings.{Failings}
 
 -- what is known of a link that came back
 pub record Report : Type 0 where
   pub answered : Option (List Answer)
   pub given : Option (List ℕ)
+  pub failings : Option Failings
   pub faults : ℕ
 
 -- if both are known, fewer links came back than were given out
@@ -17,8 +20,9 @@ HasOut gave back = IfSome gave (λ n. IfSome back (λ reports. length reports < 
 abbrev pub IsBalanced : Option ℕ → Option (List Report) → Type 0
 IsBalanced gave back = IfSome gave (λ n. IfSome back (λ reports. length reports ≤ n))
 
--- if it is known, nothing was answered and nothing given, and no fault is counted
-pub record IsFresh (answered : Option (List Answer)) (given : Option (List ℕ)) (faults : ℕ) : Type 0 where
+-- if it is known, nothing was answered and nothing given, nothing failed, and no fault is counted
+pub record IsFresh (answered : Option (List Answer)) (given : Option (List ℕ)) (failings : Option Failings) (faults : ℕ) : Type 0 where
   pub silent : answered ≡ emptied answered
   pub unwritten : given ≡ emptied given
+  pub unfailing : failings ≡ option_map (λ _. no_failings) failings
   pub unfailed : faults ≡ 0

@@ -4,6 +4,7 @@ ghost use Rattle.std.specs.Prelude.{◌≡◌, ◌≤◌, ◌∷◌, [], ℕ, Li
 ghost use Rattle.link_edge.specs.declared.answers.Accepted.{Accepted};
 ghost use Rattle.link_edge.specs.Told.{grown};
 ghost use Rattle.link_edge.specs.Accepts.{IfGot, accepted_of, gave_after};
+ghost use Rattle.link_edge.specs.Failings.{after_accept};
 ghost use Rattle.link_edge.specs.Reports.{Report, HasOut, IsFresh};
 ghost use Rattle.js_base.specs.Causes.{HasCause};
 
@@ -23,16 +24,20 @@ pub trait Door {
     /// What is known of each link that came back so far, if it is known.
     ghost back: { Self → Option (List Report) };
 
+    /// How often an accept found no memory so far, if it is known.
+    ghost starved: { Self → Option ℕ };
+
     /// How often it failed so far.
     ghost faults: { Self → ℕ };
 
     /// Accepts the next connection. A link that is given out is fresh.
     fn accept(&mut self) -> Accept<Self::Link>
         ensures fresh { IfGot result
-            (λ link. IsFresh (Self.Link.answered link) (Self.Link.given link) (Self.Link.faults link)) }
+            (λ link. IsFresh (Self.Link.answered link) (Self.Link.given link) (Self.Link.failings link) (Self.Link.faults link)) }
         ensures answered { answered self.new ≡ grown (answered self.old) (accepted_of result) }
         ensures gave { gave self.new ≡ gave_after (gave self.old) result }
         ensures back { back self.new ≡ back self.old }
+        ensures starved { starved self.new ≡ after_accept result (starved self.old) }
         ensures cause { HasCause (faults self.old) (faults self.new) (result ≡ Accept.Failed) };
 
     /// Takes a link back. It never fails, and takes no memory.
@@ -43,7 +48,9 @@ pub trait Door {
         ensures back { back self.new ≡ grown (back self.old) (record {
           answered = Self.Link.answered link;
           given = Self.Link.given link;
+          failings = Self.Link.failings link;
           faults = Self.Link.faults link;
         } ∷ []) }
+        ensures starved { starved self.new ≡ starved self.old }
         ensures later { faults self.old ≤ faults self.new };
 }

@@ -5,6 +5,8 @@ ghost use Rattle.link_edge.specs.declared.answers.Answer.{Answer};
 ghost use Rattle.link_edge.specs.Told.{grown, Loses};
 ghost use Rattle.link_edge.specs.Takes.{IsTakeWithin, EndsAtEnd, taken_bytes, answers_of};
 ghost use Rattle.link_edge.specs.Gives.{IsGiveWithin, given_bytes};
+ghost use Rattle.link_edge.specs.Failings.{after_take, after_give};
+ghost use Rattle.link_edge.specs.declared.failings.Failings.{Failings};
 ghost use Rattle.js_base.specs.Causes.{HasCause};
 
 use crate::answers::{Give, Take};
@@ -21,6 +23,9 @@ pub trait Link {
     /// The bytes that it was given so far, if they are known.
     ghost given: { Self → Option (List ℕ) };
 
+    /// How often a give failed and how often a call found no memory so far, if it is known.
+    ghost failings: { Self → Option Failings };
+
     /// How often it failed so far.
     ghost faults: { Self → ℕ };
 
@@ -32,6 +37,7 @@ pub trait Link {
         ensures end { EndsAtEnd result (left self.new) }
         ensures answered { answered self.new ≡ grown (answered self.old) (answers_of result into.new) }
         ensures given { given self.new ≡ given self.old }
+        ensures failings { failings self.new ≡ after_take result (failings self.old) }
         ensures cause { HasCause (faults self.old) (faults self.new) (result ≡ Take.Failed) };
 
     /// Gives the bytes, or a prefix of them.
@@ -41,5 +47,6 @@ pub trait Link {
         ensures left { left self.new ≡ left self.old }
         ensures answered { answered self.new ≡ answered self.old }
         ensures given { given self.new ≡ grown (given self.old) (given_bytes result bytes.now) }
+        ensures failings { failings self.new ≡ after_give result (failings self.old) }
         ensures cause { HasCause (faults self.old) (faults self.new) (result ≡ Give.Failed) };
 }

@@ -30,7 +30,7 @@ pub enum Knock {
 
 /// A door that plays a script and then is closed. It remembers what it answered, and keeps the links
 /// that came back. Accepts are numbered from 0, and those with stated numbers fail. One that is answered
-/// `NoMemory` changes nothing and gets no number.
+/// `NoMemory` is counted, changes nothing else and gets no number.
 #[derive(Drop, Debug)]
 pub struct MemDoor {
     alloc: Global,
@@ -39,6 +39,7 @@ pub struct MemDoor {
     answers: List<Accepted>,
     gave: usize,
     back: Vec<MemLink>,
+    starved: u64,
 }
 
 impl Model for MemDoor {
@@ -55,6 +56,7 @@ impl Model for MemDoor {
       answered = s.answers;
       gave = s.gave;
       back = s.back.items;
+      starved = s.starved;
     } };
 
     ghost invariant = { λ s. s.gave + count_by is_link s.knocks.items ≤ vec_capacity s.back };
@@ -121,6 +123,7 @@ impl MemDoor {
             answers: List::new(alloc),
             gave: 0,
             back,
+            starved: 0,
         })
     }
 
@@ -164,6 +167,8 @@ impl Door for MemDoor {
 
     ghost back = { λ s. Some (map report_of s.back) };
 
+    ghost starved = { λ s. Some s.starved };
+
     ghost faults = { λ s. s.calls.failed };
 
     /// Plays the next member of the script, or fails if its number is one of those that fail.
@@ -174,12 +179,14 @@ impl Door for MemDoor {
     {
         if self.calls.next_fails() {
             if self.answers.push(Accepted::Failed).is_err() {
+                self.starved = self.starved.saturating_add(1);
                 return Accept::NoMemory;
             }
             self.calls.fail();
             return Accept::Failed;
         }
         if self.answers.push(next_accepted(&self.knocks)).is_err() {
+            self.starved = self.starved.saturating_add(1);
             return Accept::NoMemory;
         }
         self.calls.pass();

@@ -8,6 +8,7 @@ ghost use Rattle.link_edge.specs.Calls.{next_fails};
 
 use crate::answers::{Answer, Give, Take};
 use crate::calls::Calls;
+use crate::failings::Failings;
 use crate::link::Link;
 use crate::script::{Said, Script};
 use js_base::{List, NoMemory};
@@ -16,7 +17,7 @@ use std::marker::Model;
 
 /// A link that plays a script and then is at its end. It remembers what its takes answered and what it
 /// was given. Takes and gives are numbered together from 0, and those with stated numbers fail. A call
-/// that is answered `NoMemory` changes nothing and gets no number.
+/// that is answered `NoMemory` is counted, changes nothing else and gets no number.
 #[derive(Drop, Debug)]
 pub struct MemLink {
     alloc: Global,
@@ -24,6 +25,7 @@ pub struct MemLink {
     calls: Calls,
     answers: List<Answer>,
     output: Vec<u8>,
+    failings: Failings,
 }
 
 impl Model for MemLink {
@@ -36,6 +38,7 @@ impl Model for MemLink {
       calls = s.calls;
       answered = s.answers;
       given = s.output.items;
+      failings = s.failings;
     } };
 }
 
@@ -59,6 +62,7 @@ impl MemLink {
             calls: Calls::new(failing),
             answers: List::new(alloc),
             output: Vec::new(alloc),
+            failings: Failings::none(),
         }
     }
 
@@ -142,6 +146,8 @@ impl Link for MemLink {
 
     ghost given = { λ s. Some s.given };
 
+    ghost failings = { λ s. Some s.failings };
+
     ghost faults = { λ s. s.calls.failed };
 
     /// Plays the next member of the script, or fails if its number is one of those that fail.
@@ -156,6 +162,7 @@ impl Link for MemLink {
     {
         let take = next_take(&self.calls, &self.script, into);
         if remember(self.alloc, &mut self.answers, take, into).is_err() {
+            self.failings.starve();
             return Take::NoMemory;
         }
         if take == Take::Failed {
@@ -176,9 +183,11 @@ impl Link for MemLink {
     {
         if self.calls.next_fails() {
             self.calls.fail();
+            self.failings.fail_give();
             return Give::Failed;
         }
         if self.output.extend_from_slice(bytes).is_err() {
+            self.failings.starve();
             return Give::NoMemory;
         }
         self.calls.pass();

@@ -53,6 +53,8 @@ impl<R: Read + Drop, W: Write + Drop> Link for PipeLink<R, W> {
 
     ghost given = { λ _. None };
 
+    ghost failings = { λ _. None };
+
     ghost faults = { λ faults. faults };
 
     /// Reads once. It waits for as long as the reader does. A read that was interrupted is `Quiet`.
@@ -117,6 +119,8 @@ impl<R: Read + Drop, W: Write + Drop> Door for PipeDoor<R, W> {
     ghost gave = { λ _. None };
 
     ghost back = { λ _. None };
+
+    ghost starved = { λ _. None };
 
     ghost faults = { λ _. 0 };
 

@@ -13,19 +13,20 @@ use Rattle.place_engine.specs.InMemory.{seen_of, holds_nothing}
 use Rattle.place_engine.specs.Stepping.{Elapses, Rests, Steps}
 
 elapses : (old new : State) → Elapses holds_nothing (seen_of old) (seen_of new)
-elapses old new = record { faults = omega arith; moments = omega arith; goes_on = λ t image le left. absurd left }
+elapses old new = record { faults = omega arith; moments = omega arith; generations = omega arith; goes_on = λ t image le left. absurd left }
 
 -- it is answered
 pub tells : (old : State) (e : Event) (now : ℕ) (reply : Reply) (new : State) (outs : List Out) → e.incarnation ≡ kept_incarnation old
     → PlaceAnswers old e.what now reply new → Steps holds_nothing (Ok reply) e now (seen_of old) (seen_of new) outs outs
 tells old e now reply new outs kept answers = record {
   ends = record {
-    does = record { going = refl; kept = kept; state = sym (ap (λ (a : Answer). a.state) answer); stored = omega arith };
+    does = record { going = refl; kept = kept; state = sym (ap (λ (a : Answer). a.state) answer) };
     goes = refl;
     reply_is = sym (ap (λ (a : Answer). a.reply) answer);
     outs = sym (append-nil outs) ∙ ap (λ (a : Answer). outs ++ a.outs) (sym answer);
     commits = record { firm = λ firm. refl; base = inr refl };
   };
+  stored = omega arith;
   time = elapses old new;
 }
   where
@@ -33,8 +34,8 @@ tells old e now reply new outs kept answers = record {
     answer = answers e.incarnation
 
 rests : (old new : State) (outs : List Out) → new ≡ old → Rests (seen_of old) (seen_of new) outs outs
-rests old new outs same = record { place = ap (λ (s : State). (seen_of s).place) same; base = ap (λ (s : State). (seen_of s).base) same; outs = refl }
+rests old new outs same = record { state = same; stored = refl; stopped = refl; base = ap (λ (s : State). (seen_of s).base) same; outs = refl }
 
 -- memory ran out
 pub starves : (old : State) (e : Event) (now : ℕ) (new : State) (outs : List Out) → new ≡ old → Steps holds_nothing (Err (NoMemory Nothing)) e now (seen_of old) (seen_of new) outs outs
-starves old e now new outs same = record { ends = rests old new outs same; time = elapses old new }
+starves old e now new outs same = record { ends = rests old new outs same; stored = omega arith; time = elapses old new }

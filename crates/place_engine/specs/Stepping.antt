@@ -1,5 +1,5 @@
 -- What a place promises of each step, in memory and on a volume alike.
-use Rattle.std.specs.Prelude.{◌≡◌, ◌≢◌, ◌⊎◌, ◌≤◌, ◌+◌, ℕ, Bool, true, List, ◌++◌, length, Option, None, Some, Result, Ok, Err}
+use Rattle.std.specs.Prelude.{◌≡◌, ◌≢◌, ◌⊎◌, ◌≤◌, ◌+◌, ◌-◌, ◌^◌, ℕ, Bool, true, List, ◌++◌, length, Option, None, Some, Result, Ok, Err}
 use Rattle.js_base.specs.Bytes.{Bytes}
 use Rattle.js_base.specs.Causes.{Rose}
 use Rattle.js_base.specs.declared.out.Out.{Out}
@@ -9,9 +9,9 @@ use Rattle.js_model.specs.declared.event.What.TheVariants.{Tick}
 use Rattle.js_model.specs.declared.reply.Reply.{Reply}
 use Rattle.js_model.specs.Events.{answered, kept_incarnation}
 use Rattle.js_model.specs.Firm.{IsFirmStep}
+use Rattle.js_model.specs.Runs.{is_few, new_messages}
 use Rattle.js_model.specs.Lasting.{lasting}
 use Rattle.js_model.specs.PlaceStates.{PlaceIn}
-use Rattle.js_model.specs.Runs.{is_few, new_messages}
 use Rattle.place_engine.specs.declared.faults.PlaceFault.{PlaceFault}
 use Rattle.place_engine.specs.declared.faults.PlaceFault.TheVariants.{NoMemory, StoreFault, Stopped, Gone, Worn}
 use Rattle.place_engine.specs.declared.faults.Left.TheVariants.{Nothing, Ticked, Unsaid}
@@ -39,33 +39,35 @@ abbrev pub HoldsNow : Option ℕ → State → State → State → Type 0
 HoldsNow None base state d = d ≡ base
 HoldsNow (Some count) base state d = (d ≡ base) ⊎ (d ≡ lasting state)
 
--- between two calls
+-- between two calls; a store has a block for one more message if few count against it
 pub record IsKept (holds : Image → State → Type 0) (s : Seen) : Type 0 where
-  pub free : is_few s.place.stored ≡ true → s.room ≡ true
   pub now : Leaves holds s s.place.volume.moment (HoldsNow s.place.stopped s.base s.place.state)
+  pub free : is_few s.place.stored ≡ true → s.room ≡ true
   pub earlier : (t u : ℕ) (image : Image) → t ≤ u → s.left_since u image → s.left_since t image
 
 -- within a call: a crash leaves what it could leave before, or the base from before, or what outlives a crash of the state after it
 pub record Elapses (holds : Image → State → Type 0) (old new : Seen) : Type 0 where
   pub faults : old.place.volume.faults ≤ new.place.volume.faults
   pub moments : old.place.volume.moment ≤ new.place.volume.moment
+  pub generations : old.place.volume.generation ≤ new.place.volume.generation
   pub goes_on : (t : ℕ) (image : Image) → t ≤ old.place.volume.moment → new.left_since t image
       → old.left_since t image ⊎ ((d : State) × holds image d × ((d ≡ old.base) ⊎ (d ≡ lasting new.place.state)))
 
 -- ---- what became of the event
 
--- all is as it was
+-- all but the volume's moment is as it was
 pub record Rests (old new : Seen) (before after : List Out) : Type 0 where
-  pub place : new.place ≡ old.place
+  pub state : new.place.state ≡ old.place.state
+  pub stored : new.place.stored ≡ old.place.stored
+  pub stopped : new.place.stopped ≡ old.place.stopped
   pub base : new.base ≡ old.base
   pub outs : after ≡ before
 
--- the machine makes the event, whatever is told of it, and no more messages count against the store than it adds
+-- the machine makes the event, whatever is told of it
 pub record Does (event : Event) (now : ℕ) (old new : Seen) : Type 0 where
   pub going : old.place.stopped ≡ None
   pub kept : event.incarnation ≡ kept_incarnation old.place.state
   pub state : new.place.state ≡ (answered old.place.state event now old.room).state
-  pub stored : new.place.stored ≤ old.place.stored + length (new_messages old.place.state new.place.state)
 
 -- a confirmed step is on the volume with all before it; another one may be
 pub record Commits (event : Event) (reply : Reply) (old new : Seen) : Type 0 where
@@ -98,10 +100,16 @@ pub record Breaks (event : Event) (now : ℕ) (old new : Seen) (before after : L
   pub base : new.base ≡ old.base
   pub outs : after ≡ before
 
+-- no call on it changes its volume
+pub record LeavesVolume (old new : Seen) : Type 0 where
+  pub volume : new.place.volume ≡ old.place.volume
+  pub images : (t : ℕ) (image : Image) → new.left_since t image → old.left_since t image
+
 -- the place was stopped before at this count
 pub record IsStopped (count : ℕ) (old new : Seen) (before after : List Out) : Type 0 where
   pub stopped : old.place.stopped ≡ Some count
   pub rests : Rests old new before after
+  pub volume : LeavesVolume old new
 
 -- the place is not stopped, and keeps another incarnation
 pub record IsGone (kept : ℕ) (event : Event) (old new : Seen) (before after : List Out) : Type 0 where
@@ -109,6 +117,12 @@ pub record IsGone (kept : ℕ) (event : Event) (old new : Seen) (before after : 
   pub kept_is : kept ≡ kept_incarnation old.place.state
   pub other : event.incarnation ≢ kept
   pub rests : Rests old new before after
+  pub volume : LeavesVolume old new
+
+-- it is made and told to nobody, since the numbers of the store's generations are used up
+pub record IsWornOut (event : Event) (now : ℕ) (old new : Seen) (before after : List Out) : Type 0 where
+  pub hides : Hides event now old new before after
+  pub last : new.place.volume.generation ≡ 2 ^ 62 - 1
 
 abbrev pub Ends : Result Reply PlaceFault → Event → ℕ → Seen → Seen → List Out → List Out → Type 0
 Ends (Ok reply) event now old new before after = Tells reply event now old new before after
@@ -118,9 +132,10 @@ Ends (Err (NoMemory Unsaid)) event now old new before after = Hides event now ol
 Ends (Err StoreFault) event now old new before after = Breaks event now old new before after
 Ends (Err (Stopped count)) event now old new before after = IsStopped count old new before after
 Ends (Err (Gone kept)) event now old new before after = IsGone kept event old new before after
-Ends (Err Worn) event now old new before after = Hides event now old new before after
+Ends (Err Worn) event now old new before after = IsWornOut event now old new before after
 
 -- what the call came to, and what a crash may have left since it began
 pub record Steps (holds : Image → State → Type 0) (result : Result Reply PlaceFault) (event : Event) (now : ℕ) (old new : Seen) (before after : List Out) : Type 0 where
   pub ends : Ends result event now old new before after
+  pub stored : new.place.stored ≤ old.place.stored + length (new_messages old.place.state new.place.state)
   pub time : Elapses holds old new

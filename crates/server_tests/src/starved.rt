@@ -29,6 +29,8 @@ impl Link for Starved {
 
     ghost given = { λ _. None };
 
+    ghost failings = { λ _. None };
+
     ghost faults = { λ _. 0 };
 
     fn take(&mut self, _into: &mut [u8]) -> Take {
@@ -58,6 +60,8 @@ impl Door for Starved {
     ghost gave = { λ _. None };
 
     ghost back = { λ _. None };
+
+    ghost starved = { λ _. None };
 
     ghost faults = { λ _. 0 };
 

@@ -8,17 +8,26 @@ use Rattle.js_base.specs.Subjects.{is_pattern_text, is_publish_text, is_subject_
 use Rattle.js_base.specs.declared.out.Out.{Out}
 use Rattle.nats_frames.specs.declared.op.Op.{Op}
 use Rattle.nats_frames.specs.declared.op.Op.TheVariants.{Pub, HPub}
-use Rattle.js_api.specs.Desks.{DeskEntry}
-use Rattle.js_api.specs.Clients.{Client}
+use Rattle.js_api.specs.declared.fault.DeskFault.{DeskFault}
+use Rattle.js_api.specs.declared.fault.DeskFault.TheVariants as faults
+use Rattle.js_api.specs.Entries.{DeskEntry}
+use Rattle.js_api.specs.Leading.{Makes}
+use Rattle.js_api.specs.Clients.{Client, client_set}
 use Rattle.js_api.specs.Publishing.{IsMessage}
-use Rattle.js_api.specs.Calls.{DeskCall, DeskAnswer, Sub, Publish, NoMemory, Makes}
+use Rattle.js_api.specs.Answering.{DeskCall, DeskAnswer, Sub, Publish}
+use Rattle.js_api.specs.Calls.{Does}
 use Rattle.session.specs.Manners.{peer_of}
 use Rattle.session.specs.Calling.{Called}
-use Rattle.session.specs.Leading.{Led}
-use Rattle.session.specs.Peer.{Request, Calls, IsWrong, IsRefused, called_bytes, is_reply, message as message_of, op_request, peer_after_op, publishing, subscribing}
+use Rattle.session.specs.Leading.{Cuts, IsAdded}
+use Rattle.session.specs.Stopping.{IsOwnEnd, Asked, Unasked, Declined, EndsInCall, cause_of, end_after}
+use Rattle.session.specs.Peer.{Request, Calls, IsWrong, IsRefused, called_bytes, is_reply, message as message_of, connecting, op_request, peer_after_op, publishing, subscribing}
 use Rattle.session.specs.Talk.{AreAsked, IsAnswered, all_called_bytes, op_answer}
 use Rattle.session.proofs.Led.{one_led}
-use Rattle.session.specs.Asking.{IsUnchecked, said_for, IsAsked, IsUnfinished, Unanswered, Unsaid, Asks}
+use Rattle.session.specs.Asking.{IsUnchecked, ReadsConnect, said_for, IsAsked, Asks}
+use Rattle.session.specs.declared.connect.ConnectOptions.{ConnectOptions}
+use Rattle.session.specs.declared.ending.Ended.{Ended}
+use Rattle.session.specs.declared.ending.Ended.TheVariants as ends
+use Rattle.session.specs.declared.ending.Refusal.{Refusal}
 use Rattle.session.specs.declared.ending.Refusal.TheVariants.{BadHeaders}
 use Rattle.session.specs.declared.manners.Manners.{Manners}
 use Rattle.session.specs.declared.stop.Stop.{Stop}
@@ -46,50 +55,86 @@ is_message message u h =
 
 module _ {D : Type 0} (made : D → List DeskEntry → D → Type 0) (client : Client) where
   -- one call
-  pub asked_call : (old new : D) (call : DeskCall) (answer : DeskAnswer) (verbose : Bool) (a b : Bytes) → IsAnswered answer → Makes made old new client call answer
-      → b ≡ a ++ called_bytes verbose answer → IsAsked made client (Calls call) (all_called_bytes verbose) old new a b
+  pub asked_call : (old new : D) (call : DeskCall) (answer : Result DeskAnswer DeskFault) (verbose : Bool) (a b : Bytes) → IsAnswered call answer
+      → Makes made (Does client call answer) old new → b ≡ a ++ called_bytes verbose answer → IsAsked made client (Calls call) (all_called_bytes verbose) old new a b
   asked_call old new call answer verbose a b ok m w =
       let called : Called = record { call = call; answer = answer; entries = m.entries } in
       record {
         calls = called ∷ [];
-        asked = (called, refl, refl, ok, m.does);
+        asked = (called, refl, refl, ok, m.are);
         led = one_led made old new m.entries m.led;
         written = w ∙ ap (λ (bytes : Bytes). a ++ bytes) (sym (append-nil (called_bytes verbose answer)));
       }
 
-  pub asked_as : (old new : D) (request : Request) (call : DeskCall) (answer : DeskAnswer) (verbose : Bool) (a b : Bytes) → request ≡ Calls call → IsAnswered answer
-      → Makes made old new client call answer → b ≡ a ++ called_bytes verbose answer → IsAsked made client request (all_called_bytes verbose) old new a b
+  pub asked_as : (old new : D) (request : Request) (call : DeskCall) (answer : Result DeskAnswer DeskFault) (verbose : Bool) (a b : Bytes) → request ≡ Calls call
+      → IsAnswered call answer → Makes made (Does client call answer) old new → b ≡ a ++ called_bytes verbose answer
+      → IsAsked made client request (all_called_bytes verbose) old new a b
   asked_as old new request call answer verbose a b e ok m w =
       subst (λ (r : Request). IsAsked made client r (all_called_bytes verbose) old new a b) (sym e) (asked_call old new call answer verbose a b ok m w)
 
-  pub asked_one : (old new : D) (request : Request) (call : DeskCall) (answer : DeskAnswer) (verbose : Bool) (a b : Bytes) → request ≡ Calls call → IsAnswered answer
-      → Makes made old new client call answer → b ≡ a ++ called_bytes verbose answer → IsAsked made client request (said_for verbose request) old new a b
+  pub asked_one : (old new : D) (request : Request) (call : DeskCall) (answer : Result DeskAnswer DeskFault) (verbose : Bool) (a b : Bytes) → request ≡ Calls call
+      → IsAnswered call answer → Makes made (Does client call answer) old new → b ≡ a ++ called_bytes verbose answer
+      → IsAsked made client request (said_for verbose request) old new a b
   asked_one old new request call answer verbose a b e ok m w =
       subst (λ (r : Request). IsAsked made client r (said_for verbose r) old new a b) (sym e) (asked_call old new call answer verbose a b ok m w)
 
-  -- ---- memory ran out
+  -- ---- the session ends there
 
-  pub finished : (request : Request) (said : List Called → Bytes) (old new : D) (a b : Bytes) (result : Result (Unit {0}) Stop) → IsErrAnd result (λ stop. stop ≡ stops.NoMemory)
-      → Led made old new (IsUnfinished client request) → Asks made client request said old new a b result
-  finished request said old new a b (Ok x) e h = absurd e
-  finished request said old new a b (Err stop) e h = subst (λ (s : Stop). Asks made client request said old new a b (Err s)) (sym e) h
+  -- it ended so
+  abbrev CutsOff : Request → Ended → D → D → Bytes → Bytes → Type 0
+  CutsOff request cause old new a b = Cuts made cause old new a b (EndsInCall client request cause)
 
-  -- in the call
-  pub unanswered : (old new : D) (request : Request) (call : DeskCall) → request ≡ Calls call → Makes made old new client call NoMemory → Led made old new (IsUnfinished client request)
-  unanswered old new request call e m =
-      let called : Called = record { call = call; answer = NoMemory; entries = m.entries } in
-      record { calls = called ∷ []; are = Unanswered called refl e refl m.does; led = one_led made old new m.entries m.led }
-
-  -- for what is said
-  pub unsaid : (old new : D) (request : Request) (call : DeskCall) (answer : DeskAnswer) → request ≡ Calls call → IsAnswered answer → Makes made old new client call answer
-      → Led made old new (IsUnfinished client request)
-  unsaid old new request call answer e ok m =
+  -- in the call, or for what is said after it
+  pub asked_last : (cause : Ended) (old new : D) (a b : Bytes) (request : Request) (call : DeskCall) (answer : Result DeskAnswer DeskFault)
+      → request ≡ Calls call → Makes made (Does client call answer) old new → cause ≡ end_after answer → IsAdded cause b a → CutsOff request cause old new a b
+  asked_last cause old new a b request call answer r m e w =
       let called : Called = record { call = call; answer = answer; entries = m.entries } in
       record {
         calls = called ∷ [];
-        are = Unsaid (subst (λ (r : Request). AreAsked client r (called ∷ [])) (sym e) (called, refl, refl, ok, m.does));
+        said = [];
+        are = (Asked called r (record { made = m.are; cause_is = e }) refl, refl);
         led = one_led made old new m.entries m.led;
+        added = λ n. w n ∙ sym (append-nil a);
       }
+
+  -- the call was answered, and memory ran out for what is said
+  pub unsaid : (old new : D) (a b : Bytes) (request : Request) (call : DeskCall) (answer : Result DeskAnswer DeskFault)
+      → request ≡ Calls call → Makes made (Does client call answer) old new → ends.NoMemory ≡ end_after answer → CutsOff request ends.NoMemory old new a b
+  unsaid old new a b request call answer r m e = asked_last ends.NoMemory old new a b request call answer r m e (λ n. cc)
+
+  -- nothing was asked
+  pub declined : (refusal : Refusal) (old : D) (a : Bytes) (request : Request) → request ≡ IsRefused refusal → made old [] old
+      → CutsOff request (ends.Refused refusal) old old a a
+  declined refusal old a request r h = record {
+    calls = [];
+    said = [];
+    are = (Declined refusal r refl refl, refl);
+    led = h;
+    added = λ n. sym (append-nil a);
+  }
+
+  pub unasked : (old : D) (a b : Bytes) (request : Request) → made old [] old → CutsOff request ends.NoMemory old old a b
+  unasked old a b request h = record { calls = []; said = []; are = (Unasked refl refl, refl); led = h; added = λ n. cc }
+
+  -- a CONNECT is refused for its text, or memory ran out as it was read
+  pub unread : (stop : Stop) (found : Option ConnectOptions) (old : D) (a : Bytes) → ReadsConnect (Err stop) found → made old [] old
+      → CutsOff (connecting found) (cause_of stop) old old a a
+  unread (stops.Refused refusal) found old a r h = declined refusal old a (connecting found) (ap connecting r.1 ∙ sym (ap IsRefused r.0)) h
+  unread (stops.Slow size) found old a r h = absurd r
+  unread stops.NoMemory found old a r h = unasked old a a (connecting found) h
+
+  -- ---- the stop is told
+
+  pub stopped_as : (request : Request) (said : List Called → Bytes) (old new : D) (a b : Bytes) (result : Result (Unit {0}) Stop) (stop : Stop)
+      → IsErrAnd result (λ (other : Stop). other ≡ stop) → CutsOff request (cause_of stop) old new a b → Asks made client request said old new a b result
+  stopped_as request said old new a b (Ok x) stop e h = absurd e
+  stopped_as request said old new a b (Err other) stop e h = subst (λ (s : Stop). CutsOff request (cause_of s) old new a b) (sym e) h
+
+  pub stopped_by : (request : Request) (said : List Called → Bytes) (old new : D) (a b : Bytes) (result : Result (Unit {0}) Stop) (call : DeskCall) (answer : Result DeskAnswer DeskFault)
+      → IsErrAnd result (λ (stop : Stop). cause_of stop ≡ end_after answer) → request ≡ Calls call → Makes made (Does client call answer) old new → b ≡ a
+      → Asks made client request said old new a b result
+  stopped_by request said old new a b (Ok x) call answer e r m w = absurd e
+  stopped_by request said old new a b (Err stop) call answer e r m w = asked_last (cause_of stop) old new a b request call answer r m e (λ n. w)
 
 -- ---- a publish
 

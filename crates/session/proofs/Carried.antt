@@ -1,46 +1,45 @@
 -- Laws of an operation or a tick that is carried out.
-use Rattle.std.proofs.Common.{◌≡◌, ℕ, List, [], ◌∷◌, ◌++◌, Result, Ok, Err, refl, sym, ap, subst, ◌∙◌, append_assoc}
+use Rattle.std.proofs.Common.{◌≡◌, ℕ, false, Bool, true, List, [], ◌∷◌, ◌++◌, cond, Result, Ok, Err, refl, sym, ap, subst, ◌∙◌, append_assoc}
 use Rattle.std.proofs.lemmas.List.{append-nil}
 use Rattle.js_base.specs.Bytes.{Bytes}
-use Rattle.js_api.specs.Desks.{DeskEntry}
+use Rattle.js_api.specs.declared.fault.DeskFault.{DeskFault}
+use Rattle.js_api.specs.Entries.{DeskEntry}
+use Rattle.js_api.specs.Leading.{Makes}
 use Rattle.js_api.specs.Clients.{Client}
-use Rattle.js_api.specs.Calls.{Tick, Done, NoMemory, Slow, Makes}
+use Rattle.js_api.specs.Answering.{DeskAnswer, Tick, Done}
+use Rattle.js_api.specs.Calls.{Does}
 use Rattle.session.specs.Calling.{Called, entries_of_calls}
-use Rattle.session.specs.Gathering.{AreGathered, IsBeforeCollect, IsAnsweredBy, Uncollected, collected}
-use Rattle.session.specs.Leading.{Adds}
+use Rattle.session.specs.Gathering.{AreGathered, IsGathering, collected}
+use Rattle.session.specs.Leading.{Adds, Cuts, IsAdded}
+use Rattle.session.specs.Stopping.{Asked, IsCutBy, cause_of, end_after, is_starved, still_written}
 use Rattle.session.specs.Manners.{peer_of}
 use Rattle.session.specs.Peer.{Act, Ticks, Peer, peer_after, request}
-use Rattle.session.specs.Talk.{IsBegun, Unasked as BegunUnasked, Unanswered as BegunUnanswered, Ungathered, direct_answer}
-use Rattle.session.specs.Asking.{Asks, IsAsked, IsUnfinished, Unasked, Unanswered, Unsaid}
-use Rattle.session.specs.Settling.{IsGatheringSlowed, Gathers}
-use Rattle.session.specs.Carrying.{IsCarried, IsSlow, Carries}
+use Rattle.session.specs.Talk.{IsStopped, InCall, InGathering, direct_answer}
+use Rattle.session.specs.Asking.{Asks, IsAsked}
+use Rattle.session.specs.Settling.{Gathers}
+use Rattle.session.specs.Carrying.{IsCarried, Carries}
 use Rattle.session.proofs.Led.{both_led, one_led}
-use Rattle.session.proofs.Collected.{slow_collected}
+use Rattle.session.specs.declared.ending.Ended.{Ended}
 use Rattle.session.specs.declared.manners.Manners.{Manners}
 use Rattle.session.specs.declared.stop.Stop.{Stop}
-use Rattle.session.specs.declared.stop.Stop.TheVariants as stops
 
 -- what is said for the operation itself
 abbrev said_by : Peer → ℕ → Act → List Called → Bytes
 said_by peer now act = direct_answer (peer_after peer act).verbose (request now act) act
 
--- an operation that was not asked to its end was begun
-begun : (peer : Peer) (now : ℕ) (act : Act) (calls : List Called) → IsUnfinished peer.client (request now act) calls → IsBegun peer now act calls
-begun peer now act calls (Unasked e) = BegunUnasked e
-begun peer now act calls (Unanswered called e f g m) = BegunUnanswered called e f g m
-begun peer now act calls (Unsaid asked) = Ungathered calls [] (sym (append-nil calls)) asked (Uncollected refl)
-
 -- the direct answer, and then what was gathered
 both_written : (a b c said more : Bytes) → b ≡ a ++ said → c ≡ b ++ more → c ≡ a ++ (said ++ more)
 both_written a b c said more e f = f ∙ ap (λ (bytes : Bytes). bytes ++ more) e ∙ append_assoc a said more
+
+-- unless memory ran out, what was said is still written
+written_still : (cause : Ended) (said : Bytes) → is_starved cause ≡ false → still_written cause said ≡ said
+written_still cause said n = ap (λ (b : Bool). cond b [] said) n
 
 module _ {D : Type 0} (made : D → List DeskEntry → D → Type 0) (peer : Peer) (now : ℕ) (act : Act) where
   -- the operation ended the session before anything was gathered
   pub carries_stop : (old new : D) (a b : Bytes) (stop : Stop) → Asks made peer.client (request now act) (said_by peer now act) old new a b (Err stop)
       → Carries made peer now act old new a b (Err stop)
-  carries_stop old new a b (stops.Refused refusal) h = record { refused = h.refused; led = h.led; written = h.written }
-  carries_stop old new a b (stops.Slow size) h = absurd h
-  carries_stop old new a b stops.NoMemory h = record { calls = h.calls; are = begun peer now act h.calls h.are; led = h.led }
+  carries_stop old new a b stop h = record { calls = h.calls; said = h.said; are = InCall h.are; led = h.led; added = h.added }
 
 module _ {D : Type 0} (made : D → List DeskEntry → D → Type 0) (more_led : (a b c : D) (xs ys : List DeskEntry) → made a xs b → made b ys c → made a (xs ++ ys) c)
     (peer : Peer) (now : ℕ) (act : Act) where
@@ -57,41 +56,23 @@ module _ {D : Type 0} (made : D → List DeskEntry → D → Type 0) (more_led :
     written = both_written a b c (said_by peer now act h.calls) (collected k.calls) h.written k.written;
   }
 
-  slow_at : (old mid new : D) (a b c : Bytes) (size : ℕ) → IsAsked made peer.client (request now act) (said_by peer now act) old mid a b
-      → (calls front : List Called) (last : Called) → calls ≡ front ++ last ∷ [] → IsBeforeCollect after now front → IsAnsweredBy after (Slow size) last
-      → made mid (entries_of_calls calls) new → c ≡ b ++ collected calls → IsSlow made size peer now act old new a c
-  slow_at old mid new a b c size h calls front last e before slow led w = record {
-    calls = h.calls ++ calls;
-    said = said_by peer now act h.calls ++ collected front;
-    slowed = record {
-      asked = h.calls;
-      front = front;
-      slow = last;
-      calls_are = ap (λ (xs : List Called). h.calls ++ xs) e;
-      are_asked = h.asked;
-      before = before;
-      is_slow = slow;
-      said_is = refl;
-    };
-    led = both_led made more_led old mid new h.calls calls h.led led;
-    written = both_written a b c (said_by peer now act h.calls) (collected front) h.written
-        (w ∙ ap (λ (bytes : Bytes). b ++ bytes) (slow_collected after size calls front last e slow));
-  }
-
-  slow : (old mid new : D) (a b c : Bytes) (size : ℕ) → IsAsked made peer.client (request now act) (said_by peer now act) old mid a b
-      → Adds made mid new b c (IsGatheringSlowed after now size) → IsSlow made size peer now act old new a c
-  slow old mid new a b c size h k = slow_at old mid new a b c size h k.calls k.are.0 k.are.1 k.are.2 k.are.3 k.are.4 k.led k.written
+  -- the session ends as what waits is gathered
+  gathering_ends : (cause : Ended) (old mid new : D) (a b c : Bytes) → IsAsked made peer.client (request now act) (said_by peer now act) old mid a b
+      → Cuts made cause mid new b c (IsCutBy (IsGathering after now) after cause) → Cuts made cause old new a c (IsStopped peer now act cause)
+  gathering_ends cause old mid new a b c h k =
+      let all : Bytes = said_by peer now act h.calls ++ k.said in
+      record {
+        calls = h.calls ++ k.calls;
+        said = still_written cause all;
+        are = InGathering h.calls k.calls k.said refl h.asked k.are refl;
+        led = both_led made more_led old mid new h.calls k.calls h.led k.led;
+        added = λ n. both_written a b c (said_by peer now act h.calls) k.said h.written (k.added n) ∙ ap (λ (bytes : Bytes). a ++ bytes) (sym (written_still cause all n));
+      }
 
   by_result : (old mid new : D) (a b c : Bytes) (result : Result (Unit {0}) Stop) → IsAsked made peer.client (request now act) (said_by peer now act) old mid a b
       → Gathers made after now mid new b c result → Carries made peer now act old new a c result
   by_result old mid new a b c (Ok x) h k = carried old mid new a b c h k
-  by_result old mid new a b c (Err (stops.Refused refusal)) h k = absurd k
-  by_result old mid new a b c (Err (stops.Slow size)) h k = slow old mid new a b c size h k
-  by_result old mid new a b c (Err stops.NoMemory) h k = record {
-    calls = h.calls ++ k.calls;
-    are = Ungathered h.calls k.calls refl h.asked k.are;
-    led = both_led made more_led old mid new h.calls k.calls h.led k.led;
-  }
+  by_result old mid new a b c (Err stop) h k = gathering_ends (cause_of stop) old mid new a b c h k
 
   -- it was asked, and then what waits was gathered
   pub carries : (old mid new : D) (a b c : Bytes) (result : Result (Unit {0}) Stop) (client : Client) (manners : Manners)
@@ -103,21 +84,28 @@ module _ {D : Type 0} (made : D → List DeskEntry → D → Type 0) (more_led :
 -- ---- a tick
 
 module _ {D : Type 0} (made : D → List DeskEntry → D → Type 0) (client : Client) (now : ℕ) (manners : Manners) where
-  tick_asked : (old mid : D) (a : Bytes) → Makes made old mid client (Tick now) Done
+  tick_asked : (old mid : D) (a : Bytes) → Makes made (Does client (Tick now) (Ok Done)) old mid
       → IsAsked made client (request now Ticks) (said_by (peer_of client manners) now Ticks) old mid a a
   tick_asked old mid a m =
-      let called : Called = record { call = Tick now; answer = Done; entries = m.entries } in
-      record { calls = called ∷ []; asked = (called, refl, refl, tt, m.does); led = one_led made old mid m.entries m.led; written = sym (append-nil a) }
+      let called : Called = record { call = Tick now; answer = Ok Done; entries = m.entries } in
+      record { calls = called ∷ []; asked = (called, refl, refl, tt, m.are); led = one_led made old mid m.entries m.led; written = sym (append-nil a) }
 
-  -- there was no memory for the tick
-  pub tick_failed : (old new : D) (a b : Bytes) → Makes made old new client (Tick now) NoMemory → Carries made (peer_of client manners) now Ticks old new a b (Err stops.NoMemory)
-  tick_failed old new a b m =
-      let called : Called = record { call = Tick now; answer = NoMemory; entries = m.entries } in
-      record { calls = called ∷ []; are = BegunUnanswered called refl refl refl m.does; led = one_led made old new m.entries m.led }
+  -- the session ends for the answer of the tick
+  pub tick_ends : (stop : Stop) (old new : D) (a : Bytes) (answer : Result DeskAnswer DeskFault) → Makes made (Does client (Tick now) answer) old new
+      → cause_of stop ≡ end_after answer → Carries made (peer_of client manners) now Ticks old new a a (Err stop)
+  tick_ends stop old new a answer m e =
+      let called : Called = record { call = Tick now; answer = answer; entries = m.entries } in
+      record {
+        calls = called ∷ [];
+        said = [];
+        are = InCall (Asked called refl (record { made = m.are; cause_is = e }) refl, refl);
+        led = one_led made old new m.entries m.led;
+        added = λ n. sym (append-nil a);
+      }
 
 -- time passed, and then what waits was gathered
 pub tick_carries : {D : Type 0} (made : D → List DeskEntry → D → Type 0) (more_led : (a b c : D) (xs ys : List DeskEntry) → made a xs b → made b ys c → made a (xs ++ ys) c)
-    (client other : Client) (now : ℕ) (manners : Manners) (old mid new : D) (a b : Bytes) (result : Result (Unit {0}) Stop) → Makes made old mid client (Tick now) Done
+    (client other : Client) (now : ℕ) (manners : Manners) (old mid new : D) (a b : Bytes) (result : Result (Unit {0}) Stop) → Makes made (Does client (Tick now) (Ok Done)) old mid
     → other ≡ client → Gathers made other now mid new a b result → Carries made (peer_of client manners) now Ticks old new a b result
 tick_carries made more_led client other now manners old mid new a b result m e k =
     carries made more_led (peer_of client manners) now Ticks old mid new a a b result other manners (tick_asked made client now manners old mid a m)

@@ -1,54 +1,41 @@
 -- Laws of collects, one after the other.
-use Rattle.std.proofs.Common.{◌≡◌, ℕ, Bool, true, false, List, [], ◌∷◌, ◌++◌, Err, refl, sym, ap, subst, ◌∙◌, inl, inr}
+use Rattle.std.proofs.Common.{◌≡◌, ℕ, Bool, true, false, List, [], ◌∷◌, ◌++◌, Result, Ok, Err, refl, sym, ap, subst, ◌∙◌}
 use Rattle.std.proofs.lemmas.List.{append-nil}
 use Rattle.js_base.specs.Bytes.{Bytes}
 use Rattle.js_base.specs.declared.frame.Frame.{Frame}
-use Rattle.js_api.specs.Desks.{DeskEntry}
+use Rattle.js_api.specs.declared.fault.DeskFault.{DeskFault}
+use Rattle.js_api.specs.Entries.{DeskEntry}
+use Rattle.js_api.specs.Leading.{Makes}
 use Rattle.js_api.specs.Clients.{Client}
-use Rattle.js_api.specs.Calls.{Collect, Gave, Slow, NoMemory, Makes}
+use Rattle.js_api.specs.Answering.{DeskCall, DeskAnswer, Collect, Gave, Slow}
+use Rattle.js_api.specs.Calls.{Does}
 use Rattle.session.specs.Calling.{Called}
-use Rattle.session.specs.Gathering.{IsCollect, AreCollecting, AreCollects, IsAnsweredBy, FindsNoMemory, collected, frames, given_by}
-use Rattle.session.specs.Leading.{Led, Adds}
-use Rattle.session.specs.Collecting.{GivesFrames, TellsSlow, StopsThere, CollectsOnce, AreSlowed, AreStarved, Collects}
-use Rattle.session.proofs.Led.{IsOne, then_one, one_led, adds_one, adds_none, adds_on, led_on, collected-append}
+use Rattle.session.specs.Gathering.{IsCollect, IsCollectCall, AreCollecting, AreCollects, collected, frames, given_by}
+use Rattle.session.specs.Leading.{Adds, Cuts, IsAdded}
+use Rattle.session.specs.Stopping.{IsCutBy, cause_of, end_after}
+use Rattle.session.specs.Collecting.{GivesFrames, CollectsOnce, IsFirstCollect, IsNextCollect, Collects}
+use Rattle.session.proofs.Led.{IsOne, cut_on, cut_one, adds_one, adds_none, adds_on}
+use Rattle.session.specs.declared.ending.Ended.{Ended}
 use Rattle.session.specs.declared.stop.Stop.{Stop}
-use Rattle.session.specs.declared.stop.Stop.TheVariants as stops
 
 -- ---- one collect
 
 module _ {D : Type 0} (made : D → List DeskEntry → D → Type 0) (client : Client) where
-  pub gives_frames : (old new : D) (a b : Bytes) (max : ℕ) (list : List Frame) (more : Bool) → Makes made old new client (Collect max) (Gave list more) → b ≡ a ++ frames list
-      → GivesFrames made client more old new a b
+  pub gives_frames : (old new : D) (a b : Bytes) (max : ℕ) (list : List Frame) (more : Bool) → Makes made (Does client (Collect max) (Ok (Gave list more))) old new
+      → b ≡ a ++ frames list → GivesFrames made client more old new a b
   gives_frames old new a b max list more m w = record {
-    called = record { call = Collect max; answer = Gave list more; entries = m.entries };
-    collect = record { max = max; list = list; call_is = refl; answer_is = refl; made = m.does };
+    called = record { call = Collect max; answer = Ok (Gave list more); entries = m.entries };
+    collect = record { max = max; list = list; call_is = refl; answer_is = refl; made = m.are };
     led = m.led;
     written = w;
   }
 
-  pub tells_slow : (old new : D) (a : Bytes) (max size : ℕ) → Makes made old new client (Collect max) (Slow size) → TellsSlow made client size old new a a
-  tells_slow old new a max size m = record {
-    called = record { call = Collect max; answer = Slow size; entries = m.entries };
-    slow = record { max = max; call_is = refl; answer_is = refl; made = m.does };
-    led = m.led;
-    written = refl;
-  }
-
-  -- there was no memory for the bytes
-  pub stops_unwritten : (old new : D) (max : ℕ) (list : List Frame) (more : Bool) → Makes made old new client (Collect max) (Gave list more) → StopsThere made client old new
-  stops_unwritten old new max list more m = record {
-    called = record { call = Collect max; answer = Gave list more; entries = m.entries };
-    stopped = inl (more, record { max = max; list = list; call_is = refl; answer_is = refl; made = m.does });
-    led = m.led;
-  }
-
-  -- there was none for the collect
-  pub stops_failed : (old new : D) (max : ℕ) → Makes made old new client (Collect max) NoMemory → StopsThere made client old new
-  stops_failed old new max m = record {
-    called = record { call = Collect max; answer = NoMemory; entries = m.entries };
-    stopped = inr (record { max = max; call_is = refl; answer_is = refl; made = m.does });
-    led = m.led;
-  }
+  -- the session ends for its answer
+  pub collect_ends : (stop : Stop) (old new : D) (a b : Bytes) (max : ℕ) (answer : Result DeskAnswer DeskFault) → Makes made (Does client (Collect max) answer) old new
+      → cause_of stop ≡ end_after answer → IsAdded (cause_of stop) b a → CollectsOnce made client old new a b (Err stop)
+  collect_ends stop old new a b max answer m e w =
+      cut_one made IsFirstCollect client (cause_of stop) old new a b (record { call = Collect max; answer = answer; entries = m.entries }) (refl, max, refl)
+      (record { made = m.are; cause_is = e }) m.led w
 
 -- ---- one after the other
 
@@ -60,9 +47,12 @@ collecting_one : (client : Client) (calls more : List Called) → AreCollecting 
 collecting_one client calls more h k =
     subst (λ (xs : List Called). AreCollecting client (calls ++ xs)) (sym k.1) (collecting_push client calls k.0 h k.2)
 
--- a collect that told that the session is slow gave nothing
-pub slow_gives : (client : Client) (size : ℕ) (called : Called) → IsAnsweredBy client (Slow size) called → given_by called.answer ≡ []
-slow_gives client size called h = ap given_by h.answer_is
+collects_one : (client : Client) (calls more : List Called) → AreCollecting client calls → IsOne (IsCollect client false) more → AreCollects client (calls ++ more)
+collects_one client calls more h k = (calls, k.0, ap (λ (xs : List Called). calls ++ xs) k.1, h, k.2)
+
+next_collect : (client : Client) (calls before : List Called) (call : DeskCall) → AreCollecting client calls → IsFirstCollect before call → IsNextCollect client (calls ++ before) call
+next_collect client calls before call h k =
+    (subst (λ (xs : List Called). AreCollecting client xs) (sym (ap (λ (xs : List Called). calls ++ xs) k.0 ∙ append-nil calls)) h, k.1)
 
 pub collecting_first : {D : Type 0} (made : D → List DeskEntry → D → Type 0) (client : Client) (old : D) (out : Bytes) → made old [] old
     → Adds made old old out out (AreCollecting client)
@@ -82,34 +72,11 @@ module _ {D : Type 0} (made : D → List DeskEntry → D → Type 0) (more_led :
   pub collecting_last : (old mid new : D) (a b c : Bytes) → Adds made old mid a b (AreCollecting client) → GivesFrames made client false mid new b c
       → Adds made old new a c (AreCollects client)
   collecting_last old mid new a b c h k =
-      adds_on made more_led old mid new a b c (AreCollecting client) (IsOne (IsCollect client false)) (AreCollects client)
-      (then_one (AreCollecting client) (IsCollect client false)) h (gave false mid new b c k)
-
-  slowed : (size : ℕ) (mid new : D) (b c : Bytes) → TellsSlow made client size mid new b c → Adds made mid new b c (IsOne (IsAnsweredBy client (Slow size)))
-  slowed size mid new b c k =
-      adds_one made mid new b c (IsAnsweredBy client (Slow size)) k.called k.slow k.led
-      (k.written ∙ sym (append-nil b) ∙ ap (λ (bytes : Bytes). b ++ bytes) (sym (slow_gives client size k.called k.slow)))
-
-  starved : (mid new : D) → StopsThere made client mid new → Led made mid new (IsOne (FindsNoMemory client))
-  starved mid new k = record { calls = k.called ∷ []; are = (k.called, refl, k.stopped); led = one_led made mid new k.called.entries k.led }
-
-  stop_here : (old mid new : D) (a b c : Bytes) (stop : Stop) → Adds made old mid a b (AreCollecting client) → CollectsOnce made client mid new b c (Err stop)
-      → Collects made client old new a c (Err stop)
-  stop_here old mid new a b c (stops.Refused refusal) h k = k
-  stop_here old mid new a b c (stops.Slow size) h k =
-      adds_on made more_led old mid new a b c (AreCollecting client) (IsOne (IsAnsweredBy client (Slow size))) (AreSlowed client size)
-      (then_one (AreCollecting client) (IsAnsweredBy client (Slow size))) h (slowed size mid new b c k)
-  stop_here old mid new a b c stops.NoMemory h k =
-      led_on made more_led old mid new a b (AreCollecting client) (IsOne (FindsNoMemory client)) (AreStarved client)
-      (then_one (AreCollecting client) (FindsNoMemory client)) h (starved mid new k)
+      adds_on made more_led old mid new a b c (AreCollecting client) (IsOne (IsCollect client false)) (AreCollects client) (collects_one client) h (gave false mid new b c k)
 
   -- the session ends there
   pub collecting_stop : (old mid new : D) (a b c : Bytes) (stop : Stop) (other : Client) → Adds made old mid a b (AreCollecting client) → other ≡ client
       → CollectsOnce made other mid new b c (Err stop) → Collects made client old new a c (Err stop)
   collecting_stop old mid new a b c stop other h e k =
-      stop_here old mid new a b c stop h (subst (λ (one : Client). CollectsOnce made one mid new b c (Err stop)) e k)
-
--- what was collected before one that told that the session is slow
-pub slow_collected : (client : Client) (size : ℕ) (calls front : List Called) (last : Called) → calls ≡ front ++ last ∷ [] → IsAnsweredBy client (Slow size) last → collected calls ≡ collected front
-slow_collected client size calls front last e h =
-    ap collected e ∙ collected-append front (last ∷ []) ∙ ap (λ (bytes : Bytes). collected front ++ (bytes ++ [])) (slow_gives client size last h) ∙ append-nil (collected front)
+      cut_on made more_led client (cause_of stop) (AreCollecting client) IsFirstCollect (IsNextCollect client) old mid new a b c (next_collect client) h
+      (subst (λ (one : Client). CollectsOnce made one mid new b c (Err stop)) e k)

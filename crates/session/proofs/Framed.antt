@@ -1,11 +1,10 @@
 -- Laws of frames that were not written: each has a byte.
 use Rattle.std.proofs.Common.{◌≡◌, ℕ, true, is_some, [], ◌∷◌, ◌++◌, Option, Some, None, refl}
-use Rattle.std.proofs.lemmas.List.{append-nil}
 use Rattle.js_base.specs.Bytes.{Bytes}
 use Rattle.js_base.specs.Framing.{frame}
 use Rattle.js_base.specs.declared.frame.Frame.{Frame}
 use Rattle.js_base.specs.declared.frame.Frame.TheVariants.{Info, Msg, Ping, Pong, Ok as Fine, Err as Error}
-use Rattle.session.specs.Talk.{IsCutOff, IsWritten, greeting, last_line, last_text, line_of}
+use Rattle.session.specs.Talk.{IsCutOff, IsWritten, greeting, last_line, last_text, line_of, is_parting}
 use Rattle.session.specs.declared.ending.Limits.{Limits}
 use Rattle.session.specs.declared.ending.Ended.{Ended}
 use Rattle.session.specs.declared.ending.Ended.TheVariants as ends
@@ -32,12 +31,12 @@ pub line_cut : (cause : Ended) (bytes : Bytes) → is_some (last_text cause) ≡
 line_cut cause [] h = text_cut (last_text cause) h
 line_cut cause (byte ∷ bytes) h = (byte, bytes ++ last_line cause, refl)
 
--- an end that has an error line is no failed writing
-pub line_written : (cause : Ended) (bytes : Bytes) → is_some (last_text cause) ≡ true → IsWritten cause bytes bytes
-line_written ends.Closed bytes h = refl
-line_written (ends.Refused refusal) bytes h = refl
-line_written (ends.Slow size) bytes h = refl
-line_written ends.Stale bytes h = refl
-line_written ends.LinkFault bytes h = cc
-line_written ends.InputLimit bytes h = refl
-line_written ends.NoMemory bytes h = ([], append-nil bytes)
+-- an end at which the session parts is no failed writing
+pub parting_written : (cause : Ended) (bytes : Bytes) → is_parting cause ≡ true → IsWritten cause bytes bytes
+parting_written ends.Closed bytes h = refl
+parting_written (ends.Refused refusal) bytes h = refl
+parting_written (ends.Slow size) bytes h = refl
+parting_written ends.Stale bytes h = refl
+parting_written ends.LinkFault bytes h = cc
+parting_written ends.InputLimit bytes h = refl
+parting_written ends.NoMemory bytes h = cc

@@ -1,66 +1,63 @@
 -- Laws of a gathering: its rounds, one after the other.
-use Rattle.std.proofs.Common.{◌≡◌, ◌<◌, ℕ, ◌+◌, Bool, true, false, List, [], ◌∷◌, ◌++◌, length, Err, refl, sym, ap, subst, ◌∙◌, append_assoc, inl, inr, arith, length-append}
+use Rattle.std.proofs.Common.{◌≡◌, ◌<◌, ℕ, ◌+◌, Bool, true, false, List, [], ◌∷◌, ◌++◌, length, Result, Ok, Err, refl, sym, ap, subst, ◌∙◌, append_assoc, inl, inr, arith, length-append}
 use Rattle.std.proofs.lemmas.List.{append-nil}
 use Rattle.std.proofs.lemmas.Grind.{flat_map-append}
 use Rattle.js_base.specs.Bytes.{Bytes}
-use Rattle.js_api.specs.Desks.{DeskEntry}
+use Rattle.js_api.specs.declared.fault.DeskFault.{DeskFault}
+use Rattle.js_api.specs.Entries.{DeskEntry}
+use Rattle.js_api.specs.Leading.{Makes}
 use Rattle.js_api.specs.Clients.{Client}
-use Rattle.js_api.specs.Calls.{Settle, Settled, NoMemory, Makes}
+use Rattle.js_api.specs.Answering.{DeskCall, DeskAnswer, Settle, Settled}
+use Rattle.js_api.specs.Calls.{Does}
 use Rattle.session.specs.Calling.{Called}
-use Rattle.session.specs.Gathering.{Round, IsRound, AreReady, AreCollects, AreGathered, IsSettle, IsBeforeSettle, IsGatheringCut, InCollect, InSettle, all_round_calls, round_calls, most_rounds}
-use Rattle.session.specs.Leading.{Led, Adds}
-use Rattle.session.specs.Collecting.{AreSlowed, AreStarved, Collects}
-use Rattle.session.specs.Settling.{AreSettled, IsRoundCut, IsRoundSlowed, IsGatheringSlowed, SettlesOnce, Gathers}
-use Rattle.session.proofs.Led.{IsOne, adds_one, adds_as, adds_on, led_as, led_on, one_led}
+use Rattle.session.specs.Gathering.{Round, IsRound, IsCollectCall, AreReady, AreCollecting, AreCollects, AreGathered, IsGathering, IsSettle, IsBeforeSettle, all_round_calls, round_calls, most_rounds}
+use Rattle.session.specs.Leading.{Adds, Cuts}
+use Rattle.session.specs.Stopping.{IsCutBy, cause_of, end_after}
+use Rattle.session.specs.Collecting.{IsNextCollect, Collects}
+use Rattle.session.specs.Settling.{AreSettled, IsInRound, SettlesOnce, Gathers}
+use Rattle.session.proofs.Led.{IsOne, adds_one, adds_as, adds_on, cut_as, cut_on, cut_one}
 use Rattle.session.specs.declared.stop.Stop.{Stop}
-use Rattle.session.specs.declared.stop.Stop.TheVariants as stops
 
 -- ---- one settle
 
 -- a settle, and then what its collects were
-settled_then : (client : Client) (now : ℕ) (ready : Bool) (P : List Called → Type 0) (calls more : List Called) → IsOne (IsSettle client now (Settled ready)) calls → P more
+settled_then : (client : Client) (now : ℕ) (ready : Bool) (P : List Called → Type 0) (calls more : List Called) → IsOne (IsSettle client now ready) calls → P more
     → AreSettled client now ready P (calls ++ more)
 settled_then client now ready P calls more h p = (h.0, more, ap (λ (xs : List Called). xs ++ more) h.1, h.2, p)
 
-module _ {D : Type 0} (made : D → List DeskEntry → D → Type 0) (client : Client) (now : ℕ) where
-  settles : (old new : D) (a : Bytes) (ready : Bool) → Makes made old new client (Settle now) (Settled ready) → Adds made old new a a (IsOne (IsSettle client now (Settled ready)))
-  settles old new a ready m =
-      adds_one made old new a a (IsSettle client now (Settled ready)) (record { call = Settle now; answer = Settled ready; entries = m.entries })
-      (record { call_is = refl; answer_is = refl; made = m.does }) m.led (sym (append-nil a))
+-- a collect behind it
+settled_next : (client : Client) (now : ℕ) (ready : Bool) (calls before : List Called) (call : DeskCall) → IsOne (IsSettle client now ready) calls → IsNextCollect client before call
+    → IsInRound client now (calls ++ before) call
+settled_next client now ready calls before call h k = inr (ready, settled_then client now ready (AreCollecting client) calls before h k.0, k.1)
 
-  -- there was no memory for the settle
-  pub settle_failed : (old new : D) → Makes made old new client (Settle now) NoMemory → Led made old new (IsRoundCut client now)
-  settle_failed old new m =
-      let called : Called = record { call = Settle now; answer = NoMemory; entries = m.entries } in
-      record {
-        calls = called ∷ [];
-        are = inl (called, refl, record { call_is = refl; answer_is = refl; made = m.does });
-        led = one_led made old new m.entries m.led;
-      }
+module _ {D : Type 0} (made : D → List DeskEntry → D → Type 0) (client : Client) (now : ℕ) where
+  settles : (old new : D) (a : Bytes) (ready : Bool) → Makes made (Does client (Settle now) (Ok (Settled ready))) old new → Adds made old new a a (IsOne (IsSettle client now ready))
+  settles old new a ready m =
+      adds_one made old new a a (IsSettle client now ready) (record { call = Settle now; answer = Ok (Settled ready); entries = m.entries })
+      (record { call_is = refl; answer_is = refl; made = m.are }) m.led (sym (append-nil a))
+
+  -- the session ends for the answer of the settle
+  pub settle_ends : (stop : Stop) (old new : D) (a : Bytes) (answer : Result DeskAnswer DeskFault) → Makes made (Does client (Settle now) answer) old new
+      → cause_of stop ≡ end_after answer → SettlesOnce made client now old new a a (Err stop)
+  settle_ends stop old new a answer m e =
+      cut_one made (IsInRound client now) client (cause_of stop) old new a a (record { call = Settle now; answer = answer; entries = m.entries }) (inl (refl, refl))
+      (record { made = m.are; cause_is = e }) m.led (λ n. refl)
 
 module _ {D : Type 0} (made : D → List DeskEntry → D → Type 0) (more_led : (a b c : D) (xs ys : List DeskEntry) → made a xs b → made b ys c → made a (xs ++ ys) c) (client : Client) (now : ℕ) where
   -- all that waited by then was collected
-  pub settled_whole : (old mid new : D) (a b : Bytes) (ready : Bool) → Makes made old mid client (Settle now) (Settled ready) → Adds made mid new a b (AreCollects client)
-      → Adds made old new a b (AreSettled client now ready (AreCollects client))
-  settled_whole old mid new a b ready m k =
-      adds_on made more_led old mid new a a b (IsOne (IsSettle client now (Settled ready))) (AreCollects client) (AreSettled client now ready (AreCollects client))
-      (settled_then client now ready (AreCollects client)) (settles made client now old mid a ready m) k
-
-  settled_stop : (old mid new : D) (a b : Bytes) (ready : Bool) (stop : Stop) → Makes made old mid client (Settle now) (Settled ready) → Collects made client mid new a b (Err stop)
-      → SettlesOnce made client now old new a b (Err stop)
-  settled_stop old mid new a b ready (stops.Refused refusal) m k = k
-  settled_stop old mid new a b ready (stops.Slow size) m k =
-      adds_on made more_led old mid new a a b (IsOne (IsSettle client now (Settled ready))) (AreSlowed client size) (IsRoundSlowed client now size)
-      (λ calls more h p. (ready, settled_then client now ready (AreSlowed client size) calls more h p)) (settles made client now old mid a ready m) k
-  settled_stop old mid new a b ready stops.NoMemory m k =
-      led_on made more_led old mid new a a (IsOne (IsSettle client now (Settled ready))) (AreStarved client) (IsRoundCut client now)
-      (λ calls more h p. inr (ready, settled_then client now ready (AreStarved client) calls more h p)) (settles made client now old mid a ready m) k
+  pub settled_whole : (old mid new : D) (a b : Bytes) (ready : Bool) (other : Client) → other ≡ client → Makes made (Does client (Settle now) (Ok (Settled ready))) old mid
+      → Adds made mid new a b (AreCollects other) → Adds made old new a b (AreSettled client now ready (AreCollects client))
+  settled_whole old mid new a b ready other e m k =
+      adds_on made more_led old mid new a a b (IsOne (IsSettle client now ready)) (AreCollects client) (AreSettled client now ready (AreCollects client))
+      (settled_then client now ready (AreCollects client)) (settles made client now old mid a ready m)
+      (subst (λ (one : Client). Adds made mid new a b (AreCollects one)) e k)
 
   -- the session ends in the collects
-  pub settled_cut : (old mid new : D) (a b : Bytes) (ready : Bool) (stop : Stop) (other : Client) → other ≡ client → Makes made old mid client (Settle now) (Settled ready)
+  pub settled_cut : (old mid new : D) (a b : Bytes) (ready : Bool) (stop : Stop) (other : Client) → other ≡ client → Makes made (Does client (Settle now) (Ok (Settled ready))) old mid
       → Collects made other mid new a b (Err stop) → SettlesOnce made client now old new a b (Err stop)
   settled_cut old mid new a b ready stop other e m k =
-      settled_stop old mid new a b ready stop m (subst (λ (one : Client). Collects made one mid new a b (Err stop)) e k)
+      cut_on made more_led client (cause_of stop) (IsOne (IsSettle client now ready)) (IsNextCollect client) (IsInRound client now) old mid new a a b
+      (settled_next client now ready) (settles made client now old mid a ready m) (subst (λ (one : Client). Collects made one mid new a b (Err stop)) e k)
 
 -- ---- rounds
 
@@ -132,18 +129,18 @@ module _ (client : Client) (now : ℕ) where
 
   -- all but the last of some rounds, and the last
   record AreParted (rounds : List Round) : Type 0 where
-    front : List Round
+    before : List Round
     last : Round
-    rounds_are : rounds ≡ front ++ last ∷ []
-    are_ready : AreReady client now front
+    rounds_are : rounds ≡ before ++ last ∷ []
+    are_ready : AreReady client now before
     is_last : IsRound client now true last
 
   parted : (first : Round) (rounds : List Round) → AreReady client now (first ∷ rounds) → AreParted (first ∷ rounds)
-  parted first [] h = record { front = []; last = first; rounds_are = refl; are_ready = tt; is_last = h.0 }
+  parted first [] h = record { before = []; last = first; rounds_are = refl; are_ready = tt; is_last = h.0 }
   parted first (second ∷ rounds) h =
       let k = parted second rounds h.1 in
       record {
-        front = first ∷ k.front;
+        before = first ∷ k.before;
         last = k.last;
         rounds_are = ap (λ (rs : List Round). first ∷ rs) k.rounds_are;
         are_ready = (h.0, k.are_ready);
@@ -155,13 +152,13 @@ module _ (client : Client) (now : ℕ) where
   spent_by calls collects [] e cs h n = absurd (omega (arith, n))
   spent_by calls collects (first ∷ rounds) e cs h n =
       let k = parted first rounds h in
-      let long : length (first ∷ rounds) ≡ length k.front + 1 = ap length k.rounds_are ∙ length-append k.front (k.last ∷ []) in
-      let spent : length k.front + 1 ≡ most_rounds = sym long ∙ n in
+      let long : length (first ∷ rounds) ≡ length k.before + 1 = ap length k.rounds_are ∙ length-append k.before (k.last ∷ []) in
+      let spent : length k.before + 1 ≡ most_rounds = sym long ∙ n in
       record {
         collects = collects;
-        rounds = k.front;
+        rounds = k.before;
         last = k.last;
-        calls_are = e ∙ ap (λ (rs : List Round). collects ++ all_round_calls rs) k.rounds_are ∙ ap (λ (xs : List Called). collects ++ xs) (round_calls-push k.front k.last);
+        calls_are = e ∙ ap (λ (rs : List Round). collects ++ all_round_calls rs) k.rounds_are ∙ ap (λ (xs : List Called). collects ++ xs) (round_calls-push k.before k.last);
         are_collects = cs;
         are_ready = k.are_ready;
         is_last = record { ready = true; is_round = k.is_last; within = omega (arith, spent); ends = spent };
@@ -173,54 +170,27 @@ module _ (client : Client) (now : ℕ) where
 
   -- ---- the session ends within it
 
-  -- behind calls comes a settle, and behind it collects and a last one
-  behind : (calls more front : List Called) (settle last : Called) (collects : List Called) → more ≡ settle ∷ collects → collects ≡ front ++ last ∷ []
-      → calls ++ more ≡ (calls ++ settle ∷ front) ++ last ∷ []
-  behind calls more front settle last collects e f =
-      ap (λ (xs : List Called). calls ++ xs) (e ∙ ap (λ (xs : List Called). settle ∷ xs) f) ∙ sym (append_assoc calls (settle ∷ front) (last ∷ []))
+  first_comes : (before : List Called) (call : DeskCall) → IsNextCollect client before call → IsGathering client now before call
+  first_comes before call h = inl (inl h.0, h.1)
 
-  slowed_first : (size : ℕ) (calls : List Called) → AreSlowed client size calls → IsGatheringSlowed client now size calls
-  slowed_first size calls h = (h.0, h.1, h.2, inl h.3, h.4)
-
-  starved_first : (calls : List Called) → AreStarved client calls → IsGatheringCut client now calls
-  starved_first calls h = InCollect h.0 h.1 h.2 (inl h.3) h.4
-
-  slowed_round : (count size : ℕ) → count < most_rounds → (calls more : List Called) → AreRounds client now count calls → IsRoundSlowed client now size more
-      → IsGatheringSlowed client now size (calls ++ more)
-  slowed_round count size less calls more h (ready, (settle, collects, e, s, (front, last, f, p, q))) = (
-    calls ++ settle ∷ front,
-    last,
-    behind calls more front settle last collects e f,
+  next_comes : (count : ℕ) → count < most_rounds → (calls before : List Called) (call : DeskCall) → AreRounds client now count calls → IsInRound client now before call
+      → IsGathering client now (calls ++ before) call
+  next_comes count less calls before call h (inl k) =
+      let same : calls ++ before ≡ calls = ap (λ (xs : List Called). calls ++ xs) k.0 ∙ append-nil calls in
+      inr (subst (λ (xs : List Called). IsBeforeSettle client now xs) (sym same) (before_settle count calls less h), k.1)
+  next_comes count less calls before call h (inr (ready, (settle, collects, e, s, p), k)) = inl (
     inr (record {
-      front = calls;
+      before = calls;
       ready = ready;
       settle = settle;
-      collecting = front;
-      calls_are = refl;
-      before = before_settle count calls less h;
+      collecting = collects;
+      calls_are = ap (λ (xs : List Called). calls ++ xs) e;
+      is_before = before_settle count calls less h;
       is_settle = s;
       are_collecting = p;
     }),
-    q,
+    k,
   )
-
-  starved_round : (count : ℕ) → count < most_rounds → (calls more : List Called) → AreRounds client now count calls → IsRoundCut client now more
-      → IsGatheringCut client now (calls ++ more)
-  starved_round count less calls more h (inl (settle, e, s)) =
-      InSettle calls settle (ap (λ (xs : List Called). calls ++ xs) e) (before_settle count calls less h) s
-  starved_round count less calls more h (inr (ready, (settle, collects, e, s, (front, last, f, p, q)))) =
-      InCollect (calls ++ settle ∷ front) last (behind calls more front settle last collects e f)
-      (inr (record {
-        front = calls;
-        ready = ready;
-        settle = settle;
-        collecting = front;
-        calls_are = refl;
-        before = before_settle count calls less h;
-        is_settle = s;
-        are_collecting = p;
-      }))
-      q
 
 -- ---- what a gathering made
 
@@ -230,9 +200,7 @@ module _ {D : Type 0} (made : D → List DeskEntry → D → Type 0) (client : C
 
   -- it stopped at the collects with which it begins
   pub gathering_unbegun : (old new : D) (a b : Bytes) (stop : Stop) → Collects made client old new a b (Err stop) → Gathers made client now old new a b (Err stop)
-  gathering_unbegun old new a b (stops.Refused refusal) k = k
-  gathering_unbegun old new a b (stops.Slow size) k = adds_as made old new a b (AreSlowed client size) (IsGatheringSlowed client now size) (slowed_first client now size) k
-  gathering_unbegun old new a b stops.NoMemory k = led_as made old new (AreStarved client) (IsGatheringCut client now) (starved_first client now) k
+  gathering_unbegun old new a b stop k = cut_as made client (cause_of stop) (IsNextCollect client) (IsGathering client now) old new a b (first_comes client now) k
 
   pub gathering_spent : (old new : D) (a b : Bytes) (count : ℕ) → count ≡ most_rounds → Adds made old new a b (AreRounds client now count) → Adds made old new a b (AreGathered client now)
   gathering_spent old new a b count e h = adds_as made old new a b (AreRounds client now count) (AreGathered client now) (gathered_spent client now count e) h
@@ -250,17 +218,9 @@ module _ {D : Type 0} (made : D → List DeskEntry → D → Type 0) (more_led :
       adds_on made more_led old mid new a b c (AreRounds client now count) (AreSettled client now false (AreCollects client)) (AreGathered client now)
       (gathered_last client now count less) h k
 
-  stop_here : (old mid new : D) (a b c : Bytes) (count : ℕ) (stop : Stop) → count < most_rounds → Adds made old mid a b (AreRounds client now count)
-      → SettlesOnce made client now mid new b c (Err stop) → Gathers made client now old new a c (Err stop)
-  stop_here old mid new a b c count (stops.Refused refusal) less h k = k
-  stop_here old mid new a b c count (stops.Slow size) less h k =
-      adds_on made more_led old mid new a b c (AreRounds client now count) (IsRoundSlowed client now size) (IsGatheringSlowed client now size)
-      (slowed_round client now count size less) h k
-  stop_here old mid new a b c count stops.NoMemory less h k =
-      led_on made more_led old mid new a b (AreRounds client now count) (IsRoundCut client now) (IsGatheringCut client now) (starved_round client now count less) h k
-
   -- it stopped at a round
   pub gathering_stop : (old mid new : D) (a b c : Bytes) (count : ℕ) (stop : Stop) (other : Client) → count < most_rounds → Adds made old mid a b (AreRounds client now count)
       → other ≡ client → SettlesOnce made other now mid new b c (Err stop) → Gathers made client now old new a c (Err stop)
   gathering_stop old mid new a b c count stop other less h e k =
-      stop_here old mid new a b c count stop less h (subst (λ (one : Client). SettlesOnce made one now mid new b c (Err stop)) e k)
+      cut_on made more_led client (cause_of stop) (AreRounds client now count) (IsInRound client now) (IsGathering client now) old mid new a b c (next_comes client now count less) h
+      (subst (λ (one : Client). SettlesOnce made one now mid new b c (Err stop)) e k)

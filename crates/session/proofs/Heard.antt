@@ -9,18 +9,18 @@ use Rattle.nats_frames.specs.declared.op.Op.{Op}
 use Rattle.nats_frames.specs.Decoding.{Held, total, IsFront}
 use Rattle.nats_frames.specs.Grammar.{Fronts}
 use Rattle.nats_frames.specs.Reading.{op_at, Partial}
-use Rattle.js_api.specs.Desks.{DeskEntry}
+use Rattle.js_api.specs.Entries.{DeskEntry}
 use Rattle.session.specs.Calling.{Called, entries_of_calls}
 use Rattle.session.specs.Peer.{Act, Hears as Hearing, Ticks, Peer, peer_after}
 use Rattle.session.specs.Talk.{Spoken, IsSpoken, AreSpoken, AreActs, EndsBy, IsWritten, IsFrontOf, IsCutOff, last_line, acts_of, hearings, heard_bytes, spoken_bytes, peer_at_end, entries_of_all, entries_of_spoken}
 use Rattle.session.specs.Giving.{GivesPart, IsFlushed, end_of}
-use Rattle.session.specs.Parting.{Parts, PartsAt, cause_of}
-use Rattle.session.specs.Ticking.{Stops, IsTicked, IsTickCut, EndsTurn}
+use Rattle.session.specs.Parting.{Parts, PartsAt}
+use Rattle.session.specs.Stopping.{cause_of}
+use Rattle.session.specs.Ticking.{Stops, Between, IsTicked, IsTickCut, EndsTurn}
 use Rattle.session.specs.Hearing.{IsNext, IsIdle, IsHalted, IsHeard, IsCut, Hears, StopsAt}
 use Rattle.session.proofs.Behind.{front_of, cut_behind, ends_behind}
 use Rattle.session.specs.declared.ending.Ended.{Ended}
 use Rattle.session.specs.declared.ending.Ended.TheVariants as ends
-use Rattle.session.specs.declared.ending.Refusal.TheVariants as refusals
 use Rattle.session.specs.declared.giving.GiveFault.{GiveFault}
 use Rattle.session.specs.declared.giving.GiveFault.TheVariants as faults
 use Rattle.session.specs.declared.stop.Stop.{Stop}
@@ -216,9 +216,9 @@ module _ {D : Type 0} (made : D → List DeskEntry → D → Type 0) (more_led :
       → Answering made now peer peer_now old mid bytes held.bytes a b waiting → IsHalted stop made now peer_now mid new held waiting more → total held ≡ all
       → PartsAt stop ended b c more → IsCut ended made now peer old new bytes all a c
   cut_halted (stops.Refused refusal) ended peer_now old mid new bytes held all a b c waiting more h k fed p =
-      cut_parted (stops.Refused refusal) ended peer_now old mid new bytes held all a b c waiting more h k fed k.added p
+      cut_parted (stops.Refused refusal) ended peer_now old mid new bytes held all a b c waiting more h k fed (k.added refl) p
   cut_halted (stops.Slow size) ended peer_now old mid new bytes held all a b c waiting more h k fed p =
-      cut_parted (stops.Slow size) ended peer_now old mid new bytes held all a b c waiting more h k fed k.added p
+      cut_parted (stops.Slow size) ended peer_now old mid new bytes held all a b c waiting more h k fed (k.added refl) p
   cut_halted stops.NoMemory ended peer_now old mid new bytes held all a b c waiting more h k fed p =
       let front : IsFrontOf (h.sent ++ []) (heard_bytes peer now h.spoken ++ (k.said ++ [])) =
       (waiting ++ (k.said ++ []), append_assoc h.sent [] (waiting ++ (k.said ++ [])) ∙ both h.sent waiting (k.said ++ []) (heard_bytes peer now h.spoken) h.together) in
@@ -257,7 +257,7 @@ module _ {D : Type 0} (made : D → List DeskEntry → D → Type 0) (more_led :
         are_spoken = h.are_spoken;
         acts = acts;
         place = fed;
-        stops = (refl, refl, refl);
+        stops = inl (Between refl refl refl (inl refl));
         led = led;
         ends_by = inl (refl, cut);
         given = grown_on a b c h.sent k.0 h.given k.2;
@@ -274,7 +274,7 @@ module _ {D : Type 0} (made : D → List DeskEntry → D → Type 0) (more_led :
         are_spoken = h.are_spoken;
         acts = acts;
         place = fed;
-        stops = (refl, refl);
+        stops = inl (Between refl refl refl (inr refl));
         led = led;
         ends_by = inl (refl, front_of (h.sent ++ k.0) (heard_bytes peer now h.spoken ++ ([] ++ [])) cut);
         given = grown_on a b c h.sent k.0 h.given k.2;
@@ -304,20 +304,6 @@ module _ {D : Type 0} (made : D → List DeskEntry → D → Type 0) (more_led :
             (both h.sent waiting (spoken_bytes peer_now now s) said h.together ∙ ap (λ (p : Peer). said ++ spoken_bytes p now s) h.peer_is
             ∙ ap (λ (bytes : Bytes). said ++ bytes) (sym (append-nil (spoken_bytes (peer_at_end peer h.spoken) now s))) ∙ sym (heard-append peer now h.spoken (one s)));
       }
-
-  -- a stop behind the operations is none by a fault of the input
-  stops_at : (cause : Ended) (p : Peer) (begun : List Act) (calls : List Called) (before : ℕ) (rest said : Bytes) → Stops cause p now begun calls said
-      → StopsAt cause p now begun calls before rest said
-  stops_at ends.Closed p begun calls before rest said h = h
-  stops_at (ends.Refused (refusals.Frame fault)) p begun calls before rest said h = absurd h
-  stops_at (ends.Refused refusals.BadConnect) p begun calls before rest said h = h
-  stops_at (ends.Refused refusals.BadHeaders) p begun calls before rest said h = h
-  stops_at (ends.Refused refusals.NumbersUsed) p begun calls before rest said h = h
-  stops_at (ends.Slow size) p begun calls before rest said h = h
-  stops_at ends.Stale p begun calls before rest said h = h
-  stops_at ends.LinkFault p begun calls before rest said h = h
-  stops_at ends.InputLimit p begun calls before rest said h = h
-  stops_at ends.NoMemory p begun calls before rest said h = h
 
   -- operations and a tick that was begun or carried out, in their order
   acts_ticked : (ops : List Op) (spoken more : List Spoken) (begun : List Act) → acts_of spoken ≡ hearings ops → acts_of more ++ begun ≡ Ticks ∷ []
@@ -351,8 +337,7 @@ module _ {D : Type 0} (made : D → List DeskEntry → D → Type 0) (more_led :
         are_spoken = spoken_on peer now h.spoken k.spoken h.are_spoken (subst (λ (p : Peer). AreSpoken p now k.spoken) h.peer_is k.are_spoken);
         acts = record { ops = h.ops; split = h.split; acts_are = inr (acts_ticked h.ops h.spoken k.spoken k.begun h.acts k.acts, partial) };
         place = fed;
-        stops = stops_at k.cause (peer_at_end peer (h.spoken ++ k.spoken)) k.begun k.calls held.before held.bytes k.said
-            (subst (λ (p : Peer). Stops k.cause p now k.begun k.calls k.said) (sym (peer-append peer h.spoken k.spoken)) stopped);
+        stops = inl (subst (λ (p : Peer). Stops k.cause p now k.begun k.calls k.said) (sym (peer-append peer h.spoken k.spoken)) stopped);
         led = subst (λ (es : List DeskEntry). made old es new)
             (sym (append_assoc (entries_of_all h.spoken) (entries_of_all k.spoken) (entries_of_calls k.calls))
             ∙ ap (λ (es : List DeskEntry). es ++ entries_of_calls k.calls) (sym (entries-append h.spoken k.spoken)))
@@ -385,7 +370,7 @@ module _ {D : Type 0} (made : D → List DeskEntry → D → Type 0) (more_led :
     are_spoken = tt;
     acts = record { ops = []; split = refl; acts_are = inl refl };
     place = omega (arith, length-append held.bytes piece);
-    stops = (refl, refl);
+    stops = inl (Between refl refl refl (inr refl));
     led = h;
     ends_by = inl (refl, ([], refl));
     given = sym (grown-nil a);

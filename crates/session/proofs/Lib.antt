@@ -6,12 +6,12 @@ pub mod Carried
 pub mod Connected
 pub mod Framed
 pub mod GivenBytes
+pub mod Failed
 pub mod Behind
 pub mod Parted
 pub mod Stopped
 pub mod Ticked
 pub mod Heard
-pub mod Rested
 pub mod Turned
 pub mod Conversing
 pub mod Served

@@ -1,5 +1,5 @@
--- Laws of stops: an operation is refused for two causes alone, each of which has its error line, and a tick is not refused.
-use Rattle.std.proofs.Common.{◌≡◌, ℕ, true, false, ◌&&◌, cond, codes, List, [], ◌∷◌, Option, Some, None, Result, Ok, Err, IfErr, refl, sym, subst, ◌∙◌}
+-- Laws of stops within an operation or a tick, and of operations that were not carried out whole.
+use Rattle.std.proofs.Common.{◌≡◌, ℕ, true, false, ◌&&◌, cond, codes, List, [], ◌∷◌, ◌++◌, Option, Some, None, Result, Ok, Err, refl, sym, subst, ◌∙◌, inl, inr}
 use Rattle.std.proofs.lemmas.List.{append-nil}
 use Rattle.js_base.specs.Bytes.{Bytes}
 use Rattle.js_base.specs.Headers.{is_block}
@@ -9,33 +9,43 @@ use Rattle.nats_frames.specs.declared.op.Op.{Op}
 use Rattle.nats_frames.specs.declared.op.Op.TheVariants.{Connect, Pub, HPub, Sub, Unsub, Ping, Pong}
 use Rattle.nats_frames.specs.declared.op.FrameFault.{FrameFault}
 use Rattle.nats_frames.specs.Decoding.{Held, total, IsFront, IsRefused}
-use Rattle.js_api.specs.Desks.{DeskEntry}
-use Rattle.js_api.specs.Clients.{Client}
-use Rattle.js_api.specs.Calls.{Publish, Sub as Subscribe}
+use Rattle.js_api.specs.declared.fault.DeskFault.{DeskFault}
+use Rattle.js_api.specs.declared.fault.DeskFault.TheVariants as faults
+use Rattle.js_api.specs.Entries.{DeskEntry}
+use Rattle.js_api.specs.Answering.{DeskAnswer, Opened, Done, Took, Settled, Gave, Slow, Publish, Sub as Subscribe}
+use Rattle.session.specs.Calling.{Called}
 use Rattle.session.specs.Connecting.{connect_options}
 use Rattle.session.specs.Peer.{Act, Hears as Hearing, Ticks, Peer, Request, Calls, IsWrong, IsRefused as Refuses, op_request, request, connecting, publishing, message, is_reply}
-use Rattle.session.specs.Settling.{Gathers}
+use Rattle.session.specs.Stopping.{IsOwnEnd, Declined, Unasked, Asked, IsLastCall, cause_of, end_after}
+use Rattle.session.specs.Talk.{IsStopped, InCall, InGathering}
 use Rattle.session.specs.Carrying.{Carries}
 use Rattle.session.specs.Hearing.{StopsAt, IsHalted}
-use Rattle.session.specs.Parting.{HasLine}
+use Rattle.session.specs.Ticking.{Within, Between}
 use Rattle.session.specs.declared.connect.ConnectOptions.{ConnectOptions}
+use Rattle.session.specs.declared.ending.Ended.{Ended}
 use Rattle.session.specs.declared.ending.Ended.TheVariants as ends
 use Rattle.session.specs.declared.ending.Refusal.{Refusal}
 use Rattle.session.specs.declared.ending.Refusal.TheVariants as refusals
 use Rattle.session.specs.declared.stop.Stop.{Stop}
 use Rattle.session.specs.declared.stop.Stop.TheVariants as stops
 
--- ---- refusals of operations
+-- ---- which ends a stop makes
 
--- neither a fault of the input nor the end of numbers
-abbrev IsOwn : Refusal → Type 0
-IsOwn (refusals.Frame fault) = ⊥
-IsOwn refusals.NumbersUsed = ⊥
-IsOwn refusals.BadConnect = Unit {0}
-IsOwn refusals.BadHeaders = Unit {0}
+-- the ends that an operation or a tick can make: no fault of the input, and none that the link, the clock or the limits make
+abbrev pub IsStopEnd : Ended → Type 0
+IsStopEnd ends.Closed = ⊥
+IsStopEnd (ends.Refused (refusals.Frame fault)) = ⊥
+IsStopEnd (ends.Refused refusals.BadConnect) = Unit {0}
+IsStopEnd (ends.Refused refusals.BadHeaders) = Unit {0}
+IsStopEnd (ends.Refused refusals.NumbersUsed) = Unit {0}
+IsStopEnd (ends.Slow size) = Unit {0}
+IsStopEnd ends.Stale = ⊥
+IsStopEnd ends.LinkFault = ⊥
+IsStopEnd ends.InputLimit = ⊥
+IsStopEnd ends.NoMemory = Unit {0}
 
 abbrev AreOwn : Request → Type 0
-AreOwn (Refuses refusal) = IsOwn refusal
+AreOwn (Refuses refusal) = IsStopEnd (ends.Refused refusal)
 AreOwn _ = Unit {0}
 
 own_connecting : (options : Option ConnectOptions) → AreOwn (connecting options)
@@ -62,52 +72,39 @@ own_act : (now : ℕ) (act : Act) → AreOwn (request now act)
 own_act now (Hearing op) = own_request now op
 own_act now Ticks = tt
 
-own_refusal : (now : ℕ) (act : Act) (refusal : Refusal) → request now act ≡ Refuses refusal → IsOwn refusal
-own_refusal now act refusal e = subst AreOwn e (own_act now act)
+fault_ends : (fault : DeskFault) → IsStopEnd (end_after (Err fault))
+fault_ends faults.NoMemory = tt
+fault_ends faults.TooManySubs = tt
+fault_ends (faults.Worn number) = tt
+fault_ends (faults.NoSession latest) = tt
 
--- the operation that was begun is refused
-pub stops_refused : (peer : Peer) (now : ℕ) (op : Op) (refusal : Refusal) (before : ℕ) (rest : Bytes) → request now (Hearing op) ≡ Refuses refusal
-    → StopsAt (ends.Refused refusal) peer now (Hearing op ∷ []) [] before rest []
-stops_refused peer now op (refusals.Frame fault) before rest e = absurd (own_refusal now (Hearing op) (refusals.Frame fault) e)
-stops_refused peer now op refusals.NumbersUsed before rest e = absurd (own_refusal now (Hearing op) refusals.NumbersUsed e)
-stops_refused peer now op refusals.BadConnect before rest e = (op, refl, refl, e, refl)
-stops_refused peer now op refusals.BadHeaders before rest e = (op, refl, refl, e, refl)
+answer_ends : (answer : Result DeskAnswer DeskFault) → IsStopEnd (end_after answer)
+answer_ends (Ok (Opened session)) = tt
+answer_ends (Ok Done) = tt
+answer_ends (Ok (Took taken)) = tt
+answer_ends (Ok (Settled ready)) = tt
+answer_ends (Ok (Gave list more)) = tt
+answer_ends (Ok (Slow length)) = tt
+answer_ends (Err fault) = fault_ends fault
 
--- the stop of an operation or a tick has an error line, unless memory ran out
-pub carried_has_line : {D : Type 0} (made : D → List DeskEntry → D → Type 0) (now : ℕ) (peer : Peer) (old new : D) (out_old out_new : Bytes) (act : Act) (stop : Stop)
-    → Carries made peer now act old new out_old out_new (Err stop) → HasLine stop
-carried_has_line made now peer old new out_old out_new act (stops.Refused (refusals.Frame fault)) k = absurd (own_refusal now act (refusals.Frame fault) k.refused)
-carried_has_line made now peer old new out_old out_new act (stops.Refused refusals.NumbersUsed) k = absurd (own_refusal now act refusals.NumbersUsed k.refused)
-carried_has_line made now peer old new out_old out_new act (stops.Refused refusals.BadConnect) k = refl
-carried_has_line made now peer old new out_old out_new act (stops.Refused refusals.BadHeaders) k = refl
-carried_has_line made now peer old new out_old out_new act (stops.Slow size) k = tt
-carried_has_line made now peer old new out_old out_new act stops.NoMemory k = tt
+last_ends : (cause : Ended) (answer : Result DeskAnswer DeskFault) → cause ≡ end_after answer → IsStopEnd cause
+last_ends cause answer e = subst IsStopEnd (sym e) (answer_ends answer)
 
-pub tick_has_line : {D : Type 0} (made : D → List DeskEntry → D → Type 0) (client : Client) (now : ℕ) (old new : D) (out_old out_new : Bytes) (result : Result (Unit {0}) Stop)
-    → Gathers made client now old new out_old out_new result → IfErr result HasLine
-tick_has_line made client now old new out_old out_new (Ok x) k = tt
-tick_has_line made client now old new out_old out_new (Err (stops.Refused refusal)) k = absurd k
-tick_has_line made client now old new out_old out_new (Err (stops.Slow size)) k = tt
-tick_has_line made client now old new out_old out_new (Err stops.NoMemory) k = tt
+own_ends : (peer : Peer) (now : ℕ) (act : Act) (cause : Ended) (calls : List Called) → IsOwnEnd peer.client (request now act) cause calls → IsStopEnd cause
+own_ends peer now act cause calls (Declined refusal r e c) = subst IsStopEnd (sym e) (subst AreOwn r (own_act now act))
+own_ends peer now act cause calls (Unasked e c) = subst IsStopEnd (sym e) tt
+own_ends peer now act cause calls (Asked called r l c) = last_ends cause called.answer l.cause_is
+
+pub stop_ends : (peer : Peer) (now : ℕ) (act : Act) (cause : Ended) (calls : List Called) (said : Bytes) → IsStopped peer now act cause calls said → IsStopEnd cause
+stop_ends peer now act cause calls said (InCall h) = own_ends peer now act cause calls h.0
+stop_ends peer now act cause calls said (InGathering asked after more e a h s) = last_ends cause h.last.answer h.is_last.cause_is
 
 -- ---- an operation that was not carried out whole
 
 pub halted_op : {D : Type 0} (made : D → List DeskEntry → D → Type 0) (now : ℕ) (peer : Peer) (old new : D) (held rest : Held) (out_old out_new : Bytes) (op : Op) (stop : Stop)
     → IsFront op held.bytes rest.bytes → total rest ≡ total held → Carries made peer now (Hearing op) old new out_old out_new (Err stop)
     → IsHalted stop made now peer old new held out_old out_new
-halted_op made now peer old new held rest out_old out_new op (stops.Refused refusal) f t k = record {
-  begun = op ∷ [];
-  calls = [];
-  before = rest.before;
-  rest = rest.bytes;
-  said = [];
-  split = (f.front, rest.bytes, f.spelled, f.whole, refl);
-  place = t;
-  stops = stops_refused peer now op refusal rest.before rest.bytes k.refused;
-  led = k.led;
-  added = k.written ∙ sym (append-nil out_old);
-}
-halted_op made now peer old new held rest out_old out_new op (stops.Slow size) f t k = record {
+halted_op made now peer old new held rest out_old out_new op stop f t k = record {
   begun = op ∷ [];
   calls = k.calls;
   before = rest.before;
@@ -115,21 +112,9 @@ halted_op made now peer old new held rest out_old out_new op (stops.Slow size) f
   said = k.said;
   split = (f.front, rest.bytes, f.spelled, f.whole, refl);
   place = t;
-  stops = (Hearing op, refl, k.slowed);
+  stops = inl (Within (Hearing op) refl k.are);
   led = k.led;
-  added = k.written;
-}
-halted_op made now peer old new held rest out_old out_new op stops.NoMemory f t k = record {
-  begun = op ∷ [];
-  calls = k.calls;
-  before = rest.before;
-  rest = rest.bytes;
-  said = [];
-  split = (f.front, rest.bytes, f.spelled, f.whole, refl);
-  place = t;
-  stops = (k.are, refl);
-  led = k.led;
-  added = tt;
+  added = k.added;
 }
 
 -- a fault of the input
@@ -143,9 +128,9 @@ halted_fault made now peer old held out fault h r = record {
   said = [];
   split = refl;
   place = refl;
-  stops = (refl, refl, r, refl);
+  stops = inr (record { fault = fault; cause_is = refl; refused = r; none_begun = refl; no_calls = refl; unsaid = refl });
   led = h;
-  added = sym (append-nil out);
+  added = λ n. sym (append-nil out);
 }
 
 -- memory ran out before the next operation was read
@@ -159,7 +144,7 @@ halted_unread made now peer old held out_old out_new h = record {
   said = [];
   split = refl;
   place = refl;
-  stops = (refl, refl);
+  stops = inl (Between refl refl refl (inr refl));
   led = h;
-  added = tt;
+  added = λ n. cc;
 }

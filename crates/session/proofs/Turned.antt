@@ -11,15 +11,16 @@ use Rattle.link_edge.specs.declared.answers.Answer.TheVariants as answers
 use Rattle.link_edge.proofs.Told.{grown-nil, grown_on}
 use Rattle.nats_frames.specs.declared.op.FrameFault.{FrameFault}
 use Rattle.nats_frames.specs.Decoding.{IsRefused}
-use Rattle.js_api.specs.Desks.{DeskEntry}
+use Rattle.js_api.specs.Entries.{DeskEntry}
 use Rattle.js_api.specs.Clients.{Client}
 use Rattle.session.specs.Calling.{Called}
 use Rattle.session.specs.Keeping.{pinged, ping_bytes}
 use Rattle.session.specs.Peer.{Act, Hears as Hearing, Peer}
-use Rattle.session.specs.Talk.{Spoken, Stage, start, Turn, Within, Waiting, Told, Nothing, IsUnspent, IsWithin, IsCause, Ends, EndsPinging, EndsBy, IsUnwritten, IsCutOff, last_line, is_due, greeting, heard_bytes, heard_in, peer_in, pinged_peer, spoken_bytes, entries_of_spoken}
-use Rattle.session.specs.Ticking.{IsTicked, IsTickCut, Stops}
-use Rattle.session.specs.Hearing.{IsHeard, IsCut, StopsAt}
+use Rattle.session.specs.Talk.{Spoken, Stage, start, Turn, Within, Waiting, Told, Nothing, IsUnspent, IsWithin, IsStopped, IsCause, Ends, EndsBetween, EndsStopped, EndsPinging, EndsBy, IsUnwritten, IsCutOff, last_line, is_due, greeting, heard_bytes, heard_in, peer_in, pinged_peer, spoken_bytes, entries_of_spoken}
+use Rattle.session.specs.Ticking.{IsTicked, IsTickCut, Stops, Within as StopsWithin, Between as StopsBetween}
+use Rattle.session.specs.Hearing.{IsHeard, IsCut, IsFaulty, StopsAt}
 use Rattle.session.proofs.Behind.{front_of, ends_behind}
+use Rattle.session.proofs.Stopped.{IsStopEnd, stop_ends}
 use Rattle.session.specs.Turning.{IsTurn, IsLastTurn, IsKept, IsGivenUp, IsUnpinged, IsRested, IsUnkept, IsUnticked, Rests, Turns}
 use Rattle.session.specs.declared.ending.Limits.{Limits}
 use Rattle.session.specs.declared.ending.Ended.{Ended}
@@ -52,95 +53,73 @@ module _ (limits : Limits) (session : ℕ) (old : Stage) (turn : Turn) where
   no_more : (said : Bytes) → said ≡ [] → heard_in old turn ++ said ≡ heard_in old turn
   no_more said e = ap (λ (bytes : Bytes). heard_in old turn ++ bytes) e ∙ append-nil (heard_in old turn)
 
+  abbrev IsEnd : Ended → List Act → List Called → Bytes → Type 0
+  IsEnd cause begun calls said = IsCause limits (start session) old (greeting limits session) cause (Within turn begun calls) (heard_in old turn ++ said)
+
+  -- within an operation or the tick
+  stopped_cause : (cause : Ended) (begun : List Act) (calls : List Called) (said : Bytes) → IsStopEnd cause
+      → EndsStopped limits old cause (Within turn begun calls) (heard_in old turn ++ said) → IsEnd cause begun calls said
+  stopped_cause ends.Closed begun calls said s h = absurd s
+  stopped_cause (ends.Refused (refusals.Frame fault)) begun calls said s h = absurd s
+  stopped_cause (ends.Refused refusals.BadConnect) begun calls said s h = h
+  stopped_cause (ends.Refused refusals.BadHeaders) begun calls said s h = h
+  stopped_cause (ends.Refused refusals.NumbersUsed) begun calls said s h = h
+  stopped_cause (ends.Slow size) begun calls said s h = h
+  stopped_cause ends.Stale begun calls said s h = absurd s
+  stopped_cause ends.LinkFault begun calls said s h = absurd s
+  stopped_cause ends.InputLimit begun calls said s h = absurd s
+  stopped_cause ends.NoMemory begun calls said s h = inr (inr (inr (inl h)))
+
+  -- behind all that was carried out
+  between_cause : (cause : Ended) (begun : List Act) (calls : List Called) (said : Bytes) → IsUnwritten cause
+      → EndsBetween limits old (Within turn begun calls) (heard_in old turn ++ said) → IsEnd cause begun calls said
+  between_cause cause begun calls said (inl e) h = subst (λ (x : Ended). IsEnd x begun calls said) (sym e) (inr (inr (inl h)))
+  between_cause cause begun calls said (inr e) h = subst (λ (x : Ended). IsEnd x begun calls said) (sym e) (inr (inr (inl h)))
+
   -- what stops the turn is the cause of the session's end
   stop_cause : (cause : Ended) (begun : List Act) (calls : List Called) (taken : ℕ) (rest said : Bytes) → IsWithin limits old turn begun rest taken
-      → Stops cause (peer_in old turn) turn.moment begun calls said
-      → IsCause limits (start session) old (greeting limits session) cause (Within turn begun calls) (heard_in old turn ++ said)
-  stop_cause ends.Closed begun calls taken rest said w h = absurd h
-  stop_cause (ends.Refused (refusals.Frame fault)) begun calls taken rest said w h = absurd h
-  stop_cause (ends.Refused refusals.NumbersUsed) begun calls taken rest said w h = absurd h
-  stop_cause (ends.Refused refusals.BadConnect) begun calls taken rest said w h = record {
-    turn = turn;
-    op = h.0;
-    rest = rest;
-    taken = taken;
-    last_is = last-is begun (Hearing h.0 ∷ []) calls [] h.1 h.2;
-    within = one_begun (Hearing h.0) begun rest taken h.1 w;
-    refused = h.3;
-    said_is = no_more said h.4;
-  }
-  stop_cause (ends.Refused refusals.BadHeaders) begun calls taken rest said w h = record {
-    turn = turn;
-    op = h.0;
-    rest = rest;
-    taken = taken;
-    last_is = last-is begun (Hearing h.0 ∷ []) calls [] h.1 h.2;
-    within = one_begun (Hearing h.0) begun rest taken h.1 w;
-    refused = h.3;
-    said_is = no_more said h.4;
-  }
-  stop_cause (ends.Slow size) begun calls taken rest said w h = record {
-    turn = turn;
-    act = h.0;
-    calls = calls;
-    rest = rest;
-    taken = taken;
-    more = said;
-    last_is = last-is begun (h.0 ∷ []) calls calls h.1 refl;
-    within = one_begun h.0 begun rest taken h.1 w;
-    slowed = h.2;
-    said_is = refl;
-  }
-  stop_cause ends.Stale begun calls taken rest said w h = absurd h
-  stop_cause ends.LinkFault begun calls taken rest said w h = inr (inr (inl (record {
-    turn = turn;
-    rest = rest;
-    taken = taken;
-    last_is = last-is begun [] calls [] h.0 h.1;
-    within = none_begun begun rest taken h.0 w;
-    said_is = no_more said h.2;
-  })))
-  stop_cause ends.InputLimit begun calls taken rest said w h = absurd h
-  stop_cause ends.NoMemory begun calls taken rest said w h = inr (inr (inl (record {
-    turn = turn;
-    begun = begun;
-    calls = calls;
-    rest = rest;
-    taken = taken;
-    last_is = refl;
-    within = w;
-    are_begun = h.0;
-    said_is = no_more said h.1;
-  })))
-
-  fault_cause : (fault : FrameFault) (begun : List Act) (calls : List Called) (before taken : ℕ) (rest said : Bytes) → IsWithin limits old turn begun rest taken
-      → before + length rest ≡ taken → begun ≡ [] → calls ≡ [] → IsRefused fault before rest → said ≡ []
-      → IsCause limits (start session) old (greeting limits session) (ends.Refused (refusals.Frame fault)) (Within turn begun calls) (heard_in old turn ++ said)
-  fault_cause fault begun calls before taken rest said w p e f h g = record {
-    turn = turn;
-    rest = rest;
-    taken = taken;
-    before = before;
-    last_is = last-is begun [] calls [] e f;
-    within = none_begun begun rest taken e w;
-    place = p;
-    refused = h;
-    said_is = no_more said g;
-  }
+      → Stops cause (peer_in old turn) turn.moment begun calls said → IsEnd cause begun calls said
+  stop_cause cause begun calls taken rest said w (StopsWithin act e h) =
+      stopped_cause cause begun calls said (stop_ends (peer_in old turn) turn.moment act cause calls said h)
+      (record {
+        turn = turn;
+        act = act;
+        calls = calls;
+        rest = rest;
+        taken = taken;
+        more = said;
+        last_is = last-is begun (act ∷ []) calls calls e refl;
+        within = one_begun act begun rest taken e w;
+        stopped = h;
+        said_is = refl;
+      })
+  stop_cause cause begun calls taken rest said w (StopsBetween e c s u) =
+      between_cause cause begun calls said u
+      (record {
+        turn = turn;
+        rest = rest;
+        taken = taken;
+        last_is = last-is begun [] calls [] e c;
+        within = none_begun begun rest taken e w;
+        said_is = no_more said s;
+      })
 
   cut_cause : (cause : Ended) (begun : List Act) (calls : List Called) (before taken : ℕ) (rest said : Bytes) → IsWithin limits old turn begun rest taken
-      → before + length rest ≡ taken → StopsAt cause (peer_in old turn) turn.moment begun calls before rest said
-      → IsCause limits (start session) old (greeting limits session) cause (Within turn begun calls) (heard_in old turn ++ said)
-  cut_cause ends.Closed begun calls before taken rest said w p h = stop_cause ends.Closed begun calls taken rest said w h
-  cut_cause (ends.Refused (refusals.Frame fault)) begun calls before taken rest said w p h = fault_cause fault begun calls before taken rest said w p h.0 h.1 h.2 h.3
-  cut_cause (ends.Refused refusals.BadConnect) begun calls before taken rest said w p h = stop_cause (ends.Refused refusals.BadConnect) begun calls taken rest said w h
-  cut_cause (ends.Refused refusals.BadHeaders) begun calls before taken rest said w p h = stop_cause (ends.Refused refusals.BadHeaders) begun calls taken rest said w h
-  cut_cause (ends.Refused refusals.NumbersUsed) begun calls before taken rest said w p h = stop_cause (ends.Refused refusals.NumbersUsed) begun calls taken rest said w h
-  cut_cause (ends.Slow size) begun calls before taken rest said w p h = stop_cause (ends.Slow size) begun calls taken rest said w h
-  cut_cause ends.Stale begun calls before taken rest said w p h = stop_cause ends.Stale begun calls taken rest said w h
-  cut_cause ends.LinkFault begun calls before taken rest said w p h = stop_cause ends.LinkFault begun calls taken rest said w h
-  cut_cause ends.InputLimit begun calls before taken rest said w p h = stop_cause ends.InputLimit begun calls taken rest said w h
-  cut_cause ends.NoMemory begun calls before taken rest said w p h = stop_cause ends.NoMemory begun calls taken rest said w h
+      → before + length rest ≡ taken → StopsAt cause (peer_in old turn) turn.moment begun calls before rest said → IsEnd cause begun calls said
+  cut_cause cause begun calls before taken rest said w p (inl h) = stop_cause cause begun calls taken rest said w h
+  cut_cause cause begun calls before taken rest said w p (inr h) =
+      subst (λ (x : Ended). IsEnd x begun calls said) (sym h.cause_is)
+      (record {
+        turn = turn;
+        rest = rest;
+        taken = taken;
+        before = before;
+        last_is = last-is begun [] calls [] h.none_begun h.no_calls;
+        within = none_begun begun rest taken h.none_begun w;
+        place = p;
+        refused = h.refused;
+        said_is = no_more said h.unsaid;
+      })
 
 -- ---- a piece
 
@@ -341,7 +320,7 @@ module _ {D : Type 0} (made : D → List DeskEntry → D → Type 0) (limits : L
       starved = record {
         cause = ends.NoMemory;
         said = frame Ping;
-        is_cause = inr (inr (inr (pinging ended k)));
+        is_cause = inr (inr (inr (inr (pinging ended k))));
         ends_as = inl (refl, front_of k.given.0 (frame Ping ++ []) cut);
       }
 

@@ -1,19 +1,18 @@
 -- What the own desk call of an operation or a tick made of the desk, and which bytes were added for it.
-use Rattle.std.specs.Prelude.{◌≡◌, ◌+◌, ◌≤◌, Bool, IsTrue, List, [], ◌∷◌, ◌++◌, length, Option, Some, None, Result, Ok, Err}
+use Rattle.std.specs.Prelude.{◌≡◌, ◌+◌, ◌≤◌, Bool, IsTrue, List, [], ◌++◌, length, Option, Some, None, Result, Ok, Err}
 use Rattle.js_base.specs.Bytes.{Bytes}
 use Rattle.js_base.specs.declared.out.Out.{Out}
 use Rattle.js_json.specs.declared.fault.JsonFault.{JsonFault}
-use Rattle.js_json.specs.declared.fault.JsonFault.TheVariants.{NoMemory as OutOfMemory}
-use Rattle.js_api.specs.Desks.{DeskEntry}
+use Rattle.js_json.specs.declared.fault.JsonFault.TheVariants as json
+use Rattle.js_api.specs.Entries.{DeskEntry}
 use Rattle.js_api.specs.Clients.{Client}
 use Rattle.js_api.specs.Publishing.{is_headers}
-use Rattle.js_api.specs.Calls.{NoMemory}
 use Rattle.session.specs.Peer.{Request, Calls, CallsNothing, IsWrong, IsRefused as Refuses, error_line}
-use Rattle.session.specs.Calling.{Called, IsMade, entries_of_calls}
-use Rattle.session.specs.Leading.{Led}
+use Rattle.session.specs.Calling.{Called, entries_of_calls}
+use Rattle.session.specs.Leading.{Cuts}
+use Rattle.session.specs.Stopping.{EndsInCall, cause_of}
 use Rattle.session.specs.Talk.{AreAsked, all_called_bytes}
 use Rattle.session.specs.declared.connect.ConnectOptions.{ConnectOptions}
-use Rattle.session.specs.declared.ending.Refusal.{Refusal}
 use Rattle.session.specs.declared.ending.Refusal.TheVariants.{BadConnect}
 use Rattle.session.specs.declared.stop.Stop.{Stop}
 use Rattle.session.specs.declared.stop.Stop.TheVariants as stops
@@ -27,8 +26,10 @@ ReadsConnect (Err stops.NoMemory) found = Unit {0}
 
 -- why a session ends for a text that is no JSON object
 abbrev pub stop_by : JsonFault → Stop
-stop_by OutOfMemory = stops.NoMemory
-stop_by _ = stops.Refused BadConnect
+stop_by json.NotJson = stops.Refused BadConnect
+stop_by json.NotObject = stops.Refused BadConnect
+stop_by (json.BadField name) = stops.Refused BadConnect
+stop_by json.NoMemory = stops.NoMemory
 
 -- a message whose subjects were not looked at yet
 pub record IsUnchecked (message : Out) : Type 0 where
@@ -50,20 +51,7 @@ pub record IsAsked {D : Type 0} (made : D → List DeskEntry → D → Type 0) (
   pub led : made old (entries_of_calls calls) new
   pub written : out_new ≡ out_old ++ said calls
 
--- the request is refused, and nothing was made and added
-pub record IsDeclined {D : Type 0} (made : D → List DeskEntry → D → Type 0) (request : Request) (refusal : Refusal) (old new : D) (out_old out_new : Bytes) : Type 0 where
-  pub refused : request ≡ Refuses refusal
-  pub led : made old [] new
-  pub written : out_new ≡ out_old
-
--- the calls of a request for which memory ran out: before its call, in it, or for what is said for it
-pub data IsUnfinished (client : Client) (request : Request) (calls : List Called) : Type 0 where
-  Unasked : calls ≡ [] → IsUnfinished client request calls
-  Unanswered : (called : Called) → calls ≡ called ∷ [] → request ≡ Calls called.call → called.answer ≡ NoMemory → IsMade client called → IsUnfinished client request calls
-  Unsaid : AreAsked client request calls → IsUnfinished client request calls
-
 abbrev pub Asks : {D : Type 0} → (D → List DeskEntry → D → Type 0) → Client → Request → (List Called → Bytes) → D → D → Bytes → Bytes → Result (Unit {0}) Stop → Type 0
 Asks made client request said old new out_old out_new (Ok _) = IsAsked made client request said old new out_old out_new
-Asks made client request said old new out_old out_new (Err (stops.Refused refusal)) = IsDeclined made request refusal old new out_old out_new
-Asks made client request said old new out_old out_new (Err (stops.Slow size)) = ⊥
-Asks made client request said old new out_old out_new (Err stops.NoMemory) = Led made old new (IsUnfinished client request)
+Asks made client request said old new out_old out_new (Err stop) =
+    Cuts made (cause_of stop) old new out_old out_new (EndsInCall client request (cause_of stop))

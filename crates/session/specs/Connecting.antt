@@ -7,7 +7,7 @@ use Rattle.js_json.specs.Objects.{object_of}
 use Rattle.js_json.specs.Fields.{flag_in}
 use Rattle.session.specs.declared.connect.ConnectOptions.{ConnectOptions}
 
--- a field that is true or false, or its default where it is absent
+-- a field that is true or false, or its default if it is absent
 abbrev pub flag_or : Bool → Bytes → Members → Option Bool
 flag_or default name members = option_map (λ flag. unwrap_or flag default) (result_ok (flag_in name members))
 
@@ -23,6 +23,6 @@ options_in members =
     options (flag_or true (codes "verbose") members) (flag_or true (codes "echo") members) (flag_or false (codes "headers") members)
     (flag_or false (codes "no_responders") members)
 
--- the options of CONNECT's text; none where it is no JSON object, or one of the four fields is of another type
+-- the options of CONNECT's text; none if it is no JSON object, or one of the four fields is of another type
 unfoldable pub connect_options : Bytes → Option ConnectOptions
 connect_options text = option_and_then options_in (result_ok (object_of text))

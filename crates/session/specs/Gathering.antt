@@ -1,12 +1,13 @@
 -- What waits for a session is gathered after each operation and each tick: it is collected until nothing is left; then time passes at the place
 -- of the last hold, and what waits by then is collected, again and again while a consumer is ready there, at most 65,536 times.
-use Rattle.std.specs.Prelude.{◌≡◌, ◌<◌, ◌⊎◌, ℕ, ◌+◌, Bool, true, false, List, [], ◌∷◌, ◌++◌, length, MatchBool}
+use Rattle.std.specs.Prelude.{◌≡◌, ◌<◌, ◌⊎◌, ℕ, ◌+◌, Bool, true, false, List, [], ◌∷◌, ◌++◌, length, MatchBool, Result, Ok, Err}
 use Rattle.std.specs.List.{flat_map}
 use Rattle.js_base.specs.Bytes.{Bytes}
 use Rattle.js_base.specs.Framing.{frame}
 use Rattle.js_base.specs.declared.frame.Frame.{Frame}
+use Rattle.js_api.specs.declared.fault.DeskFault.{DeskFault}
 use Rattle.js_api.specs.Clients.{Client}
-use Rattle.js_api.specs.Calls.{Settle, Collect, DeskAnswer, Settled, Gave, NoMemory}
+use Rattle.js_api.specs.Answering.{DeskCall, Settle, Collect, DeskAnswer, Opened, Done, Took, Settled, Gave, Slow}
 use Rattle.session.specs.Calling.{Called, IsMade}
 
 -- ---- the bytes
@@ -14,34 +15,36 @@ use Rattle.session.specs.Calling.{Called, IsMade}
 abbrev pub frames : List Frame → Bytes
 frames list = flat_map frame list
 
-abbrev pub given_by : DeskAnswer → Bytes
-given_by (Gave list more) = frames list
-given_by _ = []
+-- the bytes of the frames that a call gave
+abbrev pub given_by : Result DeskAnswer DeskFault → Bytes
+given_by (Ok (Opened session)) = []
+given_by (Ok Done) = []
+given_by (Ok (Took taken)) = []
+given_by (Ok (Settled ready)) = []
+given_by (Ok (Gave list more)) = frames list
+given_by (Ok (Slow length)) = []
+given_by (Err fault) = []
 
 abbrev pub collected : List Called → Bytes
 collected calls = flat_map (λ called. given_by called.answer) calls
 
 -- ---- one call
 
+abbrev pub IsCollectCall : DeskCall → Type 0
+IsCollectCall call = (max : ℕ) × (call ≡ Collect max)
+
 -- a collect that was answered by frames
 pub record IsCollect (client : Client) (more : Bool) (called : Called) : Type 0 where
   pub max : ℕ
   pub list : List Frame
   pub call_is : called.call ≡ Collect max
-  pub answer_is : called.answer ≡ Gave list more
-  pub made : IsMade client called
-
--- a collect that was answered so
-pub record IsAnsweredBy (client : Client) (answer : DeskAnswer) (called : Called) : Type 0 where
-  pub max : ℕ
-  pub call_is : called.call ≡ Collect max
-  pub answer_is : called.answer ≡ answer
+  pub answer_is : called.answer ≡ Ok (Gave list more)
   pub made : IsMade client called
 
 -- a settle that was answered so
-pub record IsSettle (client : Client) (now : ℕ) (answer : DeskAnswer) (called : Called) : Type 0 where
+pub record IsSettle (client : Client) (now : ℕ) (ready : Bool) (called : Called) : Type 0 where
   pub call_is : called.call ≡ Settle now
-  pub answer_is : called.answer ≡ answer
+  pub answer_is : called.answer ≡ Ok (Settled ready)
   pub made : IsMade client called
 
 -- ---- collecting
@@ -53,7 +56,7 @@ AreCollecting client (called ∷ more) = IsCollect client true called × AreColl
 
 -- collects until nothing was left
 abbrev pub AreCollects : Client → List Called → Type 0
-AreCollects client calls = (front : List Called) × (called : Called) × (calls ≡ front ++ called ∷ []) × AreCollecting client front × IsCollect client false called
+AreCollects client calls = (before : List Called) × (called : Called) × (calls ≡ before ++ called ∷ []) × AreCollecting client before × IsCollect client false called
 
 -- ---- settling
 
@@ -69,7 +72,7 @@ abbrev pub all_round_calls : List Round → List Called
 all_round_calls rounds = flat_map round_calls rounds
 
 pub record IsRound (client : Client) (now : ℕ) (ready : Bool) (round : Round) : Type 0 where
-  pub settle : IsSettle client now (Settled ready) round.settle
+  pub settle : IsSettle client now ready round.settle
   pub collects : AreCollects client round.collects
 
 -- rounds after each of which a consumer was ready
@@ -109,29 +112,22 @@ pub record IsBeforeSettle (client : Client) (now : ℕ) (calls : List Called) : 
   pub are_ready : AreReady client now rounds
   pub within : length rounds < most_rounds
 
--- the calls behind a settle up to a further collect
+-- the calls up to a settle, that settle, and collects behind it that each left more
 pub record IsBehindSettle (client : Client) (now : ℕ) (calls : List Called) : Type 0 where
-  pub front : List Called
+  pub before : List Called
   pub ready : Bool
   pub settle : Called
   pub collecting : List Called
-  pub calls_are : calls ≡ front ++ settle ∷ collecting
-  pub before : IsBeforeSettle client now front
-  pub is_settle : IsSettle client now (Settled ready) settle
+  pub calls_are : calls ≡ before ++ settle ∷ collecting
+  pub is_before : IsBeforeSettle client now before
+  pub is_settle : IsSettle client now ready settle
   pub are_collecting : AreCollecting client collecting
 
 -- the calls of a gathering up to a collect
 abbrev pub IsBeforeCollect : Client → ℕ → List Called → Type 0
 IsBeforeCollect client now calls = AreCollecting client calls ⊎ IsBehindSettle client now calls
 
--- a collect that found no memory, or memory ran out for the writing of what it gave
-abbrev pub FindsNoMemory : Client → Called → Type 0
-FindsNoMemory client called = ((more : Bool) × IsCollect client more called) ⊎ IsAnsweredBy client NoMemory called
-
--- memory ran out before the first call of a gathering, in a collect or in a settle of it
-pub data IsGatheringCut (client : Client) (now : ℕ) (calls : List Called) : Type 0 where
-  Uncollected : calls ≡ [] → IsGatheringCut client now calls
-  InCollect : (front : List Called) (called : Called) → calls ≡ front ++ called ∷ [] → IsBeforeCollect client now front → FindsNoMemory client called
-      → IsGatheringCut client now calls
-  InSettle : (front : List Called) (called : Called) → calls ≡ front ++ called ∷ [] → IsBeforeSettle client now front
-      → IsSettle client now NoMemory called → IsGatheringCut client now calls
+-- behind these calls of a gathering comes this one: a collect or a settle
+abbrev pub IsGathering : Client → ℕ → List Called → DeskCall → Type 0
+IsGathering client now before call =
+    (IsBeforeCollect client now before × IsCollectCall call) ⊎ (IsBeforeSettle client now before × (call ≡ Settle now))

@@ -8,7 +8,7 @@ use Rattle.session.specs.declared.ending.Ended.TheVariants as ends
 use Rattle.session.specs.declared.giving.GiveFault.{GiveFault}
 use Rattle.session.specs.declared.giving.GiveFault.TheVariants.{LinkFault, NoMemory}
 
--- a front of the bytes was given that lacks one of them or more
+-- a prefix of the bytes was given that lacks one of them or more
 abbrev pub GivesPart : Option Bytes → Option Bytes → Bytes → Type 0
 GivesPart old new bytes = (out : Bytes) × IsCutOff out bytes × (new ≡ grown old out)
 
@@ -17,7 +17,7 @@ abbrev pub Gives : {T : Type 0} → Result T GiveFault → Option Bytes → Opti
 Gives (Ok x) old new bytes = new ≡ grown old bytes
 Gives (Err fault) old new bytes = GivesPart old new bytes
 
--- the bytes at the front were given, and the others wait
+-- a prefix of the bytes was given, and the others wait
 pub record IsFlushed (given_old given_new : Option Bytes) (old new : Bytes) : Type 0 where
   pub out : Bytes
   pub given : given_new ≡ grown given_old out

@@ -1,7 +1,8 @@
 -- Keeping a connection alive, by the NATS client protocol's PING and PONG.
-use Rattle.std.specs.Prelude.{ℕ, ◌+◌, nat_le, Bool, true, false, List, [], ◌∷◌, ◌++◌}
+use Rattle.std.specs.Prelude.{ℕ, nat_le, Bool, true, false, List, [], ◌∷◌, ◌++◌}
 use Rattle.js_base.specs.Bytes.{Bytes}
 use Rattle.js_base.specs.Framing.{frame}
+use Rattle.js_base.specs.Moments.{plus}
 use Rattle.js_base.specs.declared.frame.Frame.TheVariants.{Ping}
 
 -- 120 seconds, in nanoseconds
@@ -12,9 +13,9 @@ patience = 120000000000
 abbrev pub long_patience : ℕ
 long_patience = 240000000000
 
--- so much time passed from the one moment to the other
+-- so much time passed from the one moment to the other; of moments near the last one, the last one is late enough
 abbrev pub has_passed : ℕ → ℕ → ℕ → Bool
-has_passed span from now = nat_le (from + span) now
+has_passed span from now = nat_le (plus from span) now
 
 -- a PING is due 120 seconds after something came, and a second one 120 seconds after the first one that was not answered
 abbrev pub is_ping_due : ℕ → List ℕ → ℕ → Bool

@@ -4,10 +4,12 @@ pub mod Keeping
 pub mod Peer
 pub mod Calling
 pub mod Gathering
+pub mod Stopping
 pub mod Leading
 pub mod Talk
 pub mod Manners
 pub mod Giving
+pub mod Failing
 pub mod Parting
 pub mod Carrying
 pub mod Asking

@@ -1,5 +1,5 @@
 -- What a session knows of its client, what an operation or a tick asks of the desk, and how it is answered, by the NATS client protocol.
-use Rattle.std.specs.Prelude.{ℕ, Bool, true, false, ◌&&◌, List, [], codes, if◌then◌else◌, Option, Some, None}
+use Rattle.std.specs.Prelude.{ℕ, Bool, true, false, ◌&&◌, List, [], codes, if◌then◌else◌, Option, Some, None, Result, Ok, Err}
 use Rattle.js_base.specs.Bytes.{Bytes}
 use Rattle.js_base.specs.Headers.{is_block}
 use Rattle.js_base.specs.Subjects.{is_pattern_text, is_publish_text, is_subject_text}
@@ -9,7 +9,9 @@ use Rattle.js_base.specs.declared.frame.Frame.TheVariants.{Pong as Answer, Ok as
 use Rattle.nats_frames.specs.declared.op.Op.{Op}
 use Rattle.nats_frames.specs.declared.op.Op.TheVariants.{Connect, Pub, HPub, Sub, Unsub, Ping, Pong}
 use Rattle.js_api.specs.Clients as clients
-use Rattle.js_api.specs.Calls as desk
+use Rattle.js_api.specs.Answering as desk
+use Rattle.js_api.specs.declared.fault.DeskFault.{DeskFault}
+use Rattle.js_api.specs.declared.fault.DeskFault.TheVariants as faults
 use Rattle.session.specs.Connecting.{connect_options}
 use Rattle.session.specs.declared.connect.ConnectOptions.{ConnectOptions}
 use Rattle.session.specs.declared.ending.Refusal.{Refusal}
@@ -81,8 +83,12 @@ connected peer (Some options) =
 
 abbrev pub peer_after_op : Peer → Op → Peer
 peer_after_op peer (Connect text) = connected peer (connect_options text)
+peer_after_op peer (Pub subject reply payload) = peer
+peer_after_op peer (HPub subject reply headers payload) = peer
+peer_after_op peer (Sub subject queue sid) = peer
+peer_after_op peer (Unsub sid max) = peer
+peer_after_op peer Ping = peer
 peer_after_op peer Pong = record peer { pings = [] }
-peer_after_op peer _ = peer
 
 abbrev pub peer_after : Peer → Act → Peer
 peer_after peer (Hears op) = peer_after_op peer op
@@ -97,12 +103,20 @@ abbrev pub fine : Bool → Bytes
 fine true = frame Fine
 fine false = []
 
--- a call of the desk that was answered
-abbrev pub called_bytes : Bool → desk.DeskAnswer → Bytes
-called_bytes verbose desk.TooManySubs = error_line (codes "maximum subscriptions exceeded")
-called_bytes verbose _ = fine verbose
+-- a call of the desk that was answered, or a fault of it; the session ends by each other fault, and nothing is said for it
+abbrev pub called_bytes : Bool → Result desk.DeskAnswer DeskFault → Bytes
+called_bytes verbose (Ok answer) = fine verbose
+called_bytes verbose (Err faults.NoMemory) = []
+called_bytes verbose (Err faults.TooManySubs) = error_line (codes "maximum subscriptions exceeded")
+called_bytes verbose (Err (faults.Worn number)) = []
+called_bytes verbose (Err (faults.NoSession latest)) = []
 
 -- PING and PONG are not answered by `+OK`
 abbrev pub uncalled_bytes : Op → Bytes
 uncalled_bytes Ping = frame Answer
-uncalled_bytes _ = []
+uncalled_bytes Pong = []
+uncalled_bytes (Connect text) = []
+uncalled_bytes (Pub subject reply payload) = []
+uncalled_bytes (HPub subject reply headers payload) = []
+uncalled_bytes (Sub subject queue sid) = []
+uncalled_bytes (Unsub sid max) = []

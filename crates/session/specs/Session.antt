@@ -5,7 +5,7 @@ use Rattle.js_base.specs.Bytes.{Bytes}
 use Rattle.link_edge.specs.Told.{grown}
 use Rattle.link_edge.specs.Moments.{ReadsMoments}
 use Rattle.link_edge.specs.declared.answers.Answer.{Answer}
-use Rattle.js_api.specs.Desks.{DeskEntry}
+use Rattle.js_api.specs.Entries.{DeskEntry}
 use Rattle.session.specs.Talk.{Journal, Talk, Turn, Last, Stage, start, AreTurns, Ends, greeting, before_last, entries_of, entries_of_turn, entries_of_last, answers_of, last_answers, moments_of, last_moments}
 use Rattle.session.specs.declared.ending.Limits.{Limits}
 use Rattle.session.specs.declared.ending.Ended.{Ended}
@@ -25,7 +25,7 @@ pub record Converses {D : Type 0} (made : D → List DeskEntry → D → Type 0)
   pub given : given_new ≡ grown given_old (before_last (greeting limits session) last said ++ more)
 
 -- The session's journal is over just what the link answered and the moments that the clock told, the desk was led by its entries, and the
--- link was given its bytes. Where nothing is told, of some answers and moments.
+-- link was given its bytes. If nothing is told, it is over some answers and moments.
 pub record Serves {D : Type 0} (made : D → List DeskEntry → D → Type 0) (limits : Limits) (desk_old desk_new : D) (answered_old answered_new : Option (List Answer)) (given_old given_new : Option Bytes) (clock_old clock_new : Option (List ℕ)) (ended : Ended) : Type 0 where
   pub journal : Journal
   pub bytes : Bytes

@@ -1,6 +1,6 @@
 -- What a session says for what it hears: the turns of a connection, the operations in each and the tick that ends it, the desk calls of each of
 -- them, and the bytes.
-use Rattle.std.specs.Prelude.{◌≡◌, ℕ, ◌+◌, ◌<◌, ◌≤◌, Bool, true, false, ◌⊎◌, List, [], ◌∷◌, ◌++◌, length, map, Option, Some, None, is_some, unwrap_or, codes}
+use Rattle.std.specs.Prelude.{◌≡◌, ℕ, ◌+◌, ◌<◌, ◌≤◌, Bool, true, false, ◌⊎◌, List, [], ◌∷◌, ◌++◌, length, map, Option, Some, None, unwrap_or, codes, Result, Ok, Err}
 use Rattle.std.specs.List.{flat_map}
 use Rattle.js_base.specs.Bytes.{Bytes}
 use Rattle.js_base.specs.Framing.{frame}
@@ -9,16 +9,19 @@ use Rattle.link_edge.specs.declared.answers.Answer.{Answer}
 use Rattle.link_edge.specs.declared.answers.Answer.TheVariants as answers
 use Rattle.nats_frames.specs.declared.op.Op.{Op}
 use Rattle.nats_frames.specs.declared.op.FrameFault.{FrameFault}
-use Rattle.nats_frames.specs.declared.op.FrameFault.TheVariants as faults
+use Rattle.nats_frames.specs.declared.op.FrameFault.TheVariants as frame_faults
 use Rattle.nats_frames.specs.Decoding.{IsRefused}
 use Rattle.nats_frames.specs.Grammar.{Fronts}
 use Rattle.nats_frames.specs.Reading.{op_at, Partial}
-use Rattle.js_api.specs.Desks.{DeskEntry}
+use Rattle.js_api.specs.declared.fault.DeskFault.{DeskFault}
+use Rattle.js_api.specs.declared.fault.DeskFault.TheVariants as faults
+use Rattle.js_api.specs.Entries.{DeskEntry}
 use Rattle.js_api.specs.Clients.{Client, new_client}
-use Rattle.js_api.specs.Calls.{Open, Close, DeskAnswer, Opened, Done, Slow, Worn, NoMemory}
+use Rattle.js_api.specs.Answering.{DeskCall, Open, Options, Sub, Unsub, Publish, Tick, Settle, Collect, Close, DeskAnswer, Opened, Done, Took, Settled, Gave, Slow}
 use Rattle.session.specs.Peer.{Act, Hears as Hearing, Ticks, Peer, new_peer, peer_after, Request, Calls, CallsNothing, IsWrong, IsRefused as Refuses, request, error_line, called_bytes, uncalled_bytes}
 use Rattle.session.specs.Calling.{Called, IsMade, entries_of_calls}
-use Rattle.session.specs.Gathering.{AreGathered, IsBeforeCollect, IsGatheringCut, IsAnsweredBy, collected}
+use Rattle.session.specs.Gathering.{AreGathered, IsGathering, collected}
+use Rattle.session.specs.Stopping.{EndsInCall, IsCutBy, end_of_fault, still_written}
 use Rattle.session.specs.Keeping.{is_ping_due, is_stale, pinged, ping_bytes}
 use Rattle.session.specs.declared.ending.Limits.{Limits}
 use Rattle.session.specs.declared.ending.Ended.{Ended}
@@ -40,7 +43,7 @@ pub record Turn : Type 0 where
   pub moment : ℕ
   pub spoken : List Spoken
 
--- how the turns end: within the server's information; with no further answer of the link; with one that ends them; within a turn, where an
+-- how the turns end: within the server's information; with no further answer of the link; with one that ends them; within a turn, in which an
 -- operation or the tick may have been begun, with these desk calls; or at a moment at which the link was quiet
 pub data Last : Type 0 where
   Greeting : Last
@@ -57,15 +60,29 @@ pub record Journal : Type 0 where
 
 -- ---- an operation
 
--- the answer is none of those that end a session
-abbrev pub IsAnswered : DeskAnswer → Type 0
-IsAnswered NoMemory = ⊥
-IsAnswered (Worn kept) = ⊥
-IsAnswered _ = Unit {0}
+-- a call that may find no room for one subscription more
+abbrev pub IsSub : DeskCall → Type 0
+IsSub Open = ⊥
+IsSub (Options echo headers no_responders) = ⊥
+IsSub (Sub subject queue sid) = Unit {0}
+IsSub (Unsub sid max) = ⊥
+IsSub (Publish message now) = ⊥
+IsSub (Tick now) = ⊥
+IsSub (Settle now) = ⊥
+IsSub (Collect max) = ⊥
+IsSub Close = ⊥
+
+-- the session goes on after this answer of the call
+abbrev pub IsAnswered : DeskCall → Result DeskAnswer DeskFault → Type 0
+IsAnswered call (Ok answer) = Unit {0}
+IsAnswered call (Err faults.NoMemory) = ⊥
+IsAnswered call (Err faults.TooManySubs) = IsSub call
+IsAnswered call (Err (faults.Worn number)) = ⊥
+IsAnswered call (Err (faults.NoSession latest)) = ⊥
 
 -- the one call of an operation or a tick, or none
 abbrev pub AreAsked : Client → Request → List Called → Type 0
-AreAsked client (Calls call) calls = (called : Called) × (calls ≡ called ∷ []) × (called.call ≡ call) × IsAnswered called.answer × IsMade client called
+AreAsked client (Calls call) calls = (called : Called) × (calls ≡ called ∷ []) × (called.call ≡ call) × IsAnswered call called.answer × IsMade client called
 AreAsked client CallsNothing calls = calls ≡ []
 AreAsked client (IsWrong text) calls = calls ≡ []
 AreAsked client (Refuses refusal) calls = ⊥
@@ -118,7 +135,7 @@ hearings ops = map Hearing ops
 -- ---- turns
 
 -- between two turns: the bytes that are held, how many were taken, how many Quiets came in a row, the client, and the moment at which
--- something came last, or of the first turn where nothing came yet
+-- something came last, or of the first turn if nothing came yet
 pub record Stage : Type 0 where
   pub held : Bytes
   pub taken : ℕ
@@ -145,7 +162,7 @@ pub record Hears (old : Stage) (moment : ℕ) (spoken : List Spoken) (bytes : By
 abbrev pub is_due : Stage → ℕ → Bool
 is_due stage moment = is_ping_due (unwrap_or stage.came moment) stage.peer.pings moment
 
--- the client after a quiet turn: a PING more is not answered where one was due
+-- the client after a quiet turn: a PING more is not answered if one was due
 abbrev pub pinged_peer : Stage → ℕ → Peer
 pinged_peer stage moment = record stage.peer { pings = pinged (is_due stage moment) stage.peer.pings moment }
 
@@ -156,7 +173,7 @@ after_quiet stage moment = record stage {
   came = Some (unwrap_or stage.came moment);
 }
 
--- nothing came, and a PING was written where one is due, and then the tick was carried out
+-- nothing came, and a PING was written if one is due, and then the tick was carried out
 pub record Waits (old : Stage) (moment : ℕ) (spoken : List Spoken) (new : Stage) (said : Bytes) : Type 0 where
   pub alive : is_stale old.peer.pings moment ≡ false
   pub are_spoken : AreSpoken (pinged_peer old moment) moment spoken
@@ -193,37 +210,22 @@ AreTurns limits old (turn ∷ more) new said =
 
 -- ---- a turn that is not whole
 
--- the calls of an operation or a tick that found no memory: before its own call, in it, or after it
-pub data IsBegun (peer : Peer) (now : ℕ) (act : Act) (calls : List Called) : Type 0 where
-  Unasked : calls ≡ [] → IsBegun peer now act calls
-  Unanswered : (called : Called) → calls ≡ called ∷ [] → request now act ≡ Calls called.call → called.answer ≡ NoMemory → IsMade peer.client called
-      → IsBegun peer now act calls
-  Ungathered : (asked after : List Called) → calls ≡ asked ++ after → AreAsked peer.client (request now act) asked
-      → IsGatheringCut (peer_after peer act).client now after → IsBegun peer now act calls
+-- The session ends within an operation or a tick by this cause: in its own call or before that, or as what waits after it is gathered. These
+-- are its calls, and this is what is still written of what was said for it.
+pub data IsStopped (peer : Peer) (now : ℕ) (act : Act) (cause : Ended) (calls : List Called) (said : Bytes) : Type 0 where
+  InCall : EndsInCall peer.client (request now act) cause calls said → IsStopped peer now act cause calls said
+  InGathering : (asked after : List Called) (more : Bytes) → calls ≡ asked ++ after → AreAsked peer.client (request now act) asked
+      → IsCutBy (IsGathering (peer_after peer act).client now) (peer_after peer act).client cause after more
+      → said ≡ still_written cause (direct_answer (peer_after peer act).verbose (request now act) act asked ++ more)
+      → IsStopped peer now act cause calls said
 
-abbrev pub AreBegun : Peer → ℕ → List Act → List Called → Type 0
-AreBegun peer now [] calls = calls ≡ []
-AreBegun peer now (act ∷ []) calls = IsBegun peer now act calls
-AreBegun peer now (act ∷ next ∷ more) calls = ⊥
-
--- an operation or a tick was carried out up to a collect that told that the session is slow
-pub record IsSlowed (peer : Peer) (now : ℕ) (act : Act) (size : ℕ) (calls : List Called) (said : Bytes) : Type 0 where
-  pub asked : List Called
-  pub front : List Called
-  pub slow : Called
-  pub calls_are : calls ≡ asked ++ (front ++ slow ∷ [])
-  pub are_asked : AreAsked peer.client (request now act) asked
-  pub before : IsBeforeCollect (peer_after peer act).client now front
-  pub is_slow : IsAnsweredBy (peer_after peer act).client (Slow size) slow
-  pub said_is : said ≡ direct_answer (peer_after peer act).verbose (request now act) act asked ++ collected front
-
--- the operations at the front of the bytes, and after all that are whole the tick
+-- the operations with which the bytes begin, and after all that are whole the tick
 pub record AreActs (bytes : Bytes) (acts : List Act) (rest : Bytes) : Type 0 where
   pub ops : List Op
   pub split : Fronts bytes ops rest
   pub acts_are : (acts ≡ hearings ops) ⊎ ((acts ≡ hearings ops ++ Ticks ∷ []) × (op_at rest ≡ Partial))
 
--- what a turn begins with: a piece that was taken, or nothing, where the client is not stale; and what the session knows of the client then
+-- what a turn begins with: a piece that was taken; or nothing, and then the client is not stale
 abbrev pub Begins : Limits → Stage → Turn → List Act → Bytes → ℕ → Answer → Type 0
 Begins limits stage turn acts rest taken (answers.Piece bytes) =
     AreActs (stage.held ++ bytes) acts rest × (taken ≡ stage.taken + length bytes) × (stage.taken + length bytes ≤ limits.input)
@@ -237,7 +239,7 @@ abbrev pub peer_before : Stage → Answer → ℕ → Peer
 peer_before stage answers.Quiet moment = pinged_peer stage moment
 peer_before stage _ moment = stage.peer
 
--- what a turn says before its operations: in a quiet one a PING, where one is due
+-- what a turn says before its operations: in a quiet one a PING, if one is due
 abbrev pub said_before : Stage → Answer → ℕ → Bytes
 said_before stage answers.Quiet moment = ping_bytes (is_due stage moment)
 said_before stage _ moment = []
@@ -267,19 +269,8 @@ pub record EndsWithFault (limits : Limits) (stage : Stage) (fault : FrameFault) 
   pub refused : IsRefused fault before rest
   pub said_is : said ≡ heard_in stage turn
 
--- the next operation is whole, and is refused
-pub record EndsRefused (limits : Limits) (stage : Stage) (refusal : Refusal) (last : Last) (said : Bytes) : Type 0 where
-  pub turn : Turn
-  pub op : Op
-  pub rest : Bytes
-  pub taken : ℕ
-  pub last_is : last ≡ Within turn (Hearing op ∷ []) []
-  pub within : IsWithin limits stage turn (Hearing op ∷ []) rest taken
-  pub refused : request turn.moment (Hearing op) ≡ Refuses refusal
-  pub said_is : said ≡ heard_in stage turn
-
--- the session is slow after an operation or a tick
-pub record EndsSlow (limits : Limits) (stage : Stage) (size : ℕ) (last : Last) (said : Bytes) : Type 0 where
+-- the session stops within an operation or a tick
+pub record EndsStopped (limits : Limits) (stage : Stage) (cause : Ended) (last : Last) (said : Bytes) : Type 0 where
   pub turn : Turn
   pub act : Act
   pub calls : List Called
@@ -288,7 +279,7 @@ pub record EndsSlow (limits : Limits) (stage : Stage) (size : ℕ) (last : Last)
   pub more : Bytes
   pub last_is : last ≡ Within turn (act ∷ []) calls
   pub within : IsWithin limits stage turn (act ∷ []) rest taken
-  pub slowed : IsSlowed (peer_in stage turn) turn.moment act size calls more
+  pub stopped : IsStopped (peer_in stage turn) turn.moment act cause calls more
   pub said_is : said ≡ heard_in stage turn ++ more
 
 -- behind operations that were carried out, or behind the tick
@@ -298,18 +289,6 @@ pub record EndsBetween (limits : Limits) (stage : Stage) (last : Last) (said : B
   pub taken : ℕ
   pub last_is : last ≡ Within turn [] []
   pub within : IsWithin limits stage turn [] rest taken
-  pub said_is : said ≡ heard_in stage turn
-
--- behind operations that were carried out, or within one, or within the tick
-pub record EndsWithin (limits : Limits) (stage : Stage) (last : Last) (said : Bytes) : Type 0 where
-  pub turn : Turn
-  pub begun : List Act
-  pub calls : List Called
-  pub rest : Bytes
-  pub taken : ℕ
-  pub last_is : last ≡ Within turn begun calls
-  pub within : IsWithin limits stage turn begun rest taken
-  pub are_begun : AreBegun (peer_in stage turn) turn.moment begun calls
   pub said_is : said ≡ heard_in stage turn
 
 -- in a quiet turn, at a moment at which the client is stale
@@ -346,9 +325,10 @@ pub record EndsTold (last is : Last) (said : Bytes) : Type 0 where
 abbrev pub IsCause : Limits → Stage → Stage → Bytes → Ended → Last → Bytes → Type 0
 IsCause limits first stage greeting ends.Closed last said = IsUnspent limits stage × EndsTold last (Told answers.Ended) said
 IsCause limits first stage greeting (ends.Refused (refusals.Frame fault)) last said = EndsWithFault limits stage fault last said
-IsCause limits first stage greeting (ends.Refused refusals.NumbersUsed) last said = ⊥
-IsCause limits first stage greeting (ends.Refused refusal) last said = EndsRefused limits stage refusal last said
-IsCause limits first stage greeting (ends.Slow size) last said = EndsSlow limits stage size last said
+IsCause limits first stage greeting (ends.Refused refusals.BadConnect) last said = EndsStopped limits stage (ends.Refused refusals.BadConnect) last said
+IsCause limits first stage greeting (ends.Refused refusals.BadHeaders) last said = EndsStopped limits stage (ends.Refused refusals.BadHeaders) last said
+IsCause limits first stage greeting (ends.Refused refusals.NumbersUsed) last said = EndsStopped limits stage (ends.Refused refusals.NumbersUsed) last said
+IsCause limits first stage greeting (ends.Slow size) last said = EndsStopped limits stage (ends.Slow size) last said
 IsCause limits first stage greeting ends.Stale last said = EndsStale limits stage last said
 IsCause limits first stage greeting ends.LinkFault last said =
     (IsUnspent limits stage × EndsTold last (Told answers.Failed) said) ⊎ (EndsGreeting stage first last said greeting
@@ -356,16 +336,16 @@ IsCause limits first stage greeting ends.LinkFault last said =
 IsCause limits first stage greeting ends.InputLimit last said = IsSpent limits stage × EndsTold last Nothing said
 IsCause limits first stage greeting ends.NoMemory last said =
     EndsTold last Nothing said ⊎ (EndsGreeting stage first last said greeting
-    ⊎ (EndsWithin limits stage last said ⊎ EndsPinging limits stage last said))
+    ⊎ (EndsBetween limits stage last said ⊎ (EndsStopped limits stage ends.NoMemory last said ⊎ EndsPinging limits stage last said)))
 
 -- the text of the error line of a fault of the input
 abbrev pub fault_text : FrameFault → Option Bytes
-fault_text faults.UnknownOp = Some (codes "Unknown Protocol Operation")
-fault_text faults.LineTooLong = Some (codes "Maximum Control Line Exceeded")
-fault_text faults.BadArgs = Some (codes "Parser Error")
-fault_text (faults.PayloadTooBig size) = Some (codes "Maximum Payload Violation")
-fault_text (faults.BadEnd place) = Some (codes "Parser Error")
-fault_text faults.NoMemory = None
+fault_text frame_faults.UnknownOp = Some (codes "Unknown Protocol Operation")
+fault_text frame_faults.LineTooLong = Some (codes "Maximum Control Line Exceeded")
+fault_text frame_faults.BadArgs = Some (codes "Parser Error")
+fault_text (frame_faults.PayloadTooBig size) = Some (codes "Maximum Payload Violation")
+fault_text (frame_faults.BadEnd place) = Some (codes "Parser Error")
+fault_text frame_faults.NoMemory = None
 
 abbrev pub refusal_text : Refusal → Option Bytes
 refusal_text (refusals.Frame fault) = fault_text fault
@@ -375,10 +355,13 @@ refusal_text refusals.NumbersUsed = None
 
 -- the text of the error line with which a session ends so
 abbrev pub last_text : Ended → Option Bytes
+last_text ends.Closed = None
 last_text (ends.Refused refusal) = refusal_text refusal
 last_text (ends.Slow size) = Some (codes "Slow Consumer")
 last_text ends.Stale = Some (codes "Stale Connection")
-last_text _ = None
+last_text ends.LinkFault = None
+last_text ends.InputLimit = None
+last_text ends.NoMemory = None
 
 abbrev pub line_of : Option Bytes → Bytes
 line_of None = []
@@ -387,6 +370,16 @@ line_of (Some text) = error_line text
 abbrev pub last_line : Ended → Bytes
 last_line ended = line_of (last_text ended)
 
+-- an end at which all that waits is written, and then its error line, if it has one
+abbrev pub is_parting : Ended → Bool
+is_parting ends.Closed = false
+is_parting (ends.Refused refusal) = true
+is_parting (ends.Slow size) = true
+is_parting ends.Stale = true
+is_parting ends.LinkFault = false
+is_parting ends.InputLimit = false
+is_parting ends.NoMemory = false
+
 -- the writing failed, or memory ran out for it
 abbrev pub IsUnwritten : Ended → Type 0
 IsUnwritten ended = (ended ≡ ends.LinkFault) ⊎ (ended ≡ ends.NoMemory)
@@ -394,22 +387,25 @@ IsUnwritten ended = (ended ≡ ends.LinkFault) ⊎ (ended ≡ ends.NoMemory)
 abbrev pub IsFrontOf : Bytes → Bytes → Type 0
 IsFrontOf front whole = (more : Bytes) × (front ++ more ≡ whole)
 
--- a front of the bytes that lacks one of them or more
+-- a prefix of the bytes that lacks one of them or more
 abbrev pub IsCutOff : Bytes → Bytes → Type 0
 IsCutOff front whole = (next : ℕ) × (more : Bytes) × (front ++ next ∷ more ≡ whole)
 
--- all of it was written; where a writing failed, a front that lacks something; where memory ran out, a front
+-- all of it was written; if a writing failed, a prefix that lacks something; if memory ran out, a prefix
 abbrev pub IsWritten : Ended → Bytes → Bytes → Type 0
+IsWritten ends.Closed bytes whole = bytes ≡ whole
+IsWritten (ends.Refused refusal) bytes whole = bytes ≡ whole
+IsWritten (ends.Slow size) bytes whole = bytes ≡ whole
+IsWritten ends.Stale bytes whole = bytes ≡ whole
 IsWritten ends.LinkFault bytes whole = IsCutOff bytes whole
+IsWritten ends.InputLimit bytes whole = bytes ≡ whole
 IsWritten ends.NoMemory bytes whole = IsFrontOf bytes whole
-IsWritten _ bytes whole = bytes ≡ whole
 
--- the session ends by its cause; but where the cause's error line could not be written whole, by that
+-- the session ends by its cause; but if what waits and the cause's error line could not be written whole, by that
 abbrev pub EndsBy : Ended → Ended → Bytes → Bytes → Type 0
-EndsBy cause ended bytes whole =
-    ((ended ≡ cause) × IsWritten ended bytes whole) ⊎ ((is_some (last_text cause) ≡ true) × IsUnwritten ended × IsCutOff bytes whole)
+EndsBy cause ended bytes whole = ((ended ≡ cause) × IsWritten ended bytes whole) ⊎ ((is_parting cause ≡ true) × IsUnwritten ended × IsCutOff bytes whole)
 
--- where an answer of the link is the end, nothing is left to write, and no writing fails
+-- if an answer of the link is the end, nothing is left to write, and no writing fails
 abbrev pub EndsAs : Last → Ended → Ended → Bytes → Bytes → Type 0
 EndsAs (Told answer) cause ended bytes whole = (ended ≡ cause) × (bytes ≡ whole)
 EndsAs last cause ended bytes whole = EndsBy cause ended bytes whole
@@ -468,13 +464,21 @@ moments_of journal = map (λ (turn : Turn). turn.moment) journal.turns ++ last_m
 unfoldable pub greeting : Limits → ℕ → Bytes
 greeting limits session = frame (Info session limits.host limits.port)
 
--- the greeting, and what the turns said; but where the greeting itself was not written whole, nothing before it
+-- the greeting, and what the turns said; but if the greeting itself was not written whole, nothing before it
 abbrev pub before_last : Bytes → Last → Bytes → Bytes
 before_last greeting Greeting said = []
 before_last greeting _ said = greeting ++ said
 
+-- The closing takes no memory. If the numbers of turns are used up, the session is closed in the desk, and the router keeps it.
+abbrev pub IsClosing : Result DeskAnswer DeskFault → Type 0
+IsClosing (Ok answer) = Unit {0}
+IsClosing (Err faults.NoMemory) = ⊥
+IsClosing (Err faults.TooManySubs) = ⊥
+IsClosing (Err (faults.Worn number)) = Unit {0}
+IsClosing (Err (faults.NoSession latest)) = ⊥
+
 abbrev pub IsClosedBy : Client → List Called → Type 0
-IsClosedBy client calls = (called : Called) × (calls ≡ called ∷ []) × (called.call ≡ Close) × (called.answer ≡ Done) × IsMade client called
+IsClosedBy client calls = (called : Called) × (calls ≡ called ∷ []) × (called.call ≡ Close) × IsClosing called.answer × IsMade client called
 
 -- a session that was opened
 pub record IsTalk (limits : Limits) (session : ℕ) (journal : Journal) (bytes : Bytes) (ended : Ended) : Type 0 where
@@ -493,11 +497,15 @@ pub record IsSilent (journal : Journal) (bytes : Bytes) : Type 0 where
   pub closed : journal.closed ≡ []
   pub bytes_are : bytes ≡ []
 
-abbrev pub TalksBy : DeskAnswer → Limits → Journal → Bytes → Ended → Type 0
-TalksBy (Opened session) limits journal bytes ended = IsMade (new_client session) journal.opened × IsTalk limits session journal bytes ended
-TalksBy (Worn kept) limits journal bytes ended = IsMade (new_client 0) journal.opened × IsSilent journal bytes × (ended ≡ ends.Refused refusals.NumbersUsed)
-TalksBy NoMemory limits journal bytes ended = IsMade (new_client 0) journal.opened × IsSilent journal bytes × (ended ≡ ends.NoMemory)
-TalksBy _ limits journal bytes ended = ⊥
+-- the answer to the opening decides: a session that was opened goes its course, and a fault is the end
+abbrev pub TalksBy : Result DeskAnswer DeskFault → Limits → Journal → Bytes → Ended → Type 0
+TalksBy (Ok (Opened session)) limits journal bytes ended = IsMade (new_client session) journal.opened × IsTalk limits session journal bytes ended
+TalksBy (Ok Done) limits journal bytes ended = ⊥
+TalksBy (Ok (Took taken)) limits journal bytes ended = ⊥
+TalksBy (Ok (Settled ready)) limits journal bytes ended = ⊥
+TalksBy (Ok (Gave list more)) limits journal bytes ended = ⊥
+TalksBy (Ok (Slow length)) limits journal bytes ended = ⊥
+TalksBy (Err fault) limits journal bytes ended = IsMade (new_client 0) journal.opened × IsSilent journal bytes × (ended ≡ end_of_fault fault)
 
 -- the journal is that of a session which wrote these bytes and ended so
 pub record Talk (limits : Limits) (journal : Journal) (bytes : Bytes) (ended : Ended) : Type 0 where

@@ -2,25 +2,17 @@
 use Rattle.std.specs.Prelude.{◌≡◌, ℕ, List, [], ◌∷◌, ◌++◌, Option, Result, Ok, Err}
 use Rattle.js_base.specs.Bytes.{Bytes}
 use Rattle.link_edge.specs.Told.{grown}
-use Rattle.nats_frames.specs.declared.op.Op.{Op}
-use Rattle.js_api.specs.Desks.{DeskEntry}
+use Rattle.js_api.specs.Entries.{DeskEntry}
 use Rattle.session.specs.Calling.{Called, entries_of_calls}
-use Rattle.session.specs.Peer.{Act, Hears as Hearing, Ticks, Peer, request, IsRefused as Refuses}
-use Rattle.session.specs.Talk.{Spoken, IsSpoken, AreSpoken, AreBegun, IsSlowed, EndsBy, acts_of, heard_bytes, last_line, peer_at_end, spoken_bytes, entries_of_all, entries_of_spoken}
+use Rattle.session.specs.Peer.{Act, Ticks, Peer}
+use Rattle.session.specs.Talk.{Spoken, IsSpoken, AreSpoken, IsStopped, IsUnwritten, EndsBy, acts_of, heard_bytes, last_line, peer_at_end, spoken_bytes, entries_of_all, entries_of_spoken}
 use Rattle.session.specs.declared.ending.Ended.{Ended}
-use Rattle.session.specs.declared.ending.Ended.TheVariants as ends
-use Rattle.session.specs.declared.ending.Refusal.TheVariants as refusals
 
--- why a turn stops behind what was carried out: the operation or the tick that was begun, its calls, and what it said
-abbrev pub Stops : Ended → Peer → ℕ → List Act → List Called → Bytes → Type 0
-Stops (ends.Refused (refusals.Frame fault)) peer now begun calls said = ⊥
-Stops (ends.Refused refusals.NumbersUsed) peer now begun calls said = ⊥
-Stops (ends.Refused refusal) peer now begun calls said =
-    (op : Op) × (begun ≡ Hearing op ∷ []) × (calls ≡ []) × (request now (Hearing op) ≡ Refuses refusal) × (said ≡ [])
-Stops (ends.Slow size) peer now begun calls said = (act : Act) × (begun ≡ act ∷ []) × IsSlowed peer now act size calls said
-Stops ends.LinkFault peer now begun calls said = (begun ≡ []) × (calls ≡ []) × (said ≡ [])
-Stops ends.NoMemory peer now begun calls said = AreBegun peer now begun calls × (said ≡ [])
-Stops _ peer now begun calls said = ⊥
+-- Why a turn stops behind what was carried out: within the operation or the tick that was begun, with its calls and what it said; or behind all,
+-- because a writing failed or memory ran out.
+pub data Stops (cause : Ended) (peer : Peer) (now : ℕ) (begun : List Act) (calls : List Called) (said : Bytes) : Type 0 where
+  Within : (act : Act) → begun ≡ act ∷ [] → IsStopped peer now act cause calls said → Stops cause peer now begun calls said
+  Between : begun ≡ [] → calls ≡ [] → said ≡ [] → IsUnwritten cause → Stops cause peer now begun calls said
 
 -- the tick was carried out; what waited was given, and then the tick's bytes
 pub record IsTicked {D : Type 0} (made : D → List DeskEntry → D → Type 0) (peer : Peer) (now : ℕ) (old new : D) (waiting : Bytes) (given_old given_new : Option Bytes) : Type 0 where
@@ -30,7 +22,7 @@ pub record IsTicked {D : Type 0} (made : D → List DeskEntry → D → Type 0) 
   pub led : made old (entries_of_spoken spoken) new
   pub given : given_new ≡ grown given_old (waiting ++ spoken_bytes peer now spoken)
 
--- the session ended within the tick, or behind it: all was given, or a front of it where the giving failed or memory ran out
+-- the session ended within the tick, or behind it: all was given, or a prefix of it if the giving failed or memory ran out
 pub record IsTickCut {D : Type 0} (ended : Ended) (made : D → List DeskEntry → D → Type 0) (peer : Peer) (now : ℕ) (old new : D) (waiting : Bytes) (given_old given_new : Option Bytes) : Type 0 where
   pub spoken : List Spoken
   pub begun : List Act

@@ -6,7 +6,7 @@ use Rattle.js_base.specs.declared.frame.Frame.TheVariants.{Ping}
 use Rattle.link_edge.specs.Told.{grown}
 use Rattle.link_edge.specs.Moments.{ReadsMoment, ReadsMoments}
 use Rattle.link_edge.specs.declared.answers.Answer.{Answer}
-use Rattle.js_api.specs.Desks.{DeskEntry}
+use Rattle.js_api.specs.Entries.{DeskEntry}
 use Rattle.js_api.specs.Clients.{Client}
 use Rattle.session.specs.Keeping.{is_ping_due, is_stale, pinged, ping_bytes}
 use Rattle.session.specs.Talk.{Spoken, Stage, start, Turn, Last, Greeting, IsWhole, Ends, IsUnwritten, Waits, greeting, is_due, pinged_peer, entries_of_all, entries_of_turn, entries_of_last, last_answers, last_moments}
@@ -35,7 +35,7 @@ turns_left limits course = (limits.input - course.taken) * (limits.quiet + 1) + 
 
 -- ---- a quiet turn
 
--- the client is not stale, and a PING was given where one is due
+-- the client is not stale, and a PING was given if one is due
 pub record IsKept (came now : ℕ) (old new : List ℕ) (given_old given_new : Option Bytes) : Type 0 where
   pub alive : is_stale old now ≡ false
   pub pings : new ≡ pinged (is_ping_due came old now) old now

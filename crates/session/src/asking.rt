@@ -2,7 +2,7 @@
 
 ghost use Rattle.std.specs.Prelude.{◌≡◌, ◌++◌, ◌&&◌, true, OnOk, IfOk, option_map};
 ghost use Rattle.js_base.specs.Subjects.{is_publish_text};
-ghost use Rattle.js_api.specs.Calls.{Unsub};
+ghost use Rattle.js_api.specs.Answering.{Unsub};
 ghost use Rattle.session.specs.Connecting.{connect_options};
 ghost use Rattle.session.specs.Manners.{peer_of};
 ghost use Rattle.session.specs.Peer.{Calls, connected, connecting, fine, is_reply, message, op_request, peer_after_op, publishing, subscribing};
@@ -15,14 +15,14 @@ use crate::ending::Refusal;
 use crate::error_line::write_error;
 use crate::manners::{Manners, Pings};
 use crate::stop::Stop;
-use js_api::{Desk, SubFault};
+use js_api::{Desk, DeskFault};
 use js_base::{Blob, Frame, Moment, NoMemory, Out};
 use nats_frames::{Op, write_frame};
 use nats_headers::is_block;
 use std::alloc::Global;
 use subject_match::{check_pattern, check_subject, is_publish_subject};
 
-/// Adds `+OK`, where operations are answered by it.
+/// Adds `+OK`, if operations are answered by it.
 fn write_fine(verbose: bool, into: &mut Vec<u8>) -> Result<(), NoMemory>
     ensures ok { OnOk result (into.new.items ≡ into.old.items ++ fine verbose) }
 {
@@ -33,7 +33,7 @@ fn write_fine(verbose: bool, into: &mut Vec<u8>) -> Result<(), NoMemory>
     }
 }
 
-/// Sets the client's options by the text of a CONNECT, and answers by the new ones. An `Err` sets none.
+/// Sets the client's options by the text of a CONNECT, and answers by the new ones.
 fn connect<D: Desk>(
     alloc: Global,
     desk: &mut D,
@@ -41,18 +41,18 @@ fn connect<D: Desk>(
     manners: &mut Manners,
     into: &mut Vec<u8>,
 ) -> Result<(), Stop>
-    requires is_open { D.is_open desk.old ≡ true }
+    requires is_open { (D.client desk.old).is_open ≡ true }
     ensures asks { Asks D.made (D.client desk.old) (connecting (connect_options text.now)) (all_called_bytes manners.new.verbose)
         desk.old desk.new into.old.items into.new.items result }
     ensures peer { OnOk result (peer_of (D.client desk.new) manners.new ≡ connected (peer_of (D.client desk.old) manners.old) (connect_options text.now)) }
     ensures session { (D.client desk.new).session ≡ (D.client desk.old).session }
-    ensures is_open { D.is_open desk.new ≡ true }
+    ensures is_open { (D.client desk.new).is_open ≡ true }
 {
     let options = match read_connect(alloc, text) {
         Ok(options) => options,
         Err(stop) => return Err(stop),
     };
-    desk.options(options.echo, options.headers, options.no_responders);
+    desk.options(options.echo, options.headers, options.no_responders)?;
     manners.verbose = options.verbose;
     Ok(write_fine(options.verbose, into)?)
 }
@@ -92,7 +92,7 @@ fn is_publishable(message: &Out) -> bool
     is_publish_subject(message.to.as_slice()) && is_reply(&message.reply)
 }
 
-/// Publishes a message, where its subjects are right.
+/// Publishes a message, if its subjects are right.
 fn publish<D: Desk>(
     alloc: Global,
     desk: &mut D,
@@ -102,11 +102,11 @@ fn publish<D: Desk>(
     into: &mut Vec<u8>,
 ) -> Result<(), Stop>
     requires message { IsUnchecked message.now }
-    requires is_open { D.is_open desk.old ≡ true }
+    requires is_open { (D.client desk.old).is_open ≡ true }
     ensures asks { Asks D.made (D.client desk.old) (publishing now message.now) (said_for verbose (publishing now message.now))
         desk.old desk.new into.old.items into.new.items result }
     ensures client { D.client desk.new ≡ D.client desk.old }
-    ensures is_open { D.is_open desk.new ≡ true }
+    ensures is_open { (D.client desk.new).is_open ≡ true }
 {
     if !is_publishable(message) {
         return Ok(write_error(alloc, b"Invalid Publish Subject", into)?);
@@ -125,7 +125,7 @@ fn text_of(text: &Option<Blob>) -> Option<&[u8]>
     }
 }
 
-/// Subscribes to a pattern, where it is one.
+/// Subscribes to a pattern, if it is one.
 fn subscribe<D: Desk>(
     alloc: Global,
     desk: &mut D,
@@ -135,23 +135,23 @@ fn subscribe<D: Desk>(
     verbose: bool,
     into: &mut Vec<u8>,
 ) -> Result<(), Stop>
-    requires is_open { D.is_open desk.old ≡ true }
+    requires is_open { (D.client desk.old).is_open ≡ true }
     ensures asks { Asks D.made (D.client desk.old) (subscribing subject.now queue.now sid.now) (said_for verbose (subscribing subject.now queue.now sid.now))
         desk.old desk.new into.old.items into.new.items result }
     ensures client { D.client desk.new ≡ D.client desk.old }
-    ensures is_open { D.is_open desk.new ≡ true }
+    ensures is_open { (D.client desk.new).is_open ≡ true }
 {
     if check_pattern(subject.as_slice()).is_err() {
         return Ok(write_error(alloc, b"Invalid Subject", into)?);
     }
     match desk.sub(subject.as_slice(), text_of(queue), sid.as_slice()) {
         Ok(()) => Ok(write_fine(verbose, into)?),
-        Err(SubFault::TooManySubs) => Ok(write_error(
+        Err(DeskFault::TooManySubs) => Ok(write_error(
             alloc,
             b"maximum subscriptions exceeded",
             into,
         )?),
-        Err(SubFault::NoMemory) => Err(Stop::NoMemory),
+        Err(fault) => Err(Stop::from(fault)),
     }
 }
 
@@ -163,13 +163,13 @@ fn unsubscribe<D: Desk>(
     verbose: bool,
     into: &mut Vec<u8>,
 ) -> Result<(), Stop>
-    requires is_open { D.is_open desk.old ≡ true }
+    requires is_open { (D.client desk.old).is_open ≡ true }
     ensures asks { Asks D.made (D.client desk.old) (Calls (Unsub sid.now max)) (all_called_bytes verbose)
         desk.old desk.new into.old.items into.new.items result }
     ensures client { D.client desk.new ≡ D.client desk.old }
-    ensures is_open { D.is_open desk.new ≡ true }
+    ensures is_open { (D.client desk.new).is_open ≡ true }
 {
-    desk.unsub(sid, max);
+    desk.unsub(sid, max)?;
     Ok(write_fine(verbose, into)?)
 }
 
@@ -183,13 +183,13 @@ pub(crate) fn ask<D: Desk>(
     into: &mut Vec<u8>,
 ) -> Result<(), Stop>
     requires spelled { IsSpelled op }
-    requires is_open { D.is_open desk.old ≡ true }
+    requires is_open { (D.client desk.old).is_open ≡ true }
     ensures asks { Asks D.made (D.client desk.old) (op_request now op)
         (op_answer (peer_after_op (peer_of (D.client desk.old) manners.old) op).verbose (op_request now op) op)
         desk.old desk.new into.old.items into.new.items result }
     ensures peer { OnOk result (peer_of (D.client desk.new) manners.new ≡ peer_after_op (peer_of (D.client desk.old) manners.old) op) }
     ensures session { (D.client desk.new).session ≡ (D.client desk.old).session }
-    ensures is_open { D.is_open desk.new ≡ true }
+    ensures is_open { (D.client desk.new).is_open ≡ true }
 {
     let verbose = manners.verbose;
     match op {

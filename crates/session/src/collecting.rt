@@ -25,11 +25,11 @@ fn write_frames(list: &[Frame], into: &mut Vec<u8>) -> Result<(), NoMemory>
 
 /// Collects once, and adds the bytes of the frames: whether more are left.
 fn collect_once<D: Desk>(desk: &mut D, into: &mut Vec<u8>) -> Result<bool, Stop>
-    requires is_open { D.is_open desk.old ≡ true }
+    requires is_open { (D.client desk.old).is_open ≡ true }
     ensures collects { CollectsOnce D.made (D.client desk.old) desk.old desk.new into.old.items into.new.items result }
-    ensures fewer { LeavesFewer result (D.to_collect desk.old) (D.to_collect desk.new) }
+    ensures fewer { LeavesFewer result (D.left desk.old) (D.left desk.new) }
     ensures client { D.client desk.new ≡ D.client desk.old }
-    ensures is_open { D.is_open desk.new ≡ true }
+    ensures is_open { (D.client desk.new).is_open ≡ true }
 {
     match desk.collect(COLLECT) {
         Ok(Collected::Frames { list, more }) => match write_frames(list.as_slice(), into) {
@@ -37,16 +37,16 @@ fn collect_once<D: Desk>(desk: &mut D, into: &mut Vec<u8>) -> Result<bool, Stop>
             Err(_) => Err(Stop::NoMemory),
         },
         Ok(Collected::Slow { length }) => Err(Stop::Slow(length)),
-        Err(_) => Err(Stop::NoMemory),
+        Err(fault) => Err(Stop::from(fault)),
     }
 }
 
 /// Collects until nothing waits for the session, and adds the bytes of what waited.
 pub(crate) fn collect_all<D: Desk>(desk: &mut D, into: &mut Vec<u8>) -> Result<(), Stop>
-    requires is_open { D.is_open desk.old ≡ true }
+    requires is_open { (D.client desk.old).is_open ≡ true }
     ensures collects { Collects D.made (D.client desk.old) desk.old desk.new into.old.items into.new.items result }
     ensures client { D.client desk.new ≡ D.client desk.old }
-    ensures is_open { D.is_open desk.new ≡ true }
+    ensures is_open { (D.client desk.new).is_open ≡ true }
 {
     loop {
         match collect_once(desk, into) {

@@ -19,11 +19,11 @@ pub(crate) struct ConnectOptions {
     pub(crate) echo: bool,
     /// Whether it takes header blocks.
     pub(crate) headers: bool,
-    /// Whether it is told, by a header block, where nobody took a message.
+    /// Whether it is told, by a header block, if nobody took a message.
     pub(crate) no_responders: bool,
 }
 
-/// The options that the text of a CONNECT asks for. It is refused exactly where it is no JSON object, or one of the four options is neither
+/// The options that the text of a CONNECT asks for. It is refused exactly if it is no JSON object, or one of the four options is neither
 /// true nor false; null counts as absent, and what else stands there may be anything.
 pub(crate) fn read_connect(alloc: Global, text: &[u8]) -> Result<ConnectOptions, Stop>
     ensures reads { ReadsConnect result (connect_options text.now) }
@@ -44,7 +44,7 @@ fn stop_by(fault: JsonFault) -> Stop
     }
 }
 
-/// The options that the fields ask for. `None` where one of them is neither true nor false.
+/// The options that the fields ask for. `None` if one of them is neither true nor false.
 fn options_in(fields: &Fields) -> Option<ConnectOptions>
     ensures value { result ≡ options_in (members fields.now) }
 {
@@ -56,7 +56,7 @@ fn options_in(fields: &Fields) -> Option<ConnectOptions>
     })
 }
 
-/// The option with this name, or its default where it is absent. `None` where it is neither true nor false.
+/// The option with this name, or its default if it is absent. `None` if it is neither true nor false.
 fn flag_or(default: bool, name: &str, fields: &Fields) -> Option<bool>
     ensures value { result ≡ flag_or default name.now (members fields.now) }
 {

@@ -1,10 +1,10 @@
 //! What a session hears: pieces of the input, the operations that are whole by then, and the tick behind them.
 
-ghost use Rattle.std.specs.Prelude.{◌≡◌, ◌+◌, ◌<◌, ◌^◌, ◌++◌, true, OnOk, IfErr, length};
+ghost use Rattle.std.specs.Prelude.{◌≡◌, ◌+◌, ◌<◌, ◌^◌, ◌++◌, true, OnOk, length};
 ghost use Rattle.link_edge.specs.Causes.{HasCause};
 ghost use Rattle.nats_frames.specs.Decoding.{total};
+ghost use Rattle.session.specs.Failing.{FailsIn};
 ghost use Rattle.session.specs.Manners.{peer_of};
-ghost use Rattle.session.specs.Parting.{HasLine};
 ghost use Rattle.session.specs.Hearing.{CarriesNext, Hears};
 
 use crate::ending::{Ended, Refusal};
@@ -13,7 +13,7 @@ use crate::manners::Manners;
 use crate::operation::carry;
 use crate::parting::part_at;
 use crate::stop::Stop;
-use crate::ticking::{end_turn, rests};
+use crate::ticking::end_turn;
 use js_api::Desk;
 use js_base::Moment;
 use link_edge::Link;
@@ -29,13 +29,12 @@ fn carry_next<D: Desk>(
     now: Moment,
     into: &mut Vec<u8>,
 ) -> Result<bool, Stop>
-    requires is_open { D.is_open desk.old ≡ true }
+    requires is_open { (D.client desk.old).is_open ≡ true }
     ensures carries { CarriesNext result D.made now (peer_of (D.client desk.old) manners.old) (peer_of (D.client desk.new) manners.new)
         desk.old desk.new decoder.old decoder.new into.old.items into.new.items }
-    ensures line { IfErr result HasLine }
     ensures total { total decoder.new ≡ total decoder.old }
     ensures session { (D.client desk.new).session ≡ (D.client desk.old).session }
-    ensures is_open { D.is_open desk.new ≡ true }
+    ensures is_open { (D.client desk.new).is_open ≡ true }
 {
     match decoder.next() {
         Ok(Some(op)) => match carry(alloc, desk, op, manners, now, into) {
@@ -57,13 +56,14 @@ fn carry_all<D: Desk, L: Link>(
     manners: &mut Manners,
     now: Moment,
 ) -> Result<(), Ended>
-    requires is_open { D.is_open desk.old ≡ true }
+    requires is_open { (D.client desk.old).is_open ≡ true }
     ensures hears { Hears result D.made now (peer_of (D.client desk.old) manners.old) (peer_of (D.client desk.new) manners.new)
         desk.old desk.new decoder.old.bytes decoder.new.bytes (total decoder.old) (L.given link.old) (L.given link.new) }
     ensures fed { OnOk result (total decoder.new ≡ total decoder.old) }
     ensures session { (D.client desk.new).session ≡ (D.client desk.old).session }
-    ensures is_open { D.is_open desk.new ≡ true }
+    ensures is_open { (D.client desk.new).is_open ≡ true }
     ensures answered { L.answered link.new ≡ L.answered link.old }
+    ensures failings { FailsIn result (L.failings link.old) (L.failings link.new) }
     ensures cause { HasCause (L.faults link.old) (L.faults link.new) (result ≡ Err Ended.LinkFault) }
 {
     let mut out = Vec::new(alloc);
@@ -91,23 +91,21 @@ pub(crate) fn hear<D: Desk, L: Link>(
     piece: &[u8],
     now: Moment,
 ) -> Result<(), Ended>
-    requires is_open { D.is_open desk.old ≡ true }
+    requires is_open { (D.client desk.old).is_open ≡ true }
     requires fits { total decoder.old + length piece.now < 2 ^ 62 }
     ensures hears { Hears result D.made now (peer_of (D.client desk.old) manners.old) (peer_of (D.client desk.new) manners.new)
         desk.old desk.new (decoder.old.bytes ++ piece.now) decoder.new.bytes (total decoder.old + length piece.now)
         (L.given link.old) (L.given link.new) }
     ensures fed { OnOk result (total decoder.new ≡ total decoder.old + length piece.now) }
     ensures session { (D.client desk.new).session ≡ (D.client desk.old).session }
-    ensures is_open { D.is_open desk.new ≡ true }
+    ensures is_open { (D.client desk.new).is_open ≡ true }
     ensures answered { L.answered link.new ≡ L.answered link.old }
+    ensures failings { FailsIn result (L.failings link.old) (L.failings link.new) }
     ensures cause { HasCause (L.faults link.old) (L.faults link.new) (result ≡ Err Ended.LinkFault) }
 {
     match decoder.feed(piece) {
         Ok(()) => {}
         Err(_) => return Err(Ended::NoMemory),
-    }
-    if rests(desk, now, decoder.is_known_partial()) {
-        return Ok(());
     }
     carry_all(alloc, desk, link, decoder, manners, now)
 }

@@ -1,5 +1,6 @@
 //! How much a session may take, and how it ends.
 
+use js_api::DeskFault;
 use js_base::Blob;
 use nats_frames::FrameFault;
 
@@ -44,4 +45,22 @@ pub enum Ended {
     /// So many bytes were taken, or takes in a row were quiet, as the limits allow.
     InputLimit,
     NoMemory,
+}
+
+/// The end of a session by a fault of the desk. `TooManySubs` is answered by an error line, and `NoSession` does not come while the session is
+/// open.
+impl From<DeskFault> for Ended {
+    ghost use Rattle.std.specs.Prelude.{◌≡◌};
+    ghost use Rattle.session.specs.Stopping.{end_of_fault};
+
+    ghost from_gives = { λ fault ended. ended ≡ end_of_fault fault };
+
+    fn from(fault: DeskFault) -> Ended {
+        match fault {
+            DeskFault::Worn(_) => Ended::Refused(Refusal::NumbersUsed),
+            DeskFault::NoMemory | DeskFault::TooManySubs | DeskFault::NoSession(_) => {
+                Ended::NoMemory
+            }
+        }
+    }
 }

@@ -4,6 +4,7 @@ ghost use Rattle.std.specs.Prelude.{◌≡◌};
 ghost use Rattle.link_edge.specs.Causes.{HasCause};
 ghost use Rattle.js_base.specs.Framing.{frame as bytes_of};
 ghost use Rattle.session.specs.Giving.{Gives, Flushes, IsLinkFault, end_of};
+ghost use Rattle.session.specs.Failing.{FailsGiving};
 
 use crate::ending::Ended;
 use js_base::Frame;
@@ -34,10 +35,11 @@ impl From<GiveFault> for Ended {
     }
 }
 
-/// Gives all of the bytes. An `Err` gave a front of them.
+/// Gives all of the bytes. An `Err` gave a prefix of them.
 pub(crate) fn give_all<L: Link>(link: &mut L, bytes: &[u8]) -> Result<(), GiveFault>
     ensures given { Gives result (L.given link.old) (L.given link.new) bytes.now }
     ensures answered { L.answered link.new ≡ L.answered link.old }
+    ensures failings { FailsGiving result (L.failings link.old) (L.failings link.new) }
     ensures cause { HasCause (L.faults link.old) (L.faults link.new) (IsLinkFault result) }
 {
     let mut at = 0;
@@ -52,10 +54,11 @@ pub(crate) fn give_all<L: Link>(link: &mut L, bytes: &[u8]) -> Result<(), GiveFa
     Ok(())
 }
 
-/// Gives the bytes that wait, where they are many.
+/// Gives the bytes that wait, if they are many.
 pub(crate) fn flush<L: Link>(link: &mut L, waiting: &mut Vec<u8>) -> Result<(), GiveFault>
     ensures flushes { Flushes result (L.given link.old) (L.given link.new) waiting.old.items waiting.new.items }
     ensures answered { L.answered link.new ≡ L.answered link.old }
+    ensures failings { FailsGiving result (L.failings link.old) (L.failings link.new) }
     ensures cause { HasCause (L.faults link.old) (L.faults link.new) (IsLinkFault result) }
 {
     if waiting.len() < FLUSH {
@@ -70,7 +73,7 @@ pub(crate) fn flush<L: Link>(link: &mut L, waiting: &mut Vec<u8>) -> Result<(), 
     }
 }
 
-/// Gives a frame. An `Err` gave a front of its bytes.
+/// Gives a frame. An `Err` gave a prefix of its bytes.
 pub(crate) fn give_frame<L: Link>(
     alloc: Global,
     link: &mut L,
@@ -78,6 +81,7 @@ pub(crate) fn give_frame<L: Link>(
 ) -> Result<(), GiveFault>
     ensures given { Gives result (L.given link.old) (L.given link.new) (bytes_of frame.now) }
     ensures answered { L.answered link.new ≡ L.answered link.old }
+    ensures failings { FailsGiving result (L.failings link.old) (L.failings link.new) }
     ensures cause { HasCause (L.faults link.old) (L.faults link.new) (IsLinkFault result) }
 {
     let mut bytes = Vec::new(alloc);

@@ -1,6 +1,6 @@
 //! How a session speaks with its client, and how it keeps the connection alive.
 
-ghost use Rattle.std.specs.Prelude.{◌≡◌, ◌<◌, ◌^◌, [], ◌∷◌, ◌++◌, length};
+ghost use Rattle.std.specs.Prelude.{◌≡◌, ◌<◌, [], ◌∷◌, ◌++◌, length};
 ghost use Rattle.session.specs.Keeping.{has_passed, is_ping_due, is_stale};
 ghost use Rattle.session.specs.Manners.{moments};
 
@@ -28,16 +28,15 @@ pub(crate) struct Manners {
     pub(crate) pings: Pings,
 }
 
-/// Whether so many nanoseconds passed from the one moment to the other.
+/// Whether so many nanoseconds passed from the one moment to the other. If the moment so much later is past the last one, this is the last one.
 fn has_passed(span: u64, from: Moment, now: Moment) -> bool
-    requires span { span < 2 ^ 62 }
     ensures value { result ≡ has_passed span from now }
 {
-    from.as_nanos() + span <= now.as_nanos()
+    from.plus(span).as_nanos() <= now.as_nanos()
 }
 
 impl Pings {
-    /// Whether a PING is due, where something came last at this moment.
+    /// Whether a PING is due, if something came last at this moment.
     pub(crate) fn is_due(self, came: Moment, now: Moment) -> bool
         ensures value { result ≡ is_ping_due came (moments self) now }
     {

@@ -1,9 +1,10 @@
 //! How a session parts from its client: the error line of its end, by the NATS client protocol's `-ERR`.
 
-ghost use Rattle.std.specs.Prelude.{◌≡◌, ◌++◌, true, is_some, option_map, OnOk};
+ghost use Rattle.std.specs.Prelude.{◌≡◌, ◌++◌, true, is_some, option_map, OnOk, OnErr};
 ghost use Rattle.link_edge.specs.Causes.{HasCause};
-ghost use Rattle.session.specs.Talk.{fault_text, refusal_text, last_text, last_line};
-ghost use Rattle.session.specs.Parting.{Parts, PartsAt, HasLine};
+ghost use Rattle.session.specs.Talk.{fault_text, refusal_text, last_text, last_line, is_parting};
+ghost use Rattle.session.specs.Failing.{FailsBy};
+ghost use Rattle.session.specs.Parting.{Parts, PartsAt};
 
 use crate::ending::{Ended, Refusal};
 use crate::error_line::write_error;
@@ -65,6 +66,7 @@ fn last_text(cause: Ended) -> Option<&'static [u8]>
 /// Adds the error line of an end, if it has one.
 fn write_last_line(alloc: Global, cause: Ended, into: &mut Vec<u8>) -> Result<(), NoMemory>
     ensures ok { OnOk result (into.new.items ≡ into.old.items ++ last_line cause) }
+    ensures err { OnErr result (is_some (last_text cause) ≡ true) }
 {
     match last_text(cause) {
         Some(text) => write_error(alloc, text, into),
@@ -72,16 +74,17 @@ fn write_last_line(alloc: Global, cause: Ended, into: &mut Vec<u8>) -> Result<()
     }
 }
 
-/// Parts for a cause that has an error line: gives what waits, and then that line. Where that fails, this is the end.
+/// Parts for a cause: gives what waits, and then the cause's error line, if it has one. If that fails, this is the end.
 pub(crate) fn part<L: Link>(
     alloc: Global,
     link: &mut L,
     cause: Ended,
     waiting: &mut Vec<u8>,
 ) -> Ended
-    requires line { is_some (last_text cause) ≡ true }
+    requires parting { is_parting cause ≡ true }
     ensures parts { Parts cause result (L.given link.old) (L.given link.new) waiting.old.items }
     ensures answered { L.answered link.new ≡ L.answered link.old }
+    ensures failings { FailsBy result (L.failings link.old) (L.failings link.new) }
     ensures cause { HasCause (L.faults link.old) (L.faults link.new) (result ≡ Ended.LinkFault) }
 {
     match write_last_line(alloc, cause, waiting) {
@@ -94,16 +97,16 @@ pub(crate) fn part<L: Link>(
     }
 }
 
-/// Parts because an operation ended the session. Where memory ran out nothing more is given.
+/// Parts because an operation ended the session. If memory ran out, nothing more is given.
 pub(crate) fn part_at<L: Link>(
     alloc: Global,
     link: &mut L,
     stop: Stop,
     waiting: &mut Vec<u8>,
 ) -> Ended
-    requires line { HasLine stop }
     ensures parts { PartsAt stop result (L.given link.old) (L.given link.new) waiting.old.items }
     ensures answered { L.answered link.new ≡ L.answered link.old }
+    ensures failings { FailsBy result (L.failings link.old) (L.failings link.new) }
     ensures cause { HasCause (L.faults link.old) (L.faults link.new) (result ≡ Ended.LinkFault) }
 {
     match stop {

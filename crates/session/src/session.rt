@@ -6,12 +6,13 @@ ghost use Rattle.js_api.specs.Clients.{new_client};
 ghost use Rattle.session.specs.Host.{is_plain};
 ghost use Rattle.session.specs.Talk.{greeting};
 ghost use Rattle.session.specs.Giving.{Gives, IsLinkFault};
+ghost use Rattle.session.specs.Failing.{FailsBy, FailsGiving};
 ghost use Rattle.session.specs.Session.{Converses, Serves};
 
-use crate::ending::{Ended, Limits, Refusal};
+use crate::ending::{Ended, Limits};
 use crate::giving::{GiveFault, give_frame};
 use crate::turn::{Course, take_turn};
-use js_api::{Desk, OpenFault};
+use js_api::Desk;
 use js_base::{Frame, NoMemory};
 use link_edge::{Clock, Link};
 use std::alloc::Global;
@@ -28,6 +29,7 @@ fn greet<L: Link>(
 ) -> Result<(), GiveFault>
     ensures given { Gives result (L.given link.old) (L.given link.new) (greeting limits.now session) }
     ensures answered { L.answered link.new ≡ L.answered link.old }
+    ensures failings { FailsGiving result (L.failings link.old) (L.failings link.new) }
     ensures cause { HasCause (L.faults link.old) (L.faults link.new) (IsLinkFault result) }
 {
     let host = match limits.host.clone() {
@@ -61,13 +63,14 @@ fn converse<D: Desk, L: Link, C: Clock>(
     limits: &Limits,
     session: u64,
 ) -> Ended
-    requires is_open { D.is_open desk.old ≡ true }
+    requires is_open { (D.client desk.old).is_open ≡ true }
     requires client { D.client desk.old ≡ new_client session }
     requires input { limits.now.input < 2 ^ 62 }
     ensures converses { Converses D.made limits.now session desk.old desk.new (L.answered link.old) (L.answered link.new)
         (L.given link.old) (L.given link.new) (C.to_come clock.old) (C.to_come clock.new) result }
     ensures session { (D.client desk.new).session ≡ session }
-    ensures is_open { D.is_open desk.new ≡ true }
+    ensures is_open { (D.client desk.new).is_open ≡ true }
+    ensures failings { FailsBy result (L.failings link.old) (L.failings link.new) }
     ensures cause { HasCause (L.faults link.old) (L.faults link.new) (result ≡ Ended.LinkFault) }
 {
     let mut room = match new_room(alloc) {
@@ -88,8 +91,8 @@ fn converse<D: Desk, L: Link, C: Clock>(
     Ended::InputLimit
 }
 
-/// Serves a link over a desk, from the session's opening to its end. At each end the session is closed in the desk. The host of the limits is a
-/// text that needs no escape in JSON.
+/// Serves a link over a desk that has no open session, from the session's opening to its end. At each end the session is closed in the desk; if the
+/// numbers of turns are used up then, the router keeps it. The host of the limits is a text that needs no escape in JSON.
 pub fn serve_link<D: Desk, L: Link, C: Clock>(
     alloc: Global,
     desk: &mut D,
@@ -97,21 +100,21 @@ pub fn serve_link<D: Desk, L: Link, C: Clock>(
     clock: &mut C,
     limits: &Limits,
 ) -> Ended
-    requires closed { D.is_open desk.old ≡ false }
+    requires closed { (D.client desk.old).is_open ≡ false }
     requires input { limits.now.input < 2 ^ 62 }
     requires host { is_plain limits.now.host ≡ true }
     ensures serves { Serves D.made limits.now desk.old desk.new (L.answered link.old) (L.answered link.new)
         (L.given link.old) (L.given link.new) (C.to_come clock.old) (C.to_come clock.new) result }
-    ensures closed { D.is_open desk.new ≡ false }
+    ensures closed { (D.client desk.new).is_open ≡ false }
+    ensures failings { FailsBy result (L.failings link.old) (L.failings link.new) }
     ensures cause { HasCause (L.faults link.old) (L.faults link.new) (result ≡ Ended.LinkFault) }
 {
     match desk.open() {
         Ok(session) => {
             let ended = converse(alloc, desk, link, clock, limits, session);
-            desk.close();
+            let _ = desk.close();
             ended
         }
-        Err(OpenFault::NoMemory) => Ended::NoMemory,
-        Err(OpenFault::Worn(_)) => Ended::Refused(Refusal::NumbersUsed),
+        Err(fault) => Ended::from(fault),
     }
 }

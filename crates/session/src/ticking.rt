@@ -1,8 +1,8 @@
 //! The end of a turn: the tick, and the giving of all that waits.
 
-ghost use Rattle.std.specs.Prelude.{◌≡◌, true, false};
+ghost use Rattle.std.specs.Prelude.{◌≡◌, true};
 ghost use Rattle.link_edge.specs.Causes.{HasCause};
-ghost use Rattle.js_api.specs.Resting.{Rests};
+ghost use Rattle.session.specs.Failing.{FailsIn};
 ghost use Rattle.session.specs.Manners.{peer_of};
 ghost use Rattle.session.specs.Ticking.{EndsTurn};
 
@@ -15,18 +15,6 @@ use js_base::Moment;
 use link_edge::Link;
 use std::alloc::Global;
 
-/// Rests where nothing else is left of the turn and the desk can tell that nothing comes. Else it answers false, and does nothing.
-pub(crate) fn rests<D: Desk>(desk: &mut D, now: Moment, nothing_left: bool) -> bool
-    requires is_open { D.is_open desk.old ≡ true }
-    ensures rests { result ≡ true → Rests D.made (D.client desk.old) now desk.old desk.new }
-    ensures nothing_left { result ≡ true → nothing_left ≡ true }
-    ensures nothing { result ≡ false → desk.new ≡ desk.old }
-    ensures client { D.client desk.new ≡ D.client desk.old }
-    ensures is_open { D.is_open desk.new ≡ true }
-{
-    nothing_left && desk.rest(now)
-}
-
 /// Ends a turn: carries out the tick, and gives the bytes that wait and those of the tick.
 pub(crate) fn end_turn<D: Desk, L: Link>(
     alloc: Global,
@@ -35,17 +23,15 @@ pub(crate) fn end_turn<D: Desk, L: Link>(
     now: Moment,
     waiting: &mut Vec<u8>,
 ) -> Result<(), Ended>
-    requires is_open { D.is_open desk.old ≡ true }
+    requires is_open { (D.client desk.old).is_open ≡ true }
     ensures ticks { (manners : _) → EndsTurn result D.made (peer_of (D.client desk.old) manners) now desk.old desk.new
         waiting.old.items (L.given link.old) (L.given link.new) }
     ensures client { D.client desk.new ≡ D.client desk.old }
-    ensures is_open { D.is_open desk.new ≡ true }
+    ensures is_open { (D.client desk.new).is_open ≡ true }
     ensures answered { L.answered link.new ≡ L.answered link.old }
+    ensures failings { FailsIn result (L.failings link.old) (L.failings link.new) }
     ensures cause { HasCause (L.faults link.old) (L.faults link.new) (result ≡ Err Ended.LinkFault) }
 {
-    if rests(desk, now, waiting.is_empty()) {
-        return Ok(());
-    }
     match carry_tick(desk, now, waiting) {
         Ok(()) => {}
         Err(stop) => return Err(part_at(alloc, link, stop, waiting)),

@@ -4,6 +4,7 @@ ghost use Rattle.std.specs.Prelude.{◌≡◌, ◌≤◌, ◌<◌, ◌+◌, ◌^
 ghost use Rattle.link_edge.specs.Causes.{HasCause};
 ghost use Rattle.nats_frames.specs.Decoding.{total};
 ghost use Rattle.js_api.specs.Clients.{new_client};
+ghost use Rattle.session.specs.Failing.{FailsIn};
 ghost use Rattle.session.specs.Manners.{moments};
 ghost use Rattle.session.specs.Talk.{start, IsUnspent};
 ghost use Rattle.session.specs.Turning.{stage_of, turns_left, Keeps, Rests, Turns};
@@ -29,7 +30,7 @@ pub(crate) struct Course {
     pub(crate) taken: u64,
     /// How many takes in a row were quiet.
     pub(crate) quiets: u64,
-    /// When something came last; or the moment of the first turn, where nothing came yet.
+    /// When something came last; or the moment of the first turn, if nothing came yet.
     pub(crate) came: Option<Moment>,
 }
 
@@ -63,7 +64,7 @@ fn room_within(room: usize, left: u64) -> usize
     room.min(usize::try_from(left).unwrap_or(room))
 }
 
-/// Keeps the connection alive in a quiet turn: gives a PING where one is due. A client that answers none for too long is given up.
+/// Keeps the connection alive in a quiet turn: gives a PING if one is due. A client that answers none for too long is given up.
 fn keep_alive<L: Link>(
     alloc: Global,
     link: &mut L,
@@ -73,6 +74,7 @@ fn keep_alive<L: Link>(
 ) -> Result<(), Ended>
     ensures keeps { Keeps result came now (moments pings.old) (moments pings.new) (L.given link.old) (L.given link.new) }
     ensures answered { L.answered link.new ≡ L.answered link.old }
+    ensures failings { FailsIn result (L.failings link.old) (L.failings link.new) }
     ensures cause { HasCause (L.faults link.old) (L.faults link.new) (result ≡ Err Ended.LinkFault) }
 {
     if pings.is_stale(now) {
@@ -99,7 +101,7 @@ fn rest<D: Desk, L: Link>(
     course: &mut Course,
     now: Moment,
 ) -> Result<(), Ended>
-    requires is_open { D.is_open desk.old ≡ true }
+    requires is_open { (D.client desk.old).is_open ≡ true }
     requires quiets { course.old.quiets + 1 < 2 ^ 64 }
     ensures rests { Rests result D.made now (stage_of (D.client desk.old) course.old) (stage_of (D.client desk.new) course.new) desk.old desk.new
         (L.given link.old) (L.given link.new) }
@@ -107,8 +109,9 @@ fn rest<D: Desk, L: Link>(
     ensures taken { OnOk result (course.new.taken ≡ course.old.taken) }
     ensures quiets { OnOk result (course.new.quiets ≡ course.old.quiets + 1) }
     ensures client { D.client desk.new ≡ D.client desk.old }
-    ensures is_open { D.is_open desk.new ≡ true }
+    ensures is_open { (D.client desk.new).is_open ≡ true }
     ensures answered { L.answered link.new ≡ L.answered link.old }
+    ensures failings { FailsIn result (L.failings link.old) (L.failings link.new) }
     ensures cause { HasCause (L.faults link.old) (L.faults link.new) (result ≡ Err Ended.LinkFault) }
 {
     let came = course.came.unwrap_or(now);
@@ -126,7 +129,7 @@ fn rest<D: Desk, L: Link>(
     Ok(())
 }
 
-/// Takes a turn: hears a piece, or rests where nothing came. An `Err` is the session's end.
+/// Takes a turn: hears a piece, or rests if nothing came. An `Err` is the session's end.
 pub(crate) fn take_turn<D: Desk, L: Link, C: Clock>(
     alloc: Global,
     desk: &mut D,
@@ -136,7 +139,7 @@ pub(crate) fn take_turn<D: Desk, L: Link, C: Clock>(
     course: &mut Course,
     room: &mut [u8],
 ) -> Result<(), Ended>
-    requires is_open { D.is_open desk.old ≡ true }
+    requires is_open { (D.client desk.old).is_open ≡ true }
     requires unspent { IsUnspent limits.now (stage_of (D.client desk.old) course.old) }
     requires fed { total course.old.decoder ≡ course.old.taken }
     requires room { 0 < length room.old }
@@ -149,7 +152,8 @@ pub(crate) fn take_turn<D: Desk, L: Link, C: Clock>(
     ensures quiet { OnOk result (course.new.quiets ≤ limits.now.quiet) }
     ensures fewer { OnOk result (turns_left limits.now course.new < turns_left limits.now course.old) }
     ensures session { (D.client desk.new).session ≡ (D.client desk.old).session }
-    ensures is_open { D.is_open desk.new ≡ true }
+    ensures is_open { (D.client desk.new).is_open ≡ true }
+    ensures failings { FailsIn result (L.failings link.old) (L.failings link.new) }
     ensures cause { HasCause (L.faults link.old) (L.faults link.new) (result ≡ Err Ended.LinkFault) }
 {
     let most = room_within(room.len(), limits.input - course.taken);

@@ -1,7 +1,7 @@
 use Rattle.std.proofs.Common.{◌≡◌, length, map, arith}
 use Rattle.js_model.specs.Limits.{names_a_page}
 use Rattle.js_model.specs.declared.reply.StreamInfo.{StreamInfo}
-use Rattle.js_api.specs.Api.{page}
+use Rattle.js_api.specs.AllStreams.{page}
 use Rattle.desk_answers.proofs.Ordered.{names_told, page_names}
 use Rattle.desk_answers.proofs.paging.names_reply.Goals as goal
 

@@ -1,19 +1,16 @@
-use Rattle.std.specs.Prelude.{codes, is_ok}
+use Rattle.js_api.specs.Leading.{Makes}
+use Rattle.api_calls.specs.declared.call.ApiCall.TheVariants as calls
+use Rattle.api_calls.specs.Names.{name_of}
 use Rattle.js_model.specs.declared.event.What.TheVariants as whats
-use Rattle.js_api.specs.Api.{IsAbsent, IsOnStream, free_if_dropped}
-use Rattle.desk_calls.proofs.Asked.{on_stream, is_absent, is_present}
+use Rattle.js_model.specs.Catalog as catalog
+use Rattle.js_api.specs.OneStream.{IsAbsent, IsAdding, IsChanging, IsCreating, IsDeleting, IsOnStream, IsUpdating, GoesOnAdded, free_if_dropped, unchanged}
+use Rattle.js_api.specs.Stages.{LooksUp}
+use Rattle.desk_calls.proofs.Stages.{by_fault, stops}
+use Rattle.desk_calls.proofs.OneStream.{named_within}
 use Rattle.desk_calls.proofs.asking.delete_stream.Goals as goal
 
-pub returns-in-Some-clause-performs : goal.returns-in-Some-clause-performs
-returns-in-Some-clause-performs g c =
-    let done = is_ok c.end_call.result in
-    let what = whats.Drop c.args.to.now in
-    is_present c.args.stream.now (IsAbsent (codes "stream_delete") c.args.to.now done) (λ at. IsOnStream (codes "stream_delete") at what c.args.now (free_if_dropped at) done) _ _ c.in-Some.at
-    (rw c.in-Some.is at c.by_name.ensures.found)
-    (on_stream (codes "stream_delete") c.drop_at-outcome.result c.in-Some.at what c.args.now (free_if_dropped c.in-Some.at) done _ _ _ c.drop_at-outcome.ensures.drops c.end_call.ensures.ends)
+pub returns-in_err-found-clause-made : goal.returns-in_err-found-clause-made
+returns-in_err-found-clause-made g c = by_fault (λ r. Makes g.G.Ground.made (IsDeleting c.args.stream.now c.args.to.now c.args.now r) _ _) _ _ c.from_residual.ensures.1 (stops g.G.Ground.made (LooksUp (catalog.ByName c.args.stream.now)) _ c.begin.result _ _ _ c.in_err-found.was c.begin.ensures.made)
 
-pub returns-in-None-clause-performs : goal.returns-in-None-clause-performs
-returns-in-None-clause-performs g c =
-    let done = is_ok c.refuse_absent.result in
-    is_absent c.args.stream.now (IsAbsent (codes "stream_delete") c.args.to.now done) (λ at. IsOnStream (codes "stream_delete") at (whats.Drop c.args.to.now) c.args.now (free_if_dropped at) done) _ _
-    (rw c.in-None.is at c.by_name.ensures.found) c.refuse_absent.ensures.refuses
+pub returns-clause-made : goal.returns-clause-made
+returns-clause-made g c = named_within g.G.Ground.made g.met.G.Ground.made_more c.args.stream.now (IsAbsent (name_of calls.StreamDelete) c.args.to.now) (λ at. IsOnStream (name_of calls.StreamDelete) at (whats.Drop c.args.to.now) c.args.now (free_if_dropped at)) c.begin.result c.in_ok-found.found c.drop_found-result.result _ _ _ _ c.in_ok-found.was c.begin.ensures.made c.drop_found-result.ensures.made c.end.ensures.made

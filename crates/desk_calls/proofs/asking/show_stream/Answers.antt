@@ -1,21 +1,26 @@
-use Rattle.std.proofs.Common.{refl}
-use Rattle.std.specs.Prelude.{codes, is_ok}
+use Rattle.std.proofs.Common.{Some, None, refl}
+use Rattle.js_api.specs.Leading.{Makes}
+use Rattle.api_calls.specs.declared.call.ApiCall.TheVariants as calls
+use Rattle.api_calls.specs.Names.{name_of}
 use Rattle.js_model.specs.declared.event.What.TheVariants as whats
-use Rattle.js_api.specs.Api.{IsAbsent, IsOnStream, unchanged}
-use Rattle.desk_calls.proofs.Asked.{held_alone, on_stream, is_absent, is_present}
+use Rattle.js_api.specs.OneStream.{IsAbsent, IsOnStream, IsShowing, unchanged}
+use Rattle.js_api.specs.Stages.{LooksUp}
+use Rattle.js_model.specs.Catalog as catalog
+use Rattle.desk_calls.proofs.Stages.{by_fault, if_absent, if_found, stops}
+use Rattle.desk_calls.proofs.OneStream.{named, on_stream}
 use Rattle.desk_calls.proofs.asking.show_stream.Goals as goal
 
-pub returns-in-Some-clause-performs : goal.returns-in-Some-clause-performs
-returns-in-Some-clause-performs g c =
-    let done = is_ok c.end_call.result in
-    let what = whats.StreamInfo c.args.to.now in
-    is_present c.args.stream.now (IsAbsent (codes "stream_info") c.args.to.now done) (λ at. IsOnStream (codes "stream_info") at what c.args.now unchanged done) _ _ c.in-Some.at
-    (rw c.in-Some.is at c.by_name.ensures.found)
-    (on_stream (codes "stream_info") c.ask_info-outcome.result c.in-Some.at what c.args.now unchanged done _ _ _
-    (held_alone c.ask_info-outcome.result c.in-Some.at what c.args.now _ _ c.ask_info-outcome.ensures.asks unchanged refl) c.end_call.ensures.ends)
+pub returns-in_err-by_name-clause-made : goal.returns-in_err-by_name-clause-made
+returns-in_err-by_name-clause-made g c = by_fault (λ r. Makes g.G.Ground.made (IsShowing c.args.stream.now c.args.to.now c.args.now r) _ _) _ _ c.from_residual.ensures.1 (stops g.G.Ground.made (LooksUp (catalog.ByName c.args.stream.now)) _ c.by_name.result _ _ _ c.in_err-by_name.was c.by_name.ensures.made)
 
-pub returns-in-None-clause-performs : goal.returns-in-None-clause-performs
-returns-in-None-clause-performs g c =
-    let done = is_ok c.refuse_absent.result in
-    is_absent c.args.stream.now (IsAbsent (codes "stream_info") c.args.to.now done) (λ at. IsOnStream (codes "stream_info") at (whats.StreamInfo c.args.to.now) c.args.now unchanged done) _ _
-    (rw c.in-None.is at c.by_name.ensures.found) c.refuse_absent.ensures.refuses
+pub returns-in-Some-clause-made : goal.returns-in-Some-clause-made
+returns-in-Some-clause-made g c = 
+    let name = name_of calls.StreamInfo in
+    let what = whats.StreamInfo c.args.to.now in
+    named g.G.Ground.made g.met.G.Ground.made_more c.args.stream.now (IsAbsent name c.args.to.now) (λ at. IsOnStream name at what c.args.now unchanged) c.by_name.result (Some c.in-Some.at) c.end_call.result _ _ _ c.in_ok-by_name.was c.by_name.ensures.made
+    (on_stream g.G.Ground.made g.met.G.Ground.made_more name c.in-Some.at what c.args.now unchanged c.ask_info-outcome.result c.end_call.result _ _ _ _ c.ask_info-outcome.ensures.made (g.met.G.Ground.made_nothing _) c.end_call.ensures.made)
+
+pub returns-in-None-clause-made : goal.returns-in-None-clause-made
+returns-in-None-clause-made g c = 
+    let name = name_of calls.StreamInfo in
+    named g.G.Ground.made g.met.G.Ground.made_more c.args.stream.now (IsAbsent name c.args.to.now) (λ at. IsOnStream name at (whats.StreamInfo c.args.to.now) c.args.now unchanged) c.by_name.result None c.refuse_for.result _ _ _ c.in_ok-by_name.was c.by_name.ensures.made c.refuse_for.ensures.made

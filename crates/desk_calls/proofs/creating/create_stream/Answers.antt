@@ -1,21 +1,20 @@
-use Rattle.std.proofs.Common.{refl}
-use Rattle.std.specs.Prelude.{codes, is_ok}
+use Rattle.desk_calls.proofs.Asked.{may_make}
+use Rattle.js_api.specs.Leading.{Makes}
+use Rattle.api_calls.specs.declared.call.ApiCall.TheVariants as calls
+use Rattle.api_calls.specs.Names.{name_of}
 use Rattle.js_model.specs.declared.event.What.TheVariants as whats
-use Rattle.js_api.specs.Api.{IsAdding, IsOnStream, unchanged}
-use Rattle.desk_calls.proofs.Asked.{held_alone, on_stream, is_absent, is_present}
+use Rattle.js_model.specs.Catalog as catalog
+use Rattle.js_api.specs.OneStream.{IsAbsent, IsAdding, IsChanging, IsCreating, IsDeleting, IsOnStream, IsUpdating, GoesOnAdded, free_if_dropped, unchanged}
+use Rattle.js_api.specs.Stages.{LooksUp}
+use Rattle.desk_calls.proofs.Stages.{by_fault, stops}
+use Rattle.desk_calls.proofs.OneStream.{named_within}
 use Rattle.desk_calls.proofs.creating.create_stream.Goals as goal
 
-pub returns-in-Some-clause-performs : goal.returns-in-Some-clause-performs
-returns-in-Some-clause-performs g c =
-    let done = is_ok c.end_call.result in
-    let what = whats.Make c.args.to.now c.args.config in
-    is_present c.args.stream.now (IsAdding c.args.stream.now c.args.config c.args.to.now c.args.now done) (λ at. IsOnStream (codes "stream_create") at what c.args.now unchanged done) _ _ c.in-Some.at
-    (rw c.in-Some.is at c.by_name.ensures.found)
-    (on_stream (codes "stream_create") c.ask_make-outcome.result c.in-Some.at what c.args.now unchanged done _ _ _
-    (held_alone c.ask_make-outcome.result c.in-Some.at what c.args.now _ _ c.ask_make-outcome.ensures.asks unchanged refl) c.end_call.ensures.ends)
+pub returns-in_err-found-clause-made : goal.returns-in_err-found-clause-made
+returns-in_err-found-clause-made g c = by_fault (λ r. Makes g.G.Ground.made (IsCreating c.args.stream.now c.args.config c.args.to.now c.args.now r) _ _) _ _ c.from_residual.ensures.1 (stops g.G.Ground.made (LooksUp (catalog.ByName c.args.stream.now)) _ c.begin.result _ _ _ c.in_err-found.was c.begin.ensures.made)
 
-pub returns-in-None-clause-performs : goal.returns-in-None-clause-performs
-returns-in-None-clause-performs g c =
-    let done = is_ok c.add_stream.result in
-    is_absent c.args.stream.now (IsAdding c.args.stream.now c.args.config c.args.to.now c.args.now done) (λ at. IsOnStream (codes "stream_create") at (whats.Make c.args.to.now c.args.config) c.args.now unchanged done) _ _
-    (rw c.in-None.is at c.by_name.ensures.found) c.add_stream.ensures.adds
+pub returns-clause-made : goal.returns-clause-made
+returns-clause-made g c = named_within g.G.Ground.made g.met.G.Ground.made_more c.args.stream.now (IsAdding c.args.stream.now c.args.config (GoesOnAdded c.args.config c.args.to.now c.args.now)) (λ at. IsOnStream (name_of calls.StreamCreate) at (whats.Make c.args.to.now c.args.config) c.args.now unchanged) c.begin.result c.in_ok-found.found c.create_found-result.result _ _ _ _ c.in_ok-found.was c.begin.ensures.made c.create_found-result.ensures.made c.end.ensures.made
+
+pub create_found-requires-clause-asked : goal.create_found-requires-clause-asked
+create_found-requires-clause-asked g c = may_make c.args.stream.now c.args.config c.args.to.now c.requires.setup c.requires.to

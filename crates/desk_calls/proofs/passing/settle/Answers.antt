@@ -1,9 +1,11 @@
-use Rattle.std.proofs.Common.{◌∙◌, refl, sym}
-use Rattle.desk_calls.proofs.Passed.{settled_there, settled_nowhere}
+use Rattle.std.proofs.Common.{Ok, refl}
+use Rattle.js_api.specs.Answering.{Done, Settled, done, settled}
+use Rattle.js_api.specs.Calls.{Passes, Resumes, Settles}
+use Rattle.desk_calls.proofs.Stages.{goes_on}
+use Rattle.desk_calls.proofs.Publishes.{answered}
 use Rattle.desk_calls.proofs.passing.settle.Goals as goal
 
-pub returns-in-Some-clause-settles : goal.returns-in-Some-clause-settles
-returns-in-Some-clause-settles g c = settled_there _ _ _ c.in-Some.at c.pass_at.result (sym c.in-Some.is ∙ c.last.ensures.value) c.pass_at.ensures.passes
-
-pub returns-in-None-clause-settles : goal.returns-in-None-clause-settles
-returns-in-None-clause-settles g c = settled_nowhere _ _ _ (sym c.in-None.is ∙ c.last.ensures.value) refl
+pub returns-clause-made : goal.returns-clause-made
+returns-clause-made g c = 
+    answered g.G.Ground.made Settled (Settles c.args.now) c.pass.result _ _
+    (goes_on g.G.Ground.made g.met.G.Ground.made_more Resumes (Passes c.args.now) (Ok c.resume-last.result) c.resume-last.result c.pass.result _ _ _ refl c.resume-last.ensures.made c.pass.ensures.made)

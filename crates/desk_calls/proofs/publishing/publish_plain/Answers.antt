@@ -1,34 +1,29 @@
-use Rattle.std.proofs.Common.{◌∙◌, sym}
-use Rattle.desk_calls.specs.Publishes.{client_of}
-use Rattle.desk_calls.proofs.BySubject.{plain_untaken}
-use Rattle.desk_calls.proofs.Endings.{said_so, gone_so, short_so, short_not_gone}
-use Rattle.desk_hold.proofs.Leading.{keeps_both}
-use Rattle.desk_calls.proofs.Plain.{unrouted, stored, cut}
+use Rattle.std.proofs.Common.{refl}
+use Rattle.js_api.specs.Leading.{Makes}
+use Rattle.js_api.specs.Publishing.{PublishesPlain}
+use Rattle.desk_calls.specs.Callers.{client_of}
+use Rattle.desk_calls.proofs.Stages.{by_fault}
+use Rattle.desk_calls.proofs.Publishes.{looked, offered, stored, unlooked, unoffered, unstored}
 use Rattle.desk_calls.proofs.publishing.publish_plain.Goals as goal
 
-pub returns-in-Err-clause-publishes : goal.returns-in-Err-clause-publishes
-returns-in-Err-clause-publishes g c = unrouted (client_of c.args.caller) _ _ _ _ c.in-Err.field-0 c.requires.opened (rw c.in-Err.is at c.publish.ensures.routes)
+pub returns-in_err-subscriptions-clause-made : goal.returns-in_err-subscriptions-clause-made
+returns-in_err-subscriptions-clause-made g c = by_fault (λ r. Makes g.G.Ground.made (PublishesPlain (client_of c.args.caller) c.args.message.now c.args.now r) _ _) _ _ c.from_residual.ensures.1 (unoffered g.G.Ground.made g.met.G.Ground.made_more (client_of c.args.caller) c.args.message.now c.args.now c.publish.result _ _ _ c.in_err-subscriptions.was c.publish.ensures.made)
 
-pub returns-in-Told-clause-publishes : goal.returns-in-Told-clause-publishes
-returns-in-Told-clause-publishes g c =
-    let s = said_so c.offer-outcome.result (sym c.ending.ensures.value ∙ c.in-Told.is) in
-    stored (client_of c.args.caller) _ _ _ _ c.in-Ok.subscriptions (rw c.in-Ok.is at c.publish.ensures.routes) s.reply _ (rw s.is at c.offer-outcome.ensures.offers)
+pub returns-in_err-found-clause-made : goal.returns-in_err-found-clause-made
+returns-in_err-found-clause-made g c = 
+    by_fault (λ r. Makes g.G.Ground.made (PublishesPlain (client_of c.args.caller) c.args.message.now c.args.now r) _ _) _ _ c.from_residual.ensures.1
+    (offered g.G.Ground.made g.met.G.Ground.made_more (client_of c.args.caller) c.args.message.now c.args.now c.publish.result c.in_ok-subscriptions.subscriptions _ _ _ _ c.in_ok-subscriptions.was c.publish.ensures.made
+    (unlooked g.G.Ground.made g.met.G.Ground.made_more (client_of c.args.caller) c.args.message.now c.args.now c.in_ok-subscriptions.subscriptions c.find.result _ _ _ c.in_err-found.was (rw c.as_slice.ensures at c.find.ensures.made)))
 
-pub returns-in-Told-clause-kept : goal.returns-in-Told-clause-kept
-returns-in-Told-clause-kept g c = keeps_both _ _ _ c.publish.ensures.kept c.offer-outcome.ensures.kept
+pub returns-in_err-other-clause-made : goal.returns-in_err-other-clause-made
+returns-in_err-other-clause-made g c = 
+    by_fault (λ r. Makes g.G.Ground.made (PublishesPlain (client_of c.args.caller) c.args.message.now c.args.now r) _ _) _ _ c.from_residual.ensures.1
+    (offered g.G.Ground.made g.met.G.Ground.made_more (client_of c.args.caller) c.args.message.now c.args.now c.publish.result c.in_ok-subscriptions.subscriptions _ _ _ _ c.in_ok-subscriptions.was c.publish.ensures.made
+    (looked g.G.Ground.made g.met.G.Ground.made_more (client_of c.args.caller) c.args.message.now c.args.now c.in_ok-subscriptions.subscriptions c.find.result c.in_ok-found.found _ _ _ _ c.in_ok-found.was (rw c.as_slice.ensures at c.find.ensures.made)
+    (unstored g.G.Ground.made g.met.G.Ground.made_more (client_of c.args.caller) c.args.message.now c.args.now c.in_ok-subscriptions.subscriptions c.in_ok-found.found c.store.result _ _ _ c.in_err-other.was c.store.ensures.made)))
 
-pub returns-in-Short-clause-publishes : goal.returns-in-Short-clause-publishes
-returns-in-Short-clause-publishes g c =
-    let e = sym c.ending.ensures.value ∙ c.in-Short.is in
-    cut (client_of c.args.caller) _ _ _ _ c.in-Ok.subscriptions (rw c.in-Ok.is at c.publish.ensures.routes) c.offer-outcome.result _ (short_so _ e) (short_not_gone _ e) c.offer-outcome.ensures.offers
-
-pub returns-in-Short-clause-kept : goal.returns-in-Short-clause-kept
-returns-in-Short-clause-kept g c = keeps_both _ _ _ c.publish.ensures.kept c.offer-outcome.ensures.kept
-
-pub returns-in-Absent-clause-publishes : goal.returns-in-Absent-clause-publishes
-returns-in-Absent-clause-publishes g c =
-    let e = gone_so c.offer-outcome.result (sym c.ending.ensures.value ∙ c.in-Absent.is) in
-    plain_untaken c.args.caller _ _ _ _ _ _ c.in-Ok.subscriptions c.tell_untaken.result (rw c.in-Ok.is at c.publish.ensures.routes) (rw e at c.offer-outcome.ensures.offers) c.tell_untaken.ensures.tells
-
-pub returns-in-Absent-clause-kept : goal.returns-in-Absent-clause-kept
-returns-in-Absent-clause-kept g c = keeps_both _ _ _ c.publish.ensures.kept (keeps_both _ _ _ c.offer-outcome.ensures.kept c.tell_untaken.ensures.kept)
+pub returns-clause-made : goal.returns-clause-made
+returns-clause-made g c = 
+    offered g.G.Ground.made g.met.G.Ground.made_more (client_of c.args.caller) c.args.message.now c.args.now c.publish.result c.in_ok-subscriptions.subscriptions c.tell_untaken.result _ _ _ c.in_ok-subscriptions.was c.publish.ensures.made
+    (looked g.G.Ground.made g.met.G.Ground.made_more (client_of c.args.caller) c.args.message.now c.args.now c.in_ok-subscriptions.subscriptions c.find.result c.in_ok-found.found c.tell_untaken.result _ _ _ c.in_ok-found.was (rw c.as_slice.ensures at c.find.ensures.made)
+    (stored g.G.Ground.made g.met.G.Ground.made_more (client_of c.args.caller) c.args.message.now c.args.now c.in_ok-subscriptions.subscriptions c.in_ok-found.found c.store.result c.in_ok-other.other c.tell_untaken.result _ _ _ c.in_ok-other.was c.store.ensures.made c.tell_untaken.ensures.made))

@@ -1,12 +1,13 @@
-use Rattle.desk_calls.proofs.Offered.{unmade_at}
-use Rattle.desk_calls.proofs.Published.{may_publish}
+use Rattle.std.proofs.Common.{Ok, false, refl}
+use Rattle.js_api.specs.Publishing.{Reaches}
+use Rattle.js_api.specs.Stages.{Gives}
+use Rattle.desk_calls.specs.Callers.{client_of}
+use Rattle.desk_calls.proofs.Stages.{if_absent, if_found, nothing}
+use Rattle.desk_calls.proofs.Publishes.{reaches}
 use Rattle.desk_calls.proofs.publishing.store.Goals as goal
 
-pub hold-requires-clause-asked : goal.hold-requires-clause-asked
-hold-requires-clause-asked g c = rw c.in-Ok.ensures.what (may_publish c.args.message.now c.requires.message c.requires.plain)
+pub returns-in-Some-clause-made : goal.returns-in-Some-clause-made
+returns-in-Some-clause-made g c = if_found g.G.Ground.made (Gives false c.end_store.result) (λ at. Reaches c.args.message.now c.args.now at c.end_store.result) c.args.found c.in-Some.at _ _ c.in-Some.is (reaches g.G.Ground.made g.met.G.Ground.made_more c.args.message.now c.args.now c.in-Some.at c.ask_store-outcome.result c.end_store.result _ _ _ c.ask_store-outcome.ensures.made c.end_store.ensures.made)
 
-pub returns-in-Ok-clause-stores : goal.returns-in-Ok-clause-stores
-returns-in-Ok-clause-stores g c = rw c.in-Ok.ensures.what at c.hold.ensures.holds
-
-pub returns-in-Err-clause-stores : goal.returns-in-Err-clause-stores
-returns-in-Err-clause-stores g c = unmade_at _ _ _ _ c.requires.within
+pub returns-in-None-clause-made : goal.returns-in-None-clause-made
+returns-in-None-clause-made g c = if_absent g.G.Ground.made (Gives false (Ok false)) (λ at. Reaches c.args.message.now c.args.now at (Ok false)) c.args.found _ _ c.in-None.is (nothing g.G.Ground.made (Gives false (Ok false)) _ (g.met.G.Ground.made_nothing _) (record { result_is = refl; entries_are = refl }))

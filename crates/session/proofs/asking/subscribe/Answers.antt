@@ -1,20 +1,21 @@
-use Rattle.std.proofs.Common.{◌≡◌, ◌∙◌, true, sym}
+use Rattle.std.proofs.Common.{◌≡◌, ◌∙◌, true, refl, sym}
 use Rattle.js_base.specs.Subjects.{is_pattern_text}
-use Rattle.session.proofs.Asked.{subscribing_right, asked_one, finished, unanswered, unsaid}
+use Rattle.session.proofs.Asked.{subscribing_right, asked_last, asked_one, stopped_as, unsaid}
 use Rattle.session.proofs.asking.subscribe.Goals as goal
 
 pub returns-in_err-write_fine-in-Ok-clause-asks : goal.returns-in_err-write_fine-in-Ok-clause-asks
 returns-in_err-write_fine-in-Ok-clause-asks g c =
     let right : is_pattern_text c.args.subject.now ≡ true = rw c.as_slice.ensures at (sym c.check_pattern.ensures.ok ∙ c.if-is_err.ensures.negation) in
-    finished _ _ _ _ _ _ _ _ c.from_residual-in_err-write_fine-in-Ok.result c.from_residual-in_err-write_fine-in-Ok.ensures.1
-    (unsaid _ _ _ _ _ _ _ (subscribing_right _ c.args.queue.now c.args.sid.now right) tt (rw (c.as_slice-2.ensures, c.text_of.ensures.value, c.as_slice-3.ensures) at c.in-Ok.ensures.made))
+    stopped_as _ _ _ _ _ _ _ _ c.from_residual-in_err-write_fine-in-Ok.result _ c.from_residual-in_err-write_fine-in-Ok.ensures.1
+    (unsaid _ _ _ _ _ _ _ _ _ (subscribing_right _ c.args.queue.now c.args.sid.now right)
+    (rw (c.as_slice-2.ensures, c.text_of.ensures.value, c.as_slice-3.ensures) at c.in-Ok.ensures.made) refl)
 
 pub returns-in_err-write_error-in-Err-TooManySubs-clause-asks : goal.returns-in_err-write_error-in-Err-TooManySubs-clause-asks
 returns-in_err-write_error-in-Err-TooManySubs-clause-asks g c =
     let right : is_pattern_text c.args.subject.now ≡ true = rw c.as_slice.ensures at (sym c.check_pattern.ensures.ok ∙ c.if-is_err.ensures.negation) in
-    finished _ _ _ _ _ _ _ _ c.from_residual-in_err-write_error-in-Err-TooManySubs.result c.from_residual-in_err-write_error-in-Err-TooManySubs.ensures.1
-    (unsaid _ _ _ _ _ _ _ (subscribing_right _ c.args.queue.now c.args.sid.now right) tt
-    (rw (c.as_slice-2.ensures, c.text_of.ensures.value, c.as_slice-3.ensures, c.in-Err-TooManySubs.field-0-is) at c.in-Err-TooManySubs.ensures.made))
+    stopped_as _ _ _ _ _ _ _ _ c.from_residual-in_err-write_error-in-Err-TooManySubs.result _ c.from_residual-in_err-write_error-in-Err-TooManySubs.ensures.1
+    (unsaid _ _ _ _ _ _ _ _ _ (subscribing_right _ c.args.queue.now c.args.sid.now right)
+    (rw (c.as_slice-2.ensures, c.text_of.ensures.value, c.as_slice-3.ensures, c.in-Err-TooManySubs.field-0-is) at c.in-Err-TooManySubs.ensures.made) refl)
 
 pub returns-in_ok-write_fine-in-Ok-clause-asks : goal.returns-in_ok-write_fine-in-Ok-clause-asks
 returns-in_ok-write_fine-in-Ok-clause-asks g c =
@@ -29,8 +30,8 @@ returns-in_ok-write_error-in-Err-TooManySubs-clause-asks g c =
     (rw (c.as_slice-2.ensures, c.text_of.ensures.value, c.as_slice-3.ensures, c.in-Err-TooManySubs.field-0-is) at c.in-Err-TooManySubs.ensures.made)
     c.in_ok-write_error-in-Err-TooManySubs.ensures.ok
 
-pub returns-in-Err-NoMemory-clause-asks : goal.returns-in-Err-NoMemory-clause-asks
-returns-in-Err-NoMemory-clause-asks g c =
+pub returns-in-Err-clause-asks : goal.returns-in-Err-clause-asks
+returns-in-Err-clause-asks g c =
     let right : is_pattern_text c.args.subject.now ≡ true = rw c.as_slice.ensures at (sym c.check_pattern.ensures.ok ∙ c.if-is_err.ensures.negation) in
-    unanswered _ _ _ _ _ _ (subscribing_right _ c.args.queue.now c.args.sid.now right)
-    (rw (c.as_slice-2.ensures, c.text_of.ensures.value, c.as_slice-3.ensures, c.in-Err-NoMemory.field-0-is) at c.in-Err-NoMemory.ensures.made)
+    asked_last _ _ _ _ _ _ _ _ _ _ (subscribing_right _ c.args.queue.now c.args.sid.now right)
+    (rw (c.as_slice-2.ensures, c.text_of.ensures.value, c.as_slice-3.ensures) at c.in-Err.ensures.made) c.from.ensures (λ n. refl)

@@ -10,8 +10,8 @@ invariant-loop-stop g l =
     record {
       collecting : Adds desk.made l.fn.desk l.desk l.fn.into.items l.into.items (AreCollecting (desk.client l.fn.desk));
       client : desk.client l.desk ≡ desk.client l.fn.desk;
-      is_open : desk.is_open l.desk ≡ true;
+      is_open : (desk.client l.desk).is_open ≡ true;
     }
 
 abbrev pub decreases-loop-stop : goal.decreases-loop-stop
-decreases-loop-stop g l = g.D.Desk.to_collect l.desk
+decreases-loop-stop g l = g.D.Desk.left l.desk

@@ -4,6 +4,7 @@ use Rattle.nats_frames.specs.Reading.{op_at}
 use Rattle.js_api.specs.Clients.{Client}
 use Rattle.session.specs.Manners.{peer_of}
 use Rattle.session.proofs.Heard.{answering_first, answering_more, answering_flushed, answering_idle, cut_halted, cut_given, hears_ticked}
+use Rattle.session.proofs.Failed.{fails_after, fails_in_after, giving_fails}
 use Rattle.session.proofs.conversation.carry_all.Goals as goal
 
 pub loop-stop-init : goal.loop-stop-init
@@ -13,6 +14,7 @@ loop-stop-init g c = record {
   session = refl;
   is_open = c.requires.is_open;
   answered = refl;
+  failings = refl;
   later = omega arith;
 }
 
@@ -31,6 +33,7 @@ loop-stop-preserved g c =
       session = c.carry_next.ensures.session ∙ i.session;
       is_open = c.carry_next.ensures.is_open;
       answered = c.flush.ensures.answered ∙ i.answered;
+      failings = c.in-Ok.ensures.failings ∙ i.failings;
       later = omega (arith, i.later, c.flush.ensures.cause.later);
     }
 
@@ -50,3 +53,12 @@ returns-clause-hears g c =
 
 pub returns-clause-session : goal.returns-clause-session
 returns-clause-session g c = ap (λ (client : Client). client.session) c.end_turn.ensures.client ∙ c.carry_next.ensures.session ∙ c.loop-stop.invariant.session
+
+pub returns-in-Err-clause-failings : goal.returns-in-Err-clause-failings
+returns-in-Err-clause-failings g c = fails_after c.part_at.result _ _ _ c.loop-stop.invariant.failings c.part_at.ensures.failings
+
+pub returns-in-Err-flush-clause-failings : goal.returns-in-Err-flush-clause-failings
+returns-in-Err-flush-clause-failings g c = giving_fails c.in-Err-flush.fault _ _ _ _ c.loop-stop.invariant.failings c.from.ensures c.in-Err-flush.ensures.failings
+
+pub returns-clause-failings : goal.returns-clause-failings
+returns-clause-failings g c = fails_in_after c.end_turn.result _ _ _ c.loop-stop.invariant.failings c.end_turn.ensures.failings

@@ -14,8 +14,9 @@ invariant-loop-stop g l =
           l.fn.decoder.bytes l.decoder.bytes (link.given l.fn.link) (link.given l.link) l.out.items;
       fed : total l.decoder ≡ total l.fn.decoder;
       session : (desk.client l.desk).session ≡ (desk.client l.fn.desk).session;
-      is_open : desk.is_open l.desk ≡ true;
+      is_open : (desk.client l.desk).is_open ≡ true;
       answered : link.answered l.link ≡ link.answered l.fn.link;
+      failings : link.failings l.link ≡ link.failings l.fn.link;
       later : link.faults l.fn.link ≤ link.faults l.link;
     }
 

@@ -1,6 +1,5 @@
 use Rattle.std.proofs.Common.{rules}
-use Rattle.session.specs.Peer.{Hears}
-use Rattle.session.proofs.Stopped.{carried_has_line, halted_fault, halted_op, halted_unread}
+use Rattle.session.proofs.Stopped.{halted_fault, halted_op, halted_unread}
 use Rattle.session.proofs.conversation.carry_next.Goals as goal
 
 pub returns-in-Err-carry-clause-carries : goal.returns-in-Err-carry-clause-carries
@@ -10,9 +9,6 @@ returns-in-Err-carry-clause-carries g c =
 
 pub returns-in-Err-NoMemory-clause-carries : goal.returns-in-Err-NoMemory-clause-carries
 returns-in-Err-NoMemory-clause-carries g c = halted_unread _ _ _ _ _ _ _ (g.met.D.Desk.made_nothing c.args.desk.now)
-
-pub returns-in-Err-carry-clause-line : goal.returns-in-Err-carry-clause-line
-returns-in-Err-carry-clause-line g c = carried_has_line _ _ _ _ _ _ _ (Hears c.in-Ok-Some.op) c.in-Err-carry.stop c.in-Err-carry.ensures.carries
 
 pub returns-in-Err-clause-carries : goal.returns-in-Err-clause-carries
 returns-in-Err-clause-carries g c = halted_fault _ _ _ _ _ _ c.in-Err.fault (g.met.D.Desk.made_nothing c.args.desk.now) (search rules)

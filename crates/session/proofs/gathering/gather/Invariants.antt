@@ -11,7 +11,7 @@ invariant-loop-rounds g l =
       within : l.rounds ≤ 65536;
       gathering : Adds desk.made l.fn.desk l.desk l.fn.into.items l.into.items (AreRounds (desk.client l.fn.desk) l.now l.rounds);
       client : desk.client l.desk ≡ desk.client l.fn.desk;
-      is_open : desk.is_open l.desk ≡ true;
+      is_open : (desk.client l.desk).is_open ≡ true;
     }
 
 abbrev pub decreases-loop-rounds : goal.decreases-loop-rounds

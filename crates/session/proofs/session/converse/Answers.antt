@@ -1,9 +1,10 @@
-use Rattle.std.proofs.Common.{ap, ◌∙◌, arith, inl, inr}
+use Rattle.std.proofs.Common.{ap, ◌∙◌, arith, inl, inr, refl}
 use Rattle.link_edge.proofs.Causes.{cause_before}
 use Rattle.js_api.specs.Clients.{Client}
 use Rattle.session.specs.Talk.{Stage, IsSpent}
 use Rattle.session.specs.Turning.{stage_of}
 use Rattle.session.proofs.Conversing.{conversing_first, conversing_more, converses_last, converses_spent, converses_ungreeted, converses_starved, fault_has_cause, end_has_cause, spent_has_cause}
+use Rattle.session.proofs.Failed.{fails_after, giving_fails}
 use Rattle.session.proofs.session.converse.Goals as goal
 use Rattle.session.proofs.session.converse.Goals.{then-loop-course-test+else-course-limits, else-loop-course-test}
 
@@ -32,6 +33,7 @@ loop-course-init g c =
       room = c.in-Ok.ensures.room;
       session = ap (λ (client : Client). client.session) c.requires.client;
       is_open = c.requires.is_open;
+      failings = e.failings;
       later = e.cause.later;
     }
 
@@ -47,6 +49,7 @@ loop-course-preserved g c =
       room = i.room;
       session = e.session ∙ i.session;
       is_open = e.is_open;
+      failings = e.failings ∙ i.failings;
       later = omega (arith, i.later, e.cause.later);
     }
 
@@ -71,3 +74,12 @@ returns-clause-converses g c =
 
 pub returns-clause-cause : goal.returns-clause-cause
 returns-clause-cause g c = spent_has_cause _ _ c.loop-course.invariant.later
+
+pub returns-in-Err-greet-clause-failings : goal.returns-in-Err-greet-clause-failings
+returns-in-Err-greet-clause-failings g c = giving_fails c.in-Err-greet.fault _ _ _ _ refl c.from.ensures c.in-Err-greet.ensures.failings
+
+pub returns-in-Err-take_turn-clause-failings : goal.returns-in-Err-take_turn-clause-failings
+returns-in-Err-take_turn-clause-failings g c = fails_after c.in-Err-take_turn.ended _ _ _ c.loop-course.invariant.failings c.in-Err-take_turn.ensures.failings
+
+pub returns-in-Err-clause-failings : goal.returns-in-Err-clause-failings
+returns-in-Err-clause-failings g c = inl refl

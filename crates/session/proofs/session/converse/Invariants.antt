@@ -17,7 +17,8 @@ invariant-loop-course g l =
       quiet : l.course.quiets ≤ l.limits.quiet;
       room : 0 < vec_len l.room;
       session : (desk.client l.desk).session ≡ l.session;
-      is_open : desk.is_open l.desk ≡ true;
+      is_open : (desk.client l.desk).is_open ≡ true;
+      failings : link.failings l.link ≡ link.failings l.fn.link;
       later : link.faults l.fn.link ≤ link.faults l.link;
     }
 

@@ -1,4 +1,4 @@
-use Rattle.std.proofs.Common.{[], sym}
+use Rattle.std.proofs.Common.{[], sym, refl, inl}
 use Rattle.link_edge.proofs.Told.{grown-nil}
 use Rattle.session.specs.Talk.{greeting}
 use Rattle.session.proofs.Framed.{greeting_cut}
@@ -10,3 +10,6 @@ returns-clause-given g c = rw c.in-Ok.ensures.cases at c.give_frame.ensures.give
 
 pub returns-in-Err-clause-given : goal.returns-in-Err-clause-given
 returns-in-Err-clause-given g c = ([], greeting_cut c.args.limits.now c.args.session, sym (grown-nil _))
+
+pub returns-in-Err-clause-failings : goal.returns-in-Err-clause-failings
+returns-in-Err-clause-failings g c = inl refl

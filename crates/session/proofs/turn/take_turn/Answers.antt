@@ -1,6 +1,7 @@
-use Rattle.std.proofs.Common.{◌≤◌, ◌+◌, ap, sym, length, take, drop, arith}
+use Rattle.std.proofs.Common.{◌≤◌, ◌+◌, ap, sym, length, take, drop, arith, refl, inl}
 use Rattle.std.proofs.lemmas.List.{take-append-le, length-take-le}
 use Rattle.session.proofs.Turned.{turned_heard, turned_cut, turned_quiet, turned_closed, turned_failed, turned_starved}
+use Rattle.session.proofs.Failed.{call_starves, fails_after, fails_in_after}
 use Rattle.session.proofs.turn.take_turn.Goals as goal
 
 pub returns-in-Ok-clause-turns : goal.returns-in-Ok-clause-turns
@@ -48,3 +49,15 @@ pub returns-in-NoMemory-clause-turns : goal.returns-in-NoMemory-clause-turns
 returns-in-NoMemory-clause-turns g c =
     let e = c.in-NoMemory.ensures in
     turned_starved _ _ _ _ _ _ _ _ _ _ (g.met.D.Desk.made_nothing c.args.desk.now) e.given e.answered
+
+pub returns-in-Err-clause-failings : goal.returns-in-Err-clause-failings
+returns-in-Err-clause-failings g c = fails_after c.in-Err.ended _ _ _ c.in-Got.ensures.failings c.in-Err.ensures.failings
+
+pub returns-in-Quiet-clause-failings : goal.returns-in-Quiet-clause-failings
+returns-in-Quiet-clause-failings g c = fails_in_after c.rest.result _ _ _ c.in-Quiet.ensures.failings c.rest.ensures.failings
+
+pub returns-in-NoMemory-clause-failings : goal.returns-in-NoMemory-clause-failings
+returns-in-NoMemory-clause-failings g c = call_starves _ _ _ refl c.in-NoMemory.ensures.failings
+
+pub returns-in-Failed-clause-failings : goal.returns-in-Failed-clause-failings
+returns-in-Failed-clause-failings g c = inl c.in-Failed.ensures.failings

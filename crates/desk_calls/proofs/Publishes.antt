@@ -1,0 +1,78 @@
+-- A publish: the subscriptions, the stream, and what the client is told; or a call of the API.
+use Rattle.std.proofs.Common.{◌≡◌, ℕ, Bool, List, [], ◌∷◌, ◌++◌, Option, None, Some, Result, Ok, Err, refl, sym, subst, inl, inr}
+use Rattle.js_base.specs.declared.out.Out.{Out}
+use Rattle.js_base.specs.declared.out.ApiError.{ApiError}
+use Rattle.js_model.specs.declared.desk.PlaceAt.{PlaceAt}
+use Rattle.js_model.specs.declared.desk.Taken.{Taken}
+use Rattle.js_model.specs.Catalog.{Find}
+use Rattle.api_requests.specs.declared.request.ApiRequest.{ApiRequest}
+use Rattle.api_requests.specs.Requests.{request_of}
+use Rattle.js_api.specs.declared.fault.DeskFault.{DeskFault}
+use Rattle.js_api.specs.declared.fault.DeskFault.TheVariants as faults
+use Rattle.js_api.specs.declared.outcome.Outcome.{Outcome}
+use Rattle.js_api.specs.Answering.{DeskAnswer, answered_by}
+use Rattle.js_api.specs.Api.{IsAsked, PublishesToApi}
+use Rattle.js_api.specs.Calls.{Answered}
+use Rattle.js_api.specs.Clients.{Client}
+use Rattle.js_api.specs.Entries.{DeskEntry}
+use Rattle.js_api.specs.Holding.{Holds}
+use Rattle.js_api.specs.Leading.{Makes}
+use Rattle.js_api.specs.Publishing.{Offers, Stores, Tells, Reaches, IsReached, PublishesPlain, published, taken_by}
+use Rattle.js_api.specs.Stages.{Then, LooksUp, Ending}
+use Rattle.desk_calls.proofs.Stages.{as_such, goes_on, stops}
+
+-- a call gives what its stages gave
+pub answered : {D X : Type 0} (made : D → List DeskEntry → D → Type 0) (says : X → DeskAnswer) (stages : Result X DeskFault → List DeskEntry → Type 0) (given : Result X DeskFault) (a b : D) → Makes made (stages given) a b
+    → Makes made (Answered says stages (answered_by says given)) a b
+answered made says stages given a b h = as_such made (stages given) (Answered says stages (answered_by says given)) a b h (λ entries s. record { given = given; result_is = refl; made = s })
+
+module _ {D : Type 0} (made : D → List DeskEntry → D → Type 0) (more : (a b c : D) (first more : List DeskEntry) → made a first b → made b more c → made a (first ++ more) c) (client : Client) (message : Out) (now : ℕ) where
+  -- ---- to a plain subject
+
+  abbrev pub AfterFind : ℕ → Option PlaceAt → Result Taken DeskFault → List DeskEntry → Type 0
+  AfterFind count found result entries = Then (Stores message now found) (λ other. Tells client message (taken_by count other)) result entries
+
+  abbrev pub AfterOffer : ℕ → Result Taken DeskFault → List DeskEntry → Type 0
+  AfterOffer count result entries = Then (LooksUp (Find message.to)) (λ found. AfterFind count found) result entries
+
+  pub offered : (told : Result ℕ DeskFault) (count : ℕ) (result : Result Taken DeskFault) (a b c : D) → told ≡ Ok count → Makes made (Offers client message told) a b → Makes made (AfterOffer count result) b c
+      → Makes made (PublishesPlain client message now result) a c
+  offered told count result a b c is h k = goes_on made more (Offers client message) (λ count. AfterOffer count) told count result a b c is h k
+
+  pub unoffered : (told : Result ℕ DeskFault) (fault : DeskFault) (a b : D) → told ≡ Err fault → Makes made (Offers client message told) a b → Makes made (PublishesPlain client message now (Err fault)) a b
+  unoffered told fault a b is h = stops made (Offers client message) (λ count. AfterOffer count) told fault a b is h
+
+  pub looked : (count : ℕ) (told : Result (Option PlaceAt) DeskFault) (found : Option PlaceAt) (result : Result Taken DeskFault) (a b c : D) → told ≡ Ok found → Makes made (LooksUp (Find message.to) told) a b
+      → Makes made (AfterFind count found result) b c → Makes made (AfterOffer count result) a c
+  looked count told found result a b c is h k = goes_on made more (LooksUp (Find message.to)) (λ found. AfterFind count found) told found result a b c is h k
+
+  pub unlooked : (count : ℕ) (told : Result (Option PlaceAt) DeskFault) (fault : DeskFault) (a b : D) → told ≡ Err fault → Makes made (LooksUp (Find message.to) told) a b → Makes made (AfterOffer count (Err fault)) a b
+  unlooked count told fault a b is h = stops made (LooksUp (Find message.to)) (λ found. AfterFind count found) told fault a b is h
+
+  pub stored : (count : ℕ) (found : Option PlaceAt) (told : Result Bool DeskFault) (other : Bool) (result : Result Taken DeskFault) (a b c : D) → told ≡ Ok other → Makes made (Stores message now found told) a b
+      → Makes made (Tells client message (taken_by count other) result) b c → Makes made (AfterFind count found result) a c
+  stored count found told other result a b c is h k = goes_on made more (Stores message now found) (λ other. Tells client message (taken_by count other)) told other result a b c is h k
+
+  pub unstored : (count : ℕ) (found : Option PlaceAt) (told : Result Bool DeskFault) (fault : DeskFault) (a b : D) → told ≡ Err fault → Makes made (Stores message now found told) a b
+      → Makes made (AfterFind count found (Err fault)) a b
+  unstored count found told fault a b is h = stops made (Stores message now found) (λ other. Tells client message (taken_by count other)) told fault a b is h
+
+  pub reaches : (at : PlaceAt) (outcome : Outcome) (result : Result Bool DeskFault) (a b c : D) → Makes made (Holds at (published message) now outcome) a b
+      → Makes made (Ending outcome.fault (IsReached message outcome.became) result) b c → Makes made (Reaches message now at result) a c
+  reaches at outcome result a b c h k = record {
+    entries = h.entries ++ k.entries;
+    are = record { outcome = outcome; held = h.entries; rest = k.entries; entries_are = refl; holds = h.are; ends = k.are };
+    led = more a b c h.entries k.entries h.led k.led;
+  }
+
+  -- ---- to the API
+
+  -- the call was read
+  pub read : (given : Option (Result ApiRequest ApiError)) (result : Result Taken DeskFault) (a b : D) → request_of message.to message.payload ≡ given → Makes made (IsAsked client message now given result) a b
+      → Makes made (PublishesToApi client message now result) a b
+  read given result a b is h = as_such made (IsAsked client message now given result) (PublishesToApi client message now result) a b h
+      (λ entries asked. inr (record { given = given; before = []; more = entries; entries_are = refl; first_is = (sym is, refl); next_is = asked }))
+
+-- memory ran out as it was read
+pub unread : {D : Type 0} (made : D → List DeskEntry → D → Type 0) (client : Client) (message : Out) (now : ℕ) (a : D) → made a [] a → Makes made (PublishesToApi client message now (Err faults.NoMemory)) a a
+unread made client message now a led = record { entries = []; are = inl (record { fault = faults.NoMemory; result_is = refl; ended = refl }); led = led }

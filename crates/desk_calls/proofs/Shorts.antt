@@ -1,0 +1,37 @@
+-- Memory runs out before a message of the server's own is made, or there is no subject for it.
+use Rattle.std.proofs.Common.{◌≡◌, ◌<◌, ℕ, Bool, true, false, is_none, List, [], ◌∷◌, length, Option, Some, None, Result, Ok, Err, refl, sym, subst, inl, inr, arith}
+use Rattle.js_base.specs.Bytes.{Bytes}
+use Rattle.js_base.specs.declared.out.Out.{Out}
+use Rattle.js_base.specs.declared.out.ApiError.{ApiError}
+use Rattle.js_model.specs.declared.desk.Taken.{Taken}
+use Rattle.api_replies.specs.declared.reply.ApiReply.{ApiReply}
+use Rattle.js_api.specs.declared.fault.DeskFault.{DeskFault}
+use Rattle.js_api.specs.declared.fault.DeskFault.TheVariants as faults
+use Rattle.js_api.specs.Entries.{DeskEntry}
+use Rattle.js_api.specs.Stages.{Then, Gives, Sends}
+use Rattle.js_api.specs.OneStream.{Answers, answer, refusal}
+
+-- no message is sent, since memory ran out before the first one
+pub unsent : (outs : List Out) → 0 < length outs → Sends outs (Err faults.NoMemory) []
+unsent [] few = absurd (omega (arith, few))
+unsent (out ∷ outs) few = inl (record { fault = faults.NoMemory; result_is = refl; ended = inl refl })
+
+pub unsent_then : {Y : Type 0} (outs : List Out) (next : Unit {0} → Result Y DeskFault → List DeskEntry → Type 0) → 0 < length outs → Then (Sends outs) next (Err faults.NoMemory) []
+unsent_then outs next few = inl (record { fault = faults.NoMemory; result_is = refl; ended = unsent outs few })
+
+-- there is nothing to send
+pub unanswered : (to : Option Bytes) (reply : ApiReply) → to ≡ None → Answers (answer to reply) (Ok true) []
+unanswered None reply is = inr (record { given = tt; before = []; more = []; entries_are = refl; first_is = record { result_is = refl; entries_are = refl }; next_is = record { result_is = refl; entries_are = refl } })
+unanswered (Some to) reply is = absurd (cc)
+
+pub one_answer : (to : Option Bytes) (reply : ApiReply) → (to ≡ None → ⊥) → 0 < length (answer to reply)
+one_answer None reply some = absurd (some refl)
+one_answer (Some to) reply some = omega arith
+
+pub is_none_so : {X : Type 0} (o : Option X) → is_none o ≡ true → o ≡ None
+is_none_so None e = refl
+is_none_so (Some x) e = absurd (cc)
+
+pub is_some_so : {X : Type 0} (o : Option X) → o ≡ None → is_none o ≡ false → ⊥
+is_some_so None e f = cc
+is_some_so (Some x) e f = cc

@@ -1,0 +1,9 @@
+use Rattle.std.proofs.Common.{refl}
+use Rattle.desk_calls.proofs.Stages.{nothing}
+use Rattle.desk_calls.proofs.session.collect.Goals as goal
+
+pub returns-then-not-caller-clause-made : goal.returns-then-not-caller-clause-made
+returns-then-not-caller-clause-made g c = rw c.if-not-caller.true (nothing g.G.Ground.made _ _ (g.met.G.Ground.made_nothing _) (refl, refl))
+
+pub returns-clause-made : goal.returns-clause-made
+returns-clause-made g c = rw c.if-not-caller.false c.collect.ensures.made

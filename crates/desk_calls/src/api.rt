@@ -1,0 +1,52 @@
+//! One call of the API.
+
+ghost use Rattle.std.specs.Prelude.{◌≡◌, IsTrue};
+ghost use Rattle.api_requests.specs.Read.{IsRead};
+ghost use Rattle.js_api.specs.Api.{Performs};
+ghost use Rattle.js_api.specs.Leading.{Makes};
+ghost use Rattle.js_base.specs.Subjects.{is_subject_text};
+ghost use Rattle.js_model.specs.Proper.{if_given};
+ghost use Rattle.desk_calls.specs.Grounds.{Outside};
+
+use crate::account::show_account;
+use crate::asking::{delete_stream, show_stream};
+use crate::changing::update_stream;
+use crate::creating::create_stream;
+use crate::ground::Ground;
+use crate::listing::{list_names, list_streams};
+use js_api::{ApiRequest, DeskFault};
+use js_base::{Blob, Moment};
+
+/// Carries out the call, answers it to the reply subject, and tells whether somebody took it. Calls of other forms are not read yet.
+pub fn carry_out<G: Ground>(
+    ground: &mut G,
+    request: ApiRequest,
+    to: &Option<Blob>,
+    now: Moment,
+) -> Result<bool, DeskFault>
+    requires outside { G.phase ground.old ≡ Outside }
+    requires to { IsTrue (if_given is_subject_text to.now) }
+    requires read { IsRead request }
+    ensures made { Makes G.made (Performs request to.now now result) ground.old ground.new }
+    ensures setting { G.setting ground.new ≡ G.setting ground.old }
+    ensures phase { G.phase ground.new ≡ Outside }
+{
+    match request {
+        ApiRequest::AccountInfo => show_account(ground, to, now),
+        ApiRequest::StreamCreate { stream, config } => {
+            create_stream(ground, &stream, config, to, now)
+        }
+        ApiRequest::StreamUpdate { stream, config } => {
+            update_stream(ground, &stream, config, to, now)
+        }
+        ApiRequest::StreamInfo { stream } => show_stream(ground, &stream, to, now),
+        ApiRequest::StreamDelete { stream } => delete_stream(ground, &stream, to, now),
+        ApiRequest::StreamNames { offset, subject } => {
+            list_names(ground, offset, &subject, to, now)
+        }
+        ApiRequest::StreamList { offset, subject } => {
+            list_streams(ground, offset, &subject, to, now)
+        }
+        _ => unreachable!(),
+    }
+}

@@ -1,0 +1,79 @@
+-- What is asked of one place, and what its answer tells.
+use Rattle.std.proofs.Common.{◌≡◌, ℕ, ◌<◌, ◌≤◌, ◌^◌, ◌&&◌, Bool, true, false, List, Option, Some, None, refl, sym, ap, subst, ◌∙◌, IsTrue}
+use Rattle.std.specs.Prelude.{is_some, nat_le}
+use Rattle.std.proofs.lemmas.Bool.{and_from, le-leb}
+use Rattle.js_base.specs.Bytes.{Bytes}
+use Rattle.js_base.specs.Subjects.{is_subject_text}
+use Rattle.js_base.specs.declared.out.Out.{Out}
+use Rattle.js_base.specs.declared.out.ApiError.{ApiError}
+use Rattle.js_model.specs.declared.desk.PlaceAt.{PlaceAt}
+use Rattle.js_model.specs.declared.event.Event.{Event}
+use Rattle.js_model.specs.declared.event.What.{What}
+use Rattle.js_model.specs.declared.event.What.TheVariants.{Drop as DropStream}
+use Rattle.js_model.specs.declared.reply.Answer.{Answer}
+use Rattle.js_model.specs.declared.reply.Reply.{Reply}
+use Rattle.js_model.specs.declared.reply.Reply.TheVariants.{Refused}
+use Rattle.js_model.specs.declared.stream.State.{State}
+use Rattle.js_model.specs.declared.stream.State.TheVariants.{Vacant, Live}
+use Rattle.js_model.specs.Events.{answered, kept_incarnation, IsEvent}
+use Rattle.js_model.specs.Proper.{if_given, is_proper, is_proper_what, reply_of}
+use Rattle.js_model.specs.Refusals.{no_stream}
+use Rattle.js_api.specs.declared.fault.DeskFault.{DeskFault}
+use Rattle.js_api.specs.declared.outcome.Became.{Became}
+use Rattle.js_api.specs.declared.outcome.Became.TheVariants.{Made, Ticked, Nothing, Broke, Stopped, Gone}
+use Rattle.js_api.specs.Holding.{event_at}
+use Rattle.js_api.specs.OneStream.{is_done}
+use Rattle.place_engine.specs.Shown.{IsShown}
+use Rattle.desk_answers.specs.Asking.{MayAsk}
+use Rattle.desk_answers.specs.Became.{CanBeShown, IsExplained, NumbersDropped, is_dropped}
+use Rattle.desk_hold.specs.Steps.{IsNumbered}
+
+-- what is asked of the stream is an event as a reader gives it
+pub proper_event : (at : PlaceAt) (what : What) → at.incarnation ≤ 2 ^ 62 → MayAsk what → IsTrue (is_proper (event_at at what))
+proper_event at what small may =
+    and_from (nat_le at.incarnation (2 ^ 62) && if_given is_subject_text (reply_of what)) (is_proper_what what)
+    (and_from (nat_le at.incarnation (2 ^ 62)) (if_given is_subject_text (reply_of what)) (le-leb at.incarnation (2 ^ 62) small) may.reply) may.proper
+
+-- ---- what was made
+
+pub explained_made : (fault : Option DeskFault) (became : Became) (reply : Reply) → became ≡ Made reply → IsExplained fault became
+explained_made (Some fault) became reply e = tt
+explained_made None became reply e = subst (λ (b : Became). IsExplained None b) (sym e) tt
+
+pub shown_made : (became : Became) (reply : Reply) → became ≡ Made reply → IsShown reply → CanBeShown became
+shown_made became reply e shown = subst (λ (b : Became). CanBeShown b) (sym e) shown
+
+-- ---- dropping
+
+not_done : (a b : Answer) → a ≡ b → is_done a.reply ≡ false → is_done b.reply ≡ true → ⊥
+not_done a b e no yes = let not_both : false ≡ true = sym no ∙ ap (λ (x : Answer). is_done x.reply) e ∙ yes in cc
+
+-- only a stream that is there is dropped
+dropped_live : (at : PlaceAt) (to : Option Bytes) (now : ℕ) (room : Bool) (old new : State) (reply : Reply) (outs : List Out) → IsNumbered old
+    → answered old (event_at at (DropStream to)) now room ≡ record { reply = reply; outs = outs; state = new } → is_done reply ≡ true → kept_incarnation old < 2 ^ 62
+unfolding answered
+dropped_live at to now room (Vacant last) new reply outs numbered e done = absurd (not_done _ _ e refl done)
+dropped_live at to now room (Live stream) new reply outs numbered e done = numbered stream refl
+
+-- a reply to what was asked of the place
+pub number_made : (what : What) (became : Became) (at : PlaceAt) (now : ℕ) (old new : State) (reply : Reply) (outs : List Out) → IsNumbered old → became ≡ Made reply
+    → IsEvent old (event_at at what) now reply outs new → NumbersDropped what became at
+number_made (DropStream to) became at now old new reply outs numbered e h = λ dropped.
+    subst (λ (n : ℕ). n < 2 ^ 62) (sym h.kept)
+    (dropped_live at to now h.room old new reply outs numbered h.answers (ap is_dropped (sym e) ∙ dropped))
+number_made what became at now old new reply outs numbered e h = tt
+
+-- and no other outcome is that a stream was dropped
+pub number_undone : (what : What) (became : Became) (at : PlaceAt) → is_dropped became ≡ false → NumbersDropped what became at
+number_undone (DropStream to) became at e = λ dropped. absurd (let not_both : false ≡ true = sym e ∙ dropped in cc)
+number_undone what became at e = tt
+
+-- ---- whether a place is stopped
+
+pub going_if : (stopped : Option ℕ) → is_some stopped ≡ false → stopped ≡ None
+going_if None e = refl
+going_if (Some count) e = absurd (let not_both : true ≡ false = e in cc)
+
+pub stopped_if : (stopped : Option ℕ) → is_some stopped ≡ true → (count : ℕ) × (stopped ≡ Some count)
+stopped_if None e = absurd (let not_both : false ≡ true = e in cc)
+stopped_if (Some count) e = (count, refl)

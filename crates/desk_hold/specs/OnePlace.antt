@@ -1,0 +1,69 @@
+-- How the entries of a hold lead its place and its port.
+use Rattle.std.specs.Prelude.{◌≡◌, ◌≢◌, ℕ, Bool, List, None, Some}
+use Rattle.js_model.specs.declared.stream.State.{State}
+use Rattle.js_model.specs.declared.event.What.{What}
+use Rattle.js_model.specs.declared.desk.PlaceAt.{PlaceAt}
+use Rattle.js_model.specs.Events.{kept_incarnation}
+use Rattle.js_model.specs.PlaceStates.{VolumeAt, PlaceIn}
+use Rattle.js_model.specs.Router.{RouteCall, RouteTold}
+use Rattle.js_api.specs.declared.outcome.Outcome.{Outcome}
+use Rattle.js_api.specs.Entries.{Hold, entries_in, DeskEntry, Routed, Looked, Turned, Resumed, Held, Stirred, Halted, Missed, Spent}
+use Rattle.js_api.specs.Holding.{Holds}
+use Rattle.js_api.specs.Leading.{Leads}
+use Rattle.js_api.specs.Outputs.{outs_of}
+use Rattle.js_api.specs.Worlds.{IsHeld, IsStirred}
+use Rattle.desk_hold.specs.Ports.{AreHeard, Sends}
+
+-- a place, and the port of whoever holds it
+pub record OnPlace (R : Type 0) : Type 0 where
+  pub place : PlaceIn
+  pub port : R
+
+abbrev pub on : {R : Type 0} → PlaceIn → R → OnPlace R
+on place port = record { place = place; port = port }
+
+module _ {R : Type 0} (routes : R → RouteCall → RouteTold → R → Type 0) (worn : R → ℕ → R → Type 0) (at : PlaceAt) where
+  -- who listens was told first, and then all that the hold sends was sent
+  pub record IsHeldOn (hold : Hold) (old new : OnPlace R) : Type 0 where
+    pub at_is : hold.at ≡ at
+    pub held : IsHeld hold old.place new.place
+    pub told : R
+    pub heard : AreHeard routes worn old.port hold.readings told
+    pub sent : Sends routes worn told (outs_of hold.before (entries_in hold)) hold.sending new.port
+
+  pub record IsStirredOn (there : PlaceAt) (before after : VolumeAt) (failed : Bool) (old new : OnPlace R) : Type 0 where
+    pub at_is : there ≡ at
+    pub stirred : IsStirred before after failed old.place new.place
+    pub port : new.port ≡ old.port
+
+  pub record IsHaltedOn (there : PlaceAt) (state : State) (old new : OnPlace R) : Type 0 where
+    pub at_is : there ≡ at
+    pub count : ℕ
+    pub stopped : old.place.stopped ≡ Some count
+    pub state_is : old.place.state ≡ state
+    pub same : new ≡ old
+
+  pub record IsMissedOn (there : PlaceAt) (kept : ℕ) (old new : OnPlace R) : Type 0 where
+    pub at_is : there ≡ at
+    pub going : old.place.stopped ≡ None
+    pub kept_is : kept_incarnation old.place.state ≡ kept
+    pub other : kept ≢ at.incarnation
+    pub same : new ≡ old
+
+  -- one entry. A hold enters no turn of its place, so that none is spent
+  abbrev pub PlaceStep : OnPlace R → DeskEntry → OnPlace R → Type 0
+  PlaceStep old (Routed call told) new = ⊥
+  PlaceStep old (Looked joined call told) new = ⊥
+  PlaceStep old (Turned after found) new = ⊥
+  PlaceStep old (Resumed last) new = ⊥
+  PlaceStep old (Held hold) new = IsHeldOn hold old new
+  PlaceStep old (Stirred there before after failed) new = IsStirredOn there before after failed old new
+  PlaceStep old (Halted there state) new = IsHaltedOn there state old new
+  PlaceStep old (Missed there kept) new = IsMissedOn there kept old new
+  PlaceStep old (Spent number) new = ⊥
+
+  -- a hold of what was asked there came to that, and its entries led from the one place and port to the other
+  pub record HoldsOn (what : What) (now : ℕ) (outcome : Outcome) (old new : OnPlace R) : Type 0 where
+    pub entries : List DeskEntry
+    pub holds : Holds at what now outcome entries
+    pub led : Leads PlaceStep old entries new

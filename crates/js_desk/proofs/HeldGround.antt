@@ -1,0 +1,198 @@
+-- What a hold makes of the ground of one caller.
+use Rattle.std.proofs.Common.{◌≡◌, ◌<◌, ◌≤◌, ◌+◌, ℕ, Bool, true, false, ◌&&◌, List, [], ◌∷◌, length, map, Option, Some, None, refl, sym, ap, subst, ◌∙◌, if◌then◌else◌, IfSome, arith}
+use Rattle.std.specs.Prelude.{◌==◌, slice_get, slice_set}
+use Rattle.std.proofs.lemmas.Bool.{eq-eqb, ne_eqb, eqb-eq}
+use Rattle.std.specs.Option.{IsSomeAnd}
+use Rattle.std.proofs.lemmas.Option.{slice_get_within}
+use Rattle.js_model.specs.declared.event.What.{What}
+use Rattle.js_model.specs.declared.event.What.TheVariants as whats
+use Rattle.js_model.specs.declared.desk.PlaceAt.{PlaceAt}
+use Rattle.js_model.specs.Catalog.{Catalog, Place}
+use Rattle.js_model.specs.Cataloging.{HasPlace}
+use Rattle.js_model.specs.Events.{kept_incarnation}
+use Rattle.js_model.specs.PlaceStates.{PlaceIn, in_memory}
+use Rattle.js_model.specs.Router.{Router, IsRoute}
+use Rattle.place_engine.specs.InMemory.{Contents}
+use Rattle.place_engine.specs.Places.{IsBuilt}
+use Rattle.js_api.specs.declared.outcome.Became.{Became}
+use Rattle.js_api.specs.declared.outcome.Became.TheVariants as became
+use Rattle.js_api.specs.declared.outcome.Outcome.{Outcome}
+use Rattle.js_api.specs.Entries.{DeskEntry}
+use Rattle.js_api.specs.Holding.{Holds}
+use Rattle.js_api.specs.Leading.{Leads, Makes}
+use Rattle.js_api.specs.Worlds.{Scene, SoloStep}
+use Rattle.desk_answers.specs.Became.{is_dropped}
+use Rattle.desk_calls.specs.Grounds as phases
+use Rattle.desk_calls.specs.Grounds.{IsKnown, Knows, Phase}
+use Rattle.desk_calls.specs.Outcomes.{IsThere, MayHold, phase_after}
+use Rattle.desk_hold.specs.OnePlace.{HoldsOn, on}
+use Rattle.js_desk.specs.declared.turn.Turn.{Turn}
+use Rattle.js_desk.specs.declared.turn.Turn.TheVariants as turns
+use Rattle.js_desk.specs.Dropping.{is_drop}
+use Rattle.js_desk.specs.Grounds.{AreAgreed, AreSingle, IsGrounded, SoloMade, after_hold, is_held, is_owing, phase_of, place_in, standing, told_incarnation, vol_of, volumes}
+use Rattle.desk_hold.proofs.Alone.{held_alone, last_of, never, with_place}
+use Rattle.js_desk.proofs.HoldFacts.{Facts, hold_facts}
+use Rattle.js_desk.proofs.Looked.{within_is}
+use Rattle.js_desk.proofs.Sets.{get_other, get_set, length_set, map_get, map_set, set_same}
+
+-- ---- the turn
+
+-- a stream is dropped within one
+drops_within : (what : What) (turn : Turn) → is_drop what ≡ true → MayHold what (phase_of turn) → turn ≡ turns.Within
+drops_within (whats.Drop reply) turn d may = within_is turn may
+drops_within (whats.Make reply config) turn d may = absurd (cc)
+drops_within (whats.Change reply config) turn d may = absurd (cc)
+drops_within (whats.Publish publish) turn d may = absurd (cc)
+drops_within (whats.Purge reply filter below keep) turn d may = absurd (cc)
+drops_within (whats.Delete reply seq) turn d may = absurd (cc)
+drops_within (whats.MakeConsumer reply name config update) turn d may = absurd (cc)
+drops_within (whats.DropConsumer reply name) turn d may = absurd (cc)
+drops_within (whats.Ack reply ack) turn d may = absurd (cc)
+drops_within (whats.Pull reply consumer ask) turn d may = absurd (cc)
+drops_within whats.Tick turn d may = absurd (cc)
+drops_within (whats.StreamInfo reply) turn d may = absurd (cc)
+drops_within (whats.MessageGet reply by) turn d may = absurd (cc)
+drops_within (whats.ConsumerInfo reply name) turn d may = absurd (cc)
+drops_within (whats.ConsumerNames reply offset) turn d may = absurd (cc)
+drops_within (whats.ConsumerList reply offset) turn d may = absurd (cc)
+
+pub phase_held : (what : What) (at : PlaceAt) (told : Became) (turn : Turn) → phase_of (after_hold turn (is_drop what && is_dropped told) at.place) ≡ phase_after what at told (phase_of turn)
+phase_held (whats.Drop reply) at told turn = by (is_dropped told)
+  where
+    by : (b : Bool) → phase_of (after_hold turn b at.place) ≡ (if b then phases.Owing at.place else phase_of turn)
+    by true = refl
+    by false = refl
+phase_held (whats.Make reply config) at told turn = refl
+phase_held (whats.Change reply config) at told turn = refl
+phase_held (whats.Publish publish) at told turn = refl
+phase_held (whats.Purge reply filter below keep) at told turn = refl
+phase_held (whats.Delete reply seq) at told turn = refl
+phase_held (whats.MakeConsumer reply name config update) at told turn = refl
+phase_held (whats.DropConsumer reply name) at told turn = refl
+phase_held (whats.Ack reply ack) at told turn = refl
+phase_held (whats.Pull reply consumer ask) at told turn = refl
+phase_held whats.Tick at told turn = refl
+phase_held (whats.StreamInfo reply) at told turn = refl
+phase_held (whats.MessageGet reply by) at told turn = refl
+phase_held (whats.ConsumerInfo reply name) at told turn = refl
+phase_held (whats.ConsumerNames reply offset) at told turn = refl
+phase_held (whats.ConsumerList reply offset) at told turn = refl
+
+-- ---- what holds of each place
+
+module _ {V : Type 0} (c : Catalog) (places : List (Contents V)) (last : Option PlaceAt) (turn : Turn) (at : PlaceAt) (old new : Contents V) (there : slice_get places at.place ≡ Some old) (g : IsGrounded c places last turn)
+    (what : What) (told : Became) (entries : List DeskEntry) (may : MayHold what (phase_of turn)) (f : Facts at what told entries (place_in old) (place_in new)) where
+  single_held : (b : Bool) → (is_drop what && is_dropped told) ≡ b → AreSingle (after_hold turn b at.place) c
+  single_held false e = g.single
+  single_held true e = λ n place is between. subst (λ (t : Turn). AreSingle t c) (drops_within what turn (left (is_drop what) (is_dropped told) e) may) g.single n place is refl
+    where
+      left : (a b : Bool) → (a && b) ≡ true → a ≡ true
+      left true b e = refl
+      left false b e = absurd (cc)
+
+  both : (a b : Bool) → (a && b) ≡ true → (a ≡ true) × (b ≡ true)
+  both true b e = (refl, e)
+  both false b e = absurd (cc)
+
+  not_both : (a b : Bool) → (a && b) ≡ false → a ≡ true → b ≡ false
+  not_both true b e a = e
+  not_both false b e a = absurd (cc)
+
+  some_same : (x y : Contents V) → Some x ≡ Some y → x ≡ y
+  some_same x y e = cc
+
+  agreed_held : (b : Bool) → (is_drop what && is_dropped told) ≡ b → AreAgreed (after_hold turn b at.place) c (slice_set places at.place new)
+  agreed_held b e = λ n place contents is stands. by b e n place contents is stands (at.place == n) refl
+    where
+      here : (n : ℕ) → at.place ≡ n → (contents : Contents V) → slice_get (slice_set places at.place new) n ≡ Some contents → contents ≡ new
+      here n hit contents stands =
+          let mine : slice_get (slice_set places at.place new) n ≡ Some new = ap (λ (k : ℕ). slice_get (slice_set places at.place new) k) (sym hit) ∙ get_set places at.place old new there in
+          some_same contents new (sym stands ∙ mine)
+
+      stood : (n : ℕ) → at.place ≡ n → slice_get places n ≡ Some old
+      stood n hit = ap (λ (k : ℕ). slice_get places k) (sym hit) ∙ there
+
+      by : (b : Bool) → (is_drop what && is_dropped told) ≡ b → (n : ℕ) (place : Place) (contents : Contents V) → slice_get c n ≡ Some place → slice_get (slice_set places at.place new) n ≡ Some contents
+          → (d : Bool) → (at.place == n) ≡ d → told_incarnation (after_hold turn b at.place) n place ≡ kept_incarnation contents.state
+      by false e n place contents is stands true d =
+          let hit : at.place ≡ n = eqb-eq at.place n d in
+          g.agreed n place old is (stood n hit) ∙ sym (f.keeps (λ drop. not_both (is_drop what) (is_dropped told) e drop)) ∙ ap (λ (x : Contents V). kept_incarnation x.state) (sym (here n hit contents stands))
+      by false e n place contents is stands false d =
+          let miss : at.place ≡ n → ⊥ = λ hit. (let yes : (at.place == n) ≡ true = eq-eqb at.place n hit in absurd (cc (yes, d))) in
+          g.agreed n place contents is (sym (get_other places at.place n new miss) ∙ stands)
+      by true e n place contents is stands true d =
+          let hit : at.place ≡ n = eqb-eq at.place n d in
+          let two = both (is_drop what) (is_dropped told) e in
+          let in_turn = subst (λ (t : Turn). AreAgreed t c places) (drops_within what turn two.0 may) g.agreed in
+          ap (λ (x : Bool). if x then place.incarnation + 1 else place.incarnation) d
+          ∙ ap (λ (k : ℕ). k + 1) (in_turn n place old is (stood n hit)) ∙ sym (f.counts two.0 two.1) ∙ ap (λ (x : Contents V). kept_incarnation x.state) (sym (here n hit contents stands))
+      by true e n place contents is stands false d =
+          let miss : at.place ≡ n → ⊥ = λ hit. (let yes : (at.place == n) ≡ true = eq-eqb at.place n hit in absurd (cc (yes, d))) in
+          let two = both (is_drop what) (is_dropped told) e in
+          let in_turn = subst (λ (t : Turn). AreAgreed t c places) (drops_within what turn two.0 may) g.agreed in
+          ap (λ (x : Bool). if x then place.incarnation + 1 else place.incarnation) d ∙ in_turn n place contents is (sym (get_other places at.place n new miss) ∙ stands)
+
+  last_held : (b : Bool) → IfSome (if b then Some at else last) (λ (p : PlaceAt). p.place < length (slice_set places at.place new))
+  last_held true = let within = slice_get_within places at.place old there in omega (arith, within, length_set places at.place new)
+  last_held false = subst (λ (n : ℕ). IfSome last (λ (p : PlaceAt). p.place < n)) (sym (length_set places at.place new)) g.within
+
+  pub held_grounded : IsGrounded c (slice_set places at.place new) (if is_held told then Some at else last) (after_hold turn (is_drop what && is_dropped told) at.place)
+  held_grounded = record {
+    few = omega (arith, g.few, length_set places at.place new);
+    same = g.same ∙ sym (length_set places at.place new);
+    single = single_held (is_drop what && is_dropped told) refl;
+    agreed = agreed_held (is_drop what && is_dropped told) refl;
+    within = last_held (is_held told);
+  }
+
+  -- what the catalog knows within its turn is there
+  pub there_held : phase_of turn ≡ phases.Within → Knows c at → IsThere told
+  there_held within known = by told refl
+    where
+      known_kept : (o : Option Place) → slice_get c at.place ≡ o → HasPlace c at.place (IsKnown at) → kept_incarnation old.state ≡ at.incarnation
+      known_kept None e k = absurd (subst (λ (x : Option Place). IsSomeAnd x (IsKnown at)) e k)
+      known_kept (Some place) e k =
+          let is = subst (λ (x : Option Place). IsSomeAnd x (IsKnown at)) e k in
+          let in_turn = subst (λ (t : Turn). AreAgreed t c places) (within_is turn within) g.agreed in
+          sym (in_turn at.place place old e there) ∙ is.incarnation
+
+      by : (x : Became) → told ≡ x → IsThere x
+      by (became.Made reply) e = tt
+      by became.Ticked e = tt
+      by became.Nothing e = tt
+      by (became.Broke stream) e = tt
+      by (became.Stopped stream) e = tt
+      by became.Gone e = f.gone e (known_kept (slice_get c at.place) refl known)
+
+-- ---- the entries
+
+module _ {V : Type 0} (r router : Router) (c : Catalog) (places : List (Contents V)) (ticked : ℕ) (last : Option PlaceAt) (turn : Turn) (at : PlaceAt) (old new : Contents V) (there : slice_get places at.place ≡ Some old)
+    (what : What) (now : ℕ) (outcome : Outcome) (built : IsBuilt what) (h : HoldsOn IsRoute never at what now outcome (on (place_in old) r) (on (place_in new) router)) where
+  pub facts_of : Facts at what outcome.became h.entries (place_in old) (place_in new)
+  facts_of = hold_facts at what now built outcome h.entries (on (place_in old) r) (on (place_in new) router) h.holds h.led refl
+
+  last_so : (told : Became) → last_of at told last ≡ (if is_held told then Some at else last)
+  last_so (became.Made reply) = refl
+  last_so became.Ticked = refl
+  last_so became.Nothing = refl
+  last_so (became.Broke stream) = refl
+  last_so (became.Stopped stream) = refl
+  last_so became.Gone = refl
+
+  pub made_of : (after : Turn) → new.vol ≡ old.vol
+      → Makes SoloMade (Holds at what now outcome) (standing r c places ticked last turn) (standing router c (slice_set places at.place new) ticked (if is_held outcome.became then Some at else last) after)
+  made_of after same =
+      let s : Scene = (standing r c places ticked last turn).scene in
+      let m = held_alone at what now outcome s (place_in old) (place_in new) router (map_get place_in places at.place old there) h in
+      let ends : with_place s at.place (on (place_in new) router) (last_of at outcome.became last) ≡ (standing router c (slice_set places at.place new) ticked (if is_held outcome.became then Some at else last) after).scene =
+          ap (λ (l : Option PlaceAt). with_place s at.place (on (place_in new) router) l) (last_so outcome.became)
+          ∙ ap (λ (ps : List PlaceIn). record { world = record { router = router; catalog = c; places = ps }; cursor = record { ticked = ticked; last = if is_held outcome.became then Some at else last } })
+          (sym (map_set place_in places at.place new)) in
+      record {
+        entries = m.entries;
+        are = m.are;
+        led = (
+          subst (λ (x : Scene). Leads SoloStep s m.entries x) ends m.led,
+          map_set vol_of places at.place new ∙ set_same (volumes places) at.place new.vol (map_get vol_of places at.place old there ∙ ap Some (sym same)),
+        );
+      }

@@ -1,0 +1,158 @@
+-- An event keeps the incarnation of its place, unless it drops the stream; and so does a delivery.
+use Rattle.std.proofs.Common.{◌≡◌, ◌+◌, ◌^◌, ℕ, Bool, true, false, List, [], ◌∷◌, length, refl, sym, ap, subst, ◌∙◌, if◌then◌else◌}
+use Rattle.std.specs.Prelude.{◌==◌}
+use Rattle.js_base.specs.Bytes.{Bytes}
+use Rattle.js_model.specs.declared.stream.State.{State}
+use Rattle.js_model.specs.declared.stream.State.TheVariants.{Vacant, Live}
+use Rattle.js_model.specs.declared.stream.Stream.{Stream}
+use Rattle.js_model.specs.declared.stream.Message.{Message}
+use Rattle.js_model.specs.declared.stream_config.StreamConfig.{StreamConfig}
+use Rattle.js_model.specs.declared.event.Event.{Event}
+use Rattle.js_model.specs.declared.event.Publish.{Publish}
+use Rattle.js_model.specs.declared.event.What.{What}
+use Rattle.js_model.specs.declared.event.What.TheVariants as whats
+use Rattle.js_model.specs.declared.entry.Delivery.{Delivery}
+use Rattle.js_model.specs.declared.entry.PlaceEntry.{PlaceEntry}
+use Rattle.js_model.specs.declared.entry.PlaceEntry.TheVariants.{Step, Deliver, Broken}
+use Rattle.js_model.specs.declared.reply.Reply.{Reply}
+use Rattle.js_model.specs.declared.reply.Reply.TheVariants.{Done, Refused, Silent}
+use Rattle.js_model.specs.declared.reply.Verdict.{Verdict}
+use Rattle.js_model.specs.declared.reply.Verdict.TheVariants.{Take, Duplicate as TakenBefore, Refused as RefusedBy}
+use Rattle.js_base.specs.declared.out.Out.{Out}
+use Rattle.js_model.specs.Advance.{advance}
+use Rattle.js_model.specs.Configs.{same_stream_config, same_retention}
+use Rattle.js_model.specs.Deliver.{IsDelivered}
+use Rattle.js_model.specs.Events.{Answer, IsEvent, answered, kept_incarnation, published, settled_state, stream_answer, stream_told, refused, vacant_answer, vacantly, with_id}
+use Rattle.js_model.specs.Consumers.{empty_stream}
+use Rattle.js_model.specs.Refusals.{other_config, retention_cannot_change, numbers_used_up}
+use Rattle.js_model.specs.Retention.{kept}
+use Rattle.js_model.specs.Trim.{trim}
+use Rattle.js_model.specs.Verdict.{verdict}
+use Rattle.js_model.specs.Runs.{RunFrom, IsStep, IsDeliverStep, new_messages}
+use Rattle.place_engine.specs.Places.{IsBuilt}
+use Rattle.js_desk.specs.Dropping.{is_drop}
+
+-- ---- one event
+
+settled_keeps : (state : State) → kept_incarnation (settled_state state) ≡ kept_incarnation state
+unfolding kept trim
+settled_keeps (Vacant i) = refl
+settled_keeps (Live s) = refl
+
+advance_keeps : (s : Stream) (now : ℕ) → (advance s now).incarnation ≡ s.incarnation
+unfolding advance
+advance_keeps s now = refl
+
+either_keeps : (b : Bool) (i : ℕ) (x y : Answer) → kept_incarnation x.state ≡ i → kept_incarnation y.state ≡ i → kept_incarnation (if b then x else y).state ≡ i
+either_keeps true i x y h k = h
+either_keeps false i x y h k = k
+
+with_id_keeps : (s : Stream) (id : Bytes) → (with_id s id).incarnation ≡ s.incarnation
+with_id_keeps s [] = refl
+with_id_keeps s (byte ∷ more) = refl
+
+published_keeps : (s : Stream) (p : Publish) (v : Verdict) → kept_incarnation (published s p v).state ≡ s.incarnation
+published_keeps s p Take = with_id_keeps _ p.wants.id
+published_keeps s p (TakenBefore n) = refl
+published_keeps s p (RefusedBy e) = refl
+
+stream_keeps : (s : Stream) (what : What) (room : Bool) → IsBuilt what → is_drop what ≡ false → kept_incarnation (stream_answer s what room).state ≡ s.incarnation
+stream_keeps s (whats.Make reply config) room b d = either_keeps (same_stream_config config s.config) s.incarnation (stream_told s) (refused other_config s) refl refl
+stream_keeps s (whats.Change reply config) room b d =
+    either_keeps (same_retention config.retention s.config.retention) s.incarnation (stream_told (record s { config = config })) (refused retention_cannot_change s) refl refl
+stream_keeps s (whats.Drop reply) room b d = absurd (cc)
+stream_keeps s (whats.Publish p) room b d = published_keeps s p (verdict s p room)
+stream_keeps s (whats.Purge reply filter below keep) room b d = absurd b
+stream_keeps s (whats.Delete reply seq) room b d = absurd b
+stream_keeps s (whats.MakeConsumer reply name config update) room b d = absurd b
+stream_keeps s (whats.DropConsumer reply name) room b d = absurd b
+stream_keeps s (whats.Ack reply ack) room b d = absurd b
+stream_keeps s (whats.Pull reply consumer ask) room b d = absurd b
+stream_keeps s whats.Tick room b d = refl
+stream_keeps s (whats.StreamInfo reply) room b d = refl
+stream_keeps s (whats.MessageGet reply by) room b d = absurd b
+stream_keeps s (whats.ConsumerInfo reply name) room b d = absurd b
+stream_keeps s (whats.ConsumerNames reply offset) room b d = absurd b
+stream_keeps s (whats.ConsumerList reply offset) room b d = absurd b
+
+vacant_keeps : (i : ℕ) (what : What) (now : ℕ) → kept_incarnation (vacant_answer i what now).state ≡ i + 1
+vacant_keeps i (whats.Make reply config) now =
+    either_keeps (i + 1 == 2 ^ 62) (i + 1) (vacantly (Refused numbers_used_up) i) (stream_told (empty_stream (i + 1) config now)) refl refl
+vacant_keeps i (whats.Change reply config) now = refl
+vacant_keeps i (whats.Drop reply) now = refl
+vacant_keeps i (whats.Publish p) now = refl
+vacant_keeps i (whats.Purge reply filter below keep) now = refl
+vacant_keeps i (whats.Delete reply seq) now = refl
+vacant_keeps i (whats.MakeConsumer reply name config update) now = refl
+vacant_keeps i (whats.DropConsumer reply name) now = refl
+vacant_keeps i (whats.Ack reply ack) now = refl
+vacant_keeps i (whats.Pull reply consumer ask) now = refl
+vacant_keeps i whats.Tick now = refl
+vacant_keeps i (whats.StreamInfo reply) now = refl
+vacant_keeps i (whats.MessageGet reply by) now = refl
+vacant_keeps i (whats.ConsumerInfo reply name) now = refl
+vacant_keeps i (whats.ConsumerNames reply offset) now = refl
+vacant_keeps i (whats.ConsumerList reply offset) now = refl
+
+pub event_keeps : (old : State) (e : Event) (now : ℕ) (room : Bool) → IsBuilt e.what → is_drop e.what ≡ false → kept_incarnation (answered old e now room).state ≡ kept_incarnation old
+unfolding answered
+event_keeps (Vacant i) e now room b d = settled_keeps (vacant_answer i e.what now).state ∙ vacant_keeps i e.what now
+event_keeps (Live s) e now room b d =
+    settled_keeps (stream_answer (advance s now) e.what room).state ∙ stream_keeps (advance s now) e.what room b d ∙ advance_keeps s now
+
+-- a stream that was dropped leaves the next one
+pub drop_counts : (old : State) (e : Event) (now : ℕ) (room : Bool) → is_drop e.what ≡ true → (answered old e now room).reply ≡ Done → kept_incarnation (answered old e now room).state ≡ kept_incarnation old + 1
+unfolding answered
+drop_counts old e now room d done = by old e.what d done
+  where
+    by : (state : State) (what : What) → is_drop what ≡ true → (answered state (record { incarnation = e.incarnation; what = what }) now room).reply ≡ Done
+        → kept_incarnation (answered state (record { incarnation = e.incarnation; what = what }) now room).state ≡ kept_incarnation state + 1
+    by (Vacant i) (whats.Drop reply) is f = absurd (cc)
+    by (Live s) (whats.Drop reply) is f = ap (λ (n : ℕ). n + 1) (advance_keeps s now)
+    by state (whats.Make reply config) is f = absurd (cc)
+    by state (whats.Change reply config) is f = absurd (cc)
+    by state (whats.Publish p) is f = absurd (cc)
+    by state (whats.Purge reply filter below keep) is f = absurd (cc)
+    by state (whats.Delete reply seq) is f = absurd (cc)
+    by state (whats.MakeConsumer reply name config update) is f = absurd (cc)
+    by state (whats.DropConsumer reply name) is f = absurd (cc)
+    by state (whats.Ack reply ack) is f = absurd (cc)
+    by state (whats.Pull reply consumer ask) is f = absurd (cc)
+    by state whats.Tick is f = absurd (cc)
+    by state (whats.StreamInfo reply) is f = absurd (cc)
+    by state (whats.MessageGet reply get) is f = absurd (cc)
+    by state (whats.ConsumerInfo reply name) is f = absurd (cc)
+    by state (whats.ConsumerNames reply offset) is f = absurd (cc)
+    by state (whats.ConsumerList reply offset) is f = absurd (cc)
+
+-- a drop that is answered otherwise drops nothing
+pub undropped_keeps : (old : State) (e : Event) (now : ℕ) (room : Bool) → is_drop e.what ≡ true → ((answered old e now room).reply ≡ Done → ⊥) → kept_incarnation (answered old e now room).state ≡ kept_incarnation old
+unfolding answered
+undropped_keeps old e now room d other = by old e.what d other
+  where
+    by : (state : State) (what : What) → is_drop what ≡ true → ((answered state (record { incarnation = e.incarnation; what = what }) now room).reply ≡ Done → ⊥)
+        → kept_incarnation (answered state (record { incarnation = e.incarnation; what = what }) now room).state ≡ kept_incarnation state
+    by (Vacant i) what is f = settled_keeps (vacant_answer i what now).state ∙ vacant_keeps i what now
+    by (Live s) (whats.Drop reply) is f = absurd (f refl)
+    by (Live s) (whats.Make reply config) is f = absurd (cc)
+    by (Live s) (whats.Change reply config) is f = absurd (cc)
+    by (Live s) (whats.Publish p) is f = absurd (cc)
+    by (Live s) (whats.Purge reply filter below keep) is f = absurd (cc)
+    by (Live s) (whats.Delete reply seq) is f = absurd (cc)
+    by (Live s) (whats.MakeConsumer reply name config update) is f = absurd (cc)
+    by (Live s) (whats.DropConsumer reply name) is f = absurd (cc)
+    by (Live s) (whats.Ack reply ack) is f = absurd (cc)
+    by (Live s) (whats.Pull reply consumer ask) is f = absurd (cc)
+    by (Live s) whats.Tick is f = absurd (cc)
+    by (Live s) (whats.StreamInfo reply) is f = absurd (cc)
+    by (Live s) (whats.MessageGet reply get) is f = absurd (cc)
+    by (Live s) (whats.ConsumerInfo reply name) is f = absurd (cc)
+    by (Live s) (whats.ConsumerNames reply offset) is f = absurd (cc)
+    by (Live s) (whats.ConsumerList reply offset) is f = absurd (cc)
+
+-- ---- one delivery
+
+pub delivery_keeps : (old : State) (now : ℕ) (listening : List Bytes) (d : Delivery) (outs : List Out) (new : State) → IsDelivered old now listening d outs new → kept_incarnation new ≡ kept_incarnation old
+unfolding kept
+delivery_keeps (Vacant i) now listening d outs new h = absurd h
+delivery_keeps (Live s) now listening d outs new h = ap kept_incarnation h.new_is ∙ advance_keeps s now

@@ -1,0 +1,19 @@
+use Rattle.std.proofs.Common.{inl, sym, ◌∙◌}
+use Rattle.std.proofs.lemmas.List.{length-map}
+use Rattle.js_model.specs.Catalog as catalog
+use Rattle.js_desk.specs.Grounds.{place_in}
+use Rattle.js_desk.proofs.Lookups.{named_within, named_known}
+use Rattle.js_desk.proofs.Looked.{begun_up, begun_grounded, outside_single}
+use Rattle.js_desk.proofs.solo_ground.SoloGroundGround.begin.Goals as goal
+
+pub invariant_of-self : goal.invariant_of-self
+invariant_of-self g c = begun_grounded _ _ _ _ (rw (← c.self.view_is) at c.requires.outside) c.self.invariant
+
+pub returns-clause-made : goal.returns-clause-made
+returns-clause-made g c = rw (← c.self.view_is) (begun_up _ _ _ _ _ _ (catalog.ByName c.args.name.now) c.by_name.result (inl c.by_name.ensures.found))
+
+pub returns-clause-within : goal.returns-clause-within
+returns-clause-within g c = rw (← c.self.view_is) (named_within c.self.inside.catalog c.args.name.now c.by_name.result _ c.by_name.ensures.found (c.self.invariant.same ∙ sym (length-map c.self.inside.places.items place_in)))
+
+pub returns-clause-known : goal.returns-clause-known
+returns-clause-known g c = named_known c.self.inside.catalog c.args.name.now c.by_name.result (outside_single _ _ (rw (← c.self.view_is) at c.requires.outside) c.self.invariant.single) c.by_name.ensures.found

@@ -1,0 +1,8 @@
+use Rattle.std.proofs.Common.{Ok, refl}
+use Rattle.js_model.specs.Router as routes
+use Rattle.js_api.specs.Answering.{Done, Gave, Opened, Slow, gives}
+use Rattle.js_desk.proofs.Routed.{routes_so}
+use Rattle.js_desk.proofs.solo_ground.SoloGroundGround.close.Goals as goal
+
+pub returns-clause-made : goal.returns-clause-made
+returns-clause-made g c = rw (← c.self.view_is) (routes_so _ _ _ _ _ _ _ (routes.Close c.args.session) routes.Done (Ok Done) c.close.ensures.routes tt refl)

@@ -1,0 +1,14 @@
+use Rattle.std.proofs.Common.{inl, refl}
+use Rattle.js_model.specs.Catalog as catalog
+use Rattle.js_desk.proofs.Cataloged.{kept_grounded}
+use Rattle.js_desk.proofs.Looked.{looked}
+use Rattle.js_desk.proofs.solo_ground.SoloGroundGround.keep.Goals as goal
+
+pub keep-requires : goal.keep-requires
+keep-requires g c = record { both = rw (← c.self.view_is) at c.requires.both }
+
+pub invariant_of-self : goal.invariant_of-self
+invariant_of-self g c = kept_grounded _ _ _ _ _ c.self.invariant c.args.place c.args.new (rw (← c.self.view_is) at c.requires.turn) c.keep.ensures.kept
+
+pub returns-clause-made : goal.returns-clause-made
+returns-clause-made g c = rw (← c.self.view_is) (looked _ _ _ _ _ _ _ _ true (catalog.Keep c.args.place c.args.new) catalog.Done (inl c.keep.ensures.kept))

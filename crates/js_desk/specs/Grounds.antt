@@ -1,0 +1,121 @@
+-- What contracts see of the ground of one caller, and what holds of it.
+use Rattle.std.specs.Prelude.{◌≡◌, ◌≤◌, ◌<◌, ◌+◌, ◌==◌, ℕ, Bool, true, false, List, [], ◌∷◌, map, length, Option, None, Some, IsNone, IfSome, slice_get, if◌then◌else◌}
+use Rattle.js_model.specs.declared.stream.State.{State}
+use Rattle.js_model.specs.declared.stream.State.TheVariants.{Vacant}
+use Rattle.js_model.specs.declared.desk.PlaceAt.{PlaceAt}
+use Rattle.js_model.specs.Catalog.{Catalog, Used, Place}
+use Rattle.js_model.specs.Events.{kept_incarnation}
+use Rattle.js_model.specs.PlaceStates.{PlaceIn, in_memory}
+use Rattle.js_model.specs.Router.{Router, is_open}
+use Rattle.place_engine.specs.InMemory.{Contents}
+use Rattle.js_api.specs.declared.outcome.Became.{Became}
+use Rattle.js_api.specs.declared.outcome.Became.TheVariants.{Made, Ticked, Nothing, Broke, Stopped, Gone}
+use Rattle.js_api.specs.Entries.{DeskEntry}
+use Rattle.js_api.specs.Leading.{Leads}
+use Rattle.js_api.specs.Worlds.{Scene, SoloStep}
+use Rattle.desk_calls.specs.Grounds.{Phase, Setting}
+use Rattle.desk_calls.specs.Grounds as phases
+use Rattle.js_desk.specs.declared.turn.Turn.{Turn}
+use Rattle.js_desk.specs.declared.turn.Turn.TheVariants as turns
+
+-- what there is, the volumes of the places, and whether the caller is in a turn of the catalog
+pub record Standing (V : Type 0) : Type 0 where
+  pub scene : Scene
+  pub vols : List V
+  pub phase : Phase
+
+abbrev pub place_in : {V : Type 0} → Contents V → PlaceIn
+place_in contents = in_memory contents.state
+
+abbrev pub vol_of : {V : Type 0} → Contents V → V
+vol_of contents = contents.vol
+
+abbrev pub volumes : {V : Type 0} → List (Contents V) → List V
+volumes places = map vol_of places
+
+abbrev pub phase_of : Turn → Phase
+phase_of turns.Outside = phases.Outside
+phase_of turns.Within = phases.Within
+phase_of (turns.Between place) = phases.Between place
+phase_of (turns.Owing place) = phases.Owing place
+
+abbrev pub standing : {V : Type 0} → Router → Catalog → List (Contents V) → ℕ → Option PlaceAt → Turn → Standing V
+standing router catalog places ticked last turn = record {
+  scene = record {
+    world = record { router = router; catalog = catalog; places = map place_in places };
+    cursor = record { ticked = ticked; last = last };
+  };
+  vols = volumes places;
+  phase = phase_of turn;
+}
+
+-- entries lead from the one ground to the other, which keeps its volumes
+abbrev pub SoloMade : {V : Type 0} → Standing V → List DeskEntry → Standing V → Type 0
+SoloMade old entries new = Leads SoloStep old.scene entries new.scene × (new.vols ≡ old.vols)
+
+-- which sessions are open, and how many places there are
+abbrev pub setting_of : Scene → Setting
+setting_of scene = record { opened = is_open scene.world.router; places = length scene.world.places }
+
+-- ---- what holds of each place
+
+-- the catalog is still to be told which list of subjects of its stream is kept
+abbrev pub is_between : Turn → ℕ → Bool
+is_between turns.Outside n = false
+is_between turns.Within n = false
+is_between (turns.Between place) n = place == n
+is_between (turns.Owing place) n = false
+
+-- the catalog is still to be told that its stream was dropped
+abbrev pub is_owing : Turn → ℕ → Bool
+is_owing turns.Outside n = false
+is_owing turns.Within n = false
+is_owing (turns.Between place) n = false
+is_owing (turns.Owing place) n = place == n
+
+-- if it is not stopped, its stream has one list of subjects
+abbrev pub HasOneList : Option Used → Type 0
+HasOneList None = Unit {0}
+HasOneList (Some used) = used.stopped ≡ false → IsNone used.new_subjects
+
+-- the incarnation that the catalog keeps once it is told all
+abbrev pub told_incarnation : Turn → ℕ → Place → ℕ
+told_incarnation turn n place = if is_owing turn n then place.incarnation + 1 else place.incarnation
+
+-- the catalog has one list of subjects for the stream there, unless one is still to be dropped
+abbrev pub AreSingle : Turn → Catalog → Type 0
+AreSingle turn catalog = (n : ℕ) (place : Place) → slice_get catalog n ≡ Some place → is_between turn n ≡ false → HasOneList place.used
+
+-- and the place keeps the incarnation that the catalog keeps
+abbrev pub AreAgreed : {V : Type 0} → Turn → Catalog → List (Contents V) → Type 0
+AreAgreed turn catalog places =
+    (n : ℕ) (place : Place) (contents : Contents _) → slice_get catalog n ≡ Some place → slice_get places n ≡ Some contents
+    → told_incarnation turn n place ≡ kept_incarnation contents.state
+
+-- at most 32 places, each with its entry in the catalog, and the last hold was at one of them
+pub record IsGrounded {V : Type 0} (catalog : Catalog) (places : List (Contents V)) (last : Option PlaceAt) (turn : Turn) : Type 0 where
+  pub few : length places ≤ 32
+  pub same : length catalog ≡ length places
+  pub single : AreSingle turn catalog
+  pub agreed : AreAgreed turn catalog places
+  pub within : IfSome last (λ at. at.place < length places)
+
+-- places that never had a stream
+abbrev pub AreFresh : {V : Type 0} → List (Contents V) → Type 0
+AreFresh [] = Unit {0}
+AreFresh (place ∷ places) = (place.state ≡ Vacant 0) × AreFresh places
+
+-- ---- holds
+
+-- the turn after a hold, by which a stream was dropped or not
+abbrev pub after_hold : Turn → Bool → ℕ → Turn
+after_hold turn dropped place = if dropped then turns.Owing place else turn
+
+-- the place was held, also if its volume failed then
+abbrev pub is_held : Became → Bool
+is_held (Made reply) = true
+is_held Ticked = true
+is_held Nothing = false
+is_held (Broke stream) = true
+is_held (Stopped stream) = false
+is_held Gone = false

@@ -1,0 +1,292 @@
+//! What the desk of one caller stands on: the router, the catalog and the places, which all are its own.
+
+ghost use Rattle.std.specs.Prelude.{◌≡◌, ◌≤◌, None, Some, if◌then◌else◌, length, map};
+ghost use Rattle.js_api.specs.Leading.{leads_more, leads_nothing};
+ghost use Rattle.js_api.specs.Worlds.{SoloStep, opening};
+ghost use Rattle.js_model.specs.Catalog.{new_place};
+ghost use Rattle.js_model.specs.Routing.{waiting_for};
+ghost use Rattle.std.proofs.Common.{refl, ◌∙◌};
+ghost use Rattle.js_desk.specs.Dropping.{is_drop};
+ghost use Rattle.js_desk.specs.Grounds.{AreFresh, SoloMade, is_held, place_in, setting_of, volumes};
+ghost use Rattle.desk_calls.specs.Grounds.{Outside};
+ghost use Rattle.desk_answers.specs.Became.{is_dropped};
+ghost use Rattle.std.specs.Prelude.{replicate};
+
+use crate::faults::desk_fault;
+use crate::turn::Turn;
+use catalog::Catalog;
+use desk_calls::{Caller, Ground};
+use desk_hold::hold_on;
+use js_api::{Became, DeskFault, Outcome};
+use js_base::{Blob, Moment, Name, Out};
+use js_model::{CatalogFault, Collected, LAST_PLACE, PlaceAt, Reply, What};
+use place_engine::{MemoryPlace, Place};
+use route_core::Router;
+use std::alloc::Global;
+use std::marker::Model;
+
+/// A router, a catalog and its places, at most 32.
+#[derive(Drop)]
+pub struct SoloGround<V> {
+    alloc: Global,
+    router: Router,
+    catalog: Catalog,
+    places: Vec<MemoryPlace<V>>,
+    /// The place of the last tick.
+    ticked: u32,
+    /// The place of the last hold, with the incarnation that was asked for there.
+    last: Option<PlaceAt>,
+    turn: Turn,
+}
+
+impl<V> Model for SoloGround<V> {
+    ghost use Rattle.js_desk.specs.Grounds.{Standing, standing, IsGrounded};
+
+    ghost Value = { Standing V };
+
+    ghost view = { λ ground. standing ground.router ground.catalog ground.places.items ground.ticked ground.last ground.turn };
+
+    ghost invariant = { λ ground. IsGrounded ground.catalog ground.places.items ground.last ground.turn };
+}
+
+/// Whether a stream was dropped, if that was asked.
+fn is_dropped(became: &Became) -> bool
+    ensures value { result ≡ is_dropped became.now }
+{
+    match became {
+        Became::Made(reply) => matches!(reply, Reply::Done),
+        Became::Ticked => false,
+        Became::Nothing => false,
+        Became::Broke { stream: _ } => false,
+        Became::Stopped { stream: _ } => false,
+        Became::Gone => false,
+    }
+}
+
+/// Whether a stream is asked to be dropped.
+fn is_drop(what: &What) -> bool
+    ensures value { result ≡ is_drop what.now }
+{
+    matches!(what, What::Drop { .. })
+}
+
+/// The place of the last hold after one at a place that became so: one that was made, or in which the volume failed, counts.
+fn last_of(became: &Became, at: PlaceAt, before: Option<PlaceAt>) -> Option<PlaceAt>
+    ensures value { result ≡ (if is_held became.now then Some at else before) }
+{
+    match became {
+        Became::Made(_) => Some(at),
+        Became::Ticked => Some(at),
+        Became::Broke { stream: _ } => Some(at),
+        Became::Nothing => before,
+        Became::Stopped { stream: _ } => before,
+        Became::Gone => before,
+    }
+}
+
+impl<V> SoloGround<V> {
+    /// A ground without sessions, of places that never had a stream.
+    pub fn of(alloc: Global, catalog: Catalog, places: Vec<MemoryPlace<V>>) -> SoloGround<V>
+        requires few { length places.items ≤ 32 }
+        requires fresh { AreFresh places.items }
+        requires catalog { catalog ≡ replicate (length places.items) new_place }
+        ensures scene { result.scene ≡ opening (map place_in places.items) }
+        ensures vols { result.vols ≡ volumes places.items }
+        ensures outside { result.phase ≡ Outside }
+    {
+        SoloGround {
+            alloc,
+            router: Router::new(alloc),
+            catalog,
+            places,
+            // so that the first tick goes to the first used place
+            ticked: LAST_PLACE,
+            last: None,
+            turn: Turn::Outside,
+        }
+    }
+
+    /// The places, in their order.
+    pub fn into_places(self) -> Vec<MemoryPlace<V>>
+        ensures places { map place_in result.items ≡ self.scene.world.places }
+        ensures vols { volumes result.items ≡ self.vols }
+        ensures few { length result.items ≤ 32 }
+    {
+        let SoloGround {
+            alloc: _,
+            router: _,
+            catalog: _,
+            places,
+            ticked: _,
+            last: _,
+            turn: _,
+        } = self;
+        places
+    }
+}
+
+impl<V> Ground for SoloGround<V> {
+    ghost made = { λ old entries new. SoloMade old entries new };
+
+    ghost setting = { λ ground. setting_of ground.scene };
+
+    ghost phase = { λ ground. ground.phase };
+
+    ghost kept = { λ ground. ground.scene.world.catalog };
+
+    ghost left = { λ ground session. waiting_for ground.scene.world.router session };
+
+    fn alloc(&self) -> Global {
+        self.alloc
+    }
+
+    fn open(&mut self) -> Result<u64, DeskFault> {
+        match self.router.open() {
+            Ok(session) => Ok(session),
+            Err(fault) => Err(desk_fault(fault)),
+        }
+    }
+
+    fn options(&mut self, session: u64, echo: bool, headers: bool) -> Result<(), DeskFault> {
+        self.router.options(session, echo, headers);
+        Ok(())
+    }
+
+    fn sub(
+        &mut self,
+        session: u64,
+        subject: &[u8],
+        queue: Option<&[u8]>,
+        sid: &[u8],
+    ) -> Result<(), DeskFault> {
+        match self.router.sub(session, subject, queue, sid) {
+            Ok(()) => Ok(()),
+            Err(fault) => Err(desk_fault(fault)),
+        }
+    }
+
+    fn unsub(&mut self, session: u64, sid: &[u8], max: Option<u64>) -> Result<(), DeskFault> {
+        match self.router.unsub(session, sid, max) {
+            Ok(()) => Ok(()),
+            Err(_) => unreachable!(),
+        }
+    }
+
+    fn publish(&mut self, message: &Out, caller: Caller) -> Result<u64, DeskFault> {
+        match self.router.publish(message, Some(caller.session)) {
+            Ok(count) => Ok(count),
+            Err(_) => Err(DeskFault::NoMemory),
+        }
+    }
+
+    fn send(&mut self, out: &Out) -> Result<(), DeskFault> {
+        match self.router.publish(out, None) {
+            Ok(_) => Ok(()),
+            Err(_) => Err(DeskFault::NoMemory),
+        }
+    }
+
+    fn collect(&mut self, session: u64, max: usize) -> Result<Collected, DeskFault> {
+        match self.router.collect(session, max) {
+            Ok(collected) => Ok(collected),
+            Err(_) => Err(DeskFault::NoMemory),
+        }
+    }
+
+    fn close(&mut self, session: u64) -> Result<(), DeskFault> {
+        self.router.close(session);
+        Ok(())
+    }
+
+    // ---- look-ups
+
+    fn find(&mut self, subject: &[u8]) -> Result<Option<PlaceAt>, DeskFault> {
+        Ok(self.catalog.find(subject))
+    }
+
+    fn by_name(&mut self, name: &Name) -> Result<Option<PlaceAt>, DeskFault> {
+        Ok(self.catalog.by_name(name))
+    }
+
+    fn next_used(&mut self, after: u32) -> Result<Option<PlaceAt>, DeskFault> {
+        Ok(self.catalog.next_used(after))
+    }
+
+    fn turn(&mut self) -> Result<Option<PlaceAt>, DeskFault> {
+        let found = self.catalog.next_used(self.ticked);
+        if let Some(at) = found {
+            self.ticked = at.place;
+        }
+        Ok(found)
+    }
+
+    // ---- one turn of the catalog
+
+    fn begin(&mut self, name: &Name) -> Result<Option<PlaceAt>, DeskFault> {
+        self.turn = Turn::Within;
+        Ok(self.catalog.by_name(name))
+    }
+
+    fn add(&mut self, name: &Name, subjects: &[Blob]) -> Result<PlaceAt, CatalogFault> {
+        let name = match name.clone() {
+            Ok(name) => name,
+            Err(_) => return Err(CatalogFault::NoMemory),
+        };
+        self.catalog.add(name, subjects)
+    }
+
+    fn change(&mut self, at: PlaceAt, subjects: &[Blob]) -> Result<(), CatalogFault> {
+        match self.catalog.change(at.place, subjects) {
+            Ok(()) => {
+                self.turn = Turn::Between(at.place);
+                Ok(())
+            }
+            Err(fault) => Err(fault),
+        }
+    }
+
+    fn keep(&mut self, place: u32, new: bool) {
+        self.catalog.keep(place, new);
+        self.turn = Turn::Within;
+    }
+
+    fn remove(&mut self, place: u32, dropped: bool) {
+        self.catalog.remove(place, dropped);
+        self.turn = Turn::Within;
+    }
+
+    fn stop(&mut self, place: u32) {
+        self.catalog.stop(place);
+        self.turn = Turn::Within;
+    }
+
+    fn end(&mut self) {
+        self.turn = Turn::Outside;
+    }
+
+    // ---- holds
+
+    fn resume(&mut self) -> Option<PlaceAt> {
+        self.last
+    }
+
+    fn hold(&mut self, at: PlaceAt, what: What, now: Moment) -> Outcome {
+        let drops = is_drop(&what);
+        let outcome = hold_on(
+            self.alloc,
+            &mut self.places[at.place as usize],
+            &mut self.router,
+            at,
+            what,
+            now,
+        );
+        let dropped = drops && is_dropped(&outcome.became);
+        self.turn = self.turn.after_hold(dropped, at.place);
+        self.last = last_of(&outcome.became, at, self.last);
+        outcome
+    }
+
+    ghost made_nothing = { λ ground. (leads_nothing SoloStep ground.scene, refl) };
+
+    ghost made_more = { λ a b c first more h k. (leads_more SoloStep a.scene b.scene c.scene first more h.0 k.0, k.1 ∙ h.1) };
+}

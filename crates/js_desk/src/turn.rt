@@ -1,0 +1,25 @@
+//! Whether a caller is in a turn of the catalog.
+
+ghost use Rattle.std.specs.Prelude.{◌≡◌};
+ghost use Rattle.js_desk.specs.Grounds.{after_hold};
+
+/// Whether a caller is in a turn of the catalog, and what of it is still to be told there.
+#[derive(Clone, Copy, Debug, PartialEq, Eq)]
+pub(crate) enum Turn {
+    /// In none.
+    Outside,
+    Within,
+    /// The stream of this place has its new subjects beside its old ones.
+    Between(u32),
+    /// The stream of this place was dropped.
+    Owing(u32),
+}
+
+impl Turn {
+    /// The turn after a hold at a place, by which its stream was dropped or not.
+    pub(crate) fn after_hold(self, dropped: bool, place: u32) -> Turn
+        ensures value { result ≡ after_hold self dropped place }
+    {
+        if dropped { Turn::Owing(place) } else { self }
+    }
+}

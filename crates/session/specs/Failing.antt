@@ -1,0 +1,28 @@
+-- What the link tells of its failings after a session: a failing ends the session, and is not tried again.
+use Rattle.std.specs.Prelude.{◌≡◌, ◌⊎◌, Option, option_map, Result, Ok, Err}
+use Rattle.link_edge.specs.Failings.{with_failed_give, with_starved_call}
+use Rattle.link_edge.specs.declared.failings.Failings.{Failings}
+use Rattle.session.specs.Giving.{end_of}
+use Rattle.session.specs.declared.ending.Ended.{Ended}
+use Rattle.session.specs.declared.ending.Ended.TheVariants as ends
+use Rattle.session.specs.declared.giving.GiveFault.{GiveFault}
+
+-- If it is known, no give failed but one that ended the session, and no call found no memory but one that ended it. A session can also end so for a
+-- take that failed, or since it found no memory itself.
+abbrev pub FailsBy : Ended → Option Failings → Option Failings → Type 0
+FailsBy ends.Closed old new = new ≡ old
+FailsBy (ends.Refused refusal) old new = new ≡ old
+FailsBy (ends.Slow size) old new = new ≡ old
+FailsBy ends.Stale old new = new ≡ old
+FailsBy ends.LinkFault old new = (new ≡ old) ⊎ (new ≡ option_map with_failed_give old)
+FailsBy ends.InputLimit old new = new ≡ old
+FailsBy ends.NoMemory old new = (new ≡ old) ⊎ (new ≡ option_map with_starved_call old)
+
+-- while the session goes on, nothing failed
+abbrev pub FailsIn : {T : Type 0} → Result T Ended → Option Failings → Option Failings → Type 0
+FailsIn (Ok x) old new = new ≡ old
+FailsIn (Err ended) old new = FailsBy ended old new
+
+abbrev pub FailsGiving : {T : Type 0} → Result T GiveFault → Option Failings → Option Failings → Type 0
+FailsGiving (Ok x) old new = new ≡ old
+FailsGiving (Err fault) old new = FailsBy (end_of fault) old new
