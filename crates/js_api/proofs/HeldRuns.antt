@@ -1,5 +1,5 @@
 -- The run that a hold makes at its place, and what follows it there.
-use Rattle.std.proofs.Common.{◌≡◌, ◌≤◌, ◌++◌, ℕ, true, List, [], append_assoc, refl, sym, subst, ◌∙◌, ap, arith}
+use Rattle.std.proofs.Common.{◌≡◌, ◌≤◌, ◌++◌, ℕ, true, List, [], append_assoc, sym, subst, ◌∙◌, ap, arith}
 use Rattle.js_model.specs.declared.stream.State.{State}
 use Rattle.js_model.specs.declared.entry.PlaceEntry.{PlaceEntry}
 use Rattle.js_model.specs.PlaceStates.{PlaceIn}
@@ -29,13 +29,13 @@ held_then hold old new count more last held le ends next =
     let after : RunFrom count hold.before (hold.steps ++ (hold.deliveries ++ more)) last =
     goes_on count hold.before hold.steps hold.between (hold.deliveries ++ more) last steps
     (λ broken.
-        let stop = ends (broken_first hold.steps hold.deliveries broken) in
-        let none : hold.deliveries ≡ [] = held.ends broken in
-        (no_more hold.deliveries more none stop.0, nothing total hold.between hold.deliveries hold.after deliveries none ∙ sym held.is_state ∙ stop.1))
+    let stop = ends (broken_first hold.steps hold.deliveries broken) in
+    let none : hold.deliveries ≡ [] = held.ends broken in
+    (no_more hold.deliveries more none stop.0, nothing total hold.between hold.deliveries hold.after deliveries none ∙ sym held.is_state ∙ stop.1))
     (λ whole.
-        goes_on total hold.between hold.deliveries hold.after more last deliveries
-        (λ broken. let stop = ends (broken_behind hold.steps hold.deliveries broken) in (stop.0, sym held.is_state ∙ stop.1))
-        (λ both. behind))
+    goes_on total hold.between hold.deliveries hold.after more last deliveries
+    (λ broken. let stop = ends (broken_behind hold.steps hold.deliveries broken) in (stop.0, sym held.is_state ∙ stop.1))
+    (λ both. behind))
     in
     subst (λ (entries : List PlaceEntry). RunFrom count old.state entries last) (sym (append_assoc hold.steps hold.deliveries more))
     (subst (λ (s : State). RunFrom count s (hold.steps ++ (hold.deliveries ++ more)) last) (sym held.was) after)

@@ -1,14 +1,15 @@
 -- What the entries of a desk of one caller make of one of its places.
-use Rattle.std.proofs.Common.{◌≡◌, ◌≢◌, ◌≤◌, ◌⊎◌, ◌++◌, ◌==◌, if◌then◌else◌, ℕ, zero, suc, true, Bool, List, [], ◌∷◌, Option, None, Some, slice_get, slice_set, refl, sym, subst, ◌∙◌, ap, inl, inr}
+use Rattle.std.proofs.Common.{◌≡◌, ◌≢◌, ◌≤◌, ◌⊎◌, ◌++◌, if◌then◌else◌, ℕ, zero, suc, true, Bool, List, [], ◌∷◌, Option, None, Some, slice_get, slice_set, refl, sym, subst, ◌∙◌, ap, inl, inr}
 use Rattle.std.proofs.lemmas.Bool.{cases_eq, eq-eqb, ne_eqb}
 use Rattle.std.proofs.lemmas.Option.{same_Some}
 use Rattle.js_model.specs.declared.entry.PlaceEntry.{PlaceEntry}
+use Rattle.js_model.specs.declared.stream.State.{State}
 use Rattle.js_model.specs.PlaceStates.{PlaceIn}
 use Rattle.js_model.specs.Runs.{RunFrom}
-use Rattle.js_api.specs.Entries.{Hold, entries_in, DeskEntry, Routed, Looked, Turned, Resumed, Held, Halted, Missed, Spent}
+use Rattle.js_api.specs.Entries.{Hold, entries_in, DeskEntry, Routed, Looked, Turned, Resumed, Held, Stirred, Halted, Missed, Spent}
 use Rattle.js_api.specs.Leading.{Leads}
 use Rattle.js_api.specs.Machines.{held_at, steps_at}
-use Rattle.js_api.specs.Worlds.{Scene, SoloStep, IsHeld, Stops, is_broken}
+use Rattle.js_api.specs.Worlds.{Scene, SoloStep, IsHeld, IsStirred, Stops, is_broken}
 use Rattle.js_api.proofs.HeldRuns.{held_then}
 
 -- ---- one item of a list
@@ -32,6 +33,15 @@ record Stays (place : ℕ) (entry : DeskEntry) (before : PlaceIn) (new : Scene) 
   there : slice_get new.world.places place ≡ Some before
   steps : (more : List DeskEntry) → steps_at place (entry ∷ more) ≡ steps_at place more
 
+-- of the place its volume was called
+record WasStirred (place : ℕ) (entry : DeskEntry) (before : PlaceIn) (new : Scene) : Type 0 where
+  after : PlaceIn
+  going : before.stopped ≡ None
+  state : after.state ≡ before.state
+  stored : after.stored ≡ before.stored
+  there : slice_get new.world.places place ≡ Some after
+  steps : (more : List DeskEntry) → steps_at place (entry ∷ more) ≡ steps_at place more
+
 -- the place was held
 record WasHeld (place : ℕ) (entry : DeskEntry) (before : PlaceIn) (new : Scene) : Type 0 where
   after : PlaceIn
@@ -40,9 +50,12 @@ record WasHeld (place : ℕ) (entry : DeskEntry) (before : PlaceIn) (new : Scene
   there : slice_get new.world.places place ≡ Some after
   steps : (more : List DeskEntry) → steps_at place (entry ∷ more) ≡ entries_in hold ++ steps_at place more
 
+abbrev Moves : ℕ → DeskEntry → PlaceIn → Scene → Type 0
+Moves place entry before new = Stays place entry before new ⊎ (WasStirred place entry before new ⊎ WasHeld place entry before new)
+
 stays_by : (place : ℕ) (entry : DeskEntry) (before : PlaceIn) (old new : Scene) → new.world.places ≡ old.world.places → slice_get old.world.places place ≡ Some before
-    → ((more : List DeskEntry) → steps_at place (entry ∷ more) ≡ steps_at place more) → Stays place entry before new
-stays_by place entry before old new same there steps = record { there = ap (λ (ps : List PlaceIn). slice_get ps place) same ∙ there; steps = steps }
+    → ((more : List DeskEntry) → steps_at place (entry ∷ more) ≡ steps_at place more) → Moves place entry before new
+stays_by place entry before old new same there steps = inl (record { there = ap (λ (ps : List PlaceIn). slice_get ps place) same ∙ there; steps = steps })
 
 held_here : (place : ℕ) (hold : Hold) → hold.at.place ≡ place → held_at place hold ≡ entries_in hold
 held_here place hold here = ap (λ (b : Bool). if b then entries_in hold else []) (eq-eqb hold.at.place place here)
@@ -50,34 +63,66 @@ held_here place hold here = ap (λ (b : Bool). if b then entries_in hold else []
 held_elsewhere : (place : ℕ) (hold : Hold) → hold.at.place ≢ place → held_at place hold ≡ []
 held_elsewhere place hold other = ap (λ (b : Bool). if b then entries_in hold else []) (ne_eqb hold.at.place place other)
 
-moves : (place : ℕ) (entry : DeskEntry) (before : PlaceIn) (old new : Scene) → SoloStep old entry new → slice_get old.world.places place ≡ Some before
-    → Stays place entry before new ⊎ WasHeld place entry before new
-moves place (Routed call told) before old new step there = inl (stays_by place (Routed call told) before old new (ap (λ (s : Scene). s.world.places) step.1) there (λ more. refl))
-moves place (Looked joined call told) before old new step there = inl (stays_by place (Looked joined call told) before old new (ap (λ (s : Scene). s.world.places) step.1) there (λ more. refl))
-moves place (Turned after found) before old new step there = inl (stays_by place (Turned after found) before old new (ap (λ (s : Scene). s.world.places) step.2) there (λ more. refl))
-moves place (Resumed last) before old new step there = inl (stays_by place (Resumed last) before old new (ap (λ (s : Scene). s.world.places) step.1) there (λ more. refl))
+-- an entry that changes the place `i` alone
+module _ (old new : List PlaceIn) (i : ℕ) (was after : PlaceIn) (is_there : slice_get old i ≡ Some was) (set : new ≡ slice_set old i after) (place : ℕ) (before : PlaceIn) (there : slice_get old place ≡ Some before) where
+  was_before : i ≡ place → was ≡ before
+  was_before here = same_Some was before (sym is_there ∙ ap (λ (k : ℕ). slice_get old k) here ∙ there)
+
+  after_there : i ≡ place → slice_get new place ≡ Some after
+  after_there here = ap (λ (ps : List PlaceIn). slice_get ps place) (set ∙ ap (λ (k : ℕ). slice_set old k after) here) ∙ set_there old place before after there
+
+  before_there : i ≢ place → slice_get new place ≡ Some before
+  before_there other = ap (λ (ps : List PlaceIn). slice_get ps place) set ∙ set_elsewhere old i place after other ∙ there
+
+moves : (place : ℕ) (entry : DeskEntry) (before : PlaceIn) (old new : Scene) → SoloStep old entry new → slice_get old.world.places place ≡ Some before → Moves place entry before new
+moves place (Routed call told) before old new step there = stays_by place (Routed call told) before old new (ap (λ (s : Scene). s.world.places) step.1) there (λ more. refl)
+moves place (Looked joined call told) before old new step there = stays_by place (Looked joined call told) before old new (ap (λ (s : Scene). s.world.places) step.1) there (λ more. refl)
+moves place (Turned after found) before old new step there = stays_by place (Turned after found) before old new (ap (λ (s : Scene). s.world.places) step.2) there (λ more. refl)
+moves place (Resumed last) before old new step there = stays_by place (Resumed last) before old new (ap (λ (s : Scene). s.world.places) step.1) there (λ more. refl)
 moves place (Held hold) before old new step there =
     let made = step.0 in
-    elim (cases_eq hold.at.place place) [
+    let i : ℕ = hold.at.place in
+    elim (cases_eq i place) [
       | inl here ↦
-          let at : slice_get old.world.places place ≡ Some made.place = ap (λ (k : ℕ). slice_get old.world.places k) (sym here) ∙ made.is_there in
-          let was : made.place ≡ before = same_Some made.place before (sym at ∙ there) in
-          inr (record {
+          inr
+          (inr (record {
             after = made.after;
             hold = hold;
-            held = subst (λ (p : PlaceIn). IsHeld hold p made.after) was made.held;
-            there = ap (λ (ps : List PlaceIn). slice_get ps place) (made.places ∙ ap (λ (k : ℕ). slice_set old.world.places k made.after) here)
-                ∙ set_there old.world.places place before made.after there;
+            held = subst (λ (p : PlaceIn). IsHeld hold p made.after) (was_before old.world.places new.world.places i made.place made.after made.is_there made.places place before there here) made.held;
+            there = after_there old.world.places new.world.places i made.place made.after made.is_there made.places place before there here;
             steps = λ more. ap (λ (l : List PlaceEntry). l ++ steps_at place more) (held_here place hold here);
-          })
+          }))
       | inr other ↦
           inl (record {
-            there = ap (λ (ps : List PlaceIn). slice_get ps place) made.places ∙ set_elsewhere old.world.places hold.at.place place made.after other ∙ there;
+            there = before_there old.world.places new.world.places i made.place made.after made.is_there made.places place before there other;
             steps = λ more. ap (λ (l : List PlaceEntry). l ++ steps_at place more) (held_elsewhere place hold other);
           })
     ]
-moves place (Halted at state) before old new step there = inl (stays_by place (Halted at state) before old new (ap (λ (s : Scene). s.world.places) step.1) there (λ more. refl))
-moves place (Missed at kept) before old new step there = inl (stays_by place (Missed at kept) before old new (ap (λ (s : Scene). s.world.places) step.1) there (λ more. refl))
+moves place (Stirred at first last failed) before old new step there =
+    let made = step.0 in
+    let i : ℕ = at.place in
+    elim (cases_eq i place) [
+      | inl here ↦
+          let is : IsStirred first last failed before made.stirred =
+          subst (λ (p : PlaceIn). IsStirred first last failed p made.stirred) (was_before old.world.places new.world.places i made.place made.stirred made.is_there made.places place before there here) made.is_stirred
+          in
+          inr
+          (inl (record {
+            after = made.stirred;
+            going = is.going;
+            state = is.state;
+            stored = is.stored;
+            there = after_there old.world.places new.world.places i made.place made.stirred made.is_there made.places place before there here;
+            steps = λ more. refl;
+          }))
+      | inr other ↦
+          inl (record {
+            there = before_there old.world.places new.world.places i made.place made.stirred made.is_there made.places place before there other;
+            steps = λ more. refl;
+          })
+    ]
+moves place (Halted at state) before old new step there = stays_by place (Halted at state) before old new (ap (λ (s : Scene). s.world.places) step.1) there (λ more. refl)
+moves place (Missed at kept) before old new step there = stays_by place (Missed at kept) before old new (ap (λ (s : Scene). s.world.places) step.1) there (λ more. refl)
 moves place (Spent number) before old new step there = absurd step
 
 -- ---- all entries
@@ -104,6 +149,22 @@ led_on place entry before entries mid new stays next =
       rests = λ stop stopped. (stays.steps entries ∙ (led.rests stop stopped).0, (led.rests stop stopped).1);
     }
 
+not_going : (o : Option ℕ) (n : ℕ) → o ≡ None → o ≡ Some n → ⊥
+not_going o n none some = cc
+
+led_stirred : (place : ℕ) (entry : DeskEntry) (before : PlaceIn) (entries : List DeskEntry) (mid new : Scene) → WasStirred place entry before mid
+    → ((p : PlaceIn) → slice_get mid.world.places place ≡ Some p → PlaceLed place p entries new) → PlaceLed place before (entry ∷ entries) new
+led_stirred place entry before entries mid new was next =
+    let led = next was.after was.there in
+    record {
+      after = led.after;
+      there = led.there;
+      run = λ count enough.
+          subst (λ (l : List PlaceEntry). RunFrom count before.state l led.after.state) (sym (was.steps entries))
+          (subst (λ (s : State). RunFrom count s (steps_at place entries) led.after.state) was.state (led.run count (subst (λ (n : ℕ). n ≤ count) (sym was.stored) enough)));
+      rests = λ stop stopped. absurd (not_going before.stopped stop was.going stopped);
+    }
+
 led_held : (place : ℕ) (entry : DeskEntry) (before : PlaceIn) (entries : List DeskEntry) (mid new : Scene) → WasHeld place entry before mid
     → ((p : PlaceIn) → slice_get mid.world.places place ≡ Some p → PlaceLed place p entries new) → PlaceLed place before (entry ∷ entries) new
 led_held place entry before entries mid new was next =
@@ -116,11 +177,8 @@ led_held place entry before entries mid new was next =
           (held_then was.hold before was.after count (steps_at place entries) led.after.state was.held enough
           (λ broken. let rest = led.rests was.hold.volume_after.faults (stopped_by was.hold before was.after was.held broken) in (rest.0, ap (λ (p : PlaceIn). p.state) (sym rest.1)))
           led.run);
-      rests = λ stop stopped. absurd (both before.stopped stop was.held.going stopped);
+      rests = λ stop stopped. absurd (not_going before.stopped stop was.held.going stopped);
     }
-  where
-    both : (o : Option ℕ) (n : ℕ) → o ≡ None → o ≡ Some n → ⊥
-    both o n none some = cc
 
 pub places_led : (place : ℕ) (before : PlaceIn) (entries : List DeskEntry) (old new : Scene) → Leads SoloStep old entries new → slice_get old.world.places place ≡ Some before
     → PlaceLed place before entries new
@@ -134,5 +192,6 @@ places_led place before (entry ∷ entries) old new (mid, step, rest) there =
     let next : (p : PlaceIn) → slice_get mid.world.places place ≡ Some p → PlaceLed place p entries new = λ p here. places_led place p entries mid new rest here in
     elim (moves place entry before old mid step there) [
       | inl stays ↦ led_on place entry before entries mid new stays next
-      | inr was ↦ led_held place entry before entries mid new was next
+      | inr (inl was) ↦ led_stirred place entry before entries mid new was next
+      | inr (inr was) ↦ led_held place entry before entries mid new was next
     ]

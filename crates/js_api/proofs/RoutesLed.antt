@@ -1,9 +1,9 @@
 -- What the entries of a desk of one caller make of its router and of its catalog.
-use Rattle.std.proofs.Common.{◌≡◌, ◌++◌, Bool, List, [], ◌∷◌, map, None, refl, sym, subst, ◌∙◌, ap}
+use Rattle.std.proofs.Common.{◌≡◌, ◌++◌, Bool, List, [], ◌∷◌, map, None, refl, sym, subst, ap}
 use Rattle.js_base.specs.declared.out.Out.{Out}
 use Rattle.js_model.specs.Router.{Router, RouteEntry, RouteRun, Publish}
 use Rattle.js_model.specs.Catalog.{Catalog, CatEntry, CatRun}
-use Rattle.js_api.specs.Entries.{Reading, Hold, entries_in, DeskEntry, Routed, Looked, Turned, Resumed, Held, Halted, Missed, Spent}
+use Rattle.js_api.specs.Entries.{Reading, entries_in, DeskEntry, Routed, Looked, Turned, Resumed, Held, Stirred, Halted, Missed, Spent}
 use Rattle.js_api.specs.Leading.{Leads}
 use Rattle.js_api.specs.Machines.{call_made, read, ArePublished, AreOfEntry, AreCalls, looks}
 use Rattle.js_api.specs.Outputs.{outs_of}
@@ -55,6 +55,7 @@ entry_routes (Held hold) old new step =
       are = (published.calls, refl, published.are);
       run = route_more old.world.router old.world.router new.world.router (map read hold.readings) published.calls (reads old.world.router hold.readings held.read) published.run;
     }
+entry_routes (Stirred at before after failed) old new step = record { calls = []; are = refl; run = sym step.0.router }
 entry_routes (Halted at state) old new step = record { calls = []; are = refl; run = sym (ap (λ (s : Scene). s.world.router) step.1) }
 entry_routes (Missed at kept) old new step = record { calls = []; are = refl; run = sym (ap (λ (s : Scene). s.world.router) step.1) }
 entry_routes (Spent number) old new step = absurd step
@@ -90,6 +91,8 @@ looks_led (Turned after found ∷ more) old new (mid, step, rest) =
 looks_led (Resumed last ∷ more) old new (mid, step, rest) =
     same_catalog (looks more) old.world.catalog mid.world.catalog new.world.catalog (ap (λ (s : Scene). s.world.catalog) step.1) (looks_led more mid new rest)
 looks_led (Held hold ∷ more) old new (mid, step, rest) =
+    same_catalog (looks more) old.world.catalog mid.world.catalog new.world.catalog step.0.catalog (looks_led more mid new rest)
+looks_led (Stirred at before after failed ∷ more) old new (mid, step, rest) =
     same_catalog (looks more) old.world.catalog mid.world.catalog new.world.catalog step.0.catalog (looks_led more mid new rest)
 looks_led (Halted at state ∷ more) old new (mid, step, rest) =
     same_catalog (looks more) old.world.catalog mid.world.catalog new.world.catalog (ap (λ (s : Scene). s.world.catalog) step.1) (looks_led more mid new rest)
