@@ -26,9 +26,10 @@ pub trait Place {
     /// Which state an image of the volume holds.
     ghost holds: { Image → State → Type 0 };
 
+    /// The volume as it is now.
     ghost vol: { Self → Self.Vol };
 
-    /// What a call may leave of the volume: any number of calls may leave no more than one.
+    /// What a call may make of the volume.
     ghost keeps_vol: { Self.Vol → Self.Vol → Type 0 };
 
     /// The incarnation of the stream, or the one that the next stream will have. At 2^62 no stream can be made any more.
@@ -82,7 +83,9 @@ pub trait Place {
     /// What holds between any two calls.
     ghost kept: { (place : Self) → IsKept holds (seen place) };
 
+    /// A call may leave the volume as it is.
     ghost keeps_none: { (v : Self.Vol) → keeps_vol v v };
 
+    /// What several calls make of the volume, one may make of it.
     ghost keeps_more: { (a b c : Self.Vol) → keeps_vol a b → keeps_vol b c → keeps_vol a c };
 }
