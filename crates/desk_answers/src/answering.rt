@@ -1,10 +1,11 @@
 //! The message that answers what a stream was asked, for its reply subject.
 
-ghost use Rattle.std.specs.Prelude.{◌≡◌, IfOk, IfSome, IsUtf8};
+ghost use Rattle.std.specs.Prelude.{◌≡◌, IfOk, IfSome, IsUtf8, option_map};
 ghost use Rattle.std.specs.Option.{option_copied, option_to_list};
 ghost use Rattle.api_calls.specs.declared.call.ApiCall.TheVariants as calls;
 ghost use Rattle.api_calls.specs.Names.{name_of};
 ghost use Rattle.api_replies.specs.Printed.{IsText};
+ghost use Rattle.api_replies.specs.Replies.{reply_text};
 ghost use Rattle.api_replies.specs.declared.reply.ApiReply.TheVariants as replies;
 ghost use Rattle.js_api.specs.Outputs.{answer_of, api_reply, dropped, informed, text_for};
 ghost use Rattle.js_model.specs.Proper.{reply_of};
@@ -149,6 +150,17 @@ fn api_reply(alloc: Global, what: &What, reply: &Reply) -> Result<Option<ApiRepl
     }
 }
 
+/// The text of this answer, if there is one.
+fn told_text(alloc: Global, told: &Option<ApiReply>) -> Result<Option<Blob>, NoMemory>
+    requires texts { IfSome told.now IsText }
+    ensures value { IfOk result (λ text. text ≡ option_map reply_text told.now) }
+{
+    match told {
+        Some(told) => Ok(Some(reply_text(alloc, told)?)),
+        None => Ok(None),
+    }
+}
+
 /// The text of the answer of the stream with this name. `None` if there is nothing to answer.
 #[tactic(auto, using(crate::proofs::AckTexts::ack_text))]
 fn text_for(
@@ -164,10 +176,8 @@ fn text_for(
     if let What::Publish(_) = what {
         return publish_text(alloc, stream, reply);
     }
-    match api_reply(alloc, what, reply)? {
-        Some(told) => Ok(Some(reply_text(alloc, &told)?)),
-        None => Ok(None),
-    }
+    let told = api_reply(alloc, what, reply)?;
+    told_text(alloc, &told)
 }
 
 /// The subject for the answer, if one is given.

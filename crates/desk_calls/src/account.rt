@@ -25,7 +25,7 @@ pub fn show_account<V>(
     ensures kept { Keeps ground.old ground.new }
 {
     match walk(ground, now) {
-        Ok(infos) => answer(ground, to, &account_reply(infos.as_slice())),
+        Ok(infos) => answer(ground, to, account_reply(infos.as_slice())),
         Err(stop) => Err(stop),
     }
 }

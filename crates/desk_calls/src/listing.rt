@@ -31,7 +31,7 @@ pub fn list_names<V>(
         Err(stop) => return Err(stop),
     };
     match names_reply(ground.alloc(), offset, pattern, infos) {
-        Ok(reply) => answer(ground, to, &reply),
+        Ok(reply) => answer(ground, to, reply),
         Err(stop) => Err(stop),
     }
 }
@@ -53,7 +53,7 @@ pub fn list_streams<V>(
         Err(stop) => return Err(stop),
     };
     match list_reply(ground.alloc(), offset, pattern, infos) {
-        Ok(reply) => answer(ground, to, &reply),
+        Ok(reply) => answer(ground, to, reply),
         Err(stop) => Err(stop),
     }
 }

@@ -16,20 +16,15 @@ use js_base::{ApiError, Blob, NoMemory};
 use js_model::refusals::no_stream;
 
 /// Sends the answer, if there is a subject for it.
-pub fn answer<V>(
-    ground: &mut Ground<V>,
-    to: &Option<Blob>,
-    reply: &ApiReply,
-) -> Result<(), NoMemory>
-    requires texts { IsText reply.now }
-    ensures answers { Leads (IsSent (is_ok result) (answer to.now reply.now)) ground.old.world ground.new.world }
+pub fn answer<V>(ground: &mut Ground<V>, to: &Option<Blob>, reply: ApiReply) -> Result<(), NoMemory>
+    requires texts { IsText reply }
+    ensures answers { Leads (IsSent (is_ok result) (answer to.now reply)) ground.old.world ground.new.world }
     ensures kept { Keeps ground.old ground.new }
 {
-    let outs = match answer_outs(ground.alloc(), to, reply) {
-        Ok(outs) => outs,
-        Err(_) => return Err(NoMemory),
-    };
-    ground.send(outs.as_slice())
+    match answer_outs(ground.alloc(), to, &reply) {
+        Ok(outs) => ground.send(outs.as_slice()),
+        Err(_) => Err(NoMemory),
+    }
 }
 
 /// Refuses the call of this name.
@@ -45,7 +40,7 @@ pub fn refuse<V>(
     ensures kept { Keeps ground.old ground.new }
 {
     match Blob::of(ground.alloc(), name) {
-        Ok(name) => answer(ground, to, &ApiReply::Refused(name, refusal)),
+        Ok(name) => answer(ground, to, ApiReply::Refused(name, refusal)),
         Err(_) => Err(NoMemory),
     }
 }

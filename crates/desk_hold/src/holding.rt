@@ -1,6 +1,6 @@
 //! One hold on a place: an event is made there, and what it sends is routed.
 
-ghost use Rattle.std.specs.Prelude.{◌≡◌, ◌≢◌, ◌<◌, ◌^◌, ◌++◌, true, false, IfOk, IsTrue, IsUtf8, length};
+ghost use Rattle.std.specs.Prelude.{◌≡◌, ◌≢◌, ◌<◌, ◌≤◌, ◌^◌, ◌++◌, true, false, IfOk, IsTrue, IsUtf8, length};
 ghost use Rattle.js_api.specs.Outputs.{answer_of, said, stream_name};
 ghost use Rattle.js_model.specs.Events.{kept_incarnation};
 ghost use Rattle.js_model.specs.Proper.{is_proper};
@@ -117,22 +117,10 @@ fn hold_place<V>(
 /// Whether the place keeps the incarnation that is asked for.
 fn is_kept<V>(place: &Place<V>, at: PlaceAt) -> bool
     ensures kept { result ≡ true → at.incarnation ≡ kept_incarnation place.now.state }
+    ensures small { result ≡ true → at.incarnation ≤ 2 ^ 62 }
     ensures other { result ≡ false → kept_incarnation place.now.state ≢ at.incarnation }
 {
     place.incarnation() == at.incarnation
-}
-
-/// The event for the stream that the place keeps.
-fn event_for<V>(place: &Place<V>, at: PlaceAt, what: What) -> Event
-    requires asked { MayAsk what }
-    requires kept { at.incarnation ≡ kept_incarnation place.now.state }
-    ensures event { result ≡ event_at at what }
-    ensures proper { IsTrue (is_proper result) }
-{
-    Event {
-        incarnation: place.incarnation(),
-        what,
-    }
 }
 
 /// A moment is below 2^62.
@@ -142,46 +130,48 @@ pub(crate) fn law_moment(now: Moment)
     let _ = now.as_nanos();
 }
 
-/// Asks this of the stream that the place keeps.
+/// Makes the event for the stream that the place keeps.
 fn ask_kept<V>(
     alloc: Global,
     place: &mut Place<V>,
     router: &mut Router,
     at: PlaceAt,
-    what: What,
+    event: &Event,
     now: Moment,
 ) -> Outcome
-    requires asked { MayAsk what }
+    requires event { event.now ≡ event_at at event.now.what }
+    requires asked { MayAsk event.now.what }
     requires kept { at.incarnation ≡ kept_incarnation place.old.state }
-    ensures holds { IsOneHold result at what now place.old.state place.new.state router.old router.new }
+    requires small { at.incarnation ≤ 2 ^ 62 }
+    ensures holds { IsOneHold result at event.now.what now place.old.state place.new.state router.old router.new }
     ensures shown { ShowsBy result }
-    ensures number { NumbersDropped what result at }
+    ensures number { NumbersDropped event.now.what result at }
     ensures vol { place.new.vol ≡ place.old.vol }
     ensures stay { KeepsOpen router.old router.new }
 {
     law_moment(now);
-    let event = event_for(place, at, what);
-    hold_place(alloc, place, router, &event, now)
+    hold_place(alloc, place, router, event, now)
 }
 
-/// Asks this of the stream of a place. If memory runs out before it or the stream is gone, nothing changes.
+/// Makes the event for the stream of a place. If memory runs out before it or the stream is gone, nothing changes.
 fn ask_place<V>(
     alloc: Global,
     place: &mut Place<V>,
     router: &mut Router,
     at: PlaceAt,
-    what: What,
+    event: &Event,
     now: Moment,
 ) -> Outcome
-    requires asked { MayAsk what }
-    ensures asks { AsksPlace result at what now place.old.state place.new.state router.old router.new }
+    requires event { event.now ≡ event_at at event.now.what }
+    requires asked { MayAsk event.now.what }
+    ensures asks { AsksPlace result at event.now.what now place.old.state place.new.state router.old router.new }
     ensures shown { ShowsBy result }
-    ensures number { NumbersDropped what result at }
+    ensures number { NumbersDropped event.now.what result at }
     ensures vol { place.new.vol ≡ place.old.vol }
     ensures stay { KeepsOpen router.old router.new }
 {
     if is_kept(place, at) {
-        ask_kept(alloc, place, router, at, what, now)
+        ask_kept(alloc, place, router, at, event, now)
     } else {
         Outcome::Gone
     }
@@ -202,5 +192,16 @@ pub fn hold_among<V>(
     ensures shown { ShowsBy result }
     ensures number { NumbersDropped what result at }
 {
-    ask_place(alloc, &mut places[at.place as usize], router, at, what, now)
+    let event = Event {
+        incarnation: at.incarnation,
+        what,
+    };
+    ask_place(
+        alloc,
+        &mut places[at.place as usize],
+        router,
+        at,
+        &event,
+        now,
+    )
 }

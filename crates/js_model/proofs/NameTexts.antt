@@ -58,4 +58,3 @@ ascii_at (byte ∷ more) (suc i) h = ascii_at more i (and_parts (is_name_byte by
 -- a name is UTF-8
 pub name_utf8 : (name : Bytes) → is_name name ≡ true → IsUtf8 name
 name_utf8 name h = let parts = name_parts name h in IsUtf8-from_ascii name (λ i. ascii_at name i parts.bytes)
-

@@ -1,5 +1,5 @@
 -- The lines of bytes by their first LF.
-use Rattle.std.proofs.Common.{ℕ, ◌≡◌, ◌+◌, ◌-◌, ◌==◌, Bool, true, false, cond, ltb, List, All, [], ◌∷◌, Option, Some, None, length, take, drop, position, refl, sym, ◌∙◌, arith}
+use Rattle.std.proofs.Common.{ℕ, ◌≡◌, ◌+◌, ◌-◌, ◌==◌, Bool, true, false, cond, ltb, List, All, [], ◌∷◌, Some, None, length, take, drop, position, refl, arith}
 use Rattle.std.specs.List.{onto_first, position_or_len}
 use Rattle.std.proofs.lemmas.List.Splits.{slice_split_first, slice_split_none}
 use Rattle.std.proofs.lemmas.List.{take_rest}

@@ -1,14 +1,11 @@
 -- Which lines are version lines and fields, and how those are spelled.
-use Rattle.std.proofs.Common.{ℕ, zero, suc, ◌≡◌, ◌+◌, ◌-◌, ◌<◌, ◌==◌, ◌&&◌, ◌⊎◌, inl, inr, Bool, true, false, cond, nat_eq, nat_lt, not, List, [], ◌∷◌, ◌++◌, Option, Some, None, length, take, drop, get_or, codes, unwrap_or, refl, sym, ◌∙◌, ap, subst, arith, length-append, append_assoc}
-use Rattle.std.specs.List.{list_all, starts_with}
-use Rattle.std.specs.Cmp.Lexicographic.{pointwise}
+use Rattle.std.proofs.Common.{ℕ, ◌≡◌, ◌+◌, ◌-◌, ◌<◌, ◌==◌, inl, inr, true, false, nat_lt, not, [], ◌∷◌, ◌++◌, Option, Some, length, take, drop, unwrap_or, refl, sym, ◌∙◌, ap, subst, arith, length-append, append_assoc}
+use Rattle.std.specs.List.{list_all}
 use Rattle.std.proofs.lemmas.Bool.{and_parts, and_from, eqb-true, eq-eqb, ltb-true, lt-ltb, false≢true}
-use Rattle.std.proofs.lemmas.Bool.Decides.{Decides-eqb}
 use Rattle.std.proofs.lemmas.List.{take_at, drop_at}
-use Rattle.std.proofs.lemmas.Slice.Eq.{starts_is}
-use Rattle.js_base.specs.Bytes.{Bytes, has}
-use Rattle.js_base.specs.Headers.{ends_with_cr, is_last_place, is_version_line, is_field_line}
-use Rattle.nats_headers.specs.Grammar.{is_text_byte, is_text, is_name_byte, is_name, is_start, version, Field, is_field, field_line}
+use Rattle.js_base.specs.Bytes.{Bytes}
+use Rattle.js_base.specs.Headers.{ends_with_cr, is_last_place, is_field_line}
+use Rattle.nats_headers.specs.Grammar.{is_text_byte, is_text, is_name_byte, is_name, Field, is_field}
 use Rattle.nats_headers.specs.Reading.{colon_at, value_of, trimmed}
 use Rattle.nats_headers.proofs.Places.{lacks, place, Cut, cases_of, place_is, place_none, lacks-append, lacks_parts}
 

@@ -1,13 +1,13 @@
 -- Which lines are version lines, and how those are spelled.
-use Rattle.std.proofs.Common.{ℕ, ◌≡◌, ◌==◌, ◌&&◌, ◌||◌, ◌⊎◌, inl, inr, Bool, true, false, nat_eq, List, [], ◌∷◌, ◌++◌, Option, Some, None, length, drop, get_or, codes, refl, sym, ◌∙◌, ap, subst, append_assoc}
+use Rattle.std.proofs.Common.{ℕ, ◌≡◌, ◌==◌, ◌&&◌, ◌||◌, inl, inr, true, false, nat_eq, [], ◌∷◌, ◌++◌, Option, Some, None, drop, get_or, codes, refl, sym, ◌∙◌, ap, subst}
 use Rattle.std.specs.List.{starts_with}
 use Rattle.std.proofs.lemmas.Bool.{and_parts, and_from, or_cases, eqb-true, false≢true}
 use Rattle.std.proofs.lemmas.Bool.Decides.{Decides-eqb}
 use Rattle.std.proofs.lemmas.Slice.Eq.{starts_is}
 use Rattle.js_base.specs.Bytes.{Bytes, has}
 use Rattle.js_base.specs.Headers.{ends_with_cr, is_version_line}
-use Rattle.nats_headers.specs.Grammar.{is_text, is_start, version}
-use Rattle.nats_headers.proofs.Places.{lacks, Cut, cases_of, lacks-append, lacks_parts}
+use Rattle.nats_headers.specs.Grammar.{is_start, version}
+use Rattle.nats_headers.proofs.Places.{lacks, cases_of, lacks-append, lacks_parts}
 use Rattle.nats_headers.proofs.Spelled.{no_cr, cr_last, cr_again, text_from, text_lacks}
 
 -- the version line without its LF

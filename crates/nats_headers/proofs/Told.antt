@@ -1,20 +1,20 @@
 -- What is read of bytes is what the grammar says of them, both ways.
-use Rattle.std.proofs.Common.{ℕ, ◌≡◌, ◌+◌, ◌==◌, ◌&&◌, ◌⊎◌, inl, inr, Bool, true, false, cond, List, [], ◌∷◌, ◌++◌, Option, Some, None, Ok, Err, length, refl, sym, ◌∙◌, ap, subst, arith, length-append, append_assoc, append-nil}
+use Rattle.std.proofs.Common.{ℕ, ◌≡◌, ◌+◌, ◌&&◌, inl, inr, Bool, true, false, cond, List, [], ◌∷◌, ◌++◌, Option, Some, None, Ok, Err, length, refl, sym, ◌∙◌, ap, subst, arith, length-append, append_assoc, append-nil}
 use Rattle.std.specs.List.{list_all}
 use Rattle.std.proofs.lemmas.Bool.{and_parts, and_from, false≢true}
 use Rattle.std.proofs.lemmas.List.{same_from_push}
 use Rattle.std.proofs.lemmas.Option.{same_Some, none-some}
 use Rattle.std.proofs.lemmas.Slice.Eq.{bytes_eq-Decides}
 use Rattle.js_base.specs.Bytes.{Bytes, crlf, is_empty, same}
-use Rattle.js_base.specs.Headers.{block_lines, is_version_line, is_field_line, is_block}
+use Rattle.js_base.specs.Headers.{block_lines, is_version_line, is_field_line}
 use Rattle.nats_headers.specs.declared.fault.HeaderFault.{HeaderFault}
 use Rattle.nats_headers.specs.declared.fault.HeaderFault.TheVariants.{BadStart, BadLine, NotEnded, NoMemory}
-use Rattle.nats_headers.specs.Grammar.{is_one_line, is_start, version, Field, is_field, field_line, field_lines, front, are_parts, Spells, IsBlock, HasBadStart, HasBadLine, IsNotEnded, HasFault}
+use Rattle.nats_headers.specs.Grammar.{is_start, version, Field, is_field, field_line, field_lines, front, are_parts, IsBlock, HasBadStart, HasBadLine, IsNotEnded, HasFault}
 use Rattle.nats_headers.specs.Reading.{fields_fault, lines_fault, block_fault, unless_fault, block_of, Answers}
 use Rattle.nats_headers.specs.Laws.{LawBlock, LawTest, LawFault, LawOneFault, LawApart}
 use Rattle.nats_headers.proofs.Faults.{field_here, other_here, version_here, no_version_here, tested, untested}
 use Rattle.nats_headers.proofs.Lines.{some_line}
-use Rattle.nats_headers.proofs.Places.{lacks, Cut, cases_of, line_first, line_alone, lacks_parts}
+use Rattle.nats_headers.proofs.Places.{lacks, Cut, cases_of, line_first, line_alone}
 use Rattle.nats_headers.proofs.Spelled.{field_words, field_lacks, field_again, field_found}
 use Rattle.nats_headers.proofs.Starts.{start_words, start_lacks, start_again, start_found}
 

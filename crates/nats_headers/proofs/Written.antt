@@ -1,13 +1,13 @@
 -- Status blocks are blocks.
-use Rattle.std.proofs.Common.{ℕ, ◌≡◌, ◌+◌, ◌*◌, ◌/◌, ◌%◌, ◌<◌, ◌≤◌, ◌^◌, ◌==◌, ◌&&◌, Bool, true, false, not, nat_lt, List, [], ◌∷◌, ◌++◌, Some, map, codes, refl, sym, ◌∙◌, ap, arith, append_assoc}
+use Rattle.std.proofs.Common.{ℕ, ◌≡◌, ◌+◌, ◌%◌, ◌<◌, ◌^◌, true, not, nat_lt, List, [], ◌∷◌, ◌++◌, map, codes, refl, ◌∙◌, ap, arith, append_assoc}
 use Rattle.std.specs.Prelude.{decimal}
 use Rattle.std.specs.List.{list_all, flat_map}
 use Rattle.std.proofs.lemmas.Bool.{and_parts, and_from, ne_eqb, ltb-true}
 use Rattle.std.proofs.lemmas.Fmt.{decimal_by_steps}
 use Rattle.std.proofs.lemmas.List.Folds.{list_all-append}
 use Rattle.js_base.specs.Bytes.{Bytes, crlf}
-use Rattle.js_base.specs.Status.{status, status_text, status_field}
-use Rattle.nats_headers.specs.Grammar.{is_text_byte, is_text, is_name, Field, is_field, field_line, field_lines, Spells}
+use Rattle.js_base.specs.Status.{status_text, status_field}
+use Rattle.nats_headers.specs.Grammar.{is_text_byte, is_text, is_name, is_field, field_line, field_lines}
 use Rattle.nats_headers.specs.Laws.{number_field, is_number_field, LawStatus}
 
 -- a digit is no CR and no LF

@@ -1,6 +1,6 @@
 -- How header blocks are spelled, by the NATS client protocol: a version line, a line for each field, and an empty line. Each line ends with
 -- CR LF.
-use Rattle.std.specs.Prelude.{ℕ, ◌≡◌, ◌<◌, ◌==◌, Bool, true, not, nat_lt, ◌&&◌, IsTrue, List, [], ◌∷◌, ◌++◌, codes, length, Option, None, Some}
+use Rattle.std.specs.Prelude.{ℕ, ◌≡◌, ◌==◌, Bool, true, not, nat_lt, ◌&&◌, IsTrue, List, [], ◌∷◌, ◌++◌, codes, length, Option, None, Some}
 use Rattle.std.specs.List.{flat_map, list_all}
 use Rattle.js_base.specs.Bytes.{Bytes, crlf}
 use Rattle.nats_headers.specs.declared.fault.HeaderFault.{HeaderFault}

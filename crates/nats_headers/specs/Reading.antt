@@ -1,5 +1,5 @@
 -- What is read of the bytes of a block: functions, which decide for all bytes what the grammar says by relations.
-use Rattle.std.specs.Prelude.{ℕ, ◌≡◌, ◌+◌, ◌-◌, ◌==◌, ◌&&◌, Bool, if◌then◌else◌, List, [], ◌∷◌, ◌++◌, length, take, drop, reverse, Option, Some, None, unwrap_or, position, Result, Ok, Err, IsOk}
+use Rattle.std.specs.Prelude.{ℕ, ◌≡◌, ◌+◌, ◌-◌, ◌==◌, ◌&&◌, Bool, if◌then◌else◌, List, [], ◌∷◌, length, take, drop, reverse, Option, Some, None, unwrap_or, position, Result, Ok, Err, IsOk}
 use Rattle.js_base.specs.Bytes.{Bytes, is_blank, is_empty, same}
 use Rattle.js_base.specs.Headers.{block_lines, is_version_line, is_field_line}
 use Rattle.nats_headers.specs.Grammar.{IsBlock, HasFault}
