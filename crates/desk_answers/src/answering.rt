@@ -161,6 +161,15 @@ fn told_text(alloc: Global, told: &Option<ApiReply>) -> Result<Option<Blob>, NoM
     }
 }
 
+/// The text of the answer to a call of the API, if there is one.
+fn api_text(alloc: Global, what: &What, reply: &Reply) -> Result<Option<Blob>, NoMemory>
+    requires shown { IsShown reply.now }
+    ensures value { IfOk result (λ text. text ≡ option_map reply_text (api_reply what.now reply.now)) }
+{
+    let told = api_reply(alloc, what, reply)?;
+    told_text(alloc, &told)
+}
+
 /// The text of the answer of the stream with this name. `None` if there is nothing to answer.
 #[tactic(auto, using(crate::proofs::AckTexts::ack_text))]
 fn text_for(
@@ -176,8 +185,7 @@ fn text_for(
     if let What::Publish(_) = what {
         return publish_text(alloc, stream, reply);
     }
-    let told = api_reply(alloc, what, reply)?;
-    told_text(alloc, &told)
+    api_text(alloc, what, reply)
 }
 
 /// The subject for the answer, if one is given.
