@@ -7,9 +7,9 @@ use Rattle.js_model.specs.declared.consumer_config.DeliverPolicy.{DeliverPolicy}
 use Rattle.js_model.specs.declared.consumer_config.DeliverPolicy.TheVariants.{All as FromAll, Last as FromLast, New as FromNew, ByStartSequence, ByStartTime, LastPerSubject}
 use Rattle.js_model.specs.declared.consumer_config.ConsumerConfig.{ConsumerConfig}
 use Rattle.js_model.specs.declared.reply.ConsumerInfo.{ConsumerInfo}
-use Rattle.api_replies.specs.Parts.{with_all, count, count_unless_0, text_unless_empty}
+use Rattle.js_json.specs.Building.{with_all, count, count_unless_0, text_unless_empty}
 use Rattle.api_replies.specs.Consumers.{with_start, with_texts, names_of, policies_of, bounds_of, with_settings, consumer_config_data, consumer_of, consumer_members, consumers}
-use Rattle.api_replies.proofs.NoFractions.{either, put_whole, all_whole, limit_whole, count_whole, text_whole}
+use Rattle.js_json.proofs.Fractions.{either, put_whole, all_whole, limit_whole, count_whole, text_whole}
 
 start_whole : (policy : DeliverPolicy) (others : Members) → members_have_float others ≡ false → members_have_float (with_start policy others) ≡ false
 start_whole FromAll others rest = rest

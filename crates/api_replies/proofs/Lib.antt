@@ -1,5 +1,4 @@
-pub mod NoFractions
 pub mod StreamsWhole
 pub mod ConsumersWhole
 pub mod Whole
-pub mod Times
+pub mod AckRows

@@ -3,6 +3,7 @@ use Rattle.std.specs.Prelude.{List, [], ◌∷◌, map, codes}
 use Rattle.serde_json.specs.Data.{Data, string, object, Items, Members, no_members, put}
 use Rattle.serde_json.specs.View.{items_of}
 use Rattle.js_base.specs.Bytes.{Bytes}
+use Rattle.js_json.specs.Building.{with_all, object_with, count, limit, count_unless_0, text_unless_empty}
 use Rattle.js_json.specs.Times.{time_text}
 use Rattle.js_model.specs.declared.consumer_config.AckPolicy.{AckPolicy}
 use Rattle.js_model.specs.declared.consumer_config.AckPolicy.TheVariants.{None as NoAck, All as AckAll, Explicit}
@@ -11,7 +12,6 @@ use Rattle.js_model.specs.declared.consumer_config.DeliverPolicy.TheVariants.{Al
 use Rattle.js_model.specs.declared.consumer_config.ConsumerConfig.{ConsumerConfig}
 use Rattle.js_model.specs.declared.reply.Info.{Info}
 use Rattle.js_model.specs.declared.reply.ConsumerInfo.{ConsumerInfo}
-use Rattle.api_replies.specs.Parts.{with_all, object_with, count, limit, count_unless_0, text_unless_empty}
 
 -- ---- the configuration
 
@@ -28,7 +28,7 @@ deliver_text (ByStartSequence seq) = codes "by_start_sequence"
 deliver_text (ByStartTime at) = codes "by_start_time"
 deliver_text LastPerSubject = codes "last_per_subject"
 
--- where the consumer begins, where its policy names that
+-- the sequence or the moment that the consumer begins at, if its policy names one
 abbrev pub with_start : DeliverPolicy → Members → Members
 with_start (ByStartSequence seq) members = put (codes "opt_start_seq") (count seq) members
 with_start (ByStartTime at) members = put (codes "opt_start_time") (string (time_text at)) members
@@ -37,7 +37,7 @@ with_start FromLast members = members
 with_start FromNew members = members
 with_start LastPerSubject members = members
 
--- the texts that are shown where they are not empty
+-- the texts that are shown if they are not empty
 abbrev pub with_texts : ConsumerConfig → Members → Members
 with_texts c members =
     text_unless_empty (codes "filter_subject") c.filter_subject

@@ -3,10 +3,10 @@ use Rattle.std.specs.Prelude.{ℕ, List, [], ◌∷◌, ◌++◌, map, codes, Op
 use Rattle.serde_json.specs.Data.{Data, string, object, Items, Members, no_members}
 use Rattle.serde_json.specs.View.{items_of}
 use Rattle.js_base.specs.Bytes.{Bytes}
+use Rattle.js_json.specs.Building.{with_all, object_with, count}
 use Rattle.js_json.specs.Times.{time_text}
 use Rattle.js_model.specs.declared.reply.StreamInfo.{StreamInfo}
-use Rattle.api_replies.specs.Parts.{with_all, object_with, count}
-use Rattle.api_replies.specs.Configs.{config_data}
+use Rattle.stream_config.specs.Printing.{printed}
 
 -- the moment, or the text for none
 abbrev pub time_shown : Option ℕ → Bytes
@@ -34,7 +34,7 @@ state_data info = object_with (state_of info)
 
 abbrev pub info_of : StreamInfo → List (Bytes × Data)
 info_of info =
-    (codes "config", config_data info.config)
+    (codes "config", object (printed info.config))
     ∷ (codes "created", string (time_text info.made))
     ∷ (codes "state", state_data info)
     ∷ []

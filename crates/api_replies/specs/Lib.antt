@@ -1,8 +1,7 @@
-pub mod Parts
-pub mod Configs
 pub mod Infos
 pub mod Messages
 pub mod Consumers
+pub mod Refusals
 pub mod Replies
+pub mod PubAcks
 pub mod Printed
-pub mod Shown

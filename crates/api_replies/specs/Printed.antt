@@ -1,20 +1,17 @@
--- Which texts a reply shows that are not the server's own: each is UTF-8. Bytes that are shown in base64 may be any.
+-- Which texts an answer shows that are not the server's own: each is UTF-8. Bytes that are shown in base64 may be any.
 use Rattle.std.specs.Prelude.{IsUtf8}
 use Rattle.std.specs.List.{All}
-use Rattle.js_model.specs.declared.stream_config.StreamConfig.{StreamConfig}
+use Rattle.js_model.specs.declared.reply.Reply.{Reply}
+use Rattle.js_model.specs.declared.reply.Reply.TheVariants as answers
 use Rattle.js_model.specs.declared.consumer_config.ConsumerConfig.{ConsumerConfig}
 use Rattle.js_model.specs.declared.reply.StreamInfo.{StreamInfo}
 use Rattle.js_model.specs.declared.reply.ConsumerInfo.{ConsumerInfo}
+use Rattle.stream_config.specs.Printing.{IsPrinted}
 use Rattle.api_replies.specs.declared.reply.ApiReply.{ApiReply}
 use Rattle.api_replies.specs.declared.reply.ApiReply.TheVariants as replies
 
-pub record ConfigIsText (c : StreamConfig) : Type 0 where
-  pub description : IsUtf8 c.description
-  pub name : IsUtf8 c.name
-  pub subjects : All IsUtf8 c.subjects
-
 abbrev pub InfoIsText : StreamInfo → Type 0
-InfoIsText info = ConfigIsText info.config
+InfoIsText info = IsPrinted info.config
 
 pub record ConsumerConfigIsText (c : ConsumerConfig) : Type 0 where
   pub deliver_group : IsUtf8 c.deliver_group
@@ -45,3 +42,19 @@ IsText replies.ConsumerDelete = Unit {0}
 IsText (replies.ConsumerNames consumers offset total) = All IsUtf8 consumers
 IsText (replies.ConsumerList consumers offset total) = All ConsumerIsText consumers
 IsText (replies.Refused name e) = IsUtf8 name × IsUtf8 e.text
+
+-- of an answer to a publish it is the refusal's
+abbrev pub IsAckText : Reply → Type 0
+IsAckText (answers.Refused e) = IsUtf8 e.text
+IsAckText (answers.Published seq) = Unit {0}
+IsAckText (answers.Duplicate seq) = Unit {0}
+IsAckText (answers.Info info) = Unit {0}
+IsAckText answers.Done = Unit {0}
+IsAckText (answers.Purged purged) = Unit {0}
+IsAckText (answers.ConsumerInfo info) = Unit {0}
+IsAckText (answers.Message message) = Unit {0}
+IsAckText (answers.Names total list) = Unit {0}
+IsAckText (answers.Infos total list) = Unit {0}
+IsAckText answers.Confirmed = Unit {0}
+IsAckText answers.Silent = Unit {0}
+IsAckText answers.Nobody = Unit {0}

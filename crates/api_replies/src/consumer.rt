@@ -4,13 +4,12 @@ ghost use Rattle.std.specs.Prelude.{◌≡◌, OnOk, IfOk, IsUtf8};
 ghost use Rattle.std.specs.List.{All};
 ghost use Rattle.serde_json.specs.Data.{object};
 ghost use Rattle.serde_json.specs.View.{items_view};
-ghost use Rattle.api_replies.specs.Shown.{shown};
-ghost use Rattle.api_replies.specs.Parts.{with_all, object_with};
+ghost use Rattle.js_json.specs.Building.{shown, with_all, object_with};
 ghost use Rattle.api_replies.specs.Consumers.{ack_text, deliver_text, with_start, with_texts, names_of, policies_of, bounds_of, with_settings, consumer_config_data, ack_floor_of, delivered_of, counts_of, progress_of, consumer_members, consumers};
 ghost use Rattle.api_replies.specs.Printed.{ConsumerConfigIsText, ConsumerIsText};
 
-use crate::object::Object;
 use js_base::NoMemory;
+use js_json::ObjectBuilder;
 use js_model::{AckPolicy, ConsumerConfig, ConsumerInfo, DeliverPolicy, Info};
 use serde_json::Value;
 use std::alloc::Global;
@@ -42,8 +41,8 @@ fn deliver_text(policy: DeliverPolicy) -> &'static [u8]
     }
 }
 
-/// Adds the sequence or the moment that the consumer begins at, where its policy names one.
-fn put_start(into: &mut Object, policy: DeliverPolicy) -> Result<(), NoMemory>
+/// Adds the sequence or the moment that the consumer begins at, if its policy names one.
+fn put_start(into: &mut ObjectBuilder, policy: DeliverPolicy) -> Result<(), NoMemory>
     ensures ok { OnOk result (shown into.new ≡ with_start policy (shown into.old)) }
 {
     match policy {
@@ -57,7 +56,7 @@ fn put_start(into: &mut Object, policy: DeliverPolicy) -> Result<(), NoMemory>
 }
 
 /// Adds the texts that are not empty.
-fn put_texts(into: &mut Object, config: &ConsumerConfig) -> Result<(), NoMemory>
+fn put_texts(into: &mut ObjectBuilder, config: &ConsumerConfig) -> Result<(), NoMemory>
     requires texts { ConsumerConfigIsText config.now }
     ensures ok { OnOk result (shown into.new ≡ with_texts config.now (shown into.old)) }
 {
@@ -68,7 +67,7 @@ fn put_texts(into: &mut Object, config: &ConsumerConfig) -> Result<(), NoMemory>
 }
 
 /// Adds the name of the consumer.
-fn put_names(into: &mut Object, config: &ConsumerConfig) -> Result<(), NoMemory>
+fn put_names(into: &mut ObjectBuilder, config: &ConsumerConfig) -> Result<(), NoMemory>
     requires texts { ConsumerConfigIsText config.now }
     ensures ok { OnOk result (shown into.new ≡ with_all (names_of config.now) (shown into.old)) }
 {
@@ -77,7 +76,7 @@ fn put_names(into: &mut Object, config: &ConsumerConfig) -> Result<(), NoMemory>
 }
 
 /// Adds the policies.
-fn put_policies(into: &mut Object, config: &ConsumerConfig) -> Result<(), NoMemory>
+fn put_policies(into: &mut ObjectBuilder, config: &ConsumerConfig) -> Result<(), NoMemory>
     ensures ok { OnOk result (shown into.new ≡ with_all (policies_of config.now) (shown into.old)) }
 {
     into.text("ack_policy", ack_text(config.ack_policy))?;
@@ -86,7 +85,7 @@ fn put_policies(into: &mut Object, config: &ConsumerConfig) -> Result<(), NoMemo
 }
 
 /// Adds how long a delivery waits, how many of them may wait, and how often each is made.
-fn put_bounds(into: &mut Object, config: &ConsumerConfig) -> Result<(), NoMemory>
+fn put_bounds(into: &mut ObjectBuilder, config: &ConsumerConfig) -> Result<(), NoMemory>
     ensures ok { OnOk result (shown into.new ≡ with_all (bounds_of config.now) (shown into.old)) }
 {
     into.number("ack_wait", config.ack_wait)?;
@@ -96,7 +95,7 @@ fn put_bounds(into: &mut Object, config: &ConsumerConfig) -> Result<(), NoMemory
 }
 
 /// Adds what is shown always.
-fn put_settings(into: &mut Object, config: &ConsumerConfig) -> Result<(), NoMemory>
+fn put_settings(into: &mut ObjectBuilder, config: &ConsumerConfig) -> Result<(), NoMemory>
     requires texts { ConsumerConfigIsText config.now }
     ensures ok { OnOk result (shown into.new ≡ with_settings config.now (shown into.old)) }
 {
@@ -107,11 +106,11 @@ fn put_settings(into: &mut Object, config: &ConsumerConfig) -> Result<(), NoMemo
 
 /// The configuration as it is shown.
 #[tactic(auto, unfolding(crate::specs::Consumers::consumer_config_data))]
-fn config_object(alloc: Global, config: &ConsumerConfig) -> Result<Object, NoMemory>
+fn config_object(alloc: Global, config: &ConsumerConfig) -> Result<ObjectBuilder, NoMemory>
     requires texts { ConsumerConfigIsText config.now }
     ensures value { IfOk result (λ made. object (shown made) ≡ consumer_config_data config.now) }
 {
-    let mut made = Object::new(alloc);
+    let mut made = ObjectBuilder::new(alloc);
     put_texts(&mut made, config)?;
     put_settings(&mut made, config)?;
     made.number_unless_0("idle_heartbeat", config.idle_heartbeat)?;
@@ -120,26 +119,26 @@ fn config_object(alloc: Global, config: &ConsumerConfig) -> Result<Object, NoMem
 }
 
 /// Up to where everything is acknowledged.
-fn ack_floor_object(alloc: Global, numbers: &Info) -> Result<Object, NoMemory>
+fn ack_floor_object(alloc: Global, numbers: &Info) -> Result<ObjectBuilder, NoMemory>
     ensures value { IfOk result (λ made. object (shown made) ≡ object_with (ack_floor_of numbers.now)) }
 {
-    let mut made = Object::new(alloc);
+    let mut made = ObjectBuilder::new(alloc);
     made.number("stream_seq", numbers.ack_floor)?;
     Ok(made)
 }
 
 /// The last delivery.
-fn delivered_object(alloc: Global, numbers: &Info) -> Result<Object, NoMemory>
+fn delivered_object(alloc: Global, numbers: &Info) -> Result<ObjectBuilder, NoMemory>
     ensures value { IfOk result (λ made. object (shown made) ≡ object_with (delivered_of numbers.now)) }
 {
-    let mut made = Object::new(alloc);
+    let mut made = ObjectBuilder::new(alloc);
     made.number("consumer_seq", numbers.consumer_seq)?;
     made.number("stream_seq", numbers.stream_seq)?;
     Ok(made)
 }
 
 /// Adds how many messages and pulls wait.
-fn put_counts(into: &mut Object, numbers: &Info) -> Result<(), NoMemory>
+fn put_counts(into: &mut ObjectBuilder, numbers: &Info) -> Result<(), NoMemory>
     ensures ok { OnOk result (shown into.new ≡ with_all (counts_of numbers.now) (shown into.old)) }
 {
     into.number("num_ack_pending", numbers.ack_pending)?;
@@ -149,7 +148,7 @@ fn put_counts(into: &mut Object, numbers: &Info) -> Result<(), NoMemory>
 }
 
 /// Adds how far the consumer is.
-fn put_progress(alloc: Global, into: &mut Object, numbers: &Info) -> Result<(), NoMemory>
+fn put_progress(alloc: Global, into: &mut ObjectBuilder, numbers: &Info) -> Result<(), NoMemory>
     ensures ok { OnOk result (shown into.new ≡ with_all (progress_of numbers.now) (shown into.old)) }
 {
     let ack_floor = ack_floor_object(alloc, numbers)?;
@@ -161,11 +160,11 @@ fn put_progress(alloc: Global, into: &mut Object, numbers: &Info) -> Result<(), 
 
 /// The information as it is shown, without its kind.
 #[tactic(auto, unfolding(crate::specs::Consumers::consumer_members))]
-pub(crate) fn consumer_object(alloc: Global, info: &ConsumerInfo) -> Result<Object, NoMemory>
+pub(crate) fn consumer_object(alloc: Global, info: &ConsumerInfo) -> Result<ObjectBuilder, NoMemory>
     requires texts { ConsumerIsText info.now }
     ensures value { IfOk result (λ made. shown made ≡ consumer_members info.now) }
 {
-    let mut made = Object::new(alloc);
+    let mut made = ObjectBuilder::new(alloc);
     let config = config_object(alloc, &info.config)?;
     made.part("config", config)?;
     made.time("created", info.made)?;

@@ -1,15 +1,16 @@
-//! The replies of the JetStream API, and their texts.
+//! The answers of the JetStream API and to publishes, and their texts.
 #![tactic(auto)]
 
-mod config;
 mod consumer;
 mod message;
-mod object;
 mod printing;
+mod pub_ack;
+mod refusal;
 mod reply;
 mod stream_info;
 #[cfg(test)]
 mod tests;
 
 pub use printing::reply_text;
+pub use pub_ack::publish_text;
 pub use reply::ApiReply;

@@ -4,20 +4,19 @@ ghost use Rattle.std.specs.Prelude.{◌≡◌, OnOk, IfOk, IsUtf8};
 ghost use Rattle.std.specs.List.{All};
 ghost use Rattle.serde_json.specs.Data.{object, string, put as with_member};
 ghost use Rattle.serde_json.specs.View.{items_view};
-ghost use Rattle.api_replies.specs.Shown.{shown};
-ghost use Rattle.api_replies.specs.Parts.{with_all};
+ghost use Rattle.js_json.specs.Building.{shown, with_all};
 ghost use Rattle.api_replies.specs.Infos.{time_shown, ends_of, state_data, info_members, infos};
 ghost use Rattle.api_replies.specs.Printed.{InfoIsText};
 
-use crate::config::config_object;
-use crate::object::Object;
 use js_base::{Moment, NoMemory};
+use js_json::ObjectBuilder;
 use js_model::StreamInfo;
 use serde_json::Value;
 use std::alloc::Global;
+use stream_config::print;
 
 /// Adds a moment, or the text for none.
-fn put_time_shown(into: &mut Object, key: &str, at: Option<Moment>) -> Result<(), NoMemory>
+fn put_time_shown(into: &mut ObjectBuilder, key: &str, at: Option<Moment>) -> Result<(), NoMemory>
     ensures ok { OnOk result (shown into.new ≡ with_member key.now (string (time_shown at)) (shown into.old)) }
 {
     match at {
@@ -27,7 +26,7 @@ fn put_time_shown(into: &mut Object, key: &str, at: Option<Moment>) -> Result<()
 }
 
 /// Adds the first and the last sequence, and their moments.
-fn put_ends(into: &mut Object, info: &StreamInfo) -> Result<(), NoMemory>
+fn put_ends(into: &mut ObjectBuilder, info: &StreamInfo) -> Result<(), NoMemory>
     ensures ok { OnOk result (shown into.new ≡ with_all (ends_of info.now) (shown into.old)) }
 {
     into.number("first_seq", info.first_seq)?;
@@ -38,10 +37,10 @@ fn put_ends(into: &mut Object, info: &StreamInfo) -> Result<(), NoMemory>
 
 /// What the stream holds.
 #[tactic(auto, unfolding(crate::specs::Infos::state_data))]
-fn state_object(alloc: Global, info: &StreamInfo) -> Result<Object, NoMemory>
+fn state_object(alloc: Global, info: &StreamInfo) -> Result<ObjectBuilder, NoMemory>
     ensures value { IfOk result (λ made. object (shown made) ≡ state_data info.now) }
 {
-    let mut made = Object::new(alloc);
+    let mut made = ObjectBuilder::new(alloc);
     made.number("bytes", info.bytes)?;
     made.number("consumer_count", info.consumers)?;
     put_ends(&mut made, info)?;
@@ -51,13 +50,13 @@ fn state_object(alloc: Global, info: &StreamInfo) -> Result<Object, NoMemory>
 
 /// The information as it is shown, without its kind.
 #[tactic(auto, unfolding(crate::specs::Infos::info_members))]
-pub(crate) fn info_object(alloc: Global, info: &StreamInfo) -> Result<Object, NoMemory>
+pub(crate) fn info_object(alloc: Global, info: &StreamInfo) -> Result<ObjectBuilder, NoMemory>
     requires texts { InfoIsText info.now }
     ensures value { IfOk result (λ made. shown made ≡ info_members info.now) }
 {
-    let mut made = Object::new(alloc);
-    let config = config_object(alloc, &info.config)?;
-    made.part("config", config)?;
+    let mut made = ObjectBuilder::new(alloc);
+    let config = print(alloc, &info.config)?;
+    made.value("config", config)?;
     made.time("created", info.made)?;
     let state = state_object(alloc, info)?;
     made.part("state", state)?;

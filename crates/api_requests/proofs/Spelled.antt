@@ -1,4 +1,4 @@
--- A subject is read as a call exactly where it is spelled as one.
+-- A subject is read as a call exactly if it is spelled as one.
 use Rattle.std.proofs.Common.{◌≡◌, Bool, true, false, not, ◌&&◌, nat_eq, ◌++◌, length, take, drop, Option, Some, None, option_map, refl, sym, ap, ◌∙◌, subst, if◌then◌else◌, take-append-drop}
 use Rattle.std.specs.List.{starts_with}
 use Rattle.std.specs.Option.{option_or}
@@ -11,7 +11,8 @@ use Rattle.api_requests.specs.declared.call.GeneralCall.TheVariants as general
 use Rattle.api_requests.specs.declared.call.StreamCall.{StreamCall}
 use Rattle.api_requests.specs.declared.call.StreamCall.TheVariants as stream
 use Rattle.api_requests.specs.Calls.{general_call, token_behind, called, stream_call}
-use Rattle.api_requests.specs.Laws.{general_words, stream_words, IsCallOn, LawGeneral, LawOnStream}
+use Rattle.api_requests.specs.Words.{general_words, stream_words}
+use Rattle.api_requests.specs.Laws.{IsCallOn, LawGeneral, LawOnStream}
 
 -- ---- calls on no stream of their own
 
@@ -76,7 +77,7 @@ behind_again words token one =
     (ap (λ t. has t 46) left ∙ one)
     left
 
--- where the first call is not it, the others are
+-- if the first call is not it, the others are
 called_or : (first call : StreamCall) (subject token : Bytes) (found : Option Bytes) (others : Option (StreamCall × Bytes)) → token_behind (stream_words first) subject ≡ found
     → option_or (option_map (λ t. (first, t)) found) others ≡ Some (call, token) → (others ≡ Some (call, token) → IsCallOn call token subject) → IsCallOn call token subject
 called_or first call subject token None others read is more = more is
@@ -88,7 +89,7 @@ called_or first call subject token (Some t) others read is more =
     let made : IsCallOn first t subject = record { spelled = b.spelled; one = b.one } in
     subst (λ (x : Bytes). IsCallOn call x subject) other (subst (λ (x : StreamCall). IsCallOn x t subject) one made)
 
-last_call : (first call : StreamCall) (subject token : Bytes) → called first (stream_words first) subject ≡ Some (call, token) → IsCallOn call token subject
+last_call : (first call : StreamCall) (subject token : Bytes) → called first subject ≡ Some (call, token) → IsCallOn call token subject
 last_call first call subject token is = called_or first call subject token _ None refl (or_none _ is) (λ none. cc)
   where
     or_none : (o : Option (StreamCall × Bytes)) → o ≡ Some (call, token) → option_or o None ≡ Some (call, token)
@@ -109,17 +110,17 @@ again : (call : StreamCall) (token : Bytes) → has token 46 ≡ false → strea
 unfolding tagged
 again stream.Create token one =
     ap (λ (o : Option Bytes). option_or (tagged stream.Create o)
-    (option_or (called stream.Update (stream_words stream.Update) (stream_words stream.Create ++ token))
-    (option_or (called stream.Info (stream_words stream.Info) (stream_words stream.Create ++ token))
-    (called stream.Delete (stream_words stream.Delete) (stream_words stream.Create ++ token)))))
+    (option_or (called stream.Update (stream_words stream.Create ++ token))
+    (option_or (called stream.Info (stream_words stream.Create ++ token))
+    (called stream.Delete (stream_words stream.Create ++ token)))))
     (behind_again (stream_words stream.Create) token one)
 again stream.Update token one =
     ap (λ (o : Option Bytes). option_or (tagged stream.Update o)
-    (option_or (called stream.Info (stream_words stream.Info) (stream_words stream.Update ++ token))
-    (called stream.Delete (stream_words stream.Delete) (stream_words stream.Update ++ token))))
+    (option_or (called stream.Info (stream_words stream.Update ++ token))
+    (called stream.Delete (stream_words stream.Update ++ token))))
     (behind_again (stream_words stream.Update) token one)
 again stream.Info token one =
-    ap (λ (o : Option Bytes). option_or (tagged stream.Info o) (called stream.Delete (stream_words stream.Delete) (stream_words stream.Info ++ token)))
+    ap (λ (o : Option Bytes). option_or (tagged stream.Info o) (called stream.Delete (stream_words stream.Info ++ token)))
     (behind_again (stream_words stream.Info) token one)
 again stream.Delete token one = ap (λ (o : Option Bytes). tagged stream.Delete o) (behind_again (stream_words stream.Delete) token one)
 

@@ -10,7 +10,7 @@ Reads (Ok x) reading = reading ≡ Ok x
 Reads (Err (Refused told)) reading = reading ≡ Err told
 Reads (Err NoMemory) reading = Unit {0}
 
--- the same where there may be nothing to read, for which no memory is needed
+-- the same if there may be nothing to read, for which no memory is needed
 abbrev pub ReadsCall : {X : Type 0} → Result (Option X) ApiFault → Option (Result X ApiError) → Type 0
 ReadsCall (Ok None) reading = reading ≡ None
 ReadsCall (Ok (Some x)) reading = reading ≡ Some (Ok x)

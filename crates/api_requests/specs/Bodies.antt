@@ -52,7 +52,7 @@ offset_told (Ok None) = Ok 0
 offset_told (Ok (Some z)) = small_offset z
 offset_told (Err _) = Err (invalid_value (codes "offset"))
 
--- 0 where it is absent, and below 2 ^ 62
+-- 0 if it is absent, and below 2 ^ 62
 unfoldable pub offset_in : Members → Result ℕ ApiError
 offset_in fields = offset_told (number_in (codes "offset") fields)
 

@@ -1,4 +1,5 @@
 pub mod Answers
+pub mod Words
 pub mod Calls
 pub mod Names
 pub mod Bodies

@@ -6,7 +6,7 @@ use Rattle.js_base.specs.Subjects.{is_pattern_text}
 use Rattle.js_model.specs.Configs.{is_name, is_number, is_stream_config}
 use Rattle.js_model.specs.Proper.{if_given}
 use Rattle.js_model.specs.declared.stream_config.StreamConfig.{StreamConfig}
-use Rattle.stream_config.specs.Laws.{IsServed}
+use Rattle.js_model.specs.Served.{IsServed}
 use Rattle.stream_config.specs.Printing.{IsPrinted}
 use Rattle.api_requests.specs.declared.fault.ApiFault.{ApiFault}
 use Rattle.api_requests.specs.declared.fault.ApiFault.TheVariants.{Refused, NoMemory}
@@ -39,7 +39,16 @@ IsRead (requests.StreamInfo stream) = IsStream stream
 IsRead (requests.StreamDelete stream) = IsStream stream
 IsRead (requests.StreamNames offset subject) = IsListing offset subject
 IsRead (requests.StreamList offset subject) = IsListing offset subject
-IsRead _ = ⊥
+IsRead (requests.StreamPurge stream pattern seq keep) = ⊥
+IsRead (requests.StreamMsgGet stream by) = ⊥
+IsRead (requests.StreamMsgDelete stream seq) = ⊥
+IsRead (requests.ConsumerCreate stream consumer config update) = ⊥
+IsRead (requests.ConsumerDurableCreate stream consumer config update) = ⊥
+IsRead (requests.ConsumerInfo stream consumer) = ⊥
+IsRead (requests.ConsumerDelete stream consumer) = ⊥
+IsRead (requests.ConsumerNames stream offset) = ⊥
+IsRead (requests.ConsumerList stream offset) = ⊥
+IsRead (requests.ConsumerMsgNext stream consumer ask) = ⊥
 
 -- the text of a refusal is UTF-8
 abbrev pub IsShown : ApiFault → Type 0

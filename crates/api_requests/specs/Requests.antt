@@ -43,6 +43,6 @@ abbrev pub or_on_stream : Option GeneralCall → Option (StreamCall × Bytes) �
 or_on_stream (Some call) on_stream body = Some (general_request call body)
 or_on_stream None on_stream body = option_map (λ x. stream_request x.0 x.1 body) on_stream
 
--- the request, or its refusal; none where the subject is no call
+-- the request, or its refusal; none if the subject is no call
 unfoldable pub request_of : Bytes → Bytes → Option (Result ApiRequest ApiError)
 request_of subject body = or_on_stream (general_call subject) (stream_call subject) body

@@ -1,7 +1,11 @@
 //! Which subjects are calls.
 
 ghost use Rattle.std.specs.Prelude.{◌≡◌, option_map};
+ghost use Rattle.api_requests.specs.Words.{general_words, stream_words};
 ghost use Rattle.api_requests.specs.Calls.{general_call, token_behind, called, stream_call};
+ghost use Rattle.api_requests.specs.Names.{api_general, api_on_stream};
+
+use api_calls::ApiCall;
 
 /// A call on no stream of its own.
 #[derive(Clone, Copy, Debug, PartialEq, Eq)]
@@ -20,15 +24,65 @@ pub(crate) enum StreamCall {
     Delete,
 }
 
+impl GeneralCall {
+    /// Its subject.
+    fn subject(self) -> &'static [u8]
+        ensures value { result.now ≡ general_words self }
+    {
+        match self {
+            GeneralCall::AccountInfo => b"$JS.API.INFO",
+            GeneralCall::StreamNames => b"$JS.API.STREAM.NAMES",
+            GeneralCall::StreamList => b"$JS.API.STREAM.LIST",
+        }
+    }
+
+    /// Which call of the API it is.
+    pub(crate) fn api_call(self) -> ApiCall
+        ensures value { result ≡ api_general self }
+    {
+        match self {
+            GeneralCall::AccountInfo => ApiCall::AccountInfo,
+            GeneralCall::StreamNames => ApiCall::StreamNames,
+            GeneralCall::StreamList => ApiCall::StreamList,
+        }
+    }
+}
+
+impl StreamCall {
+    /// What stands before the stream's token in its subject.
+    fn words(self) -> &'static [u8]
+        ensures value { result.now ≡ stream_words self }
+    {
+        match self {
+            StreamCall::Create => b"$JS.API.STREAM.CREATE.",
+            StreamCall::Update => b"$JS.API.STREAM.UPDATE.",
+            StreamCall::Info => b"$JS.API.STREAM.INFO.",
+            StreamCall::Delete => b"$JS.API.STREAM.DELETE.",
+        }
+    }
+
+    /// Which call of the API it is.
+    pub(crate) fn api_call(self) -> ApiCall
+        ensures value { result ≡ api_on_stream self }
+    {
+        match self {
+            StreamCall::Create => ApiCall::StreamCreate,
+            StreamCall::Update => ApiCall::StreamUpdate,
+            StreamCall::Info => ApiCall::StreamInfo,
+            StreamCall::Delete => ApiCall::StreamDelete,
+        }
+    }
+}
+
 /// The call on no stream of its own that the subject is.
 pub(crate) fn general_call(subject: &[u8]) -> Option<GeneralCall>
     ensures value { result ≡ general_call subject.now }
 {
-    if subject == b"$JS.API.INFO".as_slice() {
+    if subject == GeneralCall::AccountInfo.subject() {
         Some(GeneralCall::AccountInfo)
-    } else if subject == b"$JS.API.STREAM.NAMES".as_slice() {
+    } else if subject == GeneralCall::StreamNames.subject() {
         Some(GeneralCall::StreamNames)
-    } else if subject == b"$JS.API.STREAM.LIST".as_slice() {
+    } else if subject == GeneralCall::StreamList.subject() {
         Some(GeneralCall::StreamList)
     } else {
         None
@@ -50,11 +104,11 @@ fn token_behind<'a>(words: &[u8], subject: &'a [u8]) -> Option<&'a [u8]>
     }
 }
 
-/// The call with these words, and its token.
-fn called<'a>(call: StreamCall, words: &[u8], subject: &'a [u8]) -> Option<(StreamCall, &'a [u8])>
-    ensures value { option_map (λ x. (x.0, x.1.now)) result ≡ called call words.now subject.now }
+/// This call and its token, if the subject is one of it.
+fn called(call: StreamCall, subject: &[u8]) -> Option<(StreamCall, &[u8])>
+    ensures value { option_map (λ x. (x.0, x.1.now)) result ≡ called call subject.now }
 {
-    match token_behind(words, subject) {
+    match token_behind(call.words(), subject) {
         Some(token) => Some((call, token)),
         None => None,
     }
@@ -64,8 +118,8 @@ fn called<'a>(call: StreamCall, words: &[u8], subject: &'a [u8]) -> Option<(Stre
 pub(crate) fn stream_call(subject: &[u8]) -> Option<(StreamCall, &[u8])>
     ensures value { option_map (λ x. (x.0, x.1.now)) result ≡ stream_call subject.now }
 {
-    called(StreamCall::Create, b"$JS.API.STREAM.CREATE.", subject)
-        .or(called(StreamCall::Update, b"$JS.API.STREAM.UPDATE.", subject))
-        .or(called(StreamCall::Info, b"$JS.API.STREAM.INFO.", subject))
-        .or(called(StreamCall::Delete, b"$JS.API.STREAM.DELETE.", subject))
+    called(StreamCall::Create, subject)
+        .or(called(StreamCall::Update, subject))
+        .or(called(StreamCall::Info, subject))
+        .or(called(StreamCall::Delete, subject))
 }

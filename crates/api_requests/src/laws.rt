@@ -2,7 +2,7 @@
 
 ghost use Rattle.api_requests.specs.Laws.{LawGeneral, LawOnStream};
 
-/// A subject is read as a call exactly where it is that call's subject.
+/// A subject is read as a call exactly if it is that call's subject.
 pub fn law_calls()
     ensures general { LawGeneral }
     ensures on_stream { LawOnStream }

@@ -19,7 +19,7 @@ use subject_match::check_pattern;
 /// The end of the numbers that a body may have.
 const NUMBERS_END: i128 = 1 << 62;
 
-/// The body, where an empty one is `{}`.
+/// The body, or `{}` if it is empty.
 fn or_braces(body: &[u8]) -> &[u8]
     ensures value { result.now ≡ or_braces body.now }
 {
@@ -89,7 +89,7 @@ fn offset_in(alloc: Global, fields: &Fields) -> Result<u64, ApiFault>
     }
 }
 
-/// The pattern that the text is, where it is not empty.
+/// The pattern that the text is, if it is not empty.
 fn pattern_told(alloc: Global, text: Blob) -> Result<Option<Blob>, ApiFault>
     ensures reading { Reads result (pattern_told text) }
 {

@@ -60,10 +60,10 @@ fn read_on_stream(
     }
 }
 
-/// The call that a subject and a body are, and `None` exactly where the subject is no call. The subjects are `$JS.API.` and one of `INFO`,
+/// The call that a subject and a body are, and `None` exactly if the subject is no call. The subjects are `$JS.API.` and one of `INFO`,
 /// `STREAM.NAMES`, `STREAM.LIST`, and `STREAM.CREATE.<stream>`, `STREAM.UPDATE.<stream>`, `STREAM.INFO.<stream>` and `STREAM.DELETE.<stream>`.
 ///
-/// Where several things are wrong, the first of these is the refusal: 10025, the body is no JSON object; 20001 of `name`, the stream's token is no
+/// If several things are wrong, the first of these is the refusal: 10025, the body is no JSON object; 20001 of `name`, the stream's token is no
 /// name; 20001 of a field, or in a configuration 20002, in the order of the keys; 20022, another name in a configuration. An empty body is an
 /// object without fields, and those of `INFO` and `STREAM.DELETE` are not looked at. `NoMemory` may come for each call.
 ///

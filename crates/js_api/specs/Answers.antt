@@ -43,7 +43,9 @@ abbrev pub OpensClient : Result ℕ OpenFault → Bool → Client → Type 0
 OpensClient (Ok number) is_open client = (is_open ≡ true) × (client ≡ new_client number)
 OpensClient (Err _) is_open client = is_open ≡ false
 
--- where more was left, fewer collects may follow
+-- if more was left, fewer collects may follow
 abbrev pub LeavesLess : Result Collected Refused → ℕ → ℕ → Type 0
 LeavesLess (Ok (collected.Frames list true)) before now = now < before
-LeavesLess _ before now = Unit {0}
+LeavesLess (Ok (collected.Frames list false)) before now = Unit {0}
+LeavesLess (Ok (collected.Slow length)) before now = Unit {0}
+LeavesLess (Err _) before now = Unit {0}

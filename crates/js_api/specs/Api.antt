@@ -1,6 +1,6 @@
 -- What a publish to a subject of the JetStream API makes: look-ups in the catalog, one hold for each stream that the call reads or changes, and
 -- its answer, by the JetStream API reference.
-use Rattle.std.specs.Prelude.{◌≡◌, ◌⊎◌, ◌++◌, ℕ, nat_lt, Bool, true, false, not, List, [], ◌∷◌, length, map, filter, take, drop, sum_by, Option, Some, None, MatchBool, MatchOption, Result, Ok, Err, codes, if◌then◌else◌}
+use Rattle.std.specs.Prelude.{◌≡◌, ◌⊎◌, ◌++◌, ℕ, nat_lt, Bool, true, false, not, List, [], ◌∷◌, length, map, filter, take, drop, sum_by, Option, Some, None, MatchBool, MatchOption, Result, Ok, Err, if◌then◌else◌}
 use Rattle.std.specs.List.{list_any, flat_map}
 use Rattle.js_base.specs.Bytes.{Bytes}
 use Rattle.js_base.specs.Subjects.{tokens, meets}
@@ -10,13 +10,16 @@ use Rattle.js_model.specs.declared.stream_config.StreamConfig.{StreamConfig}
 use Rattle.js_model.specs.declared.event.What.{What}
 use Rattle.js_model.specs.declared.event.What.TheVariants as whats
 use Rattle.js_model.specs.declared.reply.Reply.{Reply}
-use Rattle.js_model.specs.declared.reply.Reply.TheVariants.{Info, Done}
+use Rattle.js_model.specs.declared.reply.Reply.TheVariants as told
 use Rattle.js_model.specs.declared.reply.StreamInfo.{StreamInfo}
 use Rattle.js_model.specs.declared.desk.PlaceAt.{PlaceAt}
 use Rattle.js_model.specs.Consumers.{is_before}
 use Rattle.js_model.specs.Proper.{reply_of}
+use Rattle.js_model.specs.Limits.{last_place, names_a_page, infos_a_page}
 use Rattle.js_model.specs.Refusals.{no_stream}
 use Rattle.js_model.specs.Catalog as catalog
+use Rattle.api_calls.specs.declared.call.ApiCall.TheVariants as calls
+use Rattle.api_calls.specs.Names.{name_of}
 use Rattle.api_requests.specs.declared.request.ApiRequest.{ApiRequest}
 use Rattle.api_requests.specs.declared.request.ApiRequest.TheVariants as requests
 use Rattle.api_requests.specs.Names.{call_name}
@@ -29,7 +32,7 @@ use Rattle.js_api.specs.Holding.{IsSent, Made, Said, Cut, Unmade, Gone, Holds, r
 
 -- ---- answers
 
--- the server's own answer, where there is a reply subject
+-- the server's own answer, if there is a reply subject
 abbrev pub answer : Option Bytes → ApiReply → List Out
 answer to reply = sent_text to (Some (reply_text reply))
 
@@ -59,23 +62,59 @@ pub record IsOnStream (name : Bytes) (at : PlaceAt) (what : What) (now : ℕ) (c
 abbrev pub unchanged : Option Reply → List DeskEntry
 unchanged reply = []
 
--- the place that was taken for a stream is free again where none was made
+-- the place that was taken for a stream is free again if none was made
 abbrev pub free_unless_made : PlaceAt → Option Reply → List DeskEntry
-free_unless_made at (Some (Info info)) = []
-free_unless_made at _ = Looked (catalog.Remove at.place false) catalog.Done ∷ []
+free_unless_made at None = Looked (catalog.Remove at.place false) catalog.Done ∷ []
+free_unless_made at (Some (told.Info info)) = []
+free_unless_made at (Some told.Done) = Looked (catalog.Remove at.place false) catalog.Done ∷ []
+free_unless_made at (Some (told.Published seq)) = Looked (catalog.Remove at.place false) catalog.Done ∷ []
+free_unless_made at (Some (told.Duplicate seq)) = Looked (catalog.Remove at.place false) catalog.Done ∷ []
+free_unless_made at (Some (told.Purged purged)) = Looked (catalog.Remove at.place false) catalog.Done ∷ []
+free_unless_made at (Some (told.ConsumerInfo info)) = Looked (catalog.Remove at.place false) catalog.Done ∷ []
+free_unless_made at (Some (told.Message message)) = Looked (catalog.Remove at.place false) catalog.Done ∷ []
+free_unless_made at (Some (told.Names total list)) = Looked (catalog.Remove at.place false) catalog.Done ∷ []
+free_unless_made at (Some (told.Infos total list)) = Looked (catalog.Remove at.place false) catalog.Done ∷ []
+free_unless_made at (Some told.Confirmed) = Looked (catalog.Remove at.place false) catalog.Done ∷ []
+free_unless_made at (Some told.Silent) = Looked (catalog.Remove at.place false) catalog.Done ∷ []
+free_unless_made at (Some told.Nobody) = Looked (catalog.Remove at.place false) catalog.Done ∷ []
+free_unless_made at (Some (told.Refused e)) = Looked (catalog.Remove at.place false) catalog.Done ∷ []
 
--- the stream has its new subjects where it was changed, and else its old ones
+-- the stream has its new subjects if it was changed, and else its old ones
 abbrev pub is_changed : Option Reply → Bool
-is_changed (Some (Info info)) = true
-is_changed _ = false
+is_changed None = false
+is_changed (Some (told.Info info)) = true
+is_changed (Some told.Done) = false
+is_changed (Some (told.Published seq)) = false
+is_changed (Some (told.Duplicate seq)) = false
+is_changed (Some (told.Purged purged)) = false
+is_changed (Some (told.ConsumerInfo info)) = false
+is_changed (Some (told.Message message)) = false
+is_changed (Some (told.Names total list)) = false
+is_changed (Some (told.Infos total list)) = false
+is_changed (Some told.Confirmed) = false
+is_changed (Some told.Silent) = false
+is_changed (Some told.Nobody) = false
+is_changed (Some (told.Refused e)) = false
 
 abbrev pub keep_subjects : PlaceAt → Option Reply → List DeskEntry
 keep_subjects at reply = Looked (catalog.Keep at.place (is_changed reply)) catalog.Done ∷ []
 
--- the place is free where its stream was dropped
+-- the place is free if its stream was dropped
 abbrev pub free_if_dropped : PlaceAt → Option Reply → List DeskEntry
-free_if_dropped at (Some Done) = Looked (catalog.Remove at.place true) catalog.Done ∷ []
-free_if_dropped at _ = []
+free_if_dropped at None = []
+free_if_dropped at (Some (told.Info info)) = []
+free_if_dropped at (Some told.Done) = Looked (catalog.Remove at.place true) catalog.Done ∷ []
+free_if_dropped at (Some (told.Published seq)) = []
+free_if_dropped at (Some (told.Duplicate seq)) = []
+free_if_dropped at (Some (told.Purged purged)) = []
+free_if_dropped at (Some (told.ConsumerInfo info)) = []
+free_if_dropped at (Some (told.Message message)) = []
+free_if_dropped at (Some (told.Names total list)) = []
+free_if_dropped at (Some (told.Infos total list)) = []
+free_if_dropped at (Some told.Confirmed) = []
+free_if_dropped at (Some told.Silent) = []
+free_if_dropped at (Some told.Nobody) = []
+free_if_dropped at (Some (told.Refused e)) = []
 
 -- ---- a stream by its name
 
@@ -94,9 +133,9 @@ IsAbsent name to finished entries = IsSent finished (refusal name to no_stream) 
 -- the place that was taken for it, or why none was
 abbrev pub GoesOnAdded : StreamConfig → Option Bytes → ℕ → Bool → catalog.CatTold → List DeskEntry → Type 0
 GoesOnAdded config to now finished (catalog.At (Some at)) entries =
-    IsOnStream (codes "stream_create") at (whats.Make to config) now (free_unless_made at) finished entries
+    IsOnStream (name_of calls.StreamCreate) at (whats.Make to config) now (free_unless_made at) finished entries
 GoesOnAdded config to now finished (catalog.At None) entries = ⊥
-GoesOnAdded config to now finished (catalog.Refused e) entries = IsSent finished (refusal (codes "stream_create") to e) entries
+GoesOnAdded config to now finished (catalog.Refused e) entries = IsSent finished (refusal (name_of calls.StreamCreate) to e) entries
 GoesOnAdded config to now finished catalog.NoMemory entries = (finished ≡ false) × (entries ≡ [])
 GoesOnAdded config to now finished catalog.Done entries = ⊥
 
@@ -109,14 +148,14 @@ pub record IsAdding (stream : Bytes) (config : StreamConfig) (to : Option Bytes)
 -- a stream that is there answers whether it has this configuration
 abbrev pub IsCreating : Bytes → StreamConfig → Option Bytes → ℕ → Bool → List DeskEntry → Type 0
 IsCreating stream config to now finished entries =
-    IsNamed stream (IsAdding stream config to now finished) (λ at. IsOnStream (codes "stream_create") at (whats.Make to config) now unchanged finished) entries
+    IsNamed stream (IsAdding stream config to now finished) (λ at. IsOnStream (name_of calls.StreamCreate) at (whats.Make to config) now unchanged finished) entries
 
 -- ---- changing a stream
 
 abbrev pub GoesOnChanged : PlaceAt → StreamConfig → Option Bytes → ℕ → Bool → catalog.CatTold → List DeskEntry → Type 0
 GoesOnChanged at config to now finished catalog.Done entries =
-    IsOnStream (codes "stream_update") at (whats.Change to config) now (keep_subjects at) finished entries
-GoesOnChanged at config to now finished (catalog.Refused e) entries = IsSent finished (refusal (codes "stream_update") to e) entries
+    IsOnStream (name_of calls.StreamUpdate) at (whats.Change to config) now (keep_subjects at) finished entries
+GoesOnChanged at config to now finished (catalog.Refused e) entries = IsSent finished (refusal (name_of calls.StreamUpdate) to e) entries
 GoesOnChanged at config to now finished catalog.NoMemory entries = (finished ≡ false) × (entries ≡ [])
 GoesOnChanged at config to now finished (catalog.At found) entries = ⊥
 
@@ -134,9 +173,9 @@ pub record Visit : Type 0 where
   pub at : PlaceAt
   pub made : Made
 
--- the look-ups begin behind the last of 32 places
+-- the look-ups begin behind the last place
 abbrev pub behind : Option PlaceAt → ℕ
-behind None = 31
+behind None = last_place
 behind (Some at) = at.place
 
 -- the place that was found is a further one, and not the first again
@@ -145,7 +184,7 @@ is_further last None = false
 is_further None (Some at) = true
 is_further (Some last) (Some at) = nat_lt last.place at.place
 
--- where memory ran out at a place, no further one is visited
+-- if memory ran out at a place, no further one is visited
 abbrev pub StopsIf : Bool → Bool → List Visit → Type 0
 StopsIf true whole more = (whole ≡ false) × (more ≡ [])
 StopsIf false whole more = Unit {0}
@@ -165,8 +204,22 @@ Visits now last whole (visit ∷ more) entries =
 
 -- the information that a visit gave
 abbrev pub info_told : Made → List StreamInfo
-info_told (Said (Info info) after) = info ∷ []
-info_told _ = []
+info_told (Said (told.Info info) after) = info ∷ []
+info_told (Said told.Done after) = []
+info_told (Said (told.Published seq) after) = []
+info_told (Said (told.Duplicate seq) after) = []
+info_told (Said (told.Purged purged) after) = []
+info_told (Said (told.ConsumerInfo info) after) = []
+info_told (Said (told.Message message) after) = []
+info_told (Said (told.Names total list) after) = []
+info_told (Said (told.Infos total list) after) = []
+info_told (Said told.Confirmed after) = []
+info_told (Said told.Silent after) = []
+info_told (Said told.Nobody after) = []
+info_told (Said (told.Refused e) after) = []
+info_told (Cut reply after) = []
+info_told Unmade = []
+info_told Gone = []
 
 abbrev pub infos_of : List Visit → List StreamInfo
 infos_of visits = flat_map (λ (visit : Visit). info_told visit.made) visits
@@ -195,7 +248,7 @@ abbrev pub in_order : List StreamInfo → List StreamInfo
 in_order [] = []
 in_order (i ∷ is) = with_info (in_order is) i
 
--- a stream has a subject that meets the pattern, where there is one
+-- a stream has a subject that meets the pattern, if there is one
 abbrev pub is_listed : Option Bytes → StreamInfo → Bool
 is_listed None i = true
 is_listed (Some pattern) i = list_any (λ subject. meets (tokens subject) (tokens pattern)) i.config.subjects
@@ -209,29 +262,38 @@ page most offset list = take most (drop offset list)
 
 abbrev pub names : Option Bytes → ℕ → Option Bytes → List StreamInfo → List Out
 names to offset pattern infos =
-    answer to (replies.StreamNames offset (page 1024 offset (map (λ (i : StreamInfo). i.config.name) (listed pattern infos))) (length (listed pattern infos)))
+    answer to (replies.StreamNames offset (page names_a_page offset (map (λ (i : StreamInfo). i.config.name) (listed pattern infos))) (length (listed pattern infos)))
 
 abbrev pub informations : Option Bytes → ℕ → Option Bytes → List StreamInfo → List Out
 informations to offset pattern infos =
-    answer to (replies.StreamList offset (page 256 offset (listed pattern infos)) (length (listed pattern infos)))
+    answer to (replies.StreamList offset (page infos_a_page offset (listed pattern infos)) (length (listed pattern infos)))
 
 -- ---- every call
 
--- The call was carried out so: `finished` where it was to its end, and not where memory ran out. Calls of other forms are not read yet
+-- The call was carried out so: `finished` if it was to its end, and not if memory ran out. Calls of other forms are not read yet
 abbrev pub Performs : ApiRequest → Option Bytes → ℕ → Bool → List DeskEntry → Type 0
 Performs requests.AccountInfo to now finished entries = IsOverAll now finished (account to) entries
 Performs (requests.StreamCreate stream config) to now finished entries = IsCreating stream config to now finished entries
 Performs (requests.StreamUpdate stream config) to now finished entries =
-    IsNamed stream (IsAbsent (codes "stream_update") to finished) (IsChanging config to now finished) entries
+    IsNamed stream (IsAbsent (name_of calls.StreamUpdate) to finished) (IsChanging config to now finished) entries
 Performs (requests.StreamInfo stream) to now finished entries =
-    IsNamed stream (IsAbsent (codes "stream_info") to finished)
-    (λ at. IsOnStream (codes "stream_info") at (whats.StreamInfo to) now unchanged finished) entries
+    IsNamed stream (IsAbsent (name_of calls.StreamInfo) to finished)
+    (λ at. IsOnStream (name_of calls.StreamInfo) at (whats.StreamInfo to) now unchanged finished) entries
 Performs (requests.StreamDelete stream) to now finished entries =
-    IsNamed stream (IsAbsent (codes "stream_delete") to finished)
-    (λ at. IsOnStream (codes "stream_delete") at (whats.Drop to) now (free_if_dropped at) finished) entries
+    IsNamed stream (IsAbsent (name_of calls.StreamDelete) to finished)
+    (λ at. IsOnStream (name_of calls.StreamDelete) at (whats.Drop to) now (free_if_dropped at) finished) entries
 Performs (requests.StreamNames offset pattern) to now finished entries = IsOverAll now finished (names to offset pattern) entries
 Performs (requests.StreamList offset pattern) to now finished entries = IsOverAll now finished (informations to offset pattern) entries
-Performs _ to now finished entries = ⊥
+Performs (requests.StreamPurge stream pattern seq keep) to now finished entries = ⊥
+Performs (requests.StreamMsgGet stream by) to now finished entries = ⊥
+Performs (requests.StreamMsgDelete stream seq) to now finished entries = ⊥
+Performs (requests.ConsumerCreate stream consumer config update) to now finished entries = ⊥
+Performs (requests.ConsumerDurableCreate stream consumer config update) to now finished entries = ⊥
+Performs (requests.ConsumerInfo stream consumer) to now finished entries = ⊥
+Performs (requests.ConsumerDelete stream consumer) to now finished entries = ⊥
+Performs (requests.ConsumerNames stream offset) to now finished entries = ⊥
+Performs (requests.ConsumerList stream offset) to now finished entries = ⊥
+Performs (requests.ConsumerMsgNext stream consumer ask) to now finished entries = ⊥
 
 -- a call that is refused as it is read is answered so, and else it is carried out
 abbrev pub Answers : Result ApiRequest ApiError → Out → ℕ → Bool → List DeskEntry → Type 0

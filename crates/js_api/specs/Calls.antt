@@ -67,7 +67,7 @@ PublishesCut client message now entries =
 
 -- ---- letting time pass
 
--- time passes at a place, where there is one, and then a consumer is ready there or not. There is no push consumer yet to which somebody listens
+-- time passes at a place, if there is one, and then a consumer is ready there or not. There is no push consumer yet to which somebody listens
 abbrev pub is_ready_after : Made → ℕ → Bool
 is_ready_after (Said reply after) now = some_ready after now []
 is_ready_after (Cut reply after) now = some_ready after now []

@@ -1,7 +1,7 @@
 -- What a desk knows of the client of its session.
 use Rattle.std.specs.Prelude.{ℕ, Bool, false, ◌&&◌}
 
--- an open session: its number, and whether its client is told where nobody took a message
+-- an open session: its number, and whether its client is told if nobody took a message
 pub record Client : Type 0 where
   pub session : ℕ
   pub told : Bool
@@ -10,6 +10,6 @@ pub record Client : Type 0 where
 abbrev pub new_client : ℕ → Client
 new_client number = record { session = number; told = false }
 
--- it is told where it takes header blocks and asks for it
+-- it is told if it takes header blocks and asks for it
 abbrev pub with_options : Client → Bool → Bool → Client
 with_options client headers no_responders = record client { told = headers && no_responders }

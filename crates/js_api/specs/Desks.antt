@@ -3,9 +3,10 @@ use Rattle.std.specs.Prelude.{◌≡◌, ◌≢◌, ℕ, List, [], ◌∷◌, re
 use Rattle.js_model.specs.declared.stream.State.{State}
 use Rattle.js_model.specs.declared.stream.State.TheVariants.{Vacant}
 use Rattle.js_model.specs.declared.entry.PlaceEntry.{PlaceEntry}
-use Rattle.js_model.specs.declared.entry.PlaceEntry.TheVariants.{Step}
+use Rattle.js_model.specs.declared.entry.PlaceEntry.TheVariants.{Step, Deliver, Broken}
 use Rattle.js_model.specs.declared.desk.PlaceAt.{PlaceAt}
 use Rattle.js_model.specs.Events.{kept_incarnation}
+use Rattle.js_model.specs.Limits.{last_place}
 use Rattle.js_model.specs.Runs.{RunFrom}
 use Rattle.js_model.specs.Router.{Router, RouteCall, RouteTold, IsRoute, empty_router}
 use Rattle.js_model.specs.Catalog.{Catalog, new_place, CatCall, CatTold, IsCatalogCall, NextUsed, At}
@@ -38,7 +39,9 @@ place_or before (Some at) = at.place
 -- the place of a hold, with the incarnation of its event
 abbrev pub hold_at : ℕ → List PlaceEntry → Option PlaceAt → Option PlaceAt
 hold_at place (Step seat event now reply outs unsaid ∷ more) before = Some (record { place = place; incarnation = event.incarnation })
-hold_at place _ before = before
+hold_at place [] before = before
+hold_at place (Deliver seat now listening delivery outs ∷ more) before = before
+hold_at place (Broken seat now call ∷ more) before = before
 
 -- the place keeps another incarnation
 pub record IsMissed (places : List State) (at : PlaceAt) : Type 0 where
@@ -48,7 +51,7 @@ pub record IsMissed (places : List State) (at : PlaceAt) : Type 0 where
 
 -- so many places that never had a stream, no session was opened yet, and the first tick goes to the first used place
 abbrev pub opening : ℕ → World
-opening places = record { router = empty_router; catalog = replicate places new_place; places = replicate places (Vacant 0); ticked = 31; last = None }
+opening places = record { router = empty_router; catalog = replicate places new_place; places = replicate places (Vacant 0); ticked = last_place; last = None }
 
 -- The entries of a desk that is alone lead from the one world to the other, each by its own machine. Of a hold the store has a block for each
 -- message, however many there are

@@ -26,7 +26,7 @@ AreCut (out ∷ outs) entries =
     (entries ≡ Routed (router.Publish out None) router.NoMemory ∷ [])
     ⊎ ((count : ℕ) × (more : List DeskEntry) × (entries ≡ Routed (router.Publish out None) (router.Taken count) ∷ more) × AreCut outs more)
 
--- Whether it was finished: all outputs are routed; or memory ran out, for making them or where they were routed
+-- Whether it was finished: all outputs are routed; or memory ran out, for making them or as they were routed
 abbrev pub IsSent : Bool → List Out → List DeskEntry → Type 0
 IsSent true outs entries = AreRouted outs entries
 IsSent false outs entries = (entries ≡ []) ⊎ AreCut outs entries
@@ -47,7 +47,7 @@ pub record IsHold (at : PlaceAt) (what : What) (now : ℕ) (reply : Reply) (afte
 
 -- ---- what became of it
 
--- It was made, and its answer told and all routed; it was made, and memory ran out for its answer or where what it sends was routed; memory ran
+-- It was made, and its answer told and all routed; it was made, and memory ran out for its answer or as what it sends was routed; memory ran
 -- out before it, and the place may not have been asked; or the place keeps another incarnation than was asked for
 pub data Made : Type 0 where
   Said : (reply : Reply) (after : State) → Made

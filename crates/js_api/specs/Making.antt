@@ -1,11 +1,11 @@
--- The making of the stream that the server's words name: as a call that creates it without an answer, but a stream of this name that is there is
+-- The making of the stream that the command line names: as a call that creates it without an answer, but a stream of this name that is there is
 -- left as it is.
 use Rattle.std.specs.Prelude.{◌≡◌, ◌++◌, ℕ, List, [], ◌∷◌, Option, Some, None, MatchOption}
 use Rattle.js_base.specs.Bytes.{Bytes}
 use Rattle.js_base.specs.declared.out.ApiError.{ApiError}
 use Rattle.js_model.specs.declared.stream_config.StreamConfig.{StreamConfig}
 use Rattle.js_model.specs.declared.event.What.TheVariants as whats
-use Rattle.js_model.specs.declared.reply.Reply.TheVariants.{Refused}
+use Rattle.js_model.specs.declared.reply.Reply.TheVariants as told
 use Rattle.js_model.specs.declared.desk.PlaceAt.{PlaceAt}
 use Rattle.js_model.specs.Refusals.{no_stream}
 use Rattle.js_model.specs.Catalog as catalog
@@ -20,13 +20,24 @@ pub data Making : Type 0 where
   NoMemory : Making
 
 abbrev pub making_of : Made → Making
-making_of (Said (Refused e) after) = IsRefused e
-making_of (Said _ after) = Stands
+making_of (Said (told.Info info) after) = Stands
+making_of (Said told.Done after) = Stands
+making_of (Said (told.Published seq) after) = Stands
+making_of (Said (told.Duplicate seq) after) = Stands
+making_of (Said (told.Purged purged) after) = Stands
+making_of (Said (told.ConsumerInfo info) after) = Stands
+making_of (Said (told.Message message) after) = Stands
+making_of (Said (told.Names total list) after) = Stands
+making_of (Said (told.Infos total list) after) = Stands
+making_of (Said told.Confirmed after) = Stands
+making_of (Said told.Silent after) = Stands
+making_of (Said told.Nobody after) = Stands
+making_of (Said (told.Refused e) after) = IsRefused e
 making_of (Cut reply after) = NoMemory
 making_of Unmade = NoMemory
 making_of Gone = IsRefused no_stream
 
--- the stream is made at the place that was taken for it, which is free again where none was made
+-- the stream is made at the place that was taken for it, which is free again if none was made
 pub record MakesAt (config : StreamConfig) (now : ℕ) (making : Making) (at : PlaceAt) (entries : List DeskEntry) : Type 0 where
   pub made : Made
   pub held : List DeskEntry

@@ -1,11 +1,11 @@
--- A publish to a plain subject: it goes to the subscriptions, and then to the one stream whose subjects match. Where nobody took it, the
+-- A publish to a plain subject: it goes to the subscriptions, and then to the one stream whose subjects match. If nobody took it, the
 -- client is told.
-use Rattle.std.specs.Prelude.{◌≡◌, ◌≤◌, ◌+◌, ◌++◌, ◌⊎◌, ◌==◌, length, IsTrue, IfSome, ℕ, Bool, true, false, not, ◌&&◌, List, [], ◌∷◌, Option, Some, None, MatchOption, codes, nat_eq}
-use Rattle.std.specs.List.{starts_with}
+use Rattle.std.specs.Prelude.{◌≡◌, ◌≤◌, ◌+◌, ◌++◌, ◌⊎◌, ◌==◌, length, IsTrue, IfSome, ℕ, Bool, true, false, not, ◌&&◌, List, [], ◌∷◌, Option, Some, None, MatchOption}
 use Rattle.js_base.specs.Bytes.{Bytes}
 use Rattle.js_base.specs.Headers.{is_block}
 use Rattle.js_base.specs.Status.{status}
 use Rattle.js_base.specs.Subjects.{is_publish_text, is_subject_text}
+pub use Rattle.js_base.specs.ServerSubjects.{is_api, is_acknowledgement}
 use Rattle.js_base.specs.declared.out.Out.{Out}
 use Rattle.js_model.specs.declared.stream.State.{State}
 use Rattle.js_model.specs.declared.event.What.{What}
@@ -21,13 +21,6 @@ use Rattle.js_api.specs.Desks.{DeskEntry, Routed, Looked}
 use Rattle.js_api.specs.Holding.{AreRouted, AreCut, Made, Said, Gone, Holds, is_short}
 
 -- ---- the message
-
--- the subjects of the JetStream API, and those of acknowledgements, which go to no subscription
-abbrev pub is_api : Bytes → Bool
-is_api subject = starts_with nat_eq subject (codes "$JS.API.")
-
-abbrev pub is_acknowledgement : Bytes → Bool
-is_acknowledgement subject = starts_with nat_eq subject (codes "$JS.ACK.")
 
 -- a message that asks nothing of its stream
 abbrev pub wants_nothing : Wants
@@ -51,7 +44,7 @@ pub record IsMessage (message : Out) : Type 0 where
   pub block : IsTrue (is_headers message.headers)
   pub small : length message.headers + length message.payload ≤ 1048576
 
--- ---- the answer where nobody took a message
+-- ---- the answer if nobody took a message
 
 abbrev pub nobody : Taken
 nobody = record { subscriptions = 0; other = false }
@@ -64,16 +57,17 @@ no_responders to = record { to = to; subject = to; reply = None; headers = statu
 abbrev pub is_untaken : Taken → Bool
 is_untaken taken = (taken.subscriptions == 0) && not taken.other
 
--- the answer to a reply subject, where it is to be told
+-- the answer to a reply subject, if it is to be told
 abbrev pub told_nobody : Bool → Option Bytes → List Out
 told_nobody true (Some to) = no_responders to ∷ []
-told_nobody _ _ = []
+told_nobody true None = []
+told_nobody false to = []
 
--- what tells a client that nobody took its message, where it is told so
+-- what tells a client that nobody took its message, if it is told so
 abbrev pub untaken_outs : Bool → Out → Taken → List Out
 untaken_outs told message taken = told_nobody (told && is_untaken taken) message.reply
 
--- the client was to be told, and memory ran out for the answer or where it was routed
+-- the client was to be told, and memory ran out for the answer or as it was routed
 abbrev pub AreUntold : List Out → List DeskEntry → Type 0
 AreUntold [] entries = ⊥
 AreUntold (out ∷ outs) entries = (entries ≡ []) ⊎ AreCut (out ∷ outs) entries
@@ -95,7 +89,7 @@ abbrev pub Reaches : Out → ℕ → Bool → List DeskEntry → PlaceAt → Typ
 Reaches message now true held at = (reply : Reply) × (after : State) × Holds at (published message) now (Said reply after) held
 Reaches message now false held at = Holds at (published message) now Gone held
 
--- A stream takes it where it was found and is still there, also where it refuses it
+-- A stream takes it if it was found and is still there, also if it refuses it
 pub record IsOffered (client : Client) (message : Out) (now count : ℕ) (reached : Bool) (entries rest : List DeskEntry) : Type 0 where
   pub found : Option PlaceAt
   pub held : List DeskEntry
@@ -107,7 +101,7 @@ pub record IsPublish (client : Client) (message : Out) (now : ℕ) (taken : Take
   pub offered : IsOffered client message now taken.subscriptions taken.other entries untaken
   pub answered : AreRouted (untaken_outs client.told message taken) untaken
 
--- memory ran out in the place, for the answer of the step that was made, or where what that step sends was routed
+-- memory ran out in the place, for the answer of the step that was made, or as what that step sends was routed
 pub record IsHoldCut (client : Client) (message : Out) (now : ℕ) (entries : List DeskEntry) : Type 0 where
   pub count : ℕ
   pub at : PlaceAt

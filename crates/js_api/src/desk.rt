@@ -36,7 +36,7 @@ pub enum SubFault {
 /// A desk serves one session at a time: it carries its subscriptions and publishes to the router and the streams. Which entries each call
 /// makes is told by a relation, so that a session can be proved once for every desk.
 pub trait Desk {
-    /// The open session: its number, and whether its client is told where nobody took a message.
+    /// The open session: its number, and whether its client is told if nobody took a message.
     ghost client: { Self → Client };
 
     /// Whether a session is open.
@@ -48,14 +48,14 @@ pub trait Desk {
     /// How many more collects may leave something to collect.
     ghost to_collect: { Self → ℕ };
 
-    /// Opens a session, and answers its number. Its client hears its own messages, takes no header blocks, and is not told where nobody took
+    /// Opens a session, and answers its number. Its client hears its own messages, takes no header blocks, and is not told if nobody took
     /// a message. An `Err` leaves no session open.
     fn open(&mut self) -> Result<u64, OpenFault>
         requires closed { is_open self.old ≡ false }
         ensures made { Makes made self.old self.new (client self.new) Open (opened result) }
         ensures client { OpensClient result (is_open self.new) (client self.new) };
 
-    /// Sets the client's options: whether it hears its own messages, takes header blocks, and is told where nobody took a message, which is
+    /// Sets the client's options: whether it hears its own messages, takes header blocks, and is told if nobody took a message, which is
     /// done by a header block.
     fn options(&mut self, echo: bool, headers: bool, no_responders: bool)
         requires is_open { is_open self.old ≡ true }
@@ -90,7 +90,7 @@ pub trait Desk {
         ensures client { client self.new ≡ client self.old }
         ensures is_open { is_open self.new ≡ true };
 
-    /// Lets time pass at the next place with a stream, in cyclic order after the place of the last tick. Where there is no stream, nothing is
+    /// Lets time pass at the next place with a stream, in cyclic order after the place of the last tick. If there is no stream, nothing is
     /// done.
     fn tick(&mut self, now: Moment) -> Result<(), NoMemory>
         ensures made { Makes made self.old self.new (client self.old) (Tick now) (ticked result) }
@@ -104,8 +104,8 @@ pub trait Desk {
         ensures client { client self.new ≡ client self.old }
         ensures is_open { is_open self.new ≡ is_open self.old };
 
-    /// Takes frames that wait for the session, whole ones of at most `max` bytes together, but one where any waits; or tells how long they
-    /// would be together, where that is too long.
+    /// Takes frames that wait for the session, whole ones of at most `max` bytes together, but one at least if any waits; or tells how long they
+    /// would be together, if that is too long.
     fn collect(&mut self, max: usize) -> Result<Collected, NoMemory>
         requires is_open { is_open self.old ≡ true }
         ensures made { Makes made self.old self.new (client self.old) (Collect max) (gave result) }
@@ -113,7 +113,7 @@ pub trait Desk {
         ensures client { client self.new ≡ client self.old }
         ensures is_open { is_open self.new ≡ true };
 
-    /// Ends a turn at which nothing comes, where the desk can tell so beforehand: it ticks, collects nothing, settles without a consumer that is
+    /// Ends a turn at which nothing comes, if the desk can tell so beforehand: it ticks, collects nothing, settles without a consumer that is
     /// ready, and collects nothing again, as `tick`, `collect` and `settle` would do. Else it answers false, and does nothing.
     fn rest(&mut self, now: Moment) -> bool
         requires is_open { is_open self.old ≡ true }

@@ -1,10 +1,9 @@
-//! What a session asks of the server, what that makes of its router, its catalog and its streams, and how publishes are answered.
+//! What a session asks of the server, and what that makes of its router, its catalog and its streams.
 #![tactic(auto)]
 
 mod desk;
-mod pub_ack;
 
-pub use api_replies::{ApiReply, reply_text};
+pub use api_calls::ApiCall;
+pub use api_replies::{ApiReply, publish_text, reply_text};
 pub use api_requests::{ApiFault, ApiRequest, call_name, read_request};
 pub use desk::{Desk, OpenFault, SubFault};
-pub use pub_ack::publish_text;

@@ -2,4 +2,5 @@ pub mod Places
 pub mod Meeting
 pub mod Decimals
 pub mod Printing
+pub mod Causes
 mod Rows

@@ -20,7 +20,7 @@ found_where_one_fails test (byte ∷ more) = go (test byte) (found_where_one_fai
     go true h = one_more _ _ ∙ h
     go false h = grind (arith, nat_tests)
 
--- there is no such place just where all pass
+-- there is no such place exactly if all pass
 pub none_fails : (test : ℕ → Bool) (text : Bytes) → is_none (position (λ byte. not (test byte)) text) ≡ list_all test text
 none_fails test text = go (list_all test text) _ (found_where_one_fails test text)
   where

@@ -1,5 +1,5 @@
--- Words on bytes and lists that several crates cite.
-use Rattle.std.specs.Prelude.{ℕ, ◌-◌, Bool, true, false, ◌==◌, List, [], ◌∷◌, Option, Some, None, drop, length}
+-- Definitions on bytes and lists that several crates cite.
+use Rattle.std.specs.Prelude.{ℕ, ◌-◌, Bool, true, false, ◌||◌, ◌==◌, List, [], ◌∷◌, Option, Some, None, drop, length}
 use Rattle.std.specs.List.{list_any}
 use Rattle.std.specs.Str.{bytes_eq}
 
@@ -27,6 +27,10 @@ crlf = 13 ∷ 10 ∷ []
 -- the last n elements
 abbrev pub last_of : {X : Type 0} → ℕ → List X → List X
 last_of n xs = drop (length xs - n) xs
+
+-- a space or a tab
+abbrev pub is_blank : ℕ → Bool
+is_blank byte = byte == 32 || byte == 9
 
 -- whether a number is in a list
 abbrev pub has : List ℕ → ℕ → Bool

@@ -1,8 +1,10 @@
 pub mod Bytes
 pub mod Decimal
 pub mod Numbers
+pub mod Causes
 pub mod Moments
 pub mod Names
+pub mod ServerSubjects
 pub mod Subjects
 pub mod Framing
 pub mod Status

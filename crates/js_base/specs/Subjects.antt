@@ -1,9 +1,9 @@
 -- Subjects and patterns, by NATS' subject-based messaging: tokens joined by dots, and the wildcards `*` and `>`.
-use Rattle.std.specs.Prelude.{ℕ, Bool, true, false, nat_lt, nat_le, ◌&&◌, ◌||◌, not, ◌==◌, IsTrue, ◌↔◌, ◌≡◌, List, [], ◌∷◌, length, codes}
-use Rattle.std.specs.List.{slice_split, list_all, starts_with}
-use Rattle.std.specs.Prelude.{nat_eq}
+use Rattle.std.specs.Prelude.{ℕ, Bool, true, false, nat_lt, nat_le, ◌&&◌, ◌||◌, not, ◌==◌, IsTrue, ◌↔◌, ◌≡◌, List, [], ◌∷◌, length}
+use Rattle.std.specs.List.{slice_split, list_all}
 use Rattle.std.specs.Str.{is_utf8}
 use Rattle.js_base.specs.Bytes.{Bytes, is_empty, same}
+use Rattle.js_base.specs.ServerSubjects.{own_subjects, is_api}
 
 -- the parts between the dots
 abbrev pub tokens : Bytes → List Bytes
@@ -61,14 +61,18 @@ is_pattern_text text = is_spelled text && is_pattern (tokens text)
 abbrev pub is_subject_text : Bytes → Bool
 is_subject_text text = is_spelled text && is_plain (tokens text)
 
--- a subject that may be published to: behind `$JS.API.` any pattern, since clients put a consumer's filter there
+-- a subject that may be published to: below `$JS.API.` any pattern, since clients put a consumer's filter there
 abbrev pub is_publish_text : Bytes → Bool
-is_publish_text text = is_subject_text text || (starts_with nat_eq text (codes "$JS.API.") && is_pattern_text text)
+is_publish_text text = is_subject_text text || (is_api text && is_pattern_text text)
+
+-- a pattern that a stream may take: it meets no subject of the server's own
+abbrev pub is_stream_subject : Bytes → Bool
+is_stream_subject text = is_pattern_text text && not (meets (tokens text) (tokens own_subjects))
 
 -- some subject without wildcards is matched by both
 abbrev pub HasCommon : List Bytes → List Bytes → Type 0
 HasCommon p q = (s : List Bytes) × (is_plain s ≡ true) × (matches p s ≡ true) × (matches q s ≡ true)
 
--- two patterns meet exactly where some subject is matched by both
+-- two patterns meet exactly if some subject is matched by both
 abbrev pub LawMeet : Type 0
 LawMeet = (p q : List Bytes) → IsTrue (is_pattern p) → IsTrue (is_pattern q) → IsTrue (meets p q) ↔ HasCommon p q

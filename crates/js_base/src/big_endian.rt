@@ -5,24 +5,14 @@ ghost use Rattle.std.specs.Int.{w16, w32, w64, to_be_bytes};
 ghost use Rattle.js_base.specs.Numbers.{number_at};
 
 use crate::memory::NoMemory;
-
-/// Adds bytes at the end. An `Err` leaves what was there.
-fn put(into: &mut Vec<u8>, bytes: &[u8]) -> Result<(), NoMemory>
-    ensures ok { OnOk result (into.new.items ≡ into.old.items ++ bytes.now) }
-    ensures err { OnErr result (into.new.items ≡ into.old.items) }
-{
-    match into.extend_from_slice(bytes) {
-        Ok(()) => Ok(()),
-        Err(_) => Err(NoMemory),
-    }
-}
+use crate::writing::put_bytes;
 
 /// Adds the number's two bytes at the end. An `Err` leaves what was there.
 pub fn put_u16(into: &mut Vec<u8>, n: u16) -> Result<(), NoMemory>
     ensures ok { OnOk result (into.new.items ≡ into.old.items ++ to_be_bytes w16 n) }
     ensures err { OnErr result (into.new.items ≡ into.old.items) }
 {
-    put(into, &n.to_be_bytes())
+    put_bytes(into, &n.to_be_bytes())
 }
 
 /// Adds the number's four bytes at the end. An `Err` leaves what was there.
@@ -30,7 +20,7 @@ pub fn put_u32(into: &mut Vec<u8>, n: u32) -> Result<(), NoMemory>
     ensures ok { OnOk result (into.new.items ≡ into.old.items ++ to_be_bytes w32 n) }
     ensures err { OnErr result (into.new.items ≡ into.old.items) }
 {
-    put(into, &n.to_be_bytes())
+    put_bytes(into, &n.to_be_bytes())
 }
 
 /// Adds the number's eight bytes at the end. An `Err` leaves what was there.
@@ -38,10 +28,10 @@ pub fn put_u64(into: &mut Vec<u8>, n: u64) -> Result<(), NoMemory>
     ensures ok { OnOk result (into.new.items ≡ into.old.items ++ to_be_bytes w64 n) }
     ensures err { OnErr result (into.new.items ≡ into.old.items) }
 {
-    put(into, &n.to_be_bytes())
+    put_bytes(into, &n.to_be_bytes())
 }
 
-/// The number whose two bytes begin at the place, and `None` where the bytes end before it does.
+/// The number whose two bytes begin at the place, or `None` if the bytes end before it does.
 pub fn get_u16(bytes: &[u8], at: usize) -> Option<u16>
     ensures { result ≡ number_at w16 bytes.now at }
 {
@@ -50,7 +40,7 @@ pub fn get_u16(bytes: &[u8], at: usize) -> Option<u16>
     Some(u16::from_be_bytes(*number))
 }
 
-/// The number whose four bytes begin at the place, and `None` where the bytes end before it does.
+/// The number whose four bytes begin at the place, or `None` if the bytes end before it does.
 pub fn get_u32(bytes: &[u8], at: usize) -> Option<u32>
     ensures { result ≡ number_at w32 bytes.now at }
 {
@@ -59,7 +49,7 @@ pub fn get_u32(bytes: &[u8], at: usize) -> Option<u32>
     Some(u32::from_be_bytes(*number))
 }
 
-/// The number whose eight bytes begin at the place, and `None` where the bytes end before it does.
+/// The number whose eight bytes begin at the place, or `None` if the bytes end before it does.
 pub fn get_u64(bytes: &[u8], at: usize) -> Option<u64>
     ensures { result ≡ number_at w64 bytes.now at }
 {

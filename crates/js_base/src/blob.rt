@@ -33,7 +33,7 @@ impl Blob {
         }
     }
 
-    /// A copy of the bytes, or `NoMemory` where there is no room for one.
+    /// A copy of the bytes, or `NoMemory` if memory runs out.
     pub fn of(alloc: Global, bytes: &[u8]) -> Result<Blob, NoMemory>
         ensures { IfOk result (λ blob. blob ≡ bytes.now) }
     {

@@ -27,7 +27,7 @@ fn first_bad(text: &[u8]) -> Option<usize>
     text.iter().position(|byte| !byte.is_ascii_digit())
 }
 
-/// The number that the digits spell, where it is below 2^62.
+/// The number that the digits spell, if it is below 2^62.
 fn small_value(text: &[u8]) -> Option<u64>
     requires { AreDigits text.now }
     ensures some { IfSome result (λ n. (n ≡ value_of text.now) × (n < 2 ^ 62)) }
@@ -43,9 +43,9 @@ fn small_value(text: &[u8]) -> Option<u64>
     if n < 1 << 62 { Some(n) } else { None }
 }
 
-/// The number that the text spells in digits alone, of which the first may be zeros, as sizes and sequences stand in the NATS protocols. A
-/// text without bytes is `Empty`; else the first byte that is no digit is `BadDigit`, however long the text is; else a number of 2^62 or more
-/// is `TooBig`.
+/// The number that the text spells in decimal digits, as the NATS protocols write sizes and sequences. Leading zeros are allowed. An empty
+/// text is `Empty`; otherwise the first byte that is no digit is `BadDigit`, however long the text is; otherwise a number of 2^62 or more is
+/// `TooBig`.
 pub fn read_decimal(text: &[u8]) -> Result<u64, DecFault>
     ensures { result ≡ number_of text.now }
 {

@@ -11,7 +11,7 @@ pub enum Frame {
         host: Blob,
         port: u16,
     },
-    /// A message, spelled HMSG exactly where its header block is not empty.
+    /// A message, spelled HMSG if its header block is not empty, and MSG otherwise.
     Msg {
         subject: Blob,
         sid: Blob,

@@ -3,7 +3,7 @@
 ghost use Rattle.js_base.specs.Decimal.{LawDecimal};
 ghost use Rattle.js_base.specs.Subjects.{LawMeet};
 
-/// Two patterns meet exactly where some subject without wildcards is matched by both.
+/// Two patterns meet exactly if both match some subject without wildcards.
 pub fn law_meet()
     ensures { LawMeet }
 {}

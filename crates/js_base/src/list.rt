@@ -92,7 +92,7 @@ impl<T: Clone> Clone for List<T> {
     }
 }
 
-/// Two lists are equal where they have as many items, and each equals the one at its place.
+/// Two lists are equal if they have the same number of items, and the items at each place are equal.
 impl<T: PartialEq> PartialEq for List<T> {
     ghost use Rattle.std.specs.Cmp.Lexicographic.{pointwise, lists_per};
 

@@ -24,7 +24,7 @@ impl Model for Moment {
 }
 
 impl Moment {
-    /// The moment of so many nanoseconds, and `None` from 2^62 on.
+    /// The moment of so many nanoseconds since 1970, or `None` from 2^62 on.
     pub fn of(ns: u64) -> Option<Moment>
         ensures some { IfSome result (λ moment. moment ≡ ns) }
         ensures none { IsNone result ↔ (2 ^ 62 ≤ ns) }
@@ -36,7 +36,7 @@ impl Moment {
         }
     }
 
-    /// The moment so many nanoseconds later, or the last one, 2^62 - 1, where that would be past it.
+    /// The moment so many nanoseconds later, or the last one, 2^62 - 1, if that would be past it.
     pub fn plus(self, ns: u64) -> Moment
         ensures { result ≡ plus self ns }
     {

@@ -4,7 +4,7 @@ use Rattle.std.specs.Prelude.{reverse}
 use Rattle.std.proofs.lemmas.List.{map-append, reverse-append}
 use Rattle.place_engine.specs.Places.{Seen}
 use Rattle.js_model.specs.declared.stream.State.TheVariants.{Vacant}
-use Rattle.js_desk.specs.Grounds.{volumes, vol_of, AreFresh}
+use Rattle.desk_hold.specs.Grounds.{volumes, vol_of, AreFresh}
 
 module _ {V : Type 0} where
   -- the volume of the last place comes first in the other order

@@ -7,8 +7,8 @@ use Rattle.js_api.specs.Calls as calls
 use Rattle.js_api.specs.Calls.{Settles, Ticks}
 use Rattle.js_api.specs.Resting.{Rests}
 use Rattle.js_api.specs.Resting as resting
-use Rattle.js_desk.specs.Grounds.{Standing}
-use Rattle.js_desk.specs.Leading.{Leads}
+use Rattle.desk_hold.specs.Grounds.{Standing}
+use Rattle.desk_hold.specs.Leads.{Leads}
 use Rattle.js_desk.specs.Solo.{Solo, SoloRun, solo}
 use Rattle.js_desk.proofs.Solos.{makes_one, tick_made, settle_made}
 

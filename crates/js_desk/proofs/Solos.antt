@@ -13,12 +13,12 @@ use Rattle.js_api.specs.Answers.{gave, took}
 use Rattle.js_base.specs.declared.memory.NoMemory.{NoMemory as Starved}
 use Rattle.js_base.specs.declared.out.Out.{Out}
 use Rattle.js_model.specs.declared.desk.Taken.{Taken}
-use Rattle.js_desk.specs.declared.publishing.Caller.{Caller}
-use Rattle.js_desk.specs.Grounds.{Standing}
-use Rattle.js_desk.specs.Leading.{Leads, Routes}
-use Rattle.js_desk.specs.Publishing.{client_of, PublishesSo}
+use Rattle.desk_calls.specs.declared.publishing.Caller.{Caller}
+use Rattle.desk_hold.specs.Grounds.{Standing}
+use Rattle.desk_hold.specs.Leads.{Leads, Routes}
+use Rattle.desk_calls.specs.Publishes.{client_of, PublishesSo}
 use Rattle.js_desk.specs.Solo.{Solo, SoloRun, solo}
-use Rattle.js_desk.proofs.Leading.{leads_as}
+use Rattle.desk_hold.proofs.Leading.{leads_as}
 
 -- ---- what the fields stand for
 

@@ -1,16 +1,2 @@
-pub mod Following
-pub mod Grounds
-pub mod Leading
-pub mod Routing
-pub mod Holding
-pub mod Untaken
-pub mod Publishing
-pub mod Defaults
-pub mod Asking
-pub mod Walking
-pub mod Listing
-pub mod Making
-pub mod Faults
+pub mod GivingBack
 pub mod Solo
-pub mod Ticking
-pub mod Resting

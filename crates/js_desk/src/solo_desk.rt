@@ -4,18 +4,15 @@ ghost use Rattle.std.specs.Prelude.{◌≡◌, ◌≤◌, [], IfErr, IfOk, IsTru
 ghost use Rattle.js_model.specs.declared.desk.Collected.TheVariants.{Frames};
 ghost use Rattle.js_model.specs.Configs.{is_stream_subject};
 ghost use Rattle.js_api.specs.Desks.{opening};
-ghost use Rattle.js_desk.specs.Faults.{GivesBack};
-ghost use Rattle.js_desk.specs.Following.{solo_append, solo_nothing};
-ghost use Rattle.js_desk.specs.Making.{MakesDefault};
-ghost use Rattle.js_desk.specs.Solo.{SoloRun, frames_left};
+ghost use Rattle.js_desk.specs.GivingBack.{GivesBack};
+ghost use Rattle.desk_calls.specs.MakingDefault.{MakesDefault};
+ghost use Rattle.js_desk.specs.Solo.{SoloRun, frames_left, solo_append, solo_nothing};
 
 use crate::faults::{Closed, HubFault};
-use crate::ground::Ground;
-use crate::making::make_stream;
-use crate::passing::{rest, settle, tick};
-use crate::publishing::{Caller, publish};
 use crate::volumes::{give_back, open_places};
 use catalog::Catalog;
+use desk_calls::{Caller, make_stream, publish, rest, settle, tick};
+use desk_hold::Ground;
 use js_api::{Desk, OpenFault, SubFault};
 use js_base::{ApiError, Moment, Name, NoMemory, Out};
 use js_model::{Collected, RouteFault, Taken};
@@ -29,10 +26,10 @@ const LAST_SESSION: u64 = (1 << 62) - 1;
 #[derive(Drop)]
 pub struct SoloDesk<V> {
     ground: Ground<V>,
-    /// Where the volumes go at the end.
+    /// Empty, with room for the volumes at the end.
     vols: Vec<V>,
     session: Option<u64>,
-    /// Whether the session's client is told where nobody took its message.
+    /// Whether the session's client is told if nobody took its message.
     told: bool,
     /// Whether a collect is known to give nothing: the last one gave nothing, and nothing can have been sent since.
     idle: bool,
@@ -85,8 +82,8 @@ impl<V> SoloDesk<V> {
         }
     }
 
-    /// Makes the stream of this name and this one subject, with every default of JetStream, and answers why not. A stream of this name that is
-    /// there is left as it is. It needs no session.
+    /// Makes the stream of this name and this one subject, with every default of JetStream, and answers why it was not made. A
+    /// stream of this name that is there is left as it is. It needs no session. An `Err` comes if memory runs out.
     pub fn make_stream(
         &mut self,
         name: &Name,

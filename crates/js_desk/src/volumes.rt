@@ -1,7 +1,7 @@
 //! The volumes of a desk: each becomes a place, and is given back at the end.
 
 ghost use Rattle.std.specs.Prelude.{◌≡◌, ◌≤◌, ◌<◌, ◌+◌, ◌++◌, [], IfErr, IfOk, length, reverse, vec_capacity, vec_len};
-ghost use Rattle.js_desk.specs.Grounds.{AreFresh, volumes};
+ghost use Rattle.desk_hold.specs.Grounds.{AreFresh, volumes};
 
 use js_base::NoMemory;
 use place_engine::Place;
@@ -20,7 +20,7 @@ pub fn give_back<V>(places: Vec<Place<V>>, vols: &mut Vec<V>)
     places.destroy_empty();
 }
 
-/// Opens the places of the volumes, the last one first, and leaves the emptied vector. Where one is not opened all volumes are given back.
+/// Opens the places of the volumes, the last one first, and leaves the emptied vector. If one is not opened, all volumes are given back.
 fn open_reversed<V>(alloc: Global, vols: &mut Vec<V>) -> Result<Vec<Place<V>>, NoMemory>
     ensures opened { IfOk result (λ places. reverse (volumes places.items) ≡ vols.old.items) }
     ensures fresh { IfOk result (λ places. AreFresh places.items) }

@@ -1,4 +1,4 @@
--- The time of day and the distance to UTC in a text of a time: each is read exactly where it is spelled.
+-- The time of day and the distance to UTC in a text of a time: each is read exactly if it is spelled.
 use Rattle.std.proofs.Common.{ℕ, suc, ◌≡◌, ◌+◌, ◌<◌, ◌≤◌, Bool, true, false, ◌&&◌, ◌==◌, IsTrue, [], ◌∷◌, ◌++◌, length, take, drop, Option, Some, None, refl, sym, ap, ◌∙◌, arith, cond, if◌then◌else◌, nat_lt, nat_le, take-append-drop, subst}
 use Rattle.std.specs.Char.{is_ascii_digit}
 use Rattle.std.specs.List.{list_all, prefix_len}
@@ -15,7 +15,7 @@ use Rattle.js_json.proofs.TimeParts.{bind_some, both, chosen, passed, passes, nu
 one_more : (n : ℕ) → 1 + n ≡ suc n
 one_more n = omega arith
 
--- the digits at the front are digits
+-- the first digits are digits
 pub front_passes : (p : ℕ → Bool) (xs : Bytes) → list_all p (take (prefix_len p xs) xs) ≡ true
 front_passes p [] = refl
 front_passes p (x ∷ xs) = by_first (p x) refl (front_passes p xs)
@@ -24,7 +24,7 @@ front_passes p (x ∷ xs) = by_first (p x) refl (front_passes p xs)
     by_first true is rest = rw (one_more (prefix_len p xs), is) rest
     by_first false is rest = refl
 
--- and end where a byte follows that is none
+-- and end at a byte that is none
 front_len : (p : ℕ → Bool) (xs : Bytes) (byte : ℕ) (rest : Bytes) → list_all p xs ≡ true → p byte ≡ false → prefix_len p (xs ++ byte ∷ rest) ≡ length xs
 front_len p [] byte rest all other = rw other refl
 front_len p (x ∷ xs) byte rest all other =
@@ -35,7 +35,7 @@ with_dot : (digits : Bytes) → 0 < length digits → fraction_text digits ≡ 4
 with_dot [] some = absurd (omega arith)
 with_dot (digit ∷ more) some = refl
 
--- the text begins with these digits behind a dot, or without them
+-- the text begins with these digits after a dot, or without them
 pub record TakesFraction (text : Bytes) (x : Bytes × Bytes) : Type 0 where
   pub text_is : text ≡ fraction_text x.0 ++ x.1
   pub is : IsTrue (is_fraction x.0)

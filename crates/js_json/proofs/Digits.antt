@@ -70,7 +70,7 @@ in_digits-value_of (digit ∷ more) all =
 
 -- ---- the numbers that are read
 
--- a text is a number where it has one or more digits and no other byte
+-- a text is a number if it has one or more digits and no other byte
 pub record Spells (text : Bytes) (n : ℕ) : Type 0 where
   pub filled : 0 < length text
   pub digits : list_all is_ascii_digit text ≡ true

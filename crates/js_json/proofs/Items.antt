@@ -11,12 +11,12 @@ use Rattle.js_json.specs.Kinds.{has_items, is_something}
 abbrev pub behind : {X : Type 0} → List X → Option (List X) → Option (List X)
 behind front rest = option_map (λ more. front ++ more) rest
 
--- a list has items where it is not empty
+-- a list has items if it is not empty
 filled : (vs : List Value) → not (length vs == 0) ≡ has_items (items_view vs)
 filled [] = refl
 filled (v ∷ vs) = grind (arith, nat_tests)
 
--- a list says something where it has items
+-- a list says something if it has items
 pub list_says : (value : Data) (vs : List Value) → Some (items_view vs) ≡ as_array value → not (length vs == 0) ≡ is_something value
 list_says null vs e = cc
 list_says (boolean b) vs e = cc

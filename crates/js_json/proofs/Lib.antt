@@ -11,3 +11,5 @@ pub mod CivilDays
 pub mod Numerals
 pub mod ReadParts
 pub mod Printing
+pub mod TimeBytes
+pub mod Fractions

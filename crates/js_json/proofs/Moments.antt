@@ -1,4 +1,4 @@
--- A text of a time is read exactly where it is spelled.
+-- A text of a time is read exactly if it is spelled.
 use Rattle.std.proofs.Common.{ℕ, ◌≡◌, ◌+◌, ◌-◌, ◌^◌, ◌<◌, ◌≤◌, true, ◌&&◌, IsTrue, ◌∷◌, ◌++◌, Some, refl, sym, ap, ◌∙◌, arith, nat_lt, nat_le}
 use Rattle.std.proofs.lemmas.Bool.Decides.{nat_tests}
 use Rattle.js_base.specs.Bytes.{Bytes}

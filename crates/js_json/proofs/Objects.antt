@@ -36,7 +36,7 @@ pub reads_none : (body : Bytes) → (IsUtf8 body → read body ≡ None) → obj
 unfolding object_of
 reads_none body none = no_value (is_utf8 body) (read body) (λ text. none (IsUtf8-from_is_utf8 body text))
 
--- an object has no field where its map has none
+-- an object has no field if its map has none
 pub no_entries : (es : List (String Global × Value)) → (length es ≡ 0) ↔ (members_view es ≡ no_members)
 no_entries [] = (λ _. refl, λ _. refl)
 no_entries (e ∷ es) = (λ none. absurd (omega arith), λ none. cc)

@@ -117,7 +117,7 @@ no_fraction-read (byte ∷ rest) is = by_dot (byte == 46) is
     by_dot true e = cc
     by_dot false e = refl
 
--- behind a dot stand the digits
+-- after a dot come the digits
 behind_dot : (text rest : Bytes) (count : ℕ) → Some rest ≡ past 46 text → count ≡ prefix_len is_ascii_digit rest → fraction_at text ≡ few_digits count rest
 unfolding past fraction_at
 behind_dot [] rest count is len = cc
@@ -139,7 +139,7 @@ few_found count rest some few = grind (arith, nat_tests)
 pub many_digits-read : (text rest : Bytes) (count : ℕ) → Some rest ≡ past 46 text → count ≡ prefix_len is_ascii_digit rest → 9 < count → None ≡ option_map fraction_read (fraction_at text)
 many_digits-read text rest count is len many = rw (behind_dot text rest count is len, too_many count rest many) refl
 
--- the digits at the front are a number
+-- the first digits are a number
 front_number : (rest : Bytes) (count : ℕ) → count ≡ prefix_len is_ascii_digit rest → 0 < count → count ≤ 9 → Spells (take count rest) (value_of (take count rest))
 front_number rest count len some few =
     let long : length (take count rest) ≡ count = ap (λ k. length (take k rest)) len ∙ length-prefix_len is_ascii_digit rest ∙ sym len in

@@ -1,4 +1,4 @@
--- What stands at the front of a text of a time: each part is read exactly where it is spelled.
+-- What a text of a time begins with: each part is read exactly if it is spelled.
 use Rattle.std.proofs.Common.{ℕ, ◌≡◌, ◌^◌, ◌<◌, ◌≤◌, Bool, true, false, ◌&&◌, ◌==◌, IsTrue, [], ◌∷◌, ◌++◌, length, take, drop, Option, Some, None, option_map, Ok, refl, sym, ap, ◌∙◌, arith, if◌then◌else◌, nat_lt, nat_le, take-append-drop, length-take, subst, length-append}
 use Rattle.std.proofs.Math.Nat.{pow-le-pow_right}
 use Rattle.std.proofs.Math.Seq.{take-append_seam, drop-append_seam}
@@ -22,7 +22,7 @@ pub both : (a b : Bool) → (a && b) ≡ true → (a ≡ true) × (b ≡ true)
 both true b h = (refl, h)
 both false b h = cc
 
--- what is given only where a test passes
+-- what is given only if a test passes
 pub chosen : {X : Type 0} (b : Bool) (r : Option X) (x : X) → (if b then r else None) ≡ Some x → (b ≡ true) × (r ≡ Some x)
 chosen true r x is = (refl, is)
 chosen false r x is = cc
@@ -88,7 +88,7 @@ number_at-again width n rest some short small =
     let long : nat_lt (length (digits ++ rest)) width ≡ false = not_short (length (digits ++ rest)) width (omega (arith, length-append digits rest)) in
     rw (long, front, back, read) refl
 
--- ---- two digits behind a byte
+-- ---- two digits after a byte
 
 pub two_behind-takes : (mark : ℕ) (text : Bytes) (x : ℕ × Bytes) → two_behind mark text ≡ Some x → (text ≡ mark ∷ in_digits 2 x.0 ++ x.1) × (x.0 < 100)
 unfolding two_behind

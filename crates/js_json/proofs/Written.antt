@@ -9,7 +9,7 @@ use Rattle.js_json.proofs.Digits.{digits-in_digits, length-in_digits, value_of-i
 use Rattle.js_json.proofs.Days.{day_after-is}
 use Rattle.js_json.proofs.Moments.{time_read}
 
--- digits behind the dot
+-- digits after the dot
 fraction_is : (k n : ℕ) → k ≤ 9 → n < 10 ^ k → IsTrue (is_fraction (in_digits k n)) × (fraction_nanos (in_digits k n) ≡ n * 10 ^ (9 - k))
 fraction_is k n few small =
     let len : length (in_digits k n) ≡ k = length-in_digits k n in

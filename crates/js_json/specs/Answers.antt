@@ -19,7 +19,7 @@ Tells (Ok x) reading = reading ≡ Ok x
 Tells (Err NoMemory) reading = IsErr reading
 Tells (Err fault) reading = reading ≡ Err fault
 
--- the reading of a field whose value is copied: memory runs out only where the field is there
+-- the reading of a field whose value is copied: memory runs out only if the field is there
 abbrev pub Copies : {X : Type 0} → Result (Option X) JsonFault → Result (Option X) JsonFault → Type 0
 Copies (Ok x) reading = reading ≡ Ok x
 Copies (Err NoMemory) reading = reading ≢ Ok None

@@ -9,11 +9,11 @@ pub record IsSmall (nanos : ℤ) : Type 0 where
   pub low : neg_ℤ (pos (2 ^ 100)) ≤ℤ nanos
   pub high : nanos ≤ℤ pos (2 ^ 100)
 
--- from 1970 to the day, and what stands behind it
+-- from 1970 to the day, and what follows it
 abbrev pub day_read : Day × Bytes → ℤ × Bytes
 day_read x = (pos (day_nanos x.0) -ℤ pos (day_nanos first_day), x.1)
 
--- the digits behind a dot
+-- the digits after a dot
 abbrev pub fraction_read : Bytes × Bytes → ℕ × Bytes
 fraction_read x = (fraction_nanos x.0, x.1)
 
@@ -27,7 +27,7 @@ shift utc = pos 0
 shift (ahead hours minutes) = pos (distance hours minutes)
 shift (behind hours minutes) = neg_ℤ (pos (distance hours minutes))
 
--- so many nanoseconds after 1970 began, where that is a moment
+-- so many nanoseconds after 1970 began, if that is a moment
 abbrev pub moment_if : ℤ → Option ℕ
 moment_if (pos n) = if nat_lt n (2 ^ 62) then Some n else None
 moment_if (negsuc n) = None

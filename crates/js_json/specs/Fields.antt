@@ -1,4 +1,4 @@
--- What is found in a field of an object: None where the field is absent or null, its value where it has the type and the range, and else that
+-- What is found in a field of an object: None if the field is absent or null, its value if it has the type and the range, and else that
 -- this field is wrong.
 use Rattle.std.specs.Prelude.{ℕ, ℤ, List, Bool, false, Option, Some, None, is_some, option_and_then, option_map, unwrap_or, Result, Ok, Err}
 use Rattle.serde_json.specs.Data.{Data, null, boolean, number, string, array, object, Members}

@@ -14,7 +14,7 @@ pub record FitsWord (z : ℤ) : Type 0 where
   pub low : neg_ℤ (pos (2 ^ 63)) ≤ℤ z
   pub high : z <ℤ pos (2 ^ 64)
 
--- each item of a list, where all of them can be taken so
+-- each item of a list, if all of them can be taken so
 abbrev pub all_as : {X : Type 0} → (Data → Option X) → Items → Option (List X)
 all_as kind no_items = Some []
 all_as kind (item value more) = option_and_then (λ x. option_map (λ xs. x ∷ xs) (all_as kind more)) (kind value)

@@ -9,7 +9,7 @@ use Rattle.js_json.specs.Kinds.{FitsWord}
 use Rattle.js_json.specs.Times.{SpellsTime, time_text}
 use Rattle.js_json.specs.TimeReading.{time_at}
 
--- a text is read as a moment exactly where it is the moment's text
+-- a text is read as a moment exactly if it is the moment's text
 abbrev pub LawTime : Type 0
 LawTime = (text : Bytes) (at : ℕ) → (time_at text ≡ Some at) ↔ SpellsTime text at
 
@@ -29,7 +29,7 @@ LawInteger = (z : ℤ) → FitsWord z → option_and_then as_integer (number_of 
 abbrev pub value_of : Bool → Parts → ℤ
 value_of negative numeral = if negative then neg_ℤ (pos (numeral_digits numeral)) else pos (numeral_digits numeral)
 
--- the numeral is digits alone, without a point and an exponent, and behind a minus they are not 0
+-- the numeral is digits alone, without a point and an exponent, and after a minus they are not 0
 pub record IsWhole (negative : Bool) (numeral : Parts) (z : ℤ) : Type 0 where
   pub digits : IsTrue (is_integer numeral)
   pub no_minus_zero : negative ≡ true → 0 < numeral_digits numeral

@@ -8,3 +8,4 @@ pub mod Times
 pub mod TimeReading
 pub mod Civil
 pub mod Laws
+pub mod Building

@@ -14,24 +14,24 @@ abbrev pub ◌>>=◌ : {A B : Type 0} → Option A → (A → Option B) → Opti
 None >>= next = None
 (Some a) >>= next = next a
 
--- the number in the first so many bytes, which are digits, and what stands behind them
+-- the number in the first so many bytes, which are digits, and what follows them
 unfoldable pub number_at : ℕ → Bytes → Option (ℕ × Bytes)
 number_at width text =
     if nat_lt (length text) width then None else option_map (λ n. (n, drop width text)) (result_ok (number_of (take width text)))
 
--- what stands behind this byte
+-- what follows this byte
 unfoldable pub past : ℕ → Bytes → Option Bytes
 past mark [] = None
 past mark (byte ∷ rest) = if byte == mark then Some rest else None
 
--- the number in the two digits behind this byte, and what stands behind them
+-- the number in the two digits after this byte, and what follows them
 unfoldable pub two_behind : ℕ → Bytes → Option (ℕ × Bytes)
 two_behind mark text = past mark text >>= number_at 2
 
 abbrev pub if_passed : {X : Type 0} → (X → Bool) → X → Bytes → Option (X × Bytes)
 if_passed test x rest = if test x then Some (x, rest) else None
 
--- a day of the calendar, and what stands behind it
+-- a day of the calendar, and what follows it
 unfoldable pub day_at : Bytes → Option (Day × Bytes)
 day_at text = do
   year ← number_at 4 text
@@ -42,12 +42,12 @@ day_at text = do
 abbrev pub few_digits : ℕ → Bytes → Option (Bytes × Bytes)
 few_digits count text = if nat_le 1 count && nat_le count 9 then Some (take count text, drop count text) else None
 
--- the digits behind a dot, 1 to 9 of them, or none where there is no dot, and what stands behind them
+-- the digits after a dot, 1 to 9 of them, or none if there is no dot, and what follows them
 unfoldable pub fraction_at : Bytes → Option (Bytes × Bytes)
 fraction_at [] = Some ([], [])
 fraction_at (byte ∷ rest) = if byte == 46 then few_digits (prefix_len is_ascii_digit rest) rest else Some ([], byte ∷ rest)
 
--- a time of day, and what stands behind it
+-- a time of day, and what follows it
 unfoldable pub clock_at : Bytes → Option (Clock × Bytes)
 clock_at text = do
   hour ← number_at 2 text
@@ -60,14 +60,14 @@ abbrev pub at_end : Zone → Bytes → Option Zone
 at_end zone [] = if is_zone zone then Some zone else None
 at_end zone (_ ∷ _) = None
 
--- hours and minutes to this side of UTC, behind which nothing stands
+-- hours and minutes to this side of UTC, with nothing after it
 unfoldable pub distance_at : (ℕ → ℕ → Zone) → Bytes → Option Zone
 distance_at side text = do
   hours ← number_at 2 text
   minutes ← two_behind 58 hours.1
   at_end (side hours.0 minutes.0) minutes.1
 
--- how far the clock is from UTC, behind which nothing stands
+-- how far the clock is from UTC, with nothing after it
 unfoldable pub zone_at : Bytes → Option Zone
 zone_at [] = None
 zone_at (byte ∷ rest) =

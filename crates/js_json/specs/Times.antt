@@ -11,7 +11,7 @@ abbrev pub in_digits : ℕ → ℕ → Bytes
 in_digits zero n = []
 in_digits (suc width) n = (48 + n / 10 ^ width) ∷ in_digits width (n % 10 ^ width)
 
--- a time of day; `fraction` are the digits behind the dot, and empty where there is none
+-- a time of day; `fraction` are the digits after the dot, and empty if there is none
 pub record Clock : Type 0 where
   pub hour : ℕ
   pub minute : ℕ
@@ -63,7 +63,7 @@ written d c z = day_text d ++ 84 ∷ clock_text c ++ zone_text z
 
 -- ---- the moment, in nanoseconds
 
--- digits behind the dot
+-- digits after the dot
 abbrev pub fraction_nanos : Bytes → ℕ
 fraction_nanos digits = value_of digits * 10 ^ (9 - length digits)
 
@@ -71,7 +71,7 @@ fraction_nanos digits = value_of digits * 10 ^ (9 - length digits)
 abbrev pub clock_nanos : Clock → ℕ
 clock_nanos c = ((c.hour * 60 + c.minute) * 60 + c.second) * 1_000_000_000 + fraction_nanos c.fraction
 
--- from 1 January of the year 0 on, where no day has a leap second
+-- from 1 January of the year 0 on, with no leap seconds
 abbrev pub day_nanos : Day → ℕ
 day_nanos d = days_to d * 86_400_000_000_000
 
@@ -106,7 +106,7 @@ pub record SpellsTime (text : Bytes) (at : ℕ) : Type 0 where
 
 -- ---- how the server writes a moment
 
--- so many nanoseconds after midnight, with nine digits behind the dot
+-- so many nanoseconds after midnight, with nine digits after the dot
 abbrev pub clock_of : ℕ → Clock
 clock_of nanos = record {
   hour = nanos / 3_600_000_000_000;
@@ -115,6 +115,6 @@ clock_of nanos = record {
   fraction = in_digits 9 (nanos % 1_000_000_000);
 }
 
--- in UTC, with nine digits behind the dot
+-- in UTC, with nine digits after the dot
 unfoldable pub time_text : ℕ → Bytes
 time_text at = written (day_after (at / 86_400_000_000_000)) (clock_of (at % 86_400_000_000_000)) utc

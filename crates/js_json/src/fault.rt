@@ -1,4 +1,4 @@
-//! Why JSON is not what was asked for.
+//! Faults of a JSON text.
 
 use js_base::{Blob, NoMemory};
 use std::alloc::AllocError;
@@ -16,7 +16,7 @@ pub enum JsonFault {
     /// The field with this name has another type, or is out of its range.
     #[error("field {} is wrong", text_of(.0))]
     BadField(Blob),
-    /// There was no memory.
+    /// Memory ran out.
     #[error("out of memory")]
     NoMemory,
 }

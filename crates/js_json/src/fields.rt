@@ -18,7 +18,7 @@ use js_base::{Blob, List, Moment};
 use serde_json::{Map, Value};
 use std::alloc::Global;
 
-/// The fields of a JSON object. Of a name that stands in the object twice, the last value counts.
+/// The fields of a JSON object. If a name is in the object twice, its last value counts.
 ///
 /// In each call that asks for a field, `None` says that it is absent or null, and `BadField` that its value has another type or is out of the
 /// range that the call states. A field that nobody asks for may be anything.
@@ -28,8 +28,8 @@ pub struct Fields {
     alloc: Global,
 }
 
-/// The object that the bytes are. `NotJson` comes exactly where `serde_json` has no reading of them, and it has none of bytes that are no
-/// UTF-8, and none where arrays and objects nest deeper than 127; `NotObject` exactly where they are another JSON value.
+/// The object that the bytes are. `NotJson` comes exactly if `serde_json` cannot read them, as when they are not UTF-8 or their arrays and
+/// objects nest deeper than 127; `NotObject` comes exactly if they are another JSON value.
 pub fn object(alloc: Global, body: &[u8]) -> Result<Fields, JsonFault>
     ensures reading { ReadsObject result (object_of body.now) }
     ensures memory { result ≡ Err OutOfMemory → 0 < length body.now }
@@ -41,7 +41,7 @@ pub fn object(alloc: Global, body: &[u8]) -> Result<Fields, JsonFault>
     }
 }
 
-/// The fields of a value, where it is an object.
+/// The fields of a value, if it is an object.
 fn fields_of(alloc: Global, value: Value) -> Option<Fields>
     ensures value { option_map members result ≡ as_object (view value) }
 {
@@ -63,7 +63,7 @@ impl Fields {
         }
     }
 
-    /// An integer from -2^63 to 2^64 - 1. A number with a fraction or an exponent is wrong, whatever it amounts to, and so is `-0`.
+    /// An integer from -2^63 to 2^64 - 1. A number with a fraction or an exponent is wrong, whatever its value, and so is `-0`.
     #[tactic(auto, unfolding(crate::specs::Fields::number_in))]
     pub fn number(&self, name: &str) -> Result<Option<i128>, JsonFault>
         ensures reading { Tells result (number_in name.now (members self.now)) }
@@ -138,8 +138,8 @@ impl Fields {
         }
     }
 
-    /// Whether the field is a number of any kind: also one with a fraction or an exponent, one that fits no 64 bits, and `-0`, which are all
-    /// no integer.
+    /// Whether the field is a number of any kind: also one with a fraction or an exponent, one that does not fit in 64 bits, and `-0`, none of
+    /// which is an integer.
     #[tactic(auto, unfolding(crate::specs::Fields::is_number))]
     pub fn is_number(&self, name: &str) -> bool
         ensures value { result ≡ is_number name.now (members self.now) }
@@ -150,7 +150,7 @@ impl Fields {
         }
     }
 
-    /// Whether the field says something: false exactly where it is absent, null, an empty text or an empty list.
+    /// Whether the field says something: false exactly if it is absent, null, an empty text or an empty list.
     #[tactic(auto, unfolding(crate::specs::Fields::is_given))]
     pub fn given(&self, name: &str) -> bool
         ensures value { result ≡ is_given name.now (members self.now) }
@@ -185,7 +185,7 @@ impl Fields {
         }
     }
 
-    /// That the field is wrong.
+    /// The fault that the field is wrong.
     fn wrong(&self, name: &str) -> JsonFault
         ensures wrong { IsWrong name.now result }
     {
@@ -195,7 +195,7 @@ impl Fields {
         }
     }
 
-    /// What was found, or that the field is wrong.
+    /// The value that was found, or else the fault that the field is wrong.
     fn told<T>(&self, name: &str, found: Option<T>) -> Result<Option<T>, JsonFault>
         ensures told { Tells result (or_bad name.now found) }
     {

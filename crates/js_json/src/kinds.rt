@@ -1,4 +1,4 @@
-//! JSON values as what they are asked for.
+//! JSON values, taken as the types that they are asked for.
 
 ghost use Rattle.std.specs.Prelude.{◌≡◌, IfOk, IfSome, IsUtf8};
 ghost use Rattle.std.specs.List.{All};

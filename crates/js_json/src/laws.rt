@@ -2,7 +2,7 @@
 
 ghost use Rattle.js_json.specs.Laws.{LawTime, LawTimeText, LawRoundTrip, LawInteger, LawNumeral};
 
-/// A text is read as a moment exactly where it is the moment's text, by the grammar.
+/// A text is read as a moment exactly if it is the moment's text by the grammar.
 pub fn law_time()
     ensures time { LawTime }
 {}
@@ -14,7 +14,7 @@ pub fn law_time_text()
 {}
 
 /// Each integer of 64 bits, with a sign or without, is read from its decimal digits. A number that is read as an integer is written in digits
-/// alone, which behind a minus are not 0.
+/// alone, which after a minus are not 0.
 pub fn law_numbers()
     ensures integer { LawInteger }
     ensures numeral { LawNumeral }

@@ -14,7 +14,7 @@ use jiff::{Timestamp, civil};
 use js_base::{Blob, Moment, NoMemory, read_decimal};
 use std::alloc::Global;
 
-/// The number in the first so many bytes, which are digits, and what stands behind them.
+/// The number in the first so many bytes, which are digits, and what follows them.
 #[tactic(auto, unfolding(crate::specs::TimeReading::number_at))]
 fn number_at(width: usize, text: &[u8]) -> Option<(u64, &[u8])>
     ensures value { option_map (λ p. (p.0, p.1.now)) result ≡ number_at width text.now }
@@ -30,7 +30,7 @@ fn number_at(width: usize, text: &[u8]) -> Option<(u64, &[u8])>
     }
 }
 
-/// What stands behind this byte.
+/// What follows this byte.
 #[tactic(auto, unfolding(crate::specs::TimeReading::past))]
 fn past(mark: u8, text: &[u8]) -> Option<&[u8]>
     ensures value { option_map (λ rest. rest.now) result ≡ past mark text.now }
@@ -41,7 +41,7 @@ fn past(mark: u8, text: &[u8]) -> Option<&[u8]>
     }
 }
 
-/// The number in the two digits behind this byte, and what stands behind them.
+/// The number in the two digits after this byte, and what follows them.
 #[tactic(auto, unfolding(crate::specs::TimeReading::two_behind))]
 fn two_behind(mark: u8, text: &[u8]) -> Option<(u64, &[u8])>
     ensures value { option_map (λ p. (p.0, p.1.now)) result ≡ two_behind mark text.now }
@@ -53,7 +53,7 @@ fn two_behind(mark: u8, text: &[u8]) -> Option<(u64, &[u8])>
     }
 }
 
-/// The nanoseconds from 1970 to a day of the calendar, and what stands behind it.
+/// The nanoseconds from 1970 to a day of the calendar, and what follows it.
 #[tactic(auto, unfolding(crate::specs::TimeReading::day_at))]
 fn day_at(text: &[u8]) -> Option<(i128, &[u8])>
     ensures value { option_map (λ p. (p.0, p.1.now)) result ≡ option_map day_read (day_at text.now) }
@@ -74,14 +74,14 @@ fn nanos_to(date: Date) -> i128
     date.duration_since(civil::date(1970, 1, 1)).as_nanos()
 }
 
-/// How many digits stand at the front.
+/// How many digits come first.
 fn digits_len(text: &[u8]) -> usize
     ensures value { result ≡ prefix_len is_ascii_digit text.now }
 {
     text.iter().take_while(|byte| byte.is_ascii_digit()).count()
 }
 
-/// The nanoseconds of the digits behind a dot, 1 to 9 of them, or 0 where there is no dot, and what stands behind them.
+/// The nanoseconds of the digits after a dot, 1 to 9 of them, or 0 if there is no dot, and what follows them.
 #[tactic(auto, unfolding(crate::specs::TimeReading::fraction_at))]
 fn fraction_at(text: &[u8]) -> Option<(u64, &[u8])>
     ensures value { option_map (λ p. (p.0, p.1.now)) result ≡ option_map fraction_read (fraction_at text.now) }
@@ -98,7 +98,7 @@ fn fraction_at(text: &[u8]) -> Option<(u64, &[u8])>
     Some((n * 10u64.pow(9 - count as u32), rest))
 }
 
-/// The nanoseconds from midnight to a time of day, and what stands behind it.
+/// The nanoseconds from midnight to a time of day, and what follows it.
 #[tactic(auto, unfolding(crate::specs::TimeReading::clock_at))]
 fn clock_at(text: &[u8]) -> Option<(i128, &[u8])>
     ensures value { option_map (λ p. (p.0, p.1.now)) result ≡ option_map clock_read (clock_at text.now) }
@@ -112,7 +112,7 @@ fn clock_at(text: &[u8]) -> Option<(i128, &[u8])>
     Some((time.duration_since(Time::midnight()).as_nanos(), rest))
 }
 
-/// Hours and minutes in nanoseconds, behind which nothing stands.
+/// Hours and minutes in nanoseconds, with nothing after them.
 #[tactic(auto, unfolding(crate::specs::TimeReading::distance_at))]
 fn distance_at(text: &[u8]) -> Option<i128>
     ensures value { result ≡ option_map shift (distance_at ahead text.now) }
@@ -127,7 +127,7 @@ fn distance_at(text: &[u8]) -> Option<i128>
     }
 }
 
-/// How many nanoseconds the clock is ahead of UTC, behind which nothing stands.
+/// How many nanoseconds the clock is ahead of UTC, with nothing after it.
 #[tactic(auto, unfolding(crate::specs::TimeReading::zone_at))]
 fn zone_at(text: &[u8]) -> Option<i128>
     ensures value { result ≡ option_map shift (zone_at text.now) }
@@ -142,7 +142,7 @@ fn zone_at(text: &[u8]) -> Option<i128>
     }
 }
 
-/// The moment so many nanoseconds after 1970 began, where there is one.
+/// The moment so many nanoseconds after 1970 began, if there is one.
 fn moment_if(nanos: i128) -> Option<Moment>
     ensures value { result ≡ moment_if nanos }
 {

@@ -1,12 +1,11 @@
--- Members of lists.
+-- Members of lists, and what is found by its number in an ascending list.
 use Rattle.std.proofs.Common.{◌≡◌, ℕ, zero, suc, ◌+◌, ◌<◌, ◌≤◌, Bool, true, false, ◌&&◌, ◌||◌, cond, List, [], ◌∷◌, ◌++◌, length, get_or, refl, sym, ap, ◌∙◌, subst, arith, ◌⊎◌, inl, inr}
 use Rattle.std.specs.Prelude.{Some, None, filter, find, Contains, ◌==◌, All}
 use Rattle.std.specs.List.{list_any}
 use Rattle.std.proofs.lemmas.Bool.{true≢false, or_cases, or_left, or_right, eqb-true, and_parts, or_parts}
 use Rattle.std.proofs.lemmas.List.Elements.{All-head, All-tail, All-contains_itself}
 use Rattle.js_model.specs.Lists.{Between, IsPart, keep, none, skip}
-use Rattle.js_model.proofs.Parts.{between_bounds}
-use Rattle.js_model.proofs.SoundParts.{none_below}
+use Rattle.js_model.proofs.Parts.{between_bounds, none_below}
 use Rattle.js_model.proofs.Named.{none_some, some_is}
 
 -- x is in the list

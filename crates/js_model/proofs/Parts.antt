@@ -1,14 +1,17 @@
 -- Parts of a list, in order: what each filter of the machine leaves.
-use Rattle.std.proofs.Common.{◌≡◌, ℕ, zero, suc, ◌+◌, ◌≤◌, Bool, true, false, ◌||◌, cond, List, [], ◌∷◌, ◌++◌, length, drop, take, map, arith, refl}
-use Rattle.std.specs.Prelude.{Option, Some, None, filter, nat_lt, nat_le, count_by, sum_by}
-use Rattle.std.proofs.lemmas.Bool.{or_right}
+use Rattle.std.proofs.Common.{◌≡◌, ℕ, zero, suc, ◌+◌, ◌<◌, ◌≤◌, Bool, true, false, ◌&&◌, ◌||◌, cond, List, [], ◌∷◌, ◌++◌, length, drop, take, map, arith, refl}
+use Rattle.std.specs.Prelude.{Option, Some, None, filter, nat_lt, nat_le, count_by, sum_by, ◌==◌}
+use Rattle.std.proofs.lemmas.Bool.{and_left, or_from, or_right, ne_eqb}
 use Rattle.std.proofs.lemmas.List.Sums.{sum_by-cons}
 use Rattle.std.specs.List.{list_any}
 use Rattle.js_base.specs.Bytes.{same}
+use Rattle.js_base.specs.Moments.{plus}
 use Rattle.js_model.specs.Lists.{Between, IsPart, keep, none, skip}
 use Rattle.js_model.specs.declared.stream.Message.{Message}
-use Rattle.js_model.specs.Trim.{newest, newest_at, fitting, fitting_at}
+use Rattle.js_model.specs.declared.stream.Stream.{Stream}
 use Rattle.js_model.specs.Streams.{size}
+use Rattle.js_model.specs.Advance.{young}
+use Rattle.js_model.specs.Trim.{newest, newest_at, fitting, fitting_at, trim, trim_count, trim_subjects}
 
 -- ---- what leaves a part
 
@@ -62,6 +65,30 @@ pub fitting_at_part : (n : Option ℕ) (xs : List Message) → IsPart (fitting_a
 fitting_at_part None xs = all_part xs
 fitting_at_part (Some n) xs = fitting_part n xs
 
+pub part_trans : {X : Type 0} {zs ys xs : List X} → IsPart zs ys → IsPart ys xs → IsPart zs xs
+part_trans none none = none
+part_trans p (skip q) = skip (part_trans p q)
+part_trans (keep p) (keep q) = keep (part_trans p q)
+part_trans (skip p) (keep q) = skip (part_trans p q)
+
+pub part_map : {X Y : Type 0} (f : X → Y) {ys xs : List X} → IsPart ys xs → IsPart (map f ys) (map f xs)
+part_map f none = none
+part_map f (keep p) = keep (part_map f p)
+part_map f (skip p) = skip (part_map f p)
+
+pub young_part : (s : Stream) (now : ℕ) → IsPart (young s now) s.messages
+young_part s now = go (s.config.max_age == 0)
+  where
+    go : (b : Bool) → IsPart (cond b s.messages (filter (λ m. nat_lt now (plus m.at s.config.max_age)) s.messages)) s.messages
+    go true = all_part s.messages
+    go false = filter_part _ s.messages
+
+pub trim_part : (s : Stream) → IsPart (trim s).messages s.messages
+unfolding trim
+trim_part s =
+    part_trans (fitting_at_part s.config.max_bytes (trim_count (trim_subjects s)).messages)
+    (part_trans (drop_part _ (trim_subjects s).messages) (newest_at_part s.config.max_msgs_per_subject s.messages))
+
 -- ---- what a part keeps
 
 pub part_any : {X : Type 0} (t : X → Bool) {ys xs : List X} → IsPart ys xs → list_any t ys ≡ true → list_any t xs ≡ true
@@ -88,6 +115,13 @@ part-sum f (skip {x = x} {ys = ys} {xs = xs} p) = let h : sum_by f ys ≤ sum_by
 pub between_bounds : {X : Type 0} (f : X → ℕ) (low high : ℕ) (xs : List X) → Between f low high xs → low ≤ high
 between_bounds f low high [] h = h
 between_bounds f low high (x ∷ xs) h = let q : low ≤ f x = h.0 in let r : f x + 1 ≤ high = between_bounds f (f x + 1) high xs h.1 in omega arith
+
+-- no element below the first has the number
+pub none_below : {X : Type 0} (f : X → ℕ) (t : X → Bool) (n low high : ℕ) (xs : List X) → Between f low high xs → n < low → list_any (λ x. f x == n && t x) xs ≡ false
+none_below f t n low high [] h below = refl
+none_below f t n low high (x ∷ xs) h below =
+    or_from _ _ (and_left _ _ (ne_eqb (f x) n (let q : low ≤ f x = h.0 in omega arith)))
+    (none_below f t n (f x + 1) high xs h.1 (let q : low ≤ f x = h.0 in omega arith))
 
 pub between_lower : {X : Type 0} (f : X → ℕ) (a b high : ℕ) (xs : List X) → a ≤ b → Between f b high xs → Between f a high xs
 between_lower f a b high [] h k = omega arith

@@ -269,7 +269,7 @@ new_still_found : told stopped (Find (codes "c")) ≡ at 0 1
 unfolding catalog_call
 new_still_found = refl
 
--- and its one list, where it has one
+-- and its one list, if it has one
 abbrev stopped_b : List CatCall
 stopped_b = add_b ∷ Stop 0 ∷ []
 
@@ -313,7 +313,7 @@ stopped_removed : catalog_after (stopped_b ++ Remove 0 true ∷ add_b ∷ []) �
 unfolding catalog_call
 stopped_removed = refl
 
--- ---- want of memory
+-- ---- out of memory
 
 abbrev is_memory : CatTold → Bool
 is_memory NoMemory = true
@@ -343,7 +343,7 @@ no_call c (Keep place new) = refl
 no_call c (Remove place is_dropped) = refl
 no_call c (Stop place) = refl
 
--- a call that wants memory is one that takes some, and changes nothing
+-- a call that is out of memory is one that allocates, and changes nothing
 only_where_taken : (c : Catalog) (call : CatCall) (new : Catalog) → IsCatalogCall c call NoMemory new → (new ≡ c) × (may_want call ≡ true)
 only_where_taken c call new (inl h) = absurd (false≢true (sym (no_call c call) ∙ ap (λ (done : Cataloged). is_memory done.told) h))
 only_where_taken c call new (inr h) = (h.1, h.2)

@@ -83,7 +83,7 @@ nothing_left = (
   },
 )
 
--- the block that its front pull does not allow ends the pull
+-- the block that its first pull does not allow ends the pull
 abbrev small_pull : State
 small_pull = state_after ((make orders, t0) ∷ (make_consumer worker, t0) ∷ (hello, t0) ∷ (pull (record (ask_of 3) { max_bytes = Some 12 }), t0) ∷ [])
 

@@ -24,7 +24,7 @@ still_given : told_of (one_sub ++ say (codes "x") ∷ Unsub 1 (codes "1") None �
 unfolding route digits
 still_given = refl
 
--- ---- after so many messages
+-- ---- after a number of messages
 
 -- `UNSUB 1 2` and three messages: two are taken
 abbrev two_of_three : List RouteCall
@@ -75,7 +75,7 @@ sixth : told_of (two_then_five ++ say (codes "x") ∷ []) (say (codes "x")) ≡ 
 unfolding route digits
 sixth = refl
 
--- and also where it is the smaller one
+-- and also if it is the smaller one
 five_then_two : told_of (one_sub ++ Unsub 1 (codes "1") (Some 5) ∷ Unsub 1 (codes "1") (Some 2) ∷ say (codes "x") ∷ say (codes "x") ∷ []) (say (codes "x")) ≡ Taken 0
 unfolding route digits
 five_then_two = refl

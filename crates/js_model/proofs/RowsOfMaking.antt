@@ -190,7 +190,7 @@ not_itself : reply_to (after queue (make_consumer worker, t0)) (make_consumer (r
 unfolding answered advance advance_outs kept trim verdict
 not_itself = refl
 
--- ---- which refusal is told where several are met
+-- ---- which refusal is told if several are met
 
 -- that it is not there before the rules of a work queue
 absent_first : reply_to queue (update (record worker { ack_policy = AckAll })) t0 ≡ Refused (refusal 400 10149 (codes "consumer does not exist"))

@@ -1,4 +1,4 @@
--- Worked rows of the router: sessions that read too slowly, too many subscriptions, and want of memory.
+-- Worked rows of the router: sessions that read too slowly, too many subscriptions, and out of memory.
 use Rattle.std.proofs.Common.{◌≡◌, inl, inr, refl, ap, sym, ◌∙◌}
 use Rattle.std.specs.Prelude.{ℕ, ◌+◌, ◌==◌, ◌^◌, Bool, true, false, nat_lt, nat_le, List, [], ◌∷◌, ◌++◌, length, filter, Option, Some, None, codes, if◌then◌else◌}
 use Rattle.std.specs.Fmt.{digits}
@@ -80,7 +80,7 @@ full_in_use : (r : Router) (n : ℕ) (pattern sid : Bytes) → is_open r n ≡ t
     → route r (plain n pattern sid) [] ≡ telling Done r
 full_in_use r n pattern sid is_there used long = subscribing_is r n pattern None sid true 65536 is_there used long
 
--- ---- want of memory
+-- ---- out of memory
 
 abbrev is_memory : RouteTold → Bool
 is_memory NoMemory = true
@@ -116,12 +116,12 @@ no_route r (Interest subject queue) chosen = refl
 no_route r (Collect n max) chosen =
     neither (is_open r n) (telling (collect_told max r (session_of r n)) (emptied r n max)) (telling (NoSession r.latest) r) (no_collect max r (session_of r n)) refl
 
--- a call that wants memory is one that takes some, and changes nothing
+-- a call that is out of memory is one that allocates, and changes nothing
 only_where_taken : (r : Router) (call : RouteCall) (new : Router) → IsRoute r call NoMemory new → (new ≡ r) × (may_want call ≡ true)
 only_where_taken r call new (inl h) = absurd (false≢true (sym (no_route r call h.chosen) ∙ ap (λ (after : Routed). is_memory after.told) h.routed))
 only_where_taken r call new (inr h) = (h.same, h.may)
 
--- closing takes none
+-- closing allocates none
 close_wants_none : (r new : Router) (n : ℕ) → IsRoute r (Close n) NoMemory new → ⊥
 close_wants_none r new n h = false≢true (only_where_taken r (Close n) new h).1
 

@@ -1,4 +1,4 @@
--- Worked rows of places: each event where there is no stream, and what comes at the end of the numbers.
+-- Worked rows of places: each event without a stream, and what comes at the end of the numbers.
 use Rattle.std.specs.Prelude.{ℕ, ◌≡◌, false, true, List, [], ◌∷◌, Some, None, codes, refl}
 use Rattle.js_model.specs.declared.stream.State.{State}
 use Rattle.js_model.specs.declared.stream.State.TheVariants.{Vacant, Live}
@@ -17,7 +17,7 @@ use Rattle.js_model.specs.Ready.{some_ready}
 use Rattle.js_model.specs.Events.{Answer, answered}
 use Rattle.js_model.proofs.Samples.{t0, orders, worker, make, publish, hello, make_consumer, ask_of, pull, ack, event, after, reply_to, inbox, wants_nothing}
 
--- ---- where there is no stream
+-- ---- without a stream
 
 -- the third stream of the place was dropped
 abbrev answer_to : What → Answer
@@ -39,7 +39,7 @@ message : answer_to hello ≡ not_found
 unfolding answered
 message = refl
 
--- a publish that itself asks for what can't be
+-- a publish that itself asks for what cannot be
 impossible : answer_to (publish (codes "orders.a") [] (record wants_nothing { stream = Some (codes "OTHER"); last = Some 7 })) ≡ not_found
 unfolding answered
 impossible = refl
@@ -88,7 +88,7 @@ consumer_list : answer_to (ConsumerList inbox 0) ≡ not_found
 unfolding answered
 consumer_list = refl
 
--- a tick says nothing and changes nothing
+-- a tick answers nothing and changes nothing
 tick : answer_to Tick ≡ record { reply = Silent; outs = []; state = Vacant 3 }
 unfolding answered
 tick = refl
@@ -129,7 +129,7 @@ expected_first : reply_to (at_last 4611686018427387903) (publish (codes "orders.
 unfolding answered advance advance_outs kept trim verdict
 expected_first = refl
 
--- and it is told before the want of a block
+-- and it is told before the lack of a block
 before_block : (answered (at_last 4611686018427387903) (event hello) t0 false).reply ≡ Refused (refusal 503 20008 (codes "number range used up"))
 unfolding answered advance advance_outs kept trim verdict
 before_block = refl

@@ -44,7 +44,7 @@ taken_at_once : pulls_in (after (with_worker worker) (pull (record careful { no_
 unfolding answered advance advance_outs kept trim verdict
 taken_at_once = refl
 
--- a pull that is taken is not answered, and nothing is sent at once, even where a message waits
+-- a pull that is taken is not answered, and nothing is sent at once, even if a message waits
 taken_is_silent : reply_to (after (with_worker worker) (hello, t0)) (pull (ask_of 1)) t0 ≡ Silent
 unfolding answered advance advance_outs kept trim verdict
 taken_is_silent = refl
@@ -70,12 +70,12 @@ to_push_leaves : after pushing (pull (ask_of 1), t0) ≡ pushing
 unfolding answered advance advance_outs kept trim verdict
 to_push_leaves = refl
 
--- the same where its body is of no form
+-- the same if its body is of no form
 bad_to_push : outs_to pushing bad_pull t0 ≡ status_to (codes "NATS/1.0 409 Consumer is push based\r\n\r\n") ∷ []
 unfolding answered advance advance_outs kept trim verdict digits
 bad_to_push = refl
 
--- and where an acknowledgement asks for it
+-- and if an acknowledgement asks for it
 next_of_push : outs_to (delivered (after pushing (hello, t0)) t0) (ack 1 (Next (ask_of 1))) t0
     ≡ record { to = codes "_I.1"; subject = codes "_I.1"; reply = None; headers = codes "NATS/1.0 409 Consumer is push based\r\n\r\n"; payload = [] } ∷ []
 unfolding answered advance advance_outs kept trim verdict candidates digits

@@ -165,7 +165,7 @@ listened : some_ready (pushed pusher) t0 (codes "V" ∷ codes "W" ∷ []) ≡ tr
 unfolding answered advance advance_outs kept trim verdict candidates
 listened = refl
 
--- not past max_ack_pending, even where somebody listens
+-- not past max_ack_pending, even if somebody listens
 limited : some_ready (delivered (pushed (record pusher { max_ack_pending = Some 1 })) t0) t0 (codes "W" ∷ []) ≡ false
 unfolding answered advance advance_outs kept trim verdict candidates
 limited = refl

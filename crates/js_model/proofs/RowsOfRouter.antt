@@ -193,7 +193,7 @@ interest_asks = refl
 
 -- ---- collecting
 
--- `MSG a 1 1` CR LF, `m` and CR LF are 14 bytes: at most max bytes, and one frame where any waits
+-- `MSG a 1 1` CR LF, `m` and CR LF are 14 bytes: at most max bytes, and one frame if any waits
 abbrev two_wait : List RouteCall
 two_wait = Open ∷ plain 1 (codes "a") (codes "1") ∷ say (codes "m") ∷ say (codes "n") ∷ []
 

@@ -96,7 +96,7 @@ last_emptied = refl
 
 -- ---- new
 
--- the next sequence, where the last one given is no more stored
+-- the next sequence, if the last one given is no longer stored
 new : starts gaps FromNew [] ≡ from 7
 unfolding answered advance advance_outs kept trim verdict
 new = refl

@@ -57,7 +57,7 @@ made_again : state_after ((make orders, t0) ∷ (DropStream inbox, t0) ∷ (make
 unfolding answered advance advance_outs kept trim verdict
 made_again = refl
 
--- retention can't change
+-- retention cannot change
 other_retention : reply_to (state_after ((make orders, t0) ∷ [])) (Change inbox (record orders { retention = Interest })) t0
     ≡ Refused (refusal 400 20010 (codes "retention cannot change"))
 unfolding answered advance advance_outs kept trim verdict

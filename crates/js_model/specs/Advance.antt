@@ -107,7 +107,7 @@ aged s now = record (only s (young s now)) { moment = now; ids = remembered s no
 abbrev pub stream_at : Stream → ℕ → Stream
 stream_at s now = record (aged s now) { consumers = map (consumer_at now) (aged s now).consumers }
 
--- the stream at a moment, or at its own where that is later
+-- the stream at a moment, or at its own if that is later
 unfoldable pub advance : Stream → ℕ → Stream
 advance s now = stream_at s (max s.moment now)
 

@@ -1,4 +1,4 @@
--- The catalog: which place holds which stream, by name and by subjects. JetStream lets no two streams share a name or a subject.
+-- The catalog: which place holds which stream, by name and by subjects, by the rule of JetStream's streams that no two share a name or a subject.
 use Rattle.std.specs.Prelude.{◌⊎◌, ◌≡◌, ℕ, ◌+◌, Bool, true, false, not, ◌==◌, nat_lt, ◌&&◌, ◌||◌, List, [], ◌∷◌, ◌++◌, map, if◌then◌else◌, Option, Some, None, option_map}
 use Rattle.std.specs.List.{list_any}
 use Rattle.js_base.specs.Bytes.{Bytes, same}
@@ -142,7 +142,7 @@ taken_by name subjects p = record p { used = Some (record { name = name; subject
 abbrev pub changing : List Bytes → Used → Used
 changing subjects u = if u.stopped then u else record u { new_subjects = Some subjects }
 
--- one of the two lists, where there are two; a stopped place stays as it is
+-- one of the two lists, if there are two; a stopped place stays as it is
 abbrev pub kept_list : Bool → Used → Option (List Bytes) → Used
 kept_list new u None = u
 kept_list new u (Some subjects) = record u { subjects = if new then subjects else u.subjects; new_subjects = None }
@@ -201,7 +201,7 @@ catalog_call c (Keep place new) = telling Done (edited (on_used (keeping new)) p
 catalog_call c (Remove place dropped) = telling Done (edited (freed dropped) place c)
 catalog_call c (Stop place) = telling Done (edited (on_used stopping) place c)
 
--- the call takes memory, and so may want it
+-- the call allocates memory, so it may fail for lack of memory
 abbrev pub may_want : CatCall → Bool
 may_want (Find subject) = false
 may_want (ByName name) = false
@@ -212,7 +212,7 @@ may_want (Keep place new) = false
 may_want (Remove place dropped) = false
 may_want (Stop place) = false
 
--- the call answers this and leaves this. Want of memory changes nothing
+-- the call answers this and leaves this. A call that is out of memory changes nothing
 abbrev pub IsCatalogCall : Catalog → CatCall → CatTold → Catalog → Type 0
 IsCatalogCall c call told new = (catalog_call c call ≡ telling told new) ⊎ ((told ≡ NoMemory) × (new ≡ c) × (may_want call ≡ true))
 

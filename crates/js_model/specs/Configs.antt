@@ -1,9 +1,11 @@
 -- Configurations of streams and consumers: which ones there are, and which are the same, by JetStream's configuration tables.
-use Rattle.std.specs.Prelude.{ℕ, ◌-◌, ◌^◌, nat_lt, nat_le, nat_eq, Bool, true, false, ◌&&◌, ◌||◌, not, ◌==◌, List, [], ◌∷◌, length, codes, Option, Some, None}
-use Rattle.std.specs.List.{list_all, starts_with}
+use Rattle.std.specs.Prelude.{ℕ, ◌-◌, ◌^◌, nat_lt, nat_le, Bool, true, false, ◌&&◌, ◌||◌, not, ◌==◌, List, [], ◌∷◌, length, Option, Some, None}
+use Rattle.std.specs.List.{list_all}
 use Rattle.std.specs.Str.{is_utf8}
 use Rattle.js_base.specs.Bytes.{Bytes, is_empty, same}
-use Rattle.js_base.specs.Subjects.{tokens, meets, is_pattern_text, is_subject_text}
+use Rattle.js_base.specs.ServerSubjects.{is_own}
+use Rattle.js_base.specs.Subjects.{is_pattern_text, is_subject_text}
+pub use Rattle.js_base.specs.Subjects.{is_stream_subject}
 use Rattle.js_base.specs.Names.{is_name_byte}
 use Rattle.js_model.specs.declared.stream_config.Retention.{Retention}
 use Rattle.js_model.specs.declared.stream_config.Retention.TheVariants.{Limits, Interest, WorkQueue}
@@ -90,10 +92,6 @@ is_limit greatest (Some n) = nat_lt 0 n && nat_le n greatest
 abbrev pub is_description : Bytes → Bool
 is_description text = nat_le (length text) 4096 && is_utf8 text
 
--- a pattern that meets no subject of the server's own
-abbrev pub is_stream_subject : Bytes → Bool
-is_stream_subject pattern = is_pattern_text pattern && not (meets (tokens pattern) (tokens (codes "$JS.>")))
-
 -- a configuration that the reader of stream configurations gives
 abbrev pub is_stream_config : StreamConfig → Bool
 is_stream_config c =
@@ -113,12 +111,15 @@ is_queue_name text = not (is_empty text) && nat_le (length text) 1024 && list_al
 
 -- a subject that deliveries may go to
 abbrev pub is_deliver_subject : Bytes → Bool
-is_deliver_subject text = is_subject_text text && not (starts_with nat_eq text (codes "$JS."))
+is_deliver_subject text = is_subject_text text && not (is_own text)
 
 abbrev pub is_start : DeliverPolicy → Bool
 is_start (ByStartSequence n) = nat_lt 0 n && is_number n
 is_start (ByStartTime at) = is_number at
-is_start _ = true
+is_start FromAll = true
+is_start FromLast = true
+is_start FromNew = true
+is_start LastPerSubject = true
 
 -- a configuration that the reader of consumer configurations gives. Groups and heartbeats are for push consumers
 abbrev pub is_consumer_config : ConsumerConfig → Bool

@@ -17,7 +17,7 @@ to_deliver s c = filter (λ m. takes c m && (has c.picks m.seq || nat_le c.curso
 abbrev pub pending_count : Stream → Consumer → ℕ
 pending_count s c = length (to_deliver s c)
 
--- the least of two ascending lists, or the number where both are empty
+-- the least of two ascending lists, or the number if both are empty
 abbrev pub least : List ℕ → List ℕ → ℕ → ℕ
 least [] [] none = none
 least (m ∷ _) [] none = m

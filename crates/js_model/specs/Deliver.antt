@@ -61,7 +61,7 @@ abbrev pub with_pending : List Pending → Pending → List Pending
 with_pending [] new = new ∷ []
 with_pending (p ∷ ps) new = if nat_lt p.seq new.seq then p ∷ with_pending ps new else (if p.seq == new.seq then new ∷ ps else new ∷ p ∷ ps)
 
--- a pull after a message of so many bytes
+-- a pull after a message of this many bytes
 abbrev pub served : ℕ → ℕ → Pull → Pull
 served now bytes p = record p { batch = p.batch - 1; bytes = less p.bytes; mark = now }
   where
@@ -69,7 +69,7 @@ served now bytes p = record p { batch = p.batch - 1; bytes = less p.bytes; mark 
     less None = None
     less (Some limit) = Some (limit - bytes)
 
--- the front pull is served, and goes where its batch is reached
+-- the first pull is served, and ends when its batch is reached
 abbrev pub front_served : ℕ → ℕ → List Pull → List Pull
 front_served now bytes [] = []
 front_served now bytes (p ∷ ps) = if nat_le p.batch 1 then ps else served now bytes p ∷ ps
@@ -90,7 +90,7 @@ sent_to now m c = record c {
   mark = if is_push c then now else c.mark;
 }
 
--- where a delivery goes: to the deliver subject, or to the front pull
+-- where a delivery goes: to the deliver subject, or to the first pull
 abbrev pub address : Consumer → Bytes
 address c = if is_push c then c.config.deliver_subject else front c.waiting
   where
@@ -117,7 +117,7 @@ abbrev pub fits : ℕ → Option ℕ → Bool
 fits bytes None = true
 fits bytes (Some limit) = nat_le bytes limit
 
--- the front pull allows a message of so many bytes
+-- the first pull allows a message of this many bytes
 abbrev pub front_allows : List Pull → ℕ → Bool
 front_allows [] bytes = false
 front_allows (p ∷ _) bytes = fits bytes p.bytes
@@ -125,7 +125,7 @@ front_allows (p ∷ _) bytes = fits bytes p.bytes
 abbrev pub is_listened : List Bytes → Consumer → Bool
 is_listened listening c = list_any (λ name. same name c.name) listening
 
--- somebody asks for a message of so many bytes
+-- somebody asks for a message of this many bytes
 abbrev pub is_wanted : List Bytes → Consumer → ℕ → Bool
 is_wanted listening c bytes = if is_push c then is_listened listening c else front_allows c.waiting bytes
 
@@ -153,7 +153,7 @@ pub record IsSent (a : Stream) (listening : List Bytes) (c : Consumer) (seq coun
   pub after_is : after ≡ sent_to a.moment message c
   pub outs_are : outs ≡ delivery_out a c (sent_to a.moment message c) message count ∷ []
 
--- the front pull is too small for some candidate, and goes
+-- the first pull is too small for some candidate, and ends
 pub record IsTooSmall (a : Stream) (c : Consumer) (outs : List Out) (after : Consumer) : Type 0 where
   pub message : Message
   pub front : Pull
@@ -165,7 +165,7 @@ pub record IsTooSmall (a : Stream) (c : Consumer) (outs : List Out) (after : Con
   pub after_is : after ≡ record c { waiting = rest }
   pub outs_are : outs ≡ status_out front.reply (small_block front) ∷ []
 
--- there is nothing for the first pull that does not wait, and it goes
+-- there is nothing for the first pull that does not wait, and it ends
 pub record IsEmptied (a : Stream) (c : Consumer) (outs : List Out) (after : Consumer) : Type 0 where
   pub pull : Pull
   pub none : candidates a c ≡ []

@@ -132,7 +132,7 @@ told_of s (Some c) = quietly (ConsumerTold (consumer_info (settled s) c)) s
 abbrev pub consumer_told : Stream → Bytes → Answer
 consumer_told s name = told_of s (by_name (settled s).consumers name)
 
--- a consumer that is not there is made, where no rule refuses it
+-- a consumer that is not there is made, if no rule refuses it
 abbrev pub consumer_made : Stream → Bytes → ConsumerConfig → Option ApiError → Answer
 consumer_made s name config None = consumer_told (record s { consumers = with_new s.consumers (new_consumer s name config) }) name
 consumer_made s name config (Some e) = refused e s
@@ -148,7 +148,7 @@ consumer_dropped s None = refused no_consumer s
 consumer_dropped s (Some c) =
     record { reply = Done; outs = farewells c; state = Live (record s { consumers = filter (λ d. not (same d.name c.name)) s.consumers }) }
 
--- at most so many from a place on
+-- at most this many, from a place on
 abbrev pub page_of : {X : Type 0} → ℕ → ℕ → List X → List X
 page_of most offset list = take most (drop offset list)
 
@@ -227,11 +227,24 @@ stream_answer s (ConsumerList reply offset) room = infos_told s offset
 abbrev pub vacantly : Reply → ℕ → Answer
 vacantly reply i = record { reply = reply; outs = []; state = Vacant i }
 
--- what an event does where there is no stream
+-- what an event does if there is no stream
 abbrev pub vacant_answer : ℕ → What → ℕ → Answer
 vacant_answer i (Make reply config) now = if i + 1 == 2 ^ 62 then vacantly (Refused numbers_used_up) i else stream_told (empty_stream (i + 1) config now)
 vacant_answer i Tick now = vacantly Silent i
-vacant_answer i _ now = vacantly (Refused no_stream) i
+vacant_answer i (Change reply config) now = vacantly (Refused no_stream) i
+vacant_answer i (DropStream reply) now = vacantly (Refused no_stream) i
+vacant_answer i (PublishIt p) now = vacantly (Refused no_stream) i
+vacant_answer i (Purge reply pattern below keep) now = vacantly (Refused no_stream) i
+vacant_answer i (Delete reply n) now = vacantly (Refused no_stream) i
+vacant_answer i (MakeConsumer reply name config update) now = vacantly (Refused no_stream) i
+vacant_answer i (DropConsumer reply name) now = vacantly (Refused no_stream) i
+vacant_answer i (AckIt reply ack) now = vacantly (Refused no_stream) i
+vacant_answer i (PullIt reply name ask) now = vacantly (Refused no_stream) i
+vacant_answer i (AskStream reply) now = vacantly (Refused no_stream) i
+vacant_answer i (MessageGet reply by) now = vacantly (Refused no_stream) i
+vacant_answer i (AskConsumer reply name) now = vacantly (Refused no_stream) i
+vacant_answer i (ConsumerNames reply offset) now = vacantly (Refused no_stream) i
+vacant_answer i (ConsumerList reply offset) now = vacantly (Refused no_stream) i
 
 -- the incarnation that an event for the place names
 abbrev pub kept_incarnation : State → ℕ
@@ -242,7 +255,7 @@ kept_incarnation (Live s) = s.incarnation
 abbrev pub completed : List Out → Answer → Answer
 completed outs a = record { reply = a.reply; outs = outs ++ a.outs; state = settled_state a.state }
 
--- what an event does at a moment, where `room` is whether the store has a block for a message
+-- what an event does at a moment; `room` is whether the store has a block for a message
 unfoldable pub answered : State → Event → ℕ → Bool → Answer
 answered (Vacant i) e now room = completed [] (vacant_answer i e.what now)
 answered (Live s) e now room = completed (advance_outs s now) (stream_answer (advance s now) e.what room)

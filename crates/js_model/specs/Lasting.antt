@@ -1,4 +1,4 @@
--- What of a state outlives a crash: all but the pulls that wait and the marks of consumers.
+-- What of a state outlives a crash, by a rule of this server's own: all but the pulls that wait and the marks of consumers.
 use Rattle.std.specs.Prelude.{[], map}
 use Rattle.js_model.specs.declared.consumer.Consumer.{Consumer}
 use Rattle.js_model.specs.declared.stream.State.{State}

@@ -2,6 +2,8 @@ pub mod Lists
 pub mod Streams
 pub mod Refusals
 pub mod Configs
+pub mod Served
+pub mod Limits
 pub mod Proper
 pub mod Advance
 pub mod Retention
@@ -17,11 +19,7 @@ pub mod Deliver
 pub mod Ready
 pub mod Runs
 pub mod Lasting
-pub mod Firm
-pub mod Sound
 pub mod Router
 pub mod Routing
 pub mod Catalog
 pub mod Cataloging
-pub mod Legal
-pub mod Laws

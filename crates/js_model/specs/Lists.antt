@@ -1,4 +1,4 @@
--- Words on lists that soundness and the laws cite.
+-- Relations on lists, of no documentation: what lacks, what ascends, what lies apart, what is a part.
 use Rattle.std.specs.Prelude.{◌≡◌, ℕ, ◌+◌, ◌≤◌, Bool, true, false, List, [], ◌∷◌, ⊤}
 use Rattle.std.specs.List.{list_any}
 use Rattle.js_base.specs.Bytes.{has}

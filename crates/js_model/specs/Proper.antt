@@ -1,11 +1,11 @@
--- Events as the server's readers give them: names, subjects, patterns, configurations, header blocks and numbers as they are accepted.
+-- Events as the server's readers give them, with the names, subjects, patterns, configurations, header blocks and numbers that this server accepts.
 use Rattle.std.specs.Prelude.{◌+◌, ◌^◌, nat_le, Bool, true, ◌&&◌, ◌||◌, length, Option, Some, None}
 use Rattle.js_base.specs.Bytes.{Bytes, is_empty, same}
 use Rattle.js_base.specs.Headers.{is_block}
 use Rattle.js_base.specs.Subjects.{is_pattern_text, is_subject_text}
 use Rattle.js_model.specs.declared.ack.Ask.{Ask}
 use Rattle.js_model.specs.declared.ack.AckKind.{AckKind}
-use Rattle.js_model.specs.declared.ack.AckKind.TheVariants.{Nak, Next}
+use Rattle.js_model.specs.declared.ack.AckKind.TheVariants.{Ack as Acknowledge, Nak, Wpi, Next, Term}
 use Rattle.js_model.specs.declared.event.Publish.{Publish}
 use Rattle.js_model.specs.declared.event.GetBy.TheVariants.{Seq, LastBySubject}
 use Rattle.js_model.specs.declared.event.Event.{Event}
@@ -42,7 +42,9 @@ is_proper_ask ask = is_number ask.batch && is_number ask.expires && if_given is_
 abbrev pub is_proper_kind : AckKind → Bool
 is_proper_kind (Nak delay) = is_number delay
 is_proper_kind (Next ask) = is_proper_ask ask
-is_proper_kind _ = true
+is_proper_kind Acknowledge = true
+is_proper_kind Wpi = true
+is_proper_kind Term = true
 
 abbrev pub is_proper_publish : Publish → Bool
 is_proper_publish p =
@@ -64,7 +66,9 @@ is_proper_what (MessageGet reply (LastBySubject subject)) = is_subject_text subj
 is_proper_what (AskConsumer reply name) = is_name name
 is_proper_what (ConsumerNames reply offset) = is_number offset
 is_proper_what (ConsumerList reply offset) = is_number offset
-is_proper_what _ = true
+is_proper_what (DropStream reply) = true
+is_proper_what Tick = true
+is_proper_what (AskStream reply) = true
 
 -- an event as a reader gives it
 abbrev pub is_proper : Event → Bool

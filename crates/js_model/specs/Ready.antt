@@ -1,23 +1,17 @@
--- Whether something can be delivered to a consumer.
-use Rattle.std.specs.Prelude.{ℕ, Bool, false, not, IsTrue, ◌↔◌, List, [], ◌∷◌, if◌then◌else◌}
+-- Whether something can be delivered to a consumer, by JetStream's pull and push consumers.
+use Rattle.std.specs.Prelude.{ℕ, Bool, false, not, List, [], ◌∷◌, if◌then◌else◌}
 use Rattle.std.specs.List.{list_any}
 use Rattle.js_base.specs.Bytes.{Bytes, is_empty}
-use Rattle.js_base.specs.declared.out.Out.{Out}
 use Rattle.js_model.specs.declared.stream.Message.{Message}
 use Rattle.js_model.specs.declared.stream.Stream.{Stream}
 use Rattle.js_model.specs.declared.stream.State.{State}
 use Rattle.js_model.specs.declared.stream.State.TheVariants.{Vacant, Live}
 use Rattle.js_model.specs.declared.consumer.Consumer.{Consumer}
-use Rattle.js_model.specs.declared.entry.Delivered.{Delivered}
 use Rattle.js_model.specs.Streams.{is_push}
 use Rattle.js_model.specs.Advance.{advance}
-use Rattle.js_model.specs.Deliver.{candidates, is_listened, Delivers}
+use Rattle.js_model.specs.Deliver.{candidates, is_listened}
 
--- one of the three cases of a delivery holds
-abbrev pub CanDeliver : Stream → List Bytes → Consumer → Type 0
-CanDeliver a listening c = (what : Delivered) × (outs : List Out) × (after : Consumer) × Delivers a listening c what outs after
-
--- somebody asks where there is a candidate; where there is none, some pull does not wait
+-- if there is a candidate, somebody asks for it; if there is none, some pull does not wait
 abbrev pub is_ready_with : List Message → List Bytes → Consumer → Bool
 is_ready_with [] listening c = list_any (λ p. p.no_wait) c.waiting
 is_ready_with (m ∷ ms) listening c = if is_push c then is_listened listening c else not (is_empty c.waiting)
@@ -30,7 +24,3 @@ is_ready a listening c = is_ready_with (candidates a c) listening c
 abbrev pub some_ready : State → ℕ → List Bytes → Bool
 some_ready (Vacant i) now listening = false
 some_ready (Live s) now listening = list_any (is_ready (advance s now) listening) (advance s now).consumers
-
--- a consumer is ready just where something can be delivered to it
-abbrev pub LawReady : Type 0
-LawReady = (a : Stream) (listening : List Bytes) (c : Consumer) → IsTrue (is_ready a listening c) ↔ CanDeliver a listening c

@@ -1,4 +1,4 @@
--- The refusals of requests, of a place and of the catalog, as JetStream's API errors: code, number and text. Codes, numbers and texts are this server's own.
+-- The refusals of requests, of a place and of the catalog, in the form of the JetStream API's errors; codes, numbers and texts are this server's own.
 use Rattle.std.specs.Prelude.{ℕ, ◌++◌, Bool, List, [], ◌∷◌, Option, Some, None, codes, decimal, if◌then◌else◌}
 use Rattle.js_base.specs.Bytes.{Bytes}
 use Rattle.js_base.specs.declared.out.ApiError.{ApiError}
@@ -17,7 +17,7 @@ first_refusal (check ∷ checks) = if check.0 then Some check.1 else first_refus
 
 -- ---- requests and configurations
 
--- the body is no JSON object where one is needed
+-- the body is no JSON object although one is needed
 abbrev pub invalid_json : ApiError
 invalid_json = refusal 400 10025 (codes "invalid JSON")
 

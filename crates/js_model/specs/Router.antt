@@ -133,7 +133,7 @@ without_spent n sid subs = filter (λ sub. not (is_sub n sid sub && is_spent sub
 abbrev pub limited : ℕ → Bytes → ℕ → Subscription → Subscription
 limited n sid max sub = if is_sub n sid sub then record sub { max = Some max } else sub
 
--- a subscription ends at once, or once it was sent so many messages since its SUB
+-- a subscription ends at once, or once it was sent this many messages since its SUB
 abbrev pub unsubscribed : Router → ℕ → Bytes → Option ℕ → Router
 unsubscribed r n sid None = record r { subscriptions = filter (λ sub. not (is_sub n sid sub)) r.subscriptions }
 unsubscribed r n sid (Some max) = record r { subscriptions = without_spent n sid (map (limited n sid max) r.subscriptions) }
@@ -237,12 +237,12 @@ is_in_group (Some name) sub = same_option sub.queue (Some name)
 abbrev pub is_interest : Router → Bytes → Option Bytes → Bool
 is_interest r subject queue = list_any (λ sub. is_match subject sub && is_in_group queue sub) r.subscriptions
 
--- the longest front whose frames are together at most this long
+-- the longest prefix whose frames are together at most this long
 abbrev pub front_within : ℕ → List Frame → List Frame
 front_within max [] = []
 front_within max (f ∷ fs) = if nat_lt max (length (frame f)) then [] else f ∷ front_within (max - length (frame f)) fs
 
--- that front, or one frame where any waits
+-- that prefix, or one frame if any waits
 abbrev pub collected : ℕ → List Frame → List Frame
 collected max [] = []
 collected max (f ∷ fs) = f ∷ front_within (max - length (frame f)) fs
@@ -278,7 +278,7 @@ abbrev pub if_publisher_open : Router → Option ℕ → Routed → Routed
 if_publisher_open r None after = after
 if_publisher_open r (Some n) after = if_open r n after
 
--- an identifier that is in use stays as it is, also where the session has all the subscriptions that it may have
+-- an identifier that is in use stays as it is, even if the session has all the subscriptions that it may have
 abbrev pub subscribing : Router → ℕ → Bytes → Option Bytes → Bytes → Routed
 subscribing r n pattern queue sid =
     if is_in_use r n sid then telling Done r
@@ -297,7 +297,7 @@ abbrev pub collect_told : ℕ → Router → Option Session → RouteTold
 collect_told max r None = NoSession r.latest
 collect_told max r (Some s) = frames_told max s.waiting
 
--- one call, where these were chosen of the queue groups
+-- one call, with these members chosen of the queue groups
 unfoldable pub route : Router → RouteCall → List Subscription → Routed
 route r Open chosen = if r.latest + 1 == 2 ^ 62 then telling Worn r else telling (Opened (r.latest + 1)) (opened r)
 route r (Close n) chosen = telling Done (closed r n)
@@ -313,7 +313,7 @@ abbrev pub IsChoice : Router → RouteCall → List Subscription → Type 0
 IsChoice r (Publish out from) chosen = AreMembers (groups (candidates r out.to from)) (candidates r out.to from) chosen
 IsChoice r call chosen = chosen ≡ []
 
--- the call takes memory, and so may want it
+-- the call allocates memory, so it may fail for lack of memory
 abbrev pub may_want : RouteCall → Bool
 may_want Open = true
 may_want (Close n) = false
@@ -330,7 +330,7 @@ pub record IsChosen (r : Router) (call : RouteCall) (told : RouteTold) (new : Ro
   pub choice : IsChoice r call chosen
   pub routed : route r call chosen ≡ telling told new
 
--- memory was short, and nothing changed
+-- the call is out of memory, and nothing changed
 pub record IsWanting (r : Router) (call : RouteCall) (told : RouteTold) (new : Router) : Type 0 where
   pub told_is : told ≡ NoMemory
   pub same : new ≡ r

@@ -1,4 +1,4 @@
--- What the calls of a router tell, and what its callers can count on, by the NATS client protocol.
+-- What the calls of a router answer, and what its callers can count on, by the NATS client protocol.
 use Rattle.std.specs.Prelude.{◌≡◌, ◌==◌, ℕ, ◌<◌, true, false, Option, Some, None, Result, Ok, Err, length}
 use Rattle.js_model.specs.Router as router
 use Rattle.js_model.specs.declared.desk.Collected.{Collected}
@@ -6,7 +6,7 @@ use Rattle.js_model.specs.declared.desk.Collected.TheVariants.{Frames, Slow}
 use Rattle.js_model.specs.declared.route_fault.RouteFault.{RouteFault}
 use Rattle.js_model.specs.declared.route_fault.RouteFault.TheVariants as faults
 
--- ---- what the calls tell
+-- ---- the answers
 
 abbrev pub fault_told : RouteFault → router.RouteTold
 fault_told (faults.NoSession latest) = router.NoSession latest
@@ -55,7 +55,7 @@ Opens r n = (router.is_open r n ≡ true) × (waiting_for r n ≡ 0)
 abbrev pub StaysOpen : router.Router → router.Router → Type 0
 StaysOpen old new = (n : ℕ) → router.is_open old n ≡ true → router.is_open new n ≡ true
 
--- just the same sessions are open
+-- exactly the same sessions are open
 abbrev pub KeepsOpen : router.Router → router.Router → Type 0
 KeepsOpen old new = (n : ℕ) → router.is_open new n ≡ router.is_open old n
 
@@ -64,7 +64,9 @@ pub record ClosesOne (n : ℕ) (old new : router.Router) : Type 0 where
   pub closed : router.is_open new n ≡ false
   pub others : (m : ℕ) → (m == n) ≡ false → router.is_open new m ≡ router.is_open old m
 
--- where more was left, fewer frames wait than before
+-- if more was left, fewer frames wait than before
 abbrev pub LeavesFewer : Result Collected RouteFault → ℕ → ℕ → Type 0
 LeavesFewer (Ok (Frames list true)) before after = after < before
-LeavesFewer _ before after = Unit {0}
+LeavesFewer (Ok (Frames list false)) before after = Unit {0}
+LeavesFewer (Ok (Slow length)) before after = Unit {0}
+LeavesFewer (Err fault) before after = Unit {0}

@@ -1,4 +1,4 @@
--- Runs of a place: its events and deliveries, one after the other.
+-- Runs of a place, by rules of this server's own: its events and deliveries, one after the other.
 use Rattle.std.specs.Prelude.{◌≡◌, ℕ, ◌+◌, ◌<◌, ◌^◌, nat_lt, Bool, true, not, IsTrue, List, [], ◌∷◌, length, filter}
 use Rattle.js_base.specs.Bytes.{Bytes, has}
 use Rattle.js_base.specs.declared.out.Out.{Out}
@@ -27,13 +27,13 @@ messages_of (Live s) = s.messages
 abbrev pub new_messages : State → State → List Message
 new_messages old new = filter (λ m. not (has (seqs (messages_of old)) m.seq)) (messages_of new)
 
--- so few messages were there at first and were stored since that the store has a block for one more
+-- few enough messages were there at first or were stored since that the store has a block for one more
 abbrev pub is_few : ℕ → Bool
 is_few count = nat_lt count 65533
 
 -- ---- one step
 
--- a proper event, for which the store has a block where there were few messages so far
+-- a proper event, for which the store has a block if there were few messages so far
 pub record IsStep (count : ℕ) (old : State) (e : Event) (now : ℕ) (reply : Reply) (outs : List Out) (new : State) : Type 0 where
   pub event : IsEvent old e now reply outs new
   pub proper : IsTrue (is_proper e)
@@ -51,7 +51,7 @@ IsBrokenBy count old (DeliverOf listening d) now new = (outs : List Out) × IsDe
 
 -- ---- runs
 
--- the entries lead from old to new, where `count` messages were there at first or were stored since. Only the last one may be broken
+-- the entries lead from old to new; `count` messages were there at first or were stored since. Only the last entry may be broken
 abbrev pub RunFrom : ℕ → State → List PlaceEntry → State → Type 0
 RunFrom count old [] new = old ≡ new
 RunFrom count old (Step seat e now reply outs unsaid ∷ entries) new =

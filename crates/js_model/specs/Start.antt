@@ -21,7 +21,11 @@ seq_or_next s (Some m) = m.seq
 -- the sequences that are picked out: the last matching message of each subject
 abbrev pub picks_at : DeliverPolicy → Bytes → Stream → List ℕ
 picks_at LastPerSubject pattern s = seqs (newest 1 (matching pattern s))
-picks_at _ pattern s = []
+picks_at FromAll pattern s = []
+picks_at FromLast pattern s = []
+picks_at FromNew pattern s = []
+picks_at (ByStartSequence n) pattern s = []
+picks_at (ByStartTime at) pattern s = []
 
 -- the sequence from which on all matching messages are delivered
 abbrev pub cursor_at : DeliverPolicy → Bytes → Stream → ℕ

@@ -1,4 +1,4 @@
--- Words on streams, messages and consumers, by JetStream's stream and consumer documentation.
+-- Sizes, filters and look-ups of messages and consumers, by JetStream's stream and consumer documentation.
 use Rattle.std.specs.Prelude.{ℕ, ◌+◌, nat_lt, Bool, true, false, if◌then◌else◌, ◌||◌, not, ◌==◌, List, [], ◌∷◌, length, map, filter, Option, Some, None, find}
 use Rattle.js_base.specs.Bytes.{Bytes, is_empty, same, has}
 use Rattle.js_base.specs.Subjects.{tokens, matches}
@@ -41,7 +41,7 @@ is_unacknowledged c = unacknowledged c.config.ack_policy
     unacknowledged AckAll = false
     unacknowledged Explicit = false
 
--- a count below the limit, where there is one
+-- a count below the limit, if there is one
 abbrev pub below_limit : ℕ → Option ℕ → Bool
 below_limit n None = true
 below_limit n (Some limit) = nat_lt n limit
@@ -62,7 +62,7 @@ confined kept c = record c {
   given_up = filter (has kept) c.given_up;
 }
 
--- the stream with just these messages
+-- the stream with these messages alone
 abbrev pub only : Stream → List Message → Stream
 only s messages = record s { messages = messages; consumers = map (confined (seqs messages)) s.consumers }
 

@@ -39,7 +39,7 @@ last_id s = id_or_empty (last_or None s.ids)
     id_or_empty None = []
     id_or_empty (Some i) = i.id
 
--- the id of a publish, where it is in the window; an empty one is none
+-- the id of a publish, if it is in the window; an empty one is none
 abbrev pub known : Stream → Bytes → Option Id
 known s id = if is_empty id then None else find (λ i. same i.id id) s.ids
 
@@ -91,6 +91,6 @@ first_of_all None (Some i) late = TakenBefore i.seq
 first_of_all None None (Some e) = RefusedBy e
 first_of_all None None None = Take
 
--- what a stream says to a publish, where `room` is whether the store has a block for the message
+-- what a stream answers a publish; `room` is whether the store has a block for the message
 unfoldable pub verdict : Stream → Publish → Bool → Verdict
 verdict s p room = first_of_all (first_refusal (early_checks s p)) (known s p.wants.id) (first_refusal (late_checks s p room))

@@ -20,7 +20,7 @@ pub struct Ask {
 pub enum AckKind {
     /// `+ACK`: done.
     Ack,
-    /// `-NAK`: deliver it again, after so many nanoseconds.
+    /// `-NAK`: deliver it again, after this many nanoseconds.
     Nak(u64),
     /// `+WPI`: in progress.
     Wpi,

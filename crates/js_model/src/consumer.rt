@@ -24,7 +24,7 @@ pub struct Pull {
     pub bytes: Option<u64>,
     /// When it ends.
     pub end: Option<Moment>,
-    /// Whether it ends where nothing can be delivered.
+    /// Whether it ends when nothing can be delivered.
     pub no_wait: bool,
     /// In nanoseconds, 0 for none.
     pub heartbeat: u64,

@@ -13,7 +13,7 @@ pub enum AckPolicy {
     Explicit,
 }
 
-/// Where a new consumer begins, by JetStream's deliver policies, with `opt_start_seq` and `opt_start_time` where the
+/// Where a new consumer begins, by JetStream's deliver policies, with `opt_start_seq` and `opt_start_time` if the
 /// policy uses them.
 #[derive(Clone, Copy, Debug, PartialEq, Eq)]
 pub enum DeliverPolicy {

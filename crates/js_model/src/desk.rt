@@ -1,4 +1,4 @@
-//! What a session is told of its calls.
+//! What a session's calls answer.
 
 use js_base::{Frame, List};
 

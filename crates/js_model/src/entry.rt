@@ -9,7 +9,7 @@ use js_base::{Blob, List, Moment, Outs};
 pub enum Delivered {
     /// A message was sent: its sequence, how often it was by now, and its consumer sequence.
     Sent { seq: u64, count: u64, dseq: u64 },
-    /// The front pull was too small for a message.
+    /// The first pull was too small for a message.
     TooSmall,
     /// There was nothing for a pull that does not wait.
     Emptied,

@@ -39,7 +39,7 @@ pub enum GetBy {
     LastBySubject(Blob),
 }
 
-/// What is asked. Each request that can be answered has the subject for its answer, where one is given.
+/// What is asked. Each request that can be answered has the subject for its answer, if one is given.
 #[derive(Drop, Debug)]
 pub enum What {
     /// Makes the stream.
@@ -57,7 +57,7 @@ pub enum What {
         reply: Option<Blob>,
     },
     Publish(Publish),
-    /// Removes the messages that the filter matches: those below a sequence, and all but the last so many.
+    /// Removes the messages that the filter matches: those below a sequence, and all but a number of the last ones.
     /// An empty filter matches all.
     Purge {
         reply: Option<Blob>,

@@ -30,7 +30,7 @@ fn named_refusal(
     refusal(alloc, 400, err_code, whole.as_slice())
 }
 
-/// The body is no JSON object where one is needed.
+/// The body is no JSON object although one is needed.
 pub fn invalid_json(alloc: Global) -> Result<ApiError, NoMemory>
     ensures value { IfOk result (λ error. error ≡ refusals.invalid_json) }
 {

@@ -92,7 +92,7 @@ pub struct Answer {
     pub state: State,
 }
 
-/// What a stream says to a publish.
+/// What a stream answers a publish.
 #[derive(Drop, Debug, PartialEq, Eq)]
 pub enum Verdict {
     Take,

@@ -12,7 +12,7 @@ pub struct Message {
     /// When it was stored.
     pub at: Moment,
     pub subject: Blob,
-    /// The header block, empty where there is none.
+    /// The header block, empty if there is none.
     pub headers: Blob,
     pub payload: Blob,
 }

@@ -13,7 +13,7 @@ pub enum Retention {
     WorkQueue,
 }
 
-/// What happens where a new message passes the stream's limits, by JetStream's discard policies.
+/// What happens when a new message passes the stream's limits, by JetStream's discard policies.
 #[derive(Clone, Copy, Debug, PartialEq, Eq)]
 pub enum Discard {
     /// The oldest messages go.

@@ -1,5 +1,4 @@
 pub mod Told
-pub mod Causes
+pub use Rattle.js_base.proofs.Causes
 pub mod Reports
 pub mod Moments
-mod Scripts

@@ -1,4 +1,4 @@
--- Laws of told lists.
+-- Laws of lists that are known, or not.
 use Rattle.std.proofs.Common.{◌≡◌, List, [], ◌++◌, Option, None, Some, option_map, ap, refl, sym, append_assoc, ◌∙◌}
 use Rattle.std.proofs.lemmas.List.{append-nil}
 use Rattle.link_edge.specs.Told.{grown, emptied, Loses}
@@ -20,7 +20,7 @@ pub grown-emptied : {X : Type 0} (o : Option (List X)) (xs : List X) →
 grown-emptied None xs = refl
 grown-emptied (Some zs) xs = refl
 
--- what has grown is told where it was told
+-- what has grown is known if it was known
 pub emptied-grown : {X : Type 0} (o : Option (List X)) (xs : List X) → emptied (grown o xs) ≡ emptied o
 emptied-grown None xs = refl
 emptied-grown (Some zs) xs = refl
@@ -30,13 +30,13 @@ pub grown_on : {X : Type 0} (a b c : Option (List X)) (xs ys : List X) → b ≡
     c ≡ grown a (xs ++ ys)
 grown_on a b c xs ys e f = f ∙ ap (λ o. grown o ys) e ∙ grown-grown a xs ys
 
--- a front before a front
+-- a prefix before a prefix
 fronts : {X : Type 0} (o : Option (List X)) (xs ys : List X) →
     option_map (λ rest. xs ++ rest) (option_map (λ rest. ys ++ rest) o) ≡ option_map (λ rest. (xs ++ ys) ++ rest) o
 fronts None xs ys = refl
 fronts (Some zs) xs ys = ap Some (sym (append_assoc xs ys zs))
 
--- it lost a front, and then it lost a front
+-- it lost a prefix, and then another
 pub loses_on : {X : Type 0} (a b c : Option (List X)) (xs ys : List X) → Loses a b xs → Loses b c ys →
     Loses a c (xs ++ ys)
 loses_on a b c xs ys e f = e ∙ ap (option_map (λ rest. xs ++ rest)) f ∙ fronts c xs ys

@@ -1,7 +1,7 @@
 -- Which calls of an object in memory fail.
 use Rattle.std.specs.Prelude.{ℕ, Bool, List}
 use Rattle.js_base.specs.Bytes.{has}
-use Rattle.link_edge.specs.Causes.{raised}
+use Rattle.js_base.specs.Causes.{raised}
 
 -- the numbers of the calls that fail, counted from 0; how many calls were made, and how many of them failed
 pub record CallState : Type 0 where

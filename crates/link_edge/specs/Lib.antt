@@ -1,5 +1,5 @@
 pub mod Told
-pub mod Causes
+pub use Rattle.js_base.specs.Causes
 pub mod Takes
 pub mod Gives
 pub mod Accepts

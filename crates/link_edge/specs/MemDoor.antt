@@ -38,7 +38,7 @@ next_accept [] = accepts.Closed
 next_accept (knocks.Quiet ∷ more) = accepts.Quiet
 next_accept (knocks.Link script failing ∷ more) = accepts.Got (link_of script failing)
 
--- what an accept answers, where memory suffices
+-- what an accept answers, if memory suffices
 abbrev pub accept_of : DoorState → Accept LinkState
 accept_of door = if next_fails door.calls then accepts.Failed else next_accept door.knocks
 

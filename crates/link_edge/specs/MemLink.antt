@@ -10,7 +10,7 @@ use Rattle.link_edge.specs.Takes.{answers_of}
 use Rattle.link_edge.specs.Calls.{CallState, calls_of, next_fails, with_pass, with_failure}
 use Rattle.link_edge.specs.Script.{next_take, script_after}
 
--- what is still to be said, the calls so far, what the takes answered and what was given
+-- what is left of the script, the calls so far, what the takes answered and what was given
 pub record LinkState : Type 0 where
   pub script : List Said
   pub calls : CallState
@@ -21,22 +21,28 @@ pub record LinkState : Type 0 where
 abbrev pub link_of : List Said → List ℕ → LinkState
 link_of script failing = record { script = script; calls = calls_of failing; answered = []; given = [] }
 
--- what a take with so much room answers, where memory suffices
+-- what a take with so much room answers, if memory suffices
 abbrev pub take_of : LinkState → ℕ → Take
 take_of link room = if next_fails link.calls then takes.Failed else next_take link.script room
+
+-- the link after a take that the script answered so
+abbrev pub after_played : LinkState → Take → List ℕ → LinkState
+after_played link take room = record link {
+  script = script_after link.script (length room);
+  calls = with_pass link.calls;
+  answered = link.answered ++ answers_of take room;
+}
 
 -- the link after a take that was answered so
 abbrev pub after_take : LinkState → Take → List ℕ → LinkState
 after_take link takes.NoMemory room = link
 after_take link takes.Failed room =
     record link { calls = with_failure link.calls; answered = link.answered ++ answers_of takes.Failed room }
-after_take link take room = record link {
-  script = script_after link.script (length room);
-  calls = with_pass link.calls;
-  answered = link.answered ++ answers_of take room;
-}
+after_take link (takes.Got n) room = after_played link (takes.Got n) room
+after_take link takes.Quiet room = after_played link takes.Quiet room
+after_take link takes.Ended room = after_played link takes.Ended room
 
--- what a give of so many bytes answers, where memory suffices
+-- what a give of so many bytes answers, if memory suffices
 abbrev pub give_of : LinkState → ℕ → Give
 give_of link len = if next_fails link.calls then gives.Failed else gives.Gave len
 

@@ -24,8 +24,8 @@ after_failed sink bytes = record { written = sink.written ++ bytes; calls = with
 abbrev pub half : List ℕ → List ℕ
 half bytes = take (length bytes / 2) bytes
 
--- Where a put is not to fail, it writes all of the piece; where it is, half of it. One that finds no
--- memory fails and writes nothing.
+-- A put that is not to fail writes all of the piece, and one that is to fail half of it. One for which
+-- memory runs out fails and writes nothing.
 abbrev pub IsPut : SinkState → SinkState → Put → List ℕ → Type 0
 IsPut old new Done bytes = (next_fails old.calls ≡ false) × (new ≡ after_done old bytes)
 IsPut old new Failed bytes =

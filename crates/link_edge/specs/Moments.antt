@@ -1,5 +1,5 @@
--- The moments that a clock tells: a list whose last member stays.
-use Rattle.std.specs.Prelude.{◌≡◌, ℕ, List, [], ◌∷◌, Option, Some, option_map}
+-- The moments that a clock gives: a list whose last member stays.
+use Rattle.std.specs.Prelude.{◌≡◌, ℕ, List, [], ◌∷◌, Option, None, Some, option_map}
 
 -- the moments to come once one was read
 abbrev pub moments_after : List ℕ → List ℕ
@@ -7,10 +7,11 @@ moments_after [] = []
 moments_after (m ∷ []) = m ∷ []
 moments_after (m ∷ n ∷ ms) = n ∷ ms
 
--- the first of the moments, where one is told
+-- the first of the moments, if one is known
 abbrev pub IsFirst : Option (List ℕ) → ℕ → Type 0
 IsFirst (Some (m ∷ ms)) moment = moment ≡ m
-IsFirst _ moment = Unit {0}
+IsFirst (Some []) moment = Unit {0}
+IsFirst None moment = Unit {0}
 
 -- a moment was read, which leaves these to come
 pub record ReadsMoment (old : Option (List ℕ)) (moment : ℕ) (new : Option (List ℕ)) : Type 0 where

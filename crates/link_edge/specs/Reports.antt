@@ -1,4 +1,4 @@
--- What a door tells of the links that it gave out and took back.
+-- What is known of the links that a door gave out and took back.
 use Rattle.std.specs.Prelude.{◌≡◌, ℕ, ◌<◌, ◌≤◌, List, length, Option, IfSome}
 use Rattle.link_edge.specs.declared.answers.Answer.{Answer}
 use Rattle.link_edge.specs.Told.{emptied}
@@ -9,15 +9,15 @@ pub record Report : Type 0 where
   pub given : Option (List ℕ)
   pub faults : ℕ
 
--- where both are told, fewer links came back than were given out
+-- if both are known, fewer links came back than were given out
 abbrev pub HasOut : Option ℕ → Option (List Report) → Type 0
 HasOut gave back = IfSome gave (λ n. IfSome back (λ reports. length reports < n))
 
--- where both are told, no more links came back than were given out
+-- if both are known, no more links came back than were given out
 abbrev pub IsBalanced : Option ℕ → Option (List Report) → Type 0
 IsBalanced gave back = IfSome gave (λ n. IfSome back (λ reports. length reports ≤ n))
 
--- where it is told, nothing was answered and nothing given, and no fault is counted
+-- if it is known, nothing was answered and nothing given, and no fault is counted
 pub record IsFresh (answered : Option (List Answer)) (given : Option (List ℕ)) (faults : ℕ) : Type 0 where
   pub silent : answered ≡ emptied answered
   pub unwritten : given ≡ emptied given

@@ -1,5 +1,5 @@
 -- A script that a link in memory plays: pieces of bytes and Quiets, and then its end.
-use Rattle.std.specs.Prelude.{ℕ, List, [], ◌∷◌, length, drop, min, nat_le, flat_map, if◌then◌else◌}
+use Rattle.std.specs.Prelude.{ℕ, List, [], ◌∷◌, Option, None, Some, length, drop, min, nat_le, flat_map, if◌then◌else◌}
 use Rattle.js_base.specs.Bytes.{is_empty}
 use Rattle.link_edge.specs.declared.answers.Take.{Take}
 use Rattle.link_edge.specs.declared.answers.Take.TheVariants as takes
@@ -15,6 +15,11 @@ said_bytes Quiet = []
 abbrev pub first_bytes : List Said → List ℕ
 first_bytes [] = []
 first_bytes (said ∷ more) = said_bytes said
+
+-- the bytes of the first member, if there is one
+abbrev pub front_of : List Said → Option (List ℕ)
+front_of [] = None
+front_of (said ∷ more) = Some (said_bytes said)
 
 -- all bytes of a script
 abbrev pub script_bytes : List Said → List ℕ

@@ -1,13 +1,13 @@
--- The clock of the system, as contracts see it, and what it tells.
+-- The clock of the system, as contracts see it, and what it gives.
 use Rattle.std.specs.Prelude.{◌≡◌, ℕ, ◌⊎◌}
-use Rattle.link_edge.specs.Causes.{raised}
+use Rattle.js_base.specs.Causes.{raised}
 
--- the moment that was told last, and how often the system told none
+-- the moment that was given last, and how often the system gave none
 pub record ClockState : Type 0 where
   pub last : ℕ
   pub faults : ℕ
 
--- the system told this moment, or it told none, which is counted, and the last one stays
+-- the system gave this moment, or it gave none, which is counted, and the last one stays
 abbrev pub Tells : ClockState → ℕ → ClockState → Type 0
 Tells old moment new =
     (new ≡ record old { last = moment }) ⊎ ((moment ≡ old.last) × (new ≡ record old { faults = raised old.faults }))

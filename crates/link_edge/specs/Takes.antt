@@ -9,17 +9,26 @@ use Rattle.link_edge.specs.Told.{emptied}
 -- what was got is one byte or more, and no more than there is room for
 abbrev pub IsTakeWithin : Take → ℕ → Type 0
 IsTakeWithin (Got n) room = (1 ≤ n) × (n ≤ room)
-IsTakeWithin _ room = Unit {0}
+IsTakeWithin Quiet room = Unit {0}
+IsTakeWithin Ended room = Unit {0}
+IsTakeWithin Failed room = Unit {0}
+IsTakeWithin NoMemory room = Unit {0}
 
--- the bytes that were got, at the front of the room
+-- the bytes that were got, at the start of the room
 abbrev pub taken_bytes : Take → List ℕ → List ℕ
 taken_bytes (Got n) room = take n room
-taken_bytes _ room = []
+taken_bytes Quiet room = []
+taken_bytes Ended room = []
+taken_bytes Failed room = []
+taken_bytes NoMemory room = []
 
--- the end is answered only where no told byte is left
+-- the end is answered only if no byte is known to be left
 abbrev pub EndsAtEnd : Take → Option (List ℕ) → Type 0
+EndsAtEnd (Got n) left = Unit {0}
+EndsAtEnd Quiet left = Unit {0}
 EndsAtEnd Ended left = left ≡ emptied left
-EndsAtEnd _ left = Unit {0}
+EndsAtEnd Failed left = Unit {0}
+EndsAtEnd NoMemory left = Unit {0}
 
 -- what is remembered of the answer
 abbrev pub answers_of : Take → List ℕ → List Answer

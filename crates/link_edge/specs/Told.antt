@@ -1,11 +1,11 @@
--- What is told of the outside, where it is told. Each word reads alike of what is told and of what is not.
+-- What is known of the outside: a list, or `None` if nothing is known. Each definition reads alike of both.
 use Rattle.std.specs.Prelude.{◌≡◌, List, [], ◌++◌, Option, option_map}
 
--- a told list, with more at its end
+-- a known list, with more at its end
 abbrev pub grown : {X : Type 0} → Option (List X) → List X → Option (List X)
 grown known more = option_map (λ xs. xs ++ more) known
 
--- nothing, where it is told
+-- no elements, if it is known
 abbrev pub emptied : {X : Type 0} → Option (List X) → Option (List X)
 emptied known = option_map (λ _. []) known
 

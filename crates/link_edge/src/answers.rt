@@ -5,11 +5,11 @@ use js_base::List;
 /// How a link answers a take.
 #[derive(Clone, Copy, Debug, PartialEq, Eq)]
 pub enum Take {
-    /// So many bytes stand at the front of the room: at least one, and no more than there is room for.
+    /// So many bytes are at the start of the room: at least one, and no more than there is room for.
     Got(usize),
-    /// Nothing came by now.
+    /// Nothing has come yet.
     Quiet,
-    /// Nothing will come any more.
+    /// Nothing more will come.
     Ended,
     /// The connection failed, and its count of faults rose.
     Failed,
@@ -33,9 +33,9 @@ pub enum Give {
 pub enum Accept<L> {
     /// A connection came.
     Got(L),
-    /// No connection came by now.
+    /// No connection has come yet.
     Quiet,
-    /// No connection will come any more.
+    /// No more connections will come.
     Closed,
     /// The door failed, and its count of faults rose.
     Failed,
@@ -48,11 +48,11 @@ pub enum Accept<L> {
 pub enum Put {
     /// All of the piece was written.
     Done,
-    /// The sink failed after some front of the piece, which may be empty, and its count of faults rose.
+    /// The sink failed after it wrote a prefix of the piece, perhaps an empty one, and its count of faults rose.
     Failed,
 }
 
-/// An answer of a take, as it is remembered. One for want of memory is not.
+/// An answer of a take, as it is remembered. One that memory ran out is not remembered.
 #[derive(Drop, Debug)]
 pub enum Answer {
     /// These bytes were got.
@@ -62,7 +62,7 @@ pub enum Answer {
     Failed,
 }
 
-/// An answer of an accept, as it is remembered. One for want of memory is not.
+/// An answer of an accept, as it is remembered. One that memory ran out is not remembered.
 #[derive(Clone, Copy, Debug, PartialEq, Eq)]
 pub enum Accepted {
     Got,

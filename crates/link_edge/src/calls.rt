@@ -5,8 +5,8 @@ ghost use Rattle.std.specs.Prelude.{◌≡◌, ◌≤◌};
 use js_base::List;
 use std::marker::Model;
 
-/// Counts the calls of an object in memory, and says which of them are to fail. Both counts stand
-/// still at their type's end.
+/// Counts the calls of an object in memory, and says which of them are to fail. Both counts
+/// stop at the greatest number of their type.
 #[derive(Drop, Debug)]
 pub struct Calls {
     failing: List<u64>,

@@ -7,10 +7,10 @@ use js_base::{Moment, NoMemory};
 
 /// A clock never fails. It may stand still, and it may go back.
 pub trait Clock {
-    /// The moments to come, of which the last stays, where they are told.
+    /// The moments to come, of which the last stays, if they are known.
     ghost to_come: { Self → Option (List ℕ) };
 
-    /// The present moment: of told ones the first. It takes no memory.
+    /// The present moment: the first of the moments to come, if they are known. It takes no memory.
     fn now(&mut self) -> Moment
         ensures reads { ReadsMoment (to_come self.old) result (to_come self.new) };
 

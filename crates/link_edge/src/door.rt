@@ -5,7 +5,7 @@ ghost use Rattle.link_edge.specs.declared.answers.Accepted.{Accepted};
 ghost use Rattle.link_edge.specs.Told.{grown};
 ghost use Rattle.link_edge.specs.Accepts.{IfGot, accepted_of, gave_after};
 ghost use Rattle.link_edge.specs.Reports.{Report, HasOut, IsFresh};
-ghost use Rattle.link_edge.specs.Causes.{HasCause};
+ghost use Rattle.js_base.specs.Causes.{HasCause};
 
 use crate::answers::Accept;
 use crate::link::Link;
@@ -14,13 +14,13 @@ use crate::link::Link;
 pub trait Door {
     type Link: Link;
 
-    /// What its accepts answered so far, where it is told.
+    /// What its accepts answered so far, if it is known.
     ghost answered: { Self → Option (List Accepted) };
 
-    /// How many links it gave out so far, where it is told.
+    /// How many links it gave out so far, if it is known.
     ghost gave: { Self → Option ℕ };
 
-    /// What is known of each link that came back so far, where it is told.
+    /// What is known of each link that came back so far, if it is known.
     ghost back: { Self → Option (List Report) };
 
     /// How often it failed so far.

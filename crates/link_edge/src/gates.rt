@@ -15,7 +15,7 @@ impl Gate for OpenGate {
 }
 
 /// A gate that holds each call of one worker until it is open, but for a stated number of turns at most,
-/// in each of which other threads may run. It opens once another worker has served a link, or where the
+/// in each of which other threads may run. It opens once another worker has served a link, or if the
 /// flag that it shares is set elsewhere.
 #[derive(Drop)]
 pub struct HoldGate {

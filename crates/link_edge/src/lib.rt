@@ -1,6 +1,6 @@
 //! The outside of the server: links to clients, the doors that they come through, sinks, clocks and
-//! gates. Each is a trait with a meaning, a form in memory that tells all that happened to it, and an
-//! adapter over the real thing.
+//! gates. Each is a trait with a meaning, an implementation in memory that records all that happened to
+//! it, and an adapter over the real thing.
 #![tactic(auto)]
 
 mod answers;

@@ -5,26 +5,26 @@ ghost use Rattle.link_edge.specs.declared.answers.Answer.{Answer};
 ghost use Rattle.link_edge.specs.Told.{grown, Loses};
 ghost use Rattle.link_edge.specs.Takes.{IsTakeWithin, EndsAtEnd, taken_bytes, answers_of};
 ghost use Rattle.link_edge.specs.Gives.{IsGiveWithin, given_bytes};
-ghost use Rattle.link_edge.specs.Causes.{HasCause};
+ghost use Rattle.js_base.specs.Causes.{HasCause};
 
 use crate::answers::{Give, Take};
 
 /// A client's connection, on which the NATS client protocol is spoken: bytes come in pieces, and bytes
 /// go out.
 pub trait Link {
-    /// The bytes that are left to take, where they are told.
+    /// The bytes that are left to take, if they are known.
     ghost left: { Self → Option (List ℕ) };
 
-    /// What its takes answered so far, where it is told.
+    /// What its takes answered so far, if it is known.
     ghost answered: { Self → Option (List Answer) };
 
-    /// The bytes that it was given so far, where they are told.
+    /// The bytes that it was given so far, if they are known.
     ghost given: { Self → Option (List ℕ) };
 
     /// How often it failed so far.
     ghost faults: { Self → ℕ };
 
-    /// Takes the next piece of the input, as far as there is room. The room behind it may hold anything.
+    /// Takes the next piece of the input, as far as there is room. The room after it may hold anything.
     fn take(&mut self, into: &mut [u8]) -> Take
         requires room { 0 < length into.old }
         ensures within { IsTakeWithin result (length into.new) }
@@ -34,7 +34,7 @@ pub trait Link {
         ensures given { given self.new ≡ given self.old }
         ensures cause { HasCause (faults self.old) (faults self.new) (result ≡ Take.Failed) };
 
-    /// Gives the bytes, or a front of them.
+    /// Gives the bytes, or a prefix of them.
     fn give(&mut self, bytes: &[u8]) -> Give
         requires bytes { 0 < length bytes.now }
         ensures within { IsGiveWithin result (length bytes.now) }

@@ -23,7 +23,7 @@ impl Model for MemClock {
 }
 
 impl MemClock {
-    /// A clock that stands still at the moment once it told the earlier ones. These may come in any order.
+    /// A clock that gives the earlier moments one after another, and then this last one for ever. These may come in any order.
     pub fn new(earlier: List<Moment>, last: Moment) -> MemClock
         ensures fresh { result ≡ earlier ++ last ∷ [] }
     {

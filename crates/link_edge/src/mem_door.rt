@@ -4,7 +4,7 @@ ghost use Rattle.std.specs.Prelude.{◌≡◌, ◌≢◌, ◌≤◌, ◌++◌, �
 ghost use Rattle.link_edge.specs.Reports.{HasOut};
 ghost use Rattle.link_edge.specs.Accepts.{accepted_of};
 ghost use Rattle.link_edge.specs.MemDoor.{is_link, next_accept, knocks_after};
-ghost use Rattle.link_edge.specs.Causes.{HasCause};
+ghost use Rattle.js_base.specs.Causes.{HasCause};
 
 use crate::answers::{Accept, Accepted};
 use crate::calls::Calls;
@@ -30,7 +30,7 @@ pub enum Knock {
 
 /// A door that plays a script and then is closed. It remembers what it answered, and keeps the links
 /// that came back. Accepts are numbered from 0, and those with stated numbers fail. One that is answered
-/// `NoMemory` changes nothing and has no number.
+/// `NoMemory` changes nothing and gets no number.
 #[derive(Drop, Debug)]
 pub struct MemDoor {
     alloc: Global,
@@ -166,7 +166,7 @@ impl Door for MemDoor {
 
     ghost faults = { λ s. s.calls.failed };
 
-    /// Plays the next member of the script, or fails where it is so numbered.
+    /// Plays the next member of the script, or fails if its number is one of those that fail.
     fn accept(&mut self) -> Accept<MemLink>
         ensures answer { result ≢ Accept.NoMemory → result ≡ accept_of self.old }
         ensures after { self.new ≡ after_accept self.old result }

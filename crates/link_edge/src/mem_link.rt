@@ -2,7 +2,7 @@
 
 ghost use Rattle.std.specs.Prelude.{◌≡◌, ◌≢◌, ◌<◌, ◌++◌, Some, [], length, IfOk, OnOk, OnErr, option_to_list, if◌then◌else◌};
 ghost use Rattle.link_edge.specs.Takes.{IsTakeWithin, taken_bytes, answers_of};
-ghost use Rattle.link_edge.specs.Causes.{HasCause};
+ghost use Rattle.js_base.specs.Causes.{HasCause};
 ghost use Rattle.link_edge.specs.Script.{script_bytes, next_take, script_after};
 ghost use Rattle.link_edge.specs.Calls.{next_fails};
 
@@ -16,7 +16,7 @@ use std::marker::Model;
 
 /// A link that plays a script and then is at its end. It remembers what its takes answered and what it
 /// was given. Takes and gives are numbered together from 0, and those with stated numbers fail. A call
-/// that is answered `NoMemory` changes nothing and has no number.
+/// that is answered `NoMemory` changes nothing and gets no number.
 #[derive(Drop, Debug)]
 pub struct MemLink {
     alloc: Global,
@@ -84,7 +84,7 @@ impl MemLink {
     }
 }
 
-/// What the next take answers. Nothing goes on by it.
+/// What the next take answers. It changes nothing.
 fn next_take(calls: &Calls, script: &Script, into: &mut [u8]) -> Take
     requires room { 0 < length into.old }
     ensures value { result
@@ -144,7 +144,7 @@ impl Link for MemLink {
 
     ghost faults = { λ s. s.calls.failed };
 
-    /// Plays the next member of the script, or fails where it is so numbered.
+    /// Plays the next member of the script, or fails if its number is one of those that fail.
     fn take(&mut self, into: &mut [u8]) -> Take
         requires room { 0 < length into.old }
         ensures answer { result ≢ Take.NoMemory → result ≡ take_of self.old (length into.new) }
@@ -167,7 +167,7 @@ impl Link for MemLink {
         take
     }
 
-    /// Takes all of the bytes, or fails where it is so numbered.
+    /// Takes all of the bytes, or fails if its number is one of those that fail.
     fn give(&mut self, bytes: &[u8]) -> Give
         requires bytes { 0 < length bytes.now }
         ensures answer { result ≢ Give.NoMemory → result ≡ give_of self.old (length bytes.now) }

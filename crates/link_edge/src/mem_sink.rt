@@ -1,7 +1,7 @@
 //! A sink in memory.
 
 ghost use Rattle.std.specs.Prelude.{◌≡◌, []};
-ghost use Rattle.link_edge.specs.Causes.{HasCause};
+ghost use Rattle.js_base.specs.Causes.{HasCause};
 
 use crate::answers::Put;
 use crate::calls::Calls;
@@ -11,7 +11,7 @@ use std::alloc::Global;
 use std::marker::Model;
 
 /// A sink that keeps what is written. Puts are numbered from 0, and those with stated numbers fail after
-/// the first half of the piece. A put that finds no memory fails too, and writes nothing.
+/// the first half of the piece. A put for which memory runs out fails too, and writes nothing.
 #[derive(Drop, Debug)]
 pub struct MemSink {
     bytes: Vec<u8>,
@@ -29,7 +29,7 @@ impl Model for MemSink {
 impl MemSink {
     ghost use Rattle.link_edge.specs.MemSink.{sink_of};
 
-    /// An empty sink, which fails only for want of memory.
+    /// An empty sink, which fails only if memory runs out.
     pub fn new(alloc: Global) -> MemSink
         ensures fresh { result ≡ sink_of [] }
     {
@@ -69,7 +69,7 @@ impl Sink for MemSink {
 
     ghost faults = { λ s. s.calls.failed };
 
-    /// Writes the piece, or half of it where it is to fail, or nothing where memory runs out.
+    /// Writes the piece, or half of it if it is to fail, or nothing if memory runs out.
     fn put(&mut self, bytes: &[u8]) -> Put
         ensures put { IsPut self.old self.new result bytes.now }
         ensures cause { HasCause self.old.calls.failed self.new.calls.failed (result ≡ Put.Failed) }

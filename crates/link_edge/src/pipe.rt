@@ -9,8 +9,8 @@ use crate::link::Link;
 use std::io::{ErrorKind, Read, Write};
 use std::marker::Model;
 
-/// A connection over a reader and a writer. It tells nothing of contents. Contracts see how often it
-/// failed.
+/// A connection over a reader and a writer. Its contents are not known to
+/// contracts, which see how often it failed.
 #[derive(Drop)]
 pub struct PipeLink<R: Read + Drop, W: Write + Drop> {
     input: R,
@@ -38,7 +38,7 @@ impl<R: Read + Drop, W: Write + Drop> PipeLink<R, W> {
         }
     }
 
-    /// How often it failed. The count stands still at its type's end.
+    /// How often it failed. The count stops at the greatest number of its type.
     pub fn faults(&self) -> u64
         ensures value { result ≡ self.now }
     {
@@ -79,7 +79,7 @@ impl<R: Read + Drop, W: Write + Drop> Link for PipeLink<R, W> {
     }
 }
 
-/// A door with one connection, after which it is closed. It tells nothing of its link, and never fails.
+/// A door with one connection, after which it is closed. Nothing is known of its link, and it never fails.
 /// Contracts see whether the connection is still to come.
 #[derive(Drop)]
 pub struct PipeDoor<R: Read + Drop, W: Write + Drop> {

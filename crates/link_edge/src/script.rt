@@ -1,6 +1,6 @@
-//! What a link in memory says.
+//! The script that a link in memory plays.
 
-ghost use Rattle.std.specs.Prelude.{◌≡◌, ◌<◌, ◌≤◌, ◌++◌, length, min, take};
+ghost use Rattle.std.specs.Prelude.{◌≡◌, ◌<◌, ◌≤◌, ◌++◌, length, min, take, option_map};
 ghost use Rattle.link_edge.specs.Takes.{taken_bytes};
 
 use crate::answers::Take;
@@ -16,7 +16,7 @@ pub enum Said {
     Quiet,
 }
 
-/// A script that is played: what is still to be said, of a first piece only what was not taken yet.
+/// A script that is played: the members that are left, of the first piece only what was not taken yet.
 #[derive(Drop, Debug)]
 pub struct Script {
     said: List<Said>,
@@ -37,7 +37,7 @@ impl Model for Script {
 }
 
 /// Copies as much of the bytes as there is room for, and says how much that was.
-fn copy_front(bytes: &[u8], into: &mut [u8]) -> usize
+fn copy_prefix(bytes: &[u8], into: &mut [u8]) -> usize
     ensures count { result ≡ min (length bytes.now) (length into.old) }
     ensures bytes { take result into.new ≡ take result bytes.now }
 {
@@ -47,9 +47,9 @@ fn copy_front(bytes: &[u8], into: &mut [u8]) -> usize
 }
 
 impl Script {
-    ghost use Rattle.link_edge.specs.Script.{next_take, script_after, script_bytes};
+    ghost use Rattle.link_edge.specs.Script.{front_of, next_take, script_after, script_bytes};
 
-    /// All of it is still to be said.
+    /// The whole script is left.
     pub fn new(said: List<Said>) -> Script
         ensures fresh { result ≡ said }
     {
@@ -60,29 +60,37 @@ impl Script {
         }
     }
 
-    /// What the next take answers, whose bytes are put into the room. The script stays where it is.
+    /// The bytes of the first member that is left, or `None` at the script's end.
+    fn front(&self) -> Option<&[u8]>
+        ensures front { option_map (λ bytes. bytes.now) result ≡ front_of self.now }
+    {
+        if self.next >= self.said.len() {
+            return None;
+        }
+        match &self.said.as_slice()[self.next] {
+            Said::Quiet => Some(&[]),
+            Said::Piece(piece) => {
+                let (_, rest) = piece.as_slice().split_at(self.offset);
+                Some(rest)
+            }
+        }
+    }
+
+    /// What the next take answers. Its bytes are copied into the room, and the script stays as it is.
     pub fn say(&self, into: &mut [u8]) -> Take
         requires room { 0 < length into.old }
         ensures value { result ≡ next_take self.now (length into.new) }
         ensures bytes { script_bytes self.now
             ≡ taken_bytes result into.new ++ script_bytes (script_after self.now (length into.new)) }
     {
-        if self.next >= self.said.len() {
-            return Take::Ended;
-        }
-        match &self.said.as_slice()[self.next] {
-            Said::Quiet => Take::Quiet,
-            Said::Piece(piece) => {
-                let (_, rest) = piece.as_slice().split_at(self.offset);
-                if rest.is_empty() {
-                    return Take::Quiet;
-                }
-                Take::Got(copy_front(rest, into))
-            }
+        match self.front() {
+            None => Take::Ended,
+            Some(bytes) if bytes.is_empty() => Take::Quiet,
+            Some(bytes) => Take::Got(copy_prefix(bytes, into)),
         }
     }
 
-    /// Goes on by what a take with so much room was answered.
+    /// Advances by what a take with so much room was answered.
     pub fn advance(&mut self, room: usize)
         ensures rest { self.new ≡ script_after self.old room }
     {

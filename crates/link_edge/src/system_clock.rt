@@ -8,8 +8,8 @@ use std::marker::Model;
 use std::rt;
 use std::time::{SystemTime, UNIX_EPOCH};
 
-/// The clock of the system. It tells nothing of the moments to come. Where the system tells no time, or
-/// one that is no moment, that is counted and the last moment stays, which at first is the beginning of
+/// The clock of the system. Nothing is known of the moments to come. If the system gives no time, or one
+/// that is no moment, that is counted, and the last moment stays, which at first is the beginning of
 /// 1970.
 #[derive(Drop)]
 pub struct SystemClock<R: rt::Clock + Clone + Drop> {
@@ -38,7 +38,7 @@ impl<R: rt::Clock + Clone + Drop> SystemClock<R> {
         }
     }
 
-    /// How often the system failed to tell a moment. The count stands still at its type's end.
+    /// How often the system failed to give a moment. The count stops at the greatest number of its type.
     pub fn faults(&self) -> u64
         ensures value { result ≡ self.now.faults }
     {
@@ -46,7 +46,7 @@ impl<R: rt::Clock + Clone + Drop> SystemClock<R> {
     }
 }
 
-/// The moment that the system tells, if it tells one.
+/// The moment that the system gives, if it gives one.
 fn read<R: rt::Clock>(rt: &R) -> Option<Moment> {
     let time = SystemTime::now(rt).ok()?;
     let since = time.duration_since(UNIX_EPOCH).ok()?;

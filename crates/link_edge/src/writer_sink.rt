@@ -7,7 +7,7 @@ use crate::sink::Sink;
 use std::io::Write;
 use std::marker::Model;
 
-/// A sink over a writer. It tells nothing of what was written. Contracts see how often it failed.
+/// A sink over a writer. What was written is not known to contracts, which see how often it failed.
 #[derive(Drop)]
 pub struct WriterSink<W: Write + Drop> {
     output: W,
@@ -30,7 +30,7 @@ impl<W: Write + Drop> WriterSink<W> {
         WriterSink { output, faults: 0 }
     }
 
-    /// How often it failed. The count stands still at its type's end.
+    /// How often it failed. The count stops at the greatest number of its type.
     pub fn faults(&self) -> u64
         ensures value { result ≡ self.now }
     {

@@ -17,7 +17,7 @@ use Rattle.nats_frames.proofs.Opening.{line_made, line_read, tells_read}
 use Rattle.nats_frames.proofs.Readings.{payload_there}
 use Rattle.nats_frames.proofs.Founds.{chosen}
 
--- ---- behind a payload
+-- ---- after a payload
 
 -- the fault names the first wrong byte, counted from the place
 record WrongEnd (place : ℕ) (bytes : Bytes) (fault : Fault) : Type 0 where
@@ -58,7 +58,7 @@ wrong_broken made place behind (b ∷ c ∷ more) h =
           ∙ ap (λ t. cond t (Whole made more) (bad_end (place + 1))) (ne_eqb c 10 f.1) ∙ ap bad_end (omega (arith, f.2))
     ]
 
--- ---- behind a line that counts bytes
+-- ---- after a line that counts bytes
 
 -- the bytes are a payload of the line's size
 record Counts (said : Line) (size : ℕ) : Type 0 where
@@ -78,7 +78,7 @@ counts (UnsubLine sid max) size e = absurd (cc)
 counts PingLine size e = absurd (cc)
 counts PongLine size e = absurd (cc)
 
--- behind a line that counts none no fault is
+-- after a line that counts none there is no fault
 has_size : (said : Line) (len : ℕ) (rest : Bytes) (fault : Fault) → behind_line len (Ok said) rest ≡ Broken fault → (size : ℕ) × (counted said ≡ Some size)
 has_size (ConnectLine text) len rest fault e = absurd (cc)
 has_size (PubLine subject reply size) len rest fault e = (size, refl)
@@ -226,7 +226,7 @@ no_line_broken : (bytes : Bytes) → HasNoLine bytes → op_at bytes ≡ Broken 
 unfolding op_at
 no_line_broken bytes h = no_line_split bytes h (split_at 10 bytes) refl
 
--- the first line's words decide
+-- the first line's text decides
 first_read : (words bytes : Bytes) (h : HasWords words bytes) (o : Result Line Fault) → words_at words ≡ o → op_at bytes ≡ behind_line (length h.line) o h.more
 first_read words bytes h o is = ap op_at h.whole ∙ line_read words h.line h.more h.is_line ∙ ap (λ r. behind_line (length h.line) r h.more) is
 

@@ -8,8 +8,8 @@ use Rattle.std.proofs.lemmas.List.Sums.{prefix_len-le-length}
 use Rattle.std.proofs.lemmas.List.Folds.{length-prefix_len}
 use Rattle.std.proofs.lemmas.List.Elements.{All-nil, All-cons}
 use Rattle.std.proofs.lemmas.List.Splits.{slice_split-cons_yes, slice_split_none, slice_split_at}
-use Rattle.js_base.specs.Bytes.{Bytes, is_empty}
-use Rattle.nats_frames.specs.Grammar.{is_blank, is_solid}
+use Rattle.js_base.specs.Bytes.{Bytes, is_empty, is_blank}
+use Rattle.nats_frames.specs.Grammar.{is_solid}
 use Rattle.nats_frames.specs.Reading.{fields_of}
 
 -- nothing, or first an element that does not pass
@@ -17,7 +17,7 @@ abbrev pub Stops : (ℕ → Bool) → List ℕ → Type 0
 Stops p [] = Unit {0}
 Stops p (x ∷ _) = p x ≡ false
 
--- the longest front that passes
+-- the longest prefix that passes
 pub record IsCut (p : ℕ → Bool) (xs : List ℕ) (n : ℕ) : Type 0 where
   pub passes : list_all p (take n xs) ≡ true
   pub stops : Stops p (drop n xs)
@@ -107,7 +107,7 @@ field_before (f ∷ ield) (y ∷ ys) some h s =
 
 -- ---- the first field
 
--- what stands behind the blanks at the front
+-- what follows the blanks at the start
 abbrev pub behind : Bytes → Bytes
 behind text = drop (prefix_len is_blank text) text
 

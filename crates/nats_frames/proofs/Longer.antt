@@ -1,4 +1,4 @@
--- The parts of a line stand at the same places in longer bytes.
+-- The parts of a line are at the same places in longer bytes.
 use Rattle.std.proofs.Common.{ℕ, ◌≡◌, ◌-◌, ◌≤◌, ◌++◌, take, drop, refl, sym, ◌∙◌, ap, ap₂, subst, arith, Option, Some, None, IfSome, option_map, length-append, append_assoc}
 use Rattle.std.proofs.lemmas.List.{take-append-drop, take-append-le, drop-append-le, take-take, length-drop}
 use Rattle.js_base.specs.Bytes.{Bytes}
@@ -42,12 +42,12 @@ seen_longer words more (Unsub sid max) h = let i = part_longer words more sid h 
 seen_longer words more Ping h = (tt, refl)
 seen_longer words more Pong h = (tt, refl)
 
--- a line stands in bytes as it stands in its words
+-- a line is in bytes as it is in its text
 pub record StandsSo (bytes words : Bytes) (line : Lent) : Type 0 where
   pub stands : Stands bytes line
   pub same : seen bytes line ≡ seen words line
 
--- in the bytes of an operation whose line begins with these words
+-- in the bytes of an operation whose line begins with this text
 pub stands_within : (bytes words cr : Bytes) (end len : ℕ) (line : Lent) → take end bytes ≡ words ++ cr → end ≤ len → Stands words line → StandsSo (take len bytes) words line
 stands_within bytes words cr end len line apart le h =
     let all = take len bytes in

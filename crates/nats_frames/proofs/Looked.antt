@@ -1,4 +1,4 @@
--- What a look at the front of bytes tells.
+-- What a look at the first bytes shows.
 use Rattle.std.proofs.Common.{ℕ, ◌≡◌, ◌≢◌, ◌+◌, ◌-◌, ◌<◌, ◌≤◌, Bool, true, false, cond, [], ◌∷◌, ◌++◌, length, take, drop, get_or, refl, sym, ◌∙◌, ap, ap₂, subst, arith, inl, inr, Option, Some, None, length-append, append_assoc}
 use Rattle.std.specs.Prelude.{Result, Ok, Err}
 use Rattle.std.proofs.lemmas.Bool.{lt-ltb, le-ltb, cases_lt}
@@ -21,11 +21,11 @@ use Rattle.nats_frames.proofs.Paying.{too_big, paid_whole, paid_partial, paid_wr
 
 -- ---- the first line
 
--- what the line says, as it is read of its words
+-- what the line says, as it is read of its text
 abbrev pub said_at : Bytes → ℕ → Lent → Line
 said_at bytes end line = seen (without_cr (take end bytes)) line
 
--- a text is its words, and then a CR at most
+-- a line is its text, and then at most a CR
 cr_apart : (text : Bytes) → (cr : Bytes) × (text ≡ without_cr text ++ cr)
 cr_apart text = by (same (drop (length text - 1) text) (13 ∷ []))
   where
@@ -33,7 +33,7 @@ cr_apart text = by (same (drop (length text - 1) text) (13 ∷ []))
     by true = (drop (length text - 1) text, sym (take-append-drop (length text - 1) text))
     by false = ([], sym (append-nil text))
 
--- what is read behind the first LF, whatever follows
+-- what is read after the first LF, whatever follows
 line_reads : (bytes : Bytes) (end : ℕ) → end < length bytes → end < 4098 → split_at 10 bytes ≡ Some (take end bytes, drop (end + 1) bytes) → (more : Bytes) →
     op_at (bytes ++ more) ≡ behind_line (end + 1) (line_at (take end bytes)) (drop (end + 1) bytes ++ more)
 line_reads bytes end within short first more =
@@ -184,7 +184,7 @@ not_ended bytes short none =
           ap op_at (ap (λ m. bytes ++ m) empty ∙ append-nil bytes) ∙ waits,
     )
 
--- a byte that is no LF, behind bytes without one
+-- a byte that is no LF, after bytes without one
 pub goes_on : (bytes whole : Bytes) (byte n : ℕ) → n ≡ length bytes → whole ≡ bytes ++ byte ∷ [] → IsScanned bytes n → n + 1 < 4098 → byte ≢ 10 →
     Looks whole (looks.Partial (n + 1) (n + 2))
 goes_on bytes whole byte n n_is whole_is h short other = at (n + 2) (omega arith)

@@ -124,7 +124,7 @@ prefix_at p (x ∷ front) rest h s =
     let next : 1 + prefix_len p (front ++ rest) ≡ length (x ∷ front) = omega (arith, more) in
     rw both.0 next
 
--- words are read by their name
+-- a text is read by its name
 pub words_read : (v : Verb) (word rest : Bytes) → IsNamed (name_of v) word → Stops is_solid rest → words_at (word ++ rest) ≡ args_at (Some v) rest
 unfolding words_at
 words_read v word rest named stops =

@@ -3,8 +3,8 @@ use Rattle.std.proofs.Common.{ℕ, ◌≡◌, ◌+◌, ◌-◌, ◌<◌, ◌≤�
 use Rattle.std.specs.List.{prefix_len}
 use Rattle.std.proofs.lemmas.List.{drop-drop, length-drop}
 use Rattle.std.proofs.lemmas.List.Sums.{prefix_len-le-length}
-use Rattle.js_base.specs.Bytes.{Bytes}
-use Rattle.nats_frames.specs.Grammar.{is_blank, is_solid}
+use Rattle.js_base.specs.Bytes.{Bytes, is_blank}
+use Rattle.nats_frames.specs.Grammar.{is_solid}
 use Rattle.nats_frames.specs.Reading.{fields_of}
 use Rattle.nats_frames.specs.Fields.{span, IsNextField}
 use Rattle.nats_frames.proofs.FieldLemmas.{behind, no_field, first_field}

@@ -98,7 +98,7 @@ line_made text first short = by (same (drop (last_at text) text) (13 ∷ [])) re
           short = fits;
         }
 
--- ---- behind the first line
+-- ---- after the first line
 
 pub at_first : (text rest : Bytes) → Lacks 10 text → length text < 4098 → op_at (text ++ 10 ∷ rest) ≡ behind_line (length text + 1) (line_at text) rest
 unfolding op_at
@@ -106,7 +106,7 @@ at_first text rest lacks short =
     ap (at_line (length (text ++ 10 ∷ rest))) (split_again 10 text rest lacks)
     ∙ ap (λ b. cond b (behind_line (length text + 1) (line_at text) rest) (Broken LineTooLong)) (lt-ltb (length text) 4098 short)
 
--- the words of a line decide what is read, whatever follows
+-- the text of a line decides what is read, whatever follows
 pub line_read : (words line rest : Bytes) → IsLine words line → op_at (line ++ rest) ≡ behind_line (length line) (words_at words) rest
 line_read words line rest h =
     let c = line_cut words line h in

@@ -1,4 +1,4 @@
--- What is read behind a line that counts a payload.
+-- What is read after a line that counts a payload.
 use Rattle.std.proofs.Common.{ℕ, ◌≡◌, ◌+◌, ◌-◌, ◌<◌, ◌≤◌, [], ◌∷◌, ◌++◌, length, take, drop, refl, sym, ◌∙◌, ap, ap₂, arith, inl, inr, length-append}
 use Rattle.std.specs.Prelude.{Some, None, option_map, Ok}
 use Rattle.std.proofs.lemmas.Bool.{lt-ltb, le-ltb, cases_lt}
@@ -94,7 +94,7 @@ alone_read bytes (Unsub sid max) len rest e = refl
 alone_read bytes Ping len rest e = refl
 alone_read bytes Pong len rest e = refl
 
--- ---- where its parts stand
+-- ---- the places of its parts
 
 -- from a place on
 part_from : (bytes : Bytes) (start len : ℕ) → part bytes (span start len) ≡ take len (drop start bytes)

@@ -9,7 +9,7 @@ use Rattle.nats_frames.specs.Grammar.{Line, ConnectLine, PubLine, HPubLine, SubL
 use Rattle.nats_frames.specs.Reading.{Whole, ended, payload_at, parted, op_at}
 use Rattle.nats_frames.proofs.Opening.{tells_read}
 
--- a payload that is there, and what stands behind it
+-- a payload that is there, and what follows it
 pub payload_there : (place : ℕ) (made : Bytes → Op) (body tail : Bytes) → length body ≤ 1048576 →
     payload_at place (length body) made (body ++ tail) ≡ ended (made body) (place + length body) tail
 payload_there place made body tail small =

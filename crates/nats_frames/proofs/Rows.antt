@@ -1,4 +1,4 @@
--- Worked rows: the operations that stand at the front of bytes.
+-- Worked rows: the operations that bytes begin with.
 use Rattle.std.specs.Prelude.{◌≡◌, [], Some, None, codes, refl}
 use Rattle.nats_frames.specs.declared.op.Op.TheVariants.{Connect, Pub, HPub, Sub, Unsub, Ping, Pong}
 use Rattle.nats_frames.specs.Reading.{Whole, Partial, op_at, words_at, args_at}
@@ -89,7 +89,7 @@ no_headers : op_at (codes "HPUB a 0 1\nx\r\n") ≡ Whole (HPub (codes "a") None 
 unfolding op_at words_at args_at
 no_headers = refl
 
--- a text is all behind its blanks, those at its end too
+-- a text is all that follows its blanks, with those at its end
 any_text : op_at (codes "connect \t a b \r\r\n") ≡ Whole (Connect (codes "a b \r")) []
 unfolding op_at words_at args_at
 any_text = refl

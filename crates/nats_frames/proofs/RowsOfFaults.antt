@@ -1,4 +1,4 @@
--- Worked rows: the faults that stand at the front of bytes.
+-- Worked rows: the faults that bytes begin with.
 use Rattle.std.specs.Prelude.{◌≡◌, codes, refl}
 use Rattle.nats_frames.specs.declared.op.Op.TheVariants.{Ping}
 use Rattle.nats_frames.specs.declared.fault.Fault.TheVariants.{UnknownOp, BadArgs, PayloadTooBig, BadEnd}

@@ -1,4 +1,4 @@
--- The search of a line's end goes on where it stopped.
+-- The search for a line's end resumes at the place at which it stopped.
 use Rattle.std.proofs.Common.{ℕ, ◌≡◌, ◌==◌, ◌+◌, ◌-◌, ◌<◌, ◌≤◌, true, length, take, drop, get_or, sym, ◌∙◌, ap, arith, Some, None, add-one, inl, inr}
 use Rattle.std.proofs.lemmas.Bool.{eqb-true, eq-eqb, ne_eqb, cases_lt}
 use Rattle.std.proofs.lemmas.List.{get_or-drop, get_or-take, length-take-le, length-drop}
@@ -27,7 +27,7 @@ no_lf_to bytes scanned n m before fits none k lt at =
           none (k - scanned) (omega arith) (eq-eqb _ 10 (part_byte bytes scanned n (k - scanned) (omega arith) ∙ ap (λ i. get_or bytes i 0) place ∙ at))
     ]
 
--- where the search found one
+-- if the search found one
 pub end_scanned : (bytes : Bytes) (scanned n at : ℕ) → NoLf bytes scanned → n ≤ length bytes → IsFirstByte (is_byte 10) (drop scanned (take n bytes)) (Some at) → NoLf bytes (scanned + at)
 end_scanned bytes scanned n at before le h =
     no_lf_to bytes scanned n at before (omega (arith, h.0.high, part_len bytes scanned n le)) (λ k lt. h.0.before k (omega arith) lt)
@@ -39,7 +39,7 @@ end_split bytes scanned n at before le h =
     let within : scanned + at < n = omega (arith, h.0.high, part_len bytes scanned n le) in
     rw add-one (split_first 10 bytes (scanned + at) (omega arith) (eq-eqb _ 10 (sym (part_byte bytes scanned n at within) ∙ eqb-true _ 10 h.1)) (λ k lt. ne_eqb _ 10 (none k lt)))
 
--- where it found none
+-- if it found none
 pub none_scanned : (bytes : Bytes) (scanned n : ℕ) → NoLf bytes scanned → scanned ≤ n → n ≤ length bytes → IsFirstByte (is_byte 10) (drop scanned (take n bytes)) None → NoLf bytes n
 none_scanned bytes scanned n before low le h k lt =
     no_lf_to bytes scanned n (n - scanned) before (omega arith) (λ j lt'. h j (omega arith) (omega (arith, part_len bytes scanned n le))) k (omega arith)

@@ -5,8 +5,8 @@ use Rattle.std.proofs.lemmas.Bool.{and_parts, cases_lt}
 use Rattle.std.proofs.lemmas.List.{append-nil, take-append-drop, length-drop}
 use Rattle.std.proofs.lemmas.List.Sums.{prefix_len-le-length}
 use Rattle.std.proofs.lemmas.List.Folds.{length-prefix_len}
-use Rattle.js_base.specs.Bytes.{Bytes}
-use Rattle.nats_frames.specs.Grammar.{is_blank, is_solid, IsGap, IsField, SpellsFields}
+use Rattle.js_base.specs.Bytes.{Bytes, is_blank}
+use Rattle.nats_frames.specs.Grammar.{is_solid, IsGap, IsField, SpellsFields}
 use Rattle.nats_frames.specs.Reading.{fields_of}
 use Rattle.nats_frames.proofs.FieldLemmas.{Stops, cut, blank_is, blanks_before, blanks_alone, field_before, behind, no_field, first_field, neither}
 
@@ -43,7 +43,7 @@ no_more bytes none =
     in
     ap (list_all is_blank) (sym all) ∙ c.passes
 
--- what begins with a blank has a gap in front
+-- what begins with a blank begins with a gap
 pub some_blank : (bytes : Bytes) → Stops is_solid bytes → 0 < length bytes → 0 < prefix_len is_blank bytes
 some_blank [] h some = absurd (omega arith)
 some_blank (b ∷ bytes) h some = rw (blank_is b h) (omega arith)

@@ -12,7 +12,7 @@ split_nowhere byte [] h = refl
 split_nowhere byte (b ∷ bs) h =
     rw (h 0 (omega arith), split_nowhere byte bs (λ k lt. h (suc k) (omega arith))) refl
 
--- the first one stands at k
+-- the first one is at k
 pub split_first : (byte : ℕ) (bs : List ℕ) (k : ℕ) → k < length bs → (get_or bs k 0 == byte) ≡ true →
     ((j : ℕ) → j < k → (get_or bs j 0 == byte) ≡ false) → split_at byte bs ≡ Some (take k bs, drop (suc k) bs)
 split_first byte [] k lt is h = absurd (omega arith)
@@ -30,7 +30,7 @@ split_none byte bs h = split_nowhere byte bs (λ k lt. fails _ (h k (omega arith
 pub split_some : (byte k : ℕ) (bs : List ℕ) → IsFirstByte (is_byte byte) bs (Some k) → split_at byte bs ≡ Some (take k bs, drop (k + 1) bs)
 split_some byte k bs h = rw add-one (split_first byte bs k h.0.high h.1 (λ j lt. fails _ (h.0.before j (omega arith) lt)))
 
--- what a split says: no such byte is in the front
+-- what a split says: no such byte is in the first part
 pub record Split (byte : ℕ) (bytes front rest : List ℕ) : Type 0 where
   pub whole : bytes ≡ front ++ byte ∷ rest
   pub first : Lacks byte front

@@ -1,4 +1,4 @@
--- An operation is taken off the front, and its bytes are no longer held.
+-- The first operation is taken off, and its bytes are no longer held.
 use Rattle.std.proofs.Common.{ℕ, ◌≡◌, ◌+◌, ◌++◌, length, take, drop, sym, subst, ◌∙◌, ap, arith, length-append}
 use Rattle.std.proofs.lemmas.List.{append_cancel_right, take-append-drop}
 use Rattle.js_base.specs.Bytes.{Bytes}

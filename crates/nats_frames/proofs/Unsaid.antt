@@ -50,7 +50,7 @@ or_else : (b : Bool) (v : Verb) (o : Option Verb) (t : Bool) → is_some o ≡ t
 or_else true v o t e = refl
 or_else false v o t e = e
 
--- a word is a name where it has an operation
+-- a word is a name if it has an operation
 named : (word : Bytes) → is_some (verb_of word) ≡ is_name word
 named word =
     or_else (same Connect) Connect _ _ (or_else (same Pub) Pub _ _ (or_else (same HPub) HPub _ _ (or_else (same Sub) Sub _ _
@@ -64,7 +64,7 @@ first_named word words h = ap (λ w. is_some (verb_of w)) (word_again word words
 
 -- ---- a name and bad fields
 
--- where it fails, it is by its fields
+-- if it fails, it is by its fields
 abbrev pub FailsByArgs : Result Line Fault → Type 0
 FailsByArgs answer = (fault : Fault) → answer ≡ Err fault → fault ≡ BadArgs
 
@@ -135,7 +135,7 @@ verb_args Unsub args = unsub_args (fields_of args)
 verb_args Ping args = bare_args PingLine (fields_of args)
 verb_args Pong args = bare_args PongLine (fields_of args)
 
--- ---- the fault of words
+-- ---- the fault of a text
 
 no_operation : (o : Option Verb) (args : Bytes) → is_some o ≡ false → args_at o args ≡ Err UnknownOp
 unfolding args_at
@@ -156,7 +156,7 @@ unfolding words_at
 words_known word words h e =
     an_operation (verb_of (first_word words)) (drop (prefix_len is_solid words) words) (first_named word words h ∙ e)
 
--- a name behind which nothing is said
+-- a name after which nothing is said
 pub words_bad : (word words : Bytes) → IsFirstWord word words → is_name word ≡ true → ((said : Line) → Says said words → ⊥) → words_at words ≡ Err BadArgs
 words_bad word words h e none = by (words_at words) refl
   where

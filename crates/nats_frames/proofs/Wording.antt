@@ -1,18 +1,18 @@
--- What is read of the words of a line is what they say, both ways.
+-- What is read of the text of a line is what it says, both ways.
 use Rattle.std.proofs.Common.{ℕ, ◌≡◌, ◌≤◌, Bool, true, false, ◌&&◌, cond, nat_le, List, [], ◌∷◌, ◌++◌, length, take, drop, Option, Some, None, refl, sym, ◌∙◌, ap, subst, arith}
 use Rattle.std.specs.Prelude.{codes, ◌<◌, Result, Ok, Err, IfSome}
 use Rattle.std.specs.List.{prefix_len}
 use Rattle.std.proofs.lemmas.Bool.{and_parts, le-leb, leb-true}
 use Rattle.std.proofs.lemmas.List.{take-append-drop, drop_at, length-append}
 use Rattle.std.proofs.lemmas.List.Folds.{length-prefix_len}
-use Rattle.js_base.specs.Bytes.{Bytes}
+use Rattle.js_base.specs.Bytes.{Bytes, is_blank}
 use Rattle.js_base.specs.Decimal.{number_of}
 use Rattle.js_base.specs.declared.decimal.DecFault.{DecFault}
 use Rattle.nats_frames.specs.declared.fault.Fault.{Fault}
 use Rattle.nats_frames.specs.declared.fault.Fault.TheVariants.{BadArgs}
 use Rattle.nats_frames.specs.declared.verb.Verb.{Verb}
 use Rattle.nats_frames.specs.declared.verb.Verb.TheVariants.{Connect, Pub, HPub, Sub, Unsub, Ping, Pong}
-use Rattle.nats_frames.specs.Grammar.{is_blank, is_solid, IsText, IsCall, IsNumber, listed, IsConnect, Says, Line, ConnectLine, PubLine, HPubLine, SubLine, UnsubLine, PingLine, PongLine}
+use Rattle.nats_frames.specs.Grammar.{is_solid, IsText, IsCall, IsNumber, listed, IsConnect, Says, Line, ConnectLine, PubLine, HPubLine, SubLine, UnsubLine, PingLine, PongLine}
 use Rattle.nats_frames.specs.Reading.{fields_of, behind_blanks, connect_of, numbered, sized, headed, both_sized, limited, words_at, args_at, verb_of, pub_of, hpub_of, sub_of, unsub_of, bare_of}
 use Rattle.nats_frames.proofs.FieldLemmas.{Stops, cut, solid_is}
 use Rattle.nats_frames.proofs.Spelling.{blank_front, some_blank, fields_apart, fields_read, fields_spelled}
@@ -20,7 +20,7 @@ use Rattle.nats_frames.proofs.Naming.{name_of, verb_named, prefix_at, words_read
 
 -- ---- a call
 
--- the words are read by these fields
+-- the text is read by these fields
 pub record Called (v : Verb) (fields : List Bytes) (words : Bytes) : Type 0 where
   pub rest : Bytes
   pub reads : words_at words ≡ args_at (Some v) rest
@@ -34,7 +34,7 @@ call_read v fields words h =
       are = fields_read fields h.rest h.spelled;
     }
 
--- the words are so much of a name, and then the rest
+-- the text is so much of a name, and then the rest
 pub record Begins (v : Verb) (words rest : Bytes) : Type 0 where
   pub word : Bytes
   pub named : verb_of word ≡ Some v
@@ -62,7 +62,7 @@ connect_read text words h =
     ∙ ap connect_of (ap (λ n. drop n (h.gap ++ text)) (prefix_at is_blank h.gap text h.apart.blank (starts text h.has_text)) ∙ drop_at h.gap text (length h.gap) refl)
     ∙ text_read text h.has_text
 
--- ---- what words say is read
+-- ---- what a text says is read
 
 pub_fields : (subject : Bytes) (reply : Option Bytes) (digits : Bytes) (size : ℕ) → number_of digits ≡ Ok size →
     pub_of (subject ∷ listed reply ++ digits ∷ []) ≡ Ok (PubLine subject reply size)
@@ -185,7 +185,7 @@ bare_found : (line : Line) (fields : List Bytes) (words : Bytes) (said : Line) �
 bare_found line [] words said says e = it_says words line said e (says refl)
 bare_found line (a ∷ more) words said says e = absurd (cc)
 
--- the blanks behind a name are a gap where a text stands behind them
+-- the blanks after a name are a gap if a text follows them
 connect_found : (words rest text : Bytes) (said : Line) → Begins Connect words rest → behind_blanks rest ≡ text → connect_of text ≡ Ok said → Says said words
 connect_found words rest [] said h is e = absurd (cc)
 connect_found words rest (b ∷ text) said h is e =

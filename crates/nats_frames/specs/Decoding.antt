@@ -11,7 +11,7 @@ use Rattle.nats_frames.specs.Grammar.{Spells}
 use Rattle.nats_frames.specs.Reading.{Whole, Partial, Broken, op_at}
 use Rattle.nats_frames.specs.Shapes.{op_in, Fits}
 
--- what a decoder holds of its input: how many bytes stood before, and the bytes that came since
+-- what a decoder holds of its input: how many bytes came before, and the bytes that came since
 pub record Held : Type 0 where
   pub before : ℕ
   pub bytes : Bytes
@@ -26,13 +26,13 @@ pub record IsFront (op : Op) (bytes rest : Bytes) : Type 0 where
   pub spelled : Spells op front
   pub whole : bytes ≡ front ++ rest
 
--- the bytes begin with a fault that is told so, where so many bytes stood before
+-- the bytes begin with a fault that is reported so, if so many bytes came before
 pub record IsRefused (told_as : FrameFault) (before : ℕ) (bytes : Bytes) : Type 0 where
   pub fault : Fault
   pub broken : op_at bytes ≡ Broken fault
   pub told_is : told_as ≡ told before fault
 
--- memory was short, or else the bytes begin with a fault that is told so
+-- memory ran out, or else the bytes begin with a fault that is reported so
 abbrev pub Refuses : FrameFault → ℕ → Bytes → Type 0
 Refuses NoMemory before bytes = Unit {0}
 Refuses UnknownOp before bytes = IsRefused UnknownOp before bytes
@@ -47,7 +47,7 @@ Gives (Ok (Some op)) old new = (op_at old.bytes ≡ Whole op new.bytes) × IsFro
 Gives (Ok None) old new = (op_at old.bytes ≡ Partial) × (new ≡ old)
 Gives (Err fault) old new = Refuses fault old.before old.bytes × (new ≡ old)
 
--- the parts of an operation stand in its bytes
+-- the parts of an operation in its bytes
 abbrev pub IsReady : Ready → Type 0
 IsReady ready = Fits ready.bytes ready.shape × Spells (op_in ready.bytes ready.shape) ready.bytes
 
@@ -56,7 +56,7 @@ abbrev pub kept : Option Ready → Bytes
 kept None = []
 kept (Some ready) = ready.bytes
 
--- what was taken off the front, of an input of which so many bytes stood before
+-- what was taken off the front, of an input of which so many bytes came before
 abbrev pub Takes : Result (Option Ready) FrameFault → ℕ → Bytes → Bytes → Type 0
 Takes (Ok (Some ready)) before old new = IsReady ready × (old ≡ ready.bytes ++ new)
 Takes (Ok None) before old new = (op_at old ≡ Partial) × (new ≡ old)

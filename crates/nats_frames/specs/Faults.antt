@@ -1,11 +1,11 @@
--- Faults, as they are counted from the front of bytes and from the start of the input.
+-- Faults, as they are counted from the first of the bytes and from the start of the input.
 use Rattle.std.specs.Prelude.{ℕ, ◌+◌}
 use Rattle.nats_frames.specs.declared.fault.Fault.{Fault}
 use Rattle.nats_frames.specs.declared.fault.Fault.TheVariants.{UnknownOp, LineTooLong, BadArgs, PayloadTooBig, BadEnd}
 use Rattle.nats_frames.specs.declared.op.FrameFault.{FrameFault}
 use Rattle.nats_frames.specs.declared.op.FrameFault.TheVariants as faults
 
--- the fault of an input of which so many bytes stood before the front
+-- the fault of an input of which so many bytes came before
 abbrev pub told : ℕ → Fault → FrameFault
 told before UnknownOp = faults.UnknownOp
 told before LineTooLong = faults.LineTooLong

@@ -1,9 +1,9 @@
--- How operations are spelled, by the NATS client protocol: a line of a name and fields, and behind the line of a publish its payload and
+-- How operations are spelled, by the NATS client protocol: a line of a name and fields, and after the line of a publish its payload and
 -- CR LF.
-use Rattle.std.specs.Prelude.{ℕ, ◌≡◌, ◌≢◌, ◌+◌, ◌<◌, ◌≤◌, Bool, ◌==◌, ◌||◌, not, IsTrue, ◌⊎◌, List, [], ◌∷◌, ◌++◌, length, slice_index, codes, Option, None, Some, IfSome, Ok}
+use Rattle.std.specs.Prelude.{ℕ, ◌≡◌, ◌≢◌, ◌+◌, ◌<◌, ◌≤◌, Bool, not, IsTrue, ◌⊎◌, List, [], ◌∷◌, ◌++◌, length, slice_index, codes, Option, None, Some, IfSome, Ok}
 use Rattle.std.specs.List.{list_all, list_any}
 use Rattle.std.specs.Str.{str_eq_ignore_ascii_case}
-use Rattle.js_base.specs.Bytes.{Bytes, crlf}
+use Rattle.js_base.specs.Bytes.{Bytes, crlf, is_blank}
 use Rattle.js_base.specs.Decimal.{number_of}
 use Rattle.nats_frames.specs.declared.op.Op.{Op}
 use Rattle.nats_frames.specs.declared.op.Op.TheVariants.{Connect, Pub, HPub, Sub, Unsub, Ping, Pong}
@@ -21,11 +21,11 @@ Lacks byte (b ∷ more) = (b ≢ byte) × Lacks byte more
 abbrev pub EndsWithoutCr : Bytes → Type 0
 EndsWithoutCr words = (front : Bytes) → words ≡ front ++ 13 ∷ [] → ⊥
 
--- CR LF, or an LF before which no CR stands
+-- CR LF, or an LF with no CR before it
 abbrev pub IsLineEnd : Bytes → Bytes → Type 0
 IsLineEnd words end = (end ≡ crlf) ⊎ ((end ≡ 10 ∷ []) × EndsWithoutCr words)
 
--- a line of these words, of at most 4,098 bytes
+-- a line of this text, of at most 4,098 bytes
 pub record IsLine (words line : Bytes) : Type 0 where
   pub end : Bytes
   pub ends : IsLineEnd words end
@@ -33,11 +33,7 @@ pub record IsLine (words line : Bytes) : Type 0 where
   pub single : Lacks 10 words
   pub short : length line ≤ 4098
 
--- ---- its words
-
--- a space or a tab
-abbrev pub is_blank : ℕ → Bool
-is_blank byte = byte == 32 || byte == 9
+-- ---- its text
 
 abbrev pub is_solid : ℕ → Bool
 is_solid byte = not (is_blank byte)
@@ -52,7 +48,7 @@ pub record IsField (field : Bytes) : Type 0 where
   pub some : 0 < length field
   pub solid : IsTrue (list_all is_solid field)
 
--- the fields, each behind a gap, and maybe blanks at the end
+-- the fields, each after a gap, and perhaps blanks at the end
 abbrev pub SpellsFields : List Bytes → Bytes → Type 0
 SpellsFields [] bytes = IsTrue (list_all is_blank bytes)
 SpellsFields (field ∷ more) bytes = (gap rest : Bytes) × IsGap gap × IsField field × SpellsFields more rest × (bytes ≡ gap ++ (field ++ rest))
@@ -61,7 +57,7 @@ SpellsFields (field ∷ more) bytes = (gap rest : Bytes) × IsGap gap × IsField
 abbrev pub IsNamed : Bytes → Bytes → Type 0
 IsNamed name word = IsTrue (str_eq_ignore_ascii_case word name)
 
--- the name, and fields behind it
+-- the name, and fields after it
 pub record IsCall (name : Bytes) (fields : List Bytes) (words : Bytes) : Type 0 where
   pub word : Bytes
   pub rest : Bytes
@@ -90,7 +86,7 @@ abbrev pub IsText : Bytes → Type 0
 IsText [] = ⊥
 IsText (b ∷ _) = IsTrue (is_solid b)
 
--- `CONNECT text`, where the text is all that stands behind the blanks
+-- `CONNECT text`, in which the text is all that follows the blanks
 pub record IsConnect (text words : Bytes) : Type 0 where
   pub word : Bytes
   pub gap : Bytes
@@ -105,7 +101,7 @@ pub record IsPub (subject : Bytes) (reply : Option Bytes) (size : ℕ) (words : 
   pub spelled : IsCall (codes "PUB") (subject ∷ listed reply ++ digits ∷ []) words
   pub number : number_of digits ≡ Ok size
 
--- `HPUB subject [reply] header-size size`, where the second size counts headers and payload
+-- `HPUB subject [reply] header-size size`, in which the second size counts headers and payload
 pub record IsHPub (subject : Bytes) (reply : Option Bytes) (header size : ℕ) (words : Bytes) : Type 0 where
   pub header_digits : Bytes
   pub digits : Bytes
@@ -138,7 +134,7 @@ pub record IsUnsub (sid : Bytes) (max : Option ℕ) (words : Bytes) : Type 0 whe
   pub number : IsNumber digits max
   pub short_sid : IsSid sid
 
--- the words say it
+-- the text says it
 abbrev pub Says : Line → Bytes → Type 0
 Says (ConnectLine text) words = IsConnect text words
 Says (PubLine subject reply size) words = IsPub subject reply size words
@@ -148,7 +144,7 @@ Says (UnsubLine sid max) words = IsUnsub sid max words
 Says PingLine words = IsCall (codes "PING") [] words
 Says PongLine words = IsCall (codes "PONG") [] words
 
--- how many bytes are counted that stand behind the line
+-- how many bytes after the line it counts
 abbrev pub counted : Line → Option ℕ
 counted (ConnectLine _) = None
 counted (PubLine _ _ size) = Some size
@@ -204,7 +200,7 @@ pub record HasNoLine (bytes : Bytes) : Type 0 where
   pub long : 4098 ≤ length bytes
   pub none : (k : ℕ) → k < 4098 → slice_index bytes k ≢ 10
 
--- the words of the first line
+-- the text of the first line
 pub record HasWords (words bytes : Bytes) : Type 0 where
   pub line : Bytes
   pub more : Bytes
@@ -216,7 +212,7 @@ abbrev pub BeginsBlank : Bytes → Type 0
 BeginsBlank [] = Unit {0}
 BeginsBlank (b ∷ _) = IsTrue (is_blank b)
 
--- what stands before the first blank: nothing where a blank comes first
+-- what comes before the first blank: nothing if a blank comes first
 pub record IsFirstWord (word words : Bytes) : Type 0 where
   pub rest : Bytes
   pub solid : IsTrue (list_all is_solid word)
@@ -261,7 +257,7 @@ IsWrongAt [] place = ⊥
 IsWrongAt (b ∷ []) place = (b ≢ 13) × (place ≡ 0)
 IsWrongAt (b ∷ c ∷ _) place = ((b ≢ 13) × (place ≡ 0)) ⊎ ((b ≡ 13) × (c ≢ 10) × (place ≡ 1))
 
--- behind the bytes that the first line counts there is no CR LF: the place is that of the first wrong byte
+-- after the bytes that the first line counts there is no CR LF: the place is that of the first wrong byte
 pub record HasBadEnd (place : ℕ) (bytes : Bytes) : Type 0 where
   pub said : Line
   pub line : Bytes
@@ -275,7 +271,7 @@ pub record HasBadEnd (place : ℕ) (bytes : Bytes) : Type 0 where
   pub wrong : IsWrongAt tail behind
   pub place_is : place ≡ length line + length body + behind
 
--- the fault begins the bytes. Each excludes those before it: a line, its name, its fields, its size, and then its payload's end.
+-- the bytes begin with the fault. Each excludes those before it: a line, its name, its fields, its size, and then its payload's end.
 abbrev pub IsFaulty : Fault → Bytes → Type 0
 IsFaulty UnknownOp bytes = HasNoName bytes
 IsFaulty LineTooLong bytes = HasNoLine bytes

@@ -10,7 +10,7 @@ use Rattle.nats_frames.specs.Reading.{Whole, Partial, Broken, op_at}
 abbrev pub LawRead : Type 0
 LawRead = (bytes : Bytes) (op : Op) (rest : Bytes) → op_at bytes ≡ Whole op rest → (front : Bytes) × Spells op front × (bytes ≡ front ++ rest)
 
--- what is spelled so is read, whatever follows
+-- what is spelled so is read so, whatever follows
 abbrev pub LawSpelled : Type 0
 LawSpelled = (op : Op) (front rest : Bytes) → Spells op front → op_at (front ++ rest) ≡ Whole op rest
 
@@ -27,11 +27,11 @@ LawOne = (op other : Op) (front rest front_of rest_of : Bytes) → Spells op fro
 abbrev pub LawOneFault : Type 0
 LawOneFault = (bytes : Bytes) (fault other : Fault) → IsFaulty fault bytes → IsFaulty other bytes → fault ≡ other
 
--- where a fault is, no operation begins
+-- bytes that begin with a fault begin with no operation
 abbrev pub LawApart : Type 0
 LawApart = (bytes : Bytes) (fault : Fault) → IsFaulty fault bytes → BeginsNone bytes
 
--- what stands at the front stays there, whatever follows
+-- what bytes begin with stays, whatever follows
 abbrev pub LawWhole : Type 0
 LawWhole = (bytes : Bytes) (op : Op) (rest more : Bytes) → op_at bytes ≡ Whole op rest → op_at (bytes ++ more) ≡ Whole op (rest ++ more)
 

@@ -22,7 +22,7 @@ pub record IsScanned (bytes : Bytes) (scanned : ℕ) : Type 0 where
 abbrev pub IsQuiet : (Bytes → Reading) → Bytes → ℕ → Type 0
 IsQuiet reading bytes quiet = (more : Bytes) → length (bytes ++ more) < quiet → reading (bytes ++ more) ≡ Partial
 
--- what a look at the front tells
+-- what a look at the first bytes shows
 abbrev pub Looks : Bytes → Look → Type 0
 Looks bytes (looks.Whole shape len) =
     (len ≤ length bytes) × Fits (take len bytes) shape × (op_at bytes ≡ Whole (op_in (take len bytes) shape) (drop len bytes))
@@ -38,7 +38,7 @@ pub record IsLineTo (bytes : Bytes) (end : ℕ) (line : Lent) : Type 0 where
   pub stands : Stands (without_cr (take end bytes)) line
   pub says : line_at (take end bytes) ≡ Ok (seen (without_cr (take end bytes)) line)
 
--- what a look behind a line tells that counts a payload of this size: the place is counted from the end of the line
+-- what a look after a line shows that counts a payload of this size: the place is counted from the end of the line
 abbrev pub Ends : ℕ → Bytes → Ending → Type 0
 Ends size bytes endings.Whole = (size + 2 ≤ length bytes) × (take 2 (drop size bytes) ≡ 13 ∷ 10 ∷ [])
 Ends size bytes (endings.Partial quiet) = (length bytes < quiet) × (quiet ≤ size + 2) × (size + 1 < quiet → drop size bytes ≡ 13 ∷ [])

@@ -23,14 +23,14 @@ given [] = []
 given (Fed piece ∷ calls) = given calls
 given (Gave op ∷ calls) = op ∷ given calls
 
--- the calls lead from the bytes that are held to the last ones, as the clauses of `feed` and `next` have it
+-- the calls lead from the bytes that are held to the last ones, as the clauses of `feed` and `next` say
 abbrev pub Leads : Bytes → List Call → Bytes → Type 0
 Leads held [] last = held ≡ last
 Leads held (Fed piece ∷ calls) last = Leads (held ++ piece) calls last
 Leads held (Gave op ∷ calls) last = (rest : Bytes) × (op_at held ≡ Whole op rest) × Leads rest calls last
 
 -- However an input is cut into pieces and whenever operations are asked for: those given are the first ones of the input, they are all of
--- them where no more is given, and what is refused then has a fault.
+-- them if no more is given, and what is refused then has a fault.
 pub record IsFramed (calls : List Call) (last : Bytes) : Type 0 where
   pub first : Fronts (input calls) (given calls) last
   pub all : op_at last ≡ Partial → Ops (input calls) (given calls) last

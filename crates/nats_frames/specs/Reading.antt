@@ -1,8 +1,8 @@
--- What is read at the front of bytes: a function, which decides for all bytes what the grammar says by relations.
+-- What is read at the start of bytes: a function, which decides for all bytes what the grammar says by relations.
 use Rattle.std.specs.Prelude.{ℕ, nat_lt, nat_le, ◌-◌, ◌+◌, Bool, not, ◌==◌, ◌&&◌, if◌then◌else◌, List, [], ◌∷◌, length, take, drop, filter, codes, Option, None, Some, option_map, Result, Ok, Err}
 use Rattle.std.specs.List.{prefix_len, slice_split}
 use Rattle.std.specs.Str.{str_eq_ignore_ascii_case}
-use Rattle.js_base.specs.Bytes.{Bytes, same, is_empty}
+use Rattle.js_base.specs.Bytes.{Bytes, same, is_empty, is_blank}
 use Rattle.js_base.specs.Decimal.{number_of}
 use Rattle.js_base.specs.declared.decimal.DecFault.{DecFault}
 use Rattle.nats_frames.specs.declared.op.Op.{Op}
@@ -11,7 +11,7 @@ use Rattle.nats_frames.specs.declared.fault.Fault.{Fault}
 use Rattle.nats_frames.specs.declared.fault.Fault.TheVariants.{UnknownOp, LineTooLong, BadArgs, PayloadTooBig, BadEnd}
 use Rattle.nats_frames.specs.declared.verb.Verb.{Verb}
 use Rattle.nats_frames.specs.declared.verb.Verb.TheVariants.{Connect, Pub, HPub, Sub, Unsub, Ping, Pong}
-use Rattle.nats_frames.specs.Grammar.{is_blank, is_solid, Line, ConnectLine, PubLine, HPubLine, SubLine, UnsubLine, PingLine, PongLine}
+use Rattle.nats_frames.specs.Grammar.{is_solid, Line, ConnectLine, PubLine, HPubLine, SubLine, UnsubLine, PingLine, PongLine}
 
 -- what stands before and after the first such byte
 abbrev pub split_at : ℕ → Bytes → Option (Bytes × Bytes)
@@ -22,7 +22,7 @@ split_at byte (b ∷ more) = if b == byte then Some ([], more) else option_map (
 abbrev pub without_cr : Bytes → Bytes
 without_cr line = let words = length line - 1 in if same (drop words line) (13 ∷ []) then take words line else line
 
--- ---- the words of a line
+-- ---- the text of a line
 
 -- the operation of a name, in any case
 abbrev pub verb_of : Bytes → Option Verb
@@ -36,7 +36,7 @@ verb_of word =
     else if str_eq_ignore_ascii_case word (codes "PONG") then Some Pong
     else None
 
--- what stands between the blanks
+-- the fields between the blanks
 abbrev pub fields_of : Bytes → List Bytes
 fields_of text = filter (λ field. not (is_empty field)) (slice_split is_blank text)
 
@@ -50,7 +50,7 @@ abbrev pub connect_of : Bytes → Result Line Fault
 connect_of [] = Err BadArgs
 connect_of (b ∷ text) = Ok (ConnectLine (b ∷ text))
 
--- the line of a number, where one is spelled
+-- the line of a number, if one is spelled
 abbrev pub numbered : (ℕ → Result Line Fault) → Result ℕ DecFault → Result Line Fault
 numbered line (Ok n) = line n
 numbered line (Err _) = Err BadArgs
@@ -92,11 +92,11 @@ abbrev pub bare_of : Line → List Bytes → Result Line Fault
 bare_of line [] = Ok line
 bare_of line (_ ∷ _) = Err BadArgs
 
--- what stands behind the blanks at the front
+-- what follows the blanks at the start
 abbrev pub behind_blanks : Bytes → Bytes
 behind_blanks text = drop (prefix_len is_blank text) text
 
--- what a line says of this name, with this behind it
+-- what a line of this name says, with this after it
 unfoldable pub args_at : Option Verb → Bytes → Result Line Fault
 args_at None args = Err UnknownOp
 args_at (Some Connect) args = connect_of (behind_blanks args)
@@ -114,15 +114,15 @@ words_at words = let len = prefix_len is_solid words in args_at (verb_of (take l
 abbrev pub line_at : Bytes → Result Line Fault
 line_at line = words_at (without_cr line)
 
--- ---- what stands at the front
+-- ---- what bytes begin with
 
--- a whole operation and what follows it; less than that; or a fault. The place in a fault is counted from the front.
+-- a whole operation and what follows it; less than that; or a fault. The place in a fault is counted from the first byte.
 pub data Reading : Type 0 where
   Whole : Op → Bytes → Reading
   Partial : Reading
   Broken : Fault → Reading
 
--- what stands behind a payload that ends at the place
+-- what follows a payload that ends at the place
 abbrev pub ended : Op → ℕ → Bytes → Reading
 ended made place [] = Partial
 ended made place (b ∷ []) = if b == 13 then Partial else Broken (BadEnd place)
@@ -156,6 +156,6 @@ abbrev pub at_line : ℕ → Option (Bytes × Bytes) → Reading
 at_line len None = if nat_lt len 4098 then Partial else Broken LineTooLong
 at_line len (Some s) = if nat_lt (length s.0) 4098 then behind_line (length s.0 + 1) (line_at s.0) s.1 else Broken LineTooLong
 
--- what stands at the front
+-- what bytes begin with
 unfoldable pub op_at : Bytes → Reading
 op_at bytes = at_line (length bytes) (split_at 10 bytes)

@@ -1,4 +1,4 @@
--- Where the parts of an operation stand in its bytes.
+-- The places of an operation's parts in its bytes.
 use Rattle.std.specs.Prelude.{ℕ, ◌≡◌, ◌+◌, ◌-◌, ◌≤◌, length, Option, None, Some, option_map, IfSome, Result, Ok, Err}
 use Rattle.js_base.specs.Bytes.{Bytes}
 use Rattle.nats_frames.specs.declared.fault.Fault.{Fault}
@@ -11,7 +11,7 @@ use Rattle.nats_frames.specs.Faults.{reach}
 use Rattle.nats_frames.specs.Fields.{span, part, IsWithin}
 use Rattle.nats_frames.specs.Grammar.{Line, ConnectLine, PubLine, HPubLine, SubLine, UnsubLine, PingLine, PongLine, counted}
 
--- what a line says whose fields stand there
+-- what a line says whose fields are there
 abbrev pub seen : Bytes → Lent → Line
 seen words (Connect text) = ConnectLine (part words text)
 seen words (Pub subject reply size) = PubLine (part words subject) (option_map (part words) reply) size
@@ -21,7 +21,7 @@ seen words (Unsub sid max) = UnsubLine (part words sid) max
 seen words Ping = PingLine
 seen words Pong = PongLine
 
--- the fields stand within the words, and the headers are not more than all
+-- the fields are within the text, and the headers are not more than all
 abbrev pub Stands : Bytes → Lent → Type 0
 Stands words (Connect text) = IsWithin words text
 Stands words (Pub subject reply size) = IsWithin words subject × IfSome reply (IsWithin words)
@@ -36,7 +36,7 @@ abbrev pub Sees : Bytes → Result Lent Fault → Result Line Fault → Type 0
 Sees words (Ok line) answer = Stands words line × (answer ≡ Ok (seen words line))
 Sees words (Err fault) answer = (answer ≡ Err fault) × (reach fault ≡ 0)
 
--- the operation of a line of so many bytes, whose parts stand there
+-- the operation of a line of so many bytes, whose parts are there
 abbrev pub parts_in : Bytes → Lent → ℕ → Op
 parts_in bytes (Connect text) len = op.Connect (part bytes text)
 parts_in bytes (Pub subject reply size) len = op.Pub (part bytes subject) (option_map (part bytes) reply) (part bytes (span len size))
@@ -50,12 +50,12 @@ parts_in bytes Pong len = op.Pong
 abbrev pub op_in : Bytes → Shape → Op
 op_in bytes shape = parts_in bytes shape.line shape.len
 
--- the payload stands within the bytes
+-- the payload is within the bytes
 abbrev pub IsInside : Bytes → ℕ → Option ℕ → Type 0
 IsInside bytes len None = Unit {0}
 IsInside bytes len (Some size) = len + size ≤ length bytes
 
--- the parts stand within the bytes
+-- the parts are within the bytes
 pub record Fits (bytes : Bytes) (shape : Shape) : Type 0 where
   pub fields : Stands bytes shape.line
   pub payload : IsInside bytes shape.len (counted (seen bytes shape.line))

@@ -11,7 +11,7 @@ use js_base::NoMemory;
 use std::alloc::Global;
 use std::marker::Model;
 
-/// A decoder of a client's input, by the NATS client protocol. Contracts see it as how many bytes were taken off the front of the input, and
+/// A decoder of a client's input, by the NATS client protocol. Contracts see it as how many bytes were taken off the start of the input, and
 /// the bytes that were fed since, so that it does not matter in which pieces they came.
 #[derive(Drop, Debug)]
 pub struct Decoder {
@@ -32,7 +32,7 @@ impl Model for Decoder {
     ghost invariant = { λ d. IfSome d.ready IsReady × (d.before + length (kept d.ready ++ d.front) < 2 ^ 62) };
 }
 
-/// The operation that was taken off before, or else the one at the front.
+/// The operation that was taken off before, or else the next one.
 fn take(
     ready: &mut Option<Ready>,
     front: &mut Front,
@@ -49,7 +49,7 @@ fn take(
     front.take(before)
 }
 
-/// The operation whose bytes these are. They come back where memory is short.
+/// The operation whose bytes these are. They come back if memory runs out.
 fn into_op(ready: Ready) -> Result<Op, Ready>
     requires { IsReady ready }
     ensures ok { IfOk result (λ op. op ≡ op_in ready.bytes ready.shape) }
@@ -65,7 +65,7 @@ impl Decoder {
     ghost use Rattle.nats_frames.specs.Decoding.{total, Gives};
     ghost use Rattle.nats_frames.specs.Reading.{op_at, Partial};
 
-    /// A decoder of an input of which nothing came yet. It takes no memory.
+    /// A decoder of an input of which nothing has come yet. It takes no memory.
     pub fn new(alloc: Global) -> Decoder
         ensures start { result ≡ record { before = 0; bytes = [] } }
     {
@@ -85,15 +85,15 @@ impl Decoder {
         self.front.push(piece)
     }
 
-    /// Whether it is known that the bytes that are held are less than an operation and have no fault. It may answer false also where they are
-    /// so: `next` tells.
+    /// Whether it is known that the bytes that are held are less than an operation and have no fault. It may answer false even if they
+    /// are so; `next` decides.
     pub fn is_known_partial(&self) -> bool
         ensures partial { result ≡ true → op_at self.now.bytes ≡ Partial }
     {
         self.ready.is_none() && self.front.is_quiet()
     }
 
-    /// The operation at the front of what was fed, which is taken off. `None` comes exactly where the bytes are less than an operation and
+    /// The first operation of what was fed, which is taken off. `None` comes exactly if the bytes are less than an operation and
     /// have no fault. An `Err` changes nothing, so a fault comes again at the next call.
     pub fn next(&mut self) -> Result<Option<Op>, FrameFault>
         ensures gives { Gives result self.old self.new }

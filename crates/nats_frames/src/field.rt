@@ -2,11 +2,14 @@
 
 ghost use Rattle.std.specs.Prelude.{◌≡◌, ◌+◌, ◌<◌, ◌≤◌, ◌^◌, [], ◌∷◌, length, drop, position, IfSome, IfNone};
 ghost use Rattle.std.specs.List.{prefix_len};
-ghost use Rattle.nats_frames.specs.Grammar.{is_blank, is_solid};
+ghost use Rattle.js_base.specs.Bytes.{is_blank};
+ghost use Rattle.nats_frames.specs.Grammar.{is_solid};
 ghost use Rattle.nats_frames.specs.Reading.{fields_of};
 ghost use Rattle.nats_frames.specs.Fields.{span, part, IsWithin, IsNextField, AreFields};
 
-/// Neighbouring bytes, from `start` up to `end`.
+use js_base::is_blank;
+
+/// The bytes from `start` up to `end`.
 #[derive(Clone, Copy, Debug)]
 pub(crate) struct Span {
     pub(crate) start: usize,
@@ -34,14 +37,7 @@ pub(crate) fn part(bytes: &[u8], span: Span) -> &[u8]
     &bytes[span.start..span.end]
 }
 
-/// A space or a tab.
-pub(crate) fn is_blank(byte: u8) -> bool
-    ensures { result ≡ is_blank byte }
-{
-    byte == b' ' || byte == b'\t'
-}
-
-/// Any other byte.
+/// Whether the byte is no blank, so that it belongs to a field.
 fn is_solid(byte: u8) -> bool
     ensures { result ≡ is_solid byte }
 {
@@ -60,7 +56,7 @@ fn first_solid(text: &[u8]) -> Option<usize>
     text.iter().position(|byte| is_solid(*byte))
 }
 
-/// How many bytes stand before the first blank.
+/// How many bytes come before the first blank.
 #[tactic(auto, using(crate::proofs::FieldLemmas::place_or_len, crate::proofs::FieldLemmas::place_within))]
 pub(crate) fn solid_len(text: &[u8]) -> usize
     ensures value { result ≡ prefix_len is_solid text.now }
@@ -96,7 +92,7 @@ fn next_field(line: &[u8], from: usize) -> Option<Span>
 }
 
 /// The fields of an operation. None has more than four.
-#[derive(Clone, Copy, Debug)]
+#[derive(Clone, Copy)]
 pub(crate) enum Fields {
     None,
     One(Span),

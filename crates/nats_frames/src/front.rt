@@ -11,7 +11,7 @@ use js_base::NoMemory;
 use std::alloc::Global;
 use std::marker::Model;
 
-/// The bytes of one operation, and where its parts stand in them.
+/// The bytes of one operation, and the places of its parts in them.
 #[derive(Drop, Debug)]
 pub(crate) struct Ready {
     pub(crate) bytes: Bytes,
@@ -19,7 +19,7 @@ pub(crate) struct Ready {
 }
 
 /// Bytes that were fed and not taken yet, which contracts see as their list. What was found out about them is kept, so that no line is
-/// searched twice for its end, and none is read again before its payload is there.
+/// searched twice for its end, and none is read again before its payload has come.
 #[derive(Drop, Debug)]
 pub(crate) struct Front {
     bytes: BytesMut,
@@ -76,7 +76,7 @@ impl Front {
         }
     }
 
-    /// Adds a byte. Where it continues a line, what is known of the bytes grows by it.
+    /// Adds a byte. If it continues a line, what is known of the bytes grows by it.
     fn push_byte(&mut self, byte: u8) -> Result<(), NoMemory>
         ensures ok { OnOk result (self.new ≡ self.old ++ byte ∷ []) }
         ensures err { OnErr result (self.new ≡ self.old) }
@@ -100,7 +100,7 @@ impl Front {
         self.bytes.len() < self.quiet
     }
 
-    /// Takes the operation at the front, of an input of which so many bytes stood before. An `Err` leaves what was there.
+    /// Takes the operation at the front, of an input of which so many bytes came before. An `Err` leaves what was there.
     pub(crate) fn take(&mut self, before: u64) -> Result<Option<Ready>, FrameFault>
         requires room { before + length self.old < 2 ^ 62 }
         ensures takes { Takes result before self.old self.new }

@@ -1,28 +1,28 @@
-//! Laws of the definitions: what the reading function, the grammar and the cutting of an input have to do with one another.
+//! Laws of the definitions: how the reading function, the grammar and the pieces of an input relate to one another.
 
 ghost use Rattle.nats_frames.specs.Laws.{LawRead, LawSpelled, LawFaulty, LawPartial, LawOne, LawOneFault, LawApart, LawWhole, LawBroken, LawOps, LawJoin};
 ghost use Rattle.nats_frames.specs.Pieces.{LawFraming};
 
-/// What is read is spelled so, and what is spelled so is read, whatever follows.
+/// What is read is spelled so, and what is spelled so is read so, whatever follows.
 pub fn law_spelling()
     ensures read { LawRead }
     ensures spelled { LawSpelled }
 {}
 
-/// Bytes are read as broken exactly where a fault is at their front, and as partial exactly where no operation and no fault is.
+/// Bytes are read as broken exactly if they begin with a fault, and as partial exactly if they begin with no operation and no fault.
 pub fn law_reading()
     ensures faulty { LawFaulty }
     ensures partial { LawPartial }
 {}
 
-/// Of all operations and faults one at most is at the front of given bytes.
+/// Given bytes begin with at most one operation or fault.
 pub fn law_one()
     ensures one { LawOne }
     ensures one_fault { LawOneFault }
     ensures apart { LawApart }
 {}
 
-/// What is at the front stays there, whatever follows: in which pieces an input comes cannot matter.
+/// What bytes begin with stays, whatever follows: it cannot matter in which pieces an input comes.
 pub fn law_cut()
     ensures whole { LawWhole }
     ensures broken { LawBroken }

@@ -1,61 +1,18 @@
 //! How long the server's answers are.
 
-ghost use Rattle.std.specs.Prelude.{◌≡◌, ◌<◌, ◌≤◌, ◌^◌, ◌+◌, length, decimal};
-ghost use Rattle.js_base.specs.Framing.{frame as bytes_of, message};
+ghost use Rattle.std.specs.Prelude.{◌≡◌, length};
+ghost use Rattle.js_base.specs.Framing.{frame as bytes_of};
 
 use crate::write::{BEFORE_CLIENT, BEFORE_HOST, BEFORE_PORT, INFO_END};
-use itoa::Buffer;
-use js_base::{Blob, Frame};
-
-/// How many digits the number has.
-fn digits(n: u64) -> u128
-    ensures value { result ≡ length (decimal n) }
-    ensures few { result ≤ 40 }
-{
-    Buffer::new().format(n).len() as u128
-}
-
-/// How many bytes there are.
-fn bytes(text: &Blob) -> u128
-    ensures value { result ≡ length text.now }
-    ensures bound { result < 2 ^ 63 }
-{
-    text.len() as u128
-}
-
-/// The length of a message.
-fn message_len(
-    subject: &Blob,
-    sid: &Blob,
-    reply: &Option<Blob>,
-    headers: &Blob,
-    payload: &Blob,
-) -> u128
-    ensures { result ≡ length (message subject.now sid.now reply.now headers.now payload.now) }
-{
-    let fields = 1 + bytes(subject) + 1 + bytes(sid);
-    let reply = match reply {
-        Some(reply) => 1 + bytes(reply),
-        None => 0,
-    };
-    let body = 2 + bytes(headers) + bytes(payload) + 2;
-    let sizes = if headers.is_empty() {
-        3 + 1 + digits(payload.len() as u64)
-    } else {
-        4 + 1
-            + digits(headers.len() as u64)
-            + 1
-            + digits(headers.len() as u64 + payload.len() as u64)
-    };
-    fields + reply + sizes + body
-}
+use js_base::{Blob, Frame, decimal_len, message_len};
 
 /// The length of the server's information.
 fn info_len(client_id: u64, host: &Blob, port: u16) -> u128
     ensures { result ≡ length (bytes_of (Frame.Info client_id host.now port)) }
 {
     let fixed = BEFORE_CLIENT.len() + BEFORE_HOST.len() + BEFORE_PORT.len() + INFO_END.len();
-    fixed as u128 + digits(client_id) + bytes(host) + digits(u64::from(port))
+    let host = host.len() as u128;
+    fixed as u128 + decimal_len(client_id) + host + decimal_len(u64::from(port))
 }
 
 /// How many bytes `write_frame` adds for the frame. It takes no memory.
@@ -77,6 +34,6 @@ pub fn frame_len(frame: &Frame) -> u128
         } => message_len(subject, sid, reply, headers, payload),
         Frame::Ping | Frame::Pong => 6,
         Frame::Ok => 5,
-        Frame::Err { text } => 9 + bytes(text),
+        Frame::Err { text } => 9 + text.len() as u128,
     }
 }

@@ -16,7 +16,7 @@ const MOST_SID: usize = 256;
 
 const MOST_QUEUE: usize = 1024;
 
-/// What the line of an operation says: its numbers, and where its other fields stand.
+/// What the line of an operation says: its numbers, and the places of its other fields.
 #[derive(Clone, Copy, Debug)]
 pub(crate) enum Line {
     Connect {
@@ -46,7 +46,7 @@ pub(crate) enum Line {
     Pong,
 }
 
-/// The text behind the blanks.
+/// The text after the blanks.
 fn connect_at(words: &[u8], from: usize) -> Result<Line, Fault>
     requires within { from ≤ length words.now }
     ensures sees { Sees words.now result (connect_of (behind_blanks (drop from words.now))) }
@@ -232,7 +232,7 @@ fn args_at(verb: Option<Verb>, words: &[u8], from: usize) -> Result<Line, Fault>
     }
 }
 
-/// What the words of a line say.
+/// What the text of a line says.
 #[tactic(auto, unfolding(crate::specs::Reading::words_at))]
 pub(crate) fn words_at(words: &[u8]) -> Result<Line, Fault>
     ensures sees { Sees words.now result (words_at words.now) }

@@ -1,4 +1,4 @@
-//! What stands at the front of bytes of which more may come.
+//! What bytes begin with of which more may come.
 
 ghost use Rattle.std.specs.Prelude.{◌≡◌, ◌≢◌, ◌+◌, ◌<◌, ◌≤◌, true, ℕ, List, ◌∷◌, ◌++◌, length, take, drop, slice_index, IfSome, IfNone, Some};
 ghost use Rattle.nats_frames.specs.Grammar.{counted};
@@ -21,23 +21,23 @@ const MOST_PAYLOAD: u64 = 1_048_576;
 pub(crate) enum Look {
     /// An operation of so many bytes.
     Whole { shape: Shape, len: usize },
-    /// Less than an operation. No LF is among the first `scanned` bytes, and until `quiet` bytes are there nothing more can be told.
+    /// Less than an operation. No LF is among the first `scanned` bytes, and until `quiet` bytes are there nothing more is known.
     Partial { scanned: usize, quiet: usize },
     /// A fault.
     Broken(Fault),
 }
 
-/// What stands behind the line of a publish.
+/// What follows the line of a publish.
 enum Ending {
     /// The payload and its CR LF.
     Whole,
-    /// Less than that. Until `quiet` bytes are there nothing more can be told.
+    /// Less than that. Until `quiet` bytes are there nothing more is known.
     Partial { quiet: usize },
     /// A payload without its CR LF: the place of the first wrong byte.
     Wrong { place: usize },
 }
 
-/// The place of the first LF, where a line may end there.
+/// The place of the first LF, if a line may end there.
 fn line_end(bytes: &[u8], scanned: usize) -> Option<usize>
     requires { IsScanned bytes.now scanned }
     ensures within { IfSome result (λ end. (end < length bytes.now) × (end < 4098)) }
@@ -51,7 +51,7 @@ fn line_end(bytes: &[u8], scanned: usize) -> Option<usize>
     Some(scanned + at)
 }
 
-/// Whether a byte behind so many without an LF leaves them less than a line.
+/// Whether one byte more after so many without an LF still leaves less than a line.
 pub(crate) fn is_in_line(before: usize, byte: u8) -> bool
     ensures short { result ≡ true → before + 1 < 4098 }
     ensures other { result ≡ true → byte ≢ 10 }
@@ -66,7 +66,7 @@ fn without_cr(line: &[u8]) -> &[u8]
     line.strip_suffix(b"\r").unwrap_or(line)
 }
 
-/// How many bytes are counted that stand behind the line.
+/// How many bytes after the line it counts.
 fn counted(line: &Line) -> Option<u64>
     ensures { (words : List ℕ) → result ≡ counted (seen words line.now) }
 {
@@ -76,7 +76,7 @@ fn counted(line: &Line) -> Option<u64>
     }
 }
 
-/// What stands behind a line that counts a payload of this size.
+/// What follows a line that counts a payload of this size.
 fn behind_payload(bytes: &[u8], size: usize) -> Ending
     requires { size ≤ 1048576 }
     ensures ends { Ends size bytes.now result }
@@ -93,7 +93,7 @@ fn behind_payload(bytes: &[u8], size: usize) -> Ending
     }
 }
 
-/// What a line begins whose LF stands at the place.
+/// What a line with its LF at the place begins.
 fn behind_line(bytes: &[u8], end: usize, line: Line) -> Look
     requires { IsLineTo bytes.now end line }
     ensures { Looks bytes.now result }

@@ -3,11 +3,11 @@
 use js_base::Blob;
 use thiserror::Error;
 
-/// An operation of the NATS client protocol, from a client. Its parts share the bytes that were fed. Subjects stand as they were written:
-/// whether they are right is not asked.
+/// An operation of the NATS client protocol, from a client. Its parts share the bytes that were fed. Subjects are as they were written,
+/// and are not checked.
 #[derive(Debug, Drop, PartialEq, Eq)]
 pub enum Op {
-    /// The client's options. The text is to be their JSON object.
+    /// The client's options, as the text of a JSON object, which is not checked.
     Connect {
         text: Blob,
     },
@@ -54,7 +54,7 @@ pub enum FrameFault {
     /// So many bytes are counted, which are more than 1,048,576.
     #[error("a payload of {0} bytes")]
     PayloadTooBig(u64),
-    /// The first byte that is not as in CR LF behind a payload, counted from the start of the input.
+    /// The first byte after a payload that is not as in CR LF, counted from the start of the input.
     #[error("a payload without its end at {0}")]
     BadEnd(u64),
     #[error("out of memory")]

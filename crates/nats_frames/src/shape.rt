@@ -1,4 +1,4 @@
-//! Where the parts of an operation stand in its bytes.
+//! The places of an operation's parts in its bytes.
 
 ghost use Rattle.std.specs.Prelude.{◌≡◌, ◌+◌, ◌<◌, ◌≤◌, ◌^◌, length, option_map, IfOk, IfSome};
 ghost use Rattle.nats_frames.specs.Fields.{span, part, IsWithin};

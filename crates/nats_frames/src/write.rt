@@ -5,10 +5,9 @@ ghost use Rattle.js_base.specs.Bytes.{crlf};
 ghost use Rattle.js_base.specs.Framing.{frame as bytes_of, spaced, optional, message};
 ghost use Rattle.nats_frames.specs.Writing.{sizes};
 
-use itoa::Buffer;
-use js_base::{Blob, Frame, NoMemory};
+use js_base::{Blob, Frame, NoMemory, put_bytes, put_decimal};
 
-/// What stands before the client's number, the host, the port and the end in the server's information.
+/// The texts before the client's number, the host and the port in the server's information, and the text at its end.
 pub(crate) const BEFORE_CLIENT: &[u8] = b"INFO {\"client_id\":";
 
 pub(crate) const BEFORE_HOST: &[u8] = b",\"headers\":true,\"host\":\"";
@@ -18,44 +17,25 @@ pub(crate) const BEFORE_PORT: &[u8] = b"\",\"jetstream\":true,\"max_payload\":10
 pub(crate) const INFO_END: &[u8] =
     b",\"proto\":1,\"server_id\":\"JSBLOCK\",\"server_name\":\"jsblock\",\"version\":\"2.10.0\"}\r\n";
 
-/// Adds bytes at the end. An `Err` leaves what was there.
-fn put(into: &mut Vec<u8>, bytes: &[u8]) -> Result<(), NoMemory>
-    ensures ok { OnOk result (into.new.items ≡ into.old.items ++ bytes.now) }
-    ensures err { OnErr result (into.new.items ≡ into.old.items) }
-{
-    match into.extend_from_slice(bytes) {
-        Ok(()) => Ok(()),
-        Err(_) => Err(NoMemory),
-    }
-}
-
-/// Adds the digits of a number.
-fn put_number(into: &mut Vec<u8>, n: u64) -> Result<(), NoMemory>
-    ensures ok { OnOk result (into.new.items ≡ into.old.items ++ decimal n) }
-    ensures err { OnErr result (into.new.items ≡ into.old.items) }
-{
-    put(into, Buffer::new().format(n).as_bytes())
-}
-
-/// Adds a field and the space before it. An `Err` leaves what was there, and more at most.
+/// Adds a field and the space before it. An `Err` leaves what was there, perhaps with more after it.
 fn put_field(into: &mut Vec<u8>, field: &[u8]) -> Result<(), NoMemory>
     ensures ok { OnOk result (into.new.items ≡ into.old.items ++ spaced field.now) }
     ensures err { OnErr result (take (length into.old.items) into.new.items ≡ into.old.items) }
 {
-    put(into, b" ")?;
-    put(into, field)
+    put_bytes(into, b" ")?;
+    put_bytes(into, field)
 }
 
-/// Adds a size and the space before it. An `Err` leaves what was there, and more at most.
+/// Adds a size and the space before it. An `Err` leaves what was there, perhaps with more after it.
 fn put_size(into: &mut Vec<u8>, size: usize) -> Result<(), NoMemory>
     ensures ok { OnOk result (into.new.items ≡ into.old.items ++ spaced (decimal size)) }
     ensures err { OnErr result (take (length into.old.items) into.new.items ≡ into.old.items) }
 {
-    put(into, b" ")?;
-    put_number(into, size as u64)
+    put_bytes(into, b" ")?;
+    put_decimal(into, size as u64)
 }
 
-/// Adds the fields of a message before its sizes. An `Err` leaves what was there, and more at most.
+/// Adds the fields of a message before its sizes. An `Err` leaves what was there, perhaps with more after it.
 fn put_fields(
     into: &mut Vec<u8>,
     subject: &[u8],
@@ -74,18 +54,18 @@ fn put_fields(
     }
 }
 
-/// Adds what stands behind the sizes of a message. An `Err` leaves what was there, and more at most.
+/// Adds what follows the sizes of a message. An `Err` leaves what was there, perhaps with more after it.
 fn put_body(into: &mut Vec<u8>, headers: &[u8], payload: &[u8]) -> Result<(), NoMemory>
     ensures ok { OnOk result (into.new.items ≡ into.old.items ++ (crlf ++ headers.now ++ payload.now ++ crlf)) }
     ensures err { OnErr result (take (length into.old.items) into.new.items ≡ into.old.items) }
 {
-    put(into, b"\r\n")?;
-    put(into, headers)?;
-    put(into, payload)?;
-    put(into, b"\r\n")
+    put_bytes(into, b"\r\n")?;
+    put_bytes(into, headers)?;
+    put_bytes(into, payload)?;
+    put_bytes(into, b"\r\n")
 }
 
-/// Adds a message without headers. An `Err` leaves what was there, and more at most.
+/// Adds a message without headers. An `Err` leaves what was there, perhaps with more after it.
 fn put_plain(
     into: &mut Vec<u8>,
     subject: &[u8],
@@ -97,13 +77,13 @@ fn put_plain(
         ≡ into.old.items ++ message subject.now sid.now (option_map (λ text. text.now) reply.entry) [] payload.now) }
     ensures err { OnErr result (take (length into.old.items) into.new.items ≡ into.old.items) }
 {
-    put(into, b"MSG")?;
+    put_bytes(into, b"MSG")?;
     put_fields(into, subject, sid, reply)?;
     put_size(into, payload.len())?;
     put_body(into, b"", payload.as_slice())
 }
 
-/// Adds the sizes of a message with headers. An `Err` leaves what was there, and more at most.
+/// Adds the sizes of a message with headers. An `Err` leaves what was there, perhaps with more after it.
 fn put_sizes(into: &mut Vec<u8>, headers: &Blob, payload: &Blob) -> Result<(), NoMemory>
     ensures ok { OnOk result (into.new.items ≡ into.old.items ++ sizes headers.now payload.now) }
     ensures err { OnErr result (take (length into.old.items) into.new.items ≡ into.old.items) }
@@ -112,7 +92,7 @@ fn put_sizes(into: &mut Vec<u8>, headers: &Blob, payload: &Blob) -> Result<(), N
     put_size(into, headers.len() + payload.len())
 }
 
-/// Adds a message with headers. An `Err` leaves what was there, and more at most.
+/// Adds a message with headers. An `Err` leaves what was there, perhaps with more after it.
 #[tactic(auto, using(crate::proofs::Written::headed))]
 fn put_headed(
     into: &mut Vec<u8>,
@@ -127,43 +107,43 @@ fn put_headed(
         ≡ into.old.items ++ message subject.now sid.now (option_map (λ text. text.now) reply.entry) headers.now payload.now) }
     ensures err { OnErr result (take (length into.old.items) into.new.items ≡ into.old.items) }
 {
-    put(into, b"HMSG")?;
+    put_bytes(into, b"HMSG")?;
     put_fields(into, subject, sid, reply)?;
     put_sizes(into, headers, payload)?;
     put_body(into, headers.as_slice(), payload.as_slice())
 }
 
-/// Adds the first half of the server's information. An `Err` leaves what was there, and more at most.
+/// Adds the first half of the server's information. An `Err` leaves what was there, perhaps with more after it.
 fn put_client(into: &mut Vec<u8>, client_id: u64, host: &Blob) -> Result<(), NoMemory>
     ensures ok { OnOk result (into.new.items
         ≡ into.old.items ++ (codes "INFO {\"client_id\":" ++ decimal client_id ++ codes ",\"headers\":true,\"host\":\"" ++ host.now)) }
     ensures err { OnErr result (take (length into.old.items) into.new.items ≡ into.old.items) }
 {
-    put(into, BEFORE_CLIENT)?;
-    put_number(into, client_id)?;
-    put(into, BEFORE_HOST)?;
-    put(into, host.as_slice())
+    put_bytes(into, BEFORE_CLIENT)?;
+    put_decimal(into, client_id)?;
+    put_bytes(into, BEFORE_HOST)?;
+    put_bytes(into, host.as_slice())
 }
 
-/// Adds the server's information. An `Err` leaves what was there, and more at most.
+/// Adds the server's information. An `Err` leaves what was there, perhaps with more after it.
 fn put_info(into: &mut Vec<u8>, client_id: u64, host: &Blob, port: u16) -> Result<(), NoMemory>
     ensures ok { OnOk result (into.new.items ≡ into.old.items ++ bytes_of (Frame.Info client_id host.now port)) }
     ensures err { OnErr result (take (length into.old.items) into.new.items ≡ into.old.items) }
 {
     put_client(into, client_id, host)?;
-    put(into, BEFORE_PORT)?;
-    put_number(into, u64::from(port))?;
-    put(into, INFO_END)
+    put_bytes(into, BEFORE_PORT)?;
+    put_decimal(into, u64::from(port))?;
+    put_bytes(into, INFO_END)
 }
 
-/// Adds an error's line. An `Err` leaves what was there, and more at most.
+/// Adds an error's line. An `Err` leaves what was there, perhaps with more after it.
 fn put_error(into: &mut Vec<u8>, text: &Blob) -> Result<(), NoMemory>
     ensures ok { OnOk result (into.new.items ≡ into.old.items ++ bytes_of (Frame.Err text.now)) }
     ensures err { OnErr result (take (length into.old.items) into.new.items ≡ into.old.items) }
 {
-    put(into, b"-ERR '")?;
-    put(into, text.as_slice())?;
-    put(into, b"'\r\n")
+    put_bytes(into, b"-ERR '")?;
+    put_bytes(into, text.as_slice())?;
+    put_bytes(into, b"'\r\n")
 }
 
 fn put_frame(frame: &Frame, into: &mut Vec<u8>) -> Result<(), NoMemory>
@@ -197,9 +177,9 @@ fn put_frame(frame: &Frame, into: &mut Vec<u8>) -> Result<(), NoMemory>
                 )
             }
         }
-        Frame::Ping => put(into, b"PING\r\n"),
-        Frame::Pong => put(into, b"PONG\r\n"),
-        Frame::Ok => put(into, b"+OK\r\n"),
+        Frame::Ping => put_bytes(into, b"PING\r\n"),
+        Frame::Pong => put_bytes(into, b"PONG\r\n"),
+        Frame::Ok => put_bytes(into, b"+OK\r\n"),
         Frame::Err { text } => put_error(into, text),
     }
 }

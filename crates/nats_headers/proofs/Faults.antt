@@ -1,4 +1,4 @@
--- What each line of a block tells.
+-- What each line of a block shows.
 use Rattle.std.proofs.Common.{ℕ, ◌≡◌, ◌+◌, ◌==◌, ◌&&◌, Bool, true, false, cond, List, [], ◌∷◌, Option, Some, None, Ok, Err, length, refl, sym, ◌∙◌, ap}
 use Rattle.std.specs.List.{onto_first}
 use Rattle.std.proofs.lemmas.Bool.{and_parts, false≢true}
@@ -46,7 +46,7 @@ never_last true true = refl
 never_last true false = refl
 never_last false c = refl
 
--- an empty line ends the block just where no byte is behind it
+-- an empty line ends the block exactly if no byte follows it
 pub end_is : (line after : Bytes) → is_end line (block_lines after) ≡ (same line (13 ∷ []) && is_empty after)
 end_is line [] = no_more (same line (13 ∷ []))
 end_is line (byte ∷ more) = go (byte == 10) (block_lines more) (some_line more)
@@ -56,7 +56,7 @@ end_is line (byte ∷ more) = go (byte == 10) (block_lines more) (some_line more
     go true (part ∷ parts) h = never_last (same line (13 ∷ [])) true
     go false (part ∷ parts) h = never_so (same line (13 ∷ [])) (is_empty parts)
 
--- ---- what the first line tells
+-- ---- what the first line shows
 
 pub field_here : (at : ℕ) (lines line after : Bytes) → block_lines lines ≡ line ∷ block_lines after → is_field_line line ≡ true →
     fields_fault (at + (length line + 1)) (block_lines after) ≡ fields_fault at (block_lines lines)
@@ -83,7 +83,7 @@ pub not_named_here : (name lines line after : Bytes) → block_lines lines ≡ l
     first_value name (block_lines after) ≡ first_value name (block_lines lines)
 not_named_here name lines line after cut h = rw (cut, next_value name line (block_lines after) (some_line after), h) refl
 
--- ---- no fault is a want of memory
+-- ---- no fault is that memory runs out
 
 no_want_there : (at : ℕ) (parts : List Bytes) → fields_fault at parts ≡ Some NoMemory → ⊥
 no_want_there at [] h = cc

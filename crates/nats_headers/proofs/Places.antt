@@ -16,7 +16,7 @@ lacks byte text = list_all (λ b. not (b == byte)) text
 abbrev pub place : ℕ → Bytes → Option ℕ
 place byte text = position (λ b. b == byte) text
 
--- what stands round the first such byte
+-- what stands around the first such byte
 pub record Cut (byte : ℕ) (text : Bytes) : Type 0 where
   pub pre : Bytes
   pub post : Bytes

@@ -20,7 +20,7 @@ ended n m o line h k = rw (h, k) refl
 cr_length : (pre post : Bytes) → lacks 13 pre ≡ true → ends_with_cr (pre ++ 13 ∷ post) ≡ (length pre + 1 == length (pre ++ 13 ∷ post))
 cr_length pre post h = ended _ _ (place 13 (pre ++ 13 ∷ post)) (pre ++ 13 ∷ post) (place_is 13 pre post h) refl
 
--- nothing stands behind the first CR
+-- nothing follows the first CR
 pub cr_last : (pre post : Bytes) → lacks 13 pre ≡ true → ends_with_cr (pre ++ 13 ∷ post) ≡ true → post ≡ []
 cr_last pre [] h e = refl
 cr_last pre (b ∷ post) h e =
@@ -33,7 +33,7 @@ cr_again words h = cr_length words [] h ∙ eq-eqb _ _ (omega (arith, length-app
 pub no_cr : (line : Bytes) → lacks 13 line ≡ true → ends_with_cr line ≡ false
 no_cr line h = rw (place_none 13 line h) refl
 
--- the words of a line before its CR
+-- the text of a line before its CR
 pub record Words (line : Bytes) : Type 0 where
   pub words : Bytes
   pub whole : line ≡ words ++ 13 ∷ []

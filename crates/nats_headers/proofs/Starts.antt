@@ -28,7 +28,7 @@ pub record IsStart (line : Bytes) : Type 0 where
   pub sound : is_start start ≡ true
   pub whole : start_words start ≡ line
 
--- what stands behind the version
+-- what follows the version
 abbrev behind : Bytes → Bytes
 behind rest = codes "NATS/1.0" ++ rest
 

@@ -139,7 +139,7 @@ record Broken (at from : ℕ) (rest : Bytes) : Type 0 where
   no_field : (field : Field) → is_field field ≡ true → field_line field ≡ line ++ 10 ∷ [] → ⊥
   no_end : line ++ 10 ∷ more ≡ crlf → ⊥
 
--- fields, and no whole line behind them
+-- fields, and no whole line after them
 record Open (rest : Bytes) : Type 0 where
   fields : List Field
   tail : Bytes

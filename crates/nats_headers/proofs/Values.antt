@@ -4,10 +4,10 @@ use Rattle.std.specs.List.{list_all}
 use Rattle.std.proofs.lemmas.Bool.{and_parts, and_from, false≢true}
 use Rattle.std.proofs.lemmas.List.{same_from_push, append_cancel_left, reverse-append, reverse-reverse}
 use Rattle.std.proofs.lemmas.List.Folds.{list_all-append}
-use Rattle.js_base.specs.Bytes.{Bytes, crlf, same}
+use Rattle.js_base.specs.Bytes.{Bytes, crlf, same, is_blank}
 use Rattle.js_base.specs.Headers.{block_lines, is_field_line}
 use Rattle.nats_headers.specs.Grammar.{is_start, version, Field, is_field, field_lines, front, Spells}
-use Rattle.nats_headers.specs.Reading.{is_blank, past_blanks, up_to_blanks, trimmed, is_named, value_of, colon_at, first_value, header}
+use Rattle.nats_headers.specs.Reading.{past_blanks, up_to_blanks, trimmed, is_named, value_of, colon_at, first_value, header}
 use Rattle.nats_headers.specs.Laws.{first_of, IsBetweenBlanks, LawOne, LawHeader, LawTrimmed}
 use Rattle.nats_headers.proofs.Faults.{named_here, not_named_here}
 use Rattle.nats_headers.proofs.Spelled.{field_words, field_again, name_shown, text_shown, value_shown}

@@ -25,7 +25,7 @@ is_name name = nat_lt 0 (length name) && list_all is_name_byte name
 abbrev pub is_one_line : Bytes → Bool
 is_one_line bytes = list_all (λ byte. not (byte == 10)) bytes
 
--- what may stand behind the version
+-- what may follow the version
 abbrev pub is_start : Option Bytes → Bool
 is_start None = true
 is_start (Some text) = is_text text
@@ -35,7 +35,7 @@ abbrev pub version : Option Bytes → Bytes
 version None = codes "NATS/1.0"
 version (Some text) = codes "NATS/1.0 " ++ text
 
--- a name, and what stands behind its colon
+-- a name, and what follows its colon
 abbrev pub Field : Type 0
 Field = Bytes × Bytes
 
@@ -52,7 +52,7 @@ field_lines fields = flat_map field_line fields
 abbrev pub front : Option Bytes → List Field → Bytes
 front start fields = version start ++ crlf ++ field_lines fields
 
--- what may stand in a front
+-- what may stand there
 abbrev pub are_parts : Option Bytes → List Field → Bool
 are_parts start fields = is_start start && list_all is_field fields
 
@@ -65,11 +65,11 @@ pub record Spells (start : Option Bytes) (fields : List Field) (block : Bytes) :
 abbrev pub IsBlock : Bytes → Type 0
 IsBlock block = (start : Option Bytes) × (fields : List Field) × Spells start fields block
 
--- no version line is at the front
+-- the bytes begin with no version line
 abbrev pub HasBadStart : Bytes → Type 0
 HasBadStart block = (start : Option Bytes) (more : Bytes) → IsTrue (is_start start) → block ≡ version start ++ crlf ++ more → ⊥
 
--- the line at this place is no field and no empty line at the end, and those before it are as they should
+-- the line at this place is no field and no empty line at the end, and those before it are as they should be
 pub record HasBadLine (block : Bytes) (at : ℕ) : Type 0 where
   pub start : Option Bytes
   pub fields : List Field
@@ -82,7 +82,7 @@ pub record HasBadLine (block : Bytes) (at : ℕ) : Type 0 where
   pub no_field : (field : Field) → IsTrue (is_field field) → field_line field ≡ line ++ 10 ∷ [] → ⊥
   pub no_end : line ++ 10 ∷ more ≡ crlf → ⊥
 
--- behind a version line and fields no further line is whole
+-- after a version line and fields no further line is whole
 pub record IsNotEnded (block : Bytes) : Type 0 where
   pub start : Option Bytes
   pub fields : List Field

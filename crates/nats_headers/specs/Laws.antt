@@ -1,12 +1,12 @@
 -- The laws of reading, over all bytes.
 use Rattle.std.specs.Prelude.{ℕ, ◌≡◌, ◌<◌, ◌^◌, ◌↔◌, ◌&&◌, nat_lt, true, false, Bool, IsTrue, if◌then◌else◌, List, [], ◌∷◌, ◌++◌, map, Option, Some, None, decimal}
 use Rattle.std.specs.List.{list_all}
-use Rattle.js_base.specs.Bytes.{Bytes, same}
+use Rattle.js_base.specs.Bytes.{Bytes, is_blank, same}
 use Rattle.js_base.specs.Headers.{is_block}
 use Rattle.js_base.specs.Status.{status, status_text}
 use Rattle.nats_headers.specs.declared.fault.HeaderFault.{HeaderFault}
 use Rattle.nats_headers.specs.Grammar.{Field, is_text, is_name, Spells, IsBlock, HasFault}
-use Rattle.nats_headers.specs.Reading.{block_fault, header, trimmed, is_blank}
+use Rattle.nats_headers.specs.Reading.{block_fault, header, trimmed}
 
 -- what is read without a fault is a block, and what is spelled as a block is read so
 abbrev pub LawBlock : Type 0
@@ -21,7 +21,7 @@ abbrev pub LawOne : Type 0
 LawOne = (start other : Option Bytes) (fields others : List Field) (block : Bytes) → Spells start fields block → Spells other others block →
     (start ≡ other) × (fields ≡ others)
 
--- a fault is told exactly where it is
+-- a fault is reported exactly if the bytes have it
 abbrev pub LawFault : Type 0
 LawFault = (block : Bytes) (fault : HeaderFault) → (block_fault block ≡ Some fault) ↔ HasFault fault block
 

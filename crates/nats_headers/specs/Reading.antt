@@ -1,6 +1,6 @@
 -- What is read of the bytes of a block: functions, which decide for all bytes what the grammar says by relations.
 use Rattle.std.specs.Prelude.{ℕ, ◌≡◌, ◌+◌, ◌-◌, ◌==◌, ◌&&◌, Bool, if◌then◌else◌, List, [], ◌∷◌, ◌++◌, length, take, drop, reverse, Option, Some, None, unwrap_or, position, Result, Ok, Err, IsOk}
-use Rattle.js_base.specs.Bytes.{Bytes, is_empty, same, has}
+use Rattle.js_base.specs.Bytes.{Bytes, is_blank, is_empty, same}
 use Rattle.js_base.specs.Headers.{block_lines, is_version_line, is_field_line}
 use Rattle.nats_headers.specs.Grammar.{IsBlock, HasFault}
 use Rattle.nats_headers.specs.declared.fault.HeaderFault.{HeaderFault}
@@ -8,12 +8,12 @@ use Rattle.nats_headers.specs.declared.fault.HeaderFault.TheVariants.{BadStart, 
 
 -- ---- faults
 
--- an empty line, behind which nothing stands
+-- an empty line that nothing follows
 abbrev pub is_end : Bytes → List Bytes → Bool
 is_end line [] = same line (13 ∷ [])
 is_end line (after ∷ more) = same line (13 ∷ []) && is_empty after && is_empty more
 
--- the first fault of the fields and their end, of which the first line stands at this place. What no LF ends is no line
+-- the first fault of the fields and their end, of which the first line begins at this place. Bytes that no LF ends are no line
 abbrev pub fields_fault : ℕ → List Bytes → Option HeaderFault
 fields_fault at [] = Some NotEnded
 fields_fault at (line ∷ []) = Some NotEnded
@@ -52,10 +52,6 @@ Answers (Err fault) block = HasFault fault block
 
 -- ---- values
 
--- a space or a tab
-abbrev pub is_blank : ℕ → Bool
-is_blank byte = has (32 ∷ 9 ∷ []) byte
-
 -- the bytes from the first on that is no blank
 abbrev pub past_blanks : Bytes → Bytes
 past_blanks [] = []
@@ -65,11 +61,11 @@ past_blanks (byte ∷ more) = if is_blank byte then past_blanks more else byte �
 abbrev pub up_to_blanks : Bytes → Bytes
 up_to_blanks text = reverse (past_blanks (reverse text))
 
--- a text without the blanks round it
+-- a text without the blanks around it
 abbrev pub trimmed : Bytes → Bytes
 trimmed text = up_to_blanks (past_blanks text)
 
--- where the name of a field's line ends
+-- the place at which the name of a field's line ends
 abbrev pub colon_at : Bytes → ℕ
 colon_at line = unwrap_or (position (λ byte. byte == 58) line) 0
 

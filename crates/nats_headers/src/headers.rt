@@ -12,7 +12,7 @@ use js_base::Blob;
 use std::alloc::Global;
 use std::marker::Model;
 
-/// A header block, which contracts see as its bytes. A value is read where it lies.
+/// A header block, which contracts see as its bytes. A value is read in place.
 #[derive(Drop, Debug, PartialEq, Eq)]
 pub struct Headers {
     block: Blob,
@@ -32,7 +32,7 @@ impl Model for Headers {
 }
 
 impl Headers {
-    /// The value of the first field with this name, which is compared byte by byte, without the spaces and tabs round it.
+    /// The value of the first field with this name, which is compared byte by byte, without the spaces and tabs around it.
     #[tactic(auto, unfolding(crate::specs::Reading::header))]
     pub fn get(&self, name: &[u8]) -> Option<&[u8]>
         ensures value { option_map (λ value. value.now) result ≡ header name.now self.now }
@@ -82,7 +82,7 @@ pub fn read_headers(alloc: Global, block: &[u8]) -> Result<Headers, HeaderFault>
     }
 }
 
-/// Whether the bytes are a header block: exactly where `read_headers` finds no fault. It takes no memory.
+/// Whether the bytes are a header block, that is, `read_headers` finds no fault. It takes no memory.
 pub fn is_block(block: &[u8]) -> bool
     ensures value { result ≡ is_block block.now }
 {
@@ -100,7 +100,7 @@ fn block_fault(block: &[u8]) -> Option<HeaderFault>
     }
 }
 
-/// The first fault of the fields and their end, which stand at this place.
+/// The first fault of the fields and their end, which begin at this place.
 fn fields_fault(place: usize, lines: &[u8]) -> Option<HeaderFault>
     requires { place + length lines.now < 2 ^ 63 }
     ensures value { result ≡ fields_fault place (block_lines lines.now) }
@@ -117,7 +117,7 @@ fn fields_fault(place: usize, lines: &[u8]) -> Option<HeaderFault>
     Some(HeaderFault::NotEnded)
 }
 
-/// The fault of a line that is no field: it should be empty, and nothing should stand behind it.
+/// The fault of a line that is no field: it should be empty, and nothing should follow it.
 fn unless_end(line: &[u8], after: &[u8], at: usize) -> Option<HeaderFault>
     ensures value { result ≡ (if same line.now (13 ∷ []) && is_empty after.now then None else Some (BadLine at)) }
 {

@@ -1,4 +1,4 @@
-//! Laws of the definitions: what the reading functions and the grammar of blocks have to do with one another.
+//! Laws of the definitions: how the reading functions relate to the grammar of blocks.
 
 ghost use Rattle.nats_headers.specs.Laws.{LawBlock, LawTest, LawOne, LawFault, LawOneFault, LawApart, LawHeader, LawTrimmed, LawStatus};
 
@@ -13,14 +13,14 @@ pub fn law_one()
     ensures one { LawOne }
 {}
 
-/// A fault is told exactly where it is. Bytes have one at most, and a block has none.
+/// A fault is reported exactly if the bytes have it. Bytes have at most one, and a block has none.
 pub fn law_faults()
     ensures fault { LawFault }
     ensures one_fault { LawOneFault }
     ensures apart { LawApart }
 {}
 
-/// What is read of a name is the first field with this name, without the blanks round its value.
+/// What is read of a name is the first field with this name, without the blanks around its value.
 pub fn law_values()
     ensures header { LawHeader }
     ensures trimmed { LawTrimmed }

@@ -1,4 +1,4 @@
-//! Header blocks of the NATS client protocol: they are checked and read where they lie, and those of status messages are written.
+//! Header blocks of the NATS client protocol: they are checked, read in place, and written for status messages.
 #![tactic(auto)]
 
 mod fault;

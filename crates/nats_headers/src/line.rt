@@ -3,7 +3,9 @@
 ghost use Rattle.std.specs.Prelude.{◌≡◌, ◌+◌, ◌==◌, [], ◌∷◌, length, position, slice_index, MatchOption, IfSome};
 ghost use Rattle.js_base.specs.Bytes.{has};
 ghost use Rattle.js_base.specs.Headers.{block_lines, ends_with_cr, is_version_line, is_field_line};
-ghost use Rattle.nats_headers.specs.Reading.{is_blank, past_blanks, up_to_blanks, colon_at, is_named, value_of};
+ghost use Rattle.nats_headers.specs.Reading.{past_blanks, up_to_blanks, colon_at, is_named, value_of};
+
+use js_base::is_blank;
 
 /// The place of the first such byte.
 pub(crate) fn place_of(byte: u8, text: &[u8]) -> Option<usize>
@@ -12,7 +14,7 @@ pub(crate) fn place_of(byte: u8, text: &[u8]) -> Option<usize>
     text.iter().position(|other| *other == byte)
 }
 
-/// The first line without its LF, and what stands behind that.
+/// The first line without its LF, and what follows it.
 pub(crate) fn cut_line(text: &[u8]) -> Option<(&[u8], &[u8])>
     ensures cut { MatchOption result (block_lines text.now ≡ text.now ∷ []) (λ p. block_lines text.now ≡ p.0.now ∷ block_lines p.1.now) }
     ensures size { IfSome result (λ p. length p.0.now + 1 + length p.1.now ≡ length text.now) }
@@ -50,7 +52,7 @@ pub(crate) fn is_version_line(line: &[u8]) -> bool
     ends_with_cr(line) && line.starts_with(b"NATS/1.0") && ends_version(line)
 }
 
-/// Where the name of a field's line ends.
+/// The place at which the name of a field's line ends.
 fn colon_at(line: &[u8]) -> usize
     ensures value { result ≡ colon_at line.now }
 {
@@ -71,14 +73,7 @@ pub(crate) fn is_named(name: &[u8], line: &[u8]) -> bool
     is_field_line(line) && &line[..colon_at(line)] == name
 }
 
-/// Whether the byte is a space or a tab.
-fn is_blank(byte: u8) -> bool
-    ensures value { result ≡ is_blank byte }
-{
-    b" \t".contains(&byte)
-}
-
-/// The bytes from the first on that is no blank.
+/// The bytes from the first one on that is no blank.
 fn past_blanks(text: &[u8]) -> &[u8]
     ensures value { result.now ≡ past_blanks text.now }
 {
@@ -92,7 +87,7 @@ fn past_blanks(text: &[u8]) -> &[u8]
     text
 }
 
-/// The bytes up to the last that is no blank.
+/// The bytes up to the last one that is no blank.
 fn up_to_blanks(text: &[u8]) -> &[u8]
     ensures value { result.now ≡ up_to_blanks text.now }
 {
@@ -106,7 +101,7 @@ fn up_to_blanks(text: &[u8]) -> &[u8]
     text
 }
 
-/// The value of a field's line, without the blanks round it.
+/// The value of a field's line, without the blanks around it.
 pub(crate) fn value_of(line: &[u8]) -> &[u8]
     ensures value { result.now ≡ value_of line.now }
 {

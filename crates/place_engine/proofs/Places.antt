@@ -15,7 +15,7 @@ use Rattle.js_model.specs.Refusals.{numbers_used_up, no_stream}
 use Rattle.js_model.specs.Consumers.{empty_stream}
 use Rattle.js_model.specs.Counts.{stream_info}
 use Rattle.js_model.specs.Events.{answered, kept_incarnation, completed, vacantly, stream_told}
-use Rattle.place_engine.specs.PlainConfigs.{IsPlainConfig}
+use Rattle.js_model.specs.Served.{IsServed}
 use Rattle.place_engine.specs.Answers.{StreamAnswers, PlaceAnswers}
 use Rattle.place_engine.specs.Passing.{Passes}
 use Rattle.place_engine.specs.Places.{IsVacant}
@@ -27,7 +27,7 @@ unfolding answered
 there old what now reply new answers incarnation = answers
 
 -- the stream is made
-pub makes : (old : State) (subject : Option Bytes) (config : StreamConfig) (now : ℕ) → IsVacant old → IsPlainConfig config → kept_incarnation old ≢ 2 ^ 62
+pub makes : (old : State) (subject : Option Bytes) (config : StreamConfig) (now : ℕ) → IsVacant old → IsServed config → kept_incarnation old ≢ 2 ^ 62
     → let stream = empty_stream (kept_incarnation old) config now in PlaceAnswers old (Make subject config) now (Info (stream_info stream)) (Live stream)
 unfolding answered
 makes (Vacant i) subject config now vacant plain free incarnation =
@@ -66,7 +66,7 @@ pub ticks_nowhere : (last : ℕ) (now : ℕ) → PlaceAnswers (Vacant last) Tick
 unfolding answered
 ticks_nowhere last now incarnation = refl
 
--- ---- time passes where an incarnation is kept
+-- ---- time passes if an incarnation is kept
 
 pub passes_nowhere : (last incarnation now : ℕ) → Passes (nat_eq (last + 1) incarnation) incarnation now (Vacant last) (Vacant last)
 passes_nowhere last incarnation now =

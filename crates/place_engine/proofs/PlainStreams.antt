@@ -1,4 +1,4 @@
--- What the rules of streams come to where limits are the defaults and there are no consumers and ids.
+-- What the rules of streams come to if limits are the defaults and there are no consumers and ids.
 use Rattle.std.proofs.Common.{◌≡◌, ◌≢◌, ◌≤◌, ◌++◌, ◌-◌, length, drop, arith, ℕ, ◌+◌, ◌^◌, max, min, nat_lt, List, [], ◌∷◌, map, filter, Bool, true, false, ◌==◌, if◌then◌else◌, Option, None, Some, unwrap_or, refl, sym, ap, subst, ◌∙◌, IsTrue}
 use Rattle.std.proofs.Math.Nat.{max-eq_left, le-max_right}
 use Rattle.std.specs.List.{flat_map}
@@ -31,7 +31,7 @@ use Rattle.js_model.specs.Counts.{stream_info}
 use Rattle.js_model.specs.Verdict.{verdict, known, early_checks, late_checks, first_of_all, message_of}
 use Rattle.js_model.specs.Refusals.{first_refusal, numbers_used_up, other_config, retention_cannot_change}
 use Rattle.js_model.specs.Events.{settled, completed, quietly, refused, stream_told, stream_answer, published, with_id, farewells}
-use Rattle.place_engine.specs.PlainConfigs.{IsPlainConfig}
+use Rattle.js_model.specs.Served.{IsServed}
 use Rattle.place_engine.specs.PlainPublishes.{IsPlainPublish}
 use Rattle.place_engine.specs.PlainStreams.{IsPlainStream}
 use Rattle.place_engine.specs.Stored.{stored_message}
@@ -47,24 +47,24 @@ filter-all : (messages : List Message) → filter (λ m. true) messages ≡ mess
 filter-all [] = refl
 filter-all (m ∷ more) = ap (λ (x : List Message). m ∷ x) (filter-all more)
 
-trim_subjects-plain : (s : Stream) → IsPlainConfig s.config → s.consumers ≡ [] → trim_subjects s ≡ s
+trim_subjects-plain : (s : Stream) → IsServed s.config → s.consumers ≡ [] → trim_subjects s ≡ s
 trim_subjects-plain s plain none = ap (λ (o : Option ℕ). only s (newest_at o s.messages)) plain.max_msgs_per_subject ∙ only-plain s s.messages none
 
-trim_count-plain : (s : Stream) → IsPlainConfig s.config → s.consumers ≡ [] → trim_count s ≡ record s { messages = last_of (2 ^ 24) s.messages }
+trim_count-plain : (s : Stream) → IsServed s.config → s.consumers ≡ [] → trim_count s ≡ record s { messages = last_of (2 ^ 24) s.messages }
 trim_count-plain s plain none =
     ap (λ (o : Option ℕ). only s (last_of (min (unwrap_or o (2 ^ 24)) (2 ^ 24)) s.messages)) plain.max_msgs ∙ only-plain s (last_of (2 ^ 24) s.messages) none
 
-trim_bytes-plain : (s : Stream) → IsPlainConfig s.config → s.consumers ≡ [] → trim_bytes s ≡ s
+trim_bytes-plain : (s : Stream) → IsServed s.config → s.consumers ≡ [] → trim_bytes s ≡ s
 trim_bytes-plain s plain none = ap (λ (o : Option ℕ). only s (fitting_at o s.messages)) plain.max_bytes ∙ only-plain s s.messages none
 
-kept-plain : (s : Stream) → IsPlainConfig s.config → s.consumers ≡ [] → kept s ≡ s
+kept-plain : (s : Stream) → IsServed s.config → s.consumers ≡ [] → kept s ≡ s
 unfolding kept
 kept-plain s plain none =
     ap (λ (policy : Retention). only s (filter (is_kept policy s.consumers) s.messages)) plain.retention
     ∙ ap (λ (messages : List Message). only s messages) (filter-all s.messages) ∙ only-plain s s.messages none
 
 -- its limits keep the last 2 ^ 24 messages
-pub settled-plain : (s : Stream) → IsPlainConfig s.config → s.consumers ≡ [] → settled s ≡ record s { messages = last_of (2 ^ 24) s.messages }
+pub settled-plain : (s : Stream) → IsServed s.config → s.consumers ≡ [] → settled s ≡ record s { messages = last_of (2 ^ 24) s.messages }
 unfolding trim
 settled-plain s plain none =
     let cut : Stream = record s { messages = last_of (2 ^ 24) s.messages } in
@@ -75,26 +75,26 @@ settled-plain s plain none =
 
 -- ---- time
 
-young-plain : (s : Stream) (now : ℕ) → IsPlainConfig s.config → young s now ≡ s.messages
+young-plain : (s : Stream) (now : ℕ) → IsServed s.config → young s now ≡ s.messages
 young-plain s now plain = ap (λ (age : ℕ). if age == 0 then s.messages else filter (λ m. nat_lt now (plus m.at age)) s.messages) plain.max_age
 
 remembered-plain : (s : Stream) (now : ℕ) → s.ids ≡ [] → remembered s now ≡ []
 remembered-plain s now no_ids = ap (λ (ids : List Id). filter (λ i. nat_lt now (plus i.at s.config.duplicate_window)) ids) no_ids
 
-aged-plain : (s : Stream) (now : ℕ) → IsPlainConfig s.config → s.consumers ≡ [] → s.ids ≡ [] → aged s now ≡ record s { moment = now }
+aged-plain : (s : Stream) (now : ℕ) → IsServed s.config → s.consumers ≡ [] → s.ids ≡ [] → aged s now ≡ record s { moment = now }
 aged-plain s now plain none no_ids =
     ap (λ (messages : List Message). record (only s messages) { moment = now; ids = remembered s now }) (young-plain s now plain)
     ∙ ap (λ (x : Stream). record x { moment = now; ids = remembered s now }) (only-plain s s.messages none)
     ∙ ap (λ (ids : List Id). record s { moment = now; ids = ids }) (remembered-plain s now no_ids ∙ sym no_ids)
 
-stream_at-plain : (s : Stream) (now : ℕ) → IsPlainConfig s.config → s.consumers ≡ [] → s.ids ≡ [] → stream_at s now ≡ record s { moment = now }
+stream_at-plain : (s : Stream) (now : ℕ) → IsServed s.config → s.consumers ≡ [] → s.ids ≡ [] → stream_at s now ≡ record s { moment = now }
 stream_at-plain s now plain none no_ids =
     ap (λ (x : Stream). record x { consumers = map (consumer_at now) x.consumers }) (aged-plain s now plain none no_ids)
     ∙ ap (λ (consumers : List Consumer). record s { moment = now; consumers = map (consumer_at now) consumers }) none
     ∙ ap (λ (consumers : List Consumer). record s { moment = now; consumers = consumers }) (sym none)
 
 -- of time it sees its moment alone
-pub advance-plain : (s : Stream) (now : ℕ) → IsPlainConfig s.config → s.consumers ≡ [] → s.ids ≡ [] → advance s now ≡ record s { moment = max s.moment now }
+pub advance-plain : (s : Stream) (now : ℕ) → IsServed s.config → s.consumers ≡ [] → s.ids ≡ [] → advance s now ≡ record s { moment = max s.moment now }
 unfolding advance
 advance-plain s now plain none no_ids = stream_at-plain s (max s.moment now) plain none no_ids
 
@@ -104,10 +104,10 @@ advance_outs-plain s now none = rw none refl
 
 -- ---- publishing
 
-early-plain : (s : Stream) (p : Publish) → IsPlainConfig s.config → IsPlainPublish p → first_refusal (early_checks s p) ≡ None
+early-plain : (s : Stream) (p : Publish) → IsServed s.config → IsPlainPublish p → first_refusal (early_checks s p) ≡ None
 early-plain s p plain asks = rw (plain.max_msg_size, asks.bad, asks.id, asks.stream) refl
 
-late-plain : (s : Stream) (p : Publish) → IsPlainConfig s.config → IsPlainPublish p
+late-plain : (s : Stream) (p : Publish) → IsServed s.config → IsPlainPublish p
     → first_refusal (late_checks s p true) ≡ (if s.last + 1 == 2 ^ 62 then Some numbers_used_up else None)
 late-plain s p plain asks = rw (asks.last, asks.subject_last, asks.last_id, plain.discard, asks.id) refl
 
@@ -119,7 +119,7 @@ taken_unless true e = refl
 taken_unless false e = refl
 
 -- a plain publish is taken while a number is left
-pub verdict-plain : (s : Stream) (p : Publish) → IsPlainConfig s.config → IsPlainPublish p
+pub verdict-plain : (s : Stream) (p : Publish) → IsServed s.config → IsPlainPublish p
     → verdict s p true ≡ (if s.last + 1 == 2 ^ 62 then RefusedBy numbers_used_up else Take)
 unfolding verdict
 verdict-plain s p plain asks =
@@ -139,7 +139,7 @@ abbrev pub moved : Stream → ℕ → Stream
 moved s now = record s { moment = max s.moment now }
 
 -- a stream that has no more messages than it may keeps them
-settled-few : (s : Stream) → IsPlainConfig s.config → s.consumers ≡ [] → length s.messages ≤ 2 ^ 24 → settled s ≡ s
+settled-few : (s : Stream) → IsServed s.config → s.consumers ≡ [] → length s.messages ≤ 2 ^ 24 → settled s ≡ s
 settled-few s plain none few = settled-plain s plain none ∙ ap (λ (messages : List Message). record s { messages = messages }) (short_end (2 ^ 24) s.messages few)
 
 -- it answers as it does at that moment, and time sends nothing
@@ -209,11 +209,11 @@ made_other s reply config now plain other =
     quiet_at s (Make reply config) now (Refused other_config) plain
     (ap (λ (b : Bool). if b then stream_told (moved s now) else refused other_config (moved s now)) other)
 
-same-limits : (a b : StreamConfig) → IsPlainConfig a → IsPlainConfig b → same_retention a.retention b.retention ≡ true
+same-limits : (a b : StreamConfig) → IsServed a → IsServed b → same_retention a.retention b.retention ≡ true
 same-limits a b plain other = rw (plain.retention, other.retention) refl
 
 -- its configuration is replaced
-pub changes : (s : Stream) (reply : Option Bytes) (config : StreamConfig) (now : ℕ) → IsPlainStream s → IsPlainConfig config → IsTrue (is_stream_config config)
+pub changes : (s : Stream) (reply : Option Bytes) (config : StreamConfig) (now : ℕ) → IsPlainStream s → IsServed config → IsTrue (is_stream_config config)
     → StreamAnswers s (Change reply config) now (StreamTold (stream_info (record s { config = config }))) (Live (record (moved s now) { config = config }))
 changes s reply config now plain new valid =
     let changed : Stream = record s { config = config } in

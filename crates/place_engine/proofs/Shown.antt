@@ -1,4 +1,4 @@
--- What replies show, and that no consumer is ready where there are none.
+-- What replies show, and that no consumer is ready if there are none.
 use Rattle.std.proofs.Common.{◌≡◌, ℕ, List, [], false, IsUtf8, refl, sym, ap, subst, ◌∙◌}
 use Rattle.std.specs.Str.{is_utf8, chars}
 use Rattle.std.specs.List.{list_any}
@@ -11,6 +11,8 @@ use Rattle.js_model.specs.declared.consumer.Consumer.{Consumer}
 use Rattle.js_model.specs.Advance.{advance}
 use Rattle.js_model.specs.Ready.{is_ready}
 use Rattle.js_model.specs.Refusals.{no_stream, other_config, numbers_used_up}
+use Rattle.js_model.proofs.ConfigParts.{config_parts}
+use Rattle.js_model.proofs.NameTexts.{name_utf8}
 use Rattle.place_engine.specs.PlainStreams.{IsPlainStream}
 use Rattle.place_engine.proofs.PlainStreams.{advance-plain}
 
@@ -27,6 +29,11 @@ other_config_utf8 e is = subst (λ (x : ApiError). IsUtf8 x.text) (sym is) (IsUt
 pub numbers_used_up_utf8 : (e : ApiError) → e ≡ numbers_used_up → IsUtf8 e.text
 unfolding is_utf8 chars encode
 numbers_used_up_utf8 e is = subst (λ (x : ApiError). IsUtf8 x.text) (sym is) (IsUtf8-from_is_utf8 numbers_used_up.text refl)
+
+-- ---- names
+
+pub name_shown : (s : Stream) → IsPlainStream s → IsUtf8 s.config.name
+name_shown s plain = name_utf8 s.config.name (config_parts s.config plain.valid).name
 
 -- ---- readiness
 

@@ -1,4 +1,4 @@
--- What a stream or a place answers, where the store has a block for each message and nothing is sent.
+-- What a stream or a place answers, if the store has a block for each message and nothing is sent.
 use Rattle.std.specs.Prelude.{◌≡◌, ℕ, true, []}
 use Rattle.js_model.specs.declared.stream.Stream.{Stream}
 use Rattle.js_model.specs.declared.stream.State.{State}

@@ -1,4 +1,3 @@
-pub mod PlainConfigs
 pub mod PlainPublishes
 pub mod PlainStreams
 pub mod Stored

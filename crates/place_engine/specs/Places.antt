@@ -5,9 +5,9 @@ use Rattle.js_model.specs.declared.stream.State.{State}
 use Rattle.js_model.specs.declared.stream.State.TheVariants.{Vacant, Live}
 use Rattle.js_model.specs.declared.event.Event.{Event}
 use Rattle.js_model.specs.declared.event.What.{What}
-use Rattle.js_model.specs.declared.event.What.TheVariants.{Make, Change, Drop as DropStream, Publish, Tick, StreamInfo}
+use Rattle.js_model.specs.declared.event.What.TheVariants as whats
 use Rattle.js_model.specs.Events.{kept_incarnation}
-use Rattle.place_engine.specs.PlainConfigs.{IsPlainConfig}
+use Rattle.js_model.specs.Served.{IsServed}
 use Rattle.place_engine.specs.PlainPublishes.{IsPlainPublish}
 use Rattle.place_engine.specs.declared.faults.Left.TheVariants.{Nothing}
 use Rattle.place_engine.specs.declared.faults.PlaceFault.{PlaceFault}
@@ -20,16 +20,25 @@ pub record Seen (V : Type 0) : Type 0 where
 
 -- what a place is asked so far: to make, change, drop and show a stream of default limits, to store a message and to let time pass
 abbrev pub IsBuilt : What → Type 0
-IsBuilt (Make reply config) = IsPlainConfig config
-IsBuilt (Change reply config) = IsPlainConfig config
-IsBuilt (DropStream reply) = Unit {0}
-IsBuilt (Publish publish) = IsPlainPublish publish
-IsBuilt Tick = Unit {0}
-IsBuilt (StreamInfo reply) = Unit {0}
-IsBuilt _ = ⊥
+IsBuilt (whats.Make reply config) = IsServed config
+IsBuilt (whats.Change reply config) = IsServed config
+IsBuilt (whats.Drop reply) = Unit {0}
+IsBuilt (whats.Publish publish) = IsPlainPublish publish
+IsBuilt (whats.Purge reply filter below keep) = ⊥
+IsBuilt (whats.Delete reply seq) = ⊥
+IsBuilt (whats.MakeConsumer reply name config update) = ⊥
+IsBuilt (whats.DropConsumer reply name) = ⊥
+IsBuilt (whats.Ack reply ack) = ⊥
+IsBuilt (whats.Pull reply consumer ask) = ⊥
+IsBuilt whats.Tick = Unit {0}
+IsBuilt (whats.StreamInfo reply) = Unit {0}
+IsBuilt (whats.MessageGet reply by) = ⊥
+IsBuilt (whats.ConsumerInfo reply name) = ⊥
+IsBuilt (whats.ConsumerNames reply offset) = ⊥
+IsBuilt (whats.ConsumerList reply offset) = ⊥
 
--- It is gone exactly where the event is for another incarnation. Memory is asked for only where it is for this one, and nothing is left by
--- its want. In memory no store fails, stops a place or wears out.
+-- It is gone exactly if the event is for another incarnation. Memory is asked for only if it is for this one, and nothing is left if there is
+-- none. In memory no store fails, stops a place or wears out.
 abbrev pub HasCause : State → Event → PlaceFault → Type 0
 HasCause old event (NoMemory left) = (event.incarnation ≡ kept_incarnation old) × (left ≡ Nothing)
 HasCause old event StoreFault = ⊥
@@ -42,12 +51,12 @@ abbrev pub IsVacant : State → Type 0
 IsVacant (Vacant last) = Unit {0}
 IsVacant (Live stream) = ⊥
 
--- the name of the stream, where there is one
+-- the name of the stream, if there is one
 abbrev pub name_in : State → Option Bytes
 name_in (Vacant last) = None
 name_in (Live stream) = Some stream.config.name
 
--- its subjects, none where there is no stream
+-- its subjects, none if there is no stream
 abbrev pub subjects_in : State → List Bytes
 subjects_in (Vacant last) = []
 subjects_in (Live stream) = stream.config.subjects

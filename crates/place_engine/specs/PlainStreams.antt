@@ -4,7 +4,7 @@ use Rattle.js_model.specs.Configs.{is_stream_config}
 use Rattle.js_model.specs.declared.stream_config.StreamConfig.{StreamConfig}
 use Rattle.js_model.specs.declared.stream.Message.{Message}
 use Rattle.js_model.specs.declared.stream.Stream.{Stream}
-use Rattle.place_engine.specs.PlainConfigs.{IsPlainConfig}
+use Rattle.js_model.specs.Served.{IsServed}
 
 abbrev pub plain_stream : ℕ → ℕ → StreamConfig → List Message → ℕ → ℕ → Stream
 plain_stream incarnation made config messages last moment = record {
@@ -20,7 +20,7 @@ plain_stream incarnation made config messages last moment = record {
 
 -- its configuration is valid, its numbers are in their ranges, and it has no more messages than a stream may have
 pub record IsPlainStream (s : Stream) : Type 0 where
-  pub config : IsPlainConfig s.config
+  pub config : IsServed s.config
   pub valid : IsTrue (is_stream_config s.config)
   pub ids : s.ids ≡ []
   pub consumers : s.consumers ≡ []

@@ -1,6 +1,6 @@
 //! A place for one stream.
 
-ghost use Rattle.std.specs.Prelude.{◌≡◌, ◌≤◌, ◌<◌, ◌^◌, ◌++◌, true, false, IfOk, IfErr, IfSome, OnOk, OnErr, IsTrue, None};
+ghost use Rattle.std.specs.Prelude.{◌≡◌, ◌≤◌, ◌<◌, ◌^◌, ◌++◌, true, false, IfOk, IfErr, IfSome, OnOk, OnErr, IsTrue, IsUtf8, None};
 ghost use Rattle.std.specs.Option.{option_copied};
 ghost use Rattle.js_model.specs.declared.stream.State.TheVariants.{Vacant};
 ghost use Rattle.js_model.specs.Events.{answered, kept_incarnation};
@@ -9,7 +9,7 @@ ghost use Rattle.js_model.specs.Ready.{some_ready};
 ghost use Rattle.place_engine.specs.declared.faults.OpenFault.TheVariants as opening;
 ghost use Rattle.place_engine.specs.Passing.{Passes};
 ghost use Rattle.place_engine.specs.Places.{IsBuilt, HasCause, name_in, subjects_in};
-ghost use Rattle.place_engine.specs.Shown.{ShowsOf};
+ghost use Rattle.place_engine.specs.Shown.{IsShown};
 
 use crate::faults::{Left, OpenFault, PlaceFault};
 use crate::slot::Slot;
@@ -55,22 +55,23 @@ impl<V> Place<V> {
         self.slot.incarnation()
     }
 
-    /// The name of the stream, where there is one. The incarnation of a stream is below 2^62.
+    /// The name of the stream, if there is one. The incarnation of a stream is below 2^62.
     pub fn name(&self) -> Option<&Blob>
         ensures value { option_copied result ≡ name_in self.now.state }
+        ensures utf8 { IfSome result (λ name. IsUtf8 name.now) }
         ensures number { IfSome result (λ _. kept_incarnation self.now.state < 2 ^ 62) }
     {
         self.slot.name()
     }
 
-    /// The subjects of its configuration, none where there is no stream.
+    /// The subjects of its configuration, none if there is no stream.
     pub fn subjects(&self) -> &[Blob]
         ensures value { result.now ≡ subjects_in self.now.state }
     {
         self.slot.subjects()
     }
 
-    /// The volume's count of faults where one stopped the place. In memory none does.
+    /// The volume's count of faults if one stopped the place. In memory none does.
     pub fn stopped(&self) -> Option<u64>
         ensures value { result ≡ None }
     {
@@ -85,7 +86,7 @@ impl<V> Place<V> {
         vol
     }
 
-    /// Whether a consumer is ready at a moment, one to whom something can be delivered, where these push consumers are listened. It changes
+    /// Whether a consumer is ready at a moment, one to whom something can be delivered, if somebody listens to these push consumers. It changes
     /// nothing. There are no consumers yet, so none is.
     pub fn ready(&self, now: Moment, listening: &Listening) -> bool
         ensures value { result ≡ some_ready self.now.state now listening.now }
@@ -94,7 +95,7 @@ impl<V> Place<V> {
         self.slot.ready(now, listening)
     }
 
-    /// Lets time pass where this incarnation is kept, as the event `Tick` for it does, which is answered by nothing: whether it is kept. For
+    /// Lets time pass if this incarnation is kept, as the event `Tick` for it does, which is answered by nothing: whether it is kept. For
     /// another incarnation it does nothing. A stream without consumers sends nothing then. It takes no memory. A second time at the same moment
     /// nothing changes.
     pub fn tick(&mut self, incarnation: u64, now: Moment) -> bool
@@ -109,8 +110,8 @@ impl<V> Place<V> {
     /// that is kept is `Gone`. An `Err` leaves the place and the outputs as they were. Not every event can be made yet: streams have
     /// the default limits and no consumers, and publishes no headers that ask something of the stream.
     ///
-    /// What a reply shows can be printed: the configuration of an information is valid, and the text of a refusal is UTF-8, but for one of a
-    /// publish; and the numbers of an information are so small that those of 32 streams can be added.
+    /// What a reply shows can be printed: the configuration of an information is valid, and the text of a refusal is UTF-8; and the numbers of
+    /// an information are so small that those of 32 streams can be added.
     pub fn step(&mut self, event: &Event, now: Moment, outs: &mut Outs) -> Result<Reply, PlaceFault>
         requires built { IsBuilt event.now.what }
         requires proper { IsTrue (is_proper event.now) }
@@ -118,7 +119,7 @@ impl<V> Place<V> {
         ensures reply { IfOk result (λ reply. reply ≡ (answered self.old.state event.now now true).reply) }
         ensures outs { OnOk result (outs.new ≡ outs.old ++ (answered self.old.state event.now now true).outs) }
         ensures state { OnOk result (self.new.state ≡ (answered self.old.state event.now now true).state) }
-        ensures shown { IfOk result (ShowsOf event.now.what) }
+        ensures shown { IfOk result IsShown }
         ensures vol { self.new.vol ≡ self.old.vol }
         ensures cause { IfErr result (HasCause self.old.state event.now) }
         ensures err { OnErr result (self.new.state ≡ self.old.state) }

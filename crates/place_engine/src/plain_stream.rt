@@ -1,6 +1,6 @@
 //! A stream whose limits are the defaults, without consumers and message ids, in memory.
 
-ghost use Rattle.std.specs.Prelude.{◌≡◌, ◌+◌, ◌^◌, ◌<◌, ℕ, false, Option, max, IfOk, OnErr, IsTrue, length};
+ghost use Rattle.std.specs.Prelude.{◌≡◌, ◌+◌, ◌^◌, ◌<◌, ℕ, false, Option, max, IfOk, OnErr, IsTrue, IsUtf8, length};
 ghost use Rattle.std.specs.List.{list_any};
 ghost use Rattle.std.specs.Option.{option_copied};
 ghost use Rattle.js_base.specs.Bytes.{Bytes};
@@ -14,7 +14,7 @@ ghost use Rattle.js_model.specs.Counts.{stream_info};
 ghost use Rattle.js_model.specs.Proper.{is_proper_publish};
 ghost use Rattle.js_model.specs.Ready.{is_ready};
 ghost use Rattle.js_model.specs.Streams.{first_seq};
-ghost use Rattle.place_engine.specs.PlainConfigs.{IsPlainConfig};
+ghost use Rattle.js_model.specs.Served.{IsServed};
 ghost use Rattle.place_engine.specs.PlainPublishes.{IsPlainPublish};
 ghost use Rattle.place_engine.specs.Answers.{StreamAnswers};
 ghost use Rattle.place_engine.specs.Shown.{IsShown, IsSoundInfo};
@@ -62,7 +62,7 @@ impl PlainStream {
         config: &StreamConfig,
         now: Moment,
     ) -> Result<PlainStream, NoMemory>
-        requires plain { IsPlainConfig config.now }
+        requires plain { IsServed config.now }
         requires valid { IsTrue (is_stream_config config.now) }
         requires incarnation { incarnation < 2 ^ 62 }
         ensures made { IfOk result (λ stream. stream ≡ empty_stream incarnation config.now now) }
@@ -89,6 +89,7 @@ impl PlainStream {
     /// The name of the stream.
     pub fn name(&self) -> &Blob
         ensures value { result.now ≡ self.now.config.name }
+        ensures utf8 { IsUtf8 result.now }
     {
         &self.config.name
     }
@@ -108,7 +109,7 @@ impl PlainStream {
         Ok(self.info_with(copy_stream_config(self.alloc, &self.config)?))
     }
 
-    /// Lets time pass: its moment is the handed one, or its own where that is later. A second time at the same moment it stays as it is.
+    /// Lets time pass: its moment is the handed one, or its own if that is later. A second time at the same moment it stays as it is.
     pub fn tick(&mut self, now: Moment)
         ensures answers { StreamAnswers self.old whats.Tick now Silent (Live self.new) }
         ensures again { StreamAnswers self.new whats.Tick now Silent (Live self.new) }
@@ -128,7 +129,7 @@ impl PlainStream {
         Ok(Reply::Info(info))
     }
 
-    /// Makes a stream that is there: it is shown where it has this configuration, and refused where it has another.
+    /// Makes a stream that is there: it is shown if it has this configuration, and refused if it has another.
     pub fn make_again(&mut self, config: &StreamConfig, now: Moment) -> Result<Reply, NoMemory>
         ensures answers { (subject : Option Bytes) → IfOk result (λ reply. StreamAnswers self.old (whats.Make subject config.now) now reply (Live self.new)) }
         ensures shown { IfOk result IsShown }
@@ -145,7 +146,7 @@ impl PlainStream {
 
     /// Replaces the configuration. The messages stay.
     pub fn change(&mut self, config: &StreamConfig, now: Moment) -> Result<Reply, NoMemory>
-        requires plain { IsPlainConfig config.now }
+        requires plain { IsServed config.now }
         requires valid { IsTrue (is_stream_config config.now) }
         ensures answers { (subject : Option Bytes) → IfOk result (λ reply. StreamAnswers self.old (whats.Change subject config.now) now reply (Live self.new)) }
         ensures shown { IfOk result IsShown }
@@ -158,7 +159,7 @@ impl PlainStream {
         Ok(Reply::Info(info))
     }
 
-    /// What is left of the stream where it is dropped: its number. Nobody is told.
+    /// What is left of the stream if it is dropped: its number. Nobody is told.
     pub fn dropped(&self) -> u64
         ensures answers { (subject : Option Bytes) (now : ℕ) → StreamAnswers self.now (whats.Drop subject) now Done (Vacant result) }
         ensures bound { result < 2 ^ 62 }
@@ -166,12 +167,13 @@ impl PlainStream {
         self.incarnation
     }
 
-    /// Stores the message under the next sequence, at the moment or at the stream's own where that is later, and lets the oldest
-    /// message go where there are more than 2^24. Refused where the next sequence would be 2^62. An `Err` changes nothing.
+    /// Stores the message under the next sequence, at the moment or at the stream's own if that is later, and lets the oldest
+    /// message go if there are more than 2^24. Refused if the next sequence would be 2^62. An `Err` changes nothing.
     pub fn publish(&mut self, publish: &Publish, now: Moment) -> Result<Reply, NoMemory>
         requires plain { IsPlainPublish publish.now }
         requires proper { IsTrue (is_proper_publish publish.now) }
         ensures answers { IfOk result (λ reply. StreamAnswers self.old (whats.Publish publish.now) now reply (Live self.new)) }
+        ensures shown { IfOk result IsShown }
         ensures err { OnErr result (self.new ≡ self.old) }
     {
         let moment = later(self.moment, now);

@@ -1,6 +1,6 @@
 //! What a place holds, in memory.
 
-ghost use Rattle.std.specs.Prelude.{◌≡◌, ◌≤◌, ◌<◌, ◌^◌, ℕ, false, IfOk, IfSome, OnErr, Option, IsTrue};
+ghost use Rattle.std.specs.Prelude.{◌≡◌, ◌≤◌, ◌<◌, ◌^◌, ℕ, false, IfOk, IfSome, OnErr, Option, IsTrue, IsUtf8};
 ghost use Rattle.std.specs.Option.{option_copied};
 ghost use Rattle.js_base.specs.Bytes.{Bytes};
 ghost use Rattle.js_model.specs.declared.stream.State.TheVariants.{Vacant};
@@ -11,9 +11,9 @@ ghost use Rattle.js_model.specs.Ready.{some_ready};
 ghost use Rattle.place_engine.specs.Answers.{PlaceAnswers};
 ghost use Rattle.place_engine.specs.Passing.{Passes};
 ghost use Rattle.place_engine.specs.Places.{IsBuilt, IsVacant, name_in, subjects_in};
-ghost use Rattle.place_engine.specs.PlainConfigs.{IsPlainConfig};
+ghost use Rattle.js_model.specs.Served.{IsServed};
 ghost use Rattle.place_engine.specs.PlainPublishes.{IsPlainPublish};
-ghost use Rattle.place_engine.specs.Shown.{IsShown, ShowsOf};
+ghost use Rattle.place_engine.specs.Shown.{IsShown};
 
 use crate::plain_stream::{NUMBERS_END, PlainStream};
 use js_base::{Blob, Moment, NoMemory};
@@ -69,9 +69,10 @@ impl Slot {
         }
     }
 
-    /// The name of the stream, where there is one.
+    /// The name of the stream, if there is one.
     pub fn name(&self) -> Option<&Blob>
         ensures value { option_copied result ≡ name_in self.now }
+        ensures utf8 { IfSome result (λ name. IsUtf8 name.now) }
         ensures number { IfSome result (λ _. kept_incarnation self.now < 2 ^ 62) }
     {
         match &self.held {
@@ -84,7 +85,7 @@ impl Slot {
         }
     }
 
-    /// Its subjects, none where there is no stream.
+    /// Its subjects, none if there is no stream.
     pub fn subjects(&self) -> &[Blob]
         ensures value { result.now ≡ subjects_in self.now }
     {
@@ -110,7 +111,7 @@ impl Slot {
         requires built { IsBuilt what.now }
         requires proper { IsTrue (is_proper_what what.now) }
         ensures answers { IfOk result (λ reply. PlaceAnswers self.old what.now now reply self.new) }
-        ensures shown { IfOk result (ShowsOf what.now) }
+        ensures shown { IfOk result IsShown }
         ensures err { OnErr result (self.new ≡ self.old) }
     {
         match what {
@@ -129,7 +130,7 @@ impl Slot {
 
     /// Makes the stream.
     fn make(&mut self, config: &StreamConfig, now: Moment) -> Result<Reply, NoMemory>
-        requires plain { IsPlainConfig config.now }
+        requires plain { IsServed config.now }
         requires valid { IsTrue (is_stream_config config.now) }
         ensures answers { (subject : Option Bytes) → IfOk result (λ reply. PlaceAnswers self.old (What.Make subject config.now) now reply self.new) }
         ensures shown { IfOk result IsShown }
@@ -141,10 +142,10 @@ impl Slot {
         }
     }
 
-    /// Makes a stream where there is none.
+    /// Makes a stream if there is none.
     fn make_new(&mut self, config: &StreamConfig, now: Moment) -> Result<Reply, NoMemory>
         requires vacant { IsVacant self.old }
-        requires plain { IsPlainConfig config.now }
+        requires plain { IsServed config.now }
         requires valid { IsTrue (is_stream_config config.now) }
         ensures answers { (subject : Option Bytes) → IfOk result (λ reply. PlaceAnswers self.old (What.Make subject config.now) now reply self.new) }
         ensures shown { IfOk result IsShown }
@@ -162,7 +163,7 @@ impl Slot {
 
     /// Replaces the configuration of the stream.
     fn change(&mut self, config: &StreamConfig, now: Moment) -> Result<Reply, NoMemory>
-        requires plain { IsPlainConfig config.now }
+        requires plain { IsServed config.now }
         requires valid { IsTrue (is_stream_config config.now) }
         ensures answers { (subject : Option Bytes) → IfOk result (λ reply. PlaceAnswers self.old (What.Change subject config.now) now reply self.new) }
         ensures shown { IfOk result IsShown }
@@ -195,6 +196,7 @@ impl Slot {
         requires plain { IsPlainPublish publish.now }
         requires proper { IsTrue (is_proper_publish publish.now) }
         ensures answers { IfOk result (λ reply. PlaceAnswers self.old (What.Publish publish.now) now reply self.new) }
+        ensures shown { IfOk result IsShown }
         ensures err { OnErr result (self.new ≡ self.old) }
     {
         match &mut self.held {
@@ -203,7 +205,7 @@ impl Slot {
         }
     }
 
-    /// Lets time pass where this incarnation is kept: whether it is. For another one it does nothing.
+    /// Lets time pass if this incarnation is kept: whether it is. For another one it does nothing.
     pub fn tick_for(&mut self, incarnation: u64, now: Moment) -> bool
         ensures passes { Passes result incarnation now self.old self.new }
         ensures bound { kept_incarnation self.old ≤ 2 ^ 62 }

@@ -77,7 +77,7 @@ impl StoredMessages {
         self.messages.back()
     }
 
-    /// Adds a message, and lets the oldest go where there are more than 2^24. An `Err` changes nothing.
+    /// Adds a message, and lets the oldest go if there are more than 2^24. An `Err` changes nothing.
     pub fn push(&mut self, message: Message) -> Result<(), NoMemory>
         requires small { IsSmall message }
         ensures ok { OnOk result (self.new ≡ last_of (2 ^ 24) (self.old ++ message ∷ [])) }

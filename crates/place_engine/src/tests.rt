@@ -4,7 +4,7 @@ ghost use Rattle.std.specs.Prelude.{IfOk, IsTrue};
 ghost use Rattle.js_model.specs.Configs.{is_stream_config};
 ghost use Rattle.js_model.specs.Proper.{is_proper};
 ghost use Rattle.place_engine.specs.Places.{IsBuilt};
-ghost use Rattle.place_engine.specs.PlainConfigs.{IsPlainConfig};
+ghost use Rattle.js_model.specs.Served.{IsServed};
 
 use crate::{Place, PlaceFault};
 use js_base::{Blob, List, Moment, NoMemory, Outs};
@@ -14,7 +14,7 @@ use std::test::Fail;
 
 /// The default configuration of the stream `A` with the one subject `a`.
 fn config(alloc: Global) -> Result<StreamConfig, NoMemory>
-    ensures plain { IfOk result IsPlainConfig }
+    ensures plain { IfOk result IsServed }
     ensures proper { IfOk result (λ config. IsTrue (is_stream_config config)) }
 {
     let name = Blob::of(alloc, b"A")?;

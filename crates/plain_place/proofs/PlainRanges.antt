@@ -9,9 +9,7 @@ use Rattle.js_model.specs.Retention.{kept}
 use Rattle.js_model.specs.Advance.{advance}
 use Rattle.js_model.specs.Events.{settled}
 use Rattle.plain_place.specs.Words.{IsInRange}
-use Rattle.js_model.proofs.Parts.{filter_part, part-sum}
-use Rattle.js_model.proofs.Leaving.{part_trans, trim_part}
-use Rattle.js_model.proofs.SoundTime.{young_part}
+use Rattle.js_model.proofs.Parts.{filter_part, part-sum, part_trans, trim_part, young_part}
 
 -- a stream with some of the messages and the same last sequence
 part_range : (s t : Stream) → IsPart t.messages s.messages → t.last ≡ s.last → IsInRange s → IsInRange t

@@ -48,10 +48,6 @@ module _ {X : Type 0} where
   abbrev pub AreBelow : ℕ → List (ℕ × X) → Type 0
   AreBelow id es = AllByRecursion (λ e. e.0 < id) es
 
-  pub below_more : (id : ℕ) (es : List (ℕ × X)) → AreBelow id es → AreBelow (id + 1) es
-  below_more id [] h = tt
-  below_more id (e ∷ es) h = (omega (arith, h.0), below_more id es h.1)
-
   pub below_added : (id : ℕ) (x : X) (es : List (ℕ × X)) → AreBelow id es → AreBelow (id + 1) (es ++ (id, x) ∷ [])
   below_added id x [] h = (omega arith, tt)
   below_added id x (e ∷ es) h = (omega (arith, h.0), below_added id x es h.1)
@@ -141,7 +137,7 @@ module _ {X : Type 0} where
       go true k rest h = ap (λ (more : List (ℕ × X)). (e.0, f x) ∷ more) (unchanged f id es leaves.1 (alone id e es rising k)) ∙ ap (λ y. (e.0, f y) ∷ changed f es) (sym (some_is h))
       go false k rest h = ap (λ (more : List (ℕ × X)). e ∷ more) (rest h) ∙ ap (λ y. (e.0, y) ∷ changed f es) (sym (leaves.0 k))
 
-  -- where it leaves every entry
+  -- if it leaves every entry
   pub none_changed : (f : X → X) (es : List (ℕ × X)) → AllByRecursion (λ e. f e.1 ≡ e.1) es → es ≡ changed f es
   none_changed f [] h = refl
   none_changed f (e ∷ es) h = ap (λ (more : List (ℕ × X)). e ∷ more) (none_changed f es h.1) ∙ ap (λ x. (e.0, x) ∷ changed f es) (sym h.0)

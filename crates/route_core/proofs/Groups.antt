@@ -7,7 +7,7 @@ use Rattle.std.proofs.lemmas.List.Folds.{list_any-append}
 use Rattle.js_base.specs.Bytes.{Bytes, same_option}
 use Rattle.js_base.proofs.Meeting.{same_is}
 use Rattle.js_model.specs.Router.{Subscription, is_plain}
-use Rattle.route_parts.specs.Subscriptions.{are_together, passing}
+use Rattle.route_core.specs.Subscriptions.{are_together, passing}
 use Rattle.route_core.specs.Heard.{is_first_of_group, first_of_groups}
 
 one_queue : (q r : Option Bytes) → (not (is_none q) && same_option q r) ≡ true → q ≡ r

@@ -6,8 +6,8 @@ use Rattle.js_model.specs.declared.desk.Collected.TheVariants as answers
 use Rattle.js_model.specs.Router.{Router, Session, Waiting, Queue, Marked, Routed, Collect, Frames, NoSession, IsRoute, route, telling, is_session, is_open, session_of, emptied, without_collected, collect_told, frames_told}
 use Rattle.js_model.specs.Routing.{collected_told}
 use Rattle.js_model.proofs.Named.{some_is}
-use Rattle.route_parts.specs.Sessions.{AreNumbered, with_first}
-use Rattle.route_parts.proofs.Routing.Numbers.{only_one}
+use Rattle.route_core.specs.Sessions.{AreNumbered, with_first}
+use Rattle.route_core.proofs.Numbers.{only_one}
 use Rattle.route_core.specs.Idle.{IsIdle}
 
 -- a change that leaves the first as it is leaves the list as it is

@@ -1,3 +1,10 @@
+pub mod Places
+pub mod Lengths
+pub mod Numbers
+pub mod Takers
+pub mod Handing
+pub mod Calls
+pub mod Laws
 pub mod Naming
 pub mod Entries
 pub mod Tables

@@ -9,11 +9,10 @@ use Rattle.std.proofs.lemmas.Cmp.{ranked}
 use Rattle.std.proofs.lemmas.Bool.{ne_eqb, eqb-true, true≢false}
 use Rattle.std.proofs.lemmas.Bool.Decides.{nat_tests}
 use Rattle.js_model.specs.Router.{Session, is_session, new_session}
-use Rattle.route_parts.specs.Sessions.{AreNumbered, with_first}
-use Rattle.route_core.specs.Sessions.{InOrder}
+use Rattle.route_core.specs.Sessions.{AreNumbered, InOrder, with_first}
 use Rattle.route_index.proofs.Numbers.{or_false}
-use Rattle.route_parts.proofs.Routing.Places.{first_at, any_at, none_passes, not_any}
-use Rattle.route_parts.proofs.Routing.Numbers.{AreBetween, KeepsNumber, numbered_first}
+use Rattle.route_core.proofs.Places.{first_at, any_at, none_passes, not_any}
+use Rattle.route_core.proofs.Numbers.{AreBetween, KeepsNumber, numbered_first}
 
 low_at : (low high : ℕ) (ss : List Session) (j : ℕ) (d : Session) → AreBetween low high ss → j < length ss → low ≤ (get_or ss j d).number
 low_at low high [] j d h l = absurd (omega (arith, l))
@@ -82,7 +81,7 @@ module _ (n : ℕ) where
   pub searched : (ss : List Session) → InOrder ss → (r : Result ℕ ℕ) → IsSearchInRange r (length ss) → IsBinarySearchResult (λ s. nat_cmp s.number n) ss r → result_ok r ≡ position (is_session n) ss
   searched ss order r within h = found order.latest ss order.numbered r within h
 
-  -- a place is found where a session has the number
+  -- a place is found if a session has the number
   pub some_place : (ss : List Session) (o : Option ℕ) → o ≡ position (is_session n) ss → is_some o ≡ list_any (is_session n) ss
   some_place ss None e = sym (not_any (is_session n) ss (none_passes (is_session n) ss (sym e)))
   some_place ss (Some i) e = sym (any_at (is_session n) ss i (new_session 0) (first_at (is_session n) ss i (new_session 0) (sym e)))

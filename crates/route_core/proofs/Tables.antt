@@ -18,8 +18,8 @@ use Rattle.js_model.specs.Router.{Subscription, is_sub, is_match, is_plain, limi
 use Rattle.js_model.proofs.Named.{some_is, none_some}
 use Rattle.route_index.specs.declared.sub.Sub.{Sub}
 use Rattle.route_index.specs.Subs.{id_of, is_match as index_match, matching_ids, IsAbove, without}
-use Rattle.route_parts.specs.Subscriptions.{is_number, hears, are_together, plain_takers, is_group_taker, passing, takers_of}
-use Rattle.route_parts.proofs.Routing.Takers.{plain_are}
+use Rattle.route_core.specs.Subscriptions.{is_number, hears, are_together, plain_takers, is_group_taker, passing, takers_of}
+use Rattle.route_core.proofs.Takers.{plain_are}
 use Rattle.route_core.specs.Heard.{heard_some, is_first_of_group, first_of_groups}
 use Rattle.route_core.specs.declared.names.Names.{Names}
 use Rattle.route_core.specs.Names.{number_of, count_of, KeepsNames, AddsName, DropsName}
@@ -422,9 +422,6 @@ module _ (es : Numbered) (names names' : Names) (index : List Sub) (next : ℕ) 
       one : (b : Bool) → length (cond b (sub ∷ []) []) ≡ cond b 1 0
       one true = refl
       one false = refl
-
-  pub list_more : subs_of more ≡ subs_of es ++ sub ∷ []
-  list_more = map-append (λ e. e.1) es ((next, sub) ∷ [])
 
   pub holds_more : (es' : Numbered) (index' : List Sub) → es' ≡ more → IsStrictlySortedBy nat_cmp (keys_of es') → index' ≡ map indexed es' → Holds es' names' index' (next + 1)
   holds_more es' index' left rising patterns =

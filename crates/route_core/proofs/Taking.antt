@@ -7,10 +7,9 @@ use Rattle.std.proofs.lemmas.List.Elements.{filter-append}
 use Rattle.std.proofs.lemmas.List.Sums.{fold_push}
 use Rattle.js_base.specs.declared.out.Out.{Out}
 use Rattle.js_model.specs.Router.{Session, Subscription, is_plain}
-use Rattle.route_parts.specs.declared.delivery.Delivery.{Delivery}
-use Rattle.route_parts.specs.Subscriptions.{hears, passing, takers_of}
-use Rattle.route_parts.specs.Deliveries.{delivery_of, deliveries_of}
-use Rattle.route_parts.proofs.Routing.Passing.{passing-append}
+use Rattle.route_core.specs.declared.delivery.Delivery.{Delivery}
+use Rattle.route_core.specs.Subscriptions.{hears, passing, takers_of}
+use Rattle.route_core.specs.Deliveries.{delivery_of, deliveries_of}
 use Rattle.route_core.specs.Heard.{first_of_groups}
 use Rattle.route_core.proofs.Tables.{takers_heard}
 
@@ -18,6 +17,22 @@ use Rattle.route_core.proofs.Tables.{takers_heard}
 pub any_shown : {R X : Type 0} (f : R → X) (p : X → Bool) (refs : List R) → list_any (λ r. p (f r)) refs ≡ list_any p (map f refs)
 any_shown f p [] = refl
 any_shown f p (r ∷ refs) = ap (λ b. p (f r) || b) (any_shown f p refs)
+
+-- one element more, it is kept if it passes the test of those before it
+module _ {X : Type 0} (test : List X → X → Bool) where
+  passing-append : (earlier xs : List X) (x : X) → passing test earlier (xs ++ x ∷ []) ≡ passing test earlier xs ++ cond (test (earlier ++ xs) x) (x ∷ []) []
+  passing-append earlier [] x = ap (λ (ys : List X). cond (test ys x) (x ∷ []) []) (sym (append-nil earlier))
+  passing-append earlier (y ∷ ys) x =
+      let last = cond (test (earlier ++ y ∷ ys) x) (x ∷ []) [] in
+      let more = passing test (earlier ++ y ∷ []) ys in
+      let rest : passing test (earlier ++ y ∷ []) (ys ++ x ∷ []) ≡ more ++ last =
+      passing-append (earlier ++ y ∷ []) ys x ∙ ap (λ (zs : List X). more ++ cond (test zs x) (x ∷ []) []) (append_assoc earlier (y ∷ []) ys) in
+      go (test earlier y) more last rest
+    where
+      go : (b : Bool) (more last : List X) → passing test (earlier ++ y ∷ []) (ys ++ x ∷ []) ≡ more ++ last
+          → cond b (y ∷ passing test (earlier ++ y ∷ []) (ys ++ x ∷ [])) (passing test (earlier ++ y ∷ []) (ys ++ x ∷ [])) ≡ cond b (y ∷ more) more ++ last
+      go true more last h = ap (λ (zs : List X). y ∷ zs) h
+      go false more last h = h
 
 -- one further, it is there if it passes
 pub next_passing : {R X : Type 0} (f : R → X) (test : List X → X → Bool) (refs : List R) (i : ℕ) (r : R) → i < length refs → r ≡ get_or refs i r → (b : Bool) → test (map f (take i refs)) (f r) ≡ b

@@ -2,7 +2,7 @@
 use Rattle.std.specs.Prelude.{ℕ, Bool, not, ◌&&◌, List, [], Option, Some, None, if◌then◌else◌}
 use Rattle.std.specs.List.{list_any}
 use Rattle.js_model.specs.Router.{Subscription, is_plain}
-use Rattle.route_parts.specs.Subscriptions.{is_number, are_together, passing}
+use Rattle.route_core.specs.Subscriptions.{is_number, are_together, passing}
 
 -- a subscription, if there is one and it is none of the deaf publisher's own
 abbrev pub heard_some : Option ℕ → Option Subscription → Option Subscription

@@ -1,5 +1,8 @@
+pub mod Queues
+pub mod Sessions
+pub mod Subscriptions
+pub mod Deliveries
 pub mod Names
 pub mod Table
-pub mod Sessions
 pub mod Heard
 pub mod Idle

@@ -9,7 +9,7 @@ use std::alloc::Global;
 use std::collections::BTreeMap;
 
 /// The number of the subscription under each identifier.
-#[derive(Drop, Debug)]
+#[derive(Drop)]
 pub(crate) struct Identifiers {
     numbers: BTreeMap<Vec<u8>, u64>,
 }

@@ -2,11 +2,17 @@
 #![tactic(auto)]
 
 mod delivery;
+mod dispatch;
 mod identifiers;
+mod measured_frame;
 mod names;
+mod open_sessions;
+mod parcel;
 mod router;
-mod sessions;
+mod session;
+mod subscription;
 mod table;
+mod waiting;
 
 pub use router::Router;
 

@@ -11,7 +11,7 @@ use std::alloc::Global;
 use std::collections::BTreeMap;
 
 /// The number of the subscription under each identifier of each session.
-#[derive(Drop, Debug)]
+#[derive(Drop)]
 pub(crate) struct Names {
     sessions: BTreeMap<u64, Identifiers>,
 }
@@ -114,7 +114,7 @@ impl Names {
         }
     }
 
-    /// Lets go of the room of a session without identifiers. It takes no memory.
+    /// Drops the room of a session without identifiers. It takes no memory.
     pub(crate) fn forget(&mut self, session: u64)
         requires empty { count_of self.old session ≡ 0 }
         ensures kept { KeepsNames self.old self.new }

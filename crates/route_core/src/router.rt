@@ -7,14 +7,14 @@ ghost use Rattle.js_model.specs.Routing.{open_told, done_told, publish_told, col
 ghost use Rattle.js_model.specs.declared.desk.Collected.TheVariants.{Frames};
 ghost use Rattle.route_core.specs.Idle.{IsIdle};
 
-use crate::delivery::{deliveries, hand_over_all};
-use crate::sessions::{
+use crate::dispatch::{deliveries, hand_over_all};
+use crate::open_sessions::{
     add_session, deaf_of, is_open, is_publisher_open, place_of, remove_session, set_options,
 };
+use crate::session::Session;
 use crate::table::Table;
 use js_base::Out;
 use js_model::{Collected, RouteFault};
-use route_parts::Session;
 use std::alloc::Global;
 use std::marker::Model;
 
@@ -22,7 +22,7 @@ use std::marker::Model;
 const END: u64 = 1 << 62;
 
 /// The open sessions with what waits for them, and their subscriptions.
-#[derive(Drop, Debug)]
+#[derive(Drop)]
 pub struct Router {
     /// In the order of their opening.
     sessions: Vec<Session>,
@@ -33,7 +33,7 @@ pub struct Router {
 
 impl Model for Router {
     ghost use Rattle.js_model.specs.Router.{Router as Machine};
-    ghost use Rattle.route_parts.specs.Sessions.{AreNumbered};
+    ghost use Rattle.route_core.specs.Sessions.{AreNumbered};
 
     ghost Value = { Machine };
 
@@ -55,7 +55,7 @@ impl Router {
     }
 
     /// Opens a session, which hears its own messages and takes no header blocks, and answers its number: 1 for the first, and one more each
-    /// time, also after a session was closed. `Worn` comes exactly where that number would be 2^62. An `Err` changes nothing.
+    /// time, also after a session was closed. `Worn` comes exactly if that number would be 2^62. An `Err` changes nothing.
     pub fn open(&mut self) -> Result<u64, RouteFault>
         ensures routes { IsRoute self.old Open (open_told result) self.new }
         ensures opens { IfOk result (Opens self.new) }
@@ -89,9 +89,9 @@ impl Router {
         set_options(&mut self.sessions, session, echo, headers);
     }
 
-    /// Subscribes the session to the subjects that match a pattern, under an identifier, and in a queue group where one is named. Where the
-    /// session uses the identifier already, that subscription stays and nothing changes. `NoSession` comes exactly where the session is not
-    /// open, and `TooManySubs` exactly where it has 65,536 subscriptions, none of them under the identifier. An `Err` changes nothing.
+    /// Subscribes the session to the subjects that match a pattern, under an identifier, and in a queue group if one is named. If the session
+    /// uses the identifier already, that subscription stays and nothing changes. `NoSession` comes exactly if the session is not open, and
+    /// `TooManySubs` exactly if it has 65,536 subscriptions, none of them under the identifier. An `Err` changes nothing.
     pub fn sub(
         &mut self,
         session: u64,
@@ -116,8 +116,8 @@ impl Router {
         Ok(())
     }
 
-    /// Ends the session's subscription under an identifier: at once, or once it was sent so many messages since its SUB. Where there is none,
-    /// nothing changes. `NoSession` comes exactly where the session is not open, and changes nothing. It takes no memory.
+    /// Ends the session's subscription under an identifier: at once, or once it was sent so many messages since its SUB. If there is none,
+    /// nothing changes. `NoSession` comes exactly if the session is not open, and changes nothing. It takes no memory.
     pub fn unsub(&mut self, session: u64, sid: &[u8], max: Option<u64>) -> Result<(), RouteFault>
         ensures routes { IsRoute self.old (Unsub session sid.now max) (done_told result) self.new }
         ensures stay { KeepsOpen self.old self.new }
@@ -133,7 +133,7 @@ impl Router {
     /// Hands a message to each subscription that is in no queue group and whose pattern matches its `to`, and to one of each queue group, and
     /// answers how many there are. Their sessions find it behind what waits for them, once for each subscription and in the subscriptions'
     /// order, the groups' last; a session without headers gets the block left off. A session for which more than 16 MiB would wait is
-    /// marked. Where a session publishes, `NoSession` comes exactly where it is not open, and its own subscriptions count only if it hears
+    /// marked. If a session publishes, `NoSession` comes exactly if it is not open, and its own subscriptions count only if it hears
     /// itself. A subscription that was sent its last message ends. An `Err` changes nothing.
     pub fn publish(&mut self, out: &Out, from: Option<u64>) -> Result<u64, RouteFault>
         ensures routes { IsRoute self.old (Publish out.now from) (publish_told result) self.new }
@@ -151,17 +151,17 @@ impl Router {
         Ok(count)
     }
 
-    /// Whether some subscription matches the subject: any, or one of a queue group where one is named. It takes no memory.
+    /// Whether some subscription matches the subject: any, or one of a queue group if one is named. It takes no memory.
     pub fn interest(&self, subject: &[u8], group: Option<&[u8]>) -> bool
         ensures routes { IsRoute self.now (Interest subject.now (option_copied group.entry)) (Listens result) self.now }
     {
         self.subscriptions.is_interest(subject, group)
     }
 
-    /// Takes frames that wait for the session, the first ones that have at most `max` bytes together, but one where any waits, and tells
-    /// whether more wait. Where it takes none and no more wait, another collect would take none either and change nothing. `Slow` comes exactly
-    /// where the session is marked, with how many bytes would have waited; the session stays marked. `NoSession` comes exactly where the session
-    /// is not open. An `Err` changes nothing.
+    /// Takes frames that wait for the session, the first ones that have at most `max` bytes together, but at least one if any waits, and tells
+    /// whether more wait. If it takes none and no more wait, another collect would take none either and change nothing. `Slow` comes exactly
+    /// if the session is marked, with how many bytes would have waited; the session stays marked. `NoSession` comes exactly if the session is
+    /// not open. An `Err` changes nothing.
     pub fn collect(&mut self, session: u64, max: usize) -> Result<Collected, RouteFault>
         ensures routes { IsRoute self.old (Collect session max) (collected_told result) self.new }
         ensures left { LeavesFewer result (waiting_for self.old session) (waiting_for self.new session) }

@@ -9,15 +9,15 @@ ghost use Rattle.std.specs.Map.{remove_entry};
 ghost use Rattle.std.specs.BTreeMap.{is_at, IsOrdered};
 ghost use Rattle.js_model.specs.Router.{is_sub, is_match, is_in_group, new_subscription, most_subscriptions, limited, counted, without_spent};
 ghost use Rattle.route_index.specs.Subs.{without};
-ghost use Rattle.route_parts.specs.Subscriptions.{without_sub, after_one_sent, hears};
+ghost use Rattle.route_core.specs.Subscriptions.{without_sub, after_one_sent, hears};
 ghost use Rattle.route_core.specs.Names.{number_of};
 ghost use Rattle.route_core.specs.Table.{indexed, is_of, at_number, is_spent_some, is_sub_some, AreBelow, AreNamed};
 ghost use Rattle.route_core.specs.Heard.{heard_some};
 
 use crate::names::Names;
+use crate::subscription::Subscription;
 use js_base::NoMemory;
 use route_index::{RouteIndex, Sub};
-use route_parts::Subscription;
 use std::alloc::Global;
 use std::collections::BTreeMap;
 use std::marker::Model;
@@ -29,14 +29,14 @@ const MOST: usize = 65_536;
 type Numbered = BTreeMap<u64, Subscription>;
 
 /// A subscription that may be sent a message, and its number.
-#[derive(Clone, Copy, Debug)]
+#[derive(Clone, Copy)]
 pub(crate) struct Heard<'a> {
     pub(crate) number: u64,
     pub(crate) sub: &'a Subscription,
 }
 
 /// The subscriptions. A call costs some steps in ordered maps, however many there are.
-#[derive(Drop, Debug)]
+#[derive(Drop)]
 pub(crate) struct Table {
     alloc: Global,
     /// By their numbers, which ascend in the order of their making.
@@ -97,7 +97,7 @@ impl Table {
         self.count_of(session) >= MOST
     }
 
-    /// Whether some subscription matches the subject: any, or one of a queue group where one is named. It takes no memory.
+    /// Whether some subscription matches the subject: any, or one of a queue group if one is named. It takes no memory.
     pub(crate) fn is_interest(&self, subject: &[u8], group: Option<&[u8]>) -> bool
         ensures value { result ≡ list_any (λ sub. is_match subject.now sub && is_in_group (option_copied group.entry) sub) self.now }
     {
@@ -316,7 +316,7 @@ fn is_spent_at(subscriptions: &Numbered, number: u64) -> bool
     }
 }
 
-/// The number of the session's subscription under this identifier. It is searched for by its identifier only where it is not the likely one.
+/// The number of the session's subscription under this identifier. The identifier is looked up only if the number is not the likely one.
 fn number_under(
     subscriptions: &Numbered,
     names: &Names,

@@ -81,7 +81,7 @@ module _ (ids : Ids) where
               absurd (true≢false (sym (under_same (front ++ text) (path ++ left (second ∷ more)) id (ap (λ t. front ++ t) (joined text token second more e) ∙ sym (deeper (left (second ∷ more)))) under)
               ∙ bare.at (left (second ∷ more)) id))
 
-  -- nothing matches where no token is
+  -- nothing matches if there is no token
   pub search_end : (front : Bytes) (old : List ℕ) → AddsMatching ids front [] old old
   search_end front old = record { kept = λ id h. h; all = λ text id h under. absurd (some text (tokens text) refl h); only = λ id h. inl h }
     where
@@ -151,7 +151,7 @@ module _ (ids : Ids) where
       | inr e ↦ only_stars id (ap (λ ns. has ns id) (sym e.1) ∙ h)
     ]
 
-    -- the three ways to go on from a front: `>` at the end, `*`, and the subject's token
+    -- the three ways to go on from a prefix: `>` at the end, `*`, and the subject's token
     pub search_step : AddsMatching ids front (token ∷ others) old new
     search_step = record {
       kept = λ id h. kept_ends id (ends.at id ∙ or_left _ _ h);

@@ -1,4 +1,4 @@
--- The texts with one front stand side by side.
+-- The texts with one prefix stand side by side.
 use Rattle.std.proofs.Common.{◌≡◌, ℕ, ◌<◌, ◌&&◌, Bool, true, false, List, [], ◌∷◌, ◌++◌, length, take, Option, Some, None, refl, sym, ap, subst, ◌∙◌, arith, inl, inr}
 use Rattle.std.specs.Prelude.{nat_eq, IsSome, IfSome, slice_get}
 use Rattle.std.specs.Ordering.{nat_cmp, is_gt, ordering_then}
@@ -45,11 +45,11 @@ front_between (x ∷ front) (y ∷ first) text h k = elim (eqb_tells x y) [
 ]
 
 module _ (ids : Ids) (front : Bytes) where
-  -- no key comes from the front on
+  -- no key comes from the prefix on
   pub bare_at_end : ((q : Bytes) → IsInRange (slice_cmp nat_cmp) (Included front) Unbounded q → get (slice_cmp nat_cmp) ids q ≡ None) → IsBare ids front
   bare_at_end h = record { at = λ text id. ap (λ o. is_in o id) (h (front ++ text) (front_first front text, tt)) }
 
-  -- the first key from the front on does not begin with it
+  -- the first key from the prefix on does not begin with it
   pub bare_before : (first : Bytes) → pointwise nat_eq front (take (length front) first) ≡ false → IsLeBy (slice_cmp nat_cmp) front first
       → ((q : Bytes) → IsInRange (slice_cmp nat_cmp) (Included front) Unbounded q → IsSome (get (slice_cmp nat_cmp) ids q) → IsLeBy (slice_cmp nat_cmp) first q) → IsBare ids front
   bare_before first differs from least = record { at = λ text id. go text id (get (slice_cmp nat_cmp) ids (front ++ text)) refl }

@@ -24,7 +24,7 @@ eq_flip m n = elim (eqb_tells m n) [
   | inr h ↦ h.0 ∙ sym (ne_eqb n m (λ e. h.1 (sym e)))
 ]
 
--- where numbers compare as equal
+-- whether numbers compare as equal
 pub at_number : (n k : ℕ) → is_at (nat_cmp n) k ≡ (n == k)
 at_number n k = go (nat_lt n k) (n == k) refl refl
   where

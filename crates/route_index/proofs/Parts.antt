@@ -27,7 +27,7 @@ tokens_alone token dotless = slice_split_none is_dot token dotless
 pub tokens_joined : (token text : Bytes) → IsDotless token → tokens (token ++ 46 ∷ text) ≡ token ∷ tokens text
 tokens_joined token text dotless = slice_split_at is_dot token 46 text dotless refl
 
--- what is left of a text behind its first token, where there is a second
+-- what is left of a text after its first token, if there is a second
 abbrev pub left : List Bytes → Bytes
 left more = join_with_byte 46 more
 

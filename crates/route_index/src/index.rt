@@ -71,7 +71,7 @@ impl RouteIndex {
         }
     }
 
-    /// Lets go of the subscription of this number, and tells whether there was one. It takes no memory.
+    /// Removes the subscription of this number, and tells whether there was one. It takes no memory.
     pub fn remove(&mut self, id: u64) -> bool
         ensures there { result ≡ is_there id self.old }
         ensures left { self.new ≡ without id self.old }

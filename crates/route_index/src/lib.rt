@@ -4,12 +4,10 @@
 mod ids;
 mod index;
 mod pattern;
-mod plain;
 mod search;
 mod sub;
 
 pub use index::RouteIndex;
-pub use plain::plain_matching;
 pub use sub::Sub;
 
 #[cfg(test)]

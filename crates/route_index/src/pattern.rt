@@ -12,7 +12,7 @@ use std::alloc::Global;
 use std::cmp::Ordering;
 use std::marker::Model;
 
-/// The text of a pattern, or its front. Texts are in order byte by byte, so those with one front stand side by side.
+/// The text of a pattern, or a prefix of it. Texts are in order byte by byte, so those with one prefix stand side by side.
 #[derive(Drop, Debug)]
 pub(crate) struct Pattern {
     text: Vec<u8>,
@@ -67,7 +67,7 @@ impl Pattern {
         Ok(())
     }
 
-    /// Lets go of all but the first bytes.
+    /// Drops all but the first `len` bytes.
     pub(crate) fn cut(&mut self, len: usize)
         ensures left { self.new ≡ take len self.old }
     {

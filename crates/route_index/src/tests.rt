@@ -3,10 +3,11 @@
 ghost use Rattle.std.specs.Prelude.{◌≡◌, ◌+◌, [], OnOk};
 ghost use Rattle.route_index.specs.Subs.{IsAbove};
 
-use crate::{RouteIndex, Sub, plain_matching};
+use crate::{RouteIndex, Sub};
 use js_base::{Blob, NoMemory};
 use std::alloc::Global;
 use std::test::Fail;
+use subject_match::matches;
 
 /// A small generator of numbers, a linear congruence.
 #[derive(Drop)]
@@ -42,7 +43,7 @@ impl Dice {
     }
 }
 
-/// The tokens of patterns, in which wildcards are common, and some stand where they are none.
+/// The tokens of patterns, in which wildcards are common, and in some places are no wildcards.
 fn pattern_tokens() -> &'static [&'static [u8]] {
     &[b"a", b"b", b"a!", b"*", b">", b"long-token"]
 }
@@ -101,6 +102,16 @@ fn remove_some(index: &mut RouteIndex, list: &mut Vec<Sub>) -> bool {
         }
     }
     !remove_one(index, list, 1)
+}
+
+/// The numbers of the subscriptions whose patterns match the subject, in their order, by looking at each one.
+fn plain_matching(alloc: Global, subs: &[Sub], subject: &[u8]) -> Result<Vec<u64>, NoMemory> {
+    let found = subs
+        .iter()
+        .filter(|sub| matches(sub.pattern.as_slice(), subject))
+        .map(|sub| sub.id)
+        .collect(alloc)?;
+    Ok(found)
 }
 
 /// Whether both find the same.

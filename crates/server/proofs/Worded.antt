@@ -1,24 +1,23 @@
 -- Laws of the command line.
 use Rattle.std.proofs.Common.{◌≡◌, Bool, true, false, ◌&&◌, not, List, Option, None, Some, Result, Ok, Err, refl, subst, ap}
-use Rattle.std.specs.Prelude.{IsTrue, IfSome, codes, if◌then◌else◌}
+use Rattle.std.specs.Prelude.{IsTrue, IfSome, if◌then◌else◌}
 use Rattle.js_base.specs.Bytes.{Bytes}
 use Rattle.js_base.specs.Names.{name_of}
-use Rattle.js_base.specs.Subjects.{tokens, meets, is_pattern_text}
+use Rattle.js_base.specs.Subjects.{is_stream_subject}
 use Rattle.js_base.specs.declared.name.NameFault.{NameFault}
-use Rattle.js_model.specs.Configs as configs
 use Rattle.server.specs.declared.words.NamedStream.{NamedStream}
-use Rattle.server.specs.Words.{is_value, is_stream_subject, values_of, named, checked, stream_of, is_pipe, over, command_of}
+use Rattle.server.specs.Words.{is_value, values_of, named, checked, stream_of, is_pipe, over, command_of}
 use Rattle.server.specs.declared.words.Command.{Command}
 use Rattle.server.specs.declared.words.Command.TheVariants.{Pipe}
 
--- of three facts the last two
-last_two : (a b c d : Bool) → a && (b && c && d) ≡ true → c && d ≡ true
-last_two true true c d e = e
-last_two true false c d e = cc
-last_two false b c d e = cc
+-- of three facts the last
+last_of_three : (a b c : Bool) → a && b && c ≡ true → c ≡ true
+last_of_three true true c e = e
+last_of_three true false c e = cc
+last_of_three false b c e = cc
 
 abbrev IsFine : Bytes → Type 0
-IsFine subject = IsTrue (configs.is_stream_subject subject)
+IsFine subject = IsTrue (is_stream_subject subject)
 
 named_subject : (subject : Bytes) (stream : NamedStream) (read : Result Bytes NameFault) → IsFine subject → named subject read ≡ Some stream → IsFine stream.subject
 named_subject subject stream (Ok name) fine e =
@@ -28,12 +27,11 @@ named_subject subject stream (Err fault) fine e = cc
 
 checked_subject : (values : Option (Bytes × Bytes)) (stream : NamedStream) → checked values ≡ Some stream → IsFine stream.subject
 checked_subject None stream e = cc
-checked_subject (Some values) stream e = by (is_value values.0 && is_stream_subject values.1) refl
+checked_subject (Some values) stream e = by (is_value values.0 && is_value values.1 && is_stream_subject values.1) refl
   where
-    by : (b : Bool) → (is_value values.0 && is_stream_subject values.1) ≡ b → IsFine stream.subject
+    by : (b : Bool) → (is_value values.0 && is_value values.1 && is_stream_subject values.1) ≡ b → IsFine stream.subject
     by true t =
-        named_subject values.1 stream (name_of values.0)
-        (last_two (is_value values.0) (is_value values.1) (is_pattern_text values.1) (not (meets (tokens values.1) (tokens (codes "$JS.>")))) t) (rw t at e)
+        named_subject values.1 stream (name_of values.0) (last_of_three (is_value values.0) (is_value values.1) (is_stream_subject values.1) t) (rw t at e)
     by false t = let k = rw t at e in cc
 
 -- the subject of a command's stream may be one

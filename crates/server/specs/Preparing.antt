@@ -5,7 +5,7 @@ use Rattle.js_base.specs.declared.out.ApiError.{ApiError}
 use Rattle.link_edge.specs.Moments.{ReadsMoments}
 use Rattle.js_api.specs.Desks.{World, DeskEntry, DeskRun, opening}
 use Rattle.js_api.specs.Making.{Making, Stands, IsRefused, MakesStream}
-use Rattle.js_desk.specs.Defaults.{default_config}
+use Rattle.desk_calls.specs.Defaults.{default_config}
 use Rattle.server.specs.declared.words.NamedStream.{NamedStream}
 
 -- The clock was read once, and the entries of the making of this stream, which ended so, lead from the opening of a desk over so many volumes to

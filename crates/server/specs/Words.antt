@@ -7,7 +7,7 @@ use Rattle.js_base.specs.Bytes.{Bytes, same}
 use Rattle.std.specs.Borrow.{Bor}
 use Rattle.js_base.specs.Names.{name_of}
 use Rattle.js_base.specs.declared.name.NameFault.{NameFault}
-use Rattle.js_base.specs.Subjects.{tokens, meets, is_pattern_text}
+use Rattle.js_base.specs.Subjects.{is_stream_subject}
 use Rattle.server.specs.declared.words.NamedStream.{NamedStream}
 use Rattle.server.specs.declared.words.Command.{Command}
 use Rattle.server.specs.declared.words.Command.TheVariants.{Pipe}
@@ -20,10 +20,6 @@ texts words = map string_bytes words
 -- the value of an option does not begin with a dash
 abbrev pub is_value : Bytes → Bool
 is_value text = not (starts_with nat_eq text (codes "-"))
-
--- a pattern that keeps clear of the subjects of the JetStream API
-abbrev pub is_stream_subject : Bytes → Bool
-is_stream_subject text = is_value text && is_pattern_text text && not (meets (tokens text) (tokens (codes "$JS.>")))
 
 abbrev pub pair_now : Bor Bytes × Bor Bytes → Bytes × Bytes
 pair_now p = (p.0.now, p.1.now)
@@ -41,7 +37,8 @@ named subject (Err fault) = None
 
 abbrev pub checked : Option (Bytes × Bytes) → Option NamedStream
 checked None = None
-checked (Some values) = if is_value values.0 && is_stream_subject values.1 then named values.1 (name_of values.0) else None
+checked (Some values) =
+    if is_value values.0 && is_value values.1 && is_stream_subject values.1 then named values.1 (name_of values.0) else None
 
 -- the stream that the command line names, if it has the form for one
 abbrev pub stream_of : List Bytes → Option NamedStream

@@ -2,7 +2,7 @@
 
 ghost use Rattle.std.specs.Prelude.{◌≡◌, ◌≢◌, ◌≤◌, ◌↔◌, List, None, false, IfSome, IsTrue, length, vec_len};
 ghost use Rattle.js_api.specs.Desks.{opening};
-ghost use Rattle.js_desk.specs.Faults.{GivesBack};
+ghost use Rattle.js_desk.specs.GivingBack.{GivesBack};
 ghost use Rattle.js_model.specs.Configs.{is_stream_subject};
 ghost use Rattle.link_edge.specs.Reports.{IsBalanced};
 ghost use Rattle.server.specs.Outside.{words_line, number_line, Prints};

@@ -1,11 +1,11 @@
 //! The command line.
 
 ghost use Rattle.std.specs.Prelude.{◌≡◌, option_map};
-ghost use Rattle.server.specs.Words.{texts, pair_now, is_value, is_stream_subject, is_pipe, values_of, stream_of, command_of, Reads};
+ghost use Rattle.server.specs.Words.{texts, pair_now, is_value, is_pipe, values_of, stream_of, command_of, Reads};
 
 use js_base::{Blob, Name, NameFault};
 use std::alloc::Global;
-use subject_match::{check_pattern, overlaps};
+use subject_match::is_stream_subject;
 use thiserror::Error;
 
 /// A stream that the command line names, and the one subject that it takes.
@@ -36,13 +36,6 @@ fn is_value(text: &[u8]) -> bool
     ensures { result ≡ is_value text.now }
 {
     !text.starts_with(b"-")
-}
-
-/// Whether the text may be the subject of the stream.
-fn is_stream_subject(text: &[u8]) -> bool
-    ensures { result ≡ is_stream_subject text.now }
-{
-    is_value(text) && check_pattern(text).is_ok() && !overlaps(text, b"$JS.>")
 }
 
 /// Whether the command line is `pipe` alone.
@@ -81,7 +74,7 @@ fn read_stream(alloc: Global, words: &[String]) -> Result<NamedStream, WordsFaul
     let Some((name, pattern)) = values_of(words) else {
         return Err(WordsFault::Words);
     };
-    if !is_value(name) || !is_stream_subject(pattern) {
+    if !is_value(name) || !is_value(pattern) || !is_stream_subject(pattern) {
         return Err(WordsFault::Words);
     }
     let name = match Name::read(alloc, name) {

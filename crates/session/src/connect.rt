@@ -11,7 +11,7 @@ use js_json::{Fields, JsonFault, object};
 use std::alloc::Global;
 
 /// What a client asks for by CONNECT.
-#[derive(Clone, Copy, Debug, PartialEq, Eq)]
+#[derive(Clone, Copy)]
 pub(crate) struct ConnectOptions {
     /// Whether its operations are answered by `+OK`.
     pub(crate) verbose: bool,

@@ -15,7 +15,7 @@ use std::alloc::Global;
 const FLUSH: usize = 65_536;
 
 /// Why bytes were not given whole.
-#[derive(Clone, Copy, Debug, PartialEq, Eq)]
+#[derive(Clone, Copy)]
 pub(crate) enum GiveFault {
     /// The link failed.
     LinkFault,

@@ -13,7 +13,7 @@ const PATIENCE: u64 = 120_000_000_000;
 const LONG_PATIENCE: u64 = 240_000_000_000;
 
 /// The PINGs that the client has not answered, by their moments.
-#[derive(Clone, Copy, Debug, PartialEq, Eq)]
+#[derive(Clone, Copy)]
 pub(crate) enum Pings {
     Answered,
     One(Moment),
@@ -21,7 +21,7 @@ pub(crate) enum Pings {
 }
 
 /// How the session speaks with its client.
-#[derive(Clone, Copy, Debug, PartialEq, Eq)]
+#[derive(Clone, Copy)]
 pub(crate) struct Manners {
     /// Whether operations are answered by `+OK`.
     pub(crate) verbose: bool,

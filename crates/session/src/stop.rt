@@ -4,7 +4,7 @@ use crate::ending::Refusal;
 use js_base::NoMemory;
 
 /// Why an operation ends the session.
-#[derive(Clone, Copy, Debug, PartialEq, Eq)]
+#[derive(Clone, Copy)]
 pub(crate) enum Stop {
     /// It is refused.
     Refused(Refusal),

@@ -21,7 +21,7 @@ use nats_frames::Decoder;
 use std::alloc::Global;
 
 /// Where a session stands between two turns.
-#[derive(Drop, Debug)]
+#[derive(Drop)]
 pub(crate) struct Course {
     pub(crate) decoder: Decoder,
     pub(crate) manners: Manners,

@@ -7,3 +7,4 @@ pub mod Passing
 pub mod Numbers
 pub mod Valid
 pub mod Printed
+pub mod Defaults

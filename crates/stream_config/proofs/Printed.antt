@@ -7,6 +7,7 @@ use Rattle.serde_json.specs.Data.{array}
 use Rattle.serde_json.specs.Find.{as_str}
 use Rattle.js_base.specs.Bytes.{Bytes, is_empty}
 use Rattle.js_base.proofs.Meeting.{same_self}
+use Rattle.js_json.specs.Building.{limit, texts}
 use Rattle.js_json.specs.Kinds.{all_as, as_texts, as_whole}
 use Rattle.js_json.specs.Fields.{taken, unless_null, flag_in, number_in, text_in, texts_in, part_in, is_number as is_numeral, is_given}
 use Rattle.js_model.specs.Configs.{is_limit, is_number, is_description, is_stream_subject, is_stream_config}
@@ -22,17 +23,17 @@ use Rattle.stream_config.specs.declared.table.Served.TheVariants.{Now}
 use Rattle.stream_config.specs.Standings.{text_standing, number_standing, subjects_standing, are_subjects, is_subject}
 use Rattle.stream_config.specs.Table.{table}
 use Rattle.stream_config.specs.Reading.{found, judged, is_refused, is_other, names_another, natural_or_0, limit_of, reading, standing, config_in, subjects_or}
-use Rattle.stream_config.specs.Printing.{printed, texts_items, limit_data}
-use Rattle.stream_config.specs.Laws.{IsServed}
+use Rattle.stream_config.specs.Printing.{printed}
+use Rattle.js_model.specs.Served.{IsServed}
 use Rattle.stream_config.proofs.Numbers.{nanos_is, limit_is, limit_kept, window_kept}
 use Rattle.stream_config.proofs.Passing.{Passing, none_refused, passing_from}
 use Rattle.stream_config.proofs.Refusing.{read_whole}
-use Rattle.stream_config.proofs.Parts.{ConfigParts, config_parts}
+use Rattle.js_model.proofs.ConfigParts.{ConfigParts, config_parts}
 
 -- ---- the values that are not the usual ones
 
 -- the texts of a list are read back
-texts_back : (texts : List Bytes) → all_as as_str (texts_items texts) ≡ Some texts
+texts_back : (list : List Bytes) → all_as as_str (texts list) ≡ Some list
 texts_back [] = refl
 texts_back (text ∷ more) = rw (texts_back more) refl
 
@@ -42,11 +43,11 @@ below n h = grind (arith, nat_tests)
 window_stands : (window : ℕ) → nat_lt 0 window ≡ true → is_number window ≡ true → is_refused Now (number_standing Window 0 (pos window)) ≡ false
 window_stands window some number = rw (nanos_is window some, below window number) refl
 
-limit_stands : (age : ℕ) (limit : Option ℕ) → is_limit 256 limit ≡ true → is_refused Now (judged (number_standing (Limit 256) age) (taken as_whole (codes "max_consumers") (unless_null (limit_data limit)))) ≡ false
+limit_stands : (age : ℕ) (most : Option ℕ) → is_limit 256 most ≡ true → is_refused Now (judged (number_standing (Limit 256) age) (taken as_whole (codes "max_consumers") (unless_null (limit most)))) ≡ false
 limit_stands age None h = refl
 limit_stands age (Some n) h = let parts = and_parts (nat_lt 0 n) (nat_le n 256) h in rw (limit_is 256 n parts.0, parts.1) refl
 
-limit_back : (limit : Option ℕ) → is_limit 256 limit ≡ true → limit_of (natural_or_0 (found (taken as_whole (codes "max_consumers") (unless_null (limit_data limit))))) ≡ limit
+limit_back : (most : Option ℕ) → is_limit 256 most ≡ true → limit_of (natural_or_0 (found (taken as_whole (codes "max_consumers") (unless_null (limit most))))) ≡ most
 limit_back None h = refl
 limit_back (Some n) h = limit_kept n (and_parts (nat_lt 0 n) (nat_le n 256) h).0
 
@@ -101,8 +102,8 @@ unfolding is_subject
 stand [] filled few each = absurd (cc)
 stand (subject ∷ more) filled few each = let are : are_subjects (subject ∷ more) ≡ true = and_from _ _ few each in rw are refl
 
-subjects_stand : (subjects : List Bytes) → not (is_empty subjects) ≡ true → nat_le (length subjects) 256 ≡ true → list_all is_stream_subject subjects ≡ true
-    → is_refused Now (judged subjects_standing (taken as_texts (codes "subjects") (Some (array (texts_items subjects))))) ≡ false
+pub subjects_stand : (subjects : List Bytes) → not (is_empty subjects) ≡ true → nat_le (length subjects) 256 ≡ true → list_all is_stream_subject subjects ≡ true
+    → is_refused Now (judged subjects_standing (taken as_texts (codes "subjects") (Some (array (texts subjects))))) ≡ false
 subjects_stand subjects filled few each = rw (texts_back subjects) (stand subjects filled few each)
 
 passing : (description : Bytes) (window : ℕ) (consumers : Option ℕ) (name : Bytes) (subjects : List Bytes)
@@ -144,16 +145,16 @@ same_name (byte ∷ bytes) window consumers name subjects = named name
 
 -- ---- and it is what they say
 
-subjects_back : (name : Bytes) (subjects : List Bytes) → not (is_empty subjects) ≡ true → subjects_or name (found (taken as_texts (codes "subjects") (Some (array (texts_items subjects))))) ≡ subjects
+pub subjects_back : (name : Bytes) (subjects : List Bytes) → not (is_empty subjects) ≡ true → subjects_or name (found (taken as_texts (codes "subjects") (Some (array (texts subjects))))) ≡ subjects
 subjects_back name subjects filled = rw (texts_back subjects) (some subjects filled)
   where
     some : (subjects : List Bytes) → not (is_empty subjects) ≡ true → subjects_or name (Some subjects) ≡ subjects
     some [] filled = absurd (cc)
     some (subject ∷ more) filled = refl
 
-served_same : (description : Bytes) (window other : ℕ) (consumers others : Option ℕ) (name : Bytes) (subjects texts : List Bytes) → other ≡ window → others ≡ consumers → texts ≡ subjects
-    → served_config description window consumers name subjects ≡ served_config description other others name texts
-served_same description window other consumers others name subjects texts e₁ e₂ e₃ = rw (e₁, e₂, e₃) refl
+served_same : (description : Bytes) (window other : ℕ) (consumers others : Option ℕ) (name : Bytes) (subjects read : List Bytes) → other ≡ window → others ≡ consumers → read ≡ subjects
+    → served_config description window consumers name subjects ≡ served_config description other others name read
+served_same description window other consumers others name subjects read e₁ e₂ e₃ = rw (e₁, e₂, e₃) refl
 
 config_back : (description : Bytes) (window : ℕ) (consumers : Option ℕ) (name : Bytes) (subjects : List Bytes)
     → ConfigParts (served_config description window consumers name subjects)

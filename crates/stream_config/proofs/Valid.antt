@@ -22,7 +22,7 @@ use Rattle.stream_config.specs.declared.table.Served.TheVariants.{Now, Later}
 use Rattle.stream_config.specs.Standings.{text_standing, number_standing, nanos_standing, subjects_standing, is_subject, are_subjects}
 use Rattle.stream_config.specs.Table.{Line, table, most}
 use Rattle.stream_config.specs.Reading.{check, judged, standing, found, natural_or_0, natural_in, age_in, limit_of, discard_of, retention_of, window_of, usual_window, subjects_or, config_in, reading}
-use Rattle.stream_config.specs.Laws.{IsServed}
+use Rattle.js_model.specs.Served.{IsServed}
 use Rattle.stream_config.proofs.Named.{name_subject, read_name}
 use Rattle.stream_config.proofs.Numbers.{some, nanos_is, limit_is, limit_kept, window_kept}
 use Rattle.stream_config.proofs.Passing.{Passing, fits, passes_now, passes_later, read_passes}

@@ -1,10 +1,10 @@
--- How a stream's configuration is printed: its JSON object, whose keys ascend. No limit is -1, but 0 for an age, and a description is there where
--- it is not empty.
-use Rattle.std.specs.Prelude.{ℕ, negsuc, List, [], ◌∷◌, map, codes, Option, Some, None, IsUtf8}
+-- How a stream's configuration is printed, by JetStream's stream configuration: its JSON object, whose keys ascend. No limit is -1, but 0 for an age,
+-- and a description is there if it is not empty.
+use Rattle.std.specs.Prelude.{[], ◌∷◌, codes, IsUtf8}
 use Rattle.std.specs.List.{All}
-use Rattle.serde_json.specs.Data.{unsigned, negative, Data, number, string, array, Items, Members, no_members, member}
-use Rattle.serde_json.specs.View.{items_of}
+use Rattle.serde_json.specs.Data.{string, array, Members, no_members, member}
 use Rattle.js_base.specs.Bytes.{Bytes}
+use Rattle.js_json.specs.Building.{count, limit, texts}
 use Rattle.js_model.specs.declared.stream_config.Retention.{Retention}
 use Rattle.js_model.specs.declared.stream_config.Retention.TheVariants.{Limits, Interest, WorkQueue}
 use Rattle.js_model.specs.declared.stream_config.Discard.{Discard}
@@ -20,13 +20,6 @@ abbrev pub discard_text : Discard → Bytes
 discard_text Old = codes "old"
 discard_text DiscardNew = codes "new"
 
-abbrev pub limit_data : Option ℕ → Data
-limit_data None = number (negative (negsuc 0))
-limit_data (Some limit) = number (unsigned limit)
-
-abbrev pub texts_items : List Bytes → Items
-texts_items texts = items_of (map string texts)
-
 -- a field with a text, and further ones
 abbrev pub described : Bytes → Members → Members
 described [] more = more
@@ -37,18 +30,18 @@ unfoldable pub printed : StreamConfig → Members
 printed c =
     described c.description
     (member (codes "discard") (string (discard_text c.discard))
-    (member (codes "duplicate_window") (number (unsigned c.duplicate_window))
-    (member (codes "max_age") (number (unsigned c.max_age))
-    (member (codes "max_bytes") (limit_data c.max_bytes)
-    (member (codes "max_consumers") (limit_data c.max_consumers)
-    (member (codes "max_msg_size") (limit_data c.max_msg_size)
-    (member (codes "max_msgs") (limit_data c.max_msgs)
-    (member (codes "max_msgs_per_subject") (limit_data c.max_msgs_per_subject)
+    (member (codes "duplicate_window") (count c.duplicate_window)
+    (member (codes "max_age") (count c.max_age)
+    (member (codes "max_bytes") (limit c.max_bytes)
+    (member (codes "max_consumers") (limit c.max_consumers)
+    (member (codes "max_msg_size") (limit c.max_msg_size)
+    (member (codes "max_msgs") (limit c.max_msgs)
+    (member (codes "max_msgs_per_subject") (limit c.max_msgs_per_subject)
     (member (codes "name") (string c.name)
-    (member (codes "num_replicas") (number (unsigned 1))
+    (member (codes "num_replicas") (count 1)
     (member (codes "retention") (string (retention_text c.retention))
     (member (codes "storage") (string (codes "file"))
-    (member (codes "subjects") (array (texts_items c.subjects))
+    (member (codes "subjects") (array (texts c.subjects))
     no_members)))))))))))))
 
 -- the texts that are printed are UTF-8

@@ -13,6 +13,6 @@ mod table;
 mod tests;
 
 pub use fault::ConfigFault;
-pub use laws::{law_printable, law_printed_read};
+pub use laws::{law_default, law_printable, law_printed_read};
 pub use printing::print;
 pub use reading::read;

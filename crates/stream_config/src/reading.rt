@@ -7,7 +7,7 @@ ghost use Rattle.js_model.specs.Configs.{is_stream_config};
 ghost use Rattle.stream_config.specs.Reading.{limit_in, retention_of, discard_of, window_of, subjects_or, found, word_in, config_in, reading};
 ghost use Rattle.stream_config.specs.Answers.{ReadsConfig};
 ghost use Rattle.stream_config.specs.Printing.{IsPrinted};
-ghost use Rattle.stream_config.specs.Laws.{IsServed};
+ghost use Rattle.js_model.specs.Served.{IsServed};
 
 use crate::fault::ConfigFault;
 use crate::judging::{check_fields, check_name};

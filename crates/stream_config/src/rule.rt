@@ -5,7 +5,7 @@ ghost use Rattle.stream_config.specs.Standings.{flag_standing, limit_standing, n
 ghost use Rattle.std.specs.List.{list_all};
 
 use js_base::Blob;
-use subject_match::{check_pattern, overlaps};
+use subject_match::is_stream_subject;
 
 /// What the value of a field is.
 #[derive(Clone, Copy, Debug, PartialEq, Eq)]
@@ -232,7 +232,7 @@ impl TextRule {
 fn is_subject(text: &[u8]) -> bool
     ensures value { result ≡ is_subject text.now }
 {
-    check_pattern(text).is_ok() && !overlaps(text, b"$JS.>")
+    is_stream_subject(text)
 }
 
 /// Whether each of them is such a pattern.

@@ -1,4 +1,4 @@
--- A text has no fault just where it is a subject, or a pattern.
+-- A text has no fault exactly if it is a subject, or a pattern.
 use Rattle.std.proofs.Common.{ℕ, ◌≡◌, ◌+◌, Bool, true, false, cond, nat_lt, nat_le, ◌&&◌, ◌||◌, not, List, [], ◌∷◌, Option, Some, None, length, is_none, refl, sym, ap, ◌∙◌, arith}
 use Rattle.std.specs.Option.{option_map}
 use Rattle.std.specs.List.{list_all}

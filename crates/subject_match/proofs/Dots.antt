@@ -1,4 +1,4 @@
--- The tokens of a text by its first dot, and what matches where they end.
+-- The tokens of a text by its first dot, and what matches at their end.
 use Rattle.std.proofs.Common.{ℕ, ◌≡◌, ◌+◌, ◌-◌, ◌==◌, Bool, true, false, cond, ltb, List, All, [], ◌∷◌, Option, Some, None, length, take, drop, position, refl, sym, ◌∙◌, arith, is_some, not, Bor}
 use Rattle.std.specs.Option.{option_copied}
 use Rattle.std.specs.List.{onto_first, position_or_len}
@@ -47,7 +47,7 @@ tokens_without_dot text h = go (ltb (position_or_len is_dot text) (length text))
     go true f k = cc
     go false f k = slice_split_none is_dot text (all_fail text f)
 
--- the tokens of what is left behind a reference
+-- the tokens of what is left after a reference
 abbrev parts : Option (Bor Bytes) → List Bytes
 parts left = tokens_left (option_copied left)
 
@@ -57,7 +57,7 @@ none_left None false h = cc
 none_left (Some text) true h = cc
 none_left (Some text) false h = some_token text.now
 
--- where a pattern ends, the other text has to end
+-- at a pattern's end the other text has to end
 pub matches_at_end : (wanted given : Option (Bor Bytes)) (over : Bool) → wanted ≡ None → is_some given ≡ not over → over ≡ matches (parts wanted) (parts given)
 matches_at_end wanted given over h k = rw h (sym (none_left given over k) ∙ go (parts given))
   where
@@ -72,7 +72,7 @@ meets_at_end first second over h k = rw h (sym (none_left second over k) ∙ go 
     go [] = refl
     go (part ∷ more) = refl
 
--- where the other text ends first, nothing matches
+-- if the other text ends first, nothing matches
 pub matches_too_few : (wanted given : Option (Bor Bytes)) (text : Bor Bytes) → wanted ≡ Some text → given ≡ None → false ≡ matches (parts wanted) (parts given)
 matches_too_few wanted given text h k = rw (h, k) (go (tokens text.now) (some_token text.now))
   where

@@ -15,7 +15,7 @@ abbrev pub barred : Kind → Bytes → Bool → Bool
 barred Subject token is_last = is_wild token
 barred Pattern token is_last = same token rest && not is_last
 
--- the first token that is empty or barred, where the first of them begins at this place
+-- the first token that is empty or barred, if the first token begins at this place
 abbrev pub token_fault : Kind → ℕ → List Bytes → Option SubjectFault
 token_fault kind at [] = None
 token_fault kind at (token ∷ more) =

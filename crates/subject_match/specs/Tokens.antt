@@ -1,9 +1,9 @@
--- What is left of a text behind its first tokens.
+-- What is left of a text after its first tokens.
 use Rattle.std.specs.Prelude.{ℕ, ◌+◌, List, [], Option, Some, None, length}
 use Rattle.js_base.specs.Bytes.{Bytes}
 use Rattle.js_base.specs.Subjects.{tokens}
 
--- the tokens of what stands behind a dot, and none where there is no dot
+-- the tokens after a dot, and none if there is no dot
 abbrev pub tokens_left : Option Bytes → List Bytes
 tokens_left None = []
 tokens_left (Some text) = tokens text

@@ -7,6 +7,7 @@ ghost use Rattle.js_base.specs.Subjects.{is_subject_text, is_pattern_text, is_pu
 ghost use Rattle.subject_match.specs.Faults.{fault_of, token_fault, barred, bad_byte, broken, earlier, place, subject_fault, pattern_fault};
 
 use crate::fault::SubjectFault;
+use crate::server_subject::is_api;
 use crate::token::{is_rest, is_star, split_token};
 use std::str;
 
@@ -44,12 +45,12 @@ pub fn check_pattern(bytes: &[u8]) -> Result<(), SubjectFault>
     }
 }
 
-/// Whether a client may publish to the text: a subject without wildcards, or behind `$JS.API.` any pattern, since a request's subject holds a
+/// Whether a client may publish to the text: a subject without wildcards, or below `$JS.API.` any pattern, since a request's subject holds a
 /// consumer's filter.
 pub fn is_publish_subject(bytes: &[u8]) -> bool
     ensures value { result ≡ is_publish_text bytes.now }
 {
-    check_subject(bytes).is_ok() || (bytes.starts_with(b"$JS.API.") && check_pattern(bytes).is_ok())
+    check_subject(bytes).is_ok() || (is_api(bytes) && check_pattern(bytes).is_ok())
 }
 
 /// What is wrong with the text, if anything is.
@@ -105,7 +106,7 @@ fn bad_byte(text: &[u8]) -> Option<usize>
     text.iter().position(|byte| !is_token_byte(*byte))
 }
 
-/// Whether the byte may stand in a token, as far as it tells alone.
+/// Whether the byte, by itself, may stand in a token.
 fn is_token_byte(byte: u8) -> bool
     ensures value { result ≡ is_token_byte byte }
 {

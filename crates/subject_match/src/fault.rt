@@ -5,7 +5,7 @@ use thiserror::Error;
 /// Why a text is no subject, or no pattern. Places count bytes from 0.
 #[derive(Clone, Copy, Debug, PartialEq, Eq, Error)]
 pub enum SubjectFault {
-    /// A token without bytes: where it would begin.
+    /// A token without bytes, at the place where it would begin.
     #[error("an empty token at {0}")]
     EmptyToken(usize),
     /// A control byte, a blank, DEL, or the first byte that breaks UTF-8.

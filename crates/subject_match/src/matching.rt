@@ -5,8 +5,8 @@ ghost use Rattle.js_base.specs.Subjects.{tokens, matches, meets};
 
 use crate::token::{is_rest, is_star, split_token};
 
-/// Whether the pattern matches the subject: token by token, where `*` stands for one token, and `>` as the last one for all that are left,
-/// of which there is at least one. Any bytes are taken, and mean the tokens between their dots.
+/// Whether the pattern matches the subject: token by token. `*` stands for one token, and a last `>` for all that are left, of
+/// which there is at least one. Any bytes are taken, and mean the tokens between their dots.
 pub fn matches(pattern: &[u8], subject: &[u8]) -> bool
     ensures value { result ≡ matches (tokens pattern.now) (tokens subject.now) }
 {
@@ -30,7 +30,7 @@ pub fn matches(pattern: &[u8], subject: &[u8]) -> bool
     given.is_none()
 }
 
-/// Whether two patterns overlap: where both are patterns, whether some subject is matched by both.
+/// Whether two patterns overlap: if both are patterns, whether some subject is matched by both.
 pub fn overlaps(p: &[u8], q: &[u8]) -> bool
     ensures value { result ≡ meets (tokens p.now) (tokens q.now) }
 {

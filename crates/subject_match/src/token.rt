@@ -6,7 +6,7 @@ ghost use Rattle.js_base.specs.Bytes.{is_empty, same};
 ghost use Rattle.js_base.specs.Subjects.{tokens, star, rest};
 ghost use Rattle.subject_match.specs.Tokens.{tokens_left, size_left};
 
-/// The first token, and what is left behind its dot, if it has one.
+/// The first token, and what follows its dot, if it has one.
 pub(crate) fn split_token(text: &[u8]) -> (&[u8], Option<&[u8]>)
     ensures tokens { tokens text.now ≡ result.0.now ∷ tokens_left (option_copied result.1) }
     ensures last { is_none result.1 ≡ is_empty (tokens_left (option_copied result.1)) }

@@ -1,6 +1,6 @@
 use Rattle.std.proofs.Common.{◌≡◌, ◌+◌, ◌≤◌, ◌++◌, vec_len}
 use Rattle.std.specs.Prelude.{reverse, vec_capacity}
-use Rattle.js_desk.specs.Grounds.{volumes}
+use Rattle.desk_hold.specs.Grounds.{volumes}
 use Rattle.js_desk.proofs.volumes.give_back.Given as goal
 
 -- those that came back, and those to come, and room for these

@@ -1,6 +1,6 @@
 use Rattle.std.proofs.Common.{◌≡◌, ◌+◌, ◌≤◌, ◌++◌, vec_len}
 use Rattle.std.specs.Prelude.{reverse, vec_capacity}
-use Rattle.js_desk.specs.Grounds.{volumes, AreFresh}
+use Rattle.desk_hold.specs.Grounds.{volumes, AreFresh}
 use Rattle.js_desk.proofs.volumes.open_reversed.Given as goal
 
 -- the volumes that are left, and those of the places, and room on both sides

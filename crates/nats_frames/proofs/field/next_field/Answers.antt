@@ -1,7 +1,8 @@
 use Rattle.std.proofs.Common.{sym, ◌∙◌, ap, subst}
 use Rattle.std.specs.List.{prefix_len}
 use Rattle.nats_frames.specs.declared.field.Span.{Span}
-use Rattle.nats_frames.specs.Grammar.{is_blank, is_solid}
+use Rattle.js_base.specs.Bytes.{is_blank}
+use Rattle.nats_frames.specs.Grammar.{is_solid}
 use Rattle.nats_frames.specs.Fields.{IsNextField}
 use Rattle.nats_frames.proofs.NextField.{Scanned, next_is, nothing_next}
 use Rattle.nats_frames.proofs.field.next_field.Goals as goal

@@ -1,5 +1,5 @@
 use Rattle.std.proofs.Common.{refl}
-use Rattle.js_desk.proofs.Refused.{wants, collect_done}
+use Rattle.desk_hold.proofs.Refused.{wants, collect_done}
 use Rattle.js_desk.proofs.Solos.{makes_one, made_for, stands_on, client_is, open_now, collect_made}
 use Rattle.js_desk.proofs.solo_desk.SoloDeskDesk.collect.Goals as goal
 

@@ -1,5 +1,5 @@
 use Rattle.std.proofs.Common.{refl}
-use Rattle.js_desk.proofs.Refused.{open_kind}
+use Rattle.desk_hold.proofs.Refused.{open_kind}
 use Rattle.js_desk.proofs.Solos.{makes_one, stands_on}
 use Rattle.js_desk.proofs.solo_desk.SoloDeskDesk.open.Goals as goal
 

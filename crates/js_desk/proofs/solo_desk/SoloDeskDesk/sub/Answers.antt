@@ -1,5 +1,5 @@
 use Rattle.std.proofs.Common.{refl}
-use Rattle.js_desk.proofs.Refused.{sub_kind}
+use Rattle.desk_hold.proofs.Refused.{sub_kind}
 use Rattle.js_desk.proofs.Solos.{makes_one, made_for, stands_on, client_is, open_now}
 use Rattle.js_desk.proofs.solo_desk.SoloDeskDesk.sub.Goals.{in-Ok, in-Err-TooManySubs, in-Err-NoMemory}
 use Rattle.js_desk.proofs.solo_desk.SoloDeskDesk.sub.Goals as goal

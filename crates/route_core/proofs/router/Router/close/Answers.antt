@@ -1,6 +1,6 @@
-use Rattle.route_parts.proofs.Routing.Numbers.{numbered_filter}
-use Rattle.route_parts.proofs.Routing.Calls.{close_routed}
-use Rattle.route_parts.proofs.Routing.Laws.{close_closes}
+use Rattle.route_core.proofs.Numbers.{numbered_filter}
+use Rattle.route_core.proofs.Calls.{close_routed}
+use Rattle.route_core.proofs.Laws.{close_closes}
 use Rattle.route_core.proofs.router.Router.close.Goals as goal
 
 pub invariant_of-self : goal.invariant_of-self

@@ -2,11 +2,11 @@ use Rattle.std.proofs.Common.{◌≡◌, ◌∙◌, sym, ap, refl, subst, set, O
 use Rattle.std.specs.List.{position}
 use Rattle.js_model.specs.Router.{is_session, without_collected}
 use Rattle.js_model.specs.Routing.{collected_told}
-use Rattle.route_parts.specs.Sessions.{AreNumbered, with_first}
-use Rattle.route_parts.proofs.Routing.Numbers.{numbered_first}
-use Rattle.route_parts.proofs.Routing.Places.{first_at, changed_there}
-use Rattle.route_parts.proofs.Routing.Calls.{collect_refused, collect_routed}
-use Rattle.route_parts.proofs.Routing.Laws.{collect_keeps, collect_leaves_fewer}
+use Rattle.route_core.specs.Sessions.{AreNumbered, with_first}
+use Rattle.route_core.proofs.Numbers.{numbered_first}
+use Rattle.route_core.proofs.Places.{first_at, changed_there}
+use Rattle.route_core.proofs.Calls.{collect_refused, collect_routed}
+use Rattle.route_core.proofs.Laws.{collect_keeps, collect_leaves_fewer}
 use Rattle.route_core.proofs.Idle.{collect_leaves_idle}
 use Rattle.route_core.proofs.Searching.{in_order}
 use Rattle.route_core.proofs.router.Router.collect.Goals as goal

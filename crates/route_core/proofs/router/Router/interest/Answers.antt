@@ -1,5 +1,5 @@
 use Rattle.std.specs.Option.{option_copied}
-use Rattle.route_parts.proofs.Routing.Calls.{interest_routed}
+use Rattle.route_core.proofs.Calls.{interest_routed}
 use Rattle.route_core.proofs.router.Router.interest.Goals as goal
 
 pub returns : goal.returns

@@ -1,9 +1,9 @@
 use Rattle.std.proofs.Common.{◌+◌, refl, arith}
 use Rattle.js_model.specs.Router.{new_session}
-use Rattle.route_parts.proofs.Routing.Numbers.{numbered_push, new_number}
-use Rattle.route_parts.proofs.Routing.Handing.{router_of}
-use Rattle.route_parts.proofs.Routing.Calls.{worn_routed, open_routed}
-use Rattle.route_parts.proofs.Routing.Laws.{opens_last}
+use Rattle.route_core.proofs.Numbers.{numbered_push, new_number}
+use Rattle.route_core.proofs.Handing.{router_of}
+use Rattle.route_core.proofs.Calls.{worn_routed, open_routed}
+use Rattle.route_core.proofs.Laws.{opens_last}
 use Rattle.route_core.proofs.router.Router.open.Goals as goal
 
 pub returns-then-number-eq-END-clause-routes : goal.returns-then-number-eq-END-clause-routes

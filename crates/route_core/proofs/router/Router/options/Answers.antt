@@ -1,10 +1,10 @@
 use Rattle.std.proofs.Common.{◌∙◌, ap, refl}
 use Rattle.js_model.specs.Router.{Done, is_session}
-use Rattle.route_parts.specs.Sessions.{with_first, set_options}
-use Rattle.route_parts.proofs.Routing.Places.{length-with_first, lent_back}
-use Rattle.route_parts.proofs.Routing.Numbers.{numbered_first}
-use Rattle.route_parts.proofs.Routing.Calls.{options_routed}
-use Rattle.route_parts.proofs.Routing.Laws.{options_keep}
+use Rattle.route_core.specs.Sessions.{with_first, set_options}
+use Rattle.route_core.proofs.Places.{length-with_first, lent_back}
+use Rattle.route_core.proofs.Numbers.{numbered_first}
+use Rattle.route_core.proofs.Calls.{options_routed}
+use Rattle.route_core.proofs.Laws.{options_keep}
 use Rattle.route_core.proofs.Searching.{in_order}
 use Rattle.route_core.proofs.router.Router.options.Goals as goal
 

@@ -3,14 +3,14 @@ use Rattle.std.proofs.lemmas.List.{length-map}
 use Rattle.std.specs.List.{fold}
 use Rattle.js_base.specs.declared.out.Out.{Out}
 use Rattle.js_model.specs.Router.{Session, Subscription, Taken}
-use Rattle.route_parts.specs.declared.delivery.Delivery.{Delivery}
-use Rattle.route_parts.specs.Sessions.{is_publisher_open, deaf_of}
-use Rattle.route_parts.specs.Subscriptions.{takers_of}
-use Rattle.route_parts.specs.Deliveries.{deliveries_of, handed_over, counted_once}
-use Rattle.route_parts.proofs.Routing.Places.{lent_back}
-use Rattle.route_parts.proofs.Routing.Handing.{numbered_handed, length-handed}
-use Rattle.route_parts.proofs.Routing.Calls.{publish_refused, publish_routed}
-use Rattle.route_parts.proofs.Routing.Laws.{publish_keeps}
+use Rattle.route_core.specs.declared.delivery.Delivery.{Delivery}
+use Rattle.route_core.specs.Sessions.{is_publisher_open, deaf_of}
+use Rattle.route_core.specs.Subscriptions.{takers_of}
+use Rattle.route_core.specs.Deliveries.{deliveries_of, handed_over, counted_once}
+use Rattle.route_core.proofs.Places.{lent_back}
+use Rattle.route_core.proofs.Handing.{numbered_handed, length-handed}
+use Rattle.route_core.proofs.Calls.{publish_refused, publish_routed}
+use Rattle.route_core.proofs.Laws.{publish_keeps}
 use Rattle.route_core.proofs.Searching.{in_order}
 use Rattle.route_core.proofs.router.Router.publish.Goals as goal
 

@@ -1,5 +1,5 @@
 use Rattle.std.specs.Option.{option_copied}
-use Rattle.route_parts.proofs.Routing.Calls.{sub_refused, sub_in_use, sub_full, sub_added}
+use Rattle.route_core.proofs.Calls.{sub_refused, sub_in_use, sub_full, sub_added}
 use Rattle.route_core.proofs.Searching.{in_order}
 use Rattle.route_core.proofs.router.Router.sub.Goals as goal
 

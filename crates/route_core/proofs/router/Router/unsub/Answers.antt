@@ -1,4 +1,4 @@
-use Rattle.route_parts.proofs.Routing.Calls.{unsub_refused, unsub_routed}
+use Rattle.route_core.proofs.Calls.{unsub_refused, unsub_routed}
 use Rattle.route_core.proofs.Searching.{in_order}
 use Rattle.route_core.proofs.router.Router.unsub.Goals as goal
 

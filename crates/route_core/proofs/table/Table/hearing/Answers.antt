@@ -2,7 +2,7 @@ use Rattle.std.proofs.Common.{◌∙◌, List, map, refl, ℕ, sym, ap, append-n
 use Rattle.std.specs.Prelude.{filter}
 use Rattle.std.proofs.lemmas.List.{take_all}
 use Rattle.js_model.specs.Router.{Subscription}
-use Rattle.route_parts.specs.Subscriptions.{hears}
+use Rattle.route_core.specs.Subscriptions.{hears}
 use Rattle.route_core.proofs.Taking.{added_one}
 use Rattle.route_core.proofs.Tables.{at_numbers, is_reached, heard_more, all_heard}
 use Rattle.route_core.proofs.table.Table.hearing.Goals as goal

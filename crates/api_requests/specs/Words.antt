@@ -1,0 +1,20 @@
+-- The subjects of the calls that are read, by the JetStream API reference.
+use Rattle.std.specs.Prelude.{codes}
+use Rattle.js_base.specs.Bytes.{Bytes}
+use Rattle.api_requests.specs.declared.call.GeneralCall.{GeneralCall}
+use Rattle.api_requests.specs.declared.call.GeneralCall.TheVariants as general
+use Rattle.api_requests.specs.declared.call.StreamCall.{StreamCall}
+use Rattle.api_requests.specs.declared.call.StreamCall.TheVariants as stream
+
+-- the subject of a call on no stream of its own
+abbrev pub general_words : GeneralCall → Bytes
+general_words general.AccountInfo = codes "$JS.API.INFO"
+general_words general.StreamNames = codes "$JS.API.STREAM.NAMES"
+general_words general.StreamList = codes "$JS.API.STREAM.LIST"
+
+-- what stands before the stream's token
+abbrev pub stream_words : StreamCall → Bytes
+stream_words stream.Create = codes "$JS.API.STREAM.CREATE."
+stream_words stream.Update = codes "$JS.API.STREAM.UPDATE."
+stream_words stream.Info = codes "$JS.API.STREAM.INFO."
+stream_words stream.Delete = codes "$JS.API.STREAM.DELETE."

@@ -1,0 +1,2 @@
+pub mod StreamInfos
+pub mod Pages

@@ -1,0 +1,216 @@
+//! The message that answers what a stream was asked, for its reply subject.
+
+ghost use Rattle.std.specs.Prelude.{◌≡◌, IfOk, IfSome, IsUtf8};
+ghost use Rattle.std.specs.Option.{option_copied, option_to_list};
+ghost use Rattle.api_calls.specs.declared.call.ApiCall.TheVariants as calls;
+ghost use Rattle.api_calls.specs.Names.{name_of};
+ghost use Rattle.api_replies.specs.Printed.{IsText};
+ghost use Rattle.api_replies.specs.declared.reply.ApiReply.TheVariants as replies;
+ghost use Rattle.js_api.specs.Outputs.{answer_of, api_reply, dropped, informed, text_for};
+ghost use Rattle.js_model.specs.Proper.{reply_of};
+ghost use Rattle.place_engine.specs.Shown.{IsShown};
+
+use crate::copying::copy_info;
+use crate::replying::message_to;
+use js_api::{ApiCall, ApiReply, publish_text, reply_text};
+use js_base::{ApiError, Blob, NoMemory, Out};
+use js_model::{Publish, Reply, What};
+use std::alloc::Global;
+
+/// The refusal of this call.
+fn refused(alloc: Global, call: ApiCall, refusal: &ApiError) -> Result<ApiReply, NoMemory>
+    requires text { IsUtf8 refusal.now.text }
+    ensures value { IfOk result (λ told. told ≡ replies.Refused (name_of call) refusal.now) }
+    ensures texts { IfOk result IsText }
+{
+    let copy = ApiError {
+        code: refusal.code,
+        err_code: refusal.err_code,
+        text: refusal.text.clone()?,
+    };
+    Ok(ApiReply::Refused(Blob::of(alloc, call.name())?, copy))
+}
+
+/// How the making of a stream is answered.
+fn created(alloc: Global, reply: &Reply) -> Result<Option<ApiReply>, NoMemory>
+    requires shown { IsShown reply.now }
+    ensures value { IfOk result (λ told. told ≡ informed replies.StreamCreate (name_of calls.StreamCreate) reply.now) }
+    ensures texts { IfOk result (λ told. IfSome told IsText) }
+{
+    match reply {
+        Reply::Info(info) => Ok(Some(ApiReply::StreamCreate(copy_info(alloc, info)?))),
+        Reply::Refused(refusal) => Ok(Some(refused(alloc, ApiCall::StreamCreate, refusal)?)),
+        Reply::Done
+        | Reply::Published(_)
+        | Reply::Duplicate(_)
+        | Reply::Purged(_)
+        | Reply::ConsumerInfo(_)
+        | Reply::Message(_)
+        | Reply::Names { .. }
+        | Reply::Infos { .. }
+        | Reply::Confirmed
+        | Reply::Silent
+        | Reply::Nobody => Ok(None),
+    }
+}
+
+/// How the change of a stream is answered.
+fn updated(alloc: Global, reply: &Reply) -> Result<Option<ApiReply>, NoMemory>
+    requires shown { IsShown reply.now }
+    ensures value { IfOk result (λ told. told ≡ informed replies.StreamUpdate (name_of calls.StreamUpdate) reply.now) }
+    ensures texts { IfOk result (λ told. IfSome told IsText) }
+{
+    match reply {
+        Reply::Info(info) => Ok(Some(ApiReply::StreamUpdate(copy_info(alloc, info)?))),
+        Reply::Refused(refusal) => Ok(Some(refused(alloc, ApiCall::StreamUpdate, refusal)?)),
+        Reply::Done
+        | Reply::Published(_)
+        | Reply::Duplicate(_)
+        | Reply::Purged(_)
+        | Reply::ConsumerInfo(_)
+        | Reply::Message(_)
+        | Reply::Names { .. }
+        | Reply::Infos { .. }
+        | Reply::Confirmed
+        | Reply::Silent
+        | Reply::Nobody => Ok(None),
+    }
+}
+
+/// How the question for a stream's information is answered.
+fn shown(alloc: Global, reply: &Reply) -> Result<Option<ApiReply>, NoMemory>
+    requires shown { IsShown reply.now }
+    ensures value { IfOk result (λ told. told ≡ informed replies.StreamInfo (name_of calls.StreamInfo) reply.now) }
+    ensures texts { IfOk result (λ told. IfSome told IsText) }
+{
+    match reply {
+        Reply::Info(info) => Ok(Some(ApiReply::StreamInfo(copy_info(alloc, info)?))),
+        Reply::Refused(refusal) => Ok(Some(refused(alloc, ApiCall::StreamInfo, refusal)?)),
+        Reply::Done
+        | Reply::Published(_)
+        | Reply::Duplicate(_)
+        | Reply::Purged(_)
+        | Reply::ConsumerInfo(_)
+        | Reply::Message(_)
+        | Reply::Names { .. }
+        | Reply::Infos { .. }
+        | Reply::Confirmed
+        | Reply::Silent
+        | Reply::Nobody => Ok(None),
+    }
+}
+
+/// How the dropping of a stream is answered.
+fn deleted(alloc: Global, reply: &Reply) -> Result<Option<ApiReply>, NoMemory>
+    requires shown { IsShown reply.now }
+    ensures value { IfOk result (λ told. told ≡ dropped reply.now) }
+    ensures texts { IfOk result (λ told. IfSome told IsText) }
+{
+    match reply {
+        Reply::Done => Ok(Some(ApiReply::StreamDelete)),
+        Reply::Refused(refusal) => Ok(Some(refused(alloc, ApiCall::StreamDelete, refusal)?)),
+        Reply::Info(_)
+        | Reply::Published(_)
+        | Reply::Duplicate(_)
+        | Reply::Purged(_)
+        | Reply::ConsumerInfo(_)
+        | Reply::Message(_)
+        | Reply::Names { .. }
+        | Reply::Infos { .. }
+        | Reply::Confirmed
+        | Reply::Silent
+        | Reply::Nobody => Ok(None),
+    }
+}
+
+/// How the stream answers a call of the API, `None` if what it was asked is none that is answered.
+fn api_reply(alloc: Global, what: &What, reply: &Reply) -> Result<Option<ApiReply>, NoMemory>
+    requires shown { IsShown reply.now }
+    ensures value { IfOk result (λ told. told ≡ api_reply what.now reply.now) }
+    ensures texts { IfOk result (λ told. IfSome told IsText) }
+{
+    match what {
+        What::Make { .. } => created(alloc, reply),
+        What::Change { .. } => updated(alloc, reply),
+        What::Drop { .. } => deleted(alloc, reply),
+        What::StreamInfo { .. } => shown(alloc, reply),
+        What::Publish(_)
+        | What::Purge { .. }
+        | What::Delete { .. }
+        | What::MakeConsumer { .. }
+        | What::DropConsumer { .. }
+        | What::Ack { .. }
+        | What::Pull { .. }
+        | What::Tick
+        | What::MessageGet { .. }
+        | What::ConsumerInfo { .. }
+        | What::ConsumerNames { .. }
+        | What::ConsumerList { .. } => Ok(None),
+    }
+}
+
+/// The text of the answer of the stream with this name. `None` if there is nothing to answer.
+#[tactic(auto, using(crate::proofs::AckTexts::ack_text))]
+fn text_for(
+    alloc: Global,
+    stream: &[u8],
+    what: &What,
+    reply: &Reply,
+) -> Result<Option<Blob>, NoMemory>
+    requires utf8 { IsUtf8 stream.now }
+    requires shown { IsShown reply.now }
+    ensures value { IfOk result (λ text. text ≡ text_for stream.now what.now reply.now) }
+{
+    if let What::Publish(_) = what {
+        return publish_text(alloc, stream, reply);
+    }
+    match api_reply(alloc, what, reply)? {
+        Some(told) => Ok(Some(reply_text(alloc, &told)?)),
+        None => Ok(None),
+    }
+}
+
+/// The subject for the answer, if one is given.
+fn reply_of(what: &What) -> Option<&Blob>
+    ensures value { option_copied result ≡ reply_of what.now }
+{
+    match what {
+        What::Make { reply, .. }
+        | What::Change { reply, .. }
+        | What::Drop { reply }
+        | What::Publish(Publish { reply, .. })
+        | What::Purge { reply, .. }
+        | What::Delete { reply, .. }
+        | What::MakeConsumer { reply, .. }
+        | What::DropConsumer { reply, .. }
+        | What::Ack { reply, .. }
+        | What::Pull { reply, .. }
+        | What::StreamInfo { reply }
+        | What::MessageGet { reply, .. }
+        | What::ConsumerInfo { reply, .. }
+        | What::ConsumerNames { reply, .. }
+        | What::ConsumerList { reply, .. } => reply.as_ref(),
+        What::Tick => None,
+    }
+}
+
+/// The message that answers what the stream of this name was asked: none if no reply subject was given, or if such a question or such a reply has no
+/// answer.
+pub fn answer_of(
+    alloc: Global,
+    stream: &[u8],
+    what: &What,
+    reply: &Reply,
+) -> Result<Option<Out>, NoMemory>
+    requires utf8 { IsUtf8 stream.now }
+    requires shown { IsShown reply.now }
+    ensures answer { IfOk result (λ answer. option_to_list answer ≡ answer_of stream.now what.now reply.now) }
+{
+    let Some(to) = reply_of(what) else {
+        return Ok(None);
+    };
+    match text_for(alloc, stream, what, reply)? {
+        Some(text) => Ok(Some(message_to(to, text)?)),
+        None => Ok(None),
+    }
+}

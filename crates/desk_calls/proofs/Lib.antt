@@ -1,0 +1,11 @@
+pub mod Answered
+pub mod Asked
+pub mod BySubject
+pub mod Endings
+pub mod Made
+pub mod Offered
+pub mod Passed
+pub mod Plain
+pub mod Published
+pub mod Visited
+pub mod Walks

@@ -1,0 +1,12 @@
+pub mod Refused
+pub mod Sent
+pub mod Leading
+pub mod Outcomes
+pub mod Holds
+pub mod Ticked
+pub mod Known
+pub mod Grounded
+pub mod Changed
+pub mod Stays
+pub mod Opened
+pub mod Passed

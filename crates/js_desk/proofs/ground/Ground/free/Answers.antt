@@ -1,5 +1,0 @@
-use Rattle.js_desk.proofs.Stays.{freed_grounded}
-use Rattle.js_desk.proofs.ground.Ground.free.Goals as goal
-
-pub invariant_of-self : goal.invariant_of-self
-invariant_of-self g c = freed_grounded _ _ _ _ _ _ c.remove.ensures.removed c.self.invariant

@@ -1,8 +1,0 @@
-use Rattle.js_desk.proofs.Grounded.{routed, routed_keeps}
-use Rattle.js_desk.proofs.ground.Ground.sub.Goals as goal
-
-pub returns-clause-routes : goal.returns-clause-routes
-returns-clause-routes g c = routed _ _ _ _ _ _ _ c.self.view_is _ _ c.sub.ensures.routes
-
-pub returns-clause-kept : goal.returns-clause-kept
-returns-clause-kept g c = routed_keeps _ _ _ _ _ _ _ c.self.view_is c.sub.ensures.stay

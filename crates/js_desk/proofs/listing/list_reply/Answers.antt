@@ -1,5 +1,0 @@
-use Rattle.js_desk.proofs.Ordered.{page_texts}
-use Rattle.js_desk.proofs.listing.list_reply.Goals as goal
-
-pub returns-clause-texts : goal.returns-clause-texts
-returns-clause-texts c = rw (c.in_ok-streams.ensures.value, c.page.ensures.value, c.as_slice.ensures.value) (page_texts 256 c.args.offset c.in_ok-list.list.items c.in_ok-list.ensures.sound.each)

@@ -1,5 +1,0 @@
-use Rattle.js_desk.proofs.Made.{may_make_default}
-use Rattle.js_desk.proofs.making.prepared.Goals as goal
-
-pub returns-clause-asked : goal.returns-clause-asked
-returns-clause-asked c = may_make_default _ c.args.name.now c.args.subject.now c.in_ok-default_config.ensures.config c.as_slice.ensures.name c.requires.subject

@@ -1,0 +1,5 @@
+use Rattle.model_laws.proofs.Sounding.{law_sound}
+use Rattle.model_laws.proofs.laws.law_sound.Goals as goal
+
+pub returns : goal.returns
+returns c = record { law = law_sound }

@@ -1,0 +1,77 @@
+-- What holds of each run of a place, in the words of JetStream's streams and consumers: the laws follow from the definitions of the machine.
+use Rattle.std.specs.Prelude.{◌≡◌, Contains, ℕ, List, [], ◌∷◌, Some, IsTrue, ◌↔◌}
+use Rattle.js_base.specs.Bytes.{Bytes}
+use Rattle.js_base.specs.declared.out.Out.{Out}
+use Rattle.js_model.specs.declared.stream.Message.{Message}
+use Rattle.js_model.specs.declared.stream.Stream.{Stream}
+use Rattle.js_model.specs.declared.stream.State.{State}
+use Rattle.js_model.specs.declared.stream.State.TheVariants.{Live}
+use Rattle.js_model.specs.declared.consumer_config.ConsumerConfig.{ConsumerConfig}
+use Rattle.js_model.specs.declared.consumer.Consumer.{Consumer}
+use Rattle.js_model.specs.declared.event.Event.{Event}
+use Rattle.js_model.specs.declared.reply.Reply.{Reply}
+use Rattle.js_model.specs.declared.reply.Reply.TheVariants.{Published}
+use Rattle.js_model.specs.declared.entry.Delivered.{Delivered}
+use Rattle.js_model.specs.declared.entry.PlaceEntry.{PlaceEntry}
+use Rattle.js_model.specs.Advance.{advance}
+use Rattle.js_model.specs.Deliver.{Delivers}
+use Rattle.js_model.specs.Ready.{is_ready}
+use Rattle.js_model.specs.Runs.{RunFrom, IsStep, messages_of}
+use Rattle.model_laws.specs.Moments.{moment_of}
+use Rattle.model_laws.specs.Sound.{IsSound}
+use Rattle.model_laws.specs.OneConsumer.{consumer_of}
+use Rattle.model_laws.specs.Acked.{EndsEntry, NeverSent}
+use Rattle.model_laws.specs.Repeats.{keeps_window, EachEvent, IsRepeatReply, Repeats}
+use Rattle.model_laws.specs.Leaving.{Leaves}
+use Rattle.model_laws.specs.Order.{IsInOrder, Makes, IsFromStart}
+use Rattle.model_laws.specs.Redelivery.{due_first, Redelivers}
+use Rattle.model_laws.specs.Limits.{AreLimited}
+
+-- soundness is kept
+abbrev pub LawSound : Type 0
+LawSound = (count : ℕ) (old new : State) (entries : List PlaceEntry) → IsSound old → RunFrom count old entries new → IsSound new
+
+-- what is acknowledged is not sent again
+abbrev pub LawAcked : Type 0
+LawAcked = (name : Bytes) (n count later : ℕ) (old mid new : State) (e : Event) (now : ℕ) (reply : Reply) (outs : List Out) (entries : List PlaceEntry)
+    → IsSound old → IsStep count old e now reply outs mid → EndsEntry old e now mid name n → RunFrom later mid entries new → NeverSent name n entries
+
+-- a repeat is told its first sequence
+abbrev pub LawDuplicate : Type 0
+LawDuplicate = (n count between after : ℕ) (old mid later new : State) (first second : Event) (now repeated : ℕ) (reply : Reply) (outs others : List Out) (entries : List PlaceEntry)
+    → IsSound old → IsStep count old first now (Published n) outs mid → RunFrom between mid entries later → EachEvent keeps_window entries
+    → IsStep after later second repeated reply others new → Repeats mid later repeated first.what second.what → IsRepeatReply n reply
+
+-- a stored message leaves only for a reason. The message itself is gone: another one of its sequence does not stand for it
+abbrev pub LawKept : Type 0
+LawKept = (count later : ℕ) (first old new : State) (entries : List PlaceEntry) (entry : PlaceEntry) (m : Message)
+    → IsSound first → RunFrom count first entries old → RunFrom later old (entry ∷ []) new
+    → Contains (messages_of old) m → (Contains (messages_of new) m → ⊥) → Leaves old entry new m
+
+-- deliveries come in order
+abbrev pub LawOrder : Type 0
+LawOrder = (name : Bytes) (count : ℕ) (old new : State) (entries : List PlaceEntry) (c : Consumer)
+    → IsSound old → consumer_of name old ≡ Some c → RunFrom count old entries new → IsInOrder name old c entries
+
+-- deliveries to a consumer that was made begin where its deliver policy says
+abbrev pub LawStart : Type 0
+LawStart = (name : Bytes) (config : ConsumerConfig) (count later : ℕ) (old : Stream) (made new : State) (e : Event) (now : ℕ) (reply : Reply) (outs : List Out) (entries : List PlaceEntry)
+    → IsSound (Live old) → IsStep count (Live old) e now reply outs made → Makes (Live old) e reply name config → RunFrom later made entries new
+    → IsFromStart name config (advance old now) made entries
+
+-- a delivery is made again only when it is due
+abbrev pub LawRedelivery : Type 0
+LawRedelivery = (name : Bytes) (n count : ℕ) (old new : State) (entries : List PlaceEntry) (c : Consumer)
+    → IsSound old → consumer_of name old ≡ Some c → RunFrom count old entries new → Redelivers name n c.config.ack_wait (moment_of old) (due_first n c) entries
+
+-- limits hold
+abbrev pub LawLimits : Type 0
+LawLimits = (count : ℕ) (old new : State) (entries : List PlaceEntry) → IsSound old → (r : RunFrom count old entries new) → AreLimited count old new entries r
+
+-- one of the three cases of a delivery holds
+abbrev pub CanDeliver : Stream → List Bytes → Consumer → Type 0
+CanDeliver a listening c = (what : Delivered) × (outs : List Out) × (after : Consumer) × Delivers a listening c what outs after
+
+-- a consumer is ready if and only if something can be delivered to it
+abbrev pub LawReady : Type 0
+LawReady = (a : Stream) (listening : List Bytes) (c : Consumer) → IsTrue (is_ready a listening c) ↔ CanDeliver a listening c

@@ -1,0 +1,14 @@
+pub mod Moments
+pub mod Firm
+pub mod Sound
+pub mod OneConsumer
+pub mod Acked
+pub mod Repeats
+pub mod Leaving
+pub mod Sendings
+pub mod Order
+pub mod Redelivery
+pub mod Turns
+pub mod Limits
+pub mod Legal
+pub mod Laws

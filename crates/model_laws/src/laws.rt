@@ -1,0 +1,52 @@
+//! What holds of each run of a place, by the definitions of the machine alone.
+
+ghost use Rattle.model_laws.specs.Laws.{LawSound, LawAcked, LawDuplicate, LawKept, LawOrder, LawStart, LawRedelivery, LawLimits, LawReady};
+
+/// Soundness is kept: each state that a run reaches from a sound one is sound.
+pub fn law_sound()
+    ensures law { LawSound }
+{}
+
+/// A sequence whose entry an acknowledgement ended is not sent again to its consumer, until it or the stream is dropped.
+pub fn law_acked()
+    ensures law { LawAcked }
+{}
+
+/// After a publish was stored with an id, another publish of that id is told the first sequence, as long as the window
+/// has not passed, the configuration stays and the stream is not dropped. It may be refused first for its size, its
+/// headers or the expected stream.
+pub fn law_duplicate()
+    ensures law { LawDuplicate }
+{}
+
+/// A stored message leaves by an event or a delivery only if it was too old by then, the event purged it, deleted it or
+/// dropped the stream, a limit dropped it from what the event left, or the retention did not ask for it. The retention
+/// goes by the consumers as the event or the delivery left them, while they still had the message.
+pub fn law_kept()
+    ensures law { LawKept }
+{}
+
+/// What is sent to a consumer has consumer sequences one after the other, was stored before and matches its filter;
+/// first deliveries are its picks in order, and then ascending sequences from its cursor on. A consumer that is made
+/// begins at the picks and the cursor of its deliver policy, with consumer sequence 1.
+pub fn law_order()
+    ensures law { LawOrder }
+    ensures start { LawStart }
+{}
+
+/// A sequence is sent again once more than before, and not before the moment that its last delivery, a NAK or a WPI set.
+pub fn law_redelivery()
+    ensures law { LawRedelivery }
+{}
+
+/// A state within its limits stays so, and a message is sent at most `max_deliver` times. Each message to a pull consumer
+/// goes to the first pull that was taken and has not ended, within what is left of its batch and its bytes.
+pub fn law_limits()
+    ensures law { LawLimits }
+{}
+
+/// A consumer is ready if and only if something can be delivered to it: a candidate is sent, or it ends the first pull,
+/// which is too small for it, or there is no candidate and the first pull that does not wait ends.
+pub fn law_ready()
+    ensures law { LawReady }
+{}

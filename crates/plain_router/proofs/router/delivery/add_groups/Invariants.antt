@@ -1,8 +1,0 @@
-use Rattle.std.proofs.Common.{◌≡◌, ◌++◌, take}
-use Rattle.route_parts.specs.Subscriptions.{group_takers}
-use Rattle.route_parts.specs.Deliveries.{deliveries_of}
-use Rattle.plain_router.proofs.router.delivery.add_groups.Given as goal
-
--- the messages for the takers so far are added
-abbrev pub invariant-loop-at : goal.invariant-loop-at
-invariant-loop-at l = l.list.items ≡ l.initial.list.items ++ deliveries_of l.sessions l.out (group_takers l.out.to l.deaf (take l.at l.subscriptions))

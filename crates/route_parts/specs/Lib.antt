@@ -1,4 +1,0 @@
-pub mod Queues
-pub mod Sessions
-pub mod Subscriptions
-pub mod Deliveries
