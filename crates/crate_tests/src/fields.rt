@@ -72,7 +72,11 @@ fn times_are_read(rt: HostRuntime) -> Result<(), Fail> {
         assert_eq!(rt; time_of(alloc, text), Err(wrong(alloc)?), "{text}");
     }
     for value in ["1", "[]", "{}", "true"] {
-        assert_eq!(rt; with_value(alloc, value)?.time("f"), Err(wrong(alloc)?), "{value}");
+        assert_eq!(rt;
+            with_value(alloc, value)?.time("f"),
+            Err(wrong(alloc)?),
+            "{value}"
+        );
     }
     Ok(())
 }

@@ -19,8 +19,6 @@ mod kept;
 #[cfg(test)]
 mod place;
 #[cfg(test)]
-mod publishes;
-#[cfg(test)]
 mod replies;
 #[cfg(test)]
 mod router;
