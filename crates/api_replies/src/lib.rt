@@ -8,8 +8,6 @@ mod pub_ack;
 mod refusal;
 mod reply;
 mod stream_info;
-#[cfg(test)]
-mod tests;
 
 pub use printing::reply_text;
 pub use pub_ack::publish_text;

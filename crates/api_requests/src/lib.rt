@@ -8,8 +8,6 @@ mod listing;
 mod name;
 mod reading;
 mod request;
-#[cfg(test)]
-mod tests;
 
 pub use fault::ApiFault;
 pub use name::call_name;

@@ -8,6 +8,3 @@ mod names;
 mod used;
 
 pub use catalog::Catalog;
-
-#[cfg(test)]
-mod tests;

@@ -29,6 +29,3 @@ pub use name::{Name, NameFault};
 pub use out::{ApiError, Out, Outs};
 pub use spot::Spot;
 pub use writing::{put_bytes, put_decimal};
-
-#[cfg(test)]
-mod tests;

@@ -6,8 +6,6 @@ mod fields;
 mod kinds;
 pub mod laws;
 mod object_builder;
-#[cfg(test)]
-mod tests;
 mod time;
 
 pub use fault::JsonFault;

@@ -18,8 +18,6 @@ mod pipe;
 mod script;
 mod sink;
 mod system_clock;
-#[cfg(test)]
-mod tests;
 mod writer_sink;
 
 pub use answers::{Accept, Accepted, Answer, Give, Put, Take};

@@ -11,8 +11,6 @@ mod line;
 mod look;
 mod op;
 mod shape;
-#[cfg(test)]
-mod tests;
 mod verb;
 mod write;
 

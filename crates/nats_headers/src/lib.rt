@@ -6,8 +6,6 @@ mod headers;
 pub mod laws;
 mod line;
 mod status;
-#[cfg(test)]
-mod tests;
 
 pub use fault::HeaderFault;
 pub use headers::{Headers, is_block, read_headers};

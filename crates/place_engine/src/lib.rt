@@ -10,6 +10,3 @@ mod stored;
 
 pub use faults::{Left, OpenFault, PlaceFault};
 pub use place::Place;
-
-#[cfg(test)]
-mod tests;

@@ -15,6 +15,3 @@ mod table;
 mod waiting;
 
 pub use router::Router;
-
-#[cfg(test)]
-mod tests;

@@ -9,6 +9,3 @@ mod sub;
 
 pub use index::RouteIndex;
 pub use sub::Sub;
-
-#[cfg(test)]
-mod tests;

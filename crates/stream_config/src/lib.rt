@@ -9,8 +9,6 @@ mod printing;
 mod reading;
 mod rule;
 mod table;
-#[cfg(test)]
-mod tests;
 
 pub use fault::ConfigFault;
 pub use laws::{law_default, law_printable, law_printed_read};

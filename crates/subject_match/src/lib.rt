@@ -11,6 +11,3 @@ pub use check::{check_pattern, check_subject, is_publish_subject};
 pub use fault::SubjectFault;
 pub use matching::{matches, overlaps};
 pub use server_subject::{is_acknowledgement, is_api, is_stream_subject};
-
-#[cfg(test)]
-mod tests;

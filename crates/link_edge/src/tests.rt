@@ -1,4 +1,0 @@
-//! The forms in memory and the adapters, each once.
-
-mod adapters;
-mod memory;
