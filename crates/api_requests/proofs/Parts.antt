@@ -13,7 +13,8 @@ use Rattle.js_model.specs.Configs.{is_number}
 use Rattle.js_model.specs.Proper.{if_given}
 use Rattle.js_model.specs.declared.stream_config.StreamConfig.{StreamConfig}
 use Rattle.stream_config.specs.Reading.{reading, config_in, config_unless, refusal_in}
-use Rattle.stream_config.proofs.Named.{read_name, name_utf8}
+use Rattle.js_model.proofs.NameTexts.{name_utf8}
+use Rattle.stream_config.proofs.Named.{read_name}
 use Rattle.stream_config.proofs.Parts.{printable}
 use Rattle.stream_config.proofs.Valid.{read_valid, read_served}
 use Rattle.api_requests.specs.Bodies.{◌>>=◌, or_no_name, stream_name, offset_in, offset_told, small_offset, subject_in, subject_told, pattern_told, fields_of, listing_of, setup_of}

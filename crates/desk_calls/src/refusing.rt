@@ -1,6 +1,6 @@
 //! Answers to calls of the API that the server gives itself.
 
-ghost use Rattle.std.specs.Prelude.{◌≡◌, IfOk, IsUtf8, is_ok};
+ghost use Rattle.std.specs.Prelude.{IsUtf8, is_ok};
 ghost use Rattle.api_replies.specs.Printed.{IsText};
 ghost use Rattle.js_api.specs.Api.{answer, refusal as refusal_outs};
 ghost use Rattle.js_api.specs.Holding.{IsSent};

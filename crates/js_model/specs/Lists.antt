@@ -1,4 +1,4 @@
--- Relations on lists, of no documentation: what lacks, what ascends, what lies apart, what is a part.
+-- Relations on lists, this server's own: what a list lacks, ascending lists, lists apart, parts of a list.
 use Rattle.std.specs.Prelude.{◌≡◌, ℕ, ◌+◌, ◌≤◌, Bool, true, false, List, [], ◌∷◌, ⊤}
 use Rattle.std.specs.List.{list_any}
 use Rattle.js_base.specs.Bytes.{has}

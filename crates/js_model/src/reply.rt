@@ -61,7 +61,7 @@ pub enum Reply {
     Published(u64),
     /// Its id was there, with the sequence that it was given first.
     Duplicate(u64),
-    /// So many messages were removed.
+    /// This many messages were removed.
     Purged(u64),
     ConsumerInfo(ConsumerInfo),
     Message(Message),

@@ -1,5 +1,4 @@
-pub mod PlainLists
-pub mod PlainLimits
+pub mod PlainPages
 pub mod PlainLoops
 pub mod PlainPlaces
 pub mod PlainEndings

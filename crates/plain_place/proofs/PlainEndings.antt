@@ -8,7 +8,7 @@ use Rattle.plain_place.specs.declared.deliveries.Sending.{Sending}
 use Rattle.js_model.specs.Deliver.{without_first}
 use Rattle.plain_place.specs.Words.{emptied}
 
--- it is made where some pull does not wait
+-- it is made if some pull does not wait
 pub ready_from : (given : Option Sending) (xs : List Pull) → given ≡ emptied (find (λ p. p.no_wait) xs) → is_some given ≡ list_any (λ p. p.no_wait) xs
 ready_from given xs e = ap is_some e ∙ among xs
   where
@@ -30,7 +30,7 @@ stays (x ∷ xs) e = go x.no_wait (stays xs) e
     go true f k = cc
     go false f k = ap (λ (ys : List Pull). x ∷ ys) (f k)
 
--- where it is not made the consumer stays
+-- if it is not made, the consumer stays as it is
 pub idle_from : (given : Option Sending) (c : Consumer) (after : List Pull) → given ≡ emptied (find (λ p. p.no_wait) c.waiting) → after ≡ without_first (λ p. p.no_wait) c.waiting → IfNone given (record c { waiting = after } ≡ c)
 idle_from None c after e k = ap (λ (ps : List Pull). record c { waiting = ps }) (k ∙ stays c.waiting (sym e))
 idle_from (Some x) c after e k = tt

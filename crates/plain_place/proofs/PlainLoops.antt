@@ -33,7 +33,7 @@ keep_more {X} t xs ys i x l e r h = rw e (sym (filter_more t xs i x l ∙ ap (λ
 pub skip_more : {X : Type 0} (t : X → Bool) (xs ys : List X) (i : ℕ) (x : X) → i < length xs → ys ≡ filter t (take i xs) → x ≡ get_or xs i x → t x ≡ false → ys ≡ filter t (take (i + 1) xs)
 skip_more {X} t xs ys i x l e r h = e ∙ sym (filter_more t xs i x l ∙ ap (λ (w : List X). filter t (take i xs) ++ w) (rw (← r) (ap (λ (b : Bool). cond b (x ∷ []) []) h)) ∙ append-nil _)
 
--- the same where something is made of each that passes, behind what was there before
+-- the same, if something is made of each that passes, after what was there before
 pub made_more : {X Y : Type 0} (t : X → Bool) (f : X → Y) (old ys : List Y) (xs : List X) (i : ℕ) (x : X) → i < length xs → ys ≡ old ++ map f (filter t (take i xs)) → x ≡ get_or xs i x → t x ≡ true
     → ys ++ f x ∷ [] ≡ old ++ map f (filter t (take (i + 1) xs))
 made_more t f old ys xs i x l e r h =
@@ -43,7 +43,7 @@ pub made_same : {X Y : Type 0} (t : X → Bool) (f : X → Y) (old ys : List Y) 
     → ys ≡ old ++ map f (filter t (take (i + 1) xs))
 made_same t f old ys xs i x l e r h = e ∙ ap (λ ms. old ++ map f ms) (skip_more t xs (filter t (take i xs)) i x l refl r h)
 
--- the same where each that passes is put into a list
+-- the same, if each that passes is put into a list
 pub folded_more : {X Y B : Type 0} (t : X → Bool) (f : X → Y) (g : B → Y → B) (old b : B) (xs : List X) (i : ℕ) (x : X) → i < length xs → b ≡ fold g old (map f (filter t (take i xs))) → x ≡ get_or xs i x → t x ≡ true
     → g b (f x) ≡ fold g old (map f (filter t (take (i + 1) xs)))
 folded_more t f g old b xs i x l e r h =
@@ -55,7 +55,7 @@ pub folded_same : {X Y B : Type 0} (t : X → Bool) (f : X → Y) (g : B → Y �
     → b ≡ fold g old (map f (filter t (take (i + 1) xs)))
 folded_same t f g old b xs i x l e r h = e ∙ ap (λ ms. fold g old (map f ms)) (skip_more t xs (filter t (take i xs)) i x l refl r h)
 
--- the same where a list is made of each
+-- the same, if a list is made of each
 pub joined_more : {X Y : Type 0} (f : X → List Y) (ys : List Y) (xs : List X) (i : ℕ) (x : X) → i < length xs → ys ≡ flat_map f (take i xs) → x ≡ get_or xs i x → ys ++ f x ≡ flat_map f (take (i + 1) xs)
 joined_more {X} f ys xs i x l e r =
     rw (e, take_more xs i x l) (sym (flat_map-append f (take i xs) (get_or xs i x ∷ []) ∙ ap (λ zs. flat_map f (take i xs) ++ zs) (append-nil _ ∙ ap f (sym r))))

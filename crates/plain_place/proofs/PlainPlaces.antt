@@ -40,7 +40,7 @@ pending_at new (p ∷ ps) = go (nat_lt p.seq new.seq) (pending_at new ps)
     go true h = rw one_more (ap (λ (ns : List Pending). p ∷ ns) h)
     go false h = here (p.seq == new.seq)
 
--- the list without its first element that passes: those in front of it, and those behind
+-- the list without its first element that passes: those before it, and those after it
 pub without_at : {X : Type 0} (t : X → Bool) (xs : List X) → without_first t xs ≡ remove xs (prefix_len (λ x. not (t x)) xs)
 without_at t [] = refl
 without_at {X} t (x ∷ xs) = go (t x) (without_at t xs)
@@ -52,7 +52,7 @@ without_at {X} t (x ∷ xs) = go (t x) (without_at t xs)
     go true h = refl
     go false h = rw one_more (ap (λ (ys : List X). x ∷ ys) h)
 
--- where none passes nothing goes
+-- if none passes, the list stays as it is
 pub without_none : {X : Type 0} (t : X → Bool) (xs : List X) → length xs ≤ prefix_len (λ x. not (t x)) xs → without_first t xs ≡ xs
 without_none t [] h = refl
 without_none {X} t (x ∷ xs) h = go (t x) (without_none t xs) h

@@ -1,4 +1,4 @@
--- The fields of a status block as the printer takes them.
+-- The fields of a status block as the printer takes them, in words of this server's own.
 use Rattle.std.specs.Prelude.{ℕ}
 use Rattle.std.specs.Borrow.{Bor}
 use Rattle.js_base.specs.Bytes.{Bytes}

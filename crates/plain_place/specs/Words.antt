@@ -1,4 +1,4 @@
--- Words that the plain programs cite.
+-- What the plain programs say of entries, of pulls that end and of the range of numbers, in words of this server's own.
 use Rattle.std.specs.Prelude.{ℕ, ◌<◌, ◌^◌, sum_by, ◌==◌, List, [], ◌∷◌, if◌then◌else◌, Option, Some, None}
 use Rattle.js_model.specs.declared.consumer.Pending.{Pending}
 use Rattle.js_model.specs.declared.consumer.Pull.{Pull}
@@ -16,12 +16,12 @@ abbrev pub but_first : ℕ → List Pending → List Pending
 but_first n [] = []
 but_first n (p ∷ ps) = if p.seq == n then ps else p ∷ ps
 
--- the delivery that ends a front pull that is too small, where there is one
+-- the delivery that ends a first pull that is too small, if there is one
 abbrev pub too_small : List Pull → Option Sending
 too_small [] = None
 too_small (p ∷ _) = Some (record { what = TooSmall; out = status_out p.reply (small_block p) })
 
--- the delivery that ends the first pull that does not wait, where there is one
+-- the delivery that ends the first pull that does not wait, if there is one
 abbrev pub emptied : Option Pull → Option Sending
 emptied None = None
 emptied (Some p) = Some (record { what = Emptied; out = status_out p.reply empty_block })

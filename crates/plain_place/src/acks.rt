@@ -3,10 +3,9 @@
 ghost use Rattle.std.specs.Prelude.{◌≡◌, filter, map, not};
 ghost use Rattle.js_model.specs.Acknowledge.{ends, without, moved, with_due, is_no_delivery, acknowledged};
 
-use crate::lists::take_all;
-use crate::retention::has;
 use js_base::{List, Moment};
 use js_model::{AckKind, AckPolicy, Consumer, Pending};
+use plain_stream::{has, take_all};
 use std::alloc::Global;
 
 /// Whether an ACK of the sequence ends the entry of another, or the same one: its own, or under the policy `all` each one up to it.
@@ -45,7 +44,7 @@ fn end_entries(alloc: Global, consumer: &mut Consumer, policy: AckPolicy, seq: u
     end_given_up(alloc, &mut consumer.given_up, policy, seq);
 }
 
-/// The entry, due at another moment where it is the one of the sequence.
+/// The entry, due at another moment if it is the one of the sequence.
 fn moved(entry: Pending, seq: u64, due: Moment) -> Pending
     ensures value { result ≡ moved seq due entry }
 {

@@ -4,12 +4,11 @@ ghost use Rattle.std.specs.Prelude.{◌≡◌, IfOk, OnOk, map, max};
 ghost use Rattle.std.specs.List.{flat_map};
 ghost use Rattle.js_model.specs.Advance.{consumer_at, consumer_outs, stream_at, aged, advance, advance_outs};
 
-use crate::ageing::age;
 use crate::beats::consumer_outs;
-use crate::lists::take_all;
 use crate::passing::pass;
 use js_base::{List, Moment, NoMemory, Outs};
 use js_model::{Consumer, Stream};
+use plain_stream::{age, take_all};
 use std::alloc::Global;
 
 /// The later of two moments.
@@ -55,7 +54,7 @@ fn pass_consumers(alloc: Global, stream: &mut Stream, now: Moment) -> Result<(),
     Ok(())
 }
 
-/// Brings a stream to a moment, or to its own where that is later, and gives what it sends by then. An `Err` gives nothing back.
+/// Brings a stream to a moment, or to its own if that is later, and gives what it sends by then. An `Err` gives nothing back.
 #[tactic(auto, unfolding(js_model::specs::Advance::advance, js_model::specs::Advance::advance_outs))]
 pub fn advance(alloc: Global, stream: Stream, now: Moment) -> Result<(Stream, Outs), NoMemory>
     ensures after { IfOk result (λ made. made.0 ≡ advance stream now) }

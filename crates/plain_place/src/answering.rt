@@ -7,14 +7,13 @@ ghost use Rattle.plain_place.specs.Words.{IsInRange, IsStateInRange};
 
 use crate::advancing::advance;
 use crate::consuming::{ask_consumer, drop_consumer};
-use crate::messaging::{read, take_delete, take_publish, take_purge};
 use crate::pages::{tell_infos, tell_names};
 use crate::places::{change, end, make_again, told, vacant_answer};
 use crate::pulling::{answer_ack, take_pull};
-use crate::settling::quietly;
 use crate::telling::tell_consumer;
 use js_base::{List, Moment, NoMemory, Outs};
 use js_model::{Answer, Event, Reply, State, Stream, What};
+use plain_stream::{quietly, read, take_delete, take_publish, take_purge};
 use std::alloc::Global;
 
 /// What an event does to a stream that is at the event's moment. An `Err` gives nothing back.
@@ -97,7 +96,7 @@ fn live_answer(
     behind(sent, answer)
 }
 
-/// What an event does at a moment to what a place holds, where `room` says whether the store has a block for a message. An `Err` gives
+/// What an event does at a moment to what a place holds. `room` says whether the store has a block for a message. An `Err` gives
 /// nothing back.
 #[tactic(auto, unfolding(js_model::specs::Events::answered))]
 pub fn answer(

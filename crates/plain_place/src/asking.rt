@@ -7,7 +7,7 @@ ghost use Rattle.js_model.specs.Deliver.{fits, front_allows, is_listened, is_wan
 use js_base::Blob;
 use js_model::{Consumer, Pull};
 
-/// Whether so many bytes are within a limit, where there is one.
+/// Whether the given number of bytes is within a limit, if there is one.
 pub(super) fn fits(bytes: u128, limit: Option<u64>) -> bool
     ensures value { result ≡ fits bytes limit }
 {
@@ -17,7 +17,7 @@ pub(super) fn fits(bytes: u128, limit: Option<u64>) -> bool
     }
 }
 
-/// Whether the front pull allows a message of so many bytes.
+/// Whether the first pull allows a message of the given size, in bytes.
 fn front_allows(waiting: &[Pull], bytes: u128) -> bool
     ensures value { result ≡ front_allows waiting.now bytes }
 {
@@ -36,8 +36,8 @@ pub fn is_listened(listening: &[Blob], consumer: &Consumer) -> bool
         .any(|name| name.as_slice() == consumer.name.as_slice())
 }
 
-/// Whether somebody asks the consumer for a message of so many bytes: who listens to a push consumer's subject, or a pull consumer's
-/// front pull.
+/// Whether somebody asks the consumer for a message of the given size, in bytes: who listens to a push consumer's subject, or a pull consumer's
+/// first pull.
 pub fn is_wanted(listening: &[Blob], consumer: &Consumer, bytes: u128) -> bool
     ensures value { result ≡ is_wanted listening.now consumer.now bytes }
 {

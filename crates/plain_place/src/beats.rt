@@ -87,7 +87,7 @@ fn put_beats(alloc: Global, outs: &mut Outs, running: &[Pull], now: Moment) -> R
     Ok(())
 }
 
-/// Adds the consumer's own heartbeat, where it has come.
+/// Adds the consumer's own heartbeat, if it has come.
 fn put_own_beat(
     alloc: Global,
     outs: &mut Outs,

@@ -8,16 +8,14 @@ ghost use Rattle.js_model.specs.Consumers.{making_checks, queue_checks};
 ghost use Rattle.js_model.specs.Configs.{same_consumer_config};
 ghost use Rattle.js_model.specs.Events.{refused, consumer_told, consumer_made, consumer_asked, consumer_dropped, completed};
 
-use crate::lists::retain;
 use crate::making::{making_refusal, new_consumer, queue_refusal};
 use crate::naming::{by_name, is_named, with_new};
 use crate::parting::farewells;
-use crate::sameness::same_consumer_config;
-use crate::settling::{loudly, refused};
 use crate::telling::tell_consumer;
 use js_base::{ApiError, Blob, NoMemory};
 use js_model::refusals::{consumer_absent, consumer_exists, no_consumer};
 use js_model::{Answer, ConsumerConfig, Reply, Stream};
+use plain_stream::{loudly, refused, retain, same_consumer_config};
 use std::alloc::Global;
 
 /// Puts a new consumer into the stream, and answers with its information.
@@ -34,7 +32,7 @@ fn make_consumer(
     tell_consumer(alloc, with_new(alloc, stream, consumer)?, name)
 }
 
-/// Asks for a consumer that is not there: it is made, where no rule refuses it.
+/// Asks for a consumer that is not there: it is made, if no rule refuses it.
 fn ask_new(
     alloc: Global,
     stream: Stream,
@@ -83,7 +81,7 @@ fn ask_again(
     }
 }
 
-/// Whether the consumer of the name has the configuration, where it is there.
+/// Whether the consumer of the name has the configuration, if it is there.
 fn has_config(stream: &Stream, name: &Blob, config: &ConsumerConfig) -> Option<bool>
     ensures value { result ≡ option_map (λ c. same_consumer_config config.now c.config) (by_name stream.now.consumers name.now) }
 {
@@ -93,7 +91,7 @@ fn has_config(stream: &Stream, name: &Blob, config: &ConsumerConfig) -> Option<b
     }
 }
 
-/// Asks for a consumer, which is made where it is not there. An update asks for one that is there. An `Err` gives nothing back.
+/// Asks for a consumer, which is made if it is not there. An update asks for one that is there. An `Err` gives nothing back.
 pub fn ask_consumer(
     alloc: Global,
     stream: Stream,

@@ -73,7 +73,7 @@ fn send(
     Ok(sending)
 }
 
-/// Delivers one candidate to the consumer: it is sent where somebody asks for it, and ends a front pull that is too small for it.
+/// Delivers one candidate to the consumer: it is sent if somebody asks for it, and ends a first pull that is too small for it.
 fn deliver_one(
     alloc: Global,
     stream: &Stream,
@@ -99,9 +99,9 @@ fn deliver_one(
     end_small(alloc, consumer)
 }
 
-/// Makes some delivery to a consumer of a stream, at the stream's moment, where the push consumers of these names are listened to:
-/// the first candidate is sent, or it ends a pull that is too small for it; where there is no candidate, the first pull that does not
-/// wait ends. `None` exactly where nothing can be delivered. An `Err` changes nothing.
+/// Makes some delivery to a consumer of a stream, at the stream's moment, if the push consumers of these names are listened to:
+/// the first candidate is sent, or it ends a pull that is too small for it; if there is no candidate, the first pull that does not
+/// wait ends. `None` exactly if nothing can be delivered. An `Err` changes nothing.
 pub fn deliver(
     alloc: Global,
     stream: &Stream,
@@ -122,7 +122,7 @@ pub fn deliver(
     }
 }
 
-/// Whether something can be delivered to the consumer: somebody asks where there is a candidate, and where there is none, some pull
+/// Whether something can be delivered to the consumer: if there is a candidate, somebody asks for it, and if there is none, some pull
 /// does not wait.
 pub fn is_ready(
     alloc: Global,

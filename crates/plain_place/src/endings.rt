@@ -7,14 +7,14 @@ ghost use Rattle.js_model.specs.Deliver.{without_first};
 ghost use Rattle.plain_place.specs.Words.{too_small, emptied};
 
 use crate::deliveries::Sending;
-use crate::lists::take_all;
 use crate::pulls::{left_block, status_out};
 use crate::status::status;
 use js_base::{List, NoMemory};
 use js_model::{Consumer, Delivered, Pull};
+use plain_stream::take_all;
 use std::alloc::Global;
 
-/// Ends the front pull, which is too small for a message, and tells it. An `Err` changes nothing.
+/// Ends the first pull, which is too small for a message, and tells it. An `Err` changes nothing.
 pub(super) fn end_small(alloc: Global, consumer: &mut Consumer) -> Result<Option<Sending>, NoMemory>
     ensures given { IfOk result (λ given. given ≡ too_small consumer.old.waiting) }
     ensures after { OnOk result (consumer.new ≡ record consumer.old { waiting = drop 1 consumer.old.waiting }) }
@@ -25,7 +25,7 @@ pub(super) fn end_small(alloc: Global, consumer: &mut Consumer) -> Result<Option
     Ok(given)
 }
 
-/// Tells the front pull that it is too small for a message.
+/// Tells the first pull that it is too small for a message.
 fn small_told(alloc: Global, waiting: &[Pull]) -> Result<Option<Sending>, NoMemory>
     ensures given { IfOk result (λ given. given ≡ too_small waiting.now) }
 {
@@ -39,7 +39,7 @@ fn small_told(alloc: Global, waiting: &[Pull]) -> Result<Option<Sending>, NoMemo
     }))
 }
 
-/// Takes the front pull out.
+/// Takes the first pull out.
 fn drop_front(alloc: Global, waiting: &mut List<Pull>)
     ensures left { waiting.new ≡ drop 1 waiting.old }
 {
@@ -78,7 +78,7 @@ fn emptied_told(alloc: Global, waiting: &[Pull]) -> Result<Option<Sending>, NoMe
     }))
 }
 
-/// How many pulls at the front wait.
+/// How many pulls come before the first one that does not wait.
 fn count_patient(waiting: &[Pull]) -> usize
     ensures value { result ≡ prefix_len (λ p. not p.no_wait) waiting.now }
 {

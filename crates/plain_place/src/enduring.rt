@@ -3,9 +3,9 @@
 ghost use Rattle.std.specs.Prelude.{◌≡◌, map};
 ghost use Rattle.js_model.specs.Lasting.{lasting_consumer, lasting};
 
-use crate::lists::take_all;
 use js_base::List;
 use js_model::{Consumer, State, Stream};
+use plain_stream::take_all;
 use std::alloc::Global;
 
 /// Drops the pulls that wait, and sets the mark to the moment of the consumer's making.
@@ -16,7 +16,7 @@ fn forget(alloc: Global, consumer: &mut Consumer)
     consumer.mark = consumer.made;
 }
 
-/// Does so with each of the consumers.
+/// Does the same with each of the consumers.
 fn forget_all(alloc: Global, consumers: &mut [Consumer])
     ensures value { consumers.new ≡ map lasting_consumer consumers.old }
 {
@@ -35,7 +35,7 @@ fn lasting_stream(alloc: Global, stream: Stream) -> Stream
     stream
 }
 
-/// What of the state is there after a crash. It takes no memory.
+/// What of the state is there after a crash. It allocates nothing.
 pub fn lasting(alloc: Global, state: State) -> State
     ensures value { result ≡ lasting state }
 {

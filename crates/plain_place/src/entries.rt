@@ -10,7 +10,7 @@ use js_base::{List, Moment, NoMemory};
 use js_model::{Consumer, Message, Pending};
 use std::alloc::Global;
 
-/// The entry of the sequence, where there is one.
+/// The entry of the sequence, if there is one.
 fn entry_of(pending: &[Pending], seq: u64) -> Option<&Pending>
     ensures value { option_copied result ≡ find (λ p. p.seq == seq) pending.now }
 {
@@ -27,7 +27,7 @@ pub fn count_of(consumer: &Consumer, seq: u64) -> u64
     }
 }
 
-/// How many entries at the front have a sequence below this one.
+/// How many entries come before the first one whose sequence is not below this one.
 fn count_below(pending: &[Pending], seq: u64) -> usize
     ensures value { result ≡ prefix_len (λ p. nat_lt p.seq seq) pending.now }
     ensures within { result ≤ length pending.now }

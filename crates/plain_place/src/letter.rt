@@ -3,13 +3,13 @@
 ghost use Rattle.std.specs.Prelude.{◌≡◌, ◌++◌, IfOk, OnOk, codes, decimal};
 ghost use Rattle.js_model.specs.Deliver.{address, ack_subject, delivery_out};
 
-use crate::counts::pending_count;
 use crate::text::{put, put_number};
 use js_base::{Blob, NoMemory, Out};
 use js_model::{Consumer, Message, Stream};
+use plain_stream::pending_count;
 use std::alloc::Global;
 
-/// Where a delivery goes: to the consumer's own subject, or to the front pull.
+/// Where a delivery goes: to the consumer's own subject, or to the first pull.
 pub fn address(consumer: &Consumer) -> Result<Blob, NoMemory>
     ensures value { IfOk result (λ to. to ≡ address consumer.now) }
 {

@@ -6,14 +6,13 @@ ghost use Rattle.js_model.specs.Refusals.{first_refusal};
 ghost use Rattle.js_model.specs.Start.{picks_at};
 ghost use Rattle.js_model.specs.Consumers.{empty_stream, new_consumer, filters_meet, is_rival, is_work_queue, queue_checks, making_checks};
 
-use crate::sameness::{same_ack_policy, same_deliver_policy, same_retention};
-use crate::starting::{cursor_at, picks_at};
 use js_base::{ApiError, Blob, List, Moment, NoMemory};
 use js_model::refusals::{max_consumers_reached, too_many_subjects, work_queue_rule};
 use js_model::{
     AckPolicy, Consumer, ConsumerConfig, DeliverPolicy, Retention, Stream, StreamConfig,
     copy_consumer_config,
 };
+use plain_stream::{cursor_at, picks_at, same_ack_policy, same_deliver_policy, same_retention};
 use std::alloc::Global;
 use subject_match::overlaps;
 
@@ -23,7 +22,7 @@ const MOST_CONSUMERS: u64 = 256;
 /// How many sequences are picked out at most.
 const MOST_PICKS: usize = 65_536;
 
-/// A stream that has nothing yet. It takes no memory.
+/// A stream that has nothing yet. It allocates nothing.
 pub fn empty_stream(alloc: Global, incarnation: u64, config: StreamConfig, now: Moment) -> Stream
     ensures value { result ≡ empty_stream incarnation config now }
 {

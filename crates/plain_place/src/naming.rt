@@ -7,9 +7,9 @@ ghost use Rattle.js_base.specs.Bytes.{same};
 ghost use Rattle.js_model.specs.Streams.{by_name, in_place_of, with_consumer};
 ghost use Rattle.js_model.specs.Consumers.{is_before, with_new};
 
-use crate::lists::take_all;
 use js_base::{Blob, List, NoMemory};
 use js_model::{Consumer, Stream, copy_consumer};
+use plain_stream::take_all;
 use std::alloc::Global;
 
 /// Whether the consumer has the name.
@@ -65,7 +65,7 @@ fn is_before(consumer: &Consumer, name: &Blob) -> bool
     consumer.name.as_slice().cmp(name.as_slice()).is_lt()
 }
 
-/// How many consumers at the front have names before this one.
+/// How many consumers come before the first one whose name is not before this one.
 fn count_before(consumers: &[Consumer], name: &Blob) -> usize
     ensures value { result ≡ prefix_len (λ c. is_before c.name name.now) consumers.now }
     ensures within { result ≤ length consumers.now }

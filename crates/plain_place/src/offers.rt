@@ -6,18 +6,18 @@ ghost use Rattle.std.specs.Option.{option_copied};
 ghost use Rattle.js_model.specs.Streams.{takes, below_limit};
 ghost use Rattle.js_model.specs.Deliver.{is_due, next_message, may_wait, candidates};
 
-use crate::retention::takes;
 use js_base::{List, Moment, NoMemory};
 use js_model::{Consumer, Message, Pending, Stream, copy_message};
+use plain_stream::takes;
 use std::alloc::Global;
 
 /// The greatest consumer sequence.
 const LAST_SEQUENCE: u64 = (1 << 62) - 1;
 
-/// How many deliveries may wait, where the configuration gives no limit.
+/// How many deliveries may wait, if the configuration gives no limit.
 const MAX_PENDING: u64 = 65536;
 
-/// Whether a count is below the limit, where there is one.
+/// Whether a count is below the limit, if there is one.
 fn below_limit(count: u64, limit: Option<u64>) -> bool
     ensures value { result ≡ below_limit count limit }
 {
@@ -92,7 +92,7 @@ fn first_onward<'a>(messages: &'a [Message], consumer: &Consumer) -> Option<&'a 
     messages.iter().find(|message| takes(consumer, message) && consumer.cursor <= message.seq)
 }
 
-/// The first message from the cursor on that the filter matches, where there is one.
+/// The first message from the cursor on that the filter matches, if there is one.
 fn onward(
     alloc: Global,
     messages: &[Message],

@@ -4,10 +4,9 @@ ghost use Rattle.std.specs.Prelude.{◌≡◌, [], IfOk, map};
 ghost use Rattle.js_model.specs.Counts.{consumer_info};
 ghost use Rattle.js_model.specs.Events.{page_of, names_told, infos_told, completed};
 
-use crate::counts::consumer_info;
-use crate::settling::{quietly, settled};
 use js_base::{Blob, List, NoMemory};
 use js_model::{Answer, Consumer, ConsumerInfo, Reply, State, Stream};
+use plain_stream::{consumer_info, quietly, settled};
 use std::alloc::Global;
 
 /// How many names a page has at most.
@@ -16,7 +15,7 @@ const NAMES_A_PAGE: usize = 1024;
 /// How many informations a page has at most.
 const INFOS_A_PAGE: usize = 256;
 
-/// At most so many consumers from a place on.
+/// At most the given number of consumers, from a place on.
 fn page(consumers: &[Consumer], offset: u64, most: usize) -> &[Consumer]
     ensures value { result.now ≡ page_of most offset consumers.now }
 {

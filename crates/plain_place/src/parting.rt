@@ -1,4 +1,4 @@
-//! What the waiting pulls of a consumer are told where it goes.
+//! What the waiting pulls of a consumer are told when it is dropped.
 
 ghost use Rattle.std.specs.Prelude.{◌≡◌, [], IfOk, codes};
 ghost use Rattle.std.specs.List.{flat_map};
@@ -12,7 +12,7 @@ use js_base::{List, NoMemory, Out, Outs};
 use js_model::{Consumer, Pull};
 use std::alloc::Global;
 
-/// Tells a pull that its consumer goes.
+/// Tells a pull that its consumer is dropped.
 fn farewell(alloc: Global, pull: &Pull) -> Result<Out, NoMemory>
     ensures value { IfOk result (λ out. out ≡ status_out pull.now.reply (status 409 (codes "Consumer Deleted") [])) }
 {
@@ -20,7 +20,7 @@ fn farewell(alloc: Global, pull: &Pull) -> Result<Out, NoMemory>
     status_out(&pull.reply, block)
 }
 
-/// Tells each waiting pull of a consumer that it goes.
+/// Tells each waiting pull of a consumer that the consumer is dropped.
 pub fn farewells(alloc: Global, consumer: &Consumer) -> Result<Outs, NoMemory>
     ensures value { IfOk result (λ outs. outs ≡ farewells consumer.now) }
 {

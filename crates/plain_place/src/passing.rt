@@ -5,9 +5,9 @@ ghost use Rattle.std.specs.List.{prefix_len};
 ghost use Rattle.js_model.specs.Streams.{at_limit};
 ghost use Rattle.js_model.specs.Advance.{is_over, has_come, pull_comes, push_comes, is_spent, placed, beaten, all_given_up, consumer_at};
 
-use crate::lists::take_all;
 use js_base::{List, Moment, NoMemory};
 use js_model::{Consumer, Pending, Pull};
+use plain_stream::take_all;
 use std::alloc::Global;
 
 /// How many of the sequences given up are kept.
@@ -23,7 +23,7 @@ pub(super) fn is_over(pull: &Pull, now: Moment) -> bool
     }
 }
 
-/// Whether a heartbeat has come after a mark. None comes where the time between two is 0.
+/// Whether a heartbeat has come after a mark. None comes if the time between two is 0.
 fn has_come(now: Moment, mark: Moment, heartbeat: u64) -> bool
     ensures value { result ≡ has_come now mark heartbeat }
 {
@@ -44,7 +44,7 @@ pub(super) fn push_comes(consumer: &Consumer, now: Moment) -> bool
     consumer.is_push() && has_come(now, consumer.mark, consumer.config.idle_heartbeat)
 }
 
-/// Whether a count is at the limit, where there is one.
+/// Whether a count is at the limit, if there is one.
 fn at_limit(count: u64, limit: Option<u64>) -> bool
     ensures value { result ≡ at_limit count limit }
 {
@@ -61,7 +61,7 @@ fn is_spent(entry: Pending, now: Moment, limit: Option<u64>) -> bool
     entry.due.as_nanos() <= now.as_nanos() && at_limit(entry.count, limit)
 }
 
-/// How many numbers at the front are below this one.
+/// How many numbers come before the first one that is not below this one.
 fn count_below(numbers: &[u64], n: u64) -> usize
     ensures value { result ≡ prefix_len (λ m. nat_lt m n) numbers.now }
     ensures within { result ≤ length numbers.now }
@@ -120,7 +120,7 @@ fn drop_spent(alloc: Global, pending: &mut List<Pending>, now: Moment, limit: Op
     *pending = List::from_vec(left);
 }
 
-/// Marks a heartbeat of the pull, where one has come.
+/// Marks a heartbeat of the pull, if one has come.
 fn beat(pull: &mut Pull, now: Moment)
     ensures value { pull.new ≡ beaten now pull.old }
 {

@@ -5,14 +5,12 @@ ghost use Rattle.js_model.specs.declared.event.What.TheVariants.{Make};
 ghost use Rattle.js_model.specs.Events.{stream_told, made_again, changed, dropped, vacantly, vacant_answer, completed};
 ghost use Rattle.plain_place.specs.Words.{IsInRange};
 
-use crate::counts::stream_info;
 use crate::making::empty_stream;
 use crate::parting::all_farewells;
-use crate::sameness::{same_retention, same_stream_config};
-use crate::settling::{refused, settled};
 use js_base::{List, Moment, NoMemory};
 use js_model::refusals::{no_stream, numbers_used_up, other_config, retention_cannot_change};
 use js_model::{Answer, Reply, State, Stream, StreamConfig, What, copy_stream_config};
+use plain_stream::{refused, same_retention, same_stream_config, settled, stream_info};
 use std::alloc::Global;
 
 /// Incarnations are below it.
@@ -32,7 +30,7 @@ pub fn told(alloc: Global, stream: Stream) -> Result<Answer, NoMemory>
     })
 }
 
-/// Makes a stream that is there: its information, where it has that configuration. An `Err` gives nothing back.
+/// Makes a stream that is there: its information, if it has that configuration. An `Err` gives nothing back.
 pub fn make_again(alloc: Global, stream: Stream, config: &StreamConfig) -> Result<Answer, NoMemory>
     requires range { IsInRange stream }
     ensures answer { IfOk result (λ answer. answer ≡ completed [] (made_again stream config.now)) }
@@ -44,7 +42,7 @@ pub fn make_again(alloc: Global, stream: Stream, config: &StreamConfig) -> Resul
     }
 }
 
-/// Replaces the stream's configuration, where the retention stays the same. An `Err` gives nothing back.
+/// Replaces the stream's configuration, if the retention stays the same. An `Err` gives nothing back.
 pub fn change(alloc: Global, stream: Stream, config: &StreamConfig) -> Result<Answer, NoMemory>
     requires range { IsInRange stream }
     ensures answer { IfOk result (λ answer. answer ≡ completed [] (changed stream config.now)) }
@@ -98,7 +96,7 @@ fn make(
     told(alloc, empty_stream(alloc, incarnation, config, now))
 }
 
-/// What an event does where there is no stream. An `Err` gives nothing back.
+/// What an event does if there is no stream. An `Err` gives nothing back.
 pub fn vacant_answer(
     alloc: Global,
     incarnation: u64,

@@ -9,9 +9,9 @@ use crate::acks::is_no_delivery;
 use crate::naming::{by_name, with_consumer};
 use crate::next::{ack_reply, take_ack};
 use crate::pulls::{pull, pull_outs};
-use crate::settling::{loudly, quietly};
 use js_base::{Blob, NoMemory};
 use js_model::{AckKind, Answer, Ask, Consumer, Reply, Stream, copy_consumer};
+use plain_stream::{loudly, quietly};
 use std::alloc::Global;
 
 /// A copy of the consumer of the name.

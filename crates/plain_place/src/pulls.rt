@@ -57,7 +57,7 @@ pub fn pull_refusal(
     Ok(None)
 }
 
-/// Lets a pull wait at a moment, where it has a subject for its messages and is not refused. An `Err` changes nothing.
+/// Lets a pull wait at a moment, if it has a subject for its messages and is not refused. An `Err` changes nothing.
 pub fn pull(
     alloc: Global,
     consumer: &mut Consumer,
@@ -109,7 +109,7 @@ pub(super) fn status_out(to: &Blob, block: Blob) -> Result<Out, NoMemory>
     })
 }
 
-/// The one message that tells a refusal, where there is one.
+/// The one message that tells a refusal, if there is one.
 fn refusal_outs(alloc: Global, reply: &Blob, refusal: Option<Blob>) -> Result<Outs, NoMemory>
     ensures value { IfOk result (λ outs. outs ≡ refusal_outs reply.now refusal) }
 {
@@ -120,7 +120,7 @@ fn refusal_outs(alloc: Global, reply: &Blob, refusal: Option<Blob>) -> Result<Ou
     Ok(outs)
 }
 
-/// What a pull sends: the status that refuses it, where it has a subject and is refused.
+/// What a pull sends: the status that refuses it, if it has a subject and is refused.
 pub fn pull_outs(
     alloc: Global,
     consumer: &Consumer,

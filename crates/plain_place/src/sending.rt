@@ -5,9 +5,9 @@ ghost use Rattle.js_model.specs.Streams.{sent_size};
 ghost use Rattle.js_model.specs.Deliver.{count_of, served, front_served, sent_to};
 
 use crate::entries::pending_after;
-use crate::lists::take_all;
 use js_base::{List, Moment, NoMemory};
 use js_model::{Consumer, Message, Pull};
+use plain_stream::take_all;
 use std::alloc::Global;
 
 /// The bytes of a message that are sent, and that count against a pull's `max_bytes`: its subject, its header block and its payload.
@@ -17,14 +17,14 @@ pub fn sent_size(message: &Message) -> u128
     message.subject.len() as u128 + message.headers.len() as u128 + message.payload.len() as u128
 }
 
-/// What is left of a limit after so many bytes.
+/// What is left of a limit after the given number of bytes.
 fn less(limit: u64, bytes: u128) -> u64
     ensures value { result ≡ limit - bytes }
 {
     (limit as u128).saturating_sub(bytes) as u64
 }
 
-/// Serves a pull with a message of so many bytes at a moment.
+/// Serves a pull with a message of the given size, in bytes, at a moment.
 fn serve(pull: &mut Pull, now: Moment, bytes: u128)
     ensures value { pull.new ≡ served now bytes pull.old }
 {
@@ -33,7 +33,7 @@ fn serve(pull: &mut Pull, now: Moment, bytes: u128)
     pull.mark = now;
 }
 
-/// Serves the front pull. It goes where its batch is reached.
+/// Serves the first pull. It ends when its batch is reached.
 fn serve_front(waiting: &mut Vec<Pull>, now: Moment, bytes: u128)
     ensures value { waiting.new.items ≡ front_served now bytes waiting.old.items }
 {

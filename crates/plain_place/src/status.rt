@@ -9,7 +9,7 @@ use crate::text::{put, put_number};
 use js_base::{Blob, NoMemory};
 use std::alloc::Global;
 
-/// Adds the text behind the code, after a blank.
+/// Adds the text behind the code, after a space.
 fn put_text(into: &mut Vec<u8>, text: &[u8]) -> Result<(), NoMemory>
     ensures ok { OnOk result (into.new.items ≡ into.old.items ++ status_text text.now) }
 {

@@ -5,12 +5,11 @@ ghost use Rattle.js_model.specs.declared.stream.Stream.{Stream as TheStream};
 ghost use Rattle.js_model.specs.Streams.{by_name};
 ghost use Rattle.js_model.specs.Events.{settled, quietly, told_of, consumer_told, completed};
 
-use crate::counts::consumer_info;
 use crate::naming::by_name;
-use crate::settling::settled;
 use js_base::{Blob, List, NoMemory};
 use js_model::refusals::no_consumer;
 use js_model::{Answer, Reply, State, Stream};
+use plain_stream::{consumer_info, settled};
 use std::alloc::Global;
 
 /// The reply with the information of the consumer of the name, of a stream that is settled.

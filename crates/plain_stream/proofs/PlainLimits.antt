@@ -40,7 +40,7 @@ module _ (n : ℕ) (xs : List Message) (i : ℕ) (within : i < length xs) (stays
       ∙ ap (λ k. take i xs ++ newest n (drop k xs)) (sym (add-one i))
       ∙ ap (λ t. take i xs ++ t) (sym (newest_rest ∙ ap (λ b. if b then here ∷ newest n later else newest n later) fails))
 
--- the first of too many goes
+-- without the first of too many, the last ones are the same
 pub last_of_goes : {X : Type 0} (n : ℕ) (xs : List X) → n < length xs → last_of n (remove xs 0) ≡ last_of n xs
 last_of_goes n [] h = absurd (omega arith)
 last_of_goes n (x ∷ xs) h =

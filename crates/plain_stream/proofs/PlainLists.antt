@@ -1,14 +1,12 @@
--- Facts on lists that the plain programs cite.
-use Rattle.std.proofs.Common.{◌≡◌, ap, refl, ℕ, take, drop, length, List, [], ◌∷◌, map, Option, Some, None, Bor, ◌∙◌, arith}
+-- Lemmas on lists that the plain programs cite.
+use Rattle.std.proofs.Common.{◌≡◌, ap, refl, ℕ, length, List, [], ◌∷◌, map, Option, Some, None, Bor, ◌∙◌, arith}
 use Rattle.std.specs.Prelude.{◌==◌, ◌||◌}
 use Rattle.std.specs.List.{list_any, last_or}
 use Rattle.std.specs.Option.{option_copied}
 use Rattle.std.specs.Iterator.{Drains}
 use Rattle.std.proofs.lemmas.Iterator.{YieldsList, items_from_drains}
-use Rattle.std.proofs.lemmas.List.{take-map, drop-map}
 use Rattle.std.proofs.lemmas.Bool.Decides.{nat_tests}
 use Rattle.js_base.specs.Bytes.{has, is_empty}
-use Rattle.js_model.specs.Events.{page_of}
 
 pub has-map : {X : Type 0} (f : X → ℕ) (xs : List X) (n : ℕ) → has (map f xs) n ≡ list_any (λ x. f x == n) xs
 has-map f [] n = refl
@@ -27,7 +25,3 @@ pub option_copied_last : {S X : Type 0} {steps : S → Option (Bor X) → S → 
     → (xs : List (Bor X)) × Drains steps s xs × (r ≡ last_or None xs) → YieldsList steps (λ y. y.now) s all → option_copied r ≡ last_or None all
 option_copied_last r ran chain =
     ap option_copied ran.2 ∙ option_copied-last_or None ran.0 ∙ ap (last_or None) (items_from_drains ran.0 (ran.1.1.0, ran.1.1.1, λ _. (ran.1.0, ran.1.1.2)) chain)
-
--- a page of what is made of each
-pub page_map : {X Y : Type 0} (f : X → Y) (most offset : ℕ) (xs : List X) → page_of most offset (map f xs) ≡ map f (page_of most offset xs)
-page_map f most offset xs = ap (take most) (drop-map f offset xs) ∙ take-map f most (drop offset xs)

@@ -10,7 +10,7 @@ use js_base::{List, Moment};
 use js_model::{Message, Stream};
 use std::alloc::Global;
 
-/// Whether so many nanoseconds after the one moment are still to come at the other.
+/// Whether the other moment comes before the given number of nanoseconds after the one has passed.
 fn lasts(from: Moment, age: u64, now: Moment) -> bool
     ensures value { result ≡ nat_lt now (plus from age) }
 {
@@ -39,7 +39,7 @@ fn forget_ids(alloc: Global, stream: &mut Stream, now: Moment)
 }
 
 /// Lets the messages and the ids go that are too old at the moment, by JetStream's `max_age` and `duplicate_window`. From then on the
-/// moment is the stream's. Its consumers do not look at it here. It takes no memory.
+/// moment is the stream's. Its consumers do not look at it here. It allocates nothing.
 pub fn age(alloc: Global, stream: &mut Stream, now: Moment)
     ensures value { stream.new ≡ aged stream.old now }
 {

@@ -1,4 +1,4 @@
-//! A stream with just some of its messages.
+//! A stream with some of its messages alone.
 
 ghost use Rattle.std.specs.Prelude.{◌≡◌, map};
 ghost use Rattle.js_base.specs.Bytes.{has};
@@ -29,7 +29,7 @@ fn confine(alloc: Global, consumer: &mut Consumer, kept: &[Message])
     retain(alloc, &mut consumer.given_up, |seq| has_seq(kept, *seq));
 }
 
-/// Does so with each consumer.
+/// Does the same with each consumer.
 fn confine_all(alloc: Global, consumers: &mut [Consumer], kept: &[Message])
     ensures value { consumers.new ≡ map (confined (seqs kept.now)) consumers.old }
 {
@@ -39,7 +39,7 @@ fn confine_all(alloc: Global, consumers: &mut [Consumer], kept: &[Message])
 }
 
 /// Puts these messages, some of the stream's own, in the place of its messages: its consumers forget all others, as JetStream's do
-/// where a message is removed. It takes no memory.
+/// when a message is removed. It allocates nothing.
 pub fn only(alloc: Global, stream: &mut Stream, messages: List<Message>)
     ensures value { stream.new ≡ only stream.old messages }
 {

@@ -43,7 +43,7 @@ fn redelivered(pending: &[Pending]) -> u64
     again.count() as u64
 }
 
-/// The least sequence that waits for an acknowledgement or was given up, or the cursor where there is none.
+/// The least sequence that waits for an acknowledgement or was given up, or the cursor if there is none.
 fn least(consumer: &Consumer) -> u64
     ensures value { result ≡ least (pending_seqs consumer.now) consumer.now.given_up consumer.now.cursor }
 {

@@ -11,7 +11,7 @@ use js_base::{Blob, NoMemory};
 use js_model::{Discard, Id, Message, Publish, Stream, copy_messages};
 use std::alloc::Global;
 
-/// Whether a number is over the limit, where there is one.
+/// Whether a number is over the limit, if there is one.
 pub fn over_limit(number: u64, limit: Option<u64>) -> bool
     ensures value { result ≡ over_limit number limit }
 {
@@ -73,7 +73,7 @@ pub fn last_id(stream: &Stream) -> &[u8]
     }
 }
 
-/// The id of a publish, where it is in the window. An empty one is none.
+/// The id of a publish, if it is in the window. An empty one is none.
 pub fn known<'a>(stream: &'a Stream, id: &Blob) -> Option<&'a Id>
     ensures value { option_copied result ≡ known stream.now id.now }
 {
@@ -85,7 +85,7 @@ pub fn known<'a>(stream: &'a Stream, id: &Blob) -> Option<&'a Id>
     ids.iter().find(|known| known.id.as_slice() == id)
 }
 
-/// Whether new messages are refused where the limits are reached.
+/// Whether new messages are refused when the limits are reached.
 pub fn discards_new(stream: &Stream) -> bool
     ensures value { result ≡ discards_new stream.now }
 {
@@ -109,7 +109,7 @@ pub fn message_of(stream: &Stream, publish: &Publish) -> Result<Message, NoMemor
     })
 }
 
-/// What the stream would hold after the publish, as far as the limit of each subject goes.
+/// What the stream would hold after the publish, by the limit of each subject alone.
 pub fn held_after(
     alloc: Global,
     stream: &Stream,

@@ -25,7 +25,7 @@ fn count_on(messages: &[Message], subject: &Blob) -> usize
         .count()
 }
 
-/// Whether fewer than so many later messages have the subject of the one at the place.
+/// Whether fewer than the given number of later messages have the subject of the one at the place.
 fn is_among_newest(messages: &[Message], place: usize, most: u64) -> bool
     requires within { place < length messages.now }
     ensures value { (m : _) → m ≡ slice_index_or messages.now place m → result ≡ nat_lt (count_by (λ x. same x.subject m.subject) (drop (place + 1) messages.now)) most }
@@ -34,7 +34,7 @@ fn is_among_newest(messages: &[Message], place: usize, most: u64) -> bool
     (count_on(later, &messages[place].subject) as u64) < most
 }
 
-/// Leaves the last so many messages of each subject.
+/// Leaves the last messages of each subject, at most the given number.
 pub fn keep_newest(messages: &mut Vec<Message>, most: u64)
     ensures value { messages.new.items ≡ newest most messages.old.items }
 {
@@ -48,7 +48,7 @@ pub fn keep_newest(messages: &mut Vec<Message>, most: u64)
     }
 }
 
-/// Leaves the last so many messages.
+/// Leaves the last messages, at most the given number.
 fn keep_last(messages: &mut Vec<Message>, most: u64)
     ensures value { messages.new.items ≡ last_of most messages.old.items }
 {
@@ -57,7 +57,7 @@ fn keep_last(messages: &mut Vec<Message>, most: u64)
     }
 }
 
-/// Whether the sizes of the messages are together at most so many bytes.
+/// Whether the sizes of the messages are together at most the given number of bytes.
 pub fn fits(messages: &[Message], most: u64) -> bool
     ensures value { result ≡ nat_le (sum_by size messages.now) most }
 {
@@ -72,7 +72,7 @@ pub fn fits(messages: &[Message], most: u64) -> bool
     true
 }
 
-/// Leaves the longest end whose sizes are together at most so many bytes.
+/// Leaves the longest end whose sizes are together at most the given number of bytes.
 fn keep_fitting(messages: &mut Vec<Message>, most: u64)
     ensures value { messages.new.items ≡ fitting most messages.old.items }
 {
@@ -81,7 +81,7 @@ fn keep_fitting(messages: &mut Vec<Message>, most: u64)
     }
 }
 
-/// Leaves what the limit of each subject keeps, where there is one.
+/// Leaves what the limit of each subject keeps, if there is one.
 pub fn keep_newest_at(messages: &mut Vec<Message>, most: Option<u64>)
     ensures value { messages.new.items ≡ newest_at most messages.old.items }
 {
@@ -90,7 +90,7 @@ pub fn keep_newest_at(messages: &mut Vec<Message>, most: Option<u64>)
     }
 }
 
-/// Leaves what the limit on bytes keeps, where there is one.
+/// Leaves what the limit on bytes keeps, if there is one.
 fn keep_fitting_at(messages: &mut Vec<Message>, most: Option<u64>)
     ensures value { messages.new.items ≡ fitting_at most messages.old.items }
 {
@@ -135,7 +135,7 @@ fn trim_bytes(alloc: Global, stream: &mut Stream)
     only(alloc, stream, List::from_vec(messages));
 }
 
-/// Lets the oldest messages go that the stream's limits do not keep: of each subject, by count, and by bytes. It takes no memory.
+/// Lets the oldest messages go that the stream's limits do not keep: of each subject, by count, and by bytes. It allocates nothing.
 pub fn trim(alloc: Global, stream: &mut Stream)
     ensures value { stream.new ≡ trim stream.old }
 {

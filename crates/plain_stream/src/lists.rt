@@ -1,4 +1,4 @@
-//! What the programs do with lists.
+//! What the plain programs do with lists.
 
 ghost use Rattle.std.specs.Prelude.{◌≡◌, [], None};
 ghost use Rattle.std.specs.Fn.{CalledAt};
@@ -10,7 +10,7 @@ use js_base::List;
 use std::alloc::Global;
 use std::mem;
 
-/// Takes the items out. It takes no memory.
+/// Takes the items out. It allocates nothing.
 pub fn take_all<T>(alloc: Global, list: &mut List<T>) -> Vec<T>
     ensures items { result.items ≡ list.old }
     ensures left { list.new ≡ [] }
@@ -18,7 +18,7 @@ pub fn take_all<T>(alloc: Global, list: &mut List<T>) -> Vec<T>
     mem::replace(list, List::new(alloc)).into_vec()
 }
 
-/// Keeps the items that pass the test, in their order. It takes no memory.
+/// Keeps the items that pass the test, in their order. It allocates nothing.
 pub fn retain<T: Drop, F: FnMut(&T) -> bool>(alloc: Global, list: &mut List<T>, keep: F)
     requires callable { F.IsAlwaysCallable keep }
     ensures filtered { IsFiltered (CalledAt F.FnMut) keep list.old list.new }

@@ -49,7 +49,7 @@ fn add_message(alloc: Global, stream: &mut Stream, publish: &Publish) -> Result<
     Ok(())
 }
 
-/// Does what the stream said to a publish, by JetStream's publish acknowledgements: a message that is taken is stored under the next
+/// Does what the stream answered a publish, by JetStream's publish acknowledgements: a message that is taken is stored under the next
 /// sequence, and its id is remembered. It sends nothing. An `Err` changes nothing.
 pub fn publish(
     alloc: Global,

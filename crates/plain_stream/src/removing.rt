@@ -24,7 +24,7 @@ fn is_named(message: &Message, pattern: &Blob, below: Option<u64>) -> bool
         }
 }
 
-/// Leaves all but the last so many, where a number is given.
+/// Leaves all but the last messages, if their number is given.
 fn drop_last(messages: &mut Vec<Message>, keep: Option<u64>)
     ensures value { messages.new.items ≡ all_but_last keep messages.old.items }
 {
@@ -35,7 +35,7 @@ fn drop_last(messages: &mut Vec<Message>, keep: Option<u64>)
 }
 
 /// Copies of the messages that a purge names, by JetStream's stream purge: those that the filter matches, below a sequence, and all but
-/// the last so many.
+/// a given number of the last ones.
 pub fn purge_list(
     alloc: Global,
     stream: &Stream,
@@ -60,7 +60,7 @@ fn remove(alloc: Global, stream: &mut Stream, gone: &[Message])
     only(alloc, stream, List::from_vec(messages));
 }
 
-/// Takes the messages of a purge out of the stream, and answers how many they are. It sends nothing and takes no memory.
+/// Takes the messages of a purge out of the stream, and answers how many they are. It sends nothing and allocates nothing.
 pub fn purge(alloc: Global, stream: &mut Stream, gone: &[Message]) -> Reply
     ensures answer { purged stream.old gone.now ≡ quietly result stream.new }
 {

@@ -79,7 +79,7 @@ pub fn is_kept(retention: Retention, consumers: &[Consumer], message: &Message) 
     }
 }
 
-/// Leaves the messages that the stream's retention keeps, by JetStream's retention policies. It takes no memory.
+/// Leaves the messages that the stream's retention keeps, by JetStream's retention policies. It allocates nothing.
 pub fn keep(alloc: Global, stream: &mut Stream)
     ensures value { stream.new ≡ kept stream.old }
 {

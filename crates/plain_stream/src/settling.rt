@@ -10,7 +10,7 @@ use js_base::{ApiError, List, Outs};
 use js_model::{Answer, Reply, State, Stream};
 use std::alloc::Global;
 
-/// Leaves what the stream's limits and then its retention keep. It takes no memory.
+/// Leaves what the stream's limits and then its retention keep. It allocates nothing.
 pub fn settle(alloc: Global, stream: &mut Stream)
     ensures value { stream.new ≡ settled stream.old }
 {

@@ -112,7 +112,7 @@ fn late_refusal(
     Ok(None)
 }
 
-/// What a stream says to a publish, by JetStream's publish headers, duplicate window and discard policy. `room` is whether the store
+/// What a stream answers a publish, by JetStream's publish headers, duplicate window and discard policy. `room` is whether the store
 /// has a block for the message.
 #[tactic(auto, unfolding(js_model::specs::Verdict::verdict))]
 pub fn verdict(

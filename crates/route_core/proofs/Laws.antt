@@ -1,18 +1,16 @@
 -- What the calls of the definition leave open, and how many frames they leave waiting.
-use Rattle.std.proofs.Common.{◌≡◌, inl, inr, ℕ, ◌+◌, ◌<◌, ◌==◌, ◌||◌, ◌^◌, Bool, true, false, cond, not, nat_lt, List, [], ◌∷◌, ◌++◌, Option, Some, None, Result, Ok, Err, length, map, filter, refl, sym, ap, ◌∙◌, arith, length-drop, eq-eqb}
+use Rattle.std.proofs.Common.{◌≡◌, inl, inr, ℕ, ◌+◌, ◌<◌, ◌==◌, ◌||◌, Bool, true, false, cond, not, nat_lt, List, [], ◌∷◌, ◌++◌, Option, Some, None, Result, Ok, Err, length, map, filter, refl, sym, ap, ◌∙◌, arith, length-drop, eq-eqb}
 use Rattle.std.specs.List.{list_any, find, fold}
-use Rattle.std.proofs.lemmas.List.Folds.{list_any-append}
 use Rattle.std.proofs.lemmas.Bool.{eqb-true}
 use Rattle.std.proofs.lemmas.Bool.Decides.{nat_tests}
-use Rattle.js_base.specs.Bytes.{Bytes}
 use Rattle.js_base.specs.declared.out.Out.{Out}
 use Rattle.js_base.specs.declared.frame.Frame.{Frame}
 use Rattle.js_model.specs.Router as router
-use Rattle.js_model.specs.Router.{Router, Session, Subscription, Waiting, Queue, Marked, RouteCall, RouteTold, Routed, IsRoute, route, telling, is_session, is_open, session_of, opened, closed, configured, with_options, unsubscribed, subscribing, with_subscription, new_subscription, is_in_use, is_full, new_session, publishing, takers, routed, handed, handed_to, emptied, collected_from, without_collected, left_over, collected, collect_told, frames_told, if_open, if_publisher_open}
+use Rattle.js_model.specs.Router.{Router, Session, Subscription, Waiting, Queue, Marked, RouteCall, RouteTold, Routed, IsRoute, route, telling, is_session, is_open, session_of, closed, configured, with_options, new_session, publishing, takers, routed, handed, handed_to, emptied, collected_from, without_collected, left_over, collected, collect_told, frames_told, if_open, if_publisher_open}
 use Rattle.js_model.specs.declared.desk.Collected.{Collected}
 use Rattle.js_model.specs.declared.desk.Collected.TheVariants as answers
 use Rattle.js_model.specs.declared.route_fault.RouteFault.{RouteFault}
-use Rattle.js_model.specs.Routing.{collected_told, frame_count, waiting_count, waiting_for, Opens, StaysOpen, KeepsOpen, ClosesOne, LeavesFewer}
+use Rattle.js_model.specs.Routing.{collected_told, frame_count, waiting_count, waiting_for, Opens, KeepsOpen, ClosesOne, LeavesFewer}
 use Rattle.route_core.proofs.Numbers.{KeepsNumber, number_stays}
 use Rattle.route_core.proofs.Handing.{handed_number}
 

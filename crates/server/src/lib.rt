@@ -6,8 +6,6 @@ mod preparing;
 mod printing;
 mod running;
 mod serving;
-#[cfg(test)]
-mod tests;
 mod words;
 
 pub use running::{Finish, run};

@@ -14,7 +14,7 @@ use Rattle.stream_config.specs.declared.rule.Standing.TheVariants.{Usual, Other,
 use Rattle.stream_config.specs.Table.{Line, table}
 use Rattle.stream_config.specs.Reading.{check, checks, is_refused, config_in, refusal_in, config_unless, reading, names_another}
 
--- ---- none is refused where each passes
+-- ---- none is refused if each passes
 
 -- each of these fields passes
 abbrev pub Passing : Members → List Line → Type 0

@@ -23,7 +23,7 @@ use Rattle.stream_config.specs.Table.{Line, table}
 
 -- ---- what the fields say
 
--- what a getter found: nothing, where the field is absent or wrong
+-- what a getter found: nothing, if the field is absent or wrong
 abbrev pub found : {X : Type 0} → Result (Option X) JsonFault → Option X
 found (Ok x) = x
 found (Err fault) = None
@@ -37,15 +37,15 @@ abbrev pub natural_or_0 : Option ℤ → ℕ
 natural_or_0 None = 0
 natural_or_0 (Some z) = natural z
 
--- the number in a field, and 0 where there is none or one below 0
+-- the number in a field, and 0 if there is none or one below 0
 abbrev pub natural_in : Bytes → Members → ℕ
 natural_in name fields = natural_or_0 (found (number_in name fields))
 
--- the text in a field, and the empty one where there is none
+-- the text in a field, and the empty one if there is none
 abbrev pub word_in : Bytes → Members → Bytes
 word_in name fields = unwrap_or (found (text_in name fields)) []
 
--- for how long messages stay: 0 also where the field is wrong
+-- for how long messages stay: 0 also if the field is wrong
 abbrev pub age_in : Members → ℕ
 age_in fields = let age = natural_in (codes "max_age") fields in if nat_lt age (2 ^ 62) then age else 0
 
@@ -137,17 +137,17 @@ discard_of text = if same text (codes "new") then DiscardNew else Old
 abbrev pub usual_window : ℕ
 usual_window = 120_000_000_000
 
--- 0 is two minutes, or the age where that is smaller and not 0
+-- 0 is two minutes, or the age if that is smaller and not 0
 abbrev pub window_of : ℕ → ℕ → ℕ
 window_of age window =
     if window == 0 then (if nat_lt 0 age && nat_lt age usual_window then age else usual_window) else window
 
--- the stream's name alone, where there are none
+-- the stream's name alone, if there are none
 abbrev pub subjects_or : Bytes → Option (List Bytes) → List Bytes
 subjects_or name None = name ∷ []
 subjects_or name (Some subjects) = if is_empty subjects then name ∷ [] else subjects
 
--- the configuration that the fields say, where none of them is refused
+-- the configuration that the fields say, if none of them is refused
 unfoldable pub config_in : Bytes → Members → StreamConfig
 config_in name fields = record {
   description = word_in (codes "description") fields;

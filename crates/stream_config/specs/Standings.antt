@@ -27,7 +27,7 @@ abbrev pub limit_standing : ℕ → ℤ → Standing
 limit_standing greatest number =
     if within (negsuc 0) (pos 0) number then Usual else if within (pos 1) (pos greatest) number then Other else Invalid
 
--- nanoseconds, where 0 is the usual value
+-- nanoseconds, if 0 is the usual value
 abbrev pub nanos_standing : ℤ → Standing
 nanos_standing number =
     if within (pos 0) (pos 0) number then Usual else if within (pos 1) (pos (2 ^ 62 - 1)) number then Other else Invalid
@@ -40,7 +40,7 @@ window_standing max_age number = if nat_lt 0 max_age && int_lt (pos max_age) num
 abbrev pub count_standing : ℕ → ℤ → Standing
 count_standing greatest number = if within (pos 0) (pos greatest) number then Usual else LeftOut
 
--- the rule for a number where messages stay that long
+-- the rule for a number if messages stay that long
 abbrev pub number_standing : NumberRule → ℕ → ℤ → Standing
 number_standing (Limit greatest) max_age number = limit_standing greatest number
 number_standing Nanos max_age number = nanos_standing number

@@ -131,7 +131,7 @@ impl Rule {
     }
 }
 
-/// Refuses the field where it is served so and stands so.
+/// Refuses the field if it is served so and stands so.
 fn judge(alloc: Global, name: &str, since: Served, standing: Standing) -> Result<(), ConfigFault>
     ensures passes { Passes result (first_refusal (judgement name.now since standing ∷ [])) }
 {
@@ -143,7 +143,7 @@ fn judge(alloc: Global, name: &str, since: Served, standing: Standing) -> Result
     }
 }
 
-/// Refuses the field where it holds what it may not hold.
+/// Refuses the field if it holds what it may not hold.
 fn check_field(
     alloc: Global,
     fields: &Fields,

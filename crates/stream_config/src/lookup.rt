@@ -8,7 +8,7 @@ ghost use Rattle.stream_config.specs.Reading.{natural_in, age_in, word_in, found
 use js_base::{Blob, List, NoMemory};
 use js_json::{Fields, JsonFault};
 
-/// The number in the field, and 0 where there is none or one below 0.
+/// The number in the field, and 0 if there is none or one below 0.
 pub(crate) fn natural(fields: &Fields, name: &str) -> u64
     ensures value { result ≡ natural_in name.now (members fields.now) }
 {
@@ -18,7 +18,7 @@ pub(crate) fn natural(fields: &Fields, name: &str) -> u64
     }
 }
 
-/// For how long messages stay, in nanoseconds: 0 for ever, and also where that field is wrong.
+/// For how long messages stay, in nanoseconds: 0 for ever, and also if that field is wrong.
 pub(crate) fn age(fields: &Fields) -> u64
     ensures value { result ≡ age_in (members fields.now) }
 {
@@ -26,7 +26,7 @@ pub(crate) fn age(fields: &Fields) -> u64
     if age < 1 << 62 { age } else { 0 }
 }
 
-/// The text in the field, and `None` where there is none.
+/// The text in the field, and `None` if there is none.
 pub(crate) fn text(fields: &Fields, name: &str) -> Result<Option<Blob>, NoMemory>
     ensures value { IfOk result (λ text. text ≡ found (text_in name.now (members fields.now))) }
 {
@@ -37,14 +37,14 @@ pub(crate) fn text(fields: &Fields, name: &str) -> Result<Option<Blob>, NoMemory
     }
 }
 
-/// The text in the field, and the empty one where there is none.
+/// The text in the field, and the empty one if there is none.
 pub(crate) fn word(fields: &Fields, name: &str) -> Result<Blob, NoMemory>
     ensures value { IfOk result (λ word. word ≡ word_in name.now (members fields.now)) }
 {
     Ok(text(fields, name)?.unwrap_or(Blob::empty()))
 }
 
-/// The list of texts in the field, and `None` where there is none.
+/// The list of texts in the field, and `None` if there is none.
 pub(crate) fn texts(fields: &Fields, name: &str) -> Result<Option<List<Blob>>, NoMemory>
     ensures value { IfOk result (λ texts. texts ≡ found (texts_in name.now (members fields.now))) }
 {

@@ -54,7 +54,7 @@ fn discard(text: &[u8]) -> Discard
     }
 }
 
-/// The duplicate window where it is asked for so, and messages stay that long.
+/// The duplicate window if it is asked for so, and messages stay that long.
 fn window(max_age: u64, window: u64) -> u64
     ensures value { result ≡ window_of max_age window }
 {
@@ -76,7 +76,7 @@ fn name_alone(alloc: Global, name: &Name) -> Result<List<Blob>, NoMemory>
     Ok(subjects)
 }
 
-/// The subjects, or the name where there are none.
+/// The subjects, or the name if there are none.
 fn subjects(alloc: Global, fields: &Fields, name: &Name) -> Result<List<Blob>, NoMemory>
     ensures value { IfOk result (λ subjects. subjects ≡ subjects_or name.now (found (texts_in (codes "subjects") (members fields.now)))) }
 {

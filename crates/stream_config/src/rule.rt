@@ -123,7 +123,7 @@ fn nanos_standing(number: i128) -> Standing
     }
 }
 
-/// The standing of a duplicate window where messages stay that long, 0 for ever.
+/// The standing of a duplicate window if messages stay that long, 0 for ever.
 fn window_standing(max_age: u64, number: i128) -> Standing
     ensures value { result ≡ window_standing max_age number }
 {
@@ -135,7 +135,7 @@ fn window_standing(max_age: u64, number: i128) -> Standing
 }
 
 impl NumberRule {
-    /// The standing of a number where messages stay that long, 0 for ever.
+    /// The standing of a number if messages stay that long, 0 for ever.
     pub(crate) fn standing(self, max_age: u64, number: i128) -> Standing
         ensures value { result ≡ number_standing self max_age number }
     {

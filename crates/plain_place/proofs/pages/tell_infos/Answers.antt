@@ -3,7 +3,7 @@ use Rattle.js_model.specs.declared.reply.ConsumerInfo.{ConsumerInfo}
 use Rattle.js_model.specs.declared.reply.Reply.TheVariants.{Infos}
 use Rattle.js_model.specs.Counts.{consumer_info}
 use Rattle.js_model.specs.Events.{quietly, settled, completed}
-use Rattle.plain_place.proofs.PlainLists.{page_map}
+use Rattle.plain_place.proofs.PlainPages.{page_map}
 use Rattle.plain_place.proofs.pages.tell_infos.Goals as goal
 
 pub returns : goal.returns

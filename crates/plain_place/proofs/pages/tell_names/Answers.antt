@@ -2,7 +2,7 @@ use Rattle.std.proofs.Common.{ap, sym, [], List, length}
 use Rattle.js_base.specs.Bytes.{Bytes}
 use Rattle.js_model.specs.declared.reply.Reply.TheVariants.{Names}
 use Rattle.js_model.specs.Events.{quietly, completed}
-use Rattle.plain_place.proofs.PlainLists.{page_map}
+use Rattle.plain_place.proofs.PlainPages.{page_map}
 use Rattle.plain_place.proofs.pages.tell_names.Goals as goal
 
 pub returns : goal.returns

@@ -2,7 +2,7 @@ use Rattle.std.proofs.Common.{rules, tests, nat_lt}
 use Rattle.std.proofs.lemmas.Fn.{filter_same}
 use Rattle.js_base.specs.Moments.{plus}
 use Rattle.js_model.specs.declared.stream.Id.{Id}
-use Rattle.plain_place.proofs.ageing.forget_ids.Goals as goal
+use Rattle.plain_stream.proofs.ageing.forget_ids.Goals as goal
 
 pub returns : goal.returns
 returns c =

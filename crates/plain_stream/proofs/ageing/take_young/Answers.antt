@@ -4,7 +4,7 @@ use Rattle.std.proofs.lemmas.Bool.{ne_eqb}
 use Rattle.std.proofs.lemmas.Fn.{filter_same}
 use Rattle.js_base.specs.Moments.{plus}
 use Rattle.js_model.specs.declared.stream.Message.{Message}
-use Rattle.plain_place.proofs.ageing.take_young.Goals as goal
+use Rattle.plain_stream.proofs.ageing.take_young.Goals as goal
 
 pub returns-then-max_age-ne0-clause-young : goal.returns-then-max_age-ne0-clause-young
 returns-then-max_age-ne0-clause-young c =

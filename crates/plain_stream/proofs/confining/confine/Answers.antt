@@ -3,7 +3,7 @@ use Rattle.std.proofs.lemmas.Fn.{filter_same}
 use Rattle.js_base.specs.Bytes.{has}
 use Rattle.js_model.specs.declared.consumer.Pending.{Pending}
 use Rattle.js_model.specs.Streams.{seqs}
-use Rattle.plain_place.proofs.confining.confine.Goals as goal
+use Rattle.plain_stream.proofs.confining.confine.Goals as goal
 
 pub returns : goal.returns
 returns c =

@@ -1,7 +1,7 @@
 use Rattle.std.proofs.Common.{◌∙◌, ap, sym, arith, set}
 use Rattle.std.proofs.lemmas.List.Edits.{map_over_more}
 use Rattle.js_model.specs.Streams.{seqs, confined}
-use Rattle.plain_place.proofs.confining.confine_all.Goals as goal
+use Rattle.plain_stream.proofs.confining.confine_all.Goals as goal
 
 pub loop-consumer-preserved : goal.loop-consumer-preserved
 loop-consumer-preserved c =

@@ -1,6 +1,6 @@
 use Rattle.std.proofs.Common.{◌≡◌, map, ◌++◌, take, drop}
 use Rattle.js_model.specs.Streams.{seqs, confined}
-use Rattle.plain_place.proofs.confining.confine_all.Given as goal
+use Rattle.plain_stream.proofs.confining.confine_all.Given as goal
 
 -- the consumers so far are confined, and the others are as they were
 abbrev pub invariant-loop-consumer : goal.invariant-loop-consumer

@@ -2,8 +2,8 @@ use Rattle.std.proofs.Common.{rules, tests, ◌∙◌, sym, ◌==◌}
 use Rattle.std.proofs.lemmas.Iterator.{YieldsList-from_slice}
 use Rattle.std.proofs.lemmas.Iterator.Search.{any_from_yields_List}
 use Rattle.js_model.specs.declared.stream.Message.{Message}
-use Rattle.plain_place.proofs.PlainLists.{has-map}
-use Rattle.plain_place.proofs.confining.has_seq.Goals as goal
+use Rattle.plain_stream.proofs.PlainLists.{has-map}
+use Rattle.plain_stream.proofs.confining.has_seq.Goals as goal
 
 pub returns : goal.returns
 returns c = record {

@@ -4,8 +4,8 @@ use Rattle.std.proofs.lemmas.Iterator.Search.{find_from_yields_List}
 use Rattle.std.specs.Prelude.{find}
 use Rattle.js_base.specs.Bytes.{same, is_empty}
 use Rattle.js_model.specs.declared.stream.Id.{Id}
-use Rattle.plain_place.proofs.PlainLists.{is_empty-length}
-use Rattle.plain_place.proofs.expectations.known.Goals as goal
+use Rattle.plain_stream.proofs.PlainLists.{is_empty-length}
+use Rattle.plain_stream.proofs.expectations.known.Goals as goal
 
 pub returns : goal.returns
 returns c =

@@ -1,6 +1,6 @@
 use Rattle.std.proofs.Common.{◌∙◌, sym}
-use Rattle.plain_place.proofs.PlainLimits.{fitting_stays}
-use Rattle.plain_place.proofs.limits.keep_fitting.Goals as goal
+use Rattle.plain_stream.proofs.PlainLimits.{fitting_stays}
+use Rattle.plain_stream.proofs.limits.keep_fitting.Goals as goal
 
 pub returns : goal.returns
 returns c =

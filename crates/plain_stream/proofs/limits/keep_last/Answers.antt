@@ -1,7 +1,7 @@
 use Rattle.std.proofs.Common.{◌∙◌, ap, arith}
 use Rattle.js_base.specs.Bytes.{last_of}
-use Rattle.plain_place.proofs.PlainLimits.{last_of_goes}
-use Rattle.plain_place.proofs.limits.keep_last.Goals as goal
+use Rattle.plain_stream.proofs.PlainLimits.{last_of_goes}
+use Rattle.plain_stream.proofs.limits.keep_last.Goals as goal
 
 pub loop-messages-preserved : goal.loop-messages-preserved
 loop-messages-preserved c =

@@ -1,7 +1,7 @@
 use Rattle.std.proofs.Common.{◌∙◌, ap, arith, ◌++◌, take, drop}
 use Rattle.js_model.specs.Trim.{newest}
-use Rattle.plain_place.proofs.PlainLimits.{newest_stays, newest_goes}
-use Rattle.plain_place.proofs.limits.keep_newest.Goals as goal
+use Rattle.plain_stream.proofs.PlainLimits.{newest_stays, newest_goes}
+use Rattle.plain_stream.proofs.limits.keep_newest.Goals as goal
 
 pub loop-place-preserved-then-is_among_newest : goal.loop-place-preserved-then-is_among_newest
 loop-place-preserved-then-is_among_newest c =

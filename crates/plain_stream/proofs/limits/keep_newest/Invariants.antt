@@ -1,6 +1,6 @@
 use Rattle.std.proofs.Common.{◌≡◌, ◌≤◌, ◌-◌, ◌++◌, take, drop, vec_len}
 use Rattle.js_model.specs.Trim.{newest}
-use Rattle.plain_place.proofs.limits.keep_newest.Given as goal
+use Rattle.plain_stream.proofs.limits.keep_newest.Given as goal
 
 -- the messages before the place stay
 abbrev pub invariant-loop-place : goal.invariant-loop-place

@@ -1,6 +1,6 @@
 use Rattle.std.proofs.Common.{◌∙◌, ap}
 use Rattle.js_model.specs.Trim.{trim_count, trim_bytes, trim}
-use Rattle.plain_place.proofs.limits.trim.Goals as goal
+use Rattle.plain_stream.proofs.limits.trim.Goals as goal
 
 pub returns : goal.returns
 unfolding trim

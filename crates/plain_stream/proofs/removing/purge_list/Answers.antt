@@ -4,7 +4,7 @@ use Rattle.std.proofs.lemmas.Fn.{filter_same}
 use Rattle.js_model.specs.declared.stream.Message.{Message}
 use Rattle.js_model.specs.Streams.{passes_filter}
 use Rattle.js_model.specs.Events.{is_below, all_but_last}
-use Rattle.plain_place.proofs.removing.purge_list.Goals as goal
+use Rattle.plain_stream.proofs.removing.purge_list.Goals as goal
 
 pub returns : goal.returns
 returns c =

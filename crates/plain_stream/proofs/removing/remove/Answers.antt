@@ -4,7 +4,7 @@ use Rattle.std.proofs.lemmas.Fn.{filter_same}
 use Rattle.js_base.specs.Bytes.{has}
 use Rattle.js_model.specs.declared.stream.Message.{Message}
 use Rattle.js_model.specs.Streams.{only, seqs}
-use Rattle.plain_place.proofs.removing.remove.Goals as goal
+use Rattle.plain_stream.proofs.removing.remove.Goals as goal
 
 pub returns : goal.returns
 returns c =

@@ -3,7 +3,7 @@ use Rattle.std.specs.List.{filter}
 use Rattle.std.proofs.lemmas.Fn.{filter_same}
 use Rattle.js_model.specs.Streams.{only}
 use Rattle.js_model.specs.Retention.{is_kept, kept}
-use Rattle.plain_place.proofs.retention.keep.Goals as goal
+use Rattle.plain_stream.proofs.retention.keep.Goals as goal
 
 pub returns : goal.returns
 unfolding kept

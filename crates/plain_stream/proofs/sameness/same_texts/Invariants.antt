@@ -1,8 +1,8 @@
 use Rattle.std.proofs.Common.{◌≡◌, length}
 use Rattle.js_model.specs.Configs.{same_texts}
-use Rattle.plain_place.proofs.sameness.same_texts.Given as goal
+use Rattle.plain_stream.proofs.sameness.same_texts.Given as goal
 
--- the texts that are left are the same where all are
+-- the texts that are left are the same if and only if all are
 abbrev pub invariant-loop-text : goal.invariant-loop-text
 invariant-loop-text l = same_texts l.texts l.others ≡ same_texts l.fn.texts l.fn.others
 

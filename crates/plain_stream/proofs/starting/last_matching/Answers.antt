@@ -3,8 +3,8 @@ use Rattle.std.proofs.lemmas.Iterator.{YieldsList-from_slice}
 use Rattle.std.proofs.lemmas.Iterator.Consumers.{YieldsList-from_filter}
 use Rattle.js_model.specs.declared.stream.Message.{Message}
 use Rattle.js_model.specs.Streams.{passes_filter}
-use Rattle.plain_place.proofs.PlainLists.{option_copied_last}
-use Rattle.plain_place.proofs.starting.last_matching.Goals as goal
+use Rattle.plain_stream.proofs.PlainLists.{option_copied_last}
+use Rattle.plain_stream.proofs.starting.last_matching.Goals as goal
 
 pub returns : goal.returns
 returns c = record {

@@ -3,7 +3,7 @@ use Rattle.std.specs.List.{filter}
 use Rattle.std.proofs.lemmas.Fn.{filter_same}
 use Rattle.js_model.specs.declared.stream.Message.{Message}
 use Rattle.js_model.specs.Streams.{passes_filter}
-use Rattle.plain_place.proofs.starting.matching.Goals as goal
+use Rattle.plain_stream.proofs.starting.matching.Goals as goal
 
 pub returns : goal.returns
 returns c =

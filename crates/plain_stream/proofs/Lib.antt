@@ -1,0 +1,2 @@
+pub mod PlainLists
+pub mod PlainLimits
