@@ -13,8 +13,6 @@ mod fields;
 #[cfg(test)]
 mod frames;
 #[cfg(test)]
-mod index;
-#[cfg(test)]
 mod kept;
 #[cfg(test)]
 mod place;
