@@ -1,4 +1,4 @@
-//! `js_desk`: behind which calls a desk rests at a turn's end at which nothing came. `bench/path` measures such turns.
+//! `js_desk`: after which calls a desk rests at the end of a turn. `bench/path` measures turns, and in most of them nothing comes.
 
 ghost use Rattle.std.specs.Prelude.{◌≡◌, true, false, IfOk};
 ghost use Rattle.js_api.specs.Publishing.{IsMessage};

@@ -13,13 +13,9 @@ mod fields;
 #[cfg(test)]
 mod frames;
 #[cfg(test)]
-mod index;
-#[cfg(test)]
 mod kept;
 #[cfg(test)]
 mod place;
-#[cfg(test)]
-mod publishes;
 #[cfg(test)]
 mod replies;
 #[cfg(test)]

@@ -1,11 +1,11 @@
-//! `api_replies`: consumers, stored messages and removals, which no call shows yet.
+//! `api_replies`: consumers, stored messages and removals, which no call shows yet, and the answers to publishes that none gets yet.
 
 ghost use Rattle.std.specs.Prelude.{IfOk, IsUtf8};
 ghost use Rattle.api_replies.specs.Printed.{ConsumerConfigIsText, ConsumerIsText, IsText};
 
-use api_replies::{ApiReply, reply_text};
-use js_base::{Blob, List, Moment, NoMemory};
-use js_model::{AckPolicy, ConsumerConfig, ConsumerInfo, DeliverPolicy, Info, Message};
+use api_replies::{ApiReply, publish_text, reply_text};
+use js_base::{ApiError, Blob, List, Moment, NoMemory};
+use js_model::{AckPolicy, ConsumerConfig, ConsumerInfo, DeliverPolicy, Info, Message, Reply};
 use std::alloc::Global;
 use std::process::Abort;
 use std::test::Fail;
@@ -94,10 +94,10 @@ fn assert_config(
 ) -> Result<(), Fail>
     requires texts { ConsumerConfigIsText config }
 {
-    let (before, behind) = around();
+    let (before, after) = around();
     let made = ApiReply::ConsumerCreate(worker(alloc, config)?);
     let whole = format!(in alloc;
-        "{before}{shown}{behind},\"type\":\"io.nats.jetstream.api.v1.consumer_create_response\"}}"
+        "{before}{shown}{after},\"type\":\"io.nats.jetstream.api.v1.consumer_create_response\"}}"
     )?;
     assert_text(rt, alloc, &made, whole.as_str())
 }
@@ -192,7 +192,7 @@ fn deliver_policies_are_shown(rt: HostRuntime) -> Result<(), Fail> {
 #[test]
 fn page_is_shown(rt: HostRuntime) -> Result<(), Fail> {
     let alloc = rt.alloc();
-    let (before, behind) = around();
+    let (before, after) = around();
     let mut consumers = List::new(alloc);
     consumers.push(worker(alloc, usual(alloc)?)?)?;
     let page = ApiReply::ConsumerList {
@@ -201,7 +201,7 @@ fn page_is_shown(rt: HostRuntime) -> Result<(), Fail> {
         total: 2,
     };
     let whole = format!(in alloc;
-        "{{\"consumers\":[{before}{{\"ack_policy\":\"explicit\",\"ack_wait\":30000000000,\"deliver_policy\":\"all\",\"durable_name\":\"W\",\"max_ack_pending\":1000,\"max_deliver\":-1,\"max_waiting\":512,\"name\":\"W\",\"replay_policy\":\"instant\"}}{behind}}}],\"limit\":256,\"offset\":1,\"total\":2,\"type\":\"io.nats.jetstream.api.v1.consumer_list_response\"}}"
+        "{{\"consumers\":[{before}{{\"ack_policy\":\"explicit\",\"ack_wait\":30000000000,\"deliver_policy\":\"all\",\"durable_name\":\"W\",\"max_ack_pending\":1000,\"max_deliver\":-1,\"max_waiting\":512,\"name\":\"W\",\"replay_policy\":\"instant\"}}{after}}}],\"limit\":256,\"offset\":1,\"total\":2,\"type\":\"io.nats.jetstream.api.v1.consumer_list_response\"}}"
     )?;
     assert_text(&rt, alloc, &page, whole.as_str())
 }
@@ -257,4 +257,25 @@ fn header_block_is_shown(rt: HostRuntime) -> Result<(), Fail> {
         &ApiReply::StreamMsgGet(message),
         "{\"message\":{\"data\":\"\",\"hdrs\":\"TkFUUy8xLjANCg0K\",\"seq\":4611686018427387903,\"subject\":\"a\",\"time\":\"2116-02-20T23:53:38.427387903Z\"},\"type\":\"io.nats.jetstream.api.v1.stream_msg_get_response\"}",
     )
+}
+
+#[test]
+fn duplicates_and_refusals_are_shown(rt: HostRuntime) -> Result<(), Fail> {
+    let alloc = rt.alloc();
+    let again = publish_text(alloc, b"ORDERS", &Reply::Duplicate(1))?.ok_or("no text")?;
+    assert_eq!(rt;
+        again.as_slice(),
+        b"{\"duplicate\":true,\"seq\":1,\"stream\":\"ORDERS\"}".as_slice()
+    );
+    let refusal = ApiError {
+        code: 503,
+        err_code: 20019,
+        text: text(alloc, b"maximum messages exceeded")?,
+    };
+    let refused = publish_text(alloc, b"L", &Reply::Refused(refusal))?.ok_or("no text")?;
+    assert_eq!(rt;
+        refused.as_slice(),
+        b"{\"error\":{\"code\":503,\"description\":\"maximum messages exceeded\",\"err_code\":20019},\"seq\":0,\"stream\":\"L\"}".as_slice()
+    );
+    Ok(())
 }
