@@ -1,7 +1,6 @@
 use Rattle.std.proofs.Common.{◌<◌, ◌^◌, ℕ, IsTrue, sym, ap, subst, ◌∙◌}
 use Rattle.js_model.specs.declared.event.Event.{Event}
 use Rattle.js_model.specs.Proper.{is_proper}
-use Rattle.desk_hold.specs.Steps.{HoldsPlace}
 use Rattle.desk_hold.proofs.Outcomes.{number_dropped, proper_event}
 use Rattle.desk_hold.proofs.holding.ask_kept.Goals as goal
 
@@ -20,11 +19,11 @@ returns-clause-holds g c = record {
   kept = c.requires.kept;
   proper = proper_event c.args.at c.args.event.now.what c.requires.small c.requires.asked;
   moment = c.law_moment.ensures.bound;
-  holds = subst (λ (e : Event). HoldsPlace c.hold_place.result e c.args.now _ _ _ _) c.requires.event c.hold_place.ensures.holds;
+  holds = rw c.requires.event at c.hold_place.ensures.holds;
 }
 
 pub returns-clause-number : goal.returns-clause-number
 returns-clause-number g c =
-    number_dropped c.args.event.now.what c.hold_place.result c.args.at c.args.now _ _ _ _
+    number_dropped c.args.event.now.what c.hold_place.result c.args.at c.args.now c.args.place.now.state c.hold_place.new.place.state c.args.router.now c.hold_place.new.router
     (λ stream live. subst (λ (n : ℕ). n < 2 ^ 62) (sym c.requires.kept) (c.hold_place.ensures.number stream live))
-    (subst (λ (e : Event). HoldsPlace c.hold_place.result e c.args.now _ _ _ _) c.requires.event c.hold_place.ensures.holds)
+    (rw c.requires.event at c.hold_place.ensures.holds)
