@@ -23,7 +23,7 @@ pub fn message_to(to: &Blob, payload: Blob) -> Result<Out, NoMemory>
 }
 
 /// The message with this answer, or no message if there is no subject for it.
-pub fn answer_outs(alloc: Global, to: &Option<Blob>, reply: &ApiReply) -> Result<Outs, NoMemory>
+fn outs_of(alloc: Global, to: &Option<Blob>, reply: &ApiReply) -> Result<Outs, NoMemory>
     requires texts { IsText reply.now }
     ensures outs { IfOk result (λ outs. outs ≡ answer to.now reply.now) }
 {
@@ -33,4 +33,12 @@ pub fn answer_outs(alloc: Global, to: &Option<Blob>, reply: &ApiReply) -> Result
         outs.push(message_to(to, text)?)?;
     }
     Ok(outs)
+}
+
+/// The message with this answer, or no message if there is no subject for it. The answer is let go.
+pub fn answer_outs(alloc: Global, to: &Option<Blob>, reply: ApiReply) -> Result<Outs, NoMemory>
+    requires texts { IsText reply }
+    ensures outs { IfOk result (λ outs. outs ≡ answer to.now reply) }
+{
+    outs_of(alloc, to, &reply)
 }

@@ -21,7 +21,7 @@ pub fn answer<V>(ground: &mut Ground<V>, to: &Option<Blob>, reply: ApiReply) -> 
     ensures answers { Leads (IsSent (is_ok result) (answer to.now reply)) ground.old.world ground.new.world }
     ensures kept { Keeps ground.old ground.new }
 {
-    match answer_outs(ground.alloc(), to, &reply) {
+    match answer_outs(ground.alloc(), to, reply) {
         Ok(outs) => ground.send(outs.as_slice()),
         Err(_) => Err(NoMemory),
     }
