@@ -5,8 +5,6 @@
 #[cfg(test)]
 mod blocks;
 #[cfg(test)]
-mod desk;
-#[cfg(test)]
 mod edge;
 #[cfg(test)]
 mod fields;

@@ -1,7 +1,7 @@
 //! `api_replies`: consumers, stored messages and removals, which no call shows yet, and the answers to publishes that none gets yet.
 
 ghost use Rattle.std.specs.Prelude.{IfOk, IsUtf8};
-ghost use Rattle.api_replies.specs.Printed.{ConsumerConfigIsText, ConsumerIsText, IsText};
+ghost use Rattle.api_replies.specs.Printed.{ConsumerConfigIsText, ConsumerIsText, IsAckText, IsText};
 
 use api_replies::{ApiReply, publish_text, reply_text};
 use js_base::{ApiError, Blob, List, Moment, NoMemory};
@@ -113,10 +113,11 @@ fn usual_configuration_is_shown(rt: HostRuntime) -> Result<(), Fail> {
     )
 }
 
-#[test]
-fn each_text_is_shown(rt: HostRuntime) -> Result<(), Fail> {
-    let alloc = rt.alloc();
-    let config = ConsumerConfig {
+/// A push consumer with each text, and the least numbers.
+fn least(alloc: Global) -> Result<ConsumerConfig, NoMemory>
+    ensures texts { IfOk result ConsumerConfigIsText }
+{
+    Ok(ConsumerConfig {
         ack_policy: AckPolicy::None,
         ack_wait: 1,
         deliver_group: text(alloc, b"g")?,
@@ -129,19 +130,25 @@ fn each_text_is_shown(rt: HostRuntime) -> Result<(), Fail> {
         max_deliver: Some(1),
         max_waiting: 1,
         name: text(alloc, b"W")?,
-    };
+    })
+}
+
+#[test]
+fn each_text_is_shown(rt: HostRuntime) -> Result<(), Fail> {
+    let alloc = rt.alloc();
     assert_config(
         &rt,
         alloc,
-        config,
+        least(alloc)?,
         "{\"ack_policy\":\"none\",\"ack_wait\":1,\"deliver_group\":\"g\",\"deliver_policy\":\"by_start_sequence\",\"deliver_subject\":\"d.a\",\"description\":\"the worker\",\"durable_name\":\"W\",\"filter_subject\":\"orders.*\",\"idle_heartbeat\":1,\"max_ack_pending\":-1,\"max_deliver\":1,\"max_waiting\":1,\"name\":\"W\",\"opt_start_seq\":1,\"replay_policy\":\"instant\"}",
     )
 }
 
-#[test]
-fn greatest_numbers_are_shown(rt: HostRuntime) -> Result<(), Fail> {
-    let alloc = rt.alloc();
-    let config = ConsumerConfig {
+/// A pull consumer with the greatest numbers.
+fn greatest(alloc: Global) -> Result<ConsumerConfig, NoMemory>
+    ensures texts { IfOk result ConsumerConfigIsText }
+{
+    Ok(ConsumerConfig {
         ack_policy: AckPolicy::All,
         ack_wait: GREATEST,
         deliver_policy: DeliverPolicy::ByStartTime(moment(GREATEST)?),
@@ -150,13 +157,28 @@ fn greatest_numbers_are_shown(rt: HostRuntime) -> Result<(), Fail> {
         max_deliver: Some(GREATEST),
         max_waiting: 65_536,
         ..usual(alloc)?
-    };
+    })
+}
+
+#[test]
+fn greatest_numbers_are_shown(rt: HostRuntime) -> Result<(), Fail> {
+    let alloc = rt.alloc();
     assert_config(
         &rt,
         alloc,
-        config,
+        greatest(alloc)?,
         "{\"ack_policy\":\"all\",\"ack_wait\":4611686018427387903,\"deliver_policy\":\"by_start_time\",\"durable_name\":\"W\",\"idle_heartbeat\":4611686018427387903,\"max_ack_pending\":65536,\"max_deliver\":4611686018427387903,\"max_waiting\":65536,\"name\":\"W\",\"opt_start_time\":\"2116-02-20T23:53:38.427387903Z\",\"replay_policy\":\"instant\"}",
     )
+}
+
+/// A consumer with this deliver policy.
+fn with_policy(alloc: Global, deliver_policy: DeliverPolicy) -> Result<ConsumerConfig, NoMemory>
+    ensures texts { IfOk result ConsumerConfigIsText }
+{
+    Ok(ConsumerConfig {
+        deliver_policy,
+        ..usual(alloc)?
+    })
 }
 
 /// That a consumer with this deliver policy, which names no start, shows it by this word.
@@ -166,14 +188,15 @@ fn assert_policy(
     deliver_policy: DeliverPolicy,
     word: &str,
 ) -> Result<(), Fail> {
-    let config = ConsumerConfig {
-        deliver_policy,
-        ..usual(alloc)?
-    };
     let shown = format!(in alloc;
         "{{\"ack_policy\":\"explicit\",\"ack_wait\":30000000000,\"deliver_policy\":\"{word}\",\"durable_name\":\"W\",\"max_ack_pending\":1000,\"max_deliver\":-1,\"max_waiting\":512,\"name\":\"W\",\"replay_policy\":\"instant\"}}"
     )?;
-    assert_config(rt, alloc, config, shown.as_str())
+    assert_config(
+        rt,
+        alloc,
+        with_policy(alloc, deliver_policy)?,
+        shown.as_str(),
+    )
 }
 
 #[test]
@@ -189,21 +212,27 @@ fn deliver_policies_are_shown(rt: HostRuntime) -> Result<(), Fail> {
     )
 }
 
+/// The second of two consumers.
+fn page(alloc: Global) -> Result<ApiReply, NoMemory>
+    ensures texts { IfOk result IsText }
+{
+    let mut consumers = List::new(alloc);
+    consumers.push(worker(alloc, usual(alloc)?)?)?;
+    Ok(ApiReply::ConsumerList {
+        consumers,
+        offset: 1,
+        total: 2,
+    })
+}
+
 #[test]
 fn page_is_shown(rt: HostRuntime) -> Result<(), Fail> {
     let alloc = rt.alloc();
     let (before, after) = around();
-    let mut consumers = List::new(alloc);
-    consumers.push(worker(alloc, usual(alloc)?)?)?;
-    let page = ApiReply::ConsumerList {
-        consumers,
-        offset: 1,
-        total: 2,
-    };
     let whole = format!(in alloc;
         "{{\"consumers\":[{before}{{\"ack_policy\":\"explicit\",\"ack_wait\":30000000000,\"deliver_policy\":\"all\",\"durable_name\":\"W\",\"max_ack_pending\":1000,\"max_deliver\":-1,\"max_waiting\":512,\"name\":\"W\",\"replay_policy\":\"instant\"}}{after}}}],\"limit\":256,\"offset\":1,\"total\":2,\"type\":\"io.nats.jetstream.api.v1.consumer_list_response\"}}"
     )?;
-    assert_text(&rt, alloc, &page, whole.as_str())
+    assert_text(&rt, alloc, &page(alloc)?, whole.as_str())
 }
 
 #[test]
@@ -223,59 +252,94 @@ fn removals_are_shown(rt: HostRuntime) -> Result<(), Fail> {
     )
 }
 
-#[test]
-fn message_is_shown(rt: HostRuntime) -> Result<(), Fail> {
-    let alloc = rt.alloc();
-    let message = Message {
-        seq: 1,
-        at: moment(1_700_000_000_000_000_000)?,
-        subject: text(alloc, b"orders.a")?,
-        headers: Blob::empty(),
-        payload: Blob::of(alloc, b"hello")?,
-    };
-    assert_text(
-        &rt,
-        alloc,
-        &ApiReply::StreamMsgGet(message),
-        "{\"message\":{\"data\":\"aGVsbG8=\",\"seq\":1,\"subject\":\"orders.a\",\"time\":\"2023-11-14T22:13:20.000000000Z\"},\"type\":\"io.nats.jetstream.api.v1.stream_msg_get_response\"}",
-    )
+/// A stored message.
+fn stored(
+    alloc: Global,
+    seq: u64,
+    nanos: u64,
+    subject: &[u8],
+    headers: &[u8],
+    payload: &[u8],
+) -> Result<Message, NoMemory>
+    requires utf8 { IsUtf8 subject.now }
+    ensures utf8 { IfOk result (λ message. IsUtf8 message.subject) }
+{
+    Ok(Message {
+        seq,
+        at: moment(nanos)?,
+        subject: text(alloc, subject)?,
+        headers: Blob::of(alloc, headers)?,
+        payload: Blob::of(alloc, payload)?,
+    })
+}
+
+/// That the message is shown so.
+fn assert_message(rt: &impl Abort, alloc: Global, message: Message, shown: &str) -> Result<(), Fail>
+    requires utf8 { IsUtf8 message.subject }
+{
+    let whole = format!(in alloc;
+        "{{\"message\":{shown},\"type\":\"io.nats.jetstream.api.v1.stream_msg_get_response\"}}"
+    )?;
+    assert_text(rt, alloc, &ApiReply::StreamMsgGet(message), whole.as_str())
 }
 
 #[test]
-fn header_block_is_shown(rt: HostRuntime) -> Result<(), Fail> {
+fn messages_are_shown(rt: HostRuntime) -> Result<(), Fail> {
     let alloc = rt.alloc();
-    let message = Message {
-        seq: GREATEST,
-        at: moment(GREATEST)?,
-        subject: text(alloc, b"a")?,
-        headers: Blob::of(alloc, b"NATS/1.0\r\n\r\n")?,
-        payload: Blob::empty(),
-    };
-    assert_text(
+    assert_message(
         &rt,
         alloc,
-        &ApiReply::StreamMsgGet(message),
-        "{\"message\":{\"data\":\"\",\"hdrs\":\"TkFUUy8xLjANCg0K\",\"seq\":4611686018427387903,\"subject\":\"a\",\"time\":\"2116-02-20T23:53:38.427387903Z\"},\"type\":\"io.nats.jetstream.api.v1.stream_msg_get_response\"}",
+        stored(
+            alloc,
+            1,
+            1_700_000_000_000_000_000,
+            b"orders.a",
+            b"",
+            b"hello",
+        )?,
+        "{\"data\":\"aGVsbG8=\",\"seq\":1,\"subject\":\"orders.a\",\"time\":\"2023-11-14T22:13:20.000000000Z\"}",
+    )?;
+    assert_message(
+        &rt,
+        alloc,
+        stored(alloc, GREATEST, GREATEST, b"a", b"NATS/1.0\r\n\r\n", b"")?,
+        "{\"data\":\"\",\"hdrs\":\"TkFUUy8xLjANCg0K\",\"seq\":4611686018427387903,\"subject\":\"a\",\"time\":\"2116-02-20T23:53:38.427387903Z\"}",
     )
 }
 
-#[test]
-fn duplicates_and_refusals_are_shown(rt: HostRuntime) -> Result<(), Fail> {
-    let alloc = rt.alloc();
-    let again = publish_text(alloc, b"ORDERS", &Reply::Duplicate(1))?.ok_or("no text")?;
-    assert_eq!(rt;
-        again.as_slice(),
-        b"{\"duplicate\":true,\"seq\":1,\"stream\":\"ORDERS\"}".as_slice()
-    );
-    let refusal = ApiError {
+/// A publish to a stream that has as many messages as it may have.
+fn refused(alloc: Global) -> Result<Reply, NoMemory>
+    ensures text { IfOk result IsAckText }
+{
+    Ok(Reply::Refused(ApiError {
         code: 503,
         err_code: 20019,
         text: text(alloc, b"maximum messages exceeded")?,
-    };
-    let refused = publish_text(alloc, b"L", &Reply::Refused(refusal))?.ok_or("no text")?;
-    assert_eq!(rt;
-        refused.as_slice(),
-        b"{\"error\":{\"code\":503,\"description\":\"maximum messages exceeded\",\"err_code\":20019},\"seq\":0,\"stream\":\"L\"}".as_slice()
-    );
+    }))
+}
+
+/// That a publish to the stream `L` is answered so.
+fn assert_answer(rt: &impl Abort, alloc: Global, reply: &Reply, text: &str) -> Result<(), Fail>
+    requires text { IsAckText reply.now }
+{
+    let printed = publish_text(alloc, b"L", reply)?.ok_or("no text")?;
+    assert_eq!(rt; printed.as_slice(), text.as_bytes());
     Ok(())
+}
+
+#[test]
+fn answers_to_publishes_are_shown(rt: HostRuntime) -> Result<(), Fail> {
+    let alloc = rt.alloc();
+    assert_answer(
+        &rt,
+        alloc,
+        &Reply::Duplicate(1),
+        "{\"duplicate\":true,\"seq\":1,\"stream\":\"L\"}",
+    )?;
+    assert_answer(
+        &rt,
+        alloc,
+        &refused(alloc)?,
+        "{\"error\":{\"code\":503,\"description\":\"maximum messages exceeded\",\"err_code\":20019},\"seq\":0,\"stream\":\"L\"}",
+    )
 }
