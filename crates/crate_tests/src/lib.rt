@@ -13,8 +13,6 @@ mod frames;
 #[cfg(test)]
 mod kept;
 #[cfg(test)]
-mod place;
-#[cfg(test)]
 mod replies;
 #[cfg(test)]
 mod router;
