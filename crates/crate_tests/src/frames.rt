@@ -1,6 +1,7 @@
-//! `nats_frames`: a decoder knows of most bytes that they end nothing.
+//! `nats_frames`: a decoder knows of most bytes that they end nothing; the server's information for another address; printed faults.
 
-use nats_frames::{Decoder, FrameFault};
+use js_base::Blob;
+use nats_frames::{Decoder, Frame, FrameFault, write_frame};
 use std::test::Fail;
 
 #[test]
@@ -14,13 +15,32 @@ fn most_bytes_end_nothing(rt: HostRuntime) -> Result<(), Fail> {
     assert!(rt; matches!(&decoder.next(), Ok(None)));
     decoder.feed(b"a\nb\nc")?;
     assert!(rt; decoder.is_known_partial());
-    // and both bytes behind the payload
+    // and both bytes after the payload
     decoder.feed(b"\r")?;
     assert!(rt; !decoder.is_known_partial());
     assert!(rt; matches!(&decoder.next(), Ok(None)));
     decoder.feed(b"\n")?;
     assert!(rt; !decoder.is_known_partial());
     assert!(rt; matches!(&decoder.next(), Ok(Some(_))));
+    Ok(())
+}
+
+/// The information of a server at 127.0.0.1:4222 for the greatest session number there is.
+fn info_line() -> &'static str {
+    "INFO {\"client_id\":18446744073709551615,\"headers\":true,\"host\":\"127.0.0.1\",\"jetstream\":true,\"max_payload\":1048576,\"port\":4222,\"proto\":1,\"server_id\":\"JSBLOCK\",\"server_name\":\"jsblock\",\"version\":\"2.10.0\"}\r\n"
+}
+
+#[test]
+fn information_is_written(rt: HostRuntime) -> Result<(), Fail> {
+    let alloc = rt.alloc();
+    let frame = Frame::Info {
+        client_id: u64::MAX,
+        host: Blob::of(alloc, b"127.0.0.1")?,
+        port: 4222,
+    };
+    let mut written = Vec::new(alloc);
+    write_frame(&frame, &mut written)?;
+    assert_eq!(rt; written.as_slice(), info_line().as_bytes());
     Ok(())
 }
 

@@ -5,21 +5,13 @@
 #[cfg(test)]
 mod blocks;
 #[cfg(test)]
-mod desk;
-#[cfg(test)]
 mod edge;
 #[cfg(test)]
 mod fields;
 #[cfg(test)]
 mod frames;
 #[cfg(test)]
-mod index;
-#[cfg(test)]
 mod kept;
-#[cfg(test)]
-mod place;
-#[cfg(test)]
-mod publishes;
 #[cfg(test)]
 mod replies;
 #[cfg(test)]

@@ -1,4 +1,4 @@
-//! `route_core`: a session that collects nothing, and two sessions.
+//! `route_core`: a session that collects nothing.
 
 use js_base::{Blob, NoMemory, Out};
 use js_model::{Collected, RouteFault};
@@ -35,27 +35,5 @@ fn slow(alloc: Global) -> Result<Collected, RouteFault> {
 fn slow_session_is_marked(rt: HostRuntime) -> Result<(), Fail> {
     let told = slow(rt.alloc())?;
     assert!(rt; matches!(&told, Collected::Slow { length: 16_777_520 }));
-    Ok(())
-}
-
-/// How many take a message of the first of two sessions, then once that one is deaf to itself, and then once the other one closed.
-fn two_sessions(alloc: Global) -> Result<[u64; 3], RouteFault> {
-    let mut router = Router::new(alloc);
-    let one = router.open()?;
-    let other = router.open()?;
-    router.sub(one, b"a.*", None, b"1")?;
-    router.sub(other, b"a.>", None, b"1")?;
-    let out = message(alloc, b"a.b", b"x")?;
-    let both = router.publish(&out, Some(one))?;
-    router.options(one, false, false);
-    let deaf = router.publish(&out, Some(one))?;
-    router.close(other);
-    Ok([both, deaf, router.publish(&out, Some(one))?])
-}
-
-#[test]
-fn deaf_and_closed_sessions_take_nothing(rt: HostRuntime) -> Result<(), Fail> {
-    let taken = two_sessions(rt.alloc())?;
-    assert_eq!(rt; taken, [2, 1, 0]);
     Ok(())
 }

@@ -5,6 +5,11 @@ ghost use Rattle.std.specs.Prelude.{◌≤◌, IfSome};
 use js_base::Moment;
 use std::alloc::Global;
 
+/// T, from which the moments of a row are counted: 1,700,000,000 seconds after the beginning of 1970.
+pub(crate) fn begin() -> Moment {
+    Moment::of(1_700_000_000_000_000_000).unwrap()
+}
+
 /// How many volumes a run has, 32 at most.
 #[derive(Clone, Copy)]
 pub(crate) struct Volumes {
@@ -13,6 +18,11 @@ pub(crate) struct Volumes {
 }
 
 impl Volumes {
+    /// As many as a run has whose row does not say.
+    pub(crate) fn usual() -> Volumes {
+        Volumes { count: 3 }
+    }
+
     /// So many volumes, if they are not too many.
     pub(crate) fn of(count: u64) -> Option<Volumes> {
         match usize::try_from(count) {

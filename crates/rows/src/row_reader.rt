@@ -1,17 +1,10 @@
 //! A row that is read line by line.
 
 use crate::line::{LineFault, number, numbers, split_word};
-use crate::row::{DoorScript, LinkScript, Row, Turn, Volumes};
+use crate::row::{DoorScript, LinkScript, Row, Turn, Volumes, begin};
 use crate::text::spelled_bytes;
-use js_base::Moment;
 use std::alloc::Global;
 use std::mem;
-
-/// T, from which the moments of a row are counted, in nanoseconds since 1970.
-pub(crate) const BEGIN: u64 = 1_700_000_000_000_000_000;
-
-/// How many volumes there are if the row does not say.
-const VOLUMES: u64 = 3;
 
 /// A row of which some lines were read, with the link and the turn that its next lines go on with.
 #[derive(Drop)]
@@ -21,14 +14,6 @@ pub(crate) struct RowReader {
     link: Option<LinkScript>,
     turn: Turn,
     is_closed: bool,
-}
-
-/// The moment so many nanoseconds after T.
-fn moment_after(ns: u64) -> Result<Moment, LineFault> {
-    match Moment::of(BEGIN) {
-        Some(begin) => Ok(begin.plus(ns)),
-        None => Err(LineFault::Bad),
-    }
 }
 
 /// The words that stand in the text, with spaces between them.
@@ -61,15 +46,12 @@ fn read_repeated(alloc: Global, text: &[u8]) -> Result<Vec<u8>, LineFault> {
 impl RowReader {
     /// A row with this title, and no other line yet.
     pub(crate) fn new(alloc: Global, title: &[u8]) -> Result<RowReader, LineFault> {
-        let Some(volumes) = Volumes::of(VOLUMES) else {
-            return Err(LineFault::Bad);
-        };
         Ok(RowReader {
             alloc,
             row: Row {
                 title: Vec::from_slice(alloc, title)?,
                 words: Vec::new(alloc),
-                volumes,
+                volumes: Volumes::usual(),
                 door: DoorScript {
                     links: Vec::new(alloc),
                     quiet: 0,
@@ -79,7 +61,7 @@ impl RowReader {
                 is_whole: false,
             },
             link: None,
-            turn: Turn::at(alloc, moment_after(0)?),
+            turn: Turn::at(alloc, begin()),
             is_closed: false,
         })
     }
@@ -243,7 +225,7 @@ impl RowReader {
     }
 
     fn set_moment(&mut self, text: &[u8]) -> Result<(), LineFault> {
-        let moment = moment_after(number(text)?)?;
+        let moment = begin().plus(number(text)?);
         self.end_turn()?;
         self.turn.moment = moment;
         Ok(())

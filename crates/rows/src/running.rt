@@ -3,8 +3,7 @@
 ghost use Rattle.std.specs.Prelude.{◌<◌};
 
 use crate::outcome::Outcome;
-use crate::row::{DoorScript, LinkScript, Row, Turn};
-use crate::row_reader::BEGIN;
+use crate::row::{DoorScript, LinkScript, Row, Turn, begin};
 use js_base::{Blob, List, Moment, NoMemory};
 use link_edge::{Knock, MemClock, MemDoor, MemLink, MemSink, OpenGate, Said};
 use server::{Finish, run};
@@ -80,13 +79,11 @@ fn add_moments(moments: &mut List<Moment>, turn: &Turn, size: usize) -> Result<(
     Ok(())
 }
 
-/// The clock that tells the moments of a row. It is read once for the stream that the words name, if they name one, and then once a take.
-fn clock_of(alloc: Global, row: &Row, size: usize) -> Result<Option<MemClock>, NoMemory>
+/// The clock that tells the moments of a row. It is read once for the stream that the command line names, if it names one, and then once a take.
+fn clock_of(alloc: Global, row: &Row, size: usize) -> Result<MemClock, NoMemory>
     requires size { 0 < size }
 {
-    let Some(mut last) = Moment::of(BEGIN) else {
-        return Ok(None);
-    };
+    let mut last = begin();
     let mut moments = List::new(alloc);
     if row.words.len() > 1 {
         moments.push(last)?;
@@ -97,7 +94,7 @@ fn clock_of(alloc: Global, row: &Row, size: usize) -> Result<Option<MemClock>, N
             last = turn.moment;
         }
     }
-    Ok(Some(MemClock::new(moments, last)))
+    Ok(MemClock::new(moments, last))
 }
 
 /// All bytes that the links were given.
@@ -116,9 +113,7 @@ pub(crate) fn run_row(alloc: Global, row: &Row, size: usize) -> Result<Outcome, 
     let knocks = door_of(alloc, &row.door, size)?;
     let door = MemDoor::failing(alloc, knocks, numbers(alloc, &row.door.failing)?)?;
     let volumes = vec![in alloc; (); row.volumes.count]?;
-    let Some(mut clock) = clock_of(alloc, row, size)? else {
-        return Err(NoMemory);
-    };
+    let mut clock = clock_of(alloc, row, size)?;
     let mut sink = MemSink::failing(alloc, numbers(alloc, &row.sink_failing)?);
     let finish: Finish<MemDoor, ()> = run(
         alloc, &row.words, door, volumes, &mut clock, &OpenGate, &mut sink,
