@@ -18,7 +18,7 @@ use Rattle.api_replies.specs.declared.reply.ApiReply.TheVariants as replies
 use Rattle.js_api.specs.declared.fault.DeskFault.{DeskFault}
 use Rattle.js_api.specs.declared.fault.DeskFault.TheVariants as faults
 use Rattle.js_api.specs.declared.outcome.Became.{Became}
-use Rattle.js_api.specs.declared.outcome.Became.TheVariants.{Made, Ticked, Nothing, Broke, Stopped, Gone}
+use Rattle.js_api.specs.declared.outcome.Became.TheVariants.{Made, Unsaid, Ticked, Nothing, Broke, Stopped, Gone}
 use Rattle.js_api.specs.declared.outcome.Outcome.{Outcome}
 use Rattle.js_api.specs.Entries.{DeskEntry}
 use Rattle.js_api.specs.Stages.{LooksUp}
@@ -46,6 +46,7 @@ is_further (Some last) (Some at) = nat_lt last.place at.place
 -- the volume of a place failed, or had failed before
 abbrev pub failure : Became → Option ApiError
 failure (Made reply) = None
+failure (Unsaid refused) = None
 failure Ticked = None
 failure Nothing = None
 failure (Broke stream) = Some store_fault
@@ -102,6 +103,7 @@ info_in (Refused e) = []
 -- the information that a visit gave; a stream that is gone gave none
 abbrev pub info_told : Became → List StreamInfo
 info_told (Made reply) = info_in reply
+info_told (Unsaid refused) = []
 info_told Ticked = []
 info_told Nothing = []
 info_told (Broke stream) = []

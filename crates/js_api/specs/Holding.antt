@@ -14,12 +14,13 @@ use Rattle.js_model.specs.declared.entry.PlaceEntry.{PlaceEntry}
 use Rattle.js_model.specs.declared.entry.PlaceEntry.TheVariants.{Step, Deliver, Broken}
 use Rattle.js_model.specs.declared.entry.Call.TheVariants.{Step as StepOf, Deliver as DeliverOf}
 use Rattle.js_model.specs.declared.desk.PlaceAt.{PlaceAt}
+use Rattle.js_model.specs.Events.{is_refused}
 use Rattle.js_model.specs.Streams.{is_push}
 use Rattle.js_model.specs.Ready.{some_ready}
 use Rattle.js_api.specs.declared.fault.DeskFault.{DeskFault}
 use Rattle.js_api.specs.declared.fault.DeskFault.TheVariants as faults
 use Rattle.js_api.specs.declared.outcome.Became.{Became}
-use Rattle.js_api.specs.declared.outcome.Became.TheVariants.{Made, Ticked, Nothing, Broke, Stopped, Gone}
+use Rattle.js_api.specs.declared.outcome.Became.TheVariants.{Made, Unsaid, Ticked, Nothing, Broke, Stopped, Gone}
 use Rattle.js_api.specs.declared.outcome.Outcome.{Outcome}
 use Rattle.js_model.specs.PlaceStates.{VolumeAt}
 use Rattle.js_api.specs.Entries.{Reading, Sending, Sent, Unsent, Hold, entries_in, DeskEntry, Held, Stirred, Halted, Missed}
@@ -167,6 +168,9 @@ IsQuiet ready fault = (ready ≡ false) × (fault ≡ None)
 abbrev pub HoldsBy : Became → PlaceAt → What → ℕ → Bool → Option DeskFault → List DeskEntry → Type 0
 HoldsBy (Made reply) at what now ready fault entries =
     (hold : Hold) × (entries ≡ Held hold ∷ []) × IsHold at what now reply ready fault hold
+HoldsBy (Unsaid refused) at what now ready fault entries =
+    (hold : Hold) × (reply : Reply) × (held : IsHold at what now reply ready fault hold)
+    × (entries ≡ Held hold ∷ []) × (held.unsaid ≡ true) × (refused ≡ is_refused reply)
 HoldsBy Ticked at what now ready fault entries =
     (hold : Hold) × (entries ≡ Held hold ∷ []) × IsHold at LetPass now Silent ready fault hold × (fault ≡ Some faults.NoMemory)
 HoldsBy Nothing at what now ready fault entries = (ready ≡ false) × Unmakes at fault entries

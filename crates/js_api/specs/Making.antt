@@ -11,10 +11,10 @@ use Rattle.js_model.specs.Refusals.{store_fault, stream_stopped}
 use Rattle.js_model.specs.Catalog as catalog
 use Rattle.js_api.specs.declared.fault.DeskFault.{DeskFault}
 use Rattle.js_api.specs.declared.outcome.Became.{Became}
-use Rattle.js_api.specs.declared.outcome.Became.TheVariants.{Made, Ticked, Nothing, Broke, Stopped, Gone}
+use Rattle.js_api.specs.declared.outcome.Became.TheVariants.{Made, Unsaid, Ticked, Nothing, Broke, Stopped, Gone}
 use Rattle.js_api.specs.declared.outcome.Outcome.{Outcome}
 use Rattle.js_api.specs.Entries.{DeskEntry}
-use Rattle.js_api.specs.Stages.{Gives, Ending}
+use Rattle.js_api.specs.Stages.{Then, Gives, Reads, Ending}
 use Rattle.js_api.specs.Holding.{Holds}
 use Rattle.js_api.specs.OneStream.{IsNamed, IsAdding, IsShort, free_unless_made}
 
@@ -37,6 +37,7 @@ refusal_in (Refused e) = Some e
 -- the catalog knows the incarnation of the place that it gave, so the place is not gone
 abbrev pub IsMaking : Became → Result (Option ApiError) DeskFault → List DeskEntry → Type 0
 IsMaking (Made reply) result entries = Gives (refusal_in reply) result entries
+IsMaking (Unsaid refused) result entries = ⊥
 IsMaking Ticked result entries = ⊥
 IsMaking Nothing result entries = ⊥
 IsMaking (Broke stream) result entries = Gives (Some store_fault) result entries
@@ -59,6 +60,10 @@ GoesOnTaken config now (catalog.Refused e) result entries = Gives (Some e) resul
 GoesOnTaken config now catalog.NoMemory result entries = IsShort result entries
 GoesOnTaken config now catalog.Done result entries = ⊥
 
+-- its configuration is put together, and a place is taken for it
+abbrev pub IsPreparing : Bytes → StreamConfig → ℕ → Result (Option ApiError) DeskFault → List DeskEntry → Type 0
+IsPreparing name config now result entries = Then (Reads config) (λ given. IsAdding name given (GoesOnTaken given now)) result entries
+
 -- by its name the stream is found, or it is made; what is given is why it was not
 abbrev pub MakesStream : Bytes → StreamConfig → ℕ → Result (Option ApiError) DeskFault → List DeskEntry → Type 0
-MakesStream name config now result entries = IsNamed name (IsAdding name config (GoesOnTaken config now)) (λ at. Gives None) result entries
+MakesStream name config now result entries = IsNamed name (IsPreparing name config now) (λ at. Gives None) result entries

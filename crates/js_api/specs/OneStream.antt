@@ -1,5 +1,5 @@
 -- Calls of the JetStream API on one stream: it is looked up by its name, a hold on its place follows, and what became of that decides the rest.
-use Rattle.std.specs.Prelude.{◌≡◌, ℕ, Bool, true, false, List, [], ◌∷◌, ◌++◌, Option, Some, None, MatchOption, Result, Ok, Err, if◌then◌else◌}
+use Rattle.std.specs.Prelude.{◌≡◌, ℕ, Bool, true, false, not, List, [], ◌∷◌, ◌++◌, Option, Some, None, MatchOption, Result, Ok, Err, if◌then◌else◌}
 use Rattle.js_base.specs.Bytes.{Bytes}
 use Rattle.js_base.specs.declared.out.Out.{Out}
 use Rattle.js_base.specs.declared.out.ApiError.{ApiError}
@@ -20,7 +20,7 @@ use Rattle.api_replies.specs.Replies.{reply_text}
 use Rattle.js_api.specs.declared.fault.DeskFault.{DeskFault}
 use Rattle.js_api.specs.declared.fault.DeskFault.TheVariants as faults
 use Rattle.js_api.specs.declared.outcome.Became.{Became}
-use Rattle.js_api.specs.declared.outcome.Became.TheVariants.{Made, Ticked, Nothing, Broke, Stopped, Gone}
+use Rattle.js_api.specs.declared.outcome.Became.TheVariants.{Made, Unsaid, Ticked, Nothing, Broke, Stopped, Gone}
 use Rattle.js_api.specs.declared.outcome.Outcome.{Outcome}
 use Rattle.js_api.specs.Entries.{DeskEntry, Looked}
 use Rattle.js_api.specs.Stages.{Then, Gives, LooksUp, Sends, Ending}
@@ -94,6 +94,7 @@ is_taken (Refused e) = true
 -- the stream answered, or the server answers why it did not
 abbrev pub IsEnded : Bytes → Option Bytes → Became → Result Bool DeskFault → List DeskEntry → Type 0
 IsEnded name to (Made reply) result entries = Gives (is_taken reply) result entries
+IsEnded name to (Unsaid refused) result entries = ⊥
 IsEnded name to Ticked result entries = ⊥
 IsEnded name to Nothing result entries = ⊥
 IsEnded name to (Broke stream) result entries = Answers (refusal name to store_fault) result entries
@@ -127,6 +128,7 @@ kept at new = Looked true (catalog.Keep at.place new) catalog.Done ∷ []
 -- a place that was taken for a stream is free again unless the stream was made; it is stopped if its volume failed or had failed
 abbrev pub free_unless_made : PlaceAt → Became → List DeskEntry
 free_unless_made at (Made reply) = if is_info reply then [] else removed at false
+free_unless_made at (Unsaid refused) = if refused then removed at false else []
 free_unless_made at Ticked = removed at false
 free_unless_made at Nothing = removed at false
 free_unless_made at (Broke stream) = stopped at
@@ -136,6 +138,7 @@ free_unless_made at Gone = removed at false
 -- a stream that was changed has its new subjects, and any other its old ones; with both lists it is stopped if its volume failed
 abbrev pub keep_subjects : PlaceAt → Became → List DeskEntry
 keep_subjects at (Made reply) = kept at (is_info reply)
+keep_subjects at (Unsaid refused) = kept at (not refused)
 keep_subjects at Ticked = kept at false
 keep_subjects at Nothing = kept at false
 keep_subjects at (Broke stream) = stopped at
@@ -145,6 +148,7 @@ keep_subjects at Gone = kept at false
 -- the place of a stream that was dropped is free; it is stopped if its volume failed
 abbrev pub free_if_dropped : PlaceAt → Became → List DeskEntry
 free_if_dropped at (Made reply) = if is_done reply then removed at true else []
+free_if_dropped at (Unsaid refused) = if refused then [] else removed at true
 free_if_dropped at Ticked = []
 free_if_dropped at Nothing = []
 free_if_dropped at (Broke stream) = stopped at

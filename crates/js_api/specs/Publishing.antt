@@ -18,7 +18,7 @@ use Rattle.js_model.specs.Catalog.{Find}
 use Rattle.js_api.specs.declared.fault.DeskFault.{DeskFault}
 use Rattle.js_api.specs.declared.fault.DeskFault.TheVariants as faults
 use Rattle.js_api.specs.declared.outcome.Became.{Became}
-use Rattle.js_api.specs.declared.outcome.Became.TheVariants.{Made, Ticked, Nothing, Broke, Stopped, Gone}
+use Rattle.js_api.specs.declared.outcome.Became.TheVariants.{Made, Unsaid, Ticked, Nothing, Broke, Stopped, Gone}
 use Rattle.js_api.specs.declared.outcome.Outcome.{Outcome}
 use Rattle.js_api.specs.Clients.{Client}
 use Rattle.js_api.specs.Entries.{DeskEntry, Routed}
@@ -95,6 +95,7 @@ publish_refusal to stream e = sent_text to (publish_text stream (Refused e))
 -- whether a stream took the message, by what became of the hold. One that refuses it took it
 abbrev pub IsReached : Out → Became → Result Bool DeskFault → List DeskEntry → Type 0
 IsReached message (Made reply) result entries = Gives true result entries
+IsReached message (Unsaid refused) result entries = ⊥
 IsReached message Ticked result entries = ⊥
 IsReached message Nothing result entries = ⊥
 IsReached message (Broke stream) result entries = Then (Sends (publish_refusal message.reply stream store_fault)) (λ _. Gives true) result entries

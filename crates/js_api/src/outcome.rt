@@ -9,6 +9,11 @@ use js_model::Reply;
 pub enum Became {
     /// It was made, and this is its reply.
     Made(Reply),
+    /// It was made, and memory or the numbers of the store's generations ran out for its reply.
+    Unsaid {
+        /// Whether the reply is a refusal.
+        refused: bool,
+    },
     /// Out of memory: time passed at the place, and what was asked was not made.
     Ticked,
     /// Nothing was done.

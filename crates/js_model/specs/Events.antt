@@ -44,6 +44,21 @@ quietly reply s = record { reply = reply; outs = []; state = Live s }
 abbrev pub refused : ApiError → Stream → Answer
 refused e s = quietly (Refused e) s
 
+abbrev pub is_refused : Reply → Bool
+is_refused (StreamTold info) = false
+is_refused Done = false
+is_refused (Published n) = false
+is_refused (Duplicate n) = false
+is_refused (Purged n) = false
+is_refused (ConsumerTold info) = false
+is_refused (MessageTold m) = false
+is_refused (Names total list) = false
+is_refused (Infos total list) = false
+is_refused Confirmed = false
+is_refused Silent = false
+is_refused Nobody = false
+is_refused (Refused e) = true
+
 -- the stream with what its limits and then its retention keep
 abbrev pub settled : Stream → Stream
 settled s = kept (trim s)

@@ -31,4 +31,4 @@ HasCause old event (NoMemory left) = (event.incarnation ≡ kept_incarnation old
 HasCause old event StoreFault = ⊥
 HasCause old event (Stopped count) = ⊥
 HasCause old event (Gone kept) = (event.incarnation ≢ kept_incarnation old) × (kept ≡ kept_incarnation old)
-HasCause old event Worn = ⊥
+HasCause old event (Worn refused) = ⊥

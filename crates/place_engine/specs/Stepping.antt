@@ -7,7 +7,7 @@ use Rattle.js_model.specs.declared.stream.State.{State}
 use Rattle.js_model.specs.declared.event.Event.{Event}
 use Rattle.js_model.specs.declared.event.What.TheVariants.{Tick}
 use Rattle.js_model.specs.declared.reply.Reply.{Reply}
-use Rattle.js_model.specs.Events.{answered, kept_incarnation}
+use Rattle.js_model.specs.Events.{answered, is_refused, kept_incarnation}
 use Rattle.js_model.specs.Firm.{IsFirmStep}
 use Rattle.js_model.specs.Runs.{is_few, new_messages}
 use Rattle.js_model.specs.Lasting.{lasting}
@@ -89,6 +89,11 @@ pub record Hides (event : Event) (now : ℕ) (old new : Seen) (before after : Li
   pub outs : after ≡ before ++ (answered old.place.state event now old.room).outs
   pub base : new.base ≡ old.base
 
+-- it is made, and of its reply only whether it is a refusal is told
+pub record Withholds (refused : Bool) (event : Event) (now : ℕ) (old new : Seen) (before after : List Out) : Type 0 where
+  pub hides : Hides event now old new before after
+  pub refused_is : refused ≡ is_refused (answered old.place.state event now old.room).reply
+
 abbrev pub tick_of : Event → Event
 tick_of event = record event { what = Tick }
 
@@ -119,20 +124,20 @@ pub record IsGone (kept : ℕ) (event : Event) (old new : Seen) (before after : 
   pub rests : Rests old new before after
   pub volume : LeavesVolume old new
 
--- it is made and told to nobody, since the numbers of the store's generations are used up
-pub record IsWornOut (event : Event) (now : ℕ) (old new : Seen) (before after : List Out) : Type 0 where
-  pub hides : Hides event now old new before after
+-- it is made and its reply withheld, since the numbers of the store's generations are used up
+pub record IsWornOut (refused : Bool) (event : Event) (now : ℕ) (old new : Seen) (before after : List Out) : Type 0 where
+  pub withholds : Withholds refused event now old new before after
   pub last : new.place.volume.generation ≡ 2 ^ 62 - 1
 
 abbrev pub Ends : Result Reply PlaceFault → Event → ℕ → Seen → Seen → List Out → List Out → Type 0
 Ends (Ok reply) event now old new before after = Tells reply event now old new before after
 Ends (Err (NoMemory Nothing)) event now old new before after = Rests old new before after
 Ends (Err (NoMemory Ticked)) event now old new before after = Hides (tick_of event) now old new before after
-Ends (Err (NoMemory Unsaid)) event now old new before after = Hides event now old new before after
+Ends (Err (NoMemory (Unsaid refused))) event now old new before after = Withholds refused event now old new before after
 Ends (Err StoreFault) event now old new before after = Breaks event now old new before after
 Ends (Err (Stopped count)) event now old new before after = IsStopped count old new before after
 Ends (Err (Gone kept)) event now old new before after = IsGone kept event old new before after
-Ends (Err Worn) event now old new before after = IsWornOut event now old new before after
+Ends (Err (Worn refused)) event now old new before after = IsWornOut refused event now old new before after
 
 -- what the call came to, and what a crash may have left since it began
 pub record Steps (holds : Image → State → Type 0) (result : Result Reply PlaceFault) (event : Event) (now : ℕ) (old new : Seen) (before after : List Out) : Type 0 where

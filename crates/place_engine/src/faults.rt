@@ -24,7 +24,10 @@ pub enum Left {
     /// Time passed.
     Ticked,
     /// The event was made, and its answer goes to nobody.
-    Unsaid,
+    Unsaid {
+        /// Whether the answer is a refusal.
+        refused: bool,
+    },
 }
 
 /// Why an event was not made, or not answered. A place in memory answers `NoMemory(Left::Nothing)` or `Gone`.
@@ -44,5 +47,8 @@ pub enum PlaceFault {
     Gone(u64),
     /// The numbers of the store's generations are used up. The event was made, and its answer goes to nobody.
     #[error("generations are used up")]
-    Worn,
+    Worn {
+        /// Whether the answer is a refusal.
+        refused: bool,
+    },
 }

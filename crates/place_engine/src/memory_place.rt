@@ -8,7 +8,6 @@ ghost use Rattle.js_model.specs.Proper.{is_proper};
 ghost use Rattle.place_engine.specs.declared.faults.OpenFault.TheVariants as opening;
 ghost use Rattle.place_engine.specs.InMemory.{HasCause, holds_nothing, seen_of};
 ghost use Rattle.place_engine.specs.Places.{IsBuilt};
-ghost use Rattle.place_engine.specs.Provisional.{LeavesNoneUnsaid};
 ghost use Rattle.place_engine.specs.Shown.{IsShown};
 ghost use Rattle.place_engine.specs.Standing.{StandsAt};
 ghost use Rattle.place_engine.specs.Stepping.{Steps};
@@ -90,7 +89,6 @@ impl<V> Place for MemoryPlace<V> {
         requires proper { IsTrue (is_proper event.now) }
         ensures steps { Steps holds_nothing result event.now now (seen_of self.old.state) (seen_of self.new.state) outs.old outs.new }
         ensures shown { IfOk result IsShown }
-        ensures told { IfErr result LeavesNoneUnsaid }
         ensures vol { self.new.vol ≡ self.old.vol }
         ensures cause { IfErr result (HasCause self.old.state event.now) }
         ensures stands { OnOk result (event.now.what ≡ whats.Tick → StandsAt self.new.state now) }

@@ -7,7 +7,7 @@ ghost use Rattle.js_model.specs.Events.{kept_incarnation};
 ghost use Rattle.js_model.specs.Proper.{is_proper};
 ghost use Rattle.js_model.specs.Ready.{some_ready};
 ghost use Rattle.place_engine.specs.Places.{IsBuilt, name_in, subjects_in};
-ghost use Rattle.place_engine.specs.Provisional.{IsSilent, LeavesNoneUnsaid};
+ghost use Rattle.place_engine.specs.Provisional.{IsSilent};
 ghost use Rattle.place_engine.specs.Shown.{IsShown};
 ghost use Rattle.place_engine.specs.Stepping.{Image, IsKept, Seen, Steps};
 
@@ -66,14 +66,11 @@ pub trait Place {
     /// Not every event can be made yet: streams have the default limits and no consumers, and publishes no headers that ask something of the
     /// stream. What a reply shows can be printed: the configuration of an information is valid, and the text of a refusal is UTF-8; and the
     /// numbers of an information are so small that those of 32 streams can be added.
-    ///
-    /// As long as every place stands in memory, no event is made whose answer is left unsaid.
     fn step(&mut self, event: &Event, now: Moment, outs: &mut Outs) -> Result<Reply, PlaceFault>
         requires built { IsBuilt event.now.what }
         requires proper { IsTrue (is_proper event.now) }
         ensures steps { Steps holds result event.now now (seen self.old) (seen self.new) outs.old outs.new }
         ensures shown { IfOk result IsShown }
-        ensures told { IfErr result LeavesNoneUnsaid }
         ensures vol { keeps_vol (vol self.old) (vol self.new) };
 
     /// Ends the place, and gives its volume back.
