@@ -238,7 +238,7 @@ pub trait Ground {
         ensures phase { phase self.new ≡ phase_after what at result.became (phase self.old) };
 
     /// No entries lead to the same ground.
-    ghost made_nothing: { (ground : Self) → made ground [] ground };
+    ghost made_nothing: { (a : Self) → made a [] a };
 
     /// Entries, and then entries.
     ghost made_more: { (a b c : Self) (first more : List DeskEntry) → made a first b → made b more c → made a (first ++ more) c };
