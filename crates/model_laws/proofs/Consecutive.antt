@@ -1,6 +1,7 @@
 -- The consumer sequences of a consumer follow one after the other.
 use Rattle.std.proofs.Common.{◌≡◌, ℕ, ◌+◌, Bool, true, false, cond, List, [], ◌∷◌, ◌++◌, length, refl, sym, ap, ◌∙◌, subst}
 use Rattle.std.specs.Prelude.{Option, Some, None}
+use Rattle.std.specs.List.{last_or}
 use Rattle.std.proofs.lemmas.Bool.{true≢false}
 use Rattle.js_base.specs.Bytes.{Bytes, same}
 use Rattle.js_base.specs.declared.out.Out.{Out}
@@ -79,6 +80,10 @@ delivered_case : (name : Bytes) (more : List Sending) (d : ℕ) (old new : State
     → ((k : ℕ) → InState name (HasDseq k) new → Follow k more) → Follow d (sending_to name v ++ more)
 delivered_case name more d (Vacant i) new now listening v outs x h f = absurd h
 delivered_case name more d (Live s) new now listening v outs x h f = delivery_case name more d s new now listening v outs x h f
+
+pub last_push : {X : Type 0} (o : Option X) (xs : List X) (x : X) → last_or o (xs ++ x ∷ []) ≡ Some x
+last_push o [] x = refl
+last_push o (y ∷ ys) x = last_push (Some y) ys x
 
 pub append_nil : {X : Type 0} (xs : List X) → xs ++ [] ≡ xs
 append_nil [] = refl

@@ -14,6 +14,7 @@ pub mod Duplicates
 pub mod Leaving
 pub mod Kept
 pub mod Consecutive
+pub mod Counted
 pub mod StartOrder
 pub mod StoredBefore
 pub mod Making

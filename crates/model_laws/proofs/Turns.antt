@@ -42,7 +42,7 @@ use Rattle.model_laws.specs.OneConsumer.{drops, consumer_of}
 use Rattle.model_laws.specs.Turns.{Turn, turn_of, turn_unless, turn_for, turn_by, turn_if_there, turns_at, turns_after_event, bytes_of, charged, turns_left, turns_after, IsWithinTurn, IsForFront, IsServing, Serves}
 use Rattle.js_model.proofs.Named.{stands-map, stands-found, stands-with_new, stands-without, found_named, same_is, same_self}
 use Rattle.model_laws.proofs.Facts.{IsChangeFact, change_time, change_settled, change_kept}
-use Rattle.model_laws.proofs.Consecutive.{append_nil}
+use Rattle.model_laws.proofs.Consecutive.{append_nil, last_push}
 use Rattle.model_laws.proofs.StoredBefore.{HasConfig, config_kept, config_delivery}
 use Rattle.model_laws.proofs.Ordering.{stands_of}
 use Rattle.model_laws.proofs.ConsumerFacts.{InStream, InState, in_with, in_replaced, in_event, its, after_name, after_ack-name, pulled-name}
@@ -347,10 +347,6 @@ turns_event name turns s new e now reply outs x g h =
         (change_time (LeavesTurns name) ⊥ (InStream name (HasTurns before)) (turns_fact name before) s new e now reply outs x (g, q) there))
 
 -- ---- deliveries
-
-last_push : {X : Type 0} (o : Option X) (xs : List X) (x : X) → last_or o (xs ++ x ∷ []) ≡ Some x
-last_push o [] x = refl
-last_push o (y ∷ ys) x = last_push (Some y) ys x
 
 -- a delivery to a pull consumer goes to its first pull
 to_front : (c : Consumer) → is_push c ≡ false → (p : Pull) (ps : List Pull) → c.waiting ≡ p ∷ ps → address c ≡ p.reply

@@ -26,9 +26,10 @@ pub fn law_kept()
     ensures law { LawKept }
 {}
 
-/// What is sent to a consumer has consumer sequences one after the other, was stored before and matches its filter;
-/// first deliveries are its picks in order, and then ascending sequences from its cursor on. A consumer that is made
-/// begins at the picks and the cursor of its deliver policy, with consumer sequence 1.
+/// What is sent to a consumer has consumer sequences one after the other and counts of 1 or more. Each output brings the
+/// subject, the header block and the payload of a message that was stored before under that sequence and that the
+/// consumer's filter matches. First deliveries are its picks in order, and then ascending sequences from its cursor on. A
+/// consumer that is made begins at the picks and the cursor of its deliver policy, with consumer sequence 1.
 pub fn law_order()
     ensures law { LawOrder }
     ensures start { LawStart }
