@@ -12,6 +12,7 @@ pub mod Settled
 pub mod Acked
 pub mod Duplicates
 pub mod Leaving
+pub mod PushedOut
 pub mod Kept
 pub mod Consecutive
 pub mod Counted

@@ -20,8 +20,10 @@ pub fn law_duplicate()
 {}
 
 /// A stored message leaves by an event or a delivery only if it was too old by then, the event purged it, deleted it or
-/// dropped the stream, a limit dropped it from what the event left, or the retention did not ask for it. The retention
-/// goes by the consumers as the event or the delivery left them, while they still had the message.
+/// dropped the stream, a limit dropped it from what the event left, or the retention did not ask for it. What a purge
+/// takes matches its filter, stands below its bound and has as many as are to be kept after it; what a limit drops has
+/// enough messages or bytes after it. The retention goes by the consumers as the event or the delivery left them, while
+/// they still had the message.
 pub fn law_kept()
     ensures law { LawKept }
 {}
