@@ -10,8 +10,6 @@ use Rattle.js_model.specs.declared.stream.State.{State}
 use Rattle.js_model.specs.declared.stream.State.TheVariants.{Vacant, Live}
 use Rattle.js_model.specs.declared.consumer.Consumer.{Consumer}
 use Rattle.js_model.specs.declared.ack.Ask.{Ask}
-use Rattle.js_model.specs.declared.ack.AckKind.{AckKind}
-use Rattle.js_model.specs.declared.ack.AckKind.TheVariants.{Ack as Acknowledge, Nak, Wpi, Next, Term}
 use Rattle.js_model.specs.declared.entry.Delivered.{Delivered}
 use Rattle.js_model.specs.declared.entry.Delivered.TheVariants.{Sent, TooSmall, Emptied}
 use Rattle.js_model.specs.declared.entry.Delivery.{Delivery}
@@ -19,7 +17,6 @@ use Rattle.js_model.specs.declared.entry.PlaceEntry.{PlaceEntry}
 use Rattle.js_model.specs.declared.entry.PlaceEntry.TheVariants.{Step, Deliver, Broken}
 use Rattle.js_model.specs.declared.entry.Call.TheVariants.{Step as StepOf, Deliver as DeliverOf}
 use Rattle.js_model.specs.Advance.{advance}
-use Rattle.js_model.specs.Acknowledge.{acknowledged}
 use Rattle.js_model.specs.Pulls.{pulled, pulled_unless, pull_refusal}
 use Rattle.js_model.specs.Deliver.{Delivers, IsDelivery, IsDelivered}
 use Rattle.js_model.specs.Runs.{RunFrom, new_messages}
@@ -27,14 +24,7 @@ use Rattle.model_laws.specs.OneConsumer.{drops}
 use Rattle.model_laws.specs.Sendings.{Sending, sending_of, sending_to, sendings}
 use Rattle.model_laws.specs.Order.{Follow}
 use Rattle.js_model.proofs.Named.{same_is, same_self}
-use Rattle.model_laws.proofs.ConsumerFacts.{IsKept, InStream, InState, in_event, in_delivery, its}
-
-dseq_acknowledged : (now n : ℕ) (kind : AckKind) (c : Consumer) → (acknowledged now n kind c).dseq ≡ c.dseq
-dseq_acknowledged now n Acknowledge c = refl
-dseq_acknowledged now n (Nak delay) c = refl
-dseq_acknowledged now n Wpi c = refl
-dseq_acknowledged now n (Next ask) c = refl
-dseq_acknowledged now n Term c = refl
+use Rattle.model_laws.proofs.ConsumerFacts.{IsKept, InStream, InState, in_event, in_delivery, its, acknowledged_entries}
 
 dseq_pulled : (now : ℕ) (reply : Option Bytes) (ask : Option Ask) (c : Consumer) → (pulled now reply ask c).dseq ≡ c.dseq
 dseq_pulled now None ask c = refl
@@ -52,7 +42,7 @@ pub dseq_kept : (d : ℕ) → IsKept (HasDseq d)
 dseq_kept d = record {
   confined = λ ns c h. h;
   time = λ now c h. h;
-  acknowledged = λ now n kind c h. dseq_acknowledged now n kind c ∙ h;
+  acknowledged = λ now n kind c h. ap (λ (d : Consumer). d.dseq) (acknowledged_entries now n kind c).rest ∙ h;
   pulled = λ now reply ask c h. dseq_pulled now reply ask c ∙ h;
 }
 

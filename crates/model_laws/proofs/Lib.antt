@@ -9,6 +9,7 @@ pub mod SoundAcks
 pub mod SoundSent
 pub mod Sounding
 pub mod Settled
+pub mod Entries
 pub mod Acked
 pub mod Duplicates
 pub mod Leaving

@@ -10,8 +10,6 @@ use Rattle.js_model.specs.declared.stream.Stream.{Stream}
 use Rattle.js_model.specs.declared.stream.State.{State}
 use Rattle.js_model.specs.declared.stream.State.TheVariants.{Vacant, Live}
 use Rattle.js_model.specs.declared.consumer.Consumer.{Consumer}
-use Rattle.js_model.specs.declared.ack.AckKind.{AckKind}
-use Rattle.js_model.specs.declared.ack.AckKind.TheVariants.{Ack as Acknowledge, Nak, Wpi, Next, Term}
 use Rattle.js_model.specs.declared.entry.Delivered.{Delivered}
 use Rattle.js_model.specs.declared.entry.Delivered.TheVariants.{Sent, TooSmall, Emptied}
 use Rattle.js_model.specs.declared.entry.Delivery.{Delivery}
@@ -36,7 +34,7 @@ use Rattle.model_laws.proofs.SoundSent.{count_waiting}
 use Rattle.model_laws.proofs.Sounding.{sound_step, sound_delivery, sound_found}
 use Rattle.model_laws.proofs.Settled.{picks_pulled}
 use Rattle.model_laws.proofs.Consecutive.{append_nil}
-use Rattle.model_laws.proofs.ConsumerFacts.{IsKept, InStream, InState, in_event, in_delivery, its}
+use Rattle.model_laws.proofs.ConsumerFacts.{IsKept, InStream, InState, in_event, in_delivery, its, acknowledged_entries}
 
 -- ---- orders
 
@@ -73,13 +71,6 @@ pub record IsFrom (ps : List ℕ) (k : ℕ) (c : Consumer) : Type 0 where
   pub part : IsPart c.picks ps
   pub cursor : k ≤ c.cursor
 
-picks_acknowledged : (now n : ℕ) (kind : AckKind) (c : Consumer) → ((acknowledged now n kind c).picks ≡ c.picks) × ((acknowledged now n kind c).cursor ≡ c.cursor)
-picks_acknowledged now n Acknowledge c = (refl, refl)
-picks_acknowledged now n (Nak delay) c = (refl, refl)
-picks_acknowledged now n Wpi c = (refl, refl)
-picks_acknowledged now n (Next ask) c = (refl, refl)
-picks_acknowledged now n Term c = (refl, refl)
-
 from_same : (ps : List ℕ) (k : ℕ) (c d : Consumer) → d.picks ≡ c.picks → d.cursor ≡ c.cursor → IsFrom ps k c → IsFrom ps k d
 from_same ps k c d e f h = record { part = subst (λ (l : List ℕ). IsPart l ps) (sym e) h.part; cursor = let q : k ≤ c.cursor = h.cursor in omega arith }
 
@@ -91,7 +82,7 @@ pub from_kept : (ps : List ℕ) (k : ℕ) → IsKept (IsFrom ps k)
 from_kept ps k = record {
   confined = λ ns c h. record { part = part_trans (filter_part (has ns) c.picks) h.part; cursor = h.cursor };
   time = λ now c h. record { part = h.part; cursor = h.cursor };
-  acknowledged = λ now n kind c h. let e = picks_acknowledged now n kind c in from_same ps k c (acknowledged now n kind c) e.0 e.1 h;
+  acknowledged = λ now n kind c h. let e = (acknowledged_entries now n kind c).rest in from_same ps k c (acknowledged now n kind c) (ap (λ (d : Consumer). d.picks) e) (ap (λ (d : Consumer). d.cursor) e) h;
   pulled = λ now reply ask c h. let e = picks_pulled now reply ask c in from_same ps k c (pulled now reply ask c) e.0 e.1 h;
 }
 

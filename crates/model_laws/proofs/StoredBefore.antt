@@ -12,8 +12,6 @@ use Rattle.js_model.specs.declared.stream.State.{State}
 use Rattle.js_model.specs.declared.stream.State.TheVariants.{Vacant, Live}
 use Rattle.js_model.specs.declared.consumer.Consumer.{Consumer}
 use Rattle.js_model.specs.declared.ack.Ask.{Ask}
-use Rattle.js_model.specs.declared.ack.AckKind.{AckKind}
-use Rattle.js_model.specs.declared.ack.AckKind.TheVariants.{Ack as Acknowledge, Nak, Wpi, Next, Term}
 use Rattle.js_model.specs.declared.event.Event.{Event}
 use Rattle.js_model.specs.declared.event.Publish.{Publish}
 use Rattle.js_model.specs.declared.event.What.{What}
@@ -32,7 +30,6 @@ use Rattle.js_model.specs.Lists.{IsPart, Between}
 use Rattle.js_model.specs.Streams.{passes_filter}
 use Rattle.js_model.specs.Advance.{advance, advance_outs, young}
 use Rattle.js_model.specs.Verdict.{verdict, message_of}
-use Rattle.js_model.specs.Acknowledge.{acknowledged}
 use Rattle.js_model.specs.Pulls.{pulled, pulled_unless, pull_refusal}
 use Rattle.js_model.specs.Events.{answered, published, with_id, IsEvent, settled_state, stream_answer}
 use Rattle.js_model.specs.Deliver.{Delivers, IsDelivery, IsDelivered, candidates, delivery_out, sent_to}
@@ -49,7 +46,7 @@ use Rattle.js_model.proofs.Parts.{young_part}
 use Rattle.model_laws.proofs.SoundTime.{sound_time}
 use Rattle.model_laws.proofs.SoundSent.{deliverable}
 use Rattle.model_laws.proofs.Sounding.{sound_step, sound_delivery, sound_found}
-use Rattle.model_laws.proofs.ConsumerFacts.{IsKept, InStream, InState, in_event, in_delivery, its}
+use Rattle.model_laws.proofs.ConsumerFacts.{IsKept, InStream, InState, in_event, in_delivery, its, acknowledged_entries}
 use Rattle.model_laws.proofs.Consecutive.{last_push}
 
 -- ---- known messages
@@ -162,13 +159,6 @@ known_delivery known old new now listening d outs x h = at_delivery (λ w. not_p
 
 -- ---- the filter stays
 
-config_acknowledged : (now n : ℕ) (kind : AckKind) (c : Consumer) → (acknowledged now n kind c).config ≡ c.config
-config_acknowledged now n Acknowledge c = refl
-config_acknowledged now n (Nak delay) c = refl
-config_acknowledged now n Wpi c = refl
-config_acknowledged now n (Next ask) c = refl
-config_acknowledged now n Term c = refl
-
 pub config_pulled : (now : ℕ) (reply : Option Bytes) (ask : Option Ask) (c : Consumer) → (pulled now reply ask c).config ≡ c.config
 config_pulled now None ask c = refl
 config_pulled now (Some reply) ask c = go ask (pull_refusal c ask)
@@ -186,7 +176,7 @@ pub config_kept : (config : ConsumerConfig) → IsKept (HasConfig config)
 config_kept config = record {
   confined = λ ns c h. h;
   time = λ now c h. h;
-  acknowledged = λ now n kind c h. config_acknowledged now n kind c ∙ h;
+  acknowledged = λ now n kind c h. ap (λ (d : Consumer). d.config) (acknowledged_entries now n kind c).rest ∙ h;
   pulled = λ now reply ask c h. config_pulled now reply ask c ∙ h;
 }
 

@@ -1,15 +1,20 @@
 //! What holds of each run of a place, by the definitions of the machine alone.
 
-ghost use Rattle.model_laws.specs.Laws.{LawSound, LawAcked, LawDuplicate, LawKept, LawOrder, LawStart, LawRedelivery, LawLimits, LawReady};
+ghost use Rattle.model_laws.specs.Laws.{LawSound, LawAcked, LawEnds, LawStays, LawEntries, LawDuplicate, LawKept, LawOrder, LawStart, LawRedelivery, LawLimits, LawReady};
 
 /// Soundness is kept: each state that a run reaches from a sound one is sound.
 pub fn law_sound()
     ensures law { LawSound }
 {}
 
-/// A sequence whose entry an acknowledgement ended is not sent again to its consumer, until it or the stream is dropped.
+/// A sequence whose entry an acknowledgement ended is not sent again to its consumer, until it or the stream is dropped. An
+/// acknowledgement of a delivery ends each entry that stands and that its kind and the ack policy name. Another entry
+/// stays as long as its message is stored, and nothing else of the consumer changes.
 pub fn law_acked()
     ensures law { LawAcked }
+    ensures ends { LawEnds }
+    ensures stays { LawStays }
+    ensures entries { LawEntries }
 {}
 
 /// After a publish was stored with an id, another publish of that id is told the first sequence, as long as the window
