@@ -38,7 +38,7 @@ use Rattle.js_model.specs.Consumers.{making_checks, with_new, new_consumer}
 use Rattle.js_model.specs.Events.{stream_answer, answered, settled, settled_state, published, with_id, purge_list, deleted, message_at, message_told, message_by, told_of, consumer_made, consumer_asked, consumer_dropped, pull_answer, ack_answer, IsEvent}
 use Rattle.js_model.specs.Deliver.{IsDelivery}
 use Rattle.js_model.specs.Runs.{RunFrom, messages_of}
-use Rattle.model_laws.specs.Sound.{IsSoundStream, IsSound}
+use Rattle.model_laws.proofs.Whole.{join, IsSoundStream, IsSoundState}
 use Rattle.model_laws.specs.Leaving.{IsAged, IsTrimmed, IsUnneededWithinLimits, Leaves, LeavesOnEvent, aged, purged, deleted as deleted_it, dropped, trimmed, unneeded, LeavesOnDelivery, aged_by_then, not_needed}
 use Rattle.model_laws.specs.Laws.{LawKept}
 use Rattle.model_laws.proofs.Facts.{IfLive, at_answer}
@@ -48,7 +48,7 @@ use Rattle.js_model.specs.Lists.{Between}
 use Rattle.model_laws.proofs.PushedOut.{pushed_out, purge_takes}
 use Rattle.model_laws.proofs.Leaving.{young_or_aged, in_part_by_seq, kept_or_unneeded, in_passing}
 use Rattle.model_laws.proofs.SoundTime.{sound_time}
-use Rattle.model_laws.proofs.Sounding.{IsProperWhat, sound_fact, law_sound}
+use Rattle.model_laws.proofs.Sounding.{IsProperWhat, sound_fact, sound_run}
 
 -- what an event leaves before limits and retention holds the message
 abbrev Holds : Message → State → Type 0
@@ -185,7 +185,7 @@ module _ (m : Message) where
       either (inl w) = young w (kept_or_unneeded after m w)
       either (inr w) = aged_by_then w
 
-  leaving : (later : ℕ) (old new : State) (entry : PlaceEntry) → IsSound old → RunFrom later old (entry ∷ []) new → IsIn m (messages_of old) → (IsIn m (messages_of new) → ⊥) → Leaves old entry new m
+  leaving : (later : ℕ) (old new : State) (entry : PlaceEntry) → IsSoundState old → RunFrom later old (entry ∷ []) new → IsIn m (messages_of old) → (IsIn m (messages_of new) → ⊥) → Leaves old entry new m
   leaving later (Vacant i) new entry k r h gone = elim h [ ]
   leaving later (Live s) new (Step seat e now reply outs unsaid) k (mid, x, q) h gone =
       subst (λ (z : State). LeavesOnEvent s e now z m) q
@@ -198,4 +198,4 @@ module _ (m : Message) where
 
 pub law_kept : LawKept
 law_kept count later first old new entries entry m h r q there gone =
-    leaving m later old new entry (law_sound count first old entries h r) q (in_from_contains (messages_of old) m there) (λ i. gone (contains_from_in (messages_of new) m i))
+    leaving m later old new entry (sound_run count first old entries (join first h) r) q (in_from_contains (messages_of old) m there) (λ i. gone (contains_from_in (messages_of new) m i))

@@ -14,16 +14,12 @@ use Rattle.model_laws.specs.Leaving.{later_than, IsPurged, IsPushedOut, by_subje
 use Rattle.js_model.proofs.Parts.{filter_part, take_part, drop_part, all_part, part_trans, part_between, newest_at_part}
 use Rattle.js_model.proofs.Members.{IsIn, here, there, in_cons, in_filter, in_part, in_bounds}
 use Rattle.model_laws.proofs.Leaving.{in_part_by_seq}
+use Rattle.model_laws.proofs.Whole.{has_member}
 
 abbrev Ascending : ℕ → ℕ → List Message → Type 0
 Ascending low high ms = Between (λ m. m.seq) low high ms
 
 -- ---- the later ones
-
-pub has_member : (m : Message) (ms : List Message) → IsIn m ms → has (seqs ms) m.seq ≡ true
-has_member m [] i = elim i [ ]
-has_member m (x ∷ ms) here = or_left (m.seq == m.seq) (has (seqs ms) m.seq) (eq-eqb m.seq m.seq refl)
-has_member m (x ∷ ms) (there i) = or_right (x.seq == m.seq) (has (seqs ms) m.seq) (has_member m ms i)
 
 all_later : (m : Message) (low high : ℕ) (ms : List Message) → Ascending low high ms → m.seq < low → later_than m ms ≡ ms
 all_later m low high [] h l = refl

@@ -11,7 +11,7 @@ use Rattle.js_model.specs.declared.stream.Stream.{Stream}
 use Rattle.js_model.specs.declared.consumer.Consumer.{Consumer}
 use Rattle.js_model.specs.Streams.{confined, only, seqs, passes_filter, pending_seqs}
 use Rattle.js_model.specs.Consumers.{is_before}
-use Rattle.model_laws.specs.Sound.{AreStored, IsCounted, IsSoundConsumer, IsSoundStream, AreOrdered}
+use Rattle.model_laws.proofs.Whole.{AreStored, IsCounted, IsSoundConsumer, IsSoundStream, AreOrdered}
 use Rattle.js_model.proofs.Parts.{filter_part, none_below, part_between}
 use Rattle.js_model.proofs.Lacking.{apart-parts, has-part}
 

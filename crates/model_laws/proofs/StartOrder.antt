@@ -22,7 +22,7 @@ use Rattle.js_model.specs.Acknowledge.{acknowledged}
 use Rattle.js_model.specs.Pulls.{pulled}
 use Rattle.js_model.specs.Deliver.{Delivers, IsDelivery, IsDelivered, count_of, is_due}
 use Rattle.js_model.specs.Runs.{RunFrom, new_messages}
-use Rattle.model_laws.specs.Sound.{IsCounted, IsSoundConsumer, IsSoundStream, IsSound}
+use Rattle.model_laws.proofs.Whole.{IsCounted, IsSoundConsumer, IsSoundStream, IsSoundState}
 use Rattle.model_laws.specs.OneConsumer.{drops}
 use Rattle.model_laws.specs.Sendings.{Sending, sending_of, sending_to, sendings}
 use Rattle.model_laws.specs.Order.{IsStartOrder, firsts}
@@ -155,14 +155,14 @@ module _ (name : Bytes) (more : List Sending) where
           (its name (IsFrom ps k) (IsFrom ps k) (from_kept ps k) (from_kept ps k) s now listening v outs new x (same_is v.consumer name e) h) (after_it e)
       go false e = f ps k (in_delivery name (IsFrom ps k) (IsFrom ps k) (from_kept ps k) (from_kept ps k) s now listening v outs new x (λ n p. absurd (true≢false (sym (subst (λ (m : Bytes). same v.consumer m ≡ true) n (same_self v.consumer)) ∙ e))) (λ g c p. p) h)
 
-delivered_order : (name : Bytes) (more : List Sending) (ps : List ℕ) (k : ℕ) (old new : State) (now : ℕ) (listening : List Bytes) (v : Delivery) (outs : List Out) → IsDelivered old now listening v outs new → IsSound old → InState name (IsFrom ps k) old
+delivered_order : (name : Bytes) (more : List Sending) (ps : List ℕ) (k : ℕ) (old new : State) (now : ℕ) (listening : List Bytes) (v : Delivery) (outs : List Out) → IsDelivered old now listening v outs new → IsSoundState old → InState name (IsFrom ps k) old
     → ((qs : List ℕ) (j : ℕ) → InState name (IsFrom qs j) new → IsStartOrder qs j (firsts more)) → IsStartOrder ps k (firsts (sending_to name v ++ more))
 delivered_order name more ps k (Vacant i) new now listening v outs x s h f = absurd h
 delivered_order name more ps k (Live t) new now listening v outs x s h f = delivery_order name more ps k t new now listening v outs x s h f
 
 -- ---- the induction
 
-pub start_order : (name : Bytes) (ps : List ℕ) (k count : ℕ) (old : State) (entries : List PlaceEntry) (new : State) → IsSound old → InState name (IsFrom ps k) old → RunFrom count old entries new → IsStartOrder ps k (firsts (sendings name entries))
+pub start_order : (name : Bytes) (ps : List ℕ) (k count : ℕ) (old : State) (entries : List PlaceEntry) (new : State) → IsSoundState old → InState name (IsFrom ps k) old → RunFrom count old entries new → IsStartOrder ps k (firsts (sendings name entries))
 start_order name ps k count old [] new s h r = order_nil ps k
 start_order name ps k count old (Step seat e now reply outs unsaid ∷ entries) new s h (mid, x, rest) =
     unless_dropped (drops name e.what) refl
@@ -179,7 +179,7 @@ start_order name ps k count old (Broken seat now (DeliverOf listening v) ∷ [])
     subst (λ (xs : List Sending). IsStartOrder ps k (firsts xs)) (append_nil (sending_to name v)) (delivered_order name [] ps k old new now listening v outs x.delivered s h (λ qs j q. order_nil qs j))
 start_order name ps k count old (Broken seat now (DeliverOf listening v) ∷ entry ∷ entries) new s h r = absurd r
 
-pub start_order_of : (name : Bytes) (count : ℕ) (old : State) (entries : List PlaceEntry) (new : State) (c : Consumer) → IsSound old → InState name (λ d. d ≡ c) old → RunFrom count old entries new → IsStartOrder c.picks c.cursor (firsts (sendings name entries))
+pub start_order_of : (name : Bytes) (count : ℕ) (old : State) (entries : List PlaceEntry) (new : State) (c : Consumer) → IsSoundState old → InState name (λ d. d ≡ c) old → RunFrom count old entries new → IsStartOrder c.picks c.cursor (firsts (sendings name entries))
 start_order_of name count old entries new c s h r = start_order name c.picks c.cursor count old entries new s (from_first old h) r
   where
     from_first : (old : State) → InState name (λ d. d ≡ c) old → InState name (IsFrom c.picks c.cursor) old

@@ -34,7 +34,7 @@ use Rattle.js_model.specs.Pulls.{pulled, pulled_unless, pull_refusal}
 use Rattle.js_model.specs.Events.{answered, published, with_id, IsEvent, settled_state, stream_answer}
 use Rattle.js_model.specs.Deliver.{Delivers, IsDelivery, IsDelivered, candidates, delivery_out, sent_to}
 use Rattle.js_model.specs.Runs.{RunFrom, new_messages}
-use Rattle.model_laws.specs.Sound.{IsSoundConsumer, IsSoundStream, IsSound}
+use Rattle.model_laws.proofs.Whole.{IsSoundConsumer, IsSoundStream, IsSoundState}
 use Rattle.model_laws.specs.OneConsumer.{drops}
 use Rattle.model_laws.specs.Sendings.{sending_of, sending_to}
 use Rattle.model_laws.specs.Order.{Stored, stored_of, stored_first, stored_by, was_stored, WereStored, BringsIt, IsBrought, IsBroughtTo, SendsStored}
@@ -245,7 +245,7 @@ module _ (name : Bytes) (config : ConsumerConfig) (known : List Stored) where
 
 -- ---- the induction
 
-sends_stored : (name : Bytes) (config : ConsumerConfig) (known : List Stored) (count : ℕ) (old : State) (entries : List PlaceEntry) (new : State) → IsSound old → InState name (HasConfig config) old → StateKnown known old → RunFrom count old entries new
+sends_stored : (name : Bytes) (config : ConsumerConfig) (known : List Stored) (count : ℕ) (old : State) (entries : List PlaceEntry) (new : State) → IsSoundState old → InState name (HasConfig config) old → StateKnown known old → RunFrom count old entries new
     → SendsStored name config.filter_subject known entries
 sends_stored name config known count old [] new s h k r = tt
 sends_stored name config known count (Vacant i) (entry ∷ entries) new s h k r = absurd h
@@ -276,5 +276,5 @@ known_first (Live t) = record { each = λ m i. in_map m t.messages i }
     in_map m (x ∷ ms) here = here
     in_map m (x ∷ ms) (there i) = there (in_map m ms i)
 
-pub stored_before : (name : Bytes) (count : ℕ) (old : State) (entries : List PlaceEntry) (new : State) (c : Consumer) → IsSound old → InState name (HasConfig c.config) old → RunFrom count old entries new → SendsStored name c.config.filter_subject (stored_first old) entries
+pub stored_before : (name : Bytes) (count : ℕ) (old : State) (entries : List PlaceEntry) (new : State) (c : Consumer) → IsSoundState old → InState name (HasConfig c.config) old → RunFrom count old entries new → SendsStored name c.config.filter_subject (stored_first old) entries
 stored_before name count old entries new c s h r = sends_stored name c.config (stored_first old) count old entries new s h (known_first old) r
