@@ -9,6 +9,7 @@ pub mod SoundMade
 pub mod SoundAcks
 pub mod SoundSent
 pub mod Sounding
+pub mod SoundTests
 pub mod Settled
 pub mod Entries
 pub mod Acked

@@ -1,5 +1,5 @@
 -- What holds of each run of a place, in the words of JetStream's streams and consumers: the laws follow from the definitions of the machine.
-use Rattle.std.specs.Prelude.{◌≡◌, true, Contains, ℕ, List, [], ◌∷◌, Some, IsTrue, ◌↔◌}
+use Rattle.std.specs.Prelude.{◌≡◌, true, Decides, Contains, ℕ, List, [], ◌∷◌, Some, IsTrue, ◌↔◌}
 use Rattle.js_base.specs.Bytes.{Bytes, has}
 use Rattle.js_base.specs.declared.out.Out.{Out}
 use Rattle.js_model.specs.declared.stream.Message.{Message}
@@ -21,7 +21,8 @@ use Rattle.js_model.specs.Runs.{RunFrom, IsStep, messages_of}
 use Rattle.js_model.specs.Streams.{seqs}
 use Rattle.js_model.specs.Acknowledge.{acknowledged}
 use Rattle.js_model.specs.StateMoments.{moment_of, state_at}
-use Rattle.model_laws.specs.Sound.{IsSound}
+use Rattle.model_laws.specs.Sound.{IsWellStored, IsMatched, IsSound}
+use Rattle.model_laws.specs.SoundTests.{is_well_stored, is_matched}
 use Rattle.model_laws.specs.OneConsumer.{consumer_of}
 use Rattle.model_laws.specs.Acked.{has_entry, ChangesEntries, IsToEnd, IsToStay, EndsEntry, NeverSent}
 use Rattle.model_laws.specs.Repeats.{keeps_window, EachEvent, IsRepeatReply, Repeats}
@@ -33,6 +34,13 @@ use Rattle.model_laws.specs.Limits.{AreLimited}
 -- soundness is kept
 abbrev pub LawSound : Type 0
 LawSound = (count : ℕ) (old new : State) (entries : List PlaceEntry) → IsSound old → RunFrom count old entries new → IsSound new
+
+-- both of its parts can be computed
+abbrev pub LawStoredTest : Type 0
+LawStoredTest = (s : State) → Decides (is_well_stored s) (IsWellStored s)
+
+abbrev pub LawMatchedTest : Type 0
+LawMatchedTest = (s : State) → Decides (is_matched s) (IsMatched s)
 
 -- what is acknowledged is not sent again
 abbrev pub LawAcked : Type 0

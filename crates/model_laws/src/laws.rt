@@ -1,10 +1,13 @@
 //! What holds of each run of a place, by the definitions of the machine alone.
 
-ghost use Rattle.model_laws.specs.Laws.{LawSound, LawAcked, LawEnds, LawStays, LawEntries, LawDuplicate, LawKept, LawOrder, LawStart, LawRedelivery, LawLimits, LawReady};
+ghost use Rattle.model_laws.specs.Laws.{LawSound, LawStoredTest, LawMatchedTest, LawAcked, LawEnds, LawStays, LawEntries, LawDuplicate, LawKept, LawOrder, LawStart, LawRedelivery, LawLimits, LawReady};
 
-/// Soundness is kept: each state that a run reaches from a sound one is sound.
+/// Soundness is kept: each state that a run reaches from a sound one is sound. Its two parts, of what is stored and of what
+/// filters match, are decided by the tests that compute them.
 pub fn law_sound()
     ensures law { LawSound }
+    ensures stored_test { LawStoredTest }
+    ensures matched_test { LawMatchedTest }
 {}
 
 /// A sequence whose entry an acknowledgement ended is not sent again to its consumer, until it or the stream is dropped. An
