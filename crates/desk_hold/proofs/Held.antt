@@ -1,5 +1,5 @@
 -- A step at a place, and the sending of what it sends, are one hold.
-use Rattle.std.proofs.Common.{◌≡◌, ◌≢◌, ◌≤◌, ◌<◌, ◌-◌, ◌^◌, ℕ, Bool, true, false, List, [], ◌∷◌, ◌++◌, Option, Some, None, Result, Ok, Err, refl, sym, ap, subst, ◌∙◌, append_assoc, append-nil, inl, inr, arith}
+use Rattle.std.proofs.Common.{◌≡◌, ◌≢◌, ◌-◌, ◌^◌, ℕ, Bool, true, false, List, [], ◌∷◌, Option, Some, None, Result, Ok, Err, refl, sym, subst, ◌∙◌, append-nil, inl, inr, arith}
 use Rattle.std.specs.Prelude.{MatchOption}
 use Rattle.js_base.specs.Bytes.{Bytes}
 use Rattle.js_base.specs.declared.out.Out.{Out}
@@ -23,9 +23,9 @@ use Rattle.js_api.specs.declared.fault.DeskFault.TheVariants as faults
 use Rattle.js_api.specs.declared.outcome.Became.{Became}
 use Rattle.js_api.specs.declared.outcome.Became.TheVariants.{Made, Unsaid, Ticked, Nothing, Broke, Stopped, Gone}
 use Rattle.js_api.specs.declared.outcome.Outcome.{Outcome}
-use Rattle.js_api.specs.Entries.{Sending, Sent, Short, Unsent, Hold, DeskEntry, Held, Stirred, Halted, Missed}
+use Rattle.js_api.specs.Entries.{Sending, Sent, Short, Unsent, Hold, Held, Stirred, Halted, Missed}
 use Rattle.js_api.specs.Holding.{AreAsked, AreReadings, Explains, HoldsBy, MayEnd, event_at, is_ready_at, push_consumers, step}
-use Rattle.js_api.specs.Outputs.{answer_of, stream_name, said}
+use Rattle.js_api.specs.Outputs.{stream_name}
 use Rattle.js_api.specs.Worlds.{IsHeld, IsLater}
 use Rattle.place_engine.specs.Provisional.{IsSilent}
 use Rattle.place_engine.specs.declared.faults.PlaceFault.{PlaceFault}
@@ -35,7 +35,7 @@ use Rattle.desk_hold.specs.declared.stepping.MadeStep.{MadeStep}
 use Rattle.desk_hold.specs.OnePlace.{HoldsOn, OnPlace, on}
 use Rattle.desk_hold.specs.Outcomes.{SendsStep, SendsMade, SendsThem, failed_by, fault_of, quietly, shortly}
 use Rattle.desk_hold.specs.Ports.{Sends}
-use Rattle.desk_hold.specs.Steps.{AddsStep, EndsStep, IsMade, WithholdsStep}
+use Rattle.desk_hold.specs.Steps.{EndsStep, IsMade, WithholdsStep}
 
 -- ---- the entry of a step
 
@@ -282,8 +282,7 @@ module _ {R : Type 0} (routes : R → RouteCall → RouteTold → R → Type 0) 
               sending = refl;
               stream_is = name;
             },
-            refl,
-            refl,
+            (refl, refl),
           );
         };
         led = (
@@ -341,7 +340,7 @@ module _ {R : Type 0} (routes : R → RouteCall → RouteTold → R → Type 0) 
       more = Halted at place.state ∷ [];
       entries_are = refl;
       prepares = inl refl;
-      holds = (place.state, refl, name, refl, refl);
+      holds = (place.state, refl, name, (refl, refl));
     };
     led = (on place r, record { at_is = refl; count = count; stopped = stopped; state_is = refl; same = refl }, refl);
   }
@@ -355,7 +354,7 @@ module _ {R : Type 0} (routes : R → RouteCall → RouteTold → R → Type 0) 
       more = Missed at (kept_incarnation place.state) ∷ [];
       entries_are = refl;
       prepares = inl refl;
-      holds = (kept_incarnation place.state, refl, refl, refl);
+      holds = (kept_incarnation place.state, refl, (refl, refl));
     };
     led = (on place r, record { at_is = refl; going = going; kept_is = refl; other = other; same = refl }, refl);
   }

@@ -1,24 +1,20 @@
 -- What a place promises of a step is a step of its run.
-use Rattle.std.proofs.Common.{◌≡◌, ◌≤◌, ◌<◌, ◌+◌, ◌^◌, ◌++◌, ℕ, Bool, true, false, List, length, Ok, Err, Some, None, refl, sym, ap, subst, ◌∙◌, append_assoc, IsTrue}
+use Rattle.std.proofs.Common.{◌≡◌, ◌≤◌, ◌<◌, ◌+◌, ◌^◌, ◌++◌, ℕ, Bool, true, List, length, Ok, Err, Some, None, refl, sym, ap, subst, ◌∙◌, append_assoc, IsTrue}
 use Rattle.js_base.specs.Bytes.{Bytes}
 use Rattle.js_base.specs.declared.out.Out.{Out}
 use Rattle.js_model.specs.declared.stream.State.{State}
-use Rattle.js_model.specs.declared.stream.State.TheVariants.{Vacant, Live}
 use Rattle.js_model.specs.declared.event.Event.{Event}
-use Rattle.js_model.specs.declared.event.What.TheVariants.{Tick}
 use Rattle.js_model.specs.declared.reply.Answer.{Answer}
 use Rattle.js_model.specs.declared.reply.Reply.{Reply}
-use Rattle.js_model.specs.declared.reply.Reply.TheVariants.{Silent}
 use Rattle.js_model.specs.Events.{answered, kept_incarnation}
 use Rattle.js_model.specs.Proper.{is_proper}
-use Rattle.js_model.specs.Runs.{IsStep, is_few, new_messages}
+use Rattle.js_model.specs.Runs.{is_few, new_messages}
 use Rattle.js_api.specs.Outputs.{answer_of, stream_name, said}
 use Rattle.js_api.specs.Worlds.{IsLater}
 use Rattle.place_engine.specs.Stepping.{Image, Seen, Steps, Elapses, Does, Withholds, tick_of}
 use Rattle.place_engine.specs.declared.faults.PlaceFault.{PlaceFault}
 use Rattle.place_engine.specs.declared.faults.PlaceFault.TheVariants.{NoMemory, StoreFault, Stopped, Gone, Worn}
 use Rattle.place_engine.specs.declared.faults.Left.TheVariants.{Nothing, Ticked, Unsaid}
-use Rattle.desk_hold.specs.declared.stepping.MadeStep.{MadeStep}
 use Rattle.desk_hold.specs.Outcomes.{IsOfStep}
 use Rattle.desk_hold.specs.Steps.{IsMade, EndsStep, WithholdsStep}
 use Rattle.desk_hold.proofs.Ticks.{tick_silent, tick_proper}

@@ -1,4 +1,3 @@
-use Rattle.std.proofs.Common.{◌∙◌}
 use Rattle.desk_hold.proofs.Stepped.{told_step, failed_step, fault_of_step}
 use Rattle.desk_hold.proofs.stepping.make.Goals as goal
 
