@@ -10,6 +10,7 @@ pub mod SoundAcks
 pub mod SoundSent
 pub mod Sounding
 pub mod SoundTests
+pub mod Changed
 pub mod Settled
 pub mod Entries
 pub mod Acked
