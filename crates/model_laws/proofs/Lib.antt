@@ -26,6 +26,7 @@ pub mod Ordering
 pub mod Redelivery
 pub mod AllConsumers
 pub mod Within
+pub mod Bounded
 pub mod Quotas
 pub mod Turns
 pub mod Limiting

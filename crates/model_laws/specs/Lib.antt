@@ -1,5 +1,6 @@
 pub mod Sound
 pub mod SoundTests
+pub mod Bounds
 pub mod OneConsumer
 pub mod Acked
 pub mod Repeats
