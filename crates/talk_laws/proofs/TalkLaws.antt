@@ -4,24 +4,28 @@ use Rattle.std.proofs.lemmas.Option.{same_Some}
 use Rattle.js_model.specs.declared.stream.State.{State}
 use Rattle.js_model.specs.declared.entry.PlaceEntry.{PlaceEntry}
 use Rattle.js_model.specs.declared.reply.Reply.TheVariants.{Published}
-use Rattle.js_model.specs.PlaceStates.{vacant_place}
+use Rattle.js_model.specs.PlaceStates.{PlaceIn, vacant_place}
 use Rattle.js_model.specs.Runs.{RunFrom, IsStep, messages_of, total_of}
 use Rattle.model_laws.specs.Sound.{IsSound}
-use Rattle.model_laws.specs.Laws.{LawSound, LawAcked, LawEnds, LawStays, LawDuplicate, LawKept, LawOrder, LawStart, LawRedelivery, LawLimits}
+use Rattle.model_laws.specs.Bounds.{IsBounded}
+use Rattle.model_laws.specs.Laws.{LawSound, LawBounded, LawAcked, LawEnds, LawStays, LawDuplicate, LawKept, LawOrder, LawStart, LawRedelivery, LawLimits}
 use Rattle.js_api.specs.Machines.{LawRuns}
 use Rattle.talk_laws.specs.Parts.{Part, count_before}
 use Rattle.talk_laws.specs.Talks.{IsSoundPlace}
-use Rattle.talk_laws.specs.TalkLaws.{LawOpening, LawTalkSound, LawTalkAcked, LawTalkEnds, LawTalkStays, LawTalkDuplicate, LawTalkKept, LawTalkOrder, LawTalkStart, LawTalkRedelivery, LawTalkLimits}
+use Rattle.talk_laws.specs.TalkLaws.{LawOpening, LawTalkSound, LawTalkBounded, LawTalkAcked, LawTalkEnds, LawTalkStays, LawTalkDuplicate, LawTalkKept, LawTalkOrder, LawTalkStart, LawTalkRedelivery, LawTalkLimits}
 use Rattle.talk_laws.proofs.EachPart.{in_each_talk, sound_before, sound_after, step_of, step_before, step_after}
 
 -- ---- the opening
 
-vacant_sound : IsSoundPlace vacant_place
-vacant_sound = record { sound = record { stored = tt; matched = tt }; counted = omega arith }
+abbrev IsOpen : PlaceIn → Type 0
+IsOpen place = IsSoundPlace place × IsBounded place.state
+
+vacant_open : IsOpen vacant_place
+vacant_open = (record { sound = record { stored = tt; matched = tt }; counted = omega arith }, omega arith)
 
 pub law_opening : LawOpening
 law_opening zero place before there = let no : ⊥ = cc in absurd no
-law_opening (suc count) zero before there = subst IsSoundPlace (same_Some vacant_place before there) vacant_sound
+law_opening (suc count) zero before there = subst IsOpen (same_Some vacant_place before there) vacant_open
 law_opening (suc count) (suc place) before there = law_opening count place before there
 
 -- ---- the laws
@@ -32,6 +36,11 @@ count_after p = total_of (count_before p) p.old p.entries p.new p.during
 
 pub law_talk_sound : LawRuns → LawSound → LawTalkSound
 law_talk_sound runs sound = in_each_talk _ runs (λ p first. (sound_before sound p first, sound_after sound p first))
+
+pub law_talk_bounded : LawRuns → LawSound → LawBounded → LawTalkBounded
+law_talk_bounded runs sound bounded = in_each_talk _ runs (λ p first within.
+    let old = bounded (length (messages_of p.first)) p.first p.old p.earlier first within p.before in
+    (old, bounded (count_before p) p.old p.new p.entries (sound_before sound p first) old p.during))
 
 pub law_talk_acked : LawRuns → LawSound → LawAcked → LawTalkAcked
 law_talk_acked runs sound acked = in_each_talk _ runs (λ p first name n e now reply outs is ended.

@@ -4,11 +4,12 @@
 //! first, as every place is when the desk opens. However the steps and deliveries that they made there are cut in three, there are states
 //! between which the middle part stands; and the law holds of each such part.
 
-ghost use Rattle.talk_laws.specs.TalkLaws.{LawOpening, LawTalkSound, LawTalkAcked, LawTalkEnds, LawTalkStays, LawTalkDuplicate, LawTalkKept, LawTalkOrder, LawTalkStart, LawTalkRedelivery, LawTalkLimits};
+ghost use Rattle.talk_laws.specs.TalkLaws.{LawOpening, LawTalkSound, LawTalkBounded, LawTalkAcked, LawTalkEnds, LawTalkStays, LawTalkDuplicate, LawTalkKept, LawTalkOrder, LawTalkStart, LawTalkRedelivery, LawTalkLimits};
 
 use js_api::laws::law_runs;
 
-/// A desk over vacant places opens with places that are sound, and against whose stores no message counts.
+/// A desk over vacant places opens with places that are sound and within the bounds of a volume, and against whose stores no
+/// message counts.
 pub fn law_opening()
     ensures law { LawOpening }
 {}
@@ -19,6 +20,16 @@ pub fn law_talk_sound()
 {
     law_runs();
     model_laws::law_sound();
+}
+
+/// If the first state is within the bounds of a volume, then each state in which the place stands is: as many messages, ids,
+/// consumers, picks and entries as this server allows, ids and messages of their greatest lengths, and numbers below 2^62.
+pub fn law_talk_bounded()
+    ensures law { LawTalkBounded }
+{
+    law_runs();
+    model_laws::law_sound();
+    model_laws::law_bounded();
 }
 
 /// A sequence whose entry an acknowledgement ended is not sent again to its consumer, until it or the stream is dropped. An
