@@ -28,6 +28,7 @@ pub mod Redelivery
 pub mod AllConsumers
 pub mod Within
 pub mod Bounded
+pub mod Taken
 pub mod Quotas
 pub mod Turns
 pub mod Limiting

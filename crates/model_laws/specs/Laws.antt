@@ -1,5 +1,5 @@
 -- What holds of each run of a place, in the words of JetStream's streams and consumers: the laws follow from the definitions of the machine.
-use Rattle.std.specs.Prelude.{◌≡◌, true, Decides, Contains, ℕ, List, [], ◌∷◌, Some, IsTrue, ◌↔◌}
+use Rattle.std.specs.Prelude.{◌≡◌, Bool, true, Decides, Contains, ℕ, List, [], ◌∷◌, Some, IsTrue, ◌↔◌}
 use Rattle.js_base.specs.Bytes.{Bytes, has}
 use Rattle.js_base.specs.declared.out.Out.{Out}
 use Rattle.js_model.specs.declared.stream.Message.{Message}
@@ -10,6 +10,8 @@ use Rattle.js_model.specs.declared.consumer_config.ConsumerConfig.{ConsumerConfi
 use Rattle.js_model.specs.declared.consumer.Consumer.{Consumer}
 use Rattle.js_model.specs.declared.ack.AckKind.{AckKind}
 use Rattle.js_model.specs.declared.event.Event.{Event}
+use Rattle.js_model.specs.declared.event.Publish.{Publish}
+use Rattle.js_model.specs.declared.reply.Verdict.TheVariants.{Take}
 use Rattle.js_model.specs.declared.reply.Reply.{Reply}
 use Rattle.js_model.specs.declared.reply.Reply.TheVariants.{Published}
 use Rattle.js_model.specs.declared.entry.Delivered.{Delivered}
@@ -17,6 +19,9 @@ use Rattle.js_model.specs.declared.entry.PlaceEntry.{PlaceEntry}
 use Rattle.js_model.specs.Advance.{advance}
 use Rattle.js_model.specs.Deliver.{Delivers}
 use Rattle.js_model.specs.Ready.{is_ready}
+use Rattle.js_model.specs.Verdict.{verdict, discards_new}
+use Rattle.js_model.specs.Trim.{trim, trim_subjects}
+use Rattle.js_model.specs.Events.{with_message}
 use Rattle.js_model.specs.Runs.{RunFrom, IsStep, messages_of}
 use Rattle.js_model.specs.Streams.{seqs}
 use Rattle.js_model.specs.Acknowledge.{acknowledged}
@@ -84,6 +89,10 @@ abbrev pub LawKept : Type 0
 LawKept = (count later : ℕ) (first old new : State) (entries : List PlaceEntry) (entry : PlaceEntry) (m : Message)
     → IsSound first → RunFrom count first entries old → RunFrom later old (entry ∷ []) new
     → Contains (messages_of old) m → (Contains (messages_of new) m → ⊥) → Leaves old entry new m
+
+-- after a publish that was taken under discard new the limits on messages and on bytes drop nothing
+abbrev pub LawTaken : Type 0
+LawTaken = (s : Stream) (p : Publish) (room : Bool) → verdict s p room ≡ Take → discards_new s ≡ true → trim (with_message s p) ≡ trim_subjects (with_message s p)
 
 -- deliveries come in order
 abbrev pub LawOrder : Type 0

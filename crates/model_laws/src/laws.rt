@@ -1,6 +1,6 @@
 //! What holds of each run of a place, by the definitions of the machine alone.
 
-ghost use Rattle.model_laws.specs.Laws.{LawSound, LawStoredTest, LawMatchedTest, LawBounded, LawChangesTest, LawAcked, LawEnds, LawStays, LawEntries, LawDuplicate, LawKept, LawOrder, LawStart, LawRedelivery, LawLimits, LawReady};
+ghost use Rattle.model_laws.specs.Laws.{LawSound, LawStoredTest, LawMatchedTest, LawBounded, LawChangesTest, LawAcked, LawEnds, LawStays, LawEntries, LawDuplicate, LawKept, LawTaken, LawOrder, LawStart, LawRedelivery, LawLimits, LawReady};
 
 /// Soundness is kept: each state that a run reaches from a sound one is sound. Its two parts, of what is stored and of what
 /// filters match, are decided by the tests that compute them.
@@ -45,6 +45,12 @@ pub fn law_duplicate()
 /// they still had the message.
 pub fn law_kept()
     ensures law { LawKept }
+{}
+
+/// Under discard new, what a publish that was taken leaves is within the limits on messages and on bytes, once the limit of
+/// each subject has dropped what it drops: those two drop nothing.
+pub fn law_taken()
+    ensures law { LawTaken }
 {}
 
 /// What is sent to a consumer has consumer sequences one after the other and counts of 1 or more. Each output brings the
