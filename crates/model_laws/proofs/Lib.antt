@@ -24,6 +24,7 @@ pub mod StartOrder
 pub mod StoredBefore
 pub mod Making
 pub mod Ordering
+pub mod MadeWithin
 pub mod Redelivery
 pub mod AllConsumers
 pub mod Within

@@ -1,5 +1,5 @@
 -- What holds of each run of a place, in the words of JetStream's streams and consumers: the laws follow from the definitions of the machine.
-use Rattle.std.specs.Prelude.{◌≡◌, Bool, true, Decides, Contains, ℕ, List, [], ◌∷◌, Some, IsTrue, ◌↔◌}
+use Rattle.std.specs.Prelude.{◌≡◌, Bool, true, Decides, Contains, ℕ, List, [], ◌∷◌, Some, None, IsTrue, ◌↔◌}
 use Rattle.js_base.specs.Bytes.{Bytes, has}
 use Rattle.js_base.specs.declared.out.Out.{Out}
 use Rattle.js_model.specs.declared.stream.Message.{Message}
@@ -36,6 +36,7 @@ use Rattle.model_laws.specs.Acked.{has_entry, ChangesEntries, IsToEnd, IsToStay,
 use Rattle.model_laws.specs.Repeats.{keeps_window, EachEvent, IsRepeatReply, Repeats}
 use Rattle.model_laws.specs.Leaving.{Leaves}
 use Rattle.model_laws.specs.Order.{IsInOrder, Makes, IsFromStart}
+use Rattle.model_laws.specs.MadeWithin.{IsMadeWithin}
 use Rattle.model_laws.specs.Redelivery.{due_first, Redelivers}
 use Rattle.model_laws.specs.Limits.{AreLimited}
 
@@ -104,6 +105,11 @@ abbrev pub LawStart : Type 0
 LawStart = (name : Bytes) (config : ConsumerConfig) (count later : ℕ) (old : Stream) (made new : State) (e : Event) (now : ℕ) (reply : Reply) (outs : List Out) (entries : List PlaceEntry)
     → IsSound (Live old) → IsStep count (Live old) e now reply outs made → Makes (Live old) e reply name config → RunFrom later made entries new
     → IsFromStart name config (advance old now) made entries
+
+-- a consumer that stands after a run and not before it was made within the run
+abbrev pub LawMade : Type 0
+LawMade = (name : Bytes) (count : ℕ) (old new : State) (entries : List PlaceEntry) (c : Consumer)
+    → IsSound old → consumer_of name old ≡ None → consumer_of name new ≡ Some c → RunFrom count old entries new → IsMadeWithin name count old entries new
 
 -- a delivery is made again only when it is due
 abbrev pub LawRedelivery : Type 0
