@@ -24,10 +24,12 @@ pub mod StartOrder
 pub mod StoredBefore
 pub mod Making
 pub mod Ordering
+pub mod MadeWithin
 pub mod Redelivery
 pub mod AllConsumers
 pub mod Within
 pub mod Bounded
+pub mod Taken
 pub mod Quotas
 pub mod Turns
 pub mod Limiting

@@ -8,6 +8,7 @@ pub mod Repeats
 pub mod Leaving
 pub mod Sendings
 pub mod Order
+pub mod MadeWithin
 pub mod Redelivery
 pub mod Turns
 pub mod Limits
