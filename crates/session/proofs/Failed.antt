@@ -1,6 +1,6 @@
 -- Laws of failings of a link, which end a session.
 use Rattle.std.proofs.Common.{◌≡◌, true, refl, Option, Result, sym, ap, subst, ◌∙◌, inl, inr, option_map}
-use Rattle.link_edge.specs.Failings.{with_failed_give, with_starved_call}
+use Rattle.link_edge.specs.Failings.{with_starved_call}
 use Rattle.link_edge.specs.declared.failings.Failings.{Failings}
 use Rattle.session.specs.Giving.{end_of}
 use Rattle.js_api.specs.declared.fault.DeskFault.{DeskFault}
@@ -29,10 +29,7 @@ unopened_fails faults.TooManySubs known = inl refl
 unopened_fails (faults.Worn number) known = refl
 unopened_fails (faults.NoSession latest) known = inl refl
 
--- a give failed, behind others that did not
-pub give_fails : (old mid new : Option Failings) → mid ≡ old → new ≡ option_map with_failed_give mid → FailsBy ends.LinkFault old new
-give_fails old mid new e f = f ∙ ap (option_map with_failed_give) e
-
+-- a call found no memory, behind others that did not fail
 pub call_starves : (old mid new : Option Failings) → mid ≡ old → new ≡ option_map with_starved_call mid → FailsBy ends.NoMemory old new
 call_starves old mid new e f = inr (f ∙ ap (option_map with_starved_call) e)
 
