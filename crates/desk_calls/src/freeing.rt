@@ -25,6 +25,11 @@ pub fn free_unless_made<G: Ground>(ground: &mut G, at: PlaceAt, became: &Became)
                 ground.remove(at.place, false);
             }
         }
+        Became::Unsaid { refused } => {
+            if *refused {
+                ground.remove(at.place, false);
+            }
+        }
         Became::Broke { stream: _ } => ground.stop(at.place),
         Became::Stopped { stream: _ } => ground.stop(at.place),
         Became::Ticked => ground.remove(at.place, false),
@@ -43,6 +48,7 @@ pub fn keep_subjects<G: Ground>(ground: &mut G, at: PlaceAt, became: &Became)
 {
     match became {
         Became::Made(reply) => ground.keep(at.place, is_info(reply)),
+        Became::Unsaid { refused } => ground.keep(at.place, !*refused),
         Became::Broke { stream: _ } => ground.stop(at.place),
         Became::Ticked => ground.keep(at.place, false),
         Became::Nothing => ground.keep(at.place, false),
@@ -63,6 +69,11 @@ pub fn free_if_dropped<G: Ground>(ground: &mut G, at: PlaceAt, became: &Became)
     match became {
         Became::Made(reply) => {
             if is_done(reply) {
+                ground.remove(at.place, true);
+            }
+        }
+        Became::Unsaid { refused } => {
+            if !*refused {
                 ground.remove(at.place, true);
             }
         }

@@ -104,6 +104,7 @@ fn making_told(
         Became::Made(_) => Ok(None),
         Became::Broke { stream: _ } => Ok(Some(broke)),
         Became::Stopped { stream: _ } => Ok(Some(stopped)),
+        Became::Unsaid { refused: _ } => unreachable!(),
         Became::Ticked => unreachable!(),
         Became::Nothing => unreachable!(),
         Became::Gone => unreachable!(),
