@@ -5,6 +5,5 @@ pub mod Outcomes
 pub mod Reasons
 pub mod Named
 pub mod Plain
-pub mod Preparing
 pub mod MakingAt
 pub mod Walking

@@ -5,7 +5,7 @@ use Rattle.js_model.specs.declared.event.What.TheVariants as whats
 use Rattle.js_model.specs.declared.desk.PlaceAt.{PlaceAt}
 use Rattle.js_api.specs.declared.fault.DeskFault.TheVariants as faults
 use Rattle.js_api.specs.declared.outcome.Became.{Became}
-use Rattle.js_api.specs.declared.outcome.Became.TheVariants.{Made, Ticked, Nothing, Broke, Stopped, Gone}
+use Rattle.js_api.specs.declared.outcome.Became.TheVariants.{Made, Unsaid, Ticked, Nothing, Broke, Stopped, Gone}
 use Rattle.js_api.specs.declared.outcome.Outcome.{Outcome}
 use Rattle.desk_answers.specs.Became.{is_dropped}
 use Rattle.desk_calls.specs.Grounds.{Phase, Within, Owing}
@@ -17,6 +17,7 @@ unmade = record { became = Nothing; ready = false; fault = Some faults.NoMemory 
 -- the place keeps the incarnation that was asked for
 abbrev pub IsThere : Became → Type 0
 IsThere (Made reply) = Unit {0}
+IsThere (Unsaid refused) = Unit {0}
 IsThere Ticked = Unit {0}
 IsThere Nothing = Unit {0}
 IsThere (Broke stream) = Unit {0}

@@ -65,6 +65,7 @@ fn end_told<G: Ground>(
 {
     match became {
         Became::Made(reply) => Ok(is_taken(&reply)),
+        Became::Unsaid { refused: _ } => unreachable!(),
         Became::Ticked => unreachable!(),
         Became::Nothing => unreachable!(),
         Became::Broke { stream: _ } => refuse_for(ground, call, to, Reason::StoreFault),

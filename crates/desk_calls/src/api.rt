@@ -47,6 +47,15 @@ pub fn carry_out<G: Ground>(
         ApiRequest::StreamList { offset, subject } => {
             list_streams(ground, offset, &subject, to, now)
         }
-        _ => unreachable!(),
+        ApiRequest::StreamPurge { .. }
+        | ApiRequest::StreamMsgGet { .. }
+        | ApiRequest::StreamMsgDelete { .. }
+        | ApiRequest::ConsumerCreate { .. }
+        | ApiRequest::ConsumerDurableCreate { .. }
+        | ApiRequest::ConsumerInfo { .. }
+        | ApiRequest::ConsumerDelete { .. }
+        | ApiRequest::ConsumerNames { .. }
+        | ApiRequest::ConsumerList { .. }
+        | ApiRequest::ConsumerMsgNext { .. } => unreachable!(),
     }
 }

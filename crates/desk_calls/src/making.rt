@@ -7,7 +7,7 @@ ghost use Rattle.js_model.specs.Refusals as refusals;
 ghost use Rattle.js_model.specs.declared.event.What.TheVariants as whats;
 ghost use Rattle.stream_config.specs.Defaults.{default_config};
 ghost use Rattle.js_api.specs.Leading.{Makes};
-ghost use Rattle.js_api.specs.Making.{GoesOnTaken, IsMaking};
+ghost use Rattle.js_api.specs.Making.{GoesOnTaken, IsMaking, IsPreparing, MakesStream};
 ghost use Rattle.js_api.specs.OneStream.{IsAdding};
 ghost use Rattle.js_api.specs.Stages.{Ending, Gives};
 ghost use Rattle.desk_answers.specs.Asking.{MayAsk};
@@ -15,7 +15,6 @@ ghost use Rattle.desk_calls.specs.Grounds.{Outside, Within};
 ghost use Rattle.desk_calls.specs.Named.{GoesOnNamed};
 ghost use Rattle.desk_answers.specs.Became.{IsExplained};
 ghost use Rattle.desk_calls.specs.Outcomes.{IsThere};
-ghost use Rattle.desk_calls.specs.Preparing.{IsPreparing, MakesPrepared};
 
 use crate::creating::make_at;
 use crate::ground::Ground;
@@ -191,7 +190,7 @@ pub fn make_stream<G: Ground>(
 ) -> Result<Option<ApiError>, DeskFault>
     requires outside { G.phase ground.old ≡ Outside }
     requires subject { IsTrue (is_stream_subject subject.now) }
-    ensures made { Makes G.made (MakesPrepared name.now (default_config name.now subject.now) now result) ground.old ground.new }
+    ensures made { Makes G.made (MakesStream name.now (default_config name.now subject.now) now result) ground.old ground.new }
     ensures setting { G.setting ground.new ≡ G.setting ground.old }
     ensures phase { G.phase ground.new ≡ Outside }
 {

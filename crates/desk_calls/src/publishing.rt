@@ -82,6 +82,7 @@ fn reached<G: Ground>(ground: &mut G, message: &Out, became: Became) -> Result<b
 {
     match became {
         Became::Made(_) => Ok(true),
+        Became::Unsaid { refused: _ } => unreachable!(),
         Became::Ticked => unreachable!(),
         Became::Nothing => unreachable!(),
         Became::Broke { stream } => {

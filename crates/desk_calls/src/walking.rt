@@ -52,11 +52,8 @@ fn add_told(outcome: Outcome, infos: &mut Vec<StreamInfo>) -> Result<Option<Reas
         }
         Became::Broke { stream: _ } => Ok(Some(Reason::StoreFault)),
         Became::Stopped { stream: _ } => Ok(Some(Reason::StreamStopped)),
-        Became::Made(_)
-        | Became::Unsaid { .. }
-        | Became::Ticked
-        | Became::Nothing
-        | Became::Gone => Ok(None),
+        Became::Made(_) | Became::Ticked | Became::Nothing | Became::Gone => Ok(None),
+        Became::Unsaid { refused: _ } => Ok(None),
     }
 }
 

@@ -1,6 +1,6 @@
 use Rattle.std.proofs.Common.{None, Ok, refl}
 use Rattle.js_api.specs.Stages.{Gives}
-use Rattle.desk_calls.specs.Preparing.{IsPreparing}
+use Rattle.js_api.specs.Making.{IsPreparing}
 use Rattle.stream_config.specs.Defaults.{default_config}
 use Rattle.desk_calls.proofs.Stages.{if_absent, if_found, nothing}
 use Rattle.desk_calls.proofs.making.make_found.Goals as goal
