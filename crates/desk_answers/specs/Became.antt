@@ -1,18 +1,19 @@
 -- What became of a hold, as those who asked for it rest on it.
-use Rattle.std.specs.Prelude.{◌≡◌, ◌<◌, ◌^◌, Bool, true, false, Option, None, Some, IsUtf8}
+use Rattle.std.specs.Prelude.{◌≡◌, ◌<◌, ◌^◌, Bool, true, false, not, Option, None, Some, IsUtf8}
 use Rattle.js_model.specs.declared.event.What.{What}
 use Rattle.js_model.specs.declared.event.What.TheVariants as whats
 use Rattle.js_model.specs.declared.desk.PlaceAt.{PlaceAt}
 use Rattle.place_engine.specs.Shown.{IsShown}
 use Rattle.js_api.specs.declared.fault.DeskFault.{DeskFault}
 use Rattle.js_api.specs.declared.outcome.Became.{Became}
-use Rattle.js_api.specs.declared.outcome.Became.TheVariants.{Made, Ticked, Nothing, Broke, Stopped, Gone}
+use Rattle.js_api.specs.declared.outcome.Became.TheVariants.{Made, Unsaid, Ticked, Nothing, Broke, Stopped, Gone}
 use Rattle.js_api.specs.OneStream.{is_done}
 
 -- without a fault it was made, or the volume failed, or the place is stopped, or it keeps another incarnation
 abbrev pub IsExplained : Option DeskFault → Became → Type 0
 IsExplained (Some fault) became = Unit {0}
 IsExplained None (Made reply) = Unit {0}
+IsExplained None (Unsaid refused) = ⊥
 IsExplained None Ticked = ⊥
 IsExplained None Nothing = ⊥
 IsExplained None (Broke stream) = Unit {0}
@@ -22,15 +23,17 @@ IsExplained None Gone = Unit {0}
 -- what it shows can be printed
 abbrev pub CanBeShown : Became → Type 0
 CanBeShown (Made reply) = IsShown reply
+CanBeShown (Unsaid refused) = Unit {0}
 CanBeShown Ticked = Unit {0}
 CanBeShown Nothing = Unit {0}
 CanBeShown (Broke stream) = IsUtf8 stream
 CanBeShown (Stopped stream) = IsUtf8 stream
 CanBeShown Gone = Unit {0}
 
--- it was done, which answers the dropping of a stream
+-- it was done, or not refused if its reply is withheld: asked to drop a stream, the place dropped it
 abbrev pub is_dropped : Became → Bool
 is_dropped (Made reply) = is_done reply
+is_dropped (Unsaid refused) = not refused
 is_dropped Ticked = false
 is_dropped Nothing = false
 is_dropped (Broke stream) = false

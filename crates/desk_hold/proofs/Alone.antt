@@ -9,7 +9,7 @@ use Rattle.js_model.specs.declared.event.What.{What}
 use Rattle.js_model.specs.PlaceStates.{PlaceIn}
 use Rattle.js_model.specs.Router.{Router, RouteTold, Routed as Answered, IsRoute, Interest, Listens, route}
 use Rattle.js_api.specs.declared.outcome.Became.{Became}
-use Rattle.js_api.specs.declared.outcome.Became.TheVariants.{Made, Ticked, Nothing, Broke, Stopped, Gone}
+use Rattle.js_api.specs.declared.outcome.Became.TheVariants.{Made, Unsaid, Ticked, Nothing, Broke, Stopped, Gone}
 use Rattle.js_api.specs.declared.outcome.Outcome.{Outcome}
 use Rattle.js_api.specs.Entries.{Reading, Hold, entries_in, DeskEntry, Routed, Looked, Turned, Resumed, Held, Stirred, Halted, Missed, Spent}
 use Rattle.js_api.specs.declared.fault.DeskFault.{DeskFault}
@@ -37,10 +37,11 @@ read_alone : (r : Router) (readings : List Reading) (s : Router) → AreHeard Is
 read_alone r [] s h = (sym h, tt)
 read_alone r (reading ∷ more) s h =
     let same : h.0 ≡ r = same_heard r h.0 reading.subject reading.group (Listens reading.heard) h.1 in
-    let rest = read_alone h.0 more s h.2 in
-    (rest.0 ∙ same,
+    let rest = read_alone h.0 more s h.2 in (
+      rest.0 ∙ same,
       subst (λ (x : Router). IsRoute r (Interest reading.subject reading.group) (Listens reading.heard) x) same h.1,
-      subst (λ (x : Router). AreRead x more) same rest.1)
+      subst (λ (x : Router). AreRead x more) same rest.1,
+    )
 
 tried_alone : (r : Router) (outs : List Out) (taken : List Bool) (s : Router) → AreSent IsRoute never r outs taken s → AreTried r outs taken s
 tried_alone r [] [] s h = h
@@ -109,66 +110,77 @@ module _ (at : PlaceAt) where
   one_step scene old new (Held hold) router is h =
       let read = read_alone old.port hold.readings h.told h.heard in
       elim h.sent [
-        | inl k ↦
-            (record {
-              place = old.place;
-              after = new.place;
-              taken = k.taken;
-              is_there = ap (λ (a : PlaceAt). slice_get scene.world.places a.place) h.at_is ∙ is;
-              held = h.held;
-              read = subst (λ (r : Router). AreRead r hold.readings) (sym router) read.1;
-              tried = subst (λ (r : Router). AreTried r (outs_of hold.before (entries_in hold)) k.taken new.port) (read.0 ∙ sym router)
-                  (tried_alone h.told (outs_of hold.before (entries_in hold)) k.taken new.port k.sent);
-              sending = k.sending_is;
-              places = ap (λ (a : PlaceAt). slice_set scene.world.places a.place new.place) (sym h.at_is);
-              catalog = refl;
-            }, refl)
+        | inl k ↦ (
+          record {
+            place = old.place;
+            after = new.place;
+            taken = k.taken;
+            is_there = ap (λ (a : PlaceAt). slice_get scene.world.places a.place) h.at_is ∙ is;
+            held = h.held;
+            read = subst (λ (r : Router). AreRead r hold.readings) (sym router) read.1;
+            tried = subst (λ (r : Router). AreTried r (outs_of hold.before (entries_in hold)) k.taken new.port) (read.0 ∙ sym router)
+                (tried_alone h.told (outs_of hold.before (entries_in hold)) k.taken new.port k.sent);
+            sending = k.sending_is;
+            places = ap (λ (a : PlaceAt). slice_set scene.world.places a.place new.place) (sym h.at_is);
+            catalog = refl;
+          },
+          refl,
+        )
         | inr k ↦ absurd k.is_worn
       ]
-  one_step scene old new (Stirred there before after failed) router is h =
-      (record {
-        place = old.place;
-        stirred = new.place;
-        is_there = ap (λ (a : PlaceAt). slice_get scene.world.places a.place) h.at_is ∙ is;
-        is_stirred = h.stirred;
-        places = ap (λ (a : PlaceAt). slice_set scene.world.places a.place new.place) (sym h.at_is);
-        router = h.port ∙ sym router;
-        catalog = refl;
-      }, refl)
-  one_step scene old new (Halted there state) router is h =
-      (record {
-        place = old.place;
-        count = h.count;
-        is_there = ap (λ (a : PlaceAt). slice_get scene.world.places a.place) h.at_is ∙ is;
-        stopped = h.stopped;
-        state_is = h.state_is;
-      }, ap (λ (p : OnPlace Router). with_place scene at.place p scene.cursor.last) h.same ∙ unmoved scene old router is)
-  one_step scene old new (Missed there kept) router is h =
-      (record {
-        place = old.place;
-        is_there = ap (λ (a : PlaceAt). slice_get scene.world.places a.place) h.at_is ∙ is;
-        going = h.going;
-        kept_is = h.kept_is;
-        other = subst (λ (a : PlaceAt). kept ≢ a.incarnation) (sym h.at_is) h.other;
-      }, ap (λ (p : OnPlace Router). with_place scene at.place p scene.cursor.last) h.same ∙ unmoved scene old router is)
+  one_step scene old new (Stirred there before after failed) router is h = (
+    record {
+      place = old.place;
+      stirred = new.place;
+      is_there = ap (λ (a : PlaceAt). slice_get scene.world.places a.place) h.at_is ∙ is;
+      is_stirred = h.stirred;
+      places = ap (λ (a : PlaceAt). slice_set scene.world.places a.place new.place) (sym h.at_is);
+      router = h.port ∙ sym router;
+      catalog = refl;
+    },
+    refl,
+  )
+  one_step scene old new (Halted there state) router is h = (
+    record {
+      place = old.place;
+      count = h.count;
+      is_there = ap (λ (a : PlaceAt). slice_get scene.world.places a.place) h.at_is ∙ is;
+      stopped = h.stopped;
+      state_is = h.state_is;
+    },
+    ap (λ (p : OnPlace Router). with_place scene at.place p scene.cursor.last) h.same ∙ unmoved scene old router is,
+  )
+  one_step scene old new (Missed there kept) router is h = (
+    record {
+      place = old.place;
+      is_there = ap (λ (a : PlaceAt). slice_get scene.world.places a.place) h.at_is ∙ is;
+      going = h.going;
+      kept_is = h.kept_is;
+      other = subst (λ (a : PlaceAt). kept ≢ a.incarnation) (sym h.at_is) h.other;
+    },
+    ap (λ (p : OnPlace Router). with_place scene at.place p scene.cursor.last) h.same ∙ unmoved scene old router is,
+  )
   one_step scene old new (Spent number) router is h = absurd h
 
   steps_alone : (entries : List DeskEntry) (scene : Scene) (old new : OnPlace Router) → scene.world.router ≡ old.port → slice_get scene.world.places at.place ≡ Some old.place
       → Leads Step old entries new → Leads SoloStep scene entries (with_place scene at.place new (last_after entries scene.cursor.last))
   steps_alone [] scene old new router is h = sym (ap (λ (p : OnPlace Router). with_place scene at.place p scene.cursor.last) (sym h) ∙ unmoved scene old router is)
   steps_alone (entry ∷ entries) scene old new router is h =
-      let mid : Scene = with_place scene at.place h.0 (last_by entry scene.cursor.last) in
-      (mid, one_step scene old h.0 entry router is h.1,
+      let mid : Scene = with_place scene at.place h.0 (last_by entry scene.cursor.last) in (
+        mid,
+        one_step scene old h.0 entry router is h.1,
         subst (λ (ps : List PlaceIn). Leads SoloStep mid entries (record {
           world = record { router = new.port; catalog = scene.world.catalog; places = ps };
           cursor = record { ticked = scene.cursor.ticked; last = last_after entries (last_by entry scene.cursor.last) };
         })) (set_twice scene.world.places at.place h.0.place new.place)
-        (steps_alone entries mid h.0 new refl (set_there scene.world.places at.place old.place h.0.place is) h.2))
+            (steps_alone entries mid h.0 new refl (set_there scene.world.places at.place old.place h.0.place is) h.2),
+      )
 
   -- ---- the place of the last hold
 
   abbrev pub last_of : Became → Option PlaceAt → Option PlaceAt
   last_of (Made reply) last = Some at
+  last_of (Unsaid refused) last = Some at
   last_of Ticked last = Some at
   last_of Nothing last = last
   last_of (Broke stream) last = Some at
@@ -197,6 +209,7 @@ module _ (at : PlaceAt) where
   last_holds : (became : Became) (what : What) (now : ℕ) (ready : Bool) (fault : Option DeskFault) (entries : List DeskEntry) (last : Option PlaceAt) → HoldsBy became at what now ready fault entries
       → last_after entries last ≡ last_of became last
   last_holds (Made reply) what now ready fault entries last h = last_held entries h.0 last h.1 h.2.at_is
+  last_holds (Unsaid refused) what now ready fault entries last h = last_held entries h.0 last h.3 h.2.at_is
   last_holds Ticked what now ready fault entries last h = last_held entries h.0 last h.1 h.2.at_is
   last_holds Nothing what now ready fault entries last h = last_unmade fault entries last h.1
   last_holds (Broke stream) what now ready fault entries last h = last_held entries h.0 last h.1 h.2.at_is

@@ -20,7 +20,7 @@ use Rattle.js_model.specs.Proper.{if_given, is_proper, is_proper_what, reply_of}
 use Rattle.js_model.specs.Refusals.{no_stream}
 use Rattle.js_api.specs.declared.fault.DeskFault.{DeskFault}
 use Rattle.js_api.specs.declared.outcome.Became.{Became}
-use Rattle.js_api.specs.declared.outcome.Became.TheVariants.{Made, Ticked, Nothing, Broke, Stopped, Gone}
+use Rattle.js_api.specs.declared.outcome.Became.TheVariants.{Made, Unsaid}
 use Rattle.js_api.specs.Holding.{event_at}
 use Rattle.js_api.specs.OneStream.{is_done}
 use Rattle.place_engine.specs.Shown.{IsShown}

@@ -124,21 +124,25 @@ module _ {R : Type 0} (routes : R → RouteCall → RouteTold → R → Type 0) 
           more = Held hold ∷ [];
           entries_are = refl;
           prepares = inl refl;
-          holds = subst (λ (b : Became). HoldsBy b at what now outcome.ready outcome.fault (Held hold ∷ [])) (sym became)
-              (hold, refl, record {
-                seat = 0;
-                outs = h.outs;
-                unsaid = made.unsaid;
-                at_is = refl;
-                steps = refl;
-                asked = asked_none outcome.fault hold (none_push new.state silent) refl refl;
-                deliveries = tt;
-                ready_is = unless_fault outcome.fault (outcome.ready ≡ is_ready_at now hold) ready;
-                explained = subst (λ (f : Option DeskFault). Explains f made.unsaid hold) (sym sends.fault_is) (explains sends.sending made.unsaid hold refl);
-                ends = ends_unready outcome.fault outcome.ready hold none;
-              });
+          holds = subst (λ (b : Became). HoldsBy b at what now outcome.ready outcome.fault (Held hold ∷ [])) (sym became) (
+            hold,
+            refl,
+            record {
+              seat = 0;
+              outs = h.outs;
+              unsaid = made.unsaid;
+              at_is = refl;
+              steps = refl;
+              asked = asked_none outcome.fault hold (none_push new.state silent) refl refl;
+              deliveries = tt;
+              ready_is = unless_fault outcome.fault (outcome.ready ≡ is_ready_at now hold) ready;
+              explained = subst (λ (f : Option DeskFault). Explains f made.unsaid hold) (sym sends.fault_is) (explains sends.sending made.unsaid hold refl);
+              ends = ends_unready outcome.fault outcome.ready hold none;
+            },
+          );
         };
-        led = (on new s,
+        led = (
+          on new s,
           record {
             at_is = refl;
             held = held_step at what now made.reply h.outs made.unsaid sends.sending old new h.made h.goes;
@@ -146,7 +150,8 @@ module _ {R : Type 0} (routes : R → RouteCall → RouteTold → R → Type 0) 
             heard = refl;
             sent = subst (λ (os : List Out). Sends routes worn r os sends.sending s) h.added sends.sends;
           },
-          refl);
+          refl,
+        );
       }
 
   -- nothing was made there, and the volume was called
@@ -176,20 +181,26 @@ module _ {R : Type 0} (routes : R → RouteCall → RouteTold → R → Type 0) 
           more = Held hold ∷ [];
           entries_are = refl;
           prepares = inl refl;
-          holds = (hold, refl, record {
-            seat = 0;
-            outs = h.outs;
-            unsaid = false;
-            at_is = refl;
-            steps = refl;
-            asked = inr (refl, refl);
-            deliveries = tt;
-            ready_is = tt;
-            explained = tt;
-            ends = tt;
-          }, refl);
+          holds = (
+            hold,
+            refl,
+            record {
+              seat = 0;
+              outs = h.outs;
+              unsaid = false;
+              at_is = refl;
+              steps = refl;
+              asked = inr (refl, refl);
+              deliveries = tt;
+              ready_is = tt;
+              explained = tt;
+              ends = tt;
+            },
+            refl,
+          );
         };
-        led = (on new s,
+        led = (
+          on new s,
           record {
             at_is = refl;
             held = held_step at Tick now Silent h.outs false sends.0 old new h.made h.goes;
@@ -197,7 +208,8 @@ module _ {R : Type 0} (routes : R → RouteCall → RouteTold → R → Type 0) 
             heard = refl;
             sent = subst (λ (os : List Out). Sends routes worn r os sends.0 s) (h.added ∙ sym (append-nil h.outs)) sends.1;
           },
-          refl);
+          refl,
+        );
       }
 
   -- the volume failed
@@ -212,17 +224,24 @@ module _ {R : Type 0} (routes : R → RouteCall → RouteTold → R → Type 0) 
           more = Held hold ∷ [];
           entries_are = refl;
           prepares = inl refl;
-          holds = (hold, refl, record {
-            seat = 0;
-            at_is = refl;
-            steps = refl;
-            readings = refl;
-            deliveries = refl;
-            sending = refl;
-            stream_is = name;
-          }, refl, refl);
+          holds = (
+            hold,
+            refl,
+            record {
+              seat = 0;
+              at_is = refl;
+              steps = refl;
+              readings = refl;
+              deliveries = refl;
+              sending = refl;
+              stream_is = name;
+            },
+            refl,
+            refl,
+          );
         };
-        led = (on new s,
+        led = (
+          on new s,
           record {
             at_is = refl;
             held = record {
@@ -243,7 +262,8 @@ module _ {R : Type 0} (routes : R → RouteCall → RouteTold → R → Type 0) 
             heard = refl;
             sent = inl (record { taken = []; sent = sym same; sending_is = refl });
           },
-          refl);
+          refl,
+        );
       }
 
   pub held_failed : (fault : PlaceFault) (stream : Bytes) (old new : PlaceIn) (outs : List Out) (r s : R) → stream ≡ stream_name old.state

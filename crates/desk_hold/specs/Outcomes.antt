@@ -1,12 +1,12 @@
 -- What a hold came to, as its parts tell it.
-use Rattle.std.specs.Prelude.{◌≡◌, ℕ, Bool, true, false, List, Option, None, Some}
+use Rattle.std.specs.Prelude.{◌≡◌, ◌-◌, ◌^◌, ℕ, Bool, true, false, List, Option, None, Some}
 use Rattle.js_base.specs.Bytes.{Bytes}
 use Rattle.js_base.specs.declared.out.Out.{Out}
 use Rattle.js_model.specs.Router.{RouteCall, RouteTold}
 use Rattle.js_api.specs.declared.fault.DeskFault.{DeskFault}
 use Rattle.js_api.specs.declared.fault.DeskFault.TheVariants as faults
 use Rattle.js_api.specs.declared.outcome.Became.{Became}
-use Rattle.js_api.specs.declared.outcome.Became.TheVariants.{Nothing, Ticked, Broke}
+use Rattle.js_api.specs.declared.outcome.Became.TheVariants.{Unsaid, Nothing, Ticked, Broke}
 use Rattle.js_api.specs.declared.outcome.Outcome.{Outcome}
 use Rattle.js_api.specs.Entries.{Sending, Sent, Short, Unsent}
 use Rattle.place_engine.specs.declared.faults.PlaceFault.{PlaceFault}
@@ -29,26 +29,27 @@ quietly became = record { became = became; ready = false; fault = None }
 abbrev pub shortly : Became → Outcome
 shortly became = record { became = became; ready = false; fault = Some faults.NoMemory }
 
--- The faults of a step at a place that is not stopped and keeps the incarnation: memory ran out before the event or in it, or the volume failed. No
--- place leaves an answer unsaid yet.
+-- the numbers of the store's generations are used up, and this is the last one
+abbrev pub worn_out : Became → Outcome
+worn_out became = record { became = became; ready = false; fault = Some (faults.Worn (2 ^ 62 - 1)) }
+
+-- the faults of a step at a place that is not stopped and keeps the incarnation
 abbrev pub IsOfStep : PlaceFault → Type 0
-IsOfStep (places.NoMemory left.Nothing) = Unit {0}
-IsOfStep (places.NoMemory left.Ticked) = Unit {0}
-IsOfStep (places.NoMemory left.Unsaid) = ⊥
+IsOfStep (places.NoMemory left) = Unit {0}
 IsOfStep places.StoreFault = Unit {0}
 IsOfStep (places.Stopped count) = ⊥
 IsOfStep (places.Gone kept) = ⊥
-IsOfStep places.Worn = ⊥
+IsOfStep (places.Worn refused) = Unit {0}
 
 -- what a hold comes to whose step failed so
 abbrev pub failed_by : PlaceFault → Bytes → Outcome
 failed_by (places.NoMemory left.Nothing) stream = shortly Nothing
 failed_by (places.NoMemory left.Ticked) stream = shortly Ticked
-failed_by (places.NoMemory left.Unsaid) stream = shortly Nothing
+failed_by (places.NoMemory (left.Unsaid refused)) stream = shortly (Unsaid refused)
 failed_by places.StoreFault stream = quietly (Broke stream)
 failed_by (places.Stopped count) stream = shortly Nothing
 failed_by (places.Gone kept) stream = shortly Nothing
-failed_by places.Worn stream = shortly Nothing
+failed_by (places.Worn refused) stream = worn_out (Unsaid refused)
 
 module _ {R : Type 0} (routes : R → RouteCall → RouteTold → R → Type 0) (worn : R → ℕ → R → Type 0) where
   -- the outputs were sent, and this fault tells what became of them and of the answer
@@ -57,12 +58,17 @@ module _ {R : Type 0} (routes : R → RouteCall → RouteTold → R → Type 0) 
     pub sends : Sends routes worn old outs sending new
     pub fault_is : fault ≡ fault_of sending unsaid
 
-  -- if time passed, what it sends was sent
-  abbrev pub SendsTick : PlaceFault → List Out → R → R → Type 0
-  SendsTick (places.NoMemory left.Nothing) outs old new = new ≡ old
-  SendsTick (places.NoMemory left.Ticked) outs old new = (sending : Sending) × Sends routes worn old outs sending new
-  SendsTick (places.NoMemory left.Unsaid) outs old new = ⊥
-  SendsTick places.StoreFault outs old new = new ≡ old
-  SendsTick (places.Stopped count) outs old new = ⊥
-  SendsTick (places.Gone kept) outs old new = ⊥
-  SendsTick places.Worn outs old new = ⊥
+  -- the outputs were sent, whatever became of them
+  pub record SendsThem (outs : List Out) (old new : R) : Type 0 where
+    pub sending : Sending
+    pub sends : Sends routes worn old outs sending new
+
+  -- if the event was made in spite of the fault, or time passed, the outputs were sent
+  abbrev pub SendsMade : PlaceFault → List Out → R → R → Type 0
+  SendsMade (places.NoMemory left.Nothing) outs old new = new ≡ old
+  SendsMade (places.NoMemory left.Ticked) outs old new = SendsThem outs old new
+  SendsMade (places.NoMemory (left.Unsaid refused)) outs old new = SendsThem outs old new
+  SendsMade places.StoreFault outs old new = new ≡ old
+  SendsMade (places.Stopped count) outs old new = ⊥
+  SendsMade (places.Gone kept) outs old new = ⊥
+  SendsMade (places.Worn refused) outs old new = SendsThem outs old new

@@ -1,5 +1,5 @@
 -- An event on one place, and what became of it.
-use Rattle.std.specs.Prelude.{◌≡◌, ◌<◌, ◌≤◌, ◌+◌, ◌^◌, ◌++◌, ℕ, true, false, List, length, None, Result, Ok, Err}
+use Rattle.std.specs.Prelude.{◌≡◌, ◌<◌, ◌≤◌, ◌+◌, ◌-◌, ◌^◌, ◌++◌, ℕ, Bool, true, false, List, length, None, Result, Ok, Err}
 use Rattle.js_base.specs.declared.out.Out.{Out}
 use Rattle.js_model.specs.declared.stream.State.{State}
 use Rattle.js_model.specs.declared.stream.State.TheVariants.{Live}
@@ -7,7 +7,7 @@ use Rattle.js_model.specs.declared.stream.Stream.{Stream}
 use Rattle.js_model.specs.declared.event.Event.{Event}
 use Rattle.js_model.specs.declared.reply.Reply.{Reply}
 use Rattle.js_model.specs.declared.reply.Reply.TheVariants.{Silent}
-use Rattle.js_model.specs.Events.{kept_incarnation}
+use Rattle.js_model.specs.Events.{is_refused, kept_incarnation}
 use Rattle.js_model.specs.PlaceStates.{PlaceIn}
 use Rattle.js_model.specs.Runs.{IsStep, new_messages}
 use Rattle.js_api.specs.Outputs.{answer_of, stream_name, said}
@@ -43,6 +43,20 @@ pub record AddsTick (event : Event) (now : ℕ) (old new : PlaceIn) (before afte
   pub goes : new.stopped ≡ None
   pub added : after ≡ before ++ outs
 
+-- what it sends was added, and of its reply only whether it is a refusal is told
+pub record WithholdsStep (refused : Bool) (event : Event) (now : ℕ) (old new : PlaceIn) (before after : List Out) : Type 0 where
+  pub reply : Reply
+  pub outs : List Out
+  pub made : IsMade event now reply outs old new
+  pub goes : new.stopped ≡ None
+  pub added : after ≡ before ++ outs
+  pub refused_is : refused ≡ is_refused reply
+
+-- its reply is withheld since the numbers of the store's generations are used up
+pub record WearsStep (refused : Bool) (event : Event) (now : ℕ) (old new : PlaceIn) (before after : List Out) : Type 0 where
+  pub withholds : WithholdsStep refused event now old new before after
+  pub last : new.volume.generation ≡ 2 ^ 62 - 1
+
 -- the volume failed in it
 pub record BreaksStep (event : Event) (now : ℕ) (old new : PlaceIn) : Type 0 where
   pub reply : Reply
@@ -54,8 +68,8 @@ abbrev pub EndsStep : Result MadeStep PlaceFault → Event → ℕ → PlaceIn �
 EndsStep (Ok step) event now old new before after = AddsStep step event now old new before after
 EndsStep (Err (NoMemory Nothing)) event now old new before after = IsStirred old.volume new.volume false old new
 EndsStep (Err (NoMemory Ticked)) event now old new before after = AddsTick event now old new before after
-EndsStep (Err (NoMemory Unsaid)) event now old new before after = ⊥
+EndsStep (Err (NoMemory (Unsaid refused))) event now old new before after = WithholdsStep refused event now old new before after
 EndsStep (Err StoreFault) event now old new before after = BreaksStep event now old new
 EndsStep (Err (Stopped count)) event now old new before after = ⊥
 EndsStep (Err (Gone kept)) event now old new before after = ⊥
-EndsStep (Err Worn) event now old new before after = ⊥
+EndsStep (Err (Worn refused)) event now old new before after = WearsStep refused event now old new before after

@@ -11,7 +11,7 @@ ghost use Rattle.place_engine.specs.Shown.{IsShown};
 ghost use Rattle.desk_answers.specs.Asking.{MayAsk};
 ghost use Rattle.desk_answers.specs.Became.{CanBeShown, IsExplained, NumbersDropped};
 ghost use Rattle.desk_hold.specs.OnePlace.{HoldsOn, on};
-ghost use Rattle.desk_hold.specs.Outcomes.{IsOfStep, SendsStep, SendsTick, failed_by, quietly, shortly};
+ghost use Rattle.desk_hold.specs.Outcomes.{IsOfStep, SendsMade, SendsStep, failed_by, quietly, shortly, worn_out};
 ghost use Rattle.desk_hold.specs.Steps.{IsNumbered};
 
 use crate::port::Port;
@@ -23,6 +23,9 @@ use js_model::{Event, PlaceAt, What};
 use place_engine::{Left, Place, PlaceFault};
 use std::alloc::Global;
 
+/// The last number of a store's generations.
+const LAST_GENERATION: u64 = (1 << 62) - 1;
+
 /// A hold in which memory ran out.
 fn shortly(became: Became) -> Outcome
     ensures value { result ≡ shortly became }
@@ -31,6 +34,17 @@ fn shortly(became: Became) -> Outcome
         became,
         ready: false,
         fault: Some(DeskFault::NoMemory),
+    }
+}
+
+/// A hold in which the numbers of the store's generations were used up.
+fn worn_out(became: Became) -> Outcome
+    ensures value { result ≡ worn_out became }
+{
+    Outcome {
+        became,
+        ready: false,
+        fault: Some(DeskFault::Worn(LAST_GENERATION)),
     }
 }
 
@@ -72,12 +86,12 @@ fn finish<R: Port>(port: &mut R, outs: &[Out], step: MadeStep, ready: bool) -> O
     }
 }
 
-/// Sends what was added before a step failed, and tells what it came to at the stream of this name.
+/// Sends what a failed step added, and tells what it came to at the stream of this name.
 fn fail<R: Port>(port: &mut R, outs: &[Out], fault: PlaceFault, stream: Blob) -> Outcome
     requires utf8 { IsUtf8 stream }
     requires fault { IsOfStep fault }
     ensures value { result ≡ failed_by fault stream }
-    ensures sends { SendsTick R.routes R.worn fault outs.now port.old port.new }
+    ensures sends { SendsMade R.routes R.worn fault outs.now port.old port.new }
     ensures shown { CanBeShown result.became }
     ensures explained { IsExplained result.fault result.became }
 {
@@ -87,11 +101,16 @@ fn fail<R: Port>(port: &mut R, outs: &[Out], fault: PlaceFault, stream: Blob) ->
             let _ = send_all(port, outs);
             shortly(Became::Ticked)
         }
+        PlaceFault::NoMemory(Left::Unsaid { refused }) => {
+            let _ = send_all(port, outs);
+            shortly(Became::Unsaid { refused })
+        }
+        PlaceFault::Worn { refused } => {
+            let _ = send_all(port, outs);
+            worn_out(Became::Unsaid { refused })
+        }
         PlaceFault::StoreFault => quietly(Became::Broke { stream }),
-        PlaceFault::NoMemory(Left::Unsaid)
-        | PlaceFault::Stopped(_)
-        | PlaceFault::Gone(_)
-        | PlaceFault::Worn => unreachable!(),
+        PlaceFault::Stopped(_) | PlaceFault::Gone(_) => unreachable!(),
     }
 }
 
