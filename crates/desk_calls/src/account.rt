@@ -27,7 +27,7 @@ pub fn show_account<G: Ground>(
 {
     let mut infos = Vec::new(ground.alloc());
     match walk(ground, &mut infos, now)? {
-        None => answer(ground, to, &account_reply(infos.as_slice())),
+        None => answer(ground, to, account_reply(infos.as_slice())),
         Some(reason) => refuse_for(ground, ApiCall::AccountInfo, to, reason),
     }
 }

@@ -56,15 +56,15 @@ fn end_told<G: Ground>(
     ground: &mut G,
     call: ApiCall,
     to: &Option<Blob>,
-    became: Became,
+    became: &Became,
 ) -> Result<bool, DeskFault>
-    requires explained { IsExplained None became }
-    ensures made { Makes G.made (IsEnded (name_of call) to.now became result) ground.old ground.new }
+    requires explained { IsExplained None became.now }
+    ensures made { Makes G.made (IsEnded (name_of call) to.now became.now result) ground.old ground.new }
     ensures setting { G.setting ground.new ≡ G.setting ground.old }
     ensures phase { G.phase ground.new ≡ G.phase ground.old }
 {
     match became {
-        Became::Made(reply) => Ok(is_taken(&reply)),
+        Became::Made(reply) => Ok(is_taken(reply)),
         Became::Unsaid { refused: _ } => unreachable!(),
         Became::Ticked => unreachable!(),
         Became::Nothing => unreachable!(),
@@ -79,15 +79,15 @@ pub fn end_call<G: Ground>(
     ground: &mut G,
     call: ApiCall,
     to: &Option<Blob>,
-    outcome: Outcome,
+    outcome: &Outcome,
 ) -> Result<bool, DeskFault>
-    requires explained { IsExplained outcome.fault outcome.became }
-    ensures made { Makes G.made (Ending outcome.fault (IsEnded (name_of call) to.now outcome.became) result) ground.old ground.new }
+    requires explained { IsExplained outcome.now.fault outcome.now.became }
+    ensures made { Makes G.made (Ending outcome.now.fault (IsEnded (name_of call) to.now outcome.now.became) result) ground.old ground.new }
     ensures setting { G.setting ground.new ≡ G.setting ground.old }
     ensures phase { G.phase ground.new ≡ G.phase ground.old }
 {
     match outcome.fault {
         Some(fault) => Err(fault),
-        None => end_told(ground, call, to, outcome.became),
+        None => end_told(ground, call, to, &outcome.became),
     }
 }

@@ -56,7 +56,7 @@ pub fn show_stream<G: Ground>(
     match ground.by_name(stream)? {
         Some(at) => {
             let outcome = ask_info(ground, at, to, now);
-            end_call(ground, ApiCall::StreamInfo, to, outcome)
+            end_call(ground, ApiCall::StreamInfo, to, &outcome)
         }
         None => refuse_for(ground, ApiCall::StreamInfo, to, Reason::NoStream),
     }
@@ -99,7 +99,7 @@ fn drop_at<G: Ground>(
 {
     let outcome = ask_drop(ground, at, to, now);
     free_if_dropped(ground, at, &outcome.became);
-    end_call(ground, ApiCall::StreamDelete, to, outcome)
+    end_call(ground, ApiCall::StreamDelete, to, &outcome)
 }
 
 /// Drops the stream that was looked up, if it is there.

@@ -66,7 +66,7 @@ fn change_between<G: Ground>(
 {
     let outcome = ask_change(ground, at, to, config, now);
     keep_subjects(ground, at, &outcome.became);
-    end_call(ground, ApiCall::StreamUpdate, to, outcome)
+    end_call(ground, ApiCall::StreamUpdate, to, &outcome)
 }
 
 /// Changes the stream of a place.

@@ -89,7 +89,7 @@ fn add_stream<G: Ground>(
     match ground.add(stream, config.subjects.as_slice()) {
         Ok(at) => {
             let outcome = make_at(ground, at, to, config, now);
-            end_call(ground, ApiCall::StreamCreate, to, outcome)
+            end_call(ground, ApiCall::StreamCreate, to, &outcome)
         }
         Err(CatalogFault::Refused(refusal)) => {
             refuse(ground, ApiCall::StreamCreate.name(), to, refusal)
@@ -119,7 +119,7 @@ fn create_found<G: Ground>(
     match found {
         Some(at) => {
             let outcome = ask_make(ground, at, to, config, now);
-            end_call(ground, ApiCall::StreamCreate, to, outcome)
+            end_call(ground, ApiCall::StreamCreate, to, &outcome)
         }
         None => add_stream(ground, stream, config, to, now),
     }

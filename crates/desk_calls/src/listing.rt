@@ -36,7 +36,7 @@ fn answer_names<G: Ground>(
         return Ok(true);
     }
     match names_reply(ground.alloc(), offset, pattern, infos) {
-        Ok(reply) => answer(ground, to, &reply),
+        Ok(reply) => answer(ground, to, reply),
         Err(_) => Err(DeskFault::NoMemory),
     }
 }
@@ -80,7 +80,7 @@ fn answer_infos<G: Ground>(
         return Ok(true);
     }
     match list_reply(ground.alloc(), offset, pattern, infos) {
-        Ok(reply) => answer(ground, to, &reply),
+        Ok(reply) => answer(ground, to, reply),
         Err(_) => Err(DeskFault::NoMemory),
     }
 }

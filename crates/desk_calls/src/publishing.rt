@@ -73,10 +73,10 @@ fn ask_store<G: Ground>(ground: &mut G, at: PlaceAt, message: &Out, now: Moment)
 }
 
 /// Whether a stream took the message. If its volume failed, the server answers that.
-fn reached<G: Ground>(ground: &mut G, message: &Out, became: Became) -> Result<bool, DeskFault>
-    requires explained { IsExplained None became }
-    requires shown { CanBeShown became }
-    ensures made { Makes G.made (IsReached message.now became result) ground.old ground.new }
+fn reached<G: Ground>(ground: &mut G, message: &Out, became: &Became) -> Result<bool, DeskFault>
+    requires explained { IsExplained None became.now }
+    requires shown { CanBeShown became.now }
+    ensures made { Makes G.made (IsReached message.now became.now result) ground.old ground.new }
     ensures setting { G.setting ground.new ≡ G.setting ground.old }
     ensures phase { G.phase ground.new ≡ G.phase ground.old }
 {
@@ -86,10 +86,10 @@ fn reached<G: Ground>(ground: &mut G, message: &Out, became: Became) -> Result<b
         Became::Ticked => unreachable!(),
         Became::Nothing => unreachable!(),
         Became::Broke { stream } => {
-            refuse_publish(ground, &message.reply, &stream, Reason::StoreFault)
+            refuse_publish(ground, &message.reply, stream, Reason::StoreFault)
         }
         Became::Stopped { stream } => {
-            refuse_publish(ground, &message.reply, &stream, Reason::StreamStopped)
+            refuse_publish(ground, &message.reply, stream, Reason::StreamStopped)
         }
         Became::Gone => Ok(false),
     }
@@ -99,17 +99,17 @@ fn reached<G: Ground>(ground: &mut G, message: &Out, became: Became) -> Result<b
 fn end_store<G: Ground>(
     ground: &mut G,
     message: &Out,
-    outcome: Outcome,
+    outcome: &Outcome,
 ) -> Result<bool, DeskFault>
-    requires explained { IsExplained outcome.fault outcome.became }
-    requires shown { CanBeShown outcome.became }
-    ensures made { Makes G.made (Ending outcome.fault (IsReached message.now outcome.became) result) ground.old ground.new }
+    requires explained { IsExplained outcome.now.fault outcome.now.became }
+    requires shown { CanBeShown outcome.now.became }
+    ensures made { Makes G.made (Ending outcome.now.fault (IsReached message.now outcome.now.became) result) ground.old ground.new }
     ensures setting { G.setting ground.new ≡ G.setting ground.old }
     ensures phase { G.phase ground.new ≡ G.phase ground.old }
 {
     match outcome.fault {
         Some(fault) => Err(fault),
-        None => reached(ground, message, outcome.became),
+        None => reached(ground, message, &outcome.became),
     }
 }
 
@@ -130,7 +130,7 @@ fn store<G: Ground>(
     match found {
         Some(at) => {
             let outcome = ask_store(ground, at, message, now);
-            end_store(ground, message, outcome)
+            end_store(ground, message, &outcome)
         }
         None => Ok(false),
     }

@@ -43,18 +43,27 @@ fn answer_by<G: Ground>(ground: &mut G, outs: &[Out]) -> Result<bool, DeskFault>
     Ok(true)
 }
 
+/// The message with this answer, or no message if there is no subject for it. An `Err` comes only if there is one.
+fn outs_of(alloc: Global, to: &Option<Blob>, reply: ApiReply) -> Result<Outs, NoMemory>
+    requires texts { IsText reply }
+    ensures outs { IfOk result (λ outs. outs ≡ answer_outs to.now reply) }
+    ensures err { OnErr result (0 < length (answer_outs to.now reply)) }
+{
+    answer_outs(alloc, to, &reply)
+}
+
 /// Sends the answer, if there is a subject for it.
 pub fn answer<G: Ground>(
     ground: &mut G,
     to: &Option<Blob>,
-    reply: &ApiReply,
+    reply: ApiReply,
 ) -> Result<bool, DeskFault>
-    requires texts { IsText reply.now }
-    ensures made { Makes G.made (Answers (answer_outs to.now reply.now) result) ground.old ground.new }
+    requires texts { IsText reply }
+    ensures made { Makes G.made (Answers (answer_outs to.now reply) result) ground.old ground.new }
     ensures setting { G.setting ground.new ≡ G.setting ground.old }
     ensures phase { G.phase ground.new ≡ G.phase ground.old }
 {
-    match answer_outs(ground.alloc(), to, reply) {
+    match outs_of(ground.alloc(), to, reply) {
         Ok(outs) => answer_by(ground, outs.as_slice()),
         Err(_) => Err(DeskFault::NoMemory),
     }
@@ -77,7 +86,7 @@ pub fn refuse<G: Ground>(
         return Ok(true);
     }
     match Blob::of(ground.alloc(), name) {
-        Ok(name) => answer(ground, to, &ApiReply::Refused(name, refusal)),
+        Ok(name) => answer(ground, to, ApiReply::Refused(name, refusal)),
         Err(_) => Err(DeskFault::NoMemory),
     }
 }
