@@ -5,7 +5,7 @@ ghost use Rattle.js_api.specs.AllStreams.{behind};
 ghost use Rattle.js_api.specs.Leading.{Makes};
 ghost use Rattle.desk_answers.specs.StreamInfos.{AreSound};
 ghost use Rattle.desk_calls.specs.Grounds.{IsWithin, Outside};
-ghost use Rattle.desk_answers.specs.Became.{CanBeShown, IsExplained};
+ghost use Rattle.desk_answers.specs.Became.{CanBeShown};
 ghost use Rattle.desk_calls.specs.Walking.{AddsSound, AreSoundTo, IsVisit, IsVisitTold, IsWalk, further, most_to};
 
 use crate::ground::Ground;
@@ -36,7 +36,6 @@ fn further(last: Option<PlaceAt>, found: Option<PlaceAt>) -> Option<PlaceAt>
 
 /// Adds the information that a hold told, if it told one, and answers by which failure the call is refused.
 fn add_told(outcome: Outcome, infos: &mut Vec<StreamInfo>) -> Result<Option<Reason>, DeskFault>
-    requires explained { IsExplained outcome.fault outcome.became }
     requires shown { CanBeShown outcome.became }
     requires room { vec_len infos.old + 1 ≤ vec_capacity infos.old }
     ensures told { IsVisitTold result outcome infos.old.items infos.new.items }
