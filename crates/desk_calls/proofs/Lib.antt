@@ -9,3 +9,4 @@ mod Published
 mod Publishes
 mod Walks
 mod Places
+mod Texts
