@@ -1,6 +1,6 @@
 //! The call that creates a stream.
 
-ghost use Rattle.std.specs.Prelude.{◌≡◌, IfSome, IsTrue};
+ghost use Rattle.std.specs.Prelude.{◌≡◌, true, IfSome, IsTrue};
 ghost use Rattle.api_calls.specs.Names.{name_of};
 ghost use Rattle.api_calls.specs.declared.call.ApiCall.TheVariants as calls;
 ghost use Rattle.api_requests.specs.Read.{IsSetup};
@@ -38,7 +38,7 @@ fn ask_make<G: Ground>(
     requires asked { MayAsk (whats.Make to.now config) }
     ensures made { Makes G.made (Holds at (whats.Make to.now config) now result) ground.old ground.new }
     ensures explained { IsExplained result.fault result.became }
-    ensures there { G.phase ground.old ≡ Within → Knows (G.kept ground.old) at → IsThere result.became }
+    ensures there { G.alone ≡ true → G.phase ground.old ≡ Within → Knows (G.kept ground.old) at → IsThere result.became }
     ensures kept { G.kept ground.new ≡ G.kept ground.old }
     ensures setting { G.setting ground.new ≡ G.setting ground.old }
     ensures phase { G.phase ground.new ≡ G.phase ground.old }
@@ -63,7 +63,7 @@ pub fn make_at<G: Ground>(
     requires known { Knows (G.kept ground.old) at }
     ensures made { Makes G.made (IsMadeAt at (whats.Make to.now config) now result) ground.old ground.new }
     ensures explained { IsExplained result.fault result.became }
-    ensures there { IsThere result.became }
+    ensures there { G.alone ≡ true → IsThere result.became }
     ensures setting { G.setting ground.new ≡ G.setting ground.old }
     ensures phase { G.phase ground.new ≡ Within }
 {

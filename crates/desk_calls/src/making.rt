@@ -1,6 +1,6 @@
 //! The stream that the command line names.
 
-ghost use Rattle.std.specs.Prelude.{◌≡◌, ◌∷◌, [], IfOk, IfSome, IsTrue, None, Ok};
+ghost use Rattle.std.specs.Prelude.{◌≡◌, ◌∷◌, [], true, IfOk, IfSome, IsTrue, None, Ok};
 ghost use Rattle.js_base.specs.Names.{name_of};
 ghost use Rattle.js_model.specs.Configs.{is_stream_subject};
 ghost use Rattle.js_model.specs.Refusals as refusals;
@@ -117,6 +117,7 @@ fn add_prepared<G: Ground>(
     prepared: Prepared,
     now: Moment,
 ) -> Result<Option<ApiError>, DeskFault>
+    requires alone { G.alone ≡ true }
     requires turn { G.phase ground.old ≡ Within }
     requires asked { MayAsk (whats.Make None prepared.config) }
     requires broke { prepared.broke ≡ refusals.store_fault }
@@ -147,6 +148,7 @@ fn make_absent<G: Ground>(
     subject: &[u8],
     now: Moment,
 ) -> Result<Option<ApiError>, DeskFault>
+    requires alone { G.alone ≡ true }
     requires turn { G.phase ground.old ≡ Within }
     requires subject { IsTrue (is_stream_subject subject.now) }
     ensures made { Makes G.made (IsPreparing name.now (default_config name.now subject.now) now result) ground.old ground.new }
@@ -167,6 +169,7 @@ fn make_found<G: Ground>(
     subject: &[u8],
     now: Moment,
 ) -> Result<Option<ApiError>, DeskFault>
+    requires alone { G.alone ≡ true }
     requires turn { G.phase ground.old ≡ Within }
     requires subject { IsTrue (is_stream_subject subject.now) }
     ensures made { Makes G.made
@@ -188,6 +191,7 @@ pub fn make_stream<G: Ground>(
     subject: &[u8],
     now: Moment,
 ) -> Result<Option<ApiError>, DeskFault>
+    requires alone { G.alone ≡ true }
     requires outside { G.phase ground.old ≡ Outside }
     requires subject { IsTrue (is_stream_subject subject.now) }
     ensures made { Makes G.made (MakesStream name.now (default_config name.now subject.now) now result) ground.old ground.new }
