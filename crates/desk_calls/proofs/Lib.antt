@@ -8,5 +8,5 @@ mod Defaults
 mod Published
 mod Publishes
 mod Walks
-mod Places
+mod Refused
 mod Texts

@@ -20,11 +20,11 @@ ghost use Rattle.desk_calls.specs.Outcomes.{IsThere};
 use crate::answering::{end_call, unmade};
 use crate::freeing::free_unless_made;
 use crate::ground::Ground;
-use crate::telling::refuse;
+use crate::refusing::end_refused;
 use desk_answers::copy_reply;
 use js_api::{ApiCall, DeskFault, Outcome};
 use js_base::{Blob, Moment, Name};
-use js_model::{CatalogFault, PlaceAt, StreamConfig, What};
+use js_model::{PlaceAt, StreamConfig, What};
 
 /// Asks the stream of a place, or the vacant place, to be made so.
 fn ask_make<G: Ground>(
@@ -91,10 +91,7 @@ fn add_stream<G: Ground>(
             let outcome = make_at(ground, at, to, config, now);
             end_call(ground, ApiCall::StreamCreate, to, &outcome)
         }
-        Err(CatalogFault::Refused(refusal)) => {
-            refuse(ground, ApiCall::StreamCreate.name(), to, refusal)
-        }
-        Err(CatalogFault::NoMemory) => Err(DeskFault::NoMemory),
+        Err(fault) => end_refused(ground, ApiCall::StreamCreate, to, fault),
     }
 }
 

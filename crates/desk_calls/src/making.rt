@@ -15,6 +15,7 @@ ghost use Rattle.desk_calls.specs.Grounds.{Outside, Within};
 ghost use Rattle.desk_calls.specs.Named.{GoesOnNamed};
 ghost use Rattle.desk_answers.specs.Became.{IsExplained};
 ghost use Rattle.desk_calls.specs.Outcomes.{IsThere};
+ghost use Rattle.desk_calls.specs.Refusing.{untaken};
 
 use crate::creating::make_at;
 use crate::ground::Ground;
@@ -110,6 +111,16 @@ fn making_told(
     }
 }
 
+/// Why no place was taken for the stream.
+fn untaken(fault: CatalogFault) -> Result<Option<ApiError>, DeskFault>
+    ensures value { result ≡ untaken fault }
+{
+    match fault {
+        CatalogFault::Refused(refusal) => Ok(Some(refusal)),
+        CatalogFault::NoMemory => Err(DeskFault::NoMemory),
+    }
+}
+
 /// Takes a place for the stream, and makes it there.
 fn add_prepared<G: Ground>(
     ground: &mut G,
@@ -136,8 +147,7 @@ fn add_prepared<G: Ground>(
             let outcome = make_at(ground, at, &None, config, now);
             making_told(outcome, broke, stopped)
         }
-        Err(CatalogFault::Refused(refusal)) => Ok(Some(refusal)),
-        Err(CatalogFault::NoMemory) => Err(DeskFault::NoMemory),
+        Err(fault) => untaken(fault),
     }
 }
 

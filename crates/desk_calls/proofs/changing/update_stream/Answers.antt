@@ -16,5 +16,5 @@ returns-in_err-found-clause-made g c = stops_by g.G.Ground.made (LooksUp (catalo
 pub returns-clause-made : goal.returns-clause-made
 returns-clause-made g c = named_within g.G.Ground.made g.met.G.Ground.made_more c.args.stream.now (IsAbsent (name_of calls.StreamUpdate) c.args.to.now) (IsChanging c.args.config c.args.to.now c.args.now) c.begin.result c.in_ok-found.found c.change_found-result.result _ _ _ _ c.in_ok-found.was c.begin.ensures.made c.change_found-result.ensures.made c.end.ensures.made
 
-pub change_found-requires-clause-asked : goal.change_found-requires-clause-asked
-change_found-requires-clause-asked g c = may_change c.args.stream.now c.args.config c.args.to.now c.requires.setup c.requires.to
+pub change_found-result-requires-clause-asked : goal.change_found-result-requires-clause-asked
+change_found-result-requires-clause-asked g c = may_change c.args.stream.now c.args.config c.args.to.now c.requires.setup c.requires.to

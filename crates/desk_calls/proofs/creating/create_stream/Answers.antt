@@ -16,5 +16,5 @@ returns-in_err-found-clause-made g c = stops_by g.G.Ground.made (LooksUp (catalo
 pub returns-clause-made : goal.returns-clause-made
 returns-clause-made g c = named_within g.G.Ground.made g.met.G.Ground.made_more c.args.stream.now (IsAdding c.args.stream.now c.args.config (GoesOnAdded c.args.config c.args.to.now c.args.now)) (λ at. IsOnStream (name_of calls.StreamCreate) at (whats.Make c.args.to.now c.args.config) c.args.now unchanged) c.begin.result c.in_ok-found.found c.create_found-result.result _ _ _ _ c.in_ok-found.was c.begin.ensures.made c.create_found-result.ensures.made c.end.ensures.made
 
-pub create_found-requires-clause-asked : goal.create_found-requires-clause-asked
-create_found-requires-clause-asked g c = may_make c.args.stream.now c.args.config c.args.to.now c.requires.setup c.requires.to
+pub create_found-result-requires-clause-asked : goal.create_found-result-requires-clause-asked
+create_found-result-requires-clause-asked g c = may_make c.args.stream.now c.args.config c.args.to.now c.requires.setup c.requires.to
