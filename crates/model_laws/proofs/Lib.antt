@@ -9,6 +9,8 @@ pub mod SoundMade
 pub mod SoundAcks
 pub mod SoundSent
 pub mod Sounding
+pub mod SoundTests
+pub mod Changed
 pub mod Settled
 pub mod Entries
 pub mod Acked
@@ -22,9 +24,12 @@ pub mod StartOrder
 pub mod StoredBefore
 pub mod Making
 pub mod Ordering
+pub mod MadeWithin
 pub mod Redelivery
 pub mod AllConsumers
 pub mod Within
+pub mod Bounded
+pub mod Taken
 pub mod Quotas
 pub mod Turns
 pub mod Limiting

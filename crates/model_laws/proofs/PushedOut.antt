@@ -1,7 +1,7 @@
 -- What a purge takes and what a limit drops of an ascending list of messages.
 use Rattle.std.proofs.Common.{◌≡◌, ℕ, zero, suc, ◌+◌, ◌-◌, ◌<◌, ◌≤◌, Bool, true, false, ◌&&◌, cond, List, [], ◌∷◌, length, drop, take, refl, sym, ap, ◌∙◌, subst, arith, ◌⊎◌, inl, inr}
-use Rattle.std.specs.Prelude.{Option, Some, None, nat_lt, nat_le, ◌==◌, count_by, sum_by, IfSome}
-use Rattle.std.proofs.lemmas.Bool.{true≢false, ltb-true, ltb-false, leb-false, lt-ltb, le-ltb, eq-eqb, or_left, or_right, or_parts, and_parts}
+use Rattle.std.specs.Prelude.{Option, Some, None, nat_lt, nat_le, count_by, sum_by, IfSome}
+use Rattle.std.proofs.lemmas.Bool.{true≢false, ltb-true, ltb-false, leb-false, lt-ltb, le-ltb, eq-eqb, or_parts, and_parts}
 use Rattle.std.proofs.lemmas.List.Sums.{sum_by-cons}
 use Rattle.js_base.specs.Bytes.{Bytes, same, has, last_of}
 use Rattle.js_model.specs.Lists.{Between, IsPart}
@@ -12,7 +12,7 @@ use Rattle.js_model.specs.Trim.{newest, newest_at, fitting, fitting_at, max_mess
 use Rattle.js_model.specs.Events.{purge_list, all_but_last, is_below}
 use Rattle.model_laws.specs.Leaving.{later_than, IsPurged, IsPushedOut, by_subject, by_count, by_bytes}
 use Rattle.js_model.proofs.Parts.{filter_part, take_part, drop_part, all_part, part_trans, part_between, newest_at_part}
-use Rattle.js_model.proofs.Members.{IsIn, here, there, in_cons, in_filter, in_part, in_bounds}
+use Rattle.js_model.proofs.Members.{IsIn, in_cons, in_filter, in_part, in_bounds}
 use Rattle.model_laws.proofs.Leaving.{in_part_by_seq}
 use Rattle.model_laws.proofs.Whole.{has_member}
 

@@ -1,10 +1,14 @@
 pub mod Sound
+pub mod SoundTests
+pub mod Bounds
+pub mod Changed
 pub mod OneConsumer
 pub mod Acked
 pub mod Repeats
 pub mod Leaving
 pub mod Sendings
 pub mod Order
+pub mod MadeWithin
 pub mod Redelivery
 pub mod Turns
 pub mod Limits

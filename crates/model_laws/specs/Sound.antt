@@ -1,5 +1,5 @@
 -- What holds of each state that a run reaches, an invariant of this server's own: of what is stored, and of what filters match.
-use Rattle.std.specs.Prelude.{◌≡◌, ℕ, ◌+◌, ◌≤◌, true, IsTrue, ◌==◌, List, [], ◌∷◌, Option, ⊤, IfSome, All}
+use Rattle.std.specs.Prelude.{◌≡◌, ℕ, ◌+◌, ◌≤◌, true, IsTrue, List, [], ◌∷◌, Option, ⊤, IfSome, All}
 use Rattle.js_base.specs.Bytes.{Bytes, same, has}
 use Rattle.js_model.specs.declared.stream.Message.{Message}
 use Rattle.js_model.specs.declared.stream.Id.{Id}

@@ -1,7 +1,9 @@
-use Rattle.std.proofs.Common.{IsTrue, sym, ap, subst, ◌∙◌}
+use Rattle.std.proofs.Common.{IsTrue, [], Ok, Err, sym, ap, subst, ◌∙◌}
 use Rattle.js_model.specs.declared.event.Event.{Event}
 use Rattle.js_model.specs.Proper.{is_proper}
-use Rattle.desk_hold.proofs.Asked.{proper_event, number_made, number_undone}
+use Rattle.js_api.specs.Holding.{event_at}
+use Rattle.desk_hold.specs.Steps.{EndsStep}
+use Rattle.desk_hold.proofs.Asked.{proper_event, number_made, number_told}
 use Rattle.desk_hold.proofs.Held.{as_told, ends_at, held_made, held_failed}
 use Rattle.desk_hold.proofs.holding.hold_kept.Goals as goal
 
@@ -17,14 +19,34 @@ make-requires-clause-proper g c =
 
 pub returns-in-Ok-clause-holds : goal.returns-in-Ok-clause-holds
 returns-in-Ok-clause-holds g c =
-    held_made g.R.Port.routes g.R.Port.worn c.args.at c.args.event.now.what c.args.now _ c.in-Ok.step _ _ _ _ _
-    (ends_at c.args.at c.args.event.now.what c.args.now _ _ _ _ _ _ c.requires.event c.new-outs.ensures c.in-Ok.ensures.ends)
+    let R = g.R.Port in let old = (g.P.Place.seen c.args.place.now).place in let new = (g.P.Place.seen c.make.new.place).place in
+    let what = c.args.event.now.what in
+    let made : EndsStep (Ok c.in-Ok.step) (event_at c.args.at what) c.args.now old new [] c.make.new.outs =
+    ends_at R.routes R.worn c.args.at what c.args.now (Ok c.in-Ok.step) c.args.event.now old new c.new-outs.result c.make.new.outs c.requires.event c.new-outs.ensures c.in-Ok.ensures.ends in
+    held_made R.routes R.worn c.args.at what c.args.now _ c.in-Ok.step old new c.make.new.outs _ _ made
     c.finish.ensures.became c.is_ready-ready.ensures.silent (c.finish.ensures.ready ∙ c.is_ready-ready.ensures.value) (c.finish.ensures.ready ∙ c.is_ready-ready.ensures.none)
-    (rw c.as_slice-2.ensures at c.finish.ensures.sends)
+    (rw c.as_slice-in-Ok.ensures at c.finish.ensures.sends)
+
+pub returns-in-Ok-clause-number : goal.returns-in-Ok-clause-number
+returns-in-Ok-clause-number g c =
+    let R = g.R.Port in let old = (g.P.Place.seen c.args.place.now).place in let new = (g.P.Place.seen c.make.new.place).place in
+    let what = c.args.event.now.what in
+    let made : EndsStep (Ok c.in-Ok.step) (event_at c.args.at what) c.args.now old new [] c.make.new.outs =
+    ends_at R.routes R.worn c.args.at what c.args.now (Ok c.in-Ok.step) c.args.event.now old new c.new-outs.result c.make.new.outs c.requires.event c.new-outs.ensures c.in-Ok.ensures.ends in
+    number_made what _ c.args.at c.args.now old.state new.state c.in-Ok.step.reply made.outs c.requires.numbered c.finish.ensures.became made.made.step.event
 
 pub returns-in-Err-clause-holds : goal.returns-in-Err-clause-holds
 returns-in-Err-clause-holds g c =
-    as_told g.R.Port.routes g.R.Port.worn c.args.at c.args.event.now.what c.args.now _ _ _ _ c.fail.ensures.value
-    (held_failed g.R.Port.routes g.R.Port.worn c.args.at c.args.event.now.what c.args.now c.in-Err.fault _ _ _ _ _ _ c.requires.stream
-    (ends_at c.args.at c.args.event.now.what c.args.now _ _ _ _ _ _ c.requires.event c.new-outs.ensures c.in-Err.ensures.ends)
-    (rw c.as_slice-2.ensures at c.fail.ensures.sends))
+    let R = g.R.Port in let old = (g.P.Place.seen c.args.place.now).place in let new = (g.P.Place.seen c.make.new.place).place in
+    let what = c.args.event.now.what in
+    as_told R.routes R.worn c.args.at what c.args.now _ _ _ _ c.fail.ensures.value
+    (held_failed R.routes R.worn c.args.at what c.args.now c.in-Err.fault c.args.stream old new c.make.new.outs _ _ c.requires.stream
+    (ends_at R.routes R.worn c.args.at what c.args.now (Err c.in-Err.fault) c.args.event.now old new c.new-outs.result c.make.new.outs c.requires.event c.new-outs.ensures c.in-Err.ensures.ends)
+    (rw c.as_slice-in-Err.ensures at c.fail.ensures.sends))
+
+pub returns-in-Err-clause-number : goal.returns-in-Err-clause-number
+returns-in-Err-clause-number g c =
+    let R = g.R.Port in let old = (g.P.Place.seen c.args.place.now).place in let new = (g.P.Place.seen c.make.new.place).place in
+    let what = c.args.event.now.what in
+    number_told what c.in-Err.fault c.args.stream c.args.at c.args.now old new c.make.new.outs _ c.requires.numbered c.fail.ensures.value
+    (ends_at R.routes R.worn c.args.at what c.args.now (Err c.in-Err.fault) c.args.event.now old new c.new-outs.result c.make.new.outs c.requires.event c.new-outs.ensures c.in-Err.ensures.ends)
