@@ -34,3 +34,5 @@ pub mod Quotas
 pub mod Turns
 pub mod Limiting
 pub mod Readiness
+pub mod RowsOfProper
+pub mod RowsOfEdges
