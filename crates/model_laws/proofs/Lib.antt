@@ -36,3 +36,4 @@ pub mod Limiting
 pub mod Readiness
 pub mod RowsOfProper
 pub mod RowsOfEdges
+pub mod RowsOfGivenUp
