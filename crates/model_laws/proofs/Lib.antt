@@ -29,6 +29,7 @@ pub mod Redelivery
 pub mod AllConsumers
 pub mod Within
 pub mod Bounded
+pub mod BoundTests
 pub mod Taken
 pub mod Quotas
 pub mod Turns
