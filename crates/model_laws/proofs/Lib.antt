@@ -38,3 +38,4 @@ pub mod Readiness
 pub mod RowsOfProper
 pub mod RowsOfEdges
 pub mod RowsOfGivenUp
+pub mod RowsOfSound
