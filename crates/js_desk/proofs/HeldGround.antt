@@ -158,6 +158,7 @@ module _ {V : Type 0} (c : Catalog) (places : List (Contents V)) (last : Option 
 
       by : (x : Became) → told ≡ x → IsThere x
       by (became.Made reply) e = tt
+      by (became.Unsaid refused) e = tt
       by became.Ticked e = tt
       by became.Nothing e = tt
       by (became.Broke stream) e = tt
@@ -173,6 +174,7 @@ module _ {V : Type 0} (r router : Router) (c : Catalog) (places : List (Contents
 
   last_so : (told : Became) → last_of at told last ≡ (if is_held told then Some at else last)
   last_so (became.Made reply) = refl
+  last_so (became.Unsaid refused) = refl
   last_so became.Ticked = refl
   last_so became.Nothing = refl
   last_so (became.Broke stream) = refl

@@ -1,5 +1,6 @@
 -- What a hold that was told so made of the incarnation that its place keeps.
 use Rattle.std.proofs.Common.{◌≡◌, ◌⊎◌, ◌+◌, ℕ, Bool, true, false, List, [], ◌∷◌, ◌++◌, length, Option, Some, None, refl, sym, ap, subst, ◌∙◌, inl, inr, append-nil, if◌then◌else◌}
+use Rattle.std.specs.Prelude.{not}
 use Rattle.js_base.specs.Bytes.{Bytes}
 use Rattle.js_base.specs.declared.out.Out.{Out}
 use Rattle.js_model.specs.declared.stream.State.{State}
@@ -13,7 +14,7 @@ use Rattle.js_model.specs.declared.reply.Reply.{Reply}
 use Rattle.js_model.specs.declared.reply.Reply.TheVariants as replies
 use Rattle.js_model.specs.declared.reply.Reply.TheVariants.{Done, Silent}
 use Rattle.js_model.specs.declared.desk.PlaceAt.{PlaceAt}
-use Rattle.js_model.specs.Events.{Answer, IsEvent, answered, kept_incarnation}
+use Rattle.js_model.specs.Events.{Answer, IsEvent, answered, is_refused, kept_incarnation}
 use Rattle.js_model.specs.PlaceStates.{PlaceIn, VolumeAt}
 use Rattle.js_model.specs.Router.{Router, IsRoute}
 use Rattle.js_model.specs.Runs.{RunFrom, IsStep, new_messages}
@@ -32,7 +33,7 @@ use Rattle.desk_answers.specs.Became.{is_dropped}
 use Rattle.desk_hold.specs.OnePlace.{OnPlace, PlaceStep, IsHeldOn}
 use Rattle.desk_hold.proofs.Alone.{never}
 use Rattle.js_desk.specs.Dropping.{is_drop}
-use Rattle.js_desk.proofs.Incarnations.{event_keeps, drop_counts, undropped_keeps, delivery_keeps}
+use Rattle.js_desk.proofs.Incarnations.{event_keeps, drop_counts, drop_done, undropped_keeps, delivery_keeps}
 
 -- ---- the runs of a hold
 
@@ -97,6 +98,11 @@ module _ (at : PlaceAt) (what : What) (now : ℕ) (reply : Reply) (ready : Bool)
       ∙ undropped_keeps hold.before (event_at at what) now the_event.room is (λ done. other (sym (reply_of hold.before (event_at at what) now reply h.outs hold.between the_event) ∙ done))
       ∙ before_is
 
+  pub made_unrefused : is_drop what ≡ true → is_refused reply ≡ false → reply ≡ Done
+  made_unrefused is fine =
+      let same = reply_of hold.before (event_at at what) now reply h.outs hold.between the_event in
+      sym same ∙ drop_done hold.before (event_at at what) now the_event.room is (ap is_refused same ∙ fine)
+
 is_done_so : (reply : Reply) → is_done reply ≡ true → reply ≡ Done
 is_done_so Done e = refl
 is_done_so (replies.Info info) e = absurd (cc)
@@ -141,6 +147,24 @@ module _ (at : PlaceAt) (what : What) (now : ℕ) (built : IsBuilt what) where
       keeps_if false e other = made_keeps at what now reply ready fault hold h old new held built e
       keeps_if true e other = made_undropped at what now reply ready fault hold h old new held e (λ done. absurd (let yes : is_done reply ≡ true = ap is_done done in cc (yes, other e)))
 
+  unsaid_facts : (refused : Bool) (reply : Reply) (ready : Bool) (fault : Option DeskFault) (hold : Hold) → IsHold at what now reply ready fault hold → refused ≡ is_refused reply → (old new : PlaceIn) → IsHeld hold old new
+      → Facts at what (became.Unsaid refused) (Held hold ∷ []) old new
+  unsaid_facts refused reply ready fault hold h is_so old new held = record {
+    keeps = keeps_if (is_drop what) refl;
+    counts = λ is dropped. made_counts at what now reply ready fault hold h old new held is (made_unrefused at what now reply ready fault hold h old new held is (sym is_so ∙ unrefused refused dropped));
+    gone = λ is. absurd (let no : false ≡ true = ap is_gone is in cc);
+  }
+    where
+      unrefused : (b : Bool) → not b ≡ true → b ≡ false
+      unrefused true e = absurd (cc)
+      unrefused false e = refl
+
+      keeps_if : (b : Bool) → is_drop what ≡ b → (is_drop what ≡ true → not refused ≡ false) → kept_incarnation new.state ≡ kept_incarnation old.state
+      keeps_if false e other = made_keeps at what now reply ready fault hold h old new held built e
+      keeps_if true e other =
+          made_undropped at what now reply ready fault hold h old new held e
+          (λ done. absurd (let no : not refused ≡ true = ap not (is_so ∙ ap is_refused done) in cc (no, other e)))
+
   -- the place is as it was
   rests : (told : Became) (entries : List DeskEntry) (old new : PlaceIn) → is_dropped told ≡ false → new.state ≡ old.state → (told ≡ became.Gone → kept_incarnation old.state ≡ at.incarnation → ⊥) → Facts at what told entries old new
   rests told entries old new undropped same gone = record {
@@ -154,6 +178,10 @@ module _ (at : PlaceAt) (what : What) (now : ℕ) (built : IsBuilt what) where
   by_became (became.Made reply) ready fault entries old new h l going =
       let led = subst (λ (es : List DeskEntry). Leads (PlaceStep IsRoute never at) old es new) h.1 l in
       subst (λ (es : List DeskEntry). Facts at what (became.Made reply) es old.place new.place) (sym h.1) (made_facts reply ready fault h.0 h.2 old.place new.place (one_held h.0 old new led))
+  by_became (became.Unsaid refused) ready fault entries old new h l going =
+      let led = subst (λ (es : List DeskEntry). Leads (PlaceStep IsRoute never at) old es new) h.3 l in
+      subst (λ (es : List DeskEntry). Facts at what (became.Unsaid refused) es old.place new.place) (sym h.3)
+      (unsaid_facts refused h.1 ready fault h.0 h.2 h.5 old.place new.place (one_held h.0 old new led))
   by_became became.Ticked ready fault entries old new h l going =
       let led = subst (λ (es : List DeskEntry). Leads (PlaceStep IsRoute never at) old es new) h.1 l in
       let held = one_held h.0 old new led in

@@ -22,7 +22,7 @@ use Rattle.js_base.specs.declared.out.Out.{Out}
 use Rattle.js_model.specs.Advance.{advance}
 use Rattle.js_model.specs.Configs.{same_stream_config, same_retention}
 use Rattle.js_model.specs.Deliver.{IsDelivered}
-use Rattle.js_model.specs.Events.{Answer, IsEvent, answered, kept_incarnation, published, settled_state, stream_answer, stream_told, refused, vacant_answer, vacantly, with_id}
+use Rattle.js_model.specs.Events.{Answer, IsEvent, answered, is_refused, kept_incarnation, published, settled_state, stream_answer, stream_told, refused, vacant_answer, vacantly, with_id}
 use Rattle.js_model.specs.Consumers.{empty_stream}
 use Rattle.js_model.specs.Refusals.{other_config, retention_cannot_change, numbers_used_up}
 use Rattle.js_model.specs.Retention.{kept}
@@ -109,6 +109,31 @@ drop_counts old e now room d done = by old e.what d done
         → kept_incarnation (answered state (record { incarnation = e.incarnation; what = what }) now room).state ≡ kept_incarnation state + 1
     by (Vacant i) (whats.Drop reply) is f = absurd (cc)
     by (Live s) (whats.Drop reply) is f = ap (λ (n : ℕ). n + 1) (advance_keeps s now)
+    by state (whats.Make reply config) is f = absurd (cc)
+    by state (whats.Change reply config) is f = absurd (cc)
+    by state (whats.Publish p) is f = absurd (cc)
+    by state (whats.Purge reply filter below keep) is f = absurd (cc)
+    by state (whats.Delete reply seq) is f = absurd (cc)
+    by state (whats.MakeConsumer reply name config update) is f = absurd (cc)
+    by state (whats.DropConsumer reply name) is f = absurd (cc)
+    by state (whats.Ack reply ack) is f = absurd (cc)
+    by state (whats.Pull reply consumer ask) is f = absurd (cc)
+    by state whats.Tick is f = absurd (cc)
+    by state (whats.StreamInfo reply) is f = absurd (cc)
+    by state (whats.MessageGet reply get) is f = absurd (cc)
+    by state (whats.ConsumerInfo reply name) is f = absurd (cc)
+    by state (whats.ConsumerNames reply offset) is f = absurd (cc)
+    by state (whats.ConsumerList reply offset) is f = absurd (cc)
+
+-- a drop is done or refused
+pub drop_done : (old : State) (e : Event) (now : ℕ) (room : Bool) → is_drop e.what ≡ true → is_refused (answered old e now room).reply ≡ false → (answered old e now room).reply ≡ Done
+unfolding answered
+drop_done old e now room d fine = by old e.what d fine
+  where
+    by : (state : State) (what : What) → is_drop what ≡ true → is_refused (answered state (record { incarnation = e.incarnation; what = what }) now room).reply ≡ false
+        → (answered state (record { incarnation = e.incarnation; what = what }) now room).reply ≡ Done
+    by (Vacant i) (whats.Drop reply) is f = absurd (cc)
+    by (Live s) (whats.Drop reply) is f = refl
     by state (whats.Make reply config) is f = absurd (cc)
     by state (whats.Change reply config) is f = absurd (cc)
     by state (whats.Publish p) is f = absurd (cc)

@@ -9,6 +9,7 @@ pub mod HoldFacts
 pub mod Incarnations
 pub mod Looked
 pub mod Lookups
+pub mod Opened
 pub mod Routed
 pub mod Sets
 pub mod Solos

@@ -9,7 +9,7 @@ use Rattle.js_model.specs.PlaceStates.{PlaceIn, in_memory}
 use Rattle.js_model.specs.Router.{Router, is_open}
 use Rattle.place_engine.specs.InMemory.{Contents}
 use Rattle.js_api.specs.declared.outcome.Became.{Became}
-use Rattle.js_api.specs.declared.outcome.Became.TheVariants.{Made, Ticked, Nothing, Broke, Stopped, Gone}
+use Rattle.js_api.specs.declared.outcome.Became.TheVariants.{Made, Unsaid, Ticked, Nothing, Broke, Stopped, Gone}
 use Rattle.js_api.specs.Entries.{DeskEntry}
 use Rattle.js_api.specs.Leading.{Leads}
 use Rattle.js_api.specs.Worlds.{Scene, SoloStep}
@@ -111,9 +111,10 @@ AreFresh (place ∷ places) = (place.state ≡ Vacant 0) × AreFresh places
 abbrev pub after_hold : Turn → Bool → ℕ → Turn
 after_hold turn dropped place = if dropped then turns.Owing place else turn
 
--- the place was held, also if its volume failed then
+-- a step was made at the place, also if its volume failed in it
 abbrev pub is_held : Became → Bool
 is_held (Made reply) = true
+is_held (Unsaid refused) = true
 is_held Ticked = true
 is_held Nothing = false
 is_held (Broke stream) = true

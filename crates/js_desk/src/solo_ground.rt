@@ -55,6 +55,7 @@ fn is_dropped(became: &Became) -> bool
 {
     match became {
         Became::Made(reply) => matches!(reply, Reply::Done),
+        Became::Unsaid { refused } => !*refused,
         Became::Ticked => false,
         Became::Nothing => false,
         Became::Broke { stream: _ } => false,
@@ -70,12 +71,13 @@ fn is_drop(what: &What) -> bool
     matches!(what, What::Drop { .. })
 }
 
-/// The place of the last hold after one at a place that became so: one that was made, or in which the volume failed, counts.
+/// The place of the last hold after one at a place that became so. One counts if a step was made there, also if the volume failed in it.
 fn last_of(became: &Became, at: PlaceAt, before: Option<PlaceAt>) -> Option<PlaceAt>
     ensures value { result ≡ (if is_held became.now then Some at else before) }
 {
     match became {
         Became::Made(_) => Some(at),
+        Became::Unsaid { refused: _ } => Some(at),
         Became::Ticked => Some(at),
         Became::Broke { stream: _ } => Some(at),
         Became::Nothing => before,
