@@ -21,5 +21,8 @@ pub record IsQuiet (old new : Option (List Accepted)) : Type 0 where
 
 -- the door's first answer that is not quiet, or quiet if a million were
 abbrev pub Arrives : {L : Type 0} → Accept L → Option (List Accepted) → Option (List Accepted) → Type 0
+Arrives (accepts.Got link) old new = IsAccepted old new (accepted_of (accepts.Got link))
 Arrives accepts.Quiet old new = IsQuiet old new
-Arrives accept old new = IsAccepted old new (accepted_of accept)
+Arrives accepts.Closed old new = IsAccepted old new (accepted_of accepts.Closed)
+Arrives accepts.Failed old new = IsAccepted old new (accepted_of accepts.Failed)
+Arrives accepts.NoMemory old new = IsAccepted old new (accepted_of accepts.NoMemory)
