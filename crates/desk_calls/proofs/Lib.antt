@@ -8,3 +8,4 @@ mod Defaults
 mod Published
 mod Publishes
 mod Walks
+mod Texts

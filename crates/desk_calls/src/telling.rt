@@ -140,7 +140,7 @@ pub fn refuse_publish<G: Ground>(
     reason: Reason,
 ) -> Result<bool, DeskFault>
     requires utf8 { IsUtf8 stream.now }
-    ensures made { Makes G.made (Then (Sends (publish_refusal to.now stream.now (error_of reason))) (λ _. Gives true)) result) ground.old ground.new }
+    ensures made { Makes G.made (Then (Sends (publish_refusal to.now stream.now (error_of reason))) (λ _. Gives true) result) ground.old ground.new }
     ensures setting { G.setting ground.new ≡ G.setting ground.old }
     ensures phase { G.phase ground.new ≡ G.phase ground.old }
 {

@@ -1,3 +1,4 @@
+pub mod Whole
 pub mod Facts
 pub mod ConsumerFacts
 pub mod SoundParts
@@ -9,11 +10,14 @@ pub mod SoundAcks
 pub mod SoundSent
 pub mod Sounding
 pub mod Settled
+pub mod Entries
 pub mod Acked
 pub mod Duplicates
 pub mod Leaving
+pub mod PushedOut
 pub mod Kept
 pub mod Consecutive
+pub mod Counted
 pub mod StartOrder
 pub mod StoredBefore
 pub mod Making

@@ -34,7 +34,7 @@ module _ {D : Type 0} (made : D → List DeskEntry → D → Type 0) (client : C
   pub collect_ends : (stop : Stop) (old new : D) (a b : Bytes) (max : ℕ) (answer : Result DeskAnswer DeskFault) → Makes made (Does client (Collect max) answer) old new
       → cause_of stop ≡ end_after answer → IsAdded (cause_of stop) b a → CollectsOnce made client old new a b (Err stop)
   collect_ends stop old new a b max answer m e w =
-      cut_one made IsFirstCollect client (cause_of stop) old new a b (record { call = Collect max; answer = answer; entries = m.entries }) (refl, max, refl)
+      cut_one made IsFirstCollect client (cause_of stop) old new a b (record { call = Collect max; answer = answer; entries = m.entries }) (refl, (max, refl))
       (record { made = m.are; cause_is = e }) m.led w
 
 -- ---- one after the other
