@@ -8,7 +8,7 @@ use Rattle.js_model.specs.PlaceStates.{PlaceIn, vacant_place}
 use Rattle.link_edge.specs.Told.{grown}
 use Rattle.link_edge.specs.Moments.{ReadsMoments}
 use Rattle.link_edge.specs.Failings.{no_failings}
-use Rattle.link_edge.specs.Reports.{Report, IsBalanced}
+use Rattle.link_edge.specs.Reports.{Report, HasOut}
 use Rattle.link_edge.specs.declared.answers.Accepted.TheVariants as accepted
 use Rattle.place_engine.specs.declared.faults.PlaceFault.{PlaceFault}
 use Rattle.place_engine.specs.declared.faults.PlaceFault.TheVariants as faults
@@ -17,7 +17,7 @@ use Rattle.js_api.specs.Leading.{Leads}
 use Rattle.js_api.specs.Worlds.{World, Scene, SoloStep}
 use Rattle.js_desk.specs.GivingBack.{Closes}
 use Rattle.js_desk.specs.declared.faults.Closed.{Closed}
-use Rattle.session.specs.Failing.{FailsBy}
+use Rattle.session.specs.Failing.{FailsAt}
 use Rattle.session.specs.Stopping.{end_of_fault}
 use Rattle.session.specs.Talk.{Journal, Talk, entries_of, answers_of, moments_of}
 use Rattle.session.specs.declared.ending.Limits.{Limits}
@@ -56,15 +56,15 @@ pub record IsServed (limits : Limits) (scene after : Scene) (status : ℕ) (repo
   pub led : Leads SoloStep scene (entries_of journal) after
   pub answered : IfSome report.answered (λ answers. answers ≡ answers_of journal)
   pub given : IfSome report.given (λ given. given ≡ bytes)
-  pub failings : IfSome report.failings (λ failings. FailsBy ended (Some no_failings) (Some failings))
+  pub failings : IfSome report.failings (λ failings. FailsAt journal.last ended (Some no_failings) (Some failings))
   pub moments : ReadsMoments clock_old (moments_of journal) clock_new
   pub status_is : status ≡ status_of ended
   pub cause : status ≡ 3 → Rose 0 report.faults
 
--- A link was served over the desk, and came back with its report. The report is told if no more links had come back than were given out.
-pub record IsGivenBack (limits : Limits) (scene after : Scene) (status : ℕ) (old new : DoorTold) (clock_old clock_new : Option (List ℕ)) : Type 0 where
+-- A link was served over the desk, and came back with its report, which is told if by then more links were given out than came back.
+pub record IsGivenBack (limits : Limits) (scene after : Scene) (status : ℕ) (gave : Option ℕ) (old new : Option (List Report)) (clock_old clock_new : Option (List ℕ)) : Type 0 where
   pub report : Report
-  pub back : IsBalanced old.gave old.back → new.back ≡ grown old.back (report ∷ [])
+  pub back : HasOut gave old → new ≡ grown old (report ∷ [])
   pub served : IsServed limits scene after status report clock_old clock_new
 
 -- ---- the door
@@ -91,7 +91,7 @@ pub record IsLinkServed (scene after : Scene) (status : ℕ) (old new : DoorTold
   pub accepts : IsAccepted old.answered new.answered (accepted.Got ∷ [])
   pub starved : new.starved ≡ old.starved
   pub gave : new.gave ≡ option_map (λ n. n + 1) old.gave
-  pub given_back : IsGivenBack pipe_limits scene after status old new clock_old clock_new
+  pub given_back : IsGivenBack pipe_limits scene after status new.gave old.back new.back clock_old clock_new
 
 -- how the door was waited at, and what of the desk is left by that
 abbrev pub Waits : Scene → Scene → ℕ → DoorTold → DoorTold → Option (List ℕ) → Option (List ℕ) → Type 0
