@@ -36,7 +36,6 @@ use Rattle.session.specs.Gathering.{IsGathering}
 use Rattle.session.specs.Talk.{Journal, Last, Stage, start, Turn, Begins, IsTalk, IsCause, EndsAs, EndsStopped, acts_of, answers_of, entries_of, entries_of_turn, entries_of_last, last_answers, greeting}
 use Rattle.session.specs.Connecting.{connect_options}
 use Rattle.session.specs.Peer.{Act, Hears, Ticks, Calls, IsWrong, IsRefused, Peer, peer_after, request, op_request, connecting, publishing, is_reply, message}
-use Rattle.session.specs.declared.connect.ConnectOptions.{ConnectOptions}
 use Rattle.session.specs.declared.ending.Ended.{Ended}
 use Rattle.session.specs.declared.ending.Ended.TheVariants as ends
 use Rattle.session.specs.declared.ending.Refusal.{Refusal}
@@ -108,7 +107,7 @@ refused_answer (Err fault) refusal e n = fault_refused fault refusal e n
 
 -- no operation opens a session, and no gathering
 
-options_open : (options : Option ConnectOptions) (call : desks.DeskCall) → connecting options ≡ Calls call → call ≡ desks.Open → ⊥
+options_open : (options : Option _) (call : desks.DeskCall) → connecting options ≡ Calls call → call ≡ desks.Open → ⊥
 options_open None call e o = cc
 options_open (Some options) call e o = cc
 
@@ -354,8 +353,8 @@ unwritten cause ended (inr h) k = h
 
 -- ---- the session
 
-module _ (input : Bytes) (ops : List Op) (valid : IsValid input ops) (scene new : Scene) (journal : Journal) (faults : ℕ)
-    (calm : IsCalmSession input scene journal faults) (led : Leads SoloStep scene (entries_of journal) new) (untroubled : AreUntroubled new.world) (fresh : scene.world.router.latest ≡ 0)
+module _ (input : Bytes) (ops : List Op) (valid : IsValid input ops) (scene new : Scene) (journal : Journal) (risen : ℕ)
+    (calm : IsCalmSession input scene journal risen) (led : Leads SoloStep scene (entries_of journal) new) (untroubled : AreUntroubled new.world) (fresh : scene.world.router.latest ≡ 0)
     (written : Bytes) (ended : Ended) where
   abbrev Outcome : Type 0
   Outcome = ((ended ≡ ends.Closed) × IsAnswered ops journal written) ⊎ talk.IsUnwritten ended
@@ -415,7 +414,7 @@ module _ (input : Bytes) (ops : List Op) (valid : IsValid input ops) (scene new 
   opened_so : (answer : Result desks.DeskAnswer DeskFault) → journal.opened.call ≡ desks.Open → journal.opened.answer ≡ answer → talk.TalksBy answer pipe_limits journal written ended → Outcome
   opened_so (Ok (desks.Opened session)) c e h =
       let k = h.1 in
-      ended_so session k (ending input ops valid session scene new journal faults calm led untroubled k.stage k.said k.turns k.ends.cause k.ends.said k.ends.is_cause)
+      ended_so session k (ending input ops valid session scene new journal risen calm led untroubled k.stage k.said k.turns k.ends.cause k.ends.said k.ends.is_cause)
   opened_so (Ok desks.Done) c e h = absurd h
   opened_so (Ok (desks.Took taken)) c e h = absurd h
   opened_so (Ok (desks.Settled ready)) c e h = absurd h
@@ -432,8 +431,8 @@ module _ (input : Bytes) (ops : List Op) (valid : IsValid input ops) (scene new 
 
 -- ---- the run
 
-not_rose : (faults : ℕ) → faults ≡ 0 → Rose 0 faults → ⊥
-not_rose faults e h = omega (arith, e, h)
+not_rose : (risen : ℕ) → risen ≡ 0 → Rose 0 risen → ⊥
+not_rose risen e h = omega (arith, e, h)
 
 unserved : (status : ℕ) (old new : DoorTold) → IsUnserved status old new → (Rose old.faults new.faults → ⊥) → (IsQuiet old.answered new.answered → ⊥)
     → ((status ≡ 0) × Unit {0}) ⊎ (status ≡ 7)
@@ -455,9 +454,9 @@ waited scene after status old new c0 c1 (inl none) input ops fresh untroubled va
 waited scene after status old new c0 c1 (inr link) input ops fresh untroubled valid calm =
     let served = link.given_back.served in
     let journal = served.journal in
-    let faults = link.given_back.report.faults in
-    let so = outcome input ops valid scene after journal faults calm served.led untroubled fresh served.bytes served.ended served.talk in
-    statused served.ended status (IsAnswered ops journal served.bytes) so served.status_is (λ three. not_rose faults calm.unfailed (served.cause three))
+    let risen = link.given_back.report.faults in
+    let so = outcome input ops valid scene after journal risen calm served.led untroubled fresh served.bytes served.ended served.talk in
+    statused served.ended status (IsAnswered ops journal served.bytes) so served.status_is (λ three. not_rose risen calm.unfailed (served.cause three))
 
 -- ---- the stream
 
@@ -497,21 +496,21 @@ closed_with : (served : Bool) (talked flushed : ℕ) (P : Type 0) → flushed �
 closed_with served talked flushed P f (inl h) = ap (λ (n : ℕ). status_with served n flushed) h.0 ∙ f
 closed_with served talked flushed P f (inr h) = ap (λ (n : ℕ). status_with served n flushed) h ∙ seven served flushed
   where
-    seven : (served : Bool) (flushed : ℕ) → (if served && flushed == 7 then 7 else 7) ≡ 7
-    seven served flushed = both (served && flushed == 7)
-      where
-        both : (b : Bool) → (if b then 7 else 7) ≡ 7
-        both true = refl
-        both false = refl
+    both : (b : Bool) → ◌≡◌ {A = ℕ} (if b then 7 else 7) 7
+    both true = refl
+    both false = refl
 
-closed : (served : Bool) (talked status : ℕ) (failed : Option (ℕ × PlaceFault)) (P : Type 0) → IsFlushed failed → status ≡ closing_status served talked failed → ((talked ≡ 0) × P) ⊎ (talked ≡ 7)
+    seven : (served : Bool) (flushed : ℕ) → status_with served 7 flushed ≡ 7
+    seven served flushed = both (served && flushed == 7)
+
+settled : (served : Bool) (talked status : ℕ) (failed : Option (ℕ × PlaceFault)) (P : Type 0) → IsFlushed failed → status ≡ closing_status served talked failed → ((talked ≡ 0) × P) ⊎ (talked ≡ 7)
     → ((status ≡ 0) × P) ⊎ (status ≡ 7)
-closed served talked status None P f e (inl h) = inl (e ∙ h.0, h.1)
-closed served talked status None P f e (inr h) = inr (e ∙ h)
-closed served talked status (Some failed) P f e h = inr (e ∙ closed_with served talked (flush_status failed.1) P f h)
+settled served talked status None P f e (inl h) = inl (e ∙ h.0, h.1)
+settled served talked status None P f e (inr h) = inr (e ∙ h)
+settled served talked status (Some failed) P f e h = inr (e ∙ closed_with served talked (flush_status failed.1) P f h)
 
 pub complete : {V : Type 0} → LawComplete V
 complete opened stream status failed v0 v1 old new input ops welcome valid calm flushed (Unopened h) untroubled = inr h.status_is
 complete opened stream status failed v0 v1 old new input ops welcome valid calm flushed (Attended h) untroubled =
-    closed (is_session h.attends) h.talked status failed (AreAnsweredOver ops h.attends) flushed h.status_is
+    settled (is_session h.attends) h.talked status failed (AreAnsweredOver ops h.attends) flushed h.status_is
     (attended opened stream h.after h.talked old new h.attends input ops welcome untroubled valid (calm h untroubled))

@@ -1,6 +1,6 @@
 //! The top call.
 
-ghost use Rattle.std.specs.Prelude.{◌≡◌, ◌≢◌, ◌≤◌, ◌↔◌, List, None, false, IfSome, IsTrue, vec_len};
+ghost use Rattle.std.specs.Prelude.{◌≡◌, ◌≢◌, ◌≤◌, ◌↔◌, List, None, false, IfSome, IsTrue, length, vec_len};
 ghost use Rattle.js_api.specs.Worlds.{opening};
 ghost use Rattle.js_desk.specs.GivingBack.{GivesBack};
 ghost use Rattle.js_model.specs.Configs.{is_stream_subject};
@@ -146,7 +146,7 @@ pub fn run<R: Door, V, C: Clock, G: Gate, O: Sink>(
     ensures later { R.faults door ≤ R.faults result.door }
 
     // In memory a stream is refused only if no volume was handed in, and so no place is free for it, which is error 20007.
-    ensures placeless { result.status ≡ 11 → NamesStream (command_of (texts words.now)) × (vec_len vols ≡ 0)
+    ensures placeless { result.status ≡ 11 → NamesStream (command_of (texts words.now)) × (length vols.items ≡ 0)
         × Prints (number_line 20007) (record { written = O.written out.old; faults = O.faults out.old }) (record { written = O.written out.new; faults = O.faults out.new }) }
 
     // With every other status nothing is printed.

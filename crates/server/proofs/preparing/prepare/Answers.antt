@@ -8,4 +8,4 @@ pub returns-in-Some-clause-prepares : goal.returns-in-Some-clause-prepares
 returns-in-Some-clause-prepares g c =
     let opened = opened_of c.args.desk.now.vols in
     subst (λ s. Prepares opened s c.make_stream.result (g.C.Clock.to_come c.args.clock.now) (g.C.Clock.to_come c.now-now.new.self) c.make_stream.new.self.scene) (sym c.in-Some.is)
-    (made_so opened c.in-Some.named _ _ _ _ _ _ _ c.requires.opened c.as_slice.ensures.value c.now-now.ensures.reads c.make_stream.ensures.made)
+    (made_so opened c.in-Some.named _ _ _ _ _ _ _ c.requires.opened c.as_slice.ensures c.now-now.ensures.reads c.make_stream.ensures.made)
