@@ -1,8 +1,8 @@
 -- Laws of the closing of a desk in memory: no volume is troubled then.
-use Rattle.std.proofs.Common.{◌≡◌, ◌<◌, ◌-◌, ◌^◌, ℕ, List, Option, None, sym, subst, arith}
-use Rattle.js_model.specs.PlaceStates.{PlaceIn, VolumeAt}
+use Rattle.std.proofs.Common.{◌<◌, ◌-◌, ◌^◌, List, None, sym, subst, arith}
+use Rattle.js_model.specs.PlaceStates.{VolumeAt}
 use Rattle.js_api.specs.Worlds.{World}
-use Rattle.server.specs.Running.{IsClosed, PipeEnds, Unopened, Attended}
+use Rattle.server.specs.Running.{IsClosed, Unopened, Attended}
 use Rattle.server.specs.Laws.{AreUntroubled, LawUntroubled}
 
 pub left_untroubled : {V : Type 0} (world : World) (vols : List V) → IsClosed world None vols → AreUntroubled world

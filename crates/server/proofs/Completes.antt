@@ -1,6 +1,6 @@
 -- Laws of calm sessions over whole operations, and of the runs that serve them.
-use Rattle.std.proofs.Common.{◌≡◌, ℕ, ◌+◌, ◌-◌, ◌^◌, ◌<◌, Bool, true, false, ◌⊎◌, List, [], ◌∷◌, ◌++◌, length, replicate, Option, Some, None, Result, Ok, Err, refl, sym, ◌∙◌, ap, subst, append_assoc, inl, inr, All, arith, if◌then◌else◌}
-use Rattle.std.specs.Prelude.{IfSome, ◌==◌, ◌&&◌}
+use Rattle.std.proofs.Common.{◌≡◌, ℕ, ◌<◌, Bool, true, false, ◌⊎◌, List, [], ◌∷◌, ◌++◌, length, replicate, Option, Some, None, Result, Ok, Err, refl, sym, ◌∙◌, ap, subst, append_assoc, inl, inr, All, arith, if◌then◌else◌}
+use Rattle.std.specs.Prelude.{◌==◌, ◌&&◌}
 use Rattle.std.specs.List.{flat_map}
 use Rattle.std.proofs.lemmas.List.{append-nil, length-append, get_or_at}
 use Rattle.std.proofs.lemmas.Grind.{flat_map-append}
@@ -44,8 +44,8 @@ use Rattle.server.specs.declared.words.NamedStream.{NamedStream}
 use Rattle.server.specs.Outside.{DoorTold, SinkTold, Outside}
 use Rattle.server.specs.Accepting.{IsQuiet}
 use Rattle.server.specs.Preparing.{Prepares}
-use Rattle.server.specs.Running.{pipe_limits, status_of, IsUnserved, WasClosed, HasFailed, WasQuiet, HasStarved, WasUnasked, Waits, Unmakes, IsUnmade, Attends, Unmade, Awaited, IsAttended, PipeEnds, Unopened, Attended, flush_status, status_with, closing_status, is_link_served, is_session}
-use Rattle.server.specs.Laws.{IsSound, IsValid, piece_of, bytes_of, ops_of, IsWelcome, AreUntroubled, IsFlushed, IsCalmSession, IsCalmWait, IsCalmOver, IsCalm, LeavesUntroubled, IsAnswered, AreAnsweredAt, AreAnsweredOver, AreAnswered, LawComplete}
+use Rattle.server.specs.Running.{pipe_limits, status_of, IsUnserved, WasClosed, HasFailed, WasQuiet, HasStarved, WasUnasked, Waits, Unmakes, Attends, Unmade, Awaited, Unopened, Attended, flush_status, status_with, closing_status, is_session}
+use Rattle.server.specs.Laws.{IsSound, IsValid, piece_of, bytes_of, ops_of, IsWelcome, AreUntroubled, IsFlushed, IsCalmSession, IsCalmWait, IsCalmOver, IsAnswered, AreAnsweredAt, AreAnsweredOver, LawComplete}
 use Rattle.server.proofs.Whole.{none_partial, fronts_on, Leaves, leaves, leaves_none, leaves_sound, idle_sound}
 use Rattle.server.proofs.Taken.{answers_in, ops_in, acts-append, front_ops, Taken, taken}
 use Rattle.server.proofs.Untroubled.{AreFit, run_fit, unbroken, fit_front, fit_behind}
@@ -267,7 +267,7 @@ module _ (input : Bytes) (ops : List Op) (valid : IsValid input ops) (session : 
       → stopping.IsLastCall client (ends.Slow size) last → ⊥
   slow_call client size turn act calls front last last_is calls_are h =
       let told = does_slow client last.call size last.entries
-          (subst (λ (answer : Result desks.DeskAnswer DeskFault). does.Does client last.call answer last.entries) (slow_answer last.answer size h.cause_is) h.made)
+      (subst (λ (answer : Result desks.DeskAnswer DeskFault). does.Does client last.call answer last.entries) (slow_answer last.answer size h.cause_is) h.made)
       in
       let before = opened ++ (whole_turns ++ (entries_of_turn turn ++ entries_of_calls front)) in
       let are : entries_of journal ≡ before ++ (Routed told.call (router.Slow size) ∷ closed) =

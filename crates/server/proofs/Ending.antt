@@ -1,6 +1,6 @@
 -- Laws of the ends of a run.
-use Rattle.std.proofs.Common.{◌≡◌, ◌+◌, ◌<◌, ℕ, List, [], ◌∷◌, length, Option, None, Some, Result, Ok, Err, inl, inr, arith, refl, sym, ◌∙◌, ap, subst, option_map}
-use Rattle.std.specs.Prelude.{IfSome, ◌↔◌, ◌≤◌}
+use Rattle.std.proofs.Common.{◌≡◌, ◌+◌, ℕ, List, [], ◌∷◌, Option, None, Some, Result, Ok, Err, inl, inr, arith, refl, sym, ◌∙◌, subst, option_map}
+use Rattle.std.specs.Prelude.{IfSome, ◌↔◌}
 use Rattle.js_base.specs.Bytes.{Bytes}
 use Rattle.js_base.specs.Causes.{HasCause, Rose, raised}
 use Rattle.js_base.specs.declared.out.ApiError.{ApiError}
@@ -12,11 +12,8 @@ use Rattle.link_edge.specs.declared.answers.Answer.{Answer}
 use Rattle.link_edge.specs.declared.answers.Accepted.{Accepted}
 use Rattle.link_edge.specs.declared.answers.Accepted.TheVariants as accepted
 use Rattle.link_edge.specs.declared.failings.Failings.{Failings}
-use Rattle.link_edge.proofs.Told.{grown-nil}
-use Rattle.place_engine.specs.declared.faults.PlaceFault.{PlaceFault}
 use Rattle.js_api.specs.declared.fault.DeskFault.{DeskFault}
-use Rattle.js_api.specs.declared.fault.DeskFault.TheVariants as faults
-use Rattle.js_api.specs.Worlds.{World, Scene}
+use Rattle.js_api.specs.Worlds.{Scene}
 use Rattle.js_desk.specs.GivingBack.{Closes}
 use Rattle.js_desk.specs.Solo.{Solo, DeskMade}
 use Rattle.js_desk.specs.declared.faults.Closed.{Closed}
@@ -32,7 +29,7 @@ use Rattle.server.specs.declared.words.Command.{Command}
 use Rattle.server.specs.declared.words.Command.TheVariants.{Pipe}
 use Rattle.server.specs.Outside.{DoorTold, SinkTold, Outside}
 use Rattle.server.specs.Accepting.{IsAccepted, IsQuiet}
-use Rattle.server.specs.Running.{IsUnserved, WasClosed, HasFailed, WasQuiet, HasStarved, WasUnasked, IsGivenBack, Waits, Unmakes, Attends, Unmade, Awaited, IsUnmade, IsClosed, PipeEnds, Unopened, Attended, CommandEnds, opened_of, pipe_limits, status_of}
+use Rattle.server.specs.Running.{IsUnserved, WasClosed, HasFailed, WasQuiet, HasStarved, WasUnasked, IsGivenBack, Waits, Unmakes, Attends, Unmade, Awaited, IsUnmade, PipeEnds, Unopened, Attended, CommandEnds, opened_of, pipe_limits, status_of}
 use Rattle.server.proofs.Arriving.{told_whole}
 
 -- ---- the status

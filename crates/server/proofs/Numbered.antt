@@ -1,5 +1,5 @@
 -- Laws of desk calls whose entries are fit: none answers that numbers are used up.
-use Rattle.std.proofs.Common.{◌≡◌, ◌+◌, ◌-◌, ◌^◌, ◌<◌, ℕ, Bool, true, false, List, [], ◌∷◌, ◌++◌, Option, Some, None, Result, Ok, Err, ◌⊎◌, inl, inr, refl, sym, ◌∙◌, ap, subst, arith}
+use Rattle.std.proofs.Common.{◌≡◌, ◌-◌, ◌^◌, ◌<◌, ℕ, Bool, true, false, List, [], ◌∷◌, ◌++◌, Option, Some, None, Result, Ok, Err, inl, inr, refl, sym, subst, arith}
 use Rattle.std.specs.Prelude.{IfSome, MatchOption, MatchBool}
 use Rattle.js_base.specs.Bytes.{Bytes}
 use Rattle.js_base.specs.ServerSubjects.{is_api, is_acknowledgement}
@@ -15,7 +15,6 @@ use Rattle.js_model.specs.Catalog as catalog
 use Rattle.js_model.specs.Router as router
 use Rattle.api_calls.specs.declared.call.ApiCall.TheVariants as calls
 use Rattle.api_calls.specs.Names.{name_of}
-use Rattle.api_requests.specs.Names.{call_name}
 use Rattle.api_requests.specs.Requests.{request_of}
 use Rattle.api_requests.specs.declared.request.ApiRequest.{ApiRequest}
 use Rattle.api_requests.specs.declared.request.ApiRequest.TheVariants as requests
@@ -27,9 +26,9 @@ use Rattle.js_api.specs.declared.outcome.Outcome.{Outcome}
 use Rattle.js_api.specs.Answering.{DeskCall, Open, Options, Sub, Unsub, Publish, Tick, Settle, Collect, Close, DeskAnswer, Took, Settled, Done, answered_by}
 use Rattle.js_api.specs.Calls as does
 use Rattle.js_api.specs.Clients.{Client}
-use Rattle.js_api.specs.Entries.{DeskEntry, Routed, Spent, Stirred, Hold, Unsent}
+use Rattle.js_api.specs.Entries.{DeskEntry, Hold}
 use Rattle.js_api.specs.Holding.{Holds, HoldsBy, Explains, IsLastGeneration, Unmakes}
-use Rattle.js_api.specs.Stages.{Then, Ends, Gives, IsWorn, LooksUp, SendsOne, Sends, Reads, Ending}
+use Rattle.js_api.specs.Stages.{Then, Gives, IsWorn, LooksUp, SendsOne, Sends, Reads, Ending}
 use Rattle.js_api.specs.Publishing as publishing
 use Rattle.js_api.specs.OneStream as one
 use Rattle.js_api.specs.AllStreams as all

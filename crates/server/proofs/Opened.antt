@@ -7,7 +7,6 @@ use Rattle.js_base.specs.declared.out.ApiError.{ApiError}
 use Rattle.js_model.specs.PlaceStates.{PlaceIn}
 use Rattle.js_model.specs.declared.desk.PlaceAt.{PlaceAt}
 use Rattle.js_model.specs.declared.event.What.{What}
-use Rattle.js_model.specs.declared.reply.Reply.{Reply}
 use Rattle.js_model.specs.declared.stream_config.StreamConfig.{StreamConfig}
 use Rattle.js_model.specs.Catalog as catalog
 use Rattle.js_model.specs.Router as router
@@ -18,12 +17,12 @@ use Rattle.js_api.specs.declared.fault.DeskFault.TheVariants as faults
 use Rattle.js_api.specs.declared.outcome.Became.{Became}
 use Rattle.js_api.specs.declared.outcome.Became.TheVariants.{Made, Unsaid, Ticked, Nothing, Broke, Stopped, Gone}
 use Rattle.js_api.specs.Entries.{DeskEntry, Routed, Looked, Turned, Resumed, Held, Stirred, Halted, Missed, Spent}
-use Rattle.js_api.specs.Holding.{Holds, HoldsBy, Prepares, Unmakes}
+use Rattle.js_api.specs.Holding.{HoldsBy, Prepares, Unmakes}
 use Rattle.js_api.specs.Leading.{Leads}
-use Rattle.js_api.specs.Making.{MakesStream, MakesAt, GoesOnTaken, IsMaking, IsPreparing, refusal_in}
-use Rattle.js_api.specs.OneStream.{IsAdding, IsShort, free_unless_made, is_info, removed}
-use Rattle.js_api.specs.Stages.{Then, Gives, LooksUp, Reads, Ending}
-use Rattle.js_api.specs.Worlds.{Scene, SoloStep, IsTried, AreTried, opening}
+use Rattle.js_api.specs.Making.{MakesStream, MakesAt, GoesOnTaken, IsMaking, IsPreparing}
+use Rattle.js_api.specs.OneStream.{free_unless_made, is_info, removed}
+use Rattle.js_api.specs.Stages.{Gives, LooksUp, Reads, Ending}
+use Rattle.js_api.specs.Worlds.{Scene, SoloStep, AreTried, opening}
 use Rattle.server.specs.declared.words.NamedStream.{NamedStream}
 use Rattle.server.specs.Preparing as preparing
 
@@ -141,7 +140,7 @@ ended_unrouted (Some fault) became result entries h = none_routed entries h.1
 at_unrouted : (config : StreamConfig) (now : ℕ) (at : PlaceAt) (result : Result (Option ApiError) DeskFault) (entries : List DeskEntry) → MakesAt config now at result entries → AreUnrouted entries
 at_unrouted config now at result entries h =
     let held = unrouted-append h.holds.first h.holds.more (prepares_unrouted at h.holds.first h.holds.prepares)
-        (became_unrouted h.outcome.became at _ now h.outcome.ready h.outcome.fault h.holds.more h.holds.holds)
+    (became_unrouted h.outcome.became at _ now h.outcome.ready h.outcome.fault h.holds.more h.holds.holds)
     in
     let ended = ended_unrouted h.outcome.fault h.outcome.became result h.ended h.ends in
     let freed = unrouted-append (free_unless_made at h.outcome.became) h.ended (free_unrouted at h.outcome.became) ended in

@@ -1,5 +1,5 @@
 -- Laws of a desk that was just opened, in which a stream was made.
-use Rattle.std.proofs.Common.{◌≡◌, ℕ, List, Option, Some, Result, sym, subst}
+use Rattle.std.proofs.Common.{◌≡◌, ℕ, List, Option, Some, Result, subst}
 use Rattle.js_base.specs.Bytes.{Bytes}
 use Rattle.js_base.specs.declared.out.ApiError.{ApiError}
 use Rattle.js_model.specs.PlaceStates.{PlaceIn}

@@ -1,10 +1,10 @@
 -- Laws of runs of a desk after which no volume is troubled: none was on the way, no place was found stopped, and no number was used up.
-use Rattle.std.proofs.Common.{◌≡◌, ◌<◌, ◌≤◌, ◌+◌, ◌-◌, ◌^◌, ℕ, zero, suc, Bool, true, false, List, [], ◌∷◌, ◌++◌, length, Option, Some, None, refl, sym, ◌∙◌, ap, subst, arith, All}
+use Rattle.std.proofs.Common.{◌≡◌, ◌<◌, ◌-◌, ◌^◌, ℕ, zero, suc, Bool, true, false, List, [], ◌∷◌, ◌++◌, Option, Some, None, refl, sym, ◌∙◌, ap, subst, arith, All}
 use Rattle.std.specs.Prelude.{slice_get, slice_set}
 use Rattle.js_model.specs.PlaceStates.{PlaceIn, VolumeAt}
-use Rattle.js_api.specs.Entries.{DeskEntry, Routed, Looked, Turned, Resumed, Held, Stirred, Halted, Missed, Spent, Hold, Sending, Sent, Short, Unsent, entries_in}
+use Rattle.js_api.specs.Entries.{DeskEntry, Routed, Looked, Turned, Resumed, Held, Stirred, Halted, Missed, Spent, Hold, Unsent, entries_in}
 use Rattle.js_api.specs.Leading.{Leads}
-use Rattle.js_api.specs.Worlds.{World, Scene, SoloStep, Stops, IsHeld, IsHeldAlone, IsStirred, IsStirredAlone, is_broken, sending_of}
+use Rattle.js_api.specs.Worlds.{Scene, SoloStep, Stops, IsHeld, is_broken, sending_of}
 use Rattle.server.specs.Laws.{IsUntroubled, AreUntroubled, IsUnbroken, AreUnbroken}
 
 -- ---- the places, one by one

@@ -1,4 +1,4 @@
-use Rattle.std.proofs.Common.{Some, sym, subst}
+use Rattle.std.proofs.Common.{sym, subst}
 use Rattle.server.specs.Preparing.{Prepares}
 use Rattle.server.specs.Running.{opened_of}
 use Rattle.server.proofs.Prepared.{made_so}
