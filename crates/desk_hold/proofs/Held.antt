@@ -23,8 +23,8 @@ use Rattle.js_api.specs.declared.fault.DeskFault.TheVariants as faults
 use Rattle.js_api.specs.declared.outcome.Became.{Became}
 use Rattle.js_api.specs.declared.outcome.Became.TheVariants.{Made, Unsaid, Ticked, Nothing, Broke, Stopped, Gone}
 use Rattle.js_api.specs.declared.outcome.Outcome.{Outcome}
-use Rattle.js_api.specs.Entries.{Sending, Sent, Short, Unsent, Hold, Held, Stirred, Halted, Missed}
-use Rattle.js_api.specs.Holding.{AreAsked, AreReadings, Explains, HoldsBy, MayEnd, event_at, is_ready_at, push_consumers, step}
+use Rattle.js_api.specs.Entries.{Reading, Sending, Sent, Short, Unsent, Hold, Held, Stirred, Halted, Missed}
+use Rattle.js_api.specs.Holding.{AreAsked, AreFirstReadings, AreReadings, Explains, HoldsBy, MayEnd, event_at, is_ready_at, push_consumers, step}
 use Rattle.js_api.specs.Outputs.{stream_name}
 use Rattle.js_api.specs.Worlds.{IsHeld, IsLater}
 use Rattle.place_engine.specs.Provisional.{IsSilent}
@@ -80,9 +80,13 @@ none_push : (state : State) → IsSilent state → push_consumers state ≡ []
 none_push (Vacant last) silent = refl
 none_push (Live stream) silent = silent
 
+none_read : (cs : List Consumer) → AreFirstReadings cs []
+none_read [] = tt
+none_read (c ∷ cs) = tt
+
 asked_none : (fault : Option DeskFault) (hold : Hold) → push_consumers hold.between ≡ [] → hold.readings ≡ [] → hold.deliveries ≡ [] → AreAsked fault hold
 asked_none None hold none readings deliveries = subst (λ (cs : List Consumer). AreReadings cs hold.readings) (sym none) readings
-asked_none (Some fault) hold none readings deliveries = inr (readings, deliveries)
+asked_none (Some fault) hold none readings deliveries = inr (subst (λ (rs : List Reading). AreFirstReadings (push_consumers hold.between) rs) (sym readings) (none_read (push_consumers hold.between)), deliveries)
 
 unless_fault : (fault : Option DeskFault) (P : Type 0) → P → MatchOption fault P (λ f. Unit {0})
 unless_fault None P p = p
@@ -190,7 +194,7 @@ module _ {R : Type 0} (routes : R → RouteCall → RouteTold → R → Type 0) 
               unsaid = false;
               at_is = refl;
               steps = refl;
-              asked = inr (refl, refl);
+              asked = inr (none_read (push_consumers new.state), refl);
               deliveries = tt;
               ready_is = tt;
               explained = tt;
@@ -234,7 +238,7 @@ module _ {R : Type 0} (routes : R → RouteCall → RouteTold → R → Type 0) 
               unsaid = true;
               at_is = refl;
               steps = refl;
-              asked = inr (refl, refl);
+              asked = inr (none_read (push_consumers new.state), refl);
               deliveries = tt;
               ready_is = tt;
               explained = explained;

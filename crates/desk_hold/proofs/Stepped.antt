@@ -4,6 +4,8 @@ use Rattle.js_base.specs.Bytes.{Bytes}
 use Rattle.js_base.specs.declared.out.Out.{Out}
 use Rattle.js_model.specs.declared.stream.State.{State}
 use Rattle.js_model.specs.declared.event.Event.{Event}
+use Rattle.js_model.specs.declared.event.What.{What}
+use Rattle.js_model.specs.declared.event.What.TheVariants.{Tick}
 use Rattle.js_model.specs.declared.reply.Answer.{Answer}
 use Rattle.js_model.specs.declared.reply.Reply.{Reply}
 use Rattle.js_model.specs.Events.{answered, kept_incarnation}
@@ -23,19 +25,21 @@ is_stopped : (count : ℕ) → None ≡ Some count → ⊥
 is_stopped count e = cc
 
 module _ (holds : Image → State → Type 0) (event : Event) (now : ℕ) (old new : Seen) (going : old.place.stopped ≡ None) (kept : event.incarnation ≡ kept_incarnation old.place.state)
-    (proper : IsTrue (is_proper event)) (moment : now < 2 ^ 62) (free : is_few old.place.stored ≡ true → old.room ≡ true) where
+    (proper : IsTrue (is_proper event)) (moment : now < 2 ^ 62) (free : is_few old.place.stored ≡ true → (what : What) → old.room what ≡ true) where
   later : Elapses holds old new → IsLater old.place.volume new.place.volume
   later h = record { faults = h.faults; moments = h.moments; generations = h.generations }
 
-  whole : (e : Event) → new.place.state ≡ (answered old.place.state e now old.room).state
-      → answered old.place.state e now old.room ≡ record { reply = (answered old.place.state e now old.room).reply; outs = (answered old.place.state e now old.room).outs; state = new.place.state }
-  whole e is = ap (λ (s : State). record { reply = (answered old.place.state e now old.room).reply; outs = (answered old.place.state e now old.room).outs; state = s }) (sym is)
+  abbrev answer_to : Event → Answer
+  answer_to e = answered old.place.state e now (old.room e.what)
+
+  whole : (e : Event) → new.place.state ≡ (answer_to e).state → answer_to e ≡ record { reply = (answer_to e).reply; outs = (answer_to e).outs; state = new.place.state }
+  whole e is = ap (λ (s : State). record { reply = (answer_to e).reply; outs = (answer_to e).outs; state = s }) (sym is)
 
   made : (e : Event) → IsTrue (is_proper e) → Does e now old new → new.place.stored ≤ old.place.stored + length (new_messages old.place.state new.place.state) → Elapses holds old new
-      → IsMade e now (answered old.place.state e now old.room).reply (answered old.place.state e now old.room).outs old.place new.place
+      → IsMade e now (answer_to e).reply (answer_to e).outs old.place new.place
   made e is_such does stored time = record {
     going = going;
-    step = record { event = record { kept = does.kept; room = old.room; answers = whole e does.state }; proper = is_such; moment = moment; free = free };
+    step = record { event = record { kept = does.kept; room = old.room e.what; answers = whole e does.state }; proper = is_such; moment = moment; free = λ few. free few e.what };
     stored = stored;
     later = later time;
   }
@@ -45,7 +49,7 @@ module _ (holds : Image → State → Type 0) (event : Event) (now : ℕ) (old n
       → stream ≡ stream_name old.place.state → after ≡ mid ++ said unsaid (answer_of stream event.what reply)
       → EndsStep (Ok (record { reply = reply; unsaid = unsaid })) event now old.place new.place before after
   told_step reply unsaid stream before mid after h name added =
-      let a : Answer = answered old.place.state event now old.room in
+      let a : Answer = answer_to event in
       let answer : List Out = said unsaid (answer_of (stream_name old.place.state) event.what reply) in
       record {
         outs = a.outs;
@@ -61,8 +65,8 @@ module _ (holds : Image → State → Type 0) (event : Event) (now : ℕ) (old n
   withheld : (refused : Bool) (before after : List Out) → Withholds refused event now old new before after → new.place.stored ≤ old.place.stored + length (new_messages old.place.state new.place.state)
       → Elapses holds old new → WithholdsStep refused event now old.place new.place before after
   withheld refused before after h stored time = record {
-    reply = (answered old.place.state event now old.room).reply;
-    outs = (answered old.place.state event now old.room).outs;
+    reply = (answer_to event).reply;
+    outs = (answer_to event).outs;
     made = made event proper h.hides.does stored time;
     goes = h.hides.goes;
     added = h.hides.outs;
@@ -74,24 +78,24 @@ module _ (holds : Image → State → Type 0) (event : Event) (now : ℕ) (old n
       → EndsStep (Err fault) event now old.place new.place before after
   failed_step (NoMemory Nothing) before after h = record {
     going = going;
-    state = h.ends.state;
-    stored = h.ends.stored;
-    stops = h.ends.stopped ∙ going;
+    state = h.ends.rests.state;
+    stored = h.ends.rests.stored;
+    stops = h.ends.rests.stopped ∙ going;
     volume_was = refl;
     volume_is = refl;
     later = later h.time;
   }
   failed_step (NoMemory Ticked) before after h = record {
-    outs = (answered old.place.state (tick_of event) now old.room).outs;
-    made = subst (λ (r : Reply). IsMade (tick_of event) now r (answered old.place.state (tick_of event) now old.room).outs old.place new.place)
-        (tick_silent old.place.state event now old.room) (made (tick_of event) (tick_proper event proper) h.ends.does h.stored h.time);
+    outs = (answer_to (tick_of event)).outs;
+    made = subst (λ (r : Reply). IsMade (tick_of event) now r (answer_to (tick_of event)).outs old.place new.place)
+        (tick_silent old.place.state event now (old.room Tick)) (made (tick_of event) (tick_proper event proper) h.ends.does h.stored h.time);
     goes = h.ends.goes;
     added = h.ends.outs;
   }
   failed_step (NoMemory (Unsaid refused)) before after h = withheld refused before after h.ends h.stored h.time
   failed_step StoreFault before after h = record {
-    reply = (answered old.place.state event now old.room).reply;
-    outs = (answered old.place.state event now old.room).outs;
+    reply = (answer_to event).reply;
+    outs = (answer_to event).outs;
     made = made event proper h.ends.does h.stored h.time;
     stops = (h.ends.stops, h.ends.cause);
   }

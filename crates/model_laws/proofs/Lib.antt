@@ -29,8 +29,13 @@ pub mod Redelivery
 pub mod AllConsumers
 pub mod Within
 pub mod Bounded
+pub mod BoundTests
 pub mod Taken
 pub mod Quotas
 pub mod Turns
 pub mod Limiting
 pub mod Readiness
+pub mod RowsOfProper
+pub mod RowsOfEdges
+pub mod RowsOfGivenUp
+pub mod RowsOfSound

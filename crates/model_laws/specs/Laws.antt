@@ -30,6 +30,7 @@ use Rattle.model_laws.specs.Sound.{IsWellStored, IsMatched, IsSound}
 use Rattle.js_model.specs.Firm.{Changes}
 use Rattle.model_laws.specs.Changed.{changes}
 use Rattle.model_laws.specs.Bounds.{IsBounded}
+use Rattle.model_laws.specs.BoundTests.{is_bounded}
 use Rattle.model_laws.specs.SoundTests.{is_well_stored, is_matched}
 use Rattle.model_laws.specs.OneConsumer.{consumer_of}
 use Rattle.model_laws.specs.Acked.{has_entry, ChangesEntries, IsToEnd, IsToStay, EndsEntry, NeverSent}
@@ -58,6 +59,10 @@ LawChangesTest = (old new : State) → Decides (changes old new) (Changes old ne
 -- a state within the bounds of a volume stays so
 abbrev pub LawBounded : Type 0
 LawBounded = (count : ℕ) (old new : State) (entries : List PlaceEntry) → IsSound old → IsBounded old → RunFrom count old entries new → IsBounded new
+
+-- and whether it is within them can be computed
+abbrev pub LawBoundedTest : Type 0
+LawBoundedTest = (s : State) → Decides (is_bounded s) (IsBounded s)
 
 -- what is acknowledged is not sent again
 abbrev pub LawAcked : Type 0

@@ -1,6 +1,7 @@
 pub mod Sound
 pub mod SoundTests
 pub mod Bounds
+pub mod BoundTests
 pub mod Changed
 pub mod OneConsumer
 pub mod Acked

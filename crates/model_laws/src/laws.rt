@@ -1,6 +1,6 @@
 //! What holds of each run of a place, by the definitions of the machine alone.
 
-ghost use Rattle.model_laws.specs.Laws.{LawSound, LawStoredTest, LawMatchedTest, LawBounded, LawChangesTest, LawAcked, LawEnds, LawStays, LawEntries, LawDuplicate, LawKept, LawTaken, LawOrder, LawStart, LawMade, LawRedelivery, LawLimits, LawReady};
+ghost use Rattle.model_laws.specs.Laws.{LawSound, LawStoredTest, LawMatchedTest, LawBounded, LawBoundedTest, LawChangesTest, LawAcked, LawEnds, LawStays, LawEntries, LawDuplicate, LawKept, LawTaken, LawOrder, LawStart, LawMade, LawRedelivery, LawLimits, LawReady};
 
 /// Soundness is kept: each state that a run reaches from a sound one is sound. Its two parts, of what is stored and of what
 /// filters match, are decided by the tests that compute them.
@@ -11,9 +11,11 @@ pub fn law_sound()
 {}
 
 /// A sound state within the bounds of a volume stays within them: as many messages, ids, consumers, picks and entries as this
-/// server allows, ids and messages of their greatest lengths, and numbers below 2^62.
+/// server allows, ids and messages of their greatest lengths, and numbers below 2^62. Whether it is within them is decided
+/// by the test that computes it.
 pub fn law_bounded()
     ensures law { LawBounded }
+    ensures test { LawBoundedTest }
 {}
 
 /// Whether a step changed more than the moment of what outlives a crash is decided by the test that computes it.
@@ -23,7 +25,8 @@ pub fn law_changes()
 
 /// A sequence whose entry an acknowledgement ended is not sent again to its consumer, until it or the stream is dropped. An
 /// acknowledgement of a delivery ends each entry that stands and that its kind and the ack policy name. Another entry
-/// stays as long as its message is stored, and nothing else of the consumer changes.
+/// stays as long as its message is stored, and but for the entries an acknowledgement itself changes nothing of its
+/// consumer.
 pub fn law_acked()
     ensures law { LawAcked }
     ensures ends { LawEnds }

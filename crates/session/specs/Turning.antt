@@ -10,7 +10,7 @@ use Rattle.link_edge.specs.declared.failings.Failings.{Failings}
 use Rattle.js_api.specs.Entries.{DeskEntry}
 use Rattle.js_api.specs.Clients.{Client}
 use Rattle.session.specs.Keeping.{is_ping_due, is_stale, pinged, ping_bytes}
-use Rattle.session.specs.Talk.{Spoken, Stage, start, Turn, Last, Greeting, IsWhole, Ends, IsUnwritten, Waits, greeting, is_due, pinged_peer, entries_of_all, entries_of_turn, entries_of_last, last_answers, last_moments}
+use Rattle.session.specs.Talk.{Spoken, Stage, start, Turn, Last, Greeting, Nothing, Told, Within, Waiting, IsWhole, Ends, IsUnwritten, Waits, greeting, is_due, pinged_peer, entries_of_all, entries_of_turn, entries_of_last, last_answers, last_moments}
 use Rattle.session.specs.Giving.{GivesPart}
 use Rattle.session.specs.Failing.{FailsAt}
 use Rattle.session.specs.Manners.{peer_of}
@@ -101,7 +101,10 @@ pub record IsTurn {D : Type 0} (made : D → List DeskEntry → D → Type 0) (l
 -- the session does not end within the server's information
 abbrev pub IsGreeted : Last → Type 0
 IsGreeted Greeting = ⊥
-IsGreeted _ = Unit {0}
+IsGreeted Nothing = Unit {0}
+IsGreeted (Told answer) = Unit {0}
+IsGreeted (Within turn begun calls) = Unit {0}
+IsGreeted (Waiting moment) = Unit {0}
 
 -- the turn in which the session ends
 pub record IsLastTurn {D : Type 0} (made : D → List DeskEntry → D → Type 0) (limits : Limits) (session : ℕ) (ended : Ended) (stage : Stage) (desk_old desk_new : D) (answered_old answered_new : Option (List Answer)) (given_old given_new : Option Bytes) (clock_old clock_new : Option (List ℕ)) (failings_old failings_new : Option Failings) : Type 0 where
