@@ -1,5 +1,5 @@
 -- A publish: the subscriptions, the stream, and what the client is told; or a call of the API.
-use Rattle.std.proofs.Common.{◌≡◌, ℕ, Bool, List, [], ◌∷◌, ◌++◌, Option, None, Some, Result, Ok, Err, refl, sym, subst, inl, inr}
+use Rattle.std.proofs.Common.{◌≡◌, ℕ, Bool, List, [], ◌∷◌, ◌++◌, Option, None, Some, Result, Ok, Err, refl, sym, subst, inl, inr, IsErrAnd}
 use Rattle.js_base.specs.declared.out.Out.{Out}
 use Rattle.js_base.specs.declared.out.ApiError.{ApiError}
 use Rattle.js_model.specs.declared.desk.PlaceAt.{PlaceAt}
@@ -19,7 +19,7 @@ use Rattle.js_api.specs.Holding.{Holds}
 use Rattle.js_api.specs.Leading.{Makes}
 use Rattle.js_api.specs.Publishing.{Offers, Stores, Tells, Reaches, IsReached, PublishesPlain, published, taken_by}
 use Rattle.js_api.specs.Stages.{Then, LooksUp, Ending}
-use Rattle.desk_calls.proofs.Stages.{as_such, goes_on, stops}
+use Rattle.desk_calls.proofs.Stages.{as_such, goes_on, stops_by}
 
 -- a call gives what its stages gave
 pub answered : {D X : Type 0} (made : D → List DeskEntry → D → Type 0) (says : X → DeskAnswer) (stages : Result X DeskFault → List DeskEntry → Type 0) (given : Result X DeskFault) (a b : D) → Makes made (stages given) a b
@@ -39,23 +39,25 @@ module _ {D : Type 0} (made : D → List DeskEntry → D → Type 0) (more : (a 
       → Makes made (PublishesPlain client message now result) a c
   offered told count result a b c is h k = goes_on made more (Offers client message) (λ count. AfterOffer count) told count result a b c is h k
 
-  pub unoffered : (told : Result ℕ DeskFault) (fault : DeskFault) (a b : D) → told ≡ Err fault → Makes made (Offers client message told) a b → Makes made (PublishesPlain client message now (Err fault)) a b
-  unoffered told fault a b is h = stops made (Offers client message) (λ count. AfterOffer count) told fault a b is h
+  pub unoffered : (told : Result ℕ DeskFault) (fault : DeskFault) (result : Result Taken DeskFault) (a b : D) → told ≡ Err fault → IsErrAnd result (λ e. e ≡ fault) → Makes made (Offers client message told) a b
+      → Makes made (PublishesPlain client message now result) a b
+  unoffered told fault result a b is handed h = stops_by made (Offers client message) (λ count. AfterOffer count) told fault result a b is handed h
 
   pub looked : (count : ℕ) (told : Result (Option PlaceAt) DeskFault) (found : Option PlaceAt) (result : Result Taken DeskFault) (a b c : D) → told ≡ Ok found → Makes made (LooksUp (Find message.to) told) a b
       → Makes made (AfterFind count found result) b c → Makes made (AfterOffer count result) a c
   looked count told found result a b c is h k = goes_on made more (LooksUp (Find message.to)) (λ found. AfterFind count found) told found result a b c is h k
 
-  pub unlooked : (count : ℕ) (told : Result (Option PlaceAt) DeskFault) (fault : DeskFault) (a b : D) → told ≡ Err fault → Makes made (LooksUp (Find message.to) told) a b → Makes made (AfterOffer count (Err fault)) a b
-  unlooked count told fault a b is h = stops made (LooksUp (Find message.to)) (λ found. AfterFind count found) told fault a b is h
+  pub unlooked : (count : ℕ) (told : Result (Option PlaceAt) DeskFault) (fault : DeskFault) (result : Result Taken DeskFault) (a b : D) → told ≡ Err fault → IsErrAnd result (λ e. e ≡ fault)
+      → Makes made (LooksUp (Find message.to) told) a b → Makes made (AfterOffer count result) a b
+  unlooked count told fault result a b is handed h = stops_by made (LooksUp (Find message.to)) (λ found. AfterFind count found) told fault result a b is handed h
 
   pub stored : (count : ℕ) (found : Option PlaceAt) (told : Result Bool DeskFault) (other : Bool) (result : Result Taken DeskFault) (a b c : D) → told ≡ Ok other → Makes made (Stores message now found told) a b
       → Makes made (Tells client message (taken_by count other) result) b c → Makes made (AfterFind count found result) a c
   stored count found told other result a b c is h k = goes_on made more (Stores message now found) (λ other. Tells client message (taken_by count other)) told other result a b c is h k
 
-  pub unstored : (count : ℕ) (found : Option PlaceAt) (told : Result Bool DeskFault) (fault : DeskFault) (a b : D) → told ≡ Err fault → Makes made (Stores message now found told) a b
-      → Makes made (AfterFind count found (Err fault)) a b
-  unstored count found told fault a b is h = stops made (Stores message now found) (λ other. Tells client message (taken_by count other)) told fault a b is h
+  pub unstored : (count : ℕ) (found : Option PlaceAt) (told : Result Bool DeskFault) (fault : DeskFault) (result : Result Taken DeskFault) (a b : D) → told ≡ Err fault → IsErrAnd result (λ e. e ≡ fault)
+      → Makes made (Stores message now found told) a b → Makes made (AfterFind count found result) a b
+  unstored count found told fault result a b is handed h = stops_by made (Stores message now found) (λ other. Tells client message (taken_by count other)) told fault result a b is handed h
 
   pub reaches : (at : PlaceAt) (outcome : Outcome) (result : Result Bool DeskFault) (a b c : D) → Makes made (Holds at (published message) now outcome) a b
       → Makes made (Ending outcome.fault (IsReached message outcome.became) result) b c → Makes made (Reaches message now at result) a c

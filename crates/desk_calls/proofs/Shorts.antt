@@ -1,5 +1,6 @@
 -- Memory runs out before a message of the server's own is made, or there is no subject for it.
-use Rattle.std.proofs.Common.{◌≡◌, ◌<◌, ℕ, Bool, true, false, is_none, List, [], ◌∷◌, length, Option, Some, None, Result, Ok, Err, refl, sym, subst, inl, inr, arith}
+use Rattle.std.proofs.Common.{◌≡◌, ◌<◌, ℕ, Bool, true, false, not, List, [], ◌∷◌, length, Option, Some, None, Result, Ok, Err, refl, sym, subst, inl, inr, arith}
+use Rattle.std.specs.Option.{is_some}
 use Rattle.js_base.specs.Bytes.{Bytes}
 use Rattle.js_base.specs.declared.out.Out.{Out}
 use Rattle.js_base.specs.declared.out.ApiError.{ApiError}
@@ -28,10 +29,13 @@ pub one_answer : (to : Option Bytes) (reply : ApiReply) → (to ≡ None → ⊥
 one_answer None reply some = absurd (some refl)
 one_answer (Some to) reply some = omega arith
 
-pub is_none_so : {X : Type 0} (o : Option X) → is_none o ≡ true → o ≡ None
-is_none_so None e = refl
-is_none_so (Some x) e = absurd (cc)
+-- what `is_none` answered
+pub none_so : {X : Type 0} (o : Option X) (answer : Bool) → is_some o ≡ not answer → answer ≡ true → o ≡ None
+none_so None answer is e = refl
+none_so (Some x) true is e = absurd (cc)
+none_so (Some x) false is e = absurd (cc)
 
-pub is_some_so : {X : Type 0} (o : Option X) → o ≡ None → is_none o ≡ false → ⊥
-is_some_so None e f = cc
-is_some_so (Some x) e f = cc
+pub some_so : {X : Type 0} (o : Option X) (answer : Bool) → is_some o ≡ not answer → answer ≡ false → o ≡ None → ⊥
+some_so (Some x) answer is e none = cc
+some_so None true is e none = cc
+some_so None false is e none = cc

@@ -1,5 +1,5 @@
 -- What the parts of a call make, one after the other, is what the call makes.
-use Rattle.std.proofs.Common.{◌≡◌, List, [], ◌++◌, append-nil, Option, Some, None, Result, Ok, Err, refl, sym, subst, inl, inr, IsErrAnd, MatchOption}
+use Rattle.std.proofs.Common.{◌≡◌, Bool, true, false, List, [], ◌++◌, append-nil, Option, Some, None, Result, Ok, Err, refl, sym, subst, ap, inl, inr, IsErrAnd, MatchBool, MatchOption}
 use Rattle.js_model.specs.declared.desk.PlaceAt.{PlaceAt}
 use Rattle.js_api.specs.declared.fault.DeskFault.{DeskFault}
 use Rattle.js_api.specs.Entries.{DeskEntry}
@@ -13,6 +13,13 @@ module _ {D : Type 0} (made : D → List DeskEntry → D → Type 0) where
   pub nothing : (P : List DeskEntry → Type 0) (a : D) → made a [] a → P [] → Makes made P a a
   nothing P a led h = record { entries = []; are = h; led = led }
 
+  -- what is made by a test
+  pub if_so : (test : Bool) (P Q : List DeskEntry → Type 0) (a b : D) → test ≡ true → Makes made P a b → Makes made (λ entries. MatchBool test (P entries) (Q entries)) a b
+  if_so test P Q a b is h = as_such P (λ entries. MatchBool test (P entries) (Q entries)) a b h (λ entries p. subst (λ (t : Bool). MatchBool t (P entries) (Q entries)) (sym is) p)
+
+  pub if_not : (test : Bool) (P Q : List DeskEntry → Type 0) (a b : D) → test ≡ false → Makes made Q a b → Makes made (λ entries. MatchBool test (P entries) (Q entries)) a b
+  if_not test P Q a b is h = as_such Q (λ entries. MatchBool test (P entries) (Q entries)) a b h (λ entries q. subst (λ (t : Bool). MatchBool t (P entries) (Q entries)) (sym is) q)
+
   -- these entries
   pub one_made : (P : List DeskEntry → Type 0) (entries : List DeskEntry) (a b : D) → made a entries b → P entries → Makes made P a b
   one_made P entries a b led h = record { entries = entries; are = h; led = led }
@@ -22,6 +29,13 @@ module _ {D : Type 0} (made : D → List DeskEntry → D → Type 0) where
       → told ≡ Err fault → Makes made (first told) a b → Makes made (Then first next (Err fault)) a b
   stops first next told fault a b is h =
       as_such (first told) (Then first next (Err fault)) a b h (λ entries p. inl (record { fault = fault; result_is = refl; ended = subst (λ (r : Result _ DeskFault). first r entries) is p }))
+
+  -- a stage ended the call, whose fault was handed on
+  pub stops_by : {X Y : Type 0} (first : Result X DeskFault → List DeskEntry → Type 0) (next : X → Result Y DeskFault → List DeskEntry → Type 0) (told : Result X DeskFault) (fault : DeskFault) (result : Result Y DeskFault) (a b : D)
+      → told ≡ Err fault → IsErrAnd result (λ e. e ≡ fault) → Makes made (first told) a b → Makes made (Then first next result) a b
+  stops_by first next told fault (Err e) a b is handed h =
+      as_such (first told) (Then first next (Err e)) a b h (λ entries p. inl (record { fault = fault; result_is = ap Err handed; ended = subst (λ (r : Result _ DeskFault). first r entries) is p }))
+  stops_by first next told fault (Ok y) a b is handed h = absurd handed
 
   module _ (more : (a b c : D) (first more : List DeskEntry) → made a first b → made b more c → made a (first ++ more) c) where
     pub both : (P Q R : List DeskEntry → Type 0) (a b c : D) → Makes made P a b → Makes made Q b c → ((xs ys : List DeskEntry) → P xs → Q ys → R (xs ++ ys)) → Makes made R a c
@@ -47,11 +61,6 @@ module _ {D : Type 0} (made : D → List DeskEntry → D → Type 0) where
     -- and then nothing more
     pub ended : (P : List DeskEntry → Type 0) (a b c : D) → Makes made P a b → made b [] c → Makes made P a c
     ended P a b c h k = record { entries = h.entries; are = h.are; led = subst (λ (entries : List DeskEntry). made a entries c) (append-nil h.entries) (more a b c h.entries [] h.led k) }
-
--- a `?` handed the fault on
-pub by_fault : {Y : Type 0} (P : Result Y DeskFault → Type 0) (fault : DeskFault) (result : Result Y DeskFault) → IsErrAnd result (λ e. e ≡ fault) → P (Err fault) → P result
-by_fault P fault (Err e) is h = subst (λ (x : DeskFault). P (Err x)) (sym is) h
-by_fault P fault (Ok y) is h = absurd is
 
 -- ---- what was found or not
 

@@ -1,5 +1,5 @@
 -- What a hold came to, as those who asked for it rest on it.
-use Rattle.std.specs.Prelude.{◌≡◌, Some, if◌then◌else◌}
+use Rattle.std.specs.Prelude.{◌≡◌, false, Some, if◌then◌else◌}
 use Rattle.js_model.specs.declared.event.What.{What}
 use Rattle.js_model.specs.declared.event.What.TheVariants as whats
 use Rattle.js_model.specs.declared.desk.PlaceAt.{PlaceAt}

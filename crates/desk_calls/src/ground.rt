@@ -47,6 +47,9 @@ pub trait Ground {
     /// How many more collects of a session may leave something to collect.
     ghost left: { Self → ℕ → ℕ };
 
+    /// Whether the caller has the places for itself, so that what the catalog knows within its turn is there.
+    ghost alone: { Bool };
+
     /// The allocator of which the calls take their memory.
     fn alloc(&self) -> Global;
 
@@ -223,7 +226,7 @@ pub trait Ground {
         ensures phase { phase self.new ≡ phase self.old };
 
     /// Asks this of the stream of a place, lets it deliver, and routes all that this sends. A stream is dropped within a turn of the catalog, which is
-    /// told of it next. What the catalog knows within its turn is there.
+    /// told of it next.
     fn hold(&mut self, at: PlaceAt, what: What, now: Moment) -> Outcome
         requires within { IsWithin (setting self.old) at }
         requires asked { MayAsk what }
@@ -232,7 +235,7 @@ pub trait Ground {
         ensures explained { IsExplained result.fault result.became }
         ensures shown { CanBeShown result.became }
         ensures number { NumbersDropped what result.became at }
-        ensures there { phase self.old ≡ Within → Knows (kept self.old) at → IsThere result.became }
+        ensures there { alone ≡ true → phase self.old ≡ Within → Knows (kept self.old) at → IsThere result.became }
         ensures kept { kept self.new ≡ kept self.old }
         ensures setting { setting self.new ≡ setting self.old }
         ensures phase { phase self.new ≡ phase_after what at result.became (phase self.old) };

@@ -48,12 +48,11 @@ module _ {R : Type 0} (routes : R → RouteCall → RouteTold → R → Type 0) 
     pub sent : AreSent old outs taken new
     pub sending_is : sending ≡ sending_of taken
 
-  -- each up to one for which no turn was left
+  -- each of the first ones, until no turn was left: for the next one, or before that for who listens
   pub record SendsFirst (old : R) (outs : List Out) (sending : Sending) (new : R) : Type 0 where
     pub first : List Out
-    pub out : Out
     pub more : List Out
-    pub outs_are : outs ≡ first ++ out ∷ more
+    pub outs_are : outs ≡ first ++ more
     pub taken : List Bool
     pub mid : R
     pub sent : AreSent old first taken mid

@@ -16,7 +16,7 @@ pub record Reading : Type 0 where
   pub heard : Bool
 
 -- What became of the outputs of a hold: each was taken by the router; each was tried, and some found no memory; or the numbers of the router's
--- turns were used up before each was tried, and this is the last one.
+-- turns were used up before all was asked and tried, and this is the last one.
 pub data Sending : Type 0 where
   Sent : Sending
   Short : Sending

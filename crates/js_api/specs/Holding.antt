@@ -73,10 +73,18 @@ AreDeliveries seat at now listening fault (Step by event moment reply outs unsai
 AreDeliveries seat at now listening fault (Broken by moment (DeliverOf heard d) ∷ more) = (by ≡ seat) × (moment ≡ now) × (heard ≡ listening) × (more ≡ [])
 AreDeliveries seat at now listening fault (Broken by moment (StepOf event) ∷ more) = ⊥
 
+-- for the first of these consumers, in order
+abbrev pub AreFirstReadings : List Consumer → List Reading → Type 0
+AreFirstReadings cs [] = Unit {0}
+AreFirstReadings [] (reading ∷ more) = ⊥
+AreFirstReadings (c ∷ cs) (reading ∷ more) = (heard : Bool) × (reading ≡ reading_of c heard) × AreFirstReadings cs more
+
 -- who listens was read for each push consumer; or the call ended before that, and nothing was delivered
 abbrev pub AreAsked : Option DeskFault → Hold → Type 0
 AreAsked None hold = AreReadings (push_consumers hold.between) hold.readings
-AreAsked (Some fault) hold = AreReadings (push_consumers hold.between) hold.readings ⊎ ((hold.readings ≡ []) × (hold.deliveries ≡ []))
+AreAsked (Some fault) hold =
+    AreReadings (push_consumers hold.between) hold.readings
+    ⊎ (AreFirstReadings (push_consumers hold.between) hold.readings × (hold.deliveries ≡ []))
 
 -- the bytes of an output are those of its five fields
 abbrev pub bytes_or_none : Option Bytes → ℕ

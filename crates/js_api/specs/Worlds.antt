@@ -8,12 +8,13 @@ use Rattle.js_model.specs.declared.stream.State.TheVariants.{Vacant, Live}
 use Rattle.js_model.specs.declared.entry.PlaceEntry.{PlaceEntry}
 use Rattle.js_model.specs.declared.entry.PlaceEntry.TheVariants.{Step, Deliver, Broken}
 use Rattle.js_model.specs.declared.desk.PlaceAt.{PlaceAt}
+use Rattle.js_model.specs.declared.kept_place.KeptPlace.{KeptPlace}
 use Rattle.js_model.specs.Events.{kept_incarnation}
 use Rattle.js_model.specs.Runs.{RunFrom, total_of}
 use Rattle.js_model.specs.Limits.{last_place}
 use Rattle.js_model.specs.PlaceStates.{VolumeAt, PlaceIn}
 use Rattle.js_model.specs.Router.{Router, RouteTold, IsRoute, Publish, Interest, Taken, Listens, NoMemory, empty_router}
-use Rattle.js_model.specs.Catalog.{Catalog, Place, IsCatalogCall, NextUsed, At}
+use Rattle.js_model.specs.Catalog.{Catalog, catalog_of, IsCatalogCall, NextUsed, At}
 use Rattle.js_api.specs.Entries.{Reading, Sending, Sent, Short, Hold, entries_in, DeskEntry, Routed, Looked, Turned, Resumed, Held, Stirred, Halted, Missed, Spent}
 use Rattle.js_api.specs.Outputs.{outs_of}
 
@@ -36,18 +37,19 @@ pub record Scene : Type 0 where
 
 -- ---- the opening
 
+-- the stream of a place, as the catalog is told of it
+abbrev pub stream_in : State → Option (Bytes × List Bytes)
+stream_in (Vacant i) = None
+stream_in (Live s) = Some (s.config.name, s.config.subjects)
+
 -- what the catalog begins with for a place
-abbrev pub kept_in : State → Place
-kept_in (Vacant i) = record { incarnation = i + 1; used = None }
-kept_in (Live s) = record {
-  incarnation = s.incarnation;
-  used = Some (record { name = s.config.name; subjects = s.config.subjects; new_subjects = None; stopped = false });
-}
+abbrev pub kept_in : PlaceIn → KeptPlace
+kept_in place = record { incarnation = kept_incarnation place.state; stream = stream_in place.state }
 
 -- no session was opened, the catalog has the streams of the places, and the first tick goes to the first used place
 abbrev pub opening : List PlaceIn → Scene
 opening places = record {
-  world = record { router = empty_router; catalog = map (λ (p : PlaceIn). kept_in p.state) places; places = places };
+  world = record { router = empty_router; catalog = catalog_of (map kept_in places); places = places };
   cursor = record { ticked = last_place; last = None };
 }
 

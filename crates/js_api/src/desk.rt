@@ -17,8 +17,8 @@ use js_model::{Collected, Taken};
 /// A desk serves one session at a time: it carries its subscriptions and publishes to the router and the streams. Which entries each call
 /// makes is told by a relation, so that a session can be proved once for every desk.
 ///
-/// Each call may answer that the numbers of turns are used up, or, if it takes memory, that there is none; what it made until then stands. A call
-/// that is for an open session answers `NoSession` exactly if none is open, and does nothing then.
+/// Each call may answer that the numbers of turns or of a store's generations are used up, or, if it takes memory, that there is none; what it made
+/// until then stands. A call that is for an open session answers `NoSession` exactly if none is open, and does nothing then.
 pub trait Desk {
     /// The session of the desk: its number, whether it is open, and whether its client is told if nobody took a message.
     ghost client: { Self → Client };

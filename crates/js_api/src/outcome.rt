@@ -38,6 +38,7 @@ pub struct Outcome {
     pub became: Became,
     /// Whether a consumer of the place is ready at the end of the hold.
     pub ready: bool,
-    /// Why the call of the desk ends with this hold: memory or the numbers of turns ran out in it. The reply is then answered to nobody.
+    /// Why the call of the desk ends with this hold: memory ran out in it, or the numbers of turns or of the
+    /// store's generations. The reply is then answered to nobody.
     pub fault: Option<DeskFault>,
 }

@@ -1,5 +1,5 @@
 -- A door in memory, as contracts see it, and what each of its calls does.
-use Rattle.std.specs.Prelude.{ℕ, Bool, true, false, ◌+◌, List, [], ◌∷◌, ◌++◌, Some, if◌then◌else◌}
+use Rattle.std.specs.Prelude.{ℕ, Bool, true, false, nat_lt, length, ◌+◌, List, [], ◌∷◌, ◌++◌, Some, if◌then◌else◌}
 use Rattle.link_edge.specs.declared.answers.Accept.{Accept}
 use Rattle.link_edge.specs.declared.answers.Accept.TheVariants as accepts
 use Rattle.link_edge.specs.declared.answers.Accepted.{Accepted}
@@ -66,3 +66,7 @@ after_accept door (accepts.Got link) =
     record (after_knock door accepted.Got) { gave = door.gave + 1 }
 after_accept door accepts.Quiet = after_knock door accepted.Quiet
 after_accept door accepts.Closed = after_knock door accepted.Closed
+
+-- the door after a link came back: it is kept, unless as many came back as were given out
+abbrev pub after_done : DoorState → LinkState → DoorState
+after_done door link = if nat_lt (length door.back) door.gave then record door { back = door.back ++ link ∷ [] } else door

@@ -40,12 +40,11 @@ pub trait Door {
         ensures starved { starved self.new ≡ after_accept result (starved self.old) }
         ensures cause { HasCause (faults self.old) (faults self.new) (result ≡ Accept.Failed) };
 
-    /// Takes a link back. It never fails, and takes no memory.
+    /// Takes a link back. It never fails, and takes no memory. What is known of the link is told if, as far as is known, one was out.
     fn done(&mut self, link: Self::Link)
-        requires out { HasOut (gave self.old) (back self.old) }
         ensures answered { answered self.new ≡ answered self.old }
         ensures gave { gave self.new ≡ gave self.old }
-        ensures back { back self.new ≡ grown (back self.old) (record {
+        ensures back { HasOut (gave self.old) (back self.old) → back self.new ≡ grown (back self.old) (record {
           answered = Self.Link.answered link;
           given = Self.Link.given link;
           failings = Self.Link.failings link;

@@ -1,7 +1,6 @@
 //! A door in memory.
 
 ghost use Rattle.std.specs.Prelude.{◌≡◌, ◌≢◌, ◌≤◌, ◌++◌, ◌∷◌, [], Some, map, count_by, IfOk};
-ghost use Rattle.link_edge.specs.Reports.{HasOut};
 ghost use Rattle.link_edge.specs.Accepts.{accepted_of};
 ghost use Rattle.link_edge.specs.MemDoor.{is_link, next_accept, knocks_after};
 ghost use Rattle.js_base.specs.Causes.{HasCause};
@@ -157,7 +156,7 @@ impl MemDoor {
 }
 
 impl Door for MemDoor {
-    ghost use Rattle.link_edge.specs.MemDoor.{accept_of, after_accept, report_of};
+    ghost use Rattle.link_edge.specs.MemDoor.{accept_of, after_accept, after_done, report_of};
 
     type Link = MemLink;
 
@@ -199,11 +198,12 @@ impl Door for MemDoor {
         }
     }
 
-    /// Keeps the link.
+    /// Keeps the link. If as many came back as were given out, it is let go.
     fn done(&mut self, link: MemLink)
-        requires out { HasOut (Some self.old.gave) (Some (map report_of self.old.back)) }
-        ensures after { self.new ≡ record self.old { back = self.old.back ++ link ∷ [] } }
+        ensures after { self.new ≡ after_done self.old link }
     {
-        self.back.push_reserved(link);
+        if self.back.len() < self.gave {
+            self.back.push_reserved(link);
+        }
     }
 }

@@ -22,7 +22,7 @@ use Rattle.js_model.specs.Streams.{by_name, pending_seqs}
 use Rattle.js_model.specs.Advance.{advance}
 use Rattle.js_model.specs.Deliver.{IsDelivery, IsDelivered}
 use Rattle.js_model.specs.Runs.{RunFrom, IsStep, new_messages}
-use Rattle.model_laws.specs.Sound.{IsSoundConsumer, IsSoundStream, IsSound}
+use Rattle.model_laws.proofs.Whole.{join, IsSoundConsumer, IsSoundStream, IsSoundState}
 use Rattle.model_laws.specs.OneConsumer.{drops, consumer_of}
 use Rattle.model_laws.specs.Acked.{NeverSent, EndsEntry, acknowledges, sends, has_entry}
 use Rattle.model_laws.specs.Laws.{LawAcked}
@@ -120,10 +120,10 @@ at_it name n a h e = go (by_name a.consumers name) refl e
     go None q f = absurd (true≢false (sym f))
     go (Some c) q f = stands-at c q (entry_passed a.messages a.last n c (All-by_name (IsSoundConsumer a.messages a.last) a.consumers name c q h.consumers) f)
 
-settled_by : (name : Bytes) (n count : ℕ) (old mid : State) (e : Event) (now : ℕ) (reply : Reply) (outs : List Out) → IsSound old → IsStep count old e now reply outs mid → EndsEntry old e now mid name n → InState name (IsSettled n) mid
+settled_by : (name : Bytes) (n count : ℕ) (old mid : State) (e : Event) (now : ℕ) (reply : Reply) (outs : List Out) → IsSoundState old → IsStep count old e now reply outs mid → EndsEntry old e now mid name n → InState name (IsSettled n) mid
 settled_by name n count (Vacant i) mid e now reply outs h x w = absurd (true≢false (sym w.stood))
 settled_by name n count (Live s) mid e now reply outs h x w =
     after_it name n mid (in_at_time name (IsPassed n) (passed_kept n) s mid e now reply outs x.event (spares name e.what w.event) (at_it name n (advance s now) (sound_time s now h) w.stood)) w.gone
 
 pub law_acked : LawAcked
-law_acked name n count later old mid new e now reply outs entries h x w r = never_sent name n later mid entries new (settled_by name n count old mid e now reply outs h x w) r
+law_acked name n count later old mid new e now reply outs entries h x w r = never_sent name n later mid entries new (settled_by name n count old mid e now reply outs (join old h) x w) r

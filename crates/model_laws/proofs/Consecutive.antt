@@ -1,6 +1,7 @@
 -- The consumer sequences of a consumer follow one after the other.
 use Rattle.std.proofs.Common.{◌≡◌, ℕ, ◌+◌, Bool, true, false, cond, List, [], ◌∷◌, ◌++◌, length, refl, sym, ap, ◌∙◌, subst}
 use Rattle.std.specs.Prelude.{Option, Some, None}
+use Rattle.std.specs.List.{last_or}
 use Rattle.std.proofs.lemmas.Bool.{true≢false}
 use Rattle.js_base.specs.Bytes.{Bytes, same}
 use Rattle.js_base.specs.declared.out.Out.{Out}
@@ -9,8 +10,6 @@ use Rattle.js_model.specs.declared.stream.State.{State}
 use Rattle.js_model.specs.declared.stream.State.TheVariants.{Vacant, Live}
 use Rattle.js_model.specs.declared.consumer.Consumer.{Consumer}
 use Rattle.js_model.specs.declared.ack.Ask.{Ask}
-use Rattle.js_model.specs.declared.ack.AckKind.{AckKind}
-use Rattle.js_model.specs.declared.ack.AckKind.TheVariants.{Ack as Acknowledge, Nak, Wpi, Next, Term}
 use Rattle.js_model.specs.declared.entry.Delivered.{Delivered}
 use Rattle.js_model.specs.declared.entry.Delivered.TheVariants.{Sent, TooSmall, Emptied}
 use Rattle.js_model.specs.declared.entry.Delivery.{Delivery}
@@ -18,7 +17,6 @@ use Rattle.js_model.specs.declared.entry.PlaceEntry.{PlaceEntry}
 use Rattle.js_model.specs.declared.entry.PlaceEntry.TheVariants.{Step, Deliver, Broken}
 use Rattle.js_model.specs.declared.entry.Call.TheVariants.{Step as StepOf, Deliver as DeliverOf}
 use Rattle.js_model.specs.Advance.{advance}
-use Rattle.js_model.specs.Acknowledge.{acknowledged}
 use Rattle.js_model.specs.Pulls.{pulled, pulled_unless, pull_refusal}
 use Rattle.js_model.specs.Deliver.{Delivers, IsDelivery, IsDelivered}
 use Rattle.js_model.specs.Runs.{RunFrom, new_messages}
@@ -26,14 +24,7 @@ use Rattle.model_laws.specs.OneConsumer.{drops}
 use Rattle.model_laws.specs.Sendings.{Sending, sending_of, sending_to, sendings}
 use Rattle.model_laws.specs.Order.{Follow}
 use Rattle.js_model.proofs.Named.{same_is, same_self}
-use Rattle.model_laws.proofs.ConsumerFacts.{IsKept, InStream, InState, in_event, in_delivery, its}
-
-dseq_acknowledged : (now n : ℕ) (kind : AckKind) (c : Consumer) → (acknowledged now n kind c).dseq ≡ c.dseq
-dseq_acknowledged now n Acknowledge c = refl
-dseq_acknowledged now n (Nak delay) c = refl
-dseq_acknowledged now n Wpi c = refl
-dseq_acknowledged now n (Next ask) c = refl
-dseq_acknowledged now n Term c = refl
+use Rattle.model_laws.proofs.ConsumerFacts.{IsKept, InStream, InState, in_event, in_delivery, its, acknowledged_entries}
 
 dseq_pulled : (now : ℕ) (reply : Option Bytes) (ask : Option Ask) (c : Consumer) → (pulled now reply ask c).dseq ≡ c.dseq
 dseq_pulled now None ask c = refl
@@ -51,7 +42,7 @@ pub dseq_kept : (d : ℕ) → IsKept (HasDseq d)
 dseq_kept d = record {
   confined = λ ns c h. h;
   time = λ now c h. h;
-  acknowledged = λ now n kind c h. dseq_acknowledged now n kind c ∙ h;
+  acknowledged = λ now n kind c h. ap (λ (d : Consumer). d.dseq) (acknowledged_entries now n kind c).rest ∙ h;
   pulled = λ now reply ask c h. dseq_pulled now reply ask c ∙ h;
 }
 
@@ -79,6 +70,10 @@ delivered_case : (name : Bytes) (more : List Sending) (d : ℕ) (old new : State
     → ((k : ℕ) → InState name (HasDseq k) new → Follow k more) → Follow d (sending_to name v ++ more)
 delivered_case name more d (Vacant i) new now listening v outs x h f = absurd h
 delivered_case name more d (Live s) new now listening v outs x h f = delivery_case name more d s new now listening v outs x h f
+
+pub last_push : {X : Type 0} (o : Option X) (xs : List X) (x : X) → last_or o (xs ++ x ∷ []) ≡ Some x
+last_push o [] x = refl
+last_push o (y ∷ ys) x = last_push (Some y) ys x
 
 pub append_nil : {X : Type 0} (xs : List X) → xs ++ [] ≡ xs
 append_nil [] = refl

@@ -28,6 +28,7 @@ use Rattle.js_model.specs.Consumers.{new_consumer}
 use Rattle.js_model.specs.Events.{with_message, with_id, after_ack, pulled_next, next_ask, IsEvent}
 use Rattle.js_model.specs.Deliver.{Delivers, IsDelivery}
 use Rattle.model_laws.specs.OneConsumer.{drops}
+use Rattle.model_laws.specs.Acked.{ChangesEntries}
 use Rattle.js_model.proofs.Named.{Stands, stands-map, stands-found, stands-with_new, stands-without, KeepsNames, same_is, found_named, same_self, in_place_of-names, placed_same}
 use Rattle.model_laws.proofs.Facts.{IsStreamFact, IfLive, at_event, at_time, at_kept}
 
@@ -53,12 +54,13 @@ confined-names keep = record { name = λ c. refl }
 time-names : (now : ℕ) → KeepsNames (consumer_at now)
 time-names now = record { name = λ c. refl }
 
-pub acknowledged-name : (now n : ℕ) (kind : AckKind) (c : Consumer) → (acknowledged now n kind c).name ≡ c.name
-acknowledged-name now n Acknowledge c = refl
-acknowledged-name now n (Nak delay) c = refl
-acknowledged-name now n Wpi c = refl
-acknowledged-name now n (Next ask) c = refl
-acknowledged-name now n Term c = refl
+-- an acknowledgement changes nothing of its consumer but the entries
+pub acknowledged_entries : (now n : ℕ) (kind : AckKind) (c : Consumer) → ChangesEntries c (acknowledged now n kind c)
+acknowledged_entries now n Acknowledge c = record { rest = refl }
+acknowledged_entries now n (Nak delay) c = record { rest = refl }
+acknowledged_entries now n Wpi c = record { rest = refl }
+acknowledged_entries now n (Next ask) c = record { rest = refl }
+acknowledged_entries now n Term c = record { rest = refl }
 
 pub pulled-name : (now : ℕ) (reply : Option Bytes) (ask : Option Ask) (c : Consumer) → (pulled now reply ask c).name ≡ c.name
 pulled-name now None ask c = refl
@@ -70,7 +72,7 @@ pulled-name now (Some reply) ask c = go ask (pull_refusal c ask)
     go ask (Some block) = refl
 
 pub after_ack-name : (now : ℕ) (reply : Option Bytes) (n : ℕ) (kind : AckKind) (c : Consumer) → (after_ack now reply n kind c).name ≡ c.name
-after_ack-name now reply n kind c = go (next_ask kind) ∙ acknowledged-name now n kind c
+after_ack-name now reply n kind c = go (next_ask kind) ∙ ap (λ (d : Consumer). d.name) (acknowledged_entries now n kind c).rest
   where
     go : (ask : Option Ask) → (pulled_next now reply ask (acknowledged now n kind c)).name ≡ (acknowledged now n kind c).name
     go None = refl

@@ -38,15 +38,17 @@ use Rattle.js_model.specs.Consumers.{making_checks, with_new, new_consumer}
 use Rattle.js_model.specs.Events.{stream_answer, answered, settled, settled_state, published, with_id, purge_list, deleted, message_at, message_told, message_by, told_of, consumer_made, consumer_asked, consumer_dropped, pull_answer, ack_answer, IsEvent}
 use Rattle.js_model.specs.Deliver.{IsDelivery}
 use Rattle.js_model.specs.Runs.{RunFrom, messages_of}
-use Rattle.model_laws.specs.Sound.{IsSoundStream, IsSound}
+use Rattle.model_laws.proofs.Whole.{join, IsSoundStream, IsSoundState}
 use Rattle.model_laws.specs.Leaving.{IsAged, IsTrimmed, IsUnneededWithinLimits, Leaves, LeavesOnEvent, aged, purged, deleted as deleted_it, dropped, trimmed, unneeded, LeavesOnDelivery, aged_by_then, not_needed}
 use Rattle.model_laws.specs.Laws.{LawKept}
 use Rattle.model_laws.proofs.Facts.{IfLive, at_answer}
 use Rattle.js_model.proofs.Members.{IsIn, in_push, found_in, in_from_contains, contains_from_in}
 use Rattle.js_model.proofs.Parts.{trim_part}
+use Rattle.js_model.specs.Lists.{Between}
+use Rattle.model_laws.proofs.PushedOut.{pushed_out, purge_takes}
 use Rattle.model_laws.proofs.Leaving.{young_or_aged, in_part_by_seq, kept_or_unneeded, in_passing}
 use Rattle.model_laws.proofs.SoundTime.{sound_time}
-use Rattle.model_laws.proofs.Sounding.{IsProperWhat, sound_fact, law_sound}
+use Rattle.model_laws.proofs.Sounding.{IsProperWhat, sound_fact, sound_run}
 
 -- what an event leaves before limits and retention holds the message
 abbrev Holds : Message → State → Type 0
@@ -98,12 +100,12 @@ module _ (m : Message) where
 
   -- ---- the events that remove messages
 
-  if_purged : (s : Stream) (now : ℕ) (new : State) (e : Event) (reply : Option Bytes) (pattern : Bytes) (below keep : Option ℕ) (room : Bool) → e.what ≡ Purge reply pattern below keep → IsIn m (advance s now).messages
+  if_purged : (s : Stream) (now : ℕ) (new : State) (e : Event) (reply : Option Bytes) (pattern : Bytes) (below keep : Option ℕ) (room : Bool) → e.what ≡ Purge reply pattern below keep → Between (λ m. m.seq) 1 ((advance s now).last + 1) (advance s now).messages → IsIn m (advance s now).messages
       → LeavesOnEvent s e now new m ⊎ Holds m (stream_answer (advance s now) (Purge reply pattern below keep) room).state
-  if_purged s now new e reply pattern below keep room is h = go (has (seqs (purge_list (advance s now) pattern below keep)) m.seq) refl
+  if_purged s now new e reply pattern below keep room is ascending h = go (has (seqs (purge_list (advance s now) pattern below keep)) m.seq) refl
     where
       go : (b : Bool) → has (seqs (purge_list (advance s now) pattern below keep)) m.seq ≡ b → LeavesOnEvent s e now new m ⊎ IsIn m (filter (λ x. not (has (seqs (purge_list (advance s now) pattern below keep)) x.seq)) (advance s now).messages)
-      go true q = inl (purged reply pattern below keep is q)
+      go true q = inl (purged reply pattern below keep is (purge_takes (advance s now) pattern below keep m ((advance s now).last + 1) ascending h q))
       go false q = inr (in_passing (λ x. not (has (seqs (purge_list (advance s now) pattern below keep)) x.seq)) m (advance s now).messages h (ap not q))
 
   if_deleted : (s : Stream) (now : ℕ) (new : State) (e : Event) (reply : Option Bytes) (n : ℕ) (room : Bool) → e.what ≡ Delete reply n → IsIn m (advance s now).messages
@@ -119,23 +121,23 @@ module _ (m : Message) where
       go (Some d) f = gone d f (d.seq == m.seq) refl
 
   -- the event removes the message, or what it leaves holds it
-  removed_or_held : (s : Stream) (now : ℕ) (new : State) (e : Event) (what : What) (room : Bool) → e.what ≡ what → IsIn m (advance s now).messages → LeavesOnEvent s e now new m ⊎ Holds m (stream_answer (advance s now) what room).state
-  removed_or_held s now new e (Make reply config) room is h = inr (if_either (same_stream_config config (advance s now).config) _ _ h h)
-  removed_or_held s now new e (Change reply config) room is h = inr (if_either (same_retention config.retention (advance s now).config.retention) _ _ h h)
-  removed_or_held s now new e (DropStream reply) room is h = inl (dropped reply is)
-  removed_or_held s now new e (PublishIt p) room is h = inr (if_published (advance s now) p (verdict (advance s now) p room) h)
-  removed_or_held s now new e (Purge reply pattern below keep) room is h = if_purged s now new e reply pattern below keep room is h
-  removed_or_held s now new e (Delete reply n) room is h = if_deleted s now new e reply n room is h
-  removed_or_held s now new e (MakeConsumer reply name config update) room is h = inr (if_asked (advance s now) name config update (by_name (advance s now).consumers name) h)
-  removed_or_held s now new e (DropConsumer reply name) room is h = inr (if_dropped (advance s now) (by_name (advance s now).consumers name) h)
-  removed_or_held s now new e (AckIt reply ack) room is h = inr (if_acked (advance s now) reply ack.seq ack.kind (by_name (advance s now).consumers ack.consumer) h)
-  removed_or_held s now new e (PullIt reply name ask) room is h = inr (if_pulled (advance s now) reply ask (by_name (advance s now).consumers name) h)
-  removed_or_held s now new e Tick room is h = inr h
-  removed_or_held s now new e (AskStream reply) room is h = inr h
-  removed_or_held s now new e (MessageGet reply by) room is h = inr (if_message (advance s now) (message_by (advance s now) by) h)
-  removed_or_held s now new e (AskConsumer reply name) room is h = inr (if_told (advance s now) (by_name (settled (advance s now)).consumers name) h)
-  removed_or_held s now new e (ConsumerNames reply offset) room is h = inr h
-  removed_or_held s now new e (ConsumerList reply offset) room is h = inr h
+  removed_or_held : (s : Stream) (now : ℕ) (new : State) (e : Event) (what : What) (room : Bool) → e.what ≡ what → Between (λ m. m.seq) 1 ((advance s now).last + 1) (advance s now).messages → IsIn m (advance s now).messages → LeavesOnEvent s e now new m ⊎ Holds m (stream_answer (advance s now) what room).state
+  removed_or_held s now new e (Make reply config) room is ascending h = inr (if_either (same_stream_config config (advance s now).config) _ _ h h)
+  removed_or_held s now new e (Change reply config) room is ascending h = inr (if_either (same_retention config.retention (advance s now).config.retention) _ _ h h)
+  removed_or_held s now new e (DropStream reply) room is ascending h = inl (dropped reply is)
+  removed_or_held s now new e (PublishIt p) room is ascending h = inr (if_published (advance s now) p (verdict (advance s now) p room) h)
+  removed_or_held s now new e (Purge reply pattern below keep) room is ascending h = if_purged s now new e reply pattern below keep room is ascending h
+  removed_or_held s now new e (Delete reply n) room is ascending h = if_deleted s now new e reply n room is h
+  removed_or_held s now new e (MakeConsumer reply name config update) room is ascending h = inr (if_asked (advance s now) name config update (by_name (advance s now).consumers name) h)
+  removed_or_held s now new e (DropConsumer reply name) room is ascending h = inr (if_dropped (advance s now) (by_name (advance s now).consumers name) h)
+  removed_or_held s now new e (AckIt reply ack) room is ascending h = inr (if_acked (advance s now) reply ack.seq ack.kind (by_name (advance s now).consumers ack.consumer) h)
+  removed_or_held s now new e (PullIt reply name ask) room is ascending h = inr (if_pulled (advance s now) reply ask (by_name (advance s now).consumers name) h)
+  removed_or_held s now new e Tick room is ascending h = inr h
+  removed_or_held s now new e (AskStream reply) room is ascending h = inr h
+  removed_or_held s now new e (MessageGet reply by) room is ascending h = inr (if_message (advance s now) (message_by (advance s now) by) h)
+  removed_or_held s now new e (AskConsumer reply name) room is ascending h = inr (if_told (advance s now) (by_name (settled (advance s now)).consumers name) h)
+  removed_or_held s now new e (ConsumerNames reply offset) room is ascending h = inr h
+  removed_or_held s now new e (ConsumerList reply offset) room is ascending h = inr h
 
   -- ---- limits and retention
 
@@ -150,7 +152,7 @@ module _ (m : Message) where
 
       go : (b : Bool) → has (seqs (trim t).messages) m.seq ≡ b → LeavesOnEvent s e now new m
       go true q = let i = in_part_by_seq 1 (t.last + 1) m (trim_part t) k.messages h q in within i (kept_or_unneeded (trim t) m i)
-      go false q = trimmed room own (subst (λ (z : State). IsTrimmed z m) (sym is) (contains_from_in t.messages m h, q))
+      go false q = trimmed room own (subst (λ (z : State). IsTrimmed z m) (sym is) (contains_from_in t.messages m h, pushed_out t m (t.last + 1) k.messages h q))
 
   after_event : (s : Stream) (new : State) (e : Event) (now : ℕ) (reply : Reply) (outs : List Out) → IsSoundStream s → IsEvent (Live s) e now reply outs new → IsTrue (is_proper_what e.what)
       → IsIn m s.messages → (IsIn m (messages_of new) → ⊥) → LeavesOnEvent s e now new m
@@ -165,7 +167,7 @@ module _ (m : Message) where
       young (inr w) = settling s now new e x.room _ own refl own w (at_answer IsProperWhat ⊤ IsSoundStream sound_fact (advance s now) e.what x.room proper (sound_time s now k)) gone
 
       either : IsIn m (advance s now).messages ⊎ IsAged s now m → LeavesOnEvent s e now new m
-      either (inl w) = young (removed_or_held s now new e e.what x.room refl w)
+      either (inl w) = young (removed_or_held s now new e e.what x.room refl (sound_time s now k).messages w)
       either (inr w) = aged w
 
   after_delivery : (s : Stream) (new : State) (now : ℕ) (listening : List Bytes) (d : Delivery) (outs : List Out) → IsDelivery s now listening d outs new
@@ -183,7 +185,7 @@ module _ (m : Message) where
       either (inl w) = young w (kept_or_unneeded after m w)
       either (inr w) = aged_by_then w
 
-  leaving : (later : ℕ) (old new : State) (entry : PlaceEntry) → IsSound old → RunFrom later old (entry ∷ []) new → IsIn m (messages_of old) → (IsIn m (messages_of new) → ⊥) → Leaves old entry new m
+  leaving : (later : ℕ) (old new : State) (entry : PlaceEntry) → IsSoundState old → RunFrom later old (entry ∷ []) new → IsIn m (messages_of old) → (IsIn m (messages_of new) → ⊥) → Leaves old entry new m
   leaving later (Vacant i) new entry k r h gone = elim h [ ]
   leaving later (Live s) new (Step seat e now reply outs unsaid) k (mid, x, q) h gone =
       subst (λ (z : State). LeavesOnEvent s e now z m) q
@@ -196,4 +198,4 @@ module _ (m : Message) where
 
 pub law_kept : LawKept
 law_kept count later first old new entries entry m h r q there gone =
-    leaving m later old new entry (law_sound count first old entries h r) q (in_from_contains (messages_of old) m there) (λ i. gone (contains_from_in (messages_of new) m i))
+    leaving m later old new entry (sound_run count first old entries (join first h) r) q (in_from_contains (messages_of old) m there) (λ i. gone (contains_from_in (messages_of new) m i))

@@ -1,3 +1,4 @@
+pub mod Whole
 pub mod Facts
 pub mod ConsumerFacts
 pub mod SoundParts
@@ -8,12 +9,16 @@ pub mod SoundMade
 pub mod SoundAcks
 pub mod SoundSent
 pub mod Sounding
+pub mod SoundTests
 pub mod Settled
+pub mod Entries
 pub mod Acked
 pub mod Duplicates
 pub mod Leaving
+pub mod PushedOut
 pub mod Kept
 pub mod Consecutive
+pub mod Counted
 pub mod StartOrder
 pub mod StoredBefore
 pub mod Making

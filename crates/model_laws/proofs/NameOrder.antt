@@ -13,7 +13,7 @@ use Rattle.js_base.specs.Bytes.{Bytes, same}
 use Rattle.js_model.specs.declared.consumer.Consumer.{Consumer}
 use Rattle.js_model.specs.Streams.{by_name}
 use Rattle.js_model.specs.Consumers.{with_new, is_before}
-use Rattle.model_laws.specs.Sound.{AreOrdered}
+use Rattle.model_laws.proofs.Whole.{AreOrdered}
 use Rattle.js_model.proofs.Named.{none_some}
 
 less_is : (o : Ordering) → is_lt o ≡ true → o ≡ Less

@@ -28,7 +28,7 @@ use Rattle.js_model.specs.Acknowledge.{acknowledged, moved}
 use Rattle.js_model.specs.Pulls.{pulled}
 use Rattle.js_model.specs.Deliver.{Delivers, IsDelivery, sent_to, with_pending, count_of, is_due, without_first}
 use Rattle.js_model.specs.Runs.{RunFrom, new_messages}
-use Rattle.model_laws.specs.Sound.{IsCounted, IsSoundConsumer, IsSoundStream, IsSound}
+use Rattle.model_laws.proofs.Whole.{IsCounted, IsSoundConsumer, IsSoundStream, IsSoundState}
 use Rattle.model_laws.specs.OneConsumer.{drops, consumer_of}
 use Rattle.model_laws.specs.Sendings.{Sending, sending_of, sending_to, sendings}
 use Rattle.model_laws.specs.Limits.{times_sent}
@@ -196,7 +196,7 @@ module _ (name : Bytes) (n limit : ℕ) (config : ConsumerConfig) (limit_is : co
           (its name (HasQuota n limit r) (HasQuota n limit r) (quota_kept n limit r) (quota_kept n limit r) s now listening v outs new x (same_is v.consumer name e) h) (after_it e)
       go false e = f r (in_delivery name (HasQuota n limit r) (HasQuota n limit r) (quota_kept n limit r) (quota_kept n limit r) s now listening v outs new x (λ u p. absurd (true≢false (sym (subst (λ (m : Bytes). same v.consumer m ≡ true) u (same_self v.consumer)) ∙ e))) (λ u c p. p) h)
 
-  quotas : (r count : ℕ) (old : State) (entries : List PlaceEntry) (new : State) → IsSound old → InState name (HasConfig config) old → InState name (HasQuota n limit r) old → RunFrom count old entries new → times_sent n (sendings name entries) ≤ r
+  quotas : (r count : ℕ) (old : State) (entries : List PlaceEntry) (new : State) → IsSoundState old → InState name (HasConfig config) old → InState name (HasQuota n limit r) old → RunFrom count old entries new → times_sent n (sendings name entries) ≤ r
   quotas r count old [] new s g h x = omega arith
   quotas r count (Vacant i) (entry ∷ entries) new s g h x = absurd h
   quotas r count (Live t) (Step seat e now reply outs unsaid ∷ entries) new s g h (mid, x, rest) =
@@ -248,11 +248,11 @@ first_quota n limit messages last c k e = go (has (pending_seqs c) n) refl
     go true q = waiting q
     go false q = let d : count_of c n ≡ 0 = count_absent c n q in (omega arith, inl (omega arith))
 
-pub deliveries_limited : (name : Bytes) (n count : ℕ) (old : State) (entries : List PlaceEntry) (new : State) (c : Consumer) → IsSound old → consumer_of name old ≡ Some c → RunFrom count old entries new
+pub deliveries_limited : (name : Bytes) (n count : ℕ) (old : State) (entries : List PlaceEntry) (new : State) (c : Consumer) → IsSoundState old → consumer_of name old ≡ Some c → RunFrom count old entries new
     → IfSome c.config.max_deliver (λ limit. count_of c n + times_sent n (sendings name entries) ≤ limit)
 deliveries_limited name n count old entries new c s e r = go c.config.max_deliver refl
   where
-    sound_one : (old : State) → IsSound old → consumer_of name old ≡ Some c → (limit : ℕ) → c.config.max_deliver ≡ Some limit → (count_of c n ≤ limit) × HasQuota n limit (limit - count_of c n) c
+    sound_one : (old : State) → IsSoundState old → consumer_of name old ≡ Some c → (limit : ℕ) → c.config.max_deliver ≡ Some limit → (count_of c n ≤ limit) × HasQuota n limit (limit - count_of c n) c
     sound_one (Vacant i) s e limit q = absurd (none_some e)
     sound_one (Live t) s e limit q = first_quota n limit t.messages t.last c (All-by_name (IsSoundConsumer t.messages t.last) t.consumers name c e s.consumers) q
 

@@ -41,7 +41,7 @@ use Rattle.js_model.specs.Events.{answered, IsEvent, settled_state, stream_answe
 use Rattle.js_model.specs.Deliver.{Delivers, IsDelivery, sent_to, with_pending, count_of, is_due}
 use Rattle.js_model.specs.Runs.{RunFrom, new_messages}
 use Rattle.js_model.specs.StateMoments.{moment_of}
-use Rattle.model_laws.specs.Sound.{IsSoundConsumer, IsSoundStream, IsSound}
+use Rattle.model_laws.proofs.Whole.{join, IsSoundConsumer, IsSoundStream, IsSoundState}
 use Rattle.model_laws.specs.OneConsumer.{drops, consumer_of}
 use Rattle.model_laws.specs.Sendings.{sending_of, sending_to}
 use Rattle.model_laws.specs.Redelivery.{Due, due_first, due_by, due_after_event, due_after_sent, due_after, IsAgain, IsDueSending, Redelivers}
@@ -529,7 +529,7 @@ clock_of : (name : Bytes) (P : Consumer → Type 0) (s new : State) (now clock k
 clock_of name P s (Vacant i) now clock k e h m = absurd h
 clock_of name P s (Live t) now clock k e h m = m ∙ ap (λ k. max k now) e
 
-redelivers : (name : Bytes) (n : ℕ) (config : ConsumerConfig) (clock : ℕ) (due : Due) (count : ℕ) (old : State) (entries : List PlaceEntry) (new : State) → IsSound old → InState name (HasConfig config) old → InState name (IsTracked n due) old → moment_of old ≡ clock
+redelivers : (name : Bytes) (n : ℕ) (config : ConsumerConfig) (clock : ℕ) (due : Due) (count : ℕ) (old : State) (entries : List PlaceEntry) (new : State) → IsSoundState old → InState name (HasConfig config) old → InState name (IsTracked n due) old → moment_of old ≡ clock
     → RunFrom count old entries new → Redelivers name n config.ack_wait clock due entries
 redelivers name n config clock due count old [] new s g h m r = tt
 redelivers name n config clock due count (Vacant i) (entry ∷ entries) new s g h m r = absurd h
@@ -569,11 +569,11 @@ pending_found low high n (x ∷ ps) h p i q = go (pending_found (x.seq + 1) high
 tracked_first : (n : ℕ) (messages : List Message) (last : ℕ) (c : Consumer) → IsSoundConsumer messages last c → IsTracked n (due_first n c) c
 tracked_first n messages last c k = record { tracked = λ p i q. ap (option_map (λ (p : Pending). (p.count, p.due))) (pending_found 1 c.cursor n c.pending k.pending p i q) }
 
-sound_of : (name : Bytes) (s : State) (c : Consumer) (n : ℕ) → IsSound s → consumer_of name s ≡ Some c → IsTracked n (due_first n c) c
+sound_of : (name : Bytes) (s : State) (c : Consumer) (n : ℕ) → IsSoundState s → consumer_of name s ≡ Some c → IsTracked n (due_first n c) c
 sound_of name (Vacant i) c n s e = absurd (none_some e)
 sound_of name (Live t) c n s e = tracked_first n t.messages t.last c (All-by_name (IsSoundConsumer t.messages t.last) t.consumers name c e s.consumers)
 
 pub law_redelivery : LawRedelivery
 law_redelivery name n count old new entries c s e r =
-    redelivers name n c.config (moment_of old) (due_first n c) count old entries new s (stands_of name old c (λ d. d.config ≡ c.config) e refl)
-    (stands_of name old c (IsTracked n (due_first n c)) e (sound_of name old c n s e)) refl r
+    redelivers name n c.config (moment_of old) (due_first n c) count old entries new (join old s) (stands_of name old c (λ d. d.config ≡ c.config) e refl)
+    (stands_of name old c (IsTracked n (due_first n c)) e (sound_of name old c n (join old s) e)) refl r

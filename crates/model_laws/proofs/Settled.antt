@@ -25,7 +25,7 @@ use Rattle.model_laws.specs.Acked.{is_sent}
 use Rattle.js_model.proofs.Parts.{filter_part}
 use Rattle.js_model.proofs.Lacking.{lacks-cons, lacks-head, lacks-tail, lacks-part, lacks-both}
 use Rattle.model_laws.proofs.SoundAcks.{moved-seq}
-use Rattle.model_laws.proofs.ConsumerFacts.{IsKept}
+use Rattle.model_laws.proofs.ConsumerFacts.{IsKept, acknowledged_entries}
 use Rattle.js_model.proofs.Candidates.{IsReason, again, picked, onward, candidate_is}
 
 -- the consumer has delivered the sequence
@@ -55,11 +55,7 @@ pub passed_confined : (n : ℕ) (ns : List ℕ) (c : Consumer) → IsPassed n c 
 passed_confined n ns c h = record { picks = lacks-part (filter_part (has ns) c.picks) h.picks; below = h.below }
 
 passed_acknowledged : (n now k : ℕ) (kind : AckKind) (c : Consumer) → IsPassed n c → IsPassed n (acknowledged now k kind c)
-passed_acknowledged n now k Acknowledge c h = record { picks = h.picks; below = h.below }
-passed_acknowledged n now k (Nak delay) c h = record { picks = h.picks; below = h.below }
-passed_acknowledged n now k Wpi c h = record { picks = h.picks; below = h.below }
-passed_acknowledged n now k (Next ask) c h = record { picks = h.picks; below = h.below }
-passed_acknowledged n now k Term c h = record { picks = h.picks; below = h.below }
+passed_acknowledged n now k kind c h = let e = (acknowledged_entries now k kind c).rest in passed_same n c (acknowledged now k kind c) (ap (λ (d : Consumer). d.picks) e) (ap (λ (d : Consumer). d.cursor) e) h
 
 pub passed_kept : (n : ℕ) → IsKept (IsPassed n)
 passed_kept n = record {

@@ -17,7 +17,7 @@ use Rattle.js_model.specs.Streams.{by_name, with_consumer, in_place_of, is_push}
 use Rattle.js_model.specs.Acknowledge.{acknowledged, without, with_due, moved}
 use Rattle.js_model.specs.Pulls.{pulled, pulled_unless, with_pull, pull_refusal, push_based, exceeded_waiting}
 use Rattle.js_model.specs.Events.{after_ack, pulled_next, next_ask}
-use Rattle.model_laws.specs.Sound.{AreStored, IsCounted, IsSoundConsumer, IsSoundStream}
+use Rattle.model_laws.proofs.Whole.{AreStored, IsCounted, IsSoundConsumer, IsSoundStream}
 use Rattle.js_model.proofs.Named.{none_some, some_is, in_place_of-names}
 use Rattle.js_model.proofs.Parts.{filter_part, part_between, all_part, part_map}
 use Rattle.js_model.proofs.Lacking.{apart-parts, has-part}

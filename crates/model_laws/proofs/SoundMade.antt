@@ -16,7 +16,7 @@ use Rattle.js_model.specs.Configs.{is_consumer_config}
 use Rattle.js_model.specs.Trim.{newest}
 use Rattle.js_model.specs.Start.{matching, seq_or_next, picks_at, cursor_at}
 use Rattle.js_model.specs.Consumers.{new_consumer, with_new}
-use Rattle.model_laws.specs.Sound.{AreStored, IsCounted, IsSoundConsumer, IsSoundStream}
+use Rattle.model_laws.proofs.Whole.{AreStored, IsCounted, IsSoundConsumer, IsSoundStream}
 use Rattle.js_model.proofs.Parts.{filter_part, newest_part, part_between, between_map, between_bounds, part_any}
 use Rattle.model_laws.proofs.NameOrder.{ordered_filter, ordered_with_new, All-with_new}
 

@@ -2,7 +2,7 @@
 use Rattle.std.proofs.Common.{◌≡◌, ℕ, ◌+◌, Bool, true, false, ◌&&◌, ◌||◌, cond, List, [], ◌∷◌, map, refl, sym, ap, ◌∙◌, subst, arith}
 use Rattle.std.specs.Prelude.{filter, ◌==◌}
 use Rattle.std.specs.List.{list_any}
-use Rattle.std.proofs.lemmas.Bool.{true≢false, eqb-true}
+use Rattle.std.proofs.lemmas.Bool.{true≢false, eqb-true, or_left, or_right}
 use Rattle.std.proofs.lemmas.List.Elements.{All-filter, All-map, All-weaker}
 use Rattle.js_base.specs.Bytes.{Bytes, has}
 use Rattle.js_model.specs.Lists.{Between, IsPart, keep, none, skip}
@@ -11,7 +11,7 @@ use Rattle.js_model.specs.declared.stream.Stream.{Stream}
 use Rattle.js_model.specs.declared.consumer.Consumer.{Consumer}
 use Rattle.js_model.specs.Streams.{confined, only, seqs, passes_filter, pending_seqs}
 use Rattle.js_model.specs.Consumers.{is_before}
-use Rattle.model_laws.specs.Sound.{AreStored, IsCounted, IsSoundConsumer, IsSoundStream, AreOrdered}
+use Rattle.model_laws.proofs.Whole.{AreStored, IsCounted, IsSoundConsumer, IsSoundStream, AreOrdered}
 use Rattle.js_model.proofs.Parts.{filter_part, none_below, part_between}
 use Rattle.js_model.proofs.Lacking.{apart-parts, has-part}
 
@@ -28,6 +28,18 @@ has-filter p (x ∷ xs) n h = go (p x) refl (has-filter p xs n) h
         either true q w = subst (λ (m : ℕ). p m ≡ true) (eqb-true x n q) e
         either false q w = f w
     go false e f k = f k
+
+pub has-kept : (p : ℕ → Bool) (xs : List ℕ) (n : ℕ) → has xs n ≡ true → p n ≡ true → has (filter p xs) n ≡ true
+has-kept p [] n h e = h
+has-kept p (x ∷ xs) n h e = go (x == n) refl (λ k. has-kept p xs n k e) h
+  where
+    later : (b : Bool) → has (filter p xs) n ≡ true → has (cond b (x ∷ filter p xs) (filter p xs)) n ≡ true
+    later true k = or_right (x == n) (has (filter p xs) n) k
+    later false k = k
+
+    go : (b : Bool) → (x == n) ≡ b → (has xs n ≡ true → has (filter p xs) n ≡ true) → (b || has xs n) ≡ true → has (cond (p x) (x ∷ filter p xs) (filter p xs)) n ≡ true
+    go true q f k = subst (λ (b : Bool). has (cond b (x ∷ filter p xs) (filter p xs)) n ≡ true) (sym (ap p (eqb-true x n q) ∙ e)) (or_left (x == n) (has (filter p xs) n) q)
+    go false q f k = later (p x) (f k)
 
 pub map-filter : {X Y : Type 0} (f : X → Y) (p : Y → Bool) (xs : List X) → map f (filter (λ x. p (f x)) xs) ≡ filter p (map f xs)
 map-filter f p [] = refl
@@ -85,7 +97,7 @@ stored_in_part pattern high {ys = ys} {ns = ns} p h k = record {
 
 -- ---- the consumer, and the stream
 
-confined_pending : (ns : List ℕ) (c : Consumer) → pending_seqs (confined ns c) ≡ filter (has ns) (pending_seqs c)
+pub confined_pending : (ns : List ℕ) (c : Consumer) → pending_seqs (confined ns c) ≡ filter (has ns) (pending_seqs c)
 confined_pending ns c = map-filter (λ p. p.seq) (has ns) c.pending
 
 pub confined_sound : (last : ℕ) {ys xs : List Message} (c : Consumer) → IsPart ys xs → Between (λ m. m.seq) 1 (last + 1) xs → IsSoundConsumer xs last c → IsSoundConsumer ys last (confined (seqs ys) c)

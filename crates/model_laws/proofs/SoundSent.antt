@@ -18,7 +18,7 @@ use Rattle.js_model.specs.declared.entry.Delivered.TheVariants.{Sent, TooSmall, 
 use Rattle.js_model.specs.Streams.{passes_filter, pending_seqs, is_unacknowledged, sent_size, below_limit}
 use Rattle.js_model.specs.Configs.{is_consumer_config, is_limit}
 use Rattle.js_model.specs.Deliver.{sent_to, pending_after, with_pending, count_of, front_served, is_due, without_first, Delivers}
-use Rattle.model_laws.specs.Sound.{IsStored, AreStored, IsCounted, IsSoundConsumer}
+use Rattle.model_laws.proofs.Whole.{IsStored, AreStored, IsCounted, IsSoundConsumer}
 use Rattle.js_model.proofs.Parts.{filter_part, all_part, part_between, between_higher, between_bounds, between_map}
 use Rattle.js_model.proofs.Lacking.{apart-parts, has-part}
 use Rattle.model_laws.proofs.SoundParts.{has-filter}

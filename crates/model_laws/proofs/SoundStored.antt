@@ -16,7 +16,7 @@ use Rattle.js_model.specs.Streams.{pending_seqs}
 use Rattle.js_model.specs.Refusals.{first_refusal}
 use Rattle.js_model.specs.Verdict.{verdict, message_of, known, first_of_all, early_checks, late_checks}
 use Rattle.js_model.specs.Events.{with_message, with_id}
-use Rattle.model_laws.specs.Sound.{AreStored, IsSoundConsumer, IsSoundStream, AreDifferent}
+use Rattle.model_laws.proofs.Whole.{AreStored, IsSoundConsumer, IsSoundStream, AreDifferent}
 use Rattle.js_model.proofs.Named.{none_some, same_is, same_self}
 use Rattle.js_model.proofs.Parts.{between_push}
 use Rattle.js_model.proofs.Lacking.{lacks-push}

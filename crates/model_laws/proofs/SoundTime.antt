@@ -13,7 +13,7 @@ use Rattle.js_model.specs.declared.consumer.Pull.{Pull}
 use Rattle.js_model.specs.declared.consumer.Consumer.{Consumer}
 use Rattle.js_model.specs.Streams.{pending_seqs}
 use Rattle.js_model.specs.Advance.{advance, aged, young, consumer_at, placed, is_spent, all_given_up, beaten, is_over}
-use Rattle.model_laws.specs.Sound.{IsStored, IsCounted, IsSoundConsumer, IsSoundStream, AreDifferent}
+use Rattle.model_laws.proofs.Whole.{IsStored, IsCounted, IsSoundConsumer, IsSoundStream, AreDifferent}
 use Rattle.js_model.proofs.Parts.{all_part, filter_part, drop_part, part_map, young_part, part_between, between_lower, between_map}
 use Rattle.js_model.proofs.Lacking.{apart-parts, has-part, has-placed, has-all_placed, lacks-part}
 use Rattle.model_laws.proofs.SoundParts.{sound_only, ordered_map}

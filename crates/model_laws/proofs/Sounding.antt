@@ -13,6 +13,7 @@ use Rattle.js_model.specs.declared.event.Event.{Event}
 use Rattle.js_model.specs.declared.event.What.{What}
 use Rattle.js_model.specs.declared.reply.Reply.{Reply}
 use Rattle.js_model.specs.declared.entry.Delivery.{Delivery}
+use Rattle.js_model.specs.declared.entry.PlaceEntry.{PlaceEntry}
 use Rattle.js_model.specs.declared.entry.PlaceEntry.TheVariants.{Step, Deliver, Broken}
 use Rattle.js_model.specs.declared.entry.Call.TheVariants.{Step as StepOf, Deliver as DeliverOf}
 use Rattle.js_model.specs.Streams.{with_consumer}
@@ -21,8 +22,8 @@ use Rattle.js_model.specs.Consumers.{empty_stream}
 use Rattle.js_model.specs.Proper.{is_proper_what}
 use Rattle.js_model.specs.Advance.{advance}
 use Rattle.js_model.specs.Deliver.{IsDelivery, IsDelivered}
-use Rattle.js_model.specs.Runs.{IsStep, new_messages}
-use Rattle.model_laws.specs.Sound.{IsSoundConsumer, IsSoundStream, IsSound}
+use Rattle.js_model.specs.Runs.{RunFrom, IsStep, new_messages}
+use Rattle.model_laws.proofs.Whole.{join, split, IsSoundConsumer, IsSoundStream, IsSoundState}
 use Rattle.model_laws.specs.Laws.{LawSound}
 use Rattle.model_laws.proofs.Facts.{IsStreamFact, IfLive, at_event, at_kept}
 use Rattle.model_laws.proofs.SoundParts.{sound_only}
@@ -57,15 +58,15 @@ sound_fact = record {
   time = sound_time;
 }
 
-live_from : (s : State) → IsSound s → IfLive ⊤ IsSoundStream s
+live_from : (s : State) → IsSoundState s → IfLive ⊤ IsSoundStream s
 live_from (Vacant i) h = h
 live_from (Live s) h = h
 
-from_live : (s : State) → IfLive ⊤ IsSoundStream s → IsSound s
+from_live : (s : State) → IfLive ⊤ IsSoundStream s → IsSoundState s
 from_live (Vacant i) h = h
 from_live (Live s) h = h
 
-pub sound_step : (count : ℕ) (old new : State) (e : Event) (now : ℕ) (reply : Reply) (outs : List Out) → IsStep count old e now reply outs new → IsSound old → IsSound new
+pub sound_step : (count : ℕ) (old new : State) (e : Event) (now : ℕ) (reply : Reply) (outs : List Out) → IsStep count old e now reply outs new → IsSoundState old → IsSoundState new
 sound_step count old new e now reply outs x h = from_live new (at_event IsProperWhat ⊤ IsSoundStream sound_fact old new e now reply outs x.event (and_parts _ _ x.proper).1 (live_from old h))
 
 -- the consumer of a delivery is sound at its moment
@@ -73,18 +74,21 @@ pub sound_found : (s : Stream) (now : ℕ) (listening : List Bytes) (d : Deliver
     → IsSoundStream s → IsSoundConsumer (advance s now).messages (advance s now).last x.consumer
 sound_found s now listening d outs new x h = All-by_name (IsSoundConsumer (advance s now).messages (advance s now).last) (advance s now).consumers d.consumer x.consumer x.found (sound_time s now h).consumers
 
-pub sound_delivery : (old new : State) (now : ℕ) (listening : List Bytes) (d : Delivery) (outs : List Out) → IsDelivered old now listening d outs new → IsSound old → IsSound new
+pub sound_delivery : (old new : State) (now : ℕ) (listening : List Bytes) (d : Delivery) (outs : List Out) → IsDelivered old now listening d outs new → IsSoundState old → IsSoundState new
 sound_delivery (Vacant i) new now listening d outs x h = absurd x
 sound_delivery (Live s) new now listening d outs x h =
     let k = sound_time s now h in
-    subst IsSound (sym x.new_is)
+    subst IsSoundState (sym x.new_is)
     (at_kept IsProperWhat ⊤ IsSoundStream sound_fact (with_consumer (advance s now) x.after)
     (sound_with (advance s now) x.after (delivered_sound (advance s now) listening x.consumer x.after d.what x.own k.messages x.delivers (sound_found s now listening d outs new x h)) k))
 
+pub sound_run : (count : ℕ) (old new : State) (entries : List PlaceEntry) → IsSoundState old → RunFrom count old entries new → IsSoundState new
+sound_run count old new [] h r = subst IsSoundState r h
+sound_run count old new (Step seat e now reply outs unsaid ∷ entries) h (mid, x, rest) = sound_run (count + length (new_messages old mid)) mid new entries (sound_step count old mid e now reply outs x h) rest
+sound_run count old new (Deliver seat now listening d outs ∷ entries) h (mid, x, rest) = sound_run (count + length (new_messages old mid)) mid new entries (sound_delivery old mid now listening d outs x.delivered h) rest
+sound_run count old new (Broken seat now (StepOf e) ∷ []) h (reply, outs, x) = sound_step count old new e now reply outs x h
+sound_run count old new (Broken seat now (DeliverOf listening d) ∷ []) h (outs, x) = sound_delivery old new now listening d outs x.delivered h
+sound_run count old new (Broken seat now call ∷ entry ∷ entries) h r = absurd r
+
 pub law_sound : LawSound
-law_sound count old new [] h r = subst IsSound r h
-law_sound count old new (Step seat e now reply outs unsaid ∷ entries) h (mid, x, rest) = law_sound (count + length (new_messages old mid)) mid new entries (sound_step count old mid e now reply outs x h) rest
-law_sound count old new (Deliver seat now listening d outs ∷ entries) h (mid, x, rest) = law_sound (count + length (new_messages old mid)) mid new entries (sound_delivery old mid now listening d outs x.delivered h) rest
-law_sound count old new (Broken seat now (StepOf e) ∷ []) h (reply, outs, x) = sound_step count old new e now reply outs x h
-law_sound count old new (Broken seat now (DeliverOf listening d) ∷ []) h (outs, x) = sound_delivery old new now listening d outs x.delivered h
-law_sound count old new (Broken seat now call ∷ entry ∷ entries) h r = absurd r
+law_sound count old new entries h r = split new (sound_run count old new entries (join old h) r)

@@ -10,8 +10,6 @@ use Rattle.js_model.specs.declared.stream.Stream.{Stream}
 use Rattle.js_model.specs.declared.stream.State.{State}
 use Rattle.js_model.specs.declared.stream.State.TheVariants.{Vacant, Live}
 use Rattle.js_model.specs.declared.consumer.Consumer.{Consumer}
-use Rattle.js_model.specs.declared.ack.AckKind.{AckKind}
-use Rattle.js_model.specs.declared.ack.AckKind.TheVariants.{Ack as Acknowledge, Nak, Wpi, Next, Term}
 use Rattle.js_model.specs.declared.entry.Delivered.{Delivered}
 use Rattle.js_model.specs.declared.entry.Delivered.TheVariants.{Sent, TooSmall, Emptied}
 use Rattle.js_model.specs.declared.entry.Delivery.{Delivery}
@@ -24,7 +22,7 @@ use Rattle.js_model.specs.Acknowledge.{acknowledged}
 use Rattle.js_model.specs.Pulls.{pulled}
 use Rattle.js_model.specs.Deliver.{Delivers, IsDelivery, IsDelivered, count_of, is_due}
 use Rattle.js_model.specs.Runs.{RunFrom, new_messages}
-use Rattle.model_laws.specs.Sound.{IsCounted, IsSoundConsumer, IsSoundStream, IsSound}
+use Rattle.model_laws.proofs.Whole.{IsCounted, IsSoundConsumer, IsSoundStream, IsSoundState}
 use Rattle.model_laws.specs.OneConsumer.{drops}
 use Rattle.model_laws.specs.Sendings.{Sending, sending_of, sending_to, sendings}
 use Rattle.model_laws.specs.Order.{IsStartOrder, firsts}
@@ -36,7 +34,7 @@ use Rattle.model_laws.proofs.SoundSent.{count_waiting}
 use Rattle.model_laws.proofs.Sounding.{sound_step, sound_delivery, sound_found}
 use Rattle.model_laws.proofs.Settled.{picks_pulled}
 use Rattle.model_laws.proofs.Consecutive.{append_nil}
-use Rattle.model_laws.proofs.ConsumerFacts.{IsKept, InStream, InState, in_event, in_delivery, its}
+use Rattle.model_laws.proofs.ConsumerFacts.{IsKept, InStream, InState, in_event, in_delivery, its, acknowledged_entries}
 
 -- ---- orders
 
@@ -73,13 +71,6 @@ pub record IsFrom (ps : List ℕ) (k : ℕ) (c : Consumer) : Type 0 where
   pub part : IsPart c.picks ps
   pub cursor : k ≤ c.cursor
 
-picks_acknowledged : (now n : ℕ) (kind : AckKind) (c : Consumer) → ((acknowledged now n kind c).picks ≡ c.picks) × ((acknowledged now n kind c).cursor ≡ c.cursor)
-picks_acknowledged now n Acknowledge c = (refl, refl)
-picks_acknowledged now n (Nak delay) c = (refl, refl)
-picks_acknowledged now n Wpi c = (refl, refl)
-picks_acknowledged now n (Next ask) c = (refl, refl)
-picks_acknowledged now n Term c = (refl, refl)
-
 from_same : (ps : List ℕ) (k : ℕ) (c d : Consumer) → d.picks ≡ c.picks → d.cursor ≡ c.cursor → IsFrom ps k c → IsFrom ps k d
 from_same ps k c d e f h = record { part = subst (λ (l : List ℕ). IsPart l ps) (sym e) h.part; cursor = let q : k ≤ c.cursor = h.cursor in omega arith }
 
@@ -91,7 +82,7 @@ pub from_kept : (ps : List ℕ) (k : ℕ) → IsKept (IsFrom ps k)
 from_kept ps k = record {
   confined = λ ns c h. record { part = part_trans (filter_part (has ns) c.picks) h.part; cursor = h.cursor };
   time = λ now c h. record { part = h.part; cursor = h.cursor };
-  acknowledged = λ now n kind c h. let e = picks_acknowledged now n kind c in from_same ps k c (acknowledged now n kind c) e.0 e.1 h;
+  acknowledged = λ now n kind c h. let e = (acknowledged_entries now n kind c).rest in from_same ps k c (acknowledged now n kind c) (ap (λ (d : Consumer). d.picks) e) (ap (λ (d : Consumer). d.cursor) e) h;
   pulled = λ now reply ask c h. let e = picks_pulled now reply ask c in from_same ps k c (pulled now reply ask c) e.0 e.1 h;
 }
 
@@ -164,14 +155,14 @@ module _ (name : Bytes) (more : List Sending) where
           (its name (IsFrom ps k) (IsFrom ps k) (from_kept ps k) (from_kept ps k) s now listening v outs new x (same_is v.consumer name e) h) (after_it e)
       go false e = f ps k (in_delivery name (IsFrom ps k) (IsFrom ps k) (from_kept ps k) (from_kept ps k) s now listening v outs new x (λ n p. absurd (true≢false (sym (subst (λ (m : Bytes). same v.consumer m ≡ true) n (same_self v.consumer)) ∙ e))) (λ g c p. p) h)
 
-delivered_order : (name : Bytes) (more : List Sending) (ps : List ℕ) (k : ℕ) (old new : State) (now : ℕ) (listening : List Bytes) (v : Delivery) (outs : List Out) → IsDelivered old now listening v outs new → IsSound old → InState name (IsFrom ps k) old
+delivered_order : (name : Bytes) (more : List Sending) (ps : List ℕ) (k : ℕ) (old new : State) (now : ℕ) (listening : List Bytes) (v : Delivery) (outs : List Out) → IsDelivered old now listening v outs new → IsSoundState old → InState name (IsFrom ps k) old
     → ((qs : List ℕ) (j : ℕ) → InState name (IsFrom qs j) new → IsStartOrder qs j (firsts more)) → IsStartOrder ps k (firsts (sending_to name v ++ more))
 delivered_order name more ps k (Vacant i) new now listening v outs x s h f = absurd h
 delivered_order name more ps k (Live t) new now listening v outs x s h f = delivery_order name more ps k t new now listening v outs x s h f
 
 -- ---- the induction
 
-pub start_order : (name : Bytes) (ps : List ℕ) (k count : ℕ) (old : State) (entries : List PlaceEntry) (new : State) → IsSound old → InState name (IsFrom ps k) old → RunFrom count old entries new → IsStartOrder ps k (firsts (sendings name entries))
+pub start_order : (name : Bytes) (ps : List ℕ) (k count : ℕ) (old : State) (entries : List PlaceEntry) (new : State) → IsSoundState old → InState name (IsFrom ps k) old → RunFrom count old entries new → IsStartOrder ps k (firsts (sendings name entries))
 start_order name ps k count old [] new s h r = order_nil ps k
 start_order name ps k count old (Step seat e now reply outs unsaid ∷ entries) new s h (mid, x, rest) =
     unless_dropped (drops name e.what) refl
@@ -188,7 +179,7 @@ start_order name ps k count old (Broken seat now (DeliverOf listening v) ∷ [])
     subst (λ (xs : List Sending). IsStartOrder ps k (firsts xs)) (append_nil (sending_to name v)) (delivered_order name [] ps k old new now listening v outs x.delivered s h (λ qs j q. order_nil qs j))
 start_order name ps k count old (Broken seat now (DeliverOf listening v) ∷ entry ∷ entries) new s h r = absurd r
 
-pub start_order_of : (name : Bytes) (count : ℕ) (old : State) (entries : List PlaceEntry) (new : State) (c : Consumer) → IsSound old → InState name (λ d. d ≡ c) old → RunFrom count old entries new → IsStartOrder c.picks c.cursor (firsts (sendings name entries))
+pub start_order_of : (name : Bytes) (count : ℕ) (old : State) (entries : List PlaceEntry) (new : State) (c : Consumer) → IsSoundState old → InState name (λ d. d ≡ c) old → RunFrom count old entries new → IsStartOrder c.picks c.cursor (firsts (sendings name entries))
 start_order_of name count old entries new c s h r = start_order name c.picks c.cursor count old entries new s (from_first old h) r
   where
     from_first : (old : State) → InState name (λ d. d ≡ c) old → InState name (IsFrom c.picks c.cursor) old

@@ -1,6 +1,7 @@
 -- What is sent to a consumer was stored before, and its filter matches it.
 use Rattle.std.proofs.Common.{◌≡◌, ℕ, ◌+◌, Bool, true, false, ◌&&◌, cond, List, [], ◌∷◌, ◌++◌, map, max, length, refl, sym, ap, ◌∙◌, subst, ◌⊎◌, inl, inr}
-use Rattle.std.specs.Prelude.{Option, Some, None, ◌==◌, ⊤, MatchBool}
+use Rattle.std.specs.Prelude.{Option, Some, None, Contains, ◌==◌, ⊤, MatchBool}
+use Rattle.std.specs.List.{last_or}
 use Rattle.std.proofs.lemmas.Bool.{true≢false, eq-eqb, and_from}
 use Rattle.js_base.specs.Bytes.{Bytes, same}
 use Rattle.js_base.specs.declared.out.Out.{Out}
@@ -11,8 +12,6 @@ use Rattle.js_model.specs.declared.stream.State.{State}
 use Rattle.js_model.specs.declared.stream.State.TheVariants.{Vacant, Live}
 use Rattle.js_model.specs.declared.consumer.Consumer.{Consumer}
 use Rattle.js_model.specs.declared.ack.Ask.{Ask}
-use Rattle.js_model.specs.declared.ack.AckKind.{AckKind}
-use Rattle.js_model.specs.declared.ack.AckKind.TheVariants.{Ack as Acknowledge, Nak, Wpi, Next, Term}
 use Rattle.js_model.specs.declared.event.Event.{Event}
 use Rattle.js_model.specs.declared.event.Publish.{Publish}
 use Rattle.js_model.specs.declared.event.What.{What}
@@ -29,32 +28,32 @@ use Rattle.js_model.specs.declared.entry.Call.TheVariants.{Step as StepOf, Deliv
 use Rattle.js_model.specs.declared.reply.Answer.{Answer}
 use Rattle.js_model.specs.Lists.{IsPart, Between}
 use Rattle.js_model.specs.Streams.{passes_filter}
-use Rattle.js_model.specs.Advance.{advance, young}
+use Rattle.js_model.specs.Advance.{advance, advance_outs, young}
 use Rattle.js_model.specs.Verdict.{verdict, message_of}
-use Rattle.js_model.specs.Acknowledge.{acknowledged}
 use Rattle.js_model.specs.Pulls.{pulled, pulled_unless, pull_refusal}
 use Rattle.js_model.specs.Events.{answered, published, with_id, IsEvent, settled_state, stream_answer}
-use Rattle.js_model.specs.Deliver.{Delivers, IsDelivery, IsDelivered}
+use Rattle.js_model.specs.Deliver.{Delivers, IsDelivery, IsDelivered, candidates, delivery_out, sent_to}
 use Rattle.js_model.specs.Runs.{RunFrom, new_messages}
-use Rattle.model_laws.specs.Sound.{IsSoundConsumer, IsSoundStream, IsSound}
+use Rattle.model_laws.proofs.Whole.{IsSoundConsumer, IsSoundStream, IsSoundState}
 use Rattle.model_laws.specs.OneConsumer.{drops}
 use Rattle.model_laws.specs.Sendings.{sending_of, sending_to}
-use Rattle.model_laws.specs.Order.{Stored, stored_first, stored_by, was_stored, WereStored, SendsStored}
+use Rattle.model_laws.specs.Order.{Stored, stored_of, stored_first, stored_by, was_stored, WereStored, BringsIt, IsBrought, IsBroughtTo, SendsStored}
 use Rattle.js_model.proofs.Named.{same_is}
-use Rattle.js_model.proofs.Members.{IsIn, here, there, in_part, in_append, in_cons, any_in, holds_of_one}
+use Rattle.js_model.proofs.Members.{IsIn, here, there, in_part, in_append, in_cons, any_in, holds_of_one, contains_from_in}
 use Rattle.model_laws.proofs.Facts.{IsStreamFact, IfLive, at_event, at_settled, at_delivery}
 use Rattle.js_model.proofs.Candidates.{candidate_is}
 use Rattle.js_model.proofs.Parts.{young_part}
 use Rattle.model_laws.proofs.SoundTime.{sound_time}
 use Rattle.model_laws.proofs.SoundSent.{deliverable}
 use Rattle.model_laws.proofs.Sounding.{sound_step, sound_delivery, sound_found}
-use Rattle.model_laws.proofs.ConsumerFacts.{IsKept, InStream, InState, in_event, in_delivery, its}
+use Rattle.model_laws.proofs.ConsumerFacts.{IsKept, InStream, InState, in_event, in_delivery, its, acknowledged_entries}
+use Rattle.model_laws.proofs.Consecutive.{last_push}
 
 -- ---- known messages
 
 -- each of the messages is known
 record AreKnown (known : List Stored) (ms : List Message) : Type 0 where
-  each : (m : Message) → IsIn m ms → IsIn (m.seq, m.subject) known
+  each : (m : Message) → IsIn m ms → IsIn (stored_of m) known
 
 known_part : (known : List Stored) (ys xs : List Message) → IsPart ys xs → AreKnown known xs → AreKnown known ys
 known_part known ys xs p h = record { each = λ m i. h.each m (in_part p i) }
@@ -88,18 +87,21 @@ known_fact known = record {
 known_published : (known : List Stored) (a : Stream) (p : Publish) (v : Verdict) → AreKnown known a.messages → IfLive ⊤ (λ s. AreKnown (stored_by (PublishIt p) (published a p v).reply ++ known) s.messages) (published a p v).state
 known_published known a p Take h = go p.wants.id
   where
-    each : (m : Message) → IsIn m (a.messages ++ message_of a p ∷ []) → IsIn (m.seq, m.subject) ((a.last + 1, p.subject) ∷ known)
+    new : Stored
+    new = stored_of (message_of a p)
+
+    each : (m : Message) → IsIn m (a.messages ++ message_of a p ∷ []) → IsIn (stored_of m) (new ∷ known)
     each m i = cases (in_append a.messages (message_of a p ∷ []) i)
       where
-        cases : IsIn m a.messages ⊎ IsIn m (message_of a p ∷ []) → IsIn (m.seq, m.subject) ((a.last + 1, p.subject) ∷ known)
+        cases : IsIn m a.messages ⊎ IsIn m (message_of a p ∷ []) → IsIn (stored_of m) (new ∷ known)
         cases (inl w) = there (h.each m w)
         cases (inr w) = one (in_cons w)
           where
-            one : (message_of a p ≡ m) ⊎ IsIn m [] → IsIn (m.seq, m.subject) ((a.last + 1, p.subject) ∷ known)
-            one (inl e) = subst (λ (z : Message). IsIn (z.seq, z.subject) ((a.last + 1, p.subject) ∷ known)) e here
+            one : (message_of a p ≡ m) ⊎ IsIn m [] → IsIn (stored_of m) (new ∷ known)
+            one (inl e) = subst (λ (z : Message). IsIn (stored_of z) (new ∷ known)) e here
             one (inr e) = elim e [ ]
 
-    go : (id : Bytes) → AreKnown ((a.last + 1, p.subject) ∷ known) (with_id (record a { messages = a.messages ++ message_of a p ∷ []; last = a.last + 1 }) id).messages
+    go : (id : Bytes) → AreKnown (new ∷ known) (with_id (record a { messages = a.messages ++ message_of a p ∷ []; last = a.last + 1 }) id).messages
     go [] = record { each = each }
     go (byte ∷ more) = record { each = each }
 known_published known a p (TakenBefore n) h = h
@@ -157,13 +159,6 @@ known_delivery known old new now listening d outs x h = at_delivery (λ w. not_p
 
 -- ---- the filter stays
 
-config_acknowledged : (now n : ℕ) (kind : AckKind) (c : Consumer) → (acknowledged now n kind c).config ≡ c.config
-config_acknowledged now n Acknowledge c = refl
-config_acknowledged now n (Nak delay) c = refl
-config_acknowledged now n Wpi c = refl
-config_acknowledged now n (Next ask) c = refl
-config_acknowledged now n Term c = refl
-
 pub config_pulled : (now : ℕ) (reply : Option Bytes) (ask : Option Ask) (c : Consumer) → (pulled now reply ask c).config ≡ c.config
 config_pulled now None ask c = refl
 config_pulled now (Some reply) ask c = go ask (pull_refusal c ask)
@@ -181,7 +176,7 @@ pub config_kept : (config : ConsumerConfig) → IsKept (HasConfig config)
 config_kept config = record {
   confined = λ ns c h. h;
   time = λ now c h. h;
-  acknowledged = λ now n kind c h. config_acknowledged now n kind c ∙ h;
+  acknowledged = λ now n kind c h. ap (λ (d : Consumer). d.config) (acknowledged_entries now n kind c).rest ∙ h;
   pulled = λ now reply ask c h. config_pulled now reply ask c ∙ h;
 }
 
@@ -198,15 +193,34 @@ config_delivery name config s new now listening d outs x h =
 -- ---- deliveries
 
 module _ (name : Bytes) (config : ConsumerConfig) (known : List Stored) where
+  -- the message of a delivery is known, and the filter matches it
+  sent_known : (a : Stream) (c : Consumer) (m : Message) → Contains (candidates a c) m → Between (λ m. m.seq) 1 (a.last + 1) a.messages → IsSoundConsumer a.messages a.last c → c.config ≡ config → AreKnown known a.messages
+      → IsIn (stored_of m) known × (passes_filter config.filter_subject m.subject ≡ true)
+  sent_known a c m candidate b k e h =
+      let w = candidate_is a c m candidate in (
+        h.each m w.stored,
+        subst (λ (g : ConsumerConfig). passes_filter g.filter_subject m.subject ≡ true) e (holds_of_one (λ m. m.seq) (λ m. passes_filter c.config.filter_subject m.subject) 1 (a.last + 1) m a.messages b w.stored (deliverable a c m b k w).stored),
+      )
+
   own_stored : (a : Stream) (listening : List Bytes) (c after : Consumer) (d : Delivered) (outs : List Out) → Delivers a listening c d outs after → Between (λ m. m.seq) 1 (a.last + 1) a.messages → IsSoundConsumer a.messages a.last c → c.config ≡ config → AreKnown known a.messages
       → WereStored config.filter_subject known (sending_of d)
   own_stored a listening c after (Sent seq count dseq) outs x b k e h =
       let m = x.message in
-      let w = candidate_is a c x.message x.candidate in
-      let passes : passes_filter config.filter_subject m.subject ≡ true = subst (λ (g : ConsumerConfig). passes_filter g.filter_subject m.subject ≡ true) e (holds_of_one (λ m. m.seq) (λ m. passes_filter c.config.filter_subject m.subject) 1 (a.last + 1) m a.messages b w.stored (deliverable a c m b k w).stored) in
-      (subst (λ (n : ℕ). was_stored config.filter_subject known n ≡ true) (sym x.seq_is) (any_in (λ x. x.0 == m.seq && passes_filter config.filter_subject x.1) (m.seq, m.subject) known (h.each m w.stored) (and_from _ _ (eq-eqb m.seq m.seq refl) passes)), tt)
+      let w = sent_known a c m x.candidate b k e h in
+      (subst (λ (n : ℕ). was_stored config.filter_subject known n ≡ true) (sym x.seq_is) (any_in (λ x. x.seq == m.seq && passes_filter config.filter_subject x.subject) (stored_of m) known w.0 (and_from _ _ (eq-eqb m.seq m.seq refl) w.1)), tt)
   own_stored a listening c after TooSmall outs x b k e h = tt
   own_stored a listening c after Emptied outs x b k e h = tt
+
+  own_brought : (a : Stream) (listening : List Bytes) (c after : Consumer) (d : Delivered) (before own : List Out) → Delivers a listening c d own after → Between (λ m. m.seq) 1 (a.last + 1) a.messages → IsSoundConsumer a.messages a.last c → c.config ≡ config → AreKnown known a.messages
+      → IsBrought config.filter_subject known d (before ++ own)
+  own_brought a listening c after (Sent seq count dseq) before own x b k e h =
+      let m = x.message in
+      let w = sent_known a c m x.candidate b k e h in
+      let out = delivery_out a c (sent_to a.moment m c) m count in
+      subst (BringsIt config.filter_subject known seq) (sym (ap (λ (l : List Out). last_or None (before ++ l)) x.outs_are ∙ last_push None before out))
+      (record { message = stored_of m; known = contains_from_in known (stored_of m) w.0; seq = sym x.seq_is; passes = w.1; subject = refl; headers = refl; payload = refl })
+  own_brought a listening c after TooSmall before own x b k e h = tt
+  own_brought a listening c after Emptied before own x b k e h = tt
 
   delivery_stored : (s : Stream) (new : State) (now : ℕ) (listening : List Bytes) (d : Delivery) (outs : List Out) → IsDelivery s now listening d outs new → IsSoundStream s → InStream name (HasConfig config) s → AreKnown known s.messages
       → WereStored config.filter_subject known (sending_to name d)
@@ -218,9 +232,20 @@ module _ (name : Bytes) (config : ConsumerConfig) (known : List Stored) where
           (its name (HasConfig config) (HasConfig config) (config_kept config) (config_kept config) s now listening d outs new x (same_is d.consumer name e) h) (known_at_time known s now k)
       go false e = tt
 
+  delivery_brought : (s : Stream) (new : State) (now : ℕ) (listening : List Bytes) (d : Delivery) (outs : List Out) → IsDelivery s now listening d outs new → IsSoundStream s → InStream name (HasConfig config) s → AreKnown known s.messages
+      → IsBroughtTo name config.filter_subject known d outs
+  delivery_brought s new now listening d outs x sound h k = go (same d.consumer name) refl
+    where
+      go : (b : Bool) → same d.consumer name ≡ b → MatchBool b (IsBrought config.filter_subject known d.what outs) ⊤
+      go true e =
+          subst (IsBrought config.filter_subject known d.what) (sym x.outs_are)
+          (own_brought (advance s now) listening x.consumer x.after d.what (advance_outs s now) x.own x.delivers (sound_time s now sound).messages (sound_found s now listening d outs new x sound)
+          (its name (HasConfig config) (HasConfig config) (config_kept config) (config_kept config) s now listening d outs new x (same_is d.consumer name e) h) (known_at_time known s now k))
+      go false e = tt
+
 -- ---- the induction
 
-sends_stored : (name : Bytes) (config : ConsumerConfig) (known : List Stored) (count : ℕ) (old : State) (entries : List PlaceEntry) (new : State) → IsSound old → InState name (HasConfig config) old → StateKnown known old → RunFrom count old entries new
+sends_stored : (name : Bytes) (config : ConsumerConfig) (known : List Stored) (count : ℕ) (old : State) (entries : List PlaceEntry) (new : State) → IsSoundState old → InState name (HasConfig config) old → StateKnown known old → RunFrom count old entries new
     → SendsStored name config.filter_subject known entries
 sends_stored name config known count old [] new s h k r = tt
 sends_stored name config known count (Vacant i) (entry ∷ entries) new s h k r = absurd h
@@ -233,7 +258,7 @@ sends_stored name config known count (Live t) (Step seat e now reply outs unsaid
     unless_dropped true q f = tt
     unless_dropped false q f = f q
 sends_stored name config known count (Live t) (Deliver seat now listening d outs ∷ entries) new s h k (mid, x, rest) = (
-  delivery_stored name config known t mid now listening d outs x.delivered s h k,
+  delivery_brought name config known t mid now listening d outs x.delivered s h k,
   sends_stored name config known (count + length (new_messages (Live t) mid)) mid entries new (sound_delivery (Live t) mid now listening d outs x.delivered s)
       (config_delivery name config t mid now listening d outs x.delivered h) (known_delivery known (Live t) mid now listening d outs x.delivered k) rest,
 )
@@ -246,10 +271,10 @@ known_first : (s : State) → StateKnown (stored_first s) s
 known_first (Vacant i) = tt
 known_first (Live t) = record { each = λ m i. in_map m t.messages i }
   where
-    in_map : (m : Message) (ms : List Message) → IsIn m ms → IsIn {X = Stored} (m.seq, m.subject) (map (λ m. (m.seq, m.subject)) ms)
+    in_map : (m : Message) (ms : List Message) → IsIn m ms → IsIn (stored_of m) (map stored_of ms)
     in_map m [] i = elim i [ ]
     in_map m (x ∷ ms) here = here
     in_map m (x ∷ ms) (there i) = there (in_map m ms i)
 
-pub stored_before : (name : Bytes) (count : ℕ) (old : State) (entries : List PlaceEntry) (new : State) (c : Consumer) → IsSound old → InState name (HasConfig c.config) old → RunFrom count old entries new → SendsStored name c.config.filter_subject (stored_first old) entries
+pub stored_before : (name : Bytes) (count : ℕ) (old : State) (entries : List PlaceEntry) (new : State) (c : Consumer) → IsSoundState old → InState name (HasConfig c.config) old → RunFrom count old entries new → SendsStored name c.config.filter_subject (stored_first old) entries
 stored_before name count old entries new c s h r = sends_stored name c.config (stored_first old) count old entries new s h (known_first old) r

@@ -15,7 +15,6 @@ use Rattle.js_model.specs.declared.consumer.Consumer.{Consumer}
 use Rattle.js_model.specs.declared.ack.Ask.{Ask}
 use Rattle.js_model.specs.declared.ack.Ack.{Ack}
 use Rattle.js_model.specs.declared.ack.AckKind.{AckKind}
-use Rattle.js_model.specs.declared.ack.AckKind.TheVariants.{Ack as Acknowledge, Nak, Wpi, Next, Term}
 use Rattle.js_model.specs.declared.event.Event.{Event}
 use Rattle.js_model.specs.declared.event.Publish.{Publish}
 use Rattle.js_model.specs.declared.event.What.{What}
@@ -42,10 +41,10 @@ use Rattle.model_laws.specs.OneConsumer.{drops, consumer_of}
 use Rattle.model_laws.specs.Turns.{Turn, turn_of, turn_unless, turn_for, turn_by, turn_if_there, turns_at, turns_after_event, bytes_of, charged, turns_left, turns_after, IsWithinTurn, IsForFront, IsServing, Serves}
 use Rattle.js_model.proofs.Named.{stands-map, stands-found, stands-with_new, stands-without, found_named, same_is, same_self}
 use Rattle.model_laws.proofs.Facts.{IsChangeFact, change_time, change_settled, change_kept}
-use Rattle.model_laws.proofs.Consecutive.{append_nil}
+use Rattle.model_laws.proofs.Consecutive.{append_nil, last_push}
 use Rattle.model_laws.proofs.StoredBefore.{HasConfig, config_kept, config_delivery}
 use Rattle.model_laws.proofs.Ordering.{stands_of}
-use Rattle.model_laws.proofs.ConsumerFacts.{InStream, InState, in_with, in_replaced, in_event, its, after_name, after_ack-name, pulled-name}
+use Rattle.model_laws.proofs.ConsumerFacts.{InStream, InState, in_with, in_replaced, in_event, its, after_name, after_ack-name, pulled-name, acknowledged_entries}
 
 -- ---- a turn and the pull that waits
 
@@ -151,22 +150,14 @@ turns_pulled turns now (Some reply) (Some ask) c h = go (pull_refusal c (Some as
     go None = record { each = turns_push turns c.waiting (turn_of (pull_of now reply ask)) (pull_of now reply ask) h.each (its_turn (pull_of now reply ask)) }
     go (Some block) = no_more_turns turns c h
 
-waiting_acknowledged : (now n : ℕ) (kind : AckKind) (c : Consumer) → (acknowledged now n kind c).waiting ≡ c.waiting
-waiting_acknowledged now n Acknowledge c = refl
-waiting_acknowledged now n (Nak delay) c = refl
-waiting_acknowledged now n Wpi c = refl
-waiting_acknowledged now n (Next ask) c = refl
-waiting_acknowledged now n Term c = refl
-
 -- an acknowledgement changes nothing by which a pull is refused
 turn_acknowledged : (at n : ℕ) (kind : AckKind) (now : ℕ) (reply : Option Bytes) (ask : Option Ask) (c : Consumer) → turn_for now reply ask (acknowledged at n kind c) ≡ turn_for now reply ask c
-turn_acknowledged at n kind now None ask c = refl
-turn_acknowledged at n kind now (Some reply) None c = refl
-turn_acknowledged at n Acknowledge now (Some reply) (Some ask) c = refl
-turn_acknowledged at n (Nak delay) now (Some reply) (Some ask) c = refl
-turn_acknowledged at n Wpi now (Some reply) (Some ask) c = refl
-turn_acknowledged at n (Next next) now (Some reply) (Some ask) c = refl
-turn_acknowledged at n Term now (Some reply) (Some ask) c = refl
+turn_acknowledged at n kind now reply ask c = ap (turn_for now reply ask) (acknowledged_entries at n kind c).rest ∙ go reply ask
+  where
+    go : (reply : Option Bytes) (ask : Option Ask) → turn_for now reply ask (record c { pending = (acknowledged at n kind c).pending; given_up = (acknowledged at n kind c).given_up }) ≡ turn_for now reply ask c
+    go None ask = refl
+    go (Some reply) None = refl
+    go (Some reply) (Some ask) = refl
 
 turns_acked : (turns : List Turn) (now : ℕ) (reply : Option Bytes) (n : ℕ) (kind : AckKind) (c : Consumer) → HasTurns turns c → HasTurns (turns ++ turn_for now reply (next_ask kind) c) (after_ack now reply n kind c)
 turns_acked turns now reply n kind c h = subst (λ (l : List Turn). HasTurns (turns ++ l) (after_ack now reply n kind c)) (turn_acknowledged now n kind now reply (next_ask kind) c) (go (next_ask kind))
@@ -175,7 +166,7 @@ turns_acked turns now reply n kind c h = subst (λ (l : List Turn). HasTurns (tu
     acked = acknowledged now n kind c
 
     before : HasTurns turns acked
-    before = turns_same turns c acked (waiting_acknowledged now n kind c) h
+    before = turns_same turns c acked (ap (λ (d : Consumer). d.waiting) (acknowledged_entries now n kind c).rest) h
 
     go : (ask : Option Ask) → HasTurns (turns ++ turn_for now reply ask acked) (pulled_next now reply ask acked)
     go None = none_for reply
@@ -347,10 +338,6 @@ turns_event name turns s new e now reply outs x g h =
         (change_time (LeavesTurns name) ⊥ (InStream name (HasTurns before)) (turns_fact name before) s new e now reply outs x (g, q) there))
 
 -- ---- deliveries
-
-last_push : {X : Type 0} (o : Option X) (xs : List X) (x : X) → last_or o (xs ++ x ∷ []) ≡ Some x
-last_push o [] x = refl
-last_push o (y ∷ ys) x = last_push (Some y) ys x
 
 -- a delivery to a pull consumer goes to its first pull
 to_front : (c : Consumer) → is_push c ≡ false → (p : Pull) (ps : List Pull) → c.waiting ≡ p ∷ ps → address c ≡ p.reply

@@ -36,7 +36,7 @@ use Rattle.js_model.specs.Runs.{RunFrom, IsStep, new_messages}
 use Rattle.js_model.specs.Pulls.{pulled}
 use Rattle.js_model.specs.Events.{answered, IsEvent, settled_state, stream_answer, vacant_answer}
 use Rattle.js_model.specs.Deliver.{Delivers, IsDelivery, IsDelivered, sent_to, with_pending, count_of, may_wait, is_due}
-use Rattle.model_laws.specs.Sound.{IsSoundConsumer, IsSound}
+use Rattle.model_laws.proofs.Whole.{IsSoundConsumer, IsSoundState}
 use Rattle.model_laws.specs.Limits.{IsWithin}
 use Rattle.js_model.proofs.Parts.{filter_part, drop_part, part-length, part-sum, newest_part, fitting_at_part, part_trans, between_map, young_part}
 use Rattle.js_model.proofs.Named.{same_is}
@@ -278,14 +278,14 @@ within_event count old new e now reply outs x h =
     as_within new (fits_event old new e now reply outs x.event)
     (at_event (λ w. ⊤) ⊤ (λ s. All IsFew s.consumers) (all_fact IsFew few_kept few_new) old new e now reply outs x.event tt (few_of old h))
 
-within_delivery : (old new : State) (now : ℕ) (listening : List Bytes) (d : Delivery) (outs : List Out) → IsDelivered old now listening d outs new → IsSound old → IsWithin old → IsWithin new
+within_delivery : (old new : State) (now : ℕ) (listening : List Bytes) (d : Delivery) (outs : List Out) → IsDelivered old now listening d outs new → IsSoundState old → IsWithin old → IsWithin new
 within_delivery (Vacant i) new now listening d outs x s h = absurd x
 within_delivery (Live t) new now listening d outs x s h =
     as_within new (fits_delivery t new now listening d outs x (fits_of (Live t) h))
     (all_delivery IsFew few_kept few_new t new now listening d outs x
     (λ q. few_delivered (advance t now) listening x.consumer x.after d.what x.own x.delivers (sound_found t now listening d outs new x s) q) h.pending)
 
-pub stays_within : (count : ℕ) (old new : State) (entries : List PlaceEntry) → IsSound old → RunFrom count old entries new → IsWithin old → IsWithin new
+pub stays_within : (count : ℕ) (old new : State) (entries : List PlaceEntry) → IsSoundState old → RunFrom count old entries new → IsWithin old → IsWithin new
 stays_within count old new [] s r h = subst IsWithin r h
 stays_within count old new (Step seat e now reply outs unsaid ∷ entries) s (mid, x, rest) h =
     stays_within (count + length (new_messages old mid)) mid new entries (sound_step count old mid e now reply outs x s) rest (within_event count old mid e now reply outs x h)

@@ -2,7 +2,11 @@
 use Rattle.std.specs.Prelude.{◌≡◌, ◌||◌, ◌&&◌, ◌==◌, Bool, true, false, ℕ, List, [], ◌∷◌, Option, Some, None, ⊤, MatchBool}
 use Rattle.js_base.specs.Bytes.{Bytes, same, has}
 use Rattle.js_model.specs.declared.stream.State.{State}
+use Rattle.js_model.specs.declared.consumer_config.AckPolicy.{AckPolicy}
 use Rattle.js_model.specs.declared.consumer.Consumer.{Consumer}
+use Rattle.js_model.specs.declared.ack.Ack.{Ack}
+use Rattle.js_model.specs.declared.ack.AckKind.{AckKind}
+use Rattle.js_model.specs.declared.ack.AckKind.TheVariants.{Ack as Acknowledge, Nak, Wpi, Next, Term}
 use Rattle.js_model.specs.declared.event.Event.{Event}
 use Rattle.js_model.specs.declared.event.What.{What}
 use Rattle.js_model.specs.declared.event.What.TheVariants.{Make, Change, Drop as DropStream, Publish as PublishIt, Purge, Delete, MakeConsumer, DropConsumer, Ack as AckIt, Pull as PullIt, Tick, StreamInfo as AskStream, MessageGet, ConsumerInfo as AskConsumer, ConsumerNames, ConsumerList}
@@ -13,6 +17,7 @@ use Rattle.js_model.specs.declared.entry.Call.TheVariants.{Step as StepOf, Deliv
 use Rattle.js_model.specs.declared.entry.PlaceEntry.{PlaceEntry}
 use Rattle.js_model.specs.declared.entry.PlaceEntry.TheVariants.{Step, Deliver, Broken}
 use Rattle.js_model.specs.Streams.{pending_seqs}
+use Rattle.js_model.specs.Acknowledge.{ends, is_no_delivery}
 use Rattle.js_model.specs.StateMoments.{state_at}
 use Rattle.model_laws.specs.OneConsumer.{drops, consumer_of}
 
@@ -39,6 +44,39 @@ acknowledges name (ConsumerList asked offset) = false
 abbrev pub has_entry : ℕ → Option Consumer → Bool
 has_entry n None = false
 has_entry n (Some c) = has (pending_seqs c) n || has c.given_up n
+
+-- the consumer is as before but for its pending and given-up entries
+pub record ChangesEntries (old new : Consumer) : Type 0 where
+  pub rest : new ≡ record old { pending = new.pending; given_up = new.given_up }
+
+-- an acknowledgement of the sequence n ends the entry m: an ACK and a NXT by the ack policy, and a TERM its own
+abbrev pub ended_by : AckKind → AckPolicy → ℕ → ℕ → Bool
+ended_by Acknowledge policy n m = ends policy n m
+ended_by (Next ask) policy n m = ends policy n m
+ended_by Term policy n m = m == n
+ended_by (Nak delay) policy n m = false
+ended_by Wpi policy n m = false
+
+-- at its moment the event acknowledges a sequence that was delivered to the consumer, by which the entry of the sequence n ends
+pub record IsToEnd (a : State) (e : Event) (name : Bytes) (n : ℕ) : Type 0 where
+  pub asked : Option Bytes
+  pub ack : Ack
+  pub consumer : Consumer
+  pub event : e.what ≡ AckIt asked ack
+  pub name_is : ack.consumer ≡ name
+  pub found : consumer_of name a ≡ Some consumer
+  pub delivered : is_no_delivery consumer ack.seq ≡ false
+  pub ended : ended_by ack.kind consumer.config.ack_policy ack.seq n ≡ true
+
+-- it acknowledges a sequence by which the entry of n does not end
+pub record IsToStay (a : State) (e : Event) (name : Bytes) (n : ℕ) : Type 0 where
+  pub asked : Option Bytes
+  pub ack : Ack
+  pub consumer : Consumer
+  pub event : e.what ≡ AckIt asked ack
+  pub name_is : ack.consumer ≡ name
+  pub found : consumer_of name a ≡ Some consumer
+  pub spared : ended_by ack.kind consumer.config.ack_policy ack.seq n ≡ false
 
 -- an acknowledgement ended the entry of the sequence: it stood at the event's moment, and is gone after it
 pub record EndsEntry (old : State) (e : Event) (now : ℕ) (new : State) (name : Bytes) (n : ℕ) : Type 0 where

@@ -1,6 +1,6 @@
 -- What holds of each run of a place, in the words of JetStream's streams and consumers: the laws follow from the definitions of the machine.
-use Rattle.std.specs.Prelude.{◌≡◌, Contains, ℕ, List, [], ◌∷◌, Some, IsTrue, ◌↔◌}
-use Rattle.js_base.specs.Bytes.{Bytes}
+use Rattle.std.specs.Prelude.{◌≡◌, true, Decides, Contains, ℕ, List, [], ◌∷◌, Some, IsTrue, ◌↔◌}
+use Rattle.js_base.specs.Bytes.{Bytes, has}
 use Rattle.js_base.specs.declared.out.Out.{Out}
 use Rattle.js_model.specs.declared.stream.Message.{Message}
 use Rattle.js_model.specs.declared.stream.Stream.{Stream}
@@ -8,6 +8,7 @@ use Rattle.js_model.specs.declared.stream.State.{State}
 use Rattle.js_model.specs.declared.stream.State.TheVariants.{Live}
 use Rattle.js_model.specs.declared.consumer_config.ConsumerConfig.{ConsumerConfig}
 use Rattle.js_model.specs.declared.consumer.Consumer.{Consumer}
+use Rattle.js_model.specs.declared.ack.AckKind.{AckKind}
 use Rattle.js_model.specs.declared.event.Event.{Event}
 use Rattle.js_model.specs.declared.reply.Reply.{Reply}
 use Rattle.js_model.specs.declared.reply.Reply.TheVariants.{Published}
@@ -17,10 +18,13 @@ use Rattle.js_model.specs.Advance.{advance}
 use Rattle.js_model.specs.Deliver.{Delivers}
 use Rattle.js_model.specs.Ready.{is_ready}
 use Rattle.js_model.specs.Runs.{RunFrom, IsStep, messages_of}
-use Rattle.js_model.specs.StateMoments.{moment_of}
-use Rattle.model_laws.specs.Sound.{IsSound}
+use Rattle.js_model.specs.Streams.{seqs}
+use Rattle.js_model.specs.Acknowledge.{acknowledged}
+use Rattle.js_model.specs.StateMoments.{moment_of, state_at}
+use Rattle.model_laws.specs.Sound.{IsWellStored, IsMatched, IsSound}
+use Rattle.model_laws.specs.SoundTests.{is_well_stored, is_matched}
 use Rattle.model_laws.specs.OneConsumer.{consumer_of}
-use Rattle.model_laws.specs.Acked.{EndsEntry, NeverSent}
+use Rattle.model_laws.specs.Acked.{has_entry, ChangesEntries, IsToEnd, IsToStay, EndsEntry, NeverSent}
 use Rattle.model_laws.specs.Repeats.{keeps_window, EachEvent, IsRepeatReply, Repeats}
 use Rattle.model_laws.specs.Leaving.{Leaves}
 use Rattle.model_laws.specs.Order.{IsInOrder, Makes, IsFromStart}
@@ -31,10 +35,32 @@ use Rattle.model_laws.specs.Limits.{AreLimited}
 abbrev pub LawSound : Type 0
 LawSound = (count : ℕ) (old new : State) (entries : List PlaceEntry) → IsSound old → RunFrom count old entries new → IsSound new
 
+-- both of its parts can be computed
+abbrev pub LawStoredTest : Type 0
+LawStoredTest = (s : State) → Decides (is_well_stored s) (IsWellStored s)
+
+abbrev pub LawMatchedTest : Type 0
+LawMatchedTest = (s : State) → Decides (is_matched s) (IsMatched s)
+
 -- what is acknowledged is not sent again
 abbrev pub LawAcked : Type 0
 LawAcked = (name : Bytes) (n count later : ℕ) (old mid new : State) (e : Event) (now : ℕ) (reply : Reply) (outs : List Out) (entries : List PlaceEntry)
     → IsSound old → IsStep count old e now reply outs mid → EndsEntry old e now mid name n → RunFrom later mid entries new → NeverSent name n entries
+
+-- an acknowledgement ends the entries that stand, by its kind and the ack policy
+abbrev pub LawEnds : Type 0
+LawEnds = (name : Bytes) (n count : ℕ) (old mid : State) (e : Event) (now : ℕ) (reply : Reply) (outs : List Out)
+    → IsSound old → IsStep count old e now reply outs mid → has_entry n (consumer_of name (state_at old now)) ≡ true → IsToEnd (state_at old now) e name n → EndsEntry old e now mid name n
+
+-- and no other one, as long as its message is stored
+abbrev pub LawStays : Type 0
+LawStays = (name : Bytes) (n count : ℕ) (old mid : State) (e : Event) (now : ℕ) (reply : Reply) (outs : List Out)
+    → IsSound old → IsStep count old e now reply outs mid → has_entry n (consumer_of name (state_at old now)) ≡ true → IsToStay (state_at old now) e name n
+    → has (seqs (messages_of mid)) n ≡ true → has_entry n (consumer_of name mid) ≡ true
+
+-- an acknowledgement changes nothing of its consumer but the entries
+abbrev pub LawEntries : Type 0
+LawEntries = (now n : ℕ) (kind : AckKind) (c : Consumer) → ChangesEntries c (acknowledged now n kind c)
 
 -- a repeat is told its first sequence
 abbrev pub LawDuplicate : Type 0

@@ -1,4 +1,5 @@
 pub mod Sound
+pub mod SoundTests
 pub mod OneConsumer
 pub mod Acked
 pub mod Repeats

@@ -1,15 +1,23 @@
 //! What holds of each run of a place, by the definitions of the machine alone.
 
-ghost use Rattle.model_laws.specs.Laws.{LawSound, LawAcked, LawDuplicate, LawKept, LawOrder, LawStart, LawRedelivery, LawLimits, LawReady};
+ghost use Rattle.model_laws.specs.Laws.{LawSound, LawStoredTest, LawMatchedTest, LawAcked, LawEnds, LawStays, LawEntries, LawDuplicate, LawKept, LawOrder, LawStart, LawRedelivery, LawLimits, LawReady};
 
-/// Soundness is kept: each state that a run reaches from a sound one is sound.
+/// Soundness is kept: each state that a run reaches from a sound one is sound. Its two parts, of what is stored and of what
+/// filters match, are decided by the tests that compute them.
 pub fn law_sound()
     ensures law { LawSound }
+    ensures stored_test { LawStoredTest }
+    ensures matched_test { LawMatchedTest }
 {}
 
-/// A sequence whose entry an acknowledgement ended is not sent again to its consumer, until it or the stream is dropped.
+/// A sequence whose entry an acknowledgement ended is not sent again to its consumer, until it or the stream is dropped. An
+/// acknowledgement of a delivery ends each entry that stands and that its kind and the ack policy name. Another entry
+/// stays as long as its message is stored, and nothing else of the consumer changes.
 pub fn law_acked()
     ensures law { LawAcked }
+    ensures ends { LawEnds }
+    ensures stays { LawStays }
+    ensures entries { LawEntries }
 {}
 
 /// After a publish was stored with an id, another publish of that id is told the first sequence, as long as the window
@@ -20,15 +28,18 @@ pub fn law_duplicate()
 {}
 
 /// A stored message leaves by an event or a delivery only if it was too old by then, the event purged it, deleted it or
-/// dropped the stream, a limit dropped it from what the event left, or the retention did not ask for it. The retention
-/// goes by the consumers as the event or the delivery left them, while they still had the message.
+/// dropped the stream, a limit dropped it from what the event left, or the retention did not ask for it. What a purge
+/// takes matches its filter, stands below its bound and has as many as are to be kept after it; what a limit drops has
+/// enough messages or bytes after it. The retention goes by the consumers as the event or the delivery left them, while
+/// they still had the message.
 pub fn law_kept()
     ensures law { LawKept }
 {}
 
-/// What is sent to a consumer has consumer sequences one after the other, was stored before and matches its filter;
-/// first deliveries are its picks in order, and then ascending sequences from its cursor on. A consumer that is made
-/// begins at the picks and the cursor of its deliver policy, with consumer sequence 1.
+/// What is sent to a consumer has consumer sequences one after the other and counts of 1 or more. Each output brings the
+/// subject, the header block and the payload of a message that was stored before under that sequence and that the
+/// consumer's filter matches. First deliveries are its picks in order, and then ascending sequences from its cursor on. A
+/// consumer that is made begins at the picks and the cursor of its deliver policy, with consumer sequence 1.
 pub fn law_order()
     ensures law { LawOrder }
     ensures start { LawStart }

@@ -1,5 +1,6 @@
 -- What a place in memory answers is a step by the relation that each place keeps.
 use Rattle.std.proofs.Common.{◌≡◌, ◌++◌, ℕ, true, List, [], Ok, Err, append-nil, ap, ◌∙◌, sym, refl, arith, inr}
+use Rattle.std.proofs.lemmas.Option.{none-some}
 use Rattle.js_base.specs.declared.out.Out.{Out}
 use Rattle.js_model.specs.declared.stream.State.{State}
 use Rattle.js_model.specs.declared.event.Event.{Event}
@@ -38,4 +39,4 @@ rests old new outs same = record { state = same; stored = refl; stopped = refl; 
 
 -- memory ran out
 pub starves : (old : State) (e : Event) (now : ℕ) (new : State) (outs : List Out) → new ≡ old → Steps holds_nothing (Err (NoMemory Nothing)) e now (seen_of old) (seen_of new) outs outs
-starves old e now new outs same = record { ends = rests old new outs same; stored = omega arith; time = elapses old new }
+starves old e now new outs same = record { ends = record { rests = rests old new outs same; volume = λ count stopped. absurd (none-some count stopped) }; stored = omega arith; time = elapses old new }

@@ -5,6 +5,7 @@ use Rattle.js_base.specs.Causes.{Rose}
 use Rattle.js_base.specs.declared.out.Out.{Out}
 use Rattle.js_model.specs.declared.stream.State.{State}
 use Rattle.js_model.specs.declared.event.Event.{Event}
+use Rattle.js_model.specs.declared.event.What.{What}
 use Rattle.js_model.specs.declared.event.What.TheVariants.{Tick}
 use Rattle.js_model.specs.declared.reply.Reply.{Reply}
 use Rattle.js_model.specs.Events.{answered, is_refused, kept_incarnation}
@@ -20,12 +21,12 @@ use Rattle.place_engine.specs.declared.faults.Left.TheVariants.{Nothing, Ticked,
 abbrev pub Image : Type 0
 Image = ℕ → Bytes
 
--- A place as it is seen: what stands there; the state that its volume holds; whether the store has a block for one more message; and what a
+-- A place as it is seen: what stands there; the state that its volume holds; whether the store has a block for what is asked; and what a
 -- crash at some moment of the volume from one on may have left, which is nothing in memory.
 pub record Seen : Type 1 where
   pub place : PlaceIn
   pub base : State
-  pub room : Bool
+  pub room : What → Bool
   pub left_since : ℕ → Image → Type 0
 
 -- ---- crashes
@@ -42,7 +43,7 @@ HoldsNow (Some count) base state d = (d ≡ base) ⊎ (d ≡ lasting state)
 -- between two calls; a store has a block for one more message if few count against it
 pub record IsKept (holds : Image → State → Type 0) (s : Seen) : Type 0 where
   pub now : Leaves holds s s.place.volume.moment (HoldsNow s.place.stopped s.base s.place.state)
-  pub free : is_few s.place.stored ≡ true → s.room ≡ true
+  pub free : is_few s.place.stored ≡ true → (what : What) → s.room what ≡ true
   pub earlier : (t u : ℕ) (image : Image) → t ≤ u → s.left_since u image → s.left_since t image
 
 -- within a call: a crash leaves what it could leave before, or the base from before, or what outlives a crash of the state after it
@@ -55,7 +56,7 @@ pub record Elapses (holds : Image → State → Type 0) (old new : Seen) : Type 
 
 -- ---- what became of the event
 
--- all but the volume's moment is as it was
+-- all but where the volume stands is as it was
 pub record Rests (old new : Seen) (before after : List Out) : Type 0 where
   pub state : new.place.state ≡ old.place.state
   pub stored : new.place.stored ≡ old.place.stored
@@ -67,7 +68,7 @@ pub record Rests (old new : Seen) (before after : List Out) : Type 0 where
 pub record Does (event : Event) (now : ℕ) (old new : Seen) : Type 0 where
   pub going : old.place.stopped ≡ None
   pub kept : event.incarnation ≡ kept_incarnation old.place.state
-  pub state : new.place.state ≡ (answered old.place.state event now old.room).state
+  pub state : new.place.state ≡ (answered old.place.state event now (old.room event.what)).state
 
 -- a confirmed step is on the volume with all before it; another one may be
 pub record Commits (event : Event) (reply : Reply) (old new : Seen) : Type 0 where
@@ -78,24 +79,31 @@ pub record Commits (event : Event) (reply : Reply) (old new : Seen) : Type 0 whe
 pub record Tells (reply : Reply) (event : Event) (now : ℕ) (old new : Seen) (before after : List Out) : Type 0 where
   pub does : Does event now old new
   pub goes : new.place.stopped ≡ None
-  pub reply_is : reply ≡ (answered old.place.state event now old.room).reply
-  pub outs : after ≡ before ++ (answered old.place.state event now old.room).outs
+  pub reply_is : reply ≡ (answered old.place.state event now (old.room event.what)).reply
+  pub outs : after ≡ before ++ (answered old.place.state event now (old.room event.what)).outs
   pub commits : Commits event reply old new
+
+abbrev pub tick_of : Event → Event
+tick_of event = record event { what = Tick }
+
+-- time passed in its place
+pub record Passes (event : Event) (now : ℕ) (old new : Seen) (before after : List Out) : Type 0 where
+  pub does : Does (tick_of event) now old new
+  pub goes : new.place.stopped ≡ None
+  pub outs : after ≡ before ++ (answered old.place.state (tick_of event) now (old.room Tick)).outs
+  pub base : (new.base ≡ old.base) ⊎ (new.base ≡ lasting new.place.state)
 
 -- it is made, and its reply is told to nobody
 pub record Hides (event : Event) (now : ℕ) (old new : Seen) (before after : List Out) : Type 0 where
   pub does : Does event now old new
   pub goes : new.place.stopped ≡ None
-  pub outs : after ≡ before ++ (answered old.place.state event now old.room).outs
+  pub outs : after ≡ before ++ (answered old.place.state event now (old.room event.what)).outs
   pub base : new.base ≡ old.base
 
 -- it is made, and of its reply only whether it is a refusal is told
 pub record Withholds (refused : Bool) (event : Event) (now : ℕ) (old new : Seen) (before after : List Out) : Type 0 where
   pub hides : Hides event now old new before after
-  pub refused_is : refused ≡ is_refused (answered old.place.state event now old.room).reply
-
-abbrev pub tick_of : Event → Event
-tick_of event = record event { what = Tick }
+  pub refused_is : refused ≡ is_refused (answered old.place.state event now (old.room event.what)).reply
 
 -- it is made, the volume failed, and the place is stopped at the count that its volume has then
 pub record Breaks (event : Event) (now : ℕ) (old new : Seen) (before after : List Out) : Type 0 where
@@ -109,6 +117,11 @@ pub record Breaks (event : Event) (now : ℕ) (old new : Seen) (before after : L
 pub record LeavesVolume (old new : Seen) : Type 0 where
   pub volume : new.place.volume ≡ old.place.volume
   pub images : (t : ℕ) (image : Image) → new.left_since t image → old.left_since t image
+
+-- nothing was made. The volume of a place that goes on may have been called
+pub record IsUndone (old new : Seen) (before after : List Out) : Type 0 where
+  pub rests : Rests old new before after
+  pub volume : (count : ℕ) → old.place.stopped ≡ Some count → LeavesVolume old new
 
 -- the place was stopped before at this count
 pub record IsStopped (count : ℕ) (old new : Seen) (before after : List Out) : Type 0 where
@@ -131,8 +144,8 @@ pub record IsWornOut (refused : Bool) (event : Event) (now : ℕ) (old new : See
 
 abbrev pub Ends : Result Reply PlaceFault → Event → ℕ → Seen → Seen → List Out → List Out → Type 0
 Ends (Ok reply) event now old new before after = Tells reply event now old new before after
-Ends (Err (NoMemory Nothing)) event now old new before after = Rests old new before after
-Ends (Err (NoMemory Ticked)) event now old new before after = Hides (tick_of event) now old new before after
+Ends (Err (NoMemory Nothing)) event now old new before after = IsUndone old new before after
+Ends (Err (NoMemory Ticked)) event now old new before after = Passes event now old new before after
 Ends (Err (NoMemory (Unsaid refused))) event now old new before after = Withholds refused event now old new before after
 Ends (Err StoreFault) event now old new before after = Breaks event now old new before after
 Ends (Err (Stopped count)) event now old new before after = IsStopped count old new before after

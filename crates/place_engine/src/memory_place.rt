@@ -108,7 +108,7 @@ impl<V> Place for MemoryPlace<V> {
         vol
     }
 
-    ghost kept = { λ place. record { free = λ few. refl; now = λ image left. absurd left; earlier = λ t u image le left. absurd left } };
+    ghost kept = { λ place. record { free = λ few what. refl; now = λ image left. absurd left; earlier = λ t u image le left. absurd left } };
 
     ghost keeps_none = { λ vol. refl };
 

@@ -9,19 +9,18 @@ use Rattle.js_base.specs.declared.out.Out.{Out}
 use Rattle.nats_frames.specs.declared.op.Op.{Op}
 use Rattle.nats_frames.specs.declared.op.Op.TheVariants.{Pub, HPub}
 use Rattle.js_api.specs.declared.fault.DeskFault.{DeskFault}
-use Rattle.js_api.specs.declared.fault.DeskFault.TheVariants as faults
 use Rattle.js_api.specs.Entries.{DeskEntry}
 use Rattle.js_api.specs.Leading.{Makes}
-use Rattle.js_api.specs.Clients.{Client, client_set}
+use Rattle.js_api.specs.Clients.{Client}
 use Rattle.js_api.specs.Publishing.{IsMessage}
 use Rattle.js_api.specs.Answering.{DeskCall, DeskAnswer, Sub, Publish}
 use Rattle.js_api.specs.Calls.{Does}
 use Rattle.session.specs.Manners.{peer_of}
 use Rattle.session.specs.Calling.{Called}
 use Rattle.session.specs.Leading.{Cuts, IsAdded}
-use Rattle.session.specs.Stopping.{IsOwnEnd, Asked, Unasked, Declined, EndsInCall, cause_of, end_after}
+use Rattle.session.specs.Stopping.{Asked, Unasked, Declined, EndsInCall, cause_of, end_after}
 use Rattle.session.specs.Peer.{Request, Calls, IsWrong, IsRefused, called_bytes, is_reply, message as message_of, connecting, op_request, peer_after_op, publishing, subscribing}
-use Rattle.session.specs.Talk.{AreAsked, IsAnswered, all_called_bytes, op_answer}
+use Rattle.session.specs.Talk.{IsAnswered, all_called_bytes, op_answer}
 use Rattle.session.proofs.Led.{one_led}
 use Rattle.session.specs.Asking.{IsUnchecked, ReadsConnect, said_for, IsAsked, Asks}
 use Rattle.session.specs.declared.connect.ConnectOptions.{ConnectOptions}
@@ -44,6 +43,12 @@ subscribing_right subject queue sid h = ap (λ (b : Bool). cond b (Calls (Sub su
 reply_right : (reply : Option Bytes) → is_reply reply ≡ true → IfSome reply (λ text. IsTrue (is_subject_text text))
 reply_right None h = tt
 reply_right (Some text) h = h
+
+-- what stands for a header block is none
+pub blockless : (now : ℕ) (op : Op) (subject : Bytes) (reply : Option Bytes) (headers payload : Bytes) → op ≡ HPub subject reply headers payload → is_block headers ≡ false
+    → op_request now op ≡ IsRefused BadHeaders
+blockless now op subject reply headers payload e h =
+    ap (λ (o : Op). op_request now o) e ∙ ap (λ (b : Bool). cond b (publishing now (message_of subject reply headers payload)) (IsRefused BadHeaders)) h
 
 -- a message whose subjects are right
 pub is_message : (message : Out) → IsUnchecked message → (is_publish_text message.to && is_reply message.reply) ≡ true → IsMessage message

@@ -1,5 +1,5 @@
 -- Laws of an operation or a tick that is carried out.
-use Rattle.std.proofs.Common.{◌≡◌, ℕ, false, Bool, true, List, [], ◌∷◌, ◌++◌, cond, Result, Ok, Err, refl, sym, ap, subst, ◌∙◌, append_assoc}
+use Rattle.std.proofs.Common.{◌≡◌, ℕ, false, Bool, List, [], ◌∷◌, ◌++◌, cond, Result, Ok, Err, refl, sym, ap, subst, ◌∙◌, append_assoc}
 use Rattle.std.proofs.lemmas.List.{append-nil}
 use Rattle.js_base.specs.Bytes.{Bytes}
 use Rattle.js_api.specs.declared.fault.DeskFault.{DeskFault}
@@ -10,7 +10,7 @@ use Rattle.js_api.specs.Answering.{DeskAnswer, Tick, Done}
 use Rattle.js_api.specs.Calls.{Does}
 use Rattle.session.specs.Calling.{Called, entries_of_calls}
 use Rattle.session.specs.Gathering.{AreGathered, IsGathering, collected}
-use Rattle.session.specs.Leading.{Adds, Cuts, IsAdded}
+use Rattle.session.specs.Leading.{Adds, Cuts}
 use Rattle.session.specs.Stopping.{Asked, IsCutBy, cause_of, end_after, is_starved, still_written}
 use Rattle.session.specs.Manners.{peer_of}
 use Rattle.session.specs.Peer.{Act, Ticks, Peer, peer_after, request}

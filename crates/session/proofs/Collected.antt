@@ -7,15 +7,14 @@ use Rattle.js_api.specs.declared.fault.DeskFault.{DeskFault}
 use Rattle.js_api.specs.Entries.{DeskEntry}
 use Rattle.js_api.specs.Leading.{Makes}
 use Rattle.js_api.specs.Clients.{Client}
-use Rattle.js_api.specs.Answering.{DeskCall, DeskAnswer, Collect, Gave, Slow}
+use Rattle.js_api.specs.Answering.{DeskCall, DeskAnswer, Collect, Gave}
 use Rattle.js_api.specs.Calls.{Does}
 use Rattle.session.specs.Calling.{Called}
-use Rattle.session.specs.Gathering.{IsCollect, IsCollectCall, AreCollecting, AreCollects, collected, frames, given_by}
-use Rattle.session.specs.Leading.{Adds, Cuts, IsAdded}
-use Rattle.session.specs.Stopping.{IsCutBy, cause_of, end_after}
+use Rattle.session.specs.Gathering.{IsCollect, AreCollecting, AreCollects, frames}
+use Rattle.session.specs.Leading.{Adds, IsAdded}
+use Rattle.session.specs.Stopping.{cause_of, end_after}
 use Rattle.session.specs.Collecting.{GivesFrames, CollectsOnce, IsFirstCollect, IsNextCollect, Collects}
 use Rattle.session.proofs.Led.{IsOne, cut_on, cut_one, adds_one, adds_none, adds_on}
-use Rattle.session.specs.declared.ending.Ended.{Ended}
 use Rattle.session.specs.declared.stop.Stop.{Stop}
 
 -- ---- one collect
@@ -34,7 +33,7 @@ module _ {D : Type 0} (made : D → List DeskEntry → D → Type 0) (client : C
   pub collect_ends : (stop : Stop) (old new : D) (a b : Bytes) (max : ℕ) (answer : Result DeskAnswer DeskFault) → Makes made (Does client (Collect max) answer) old new
       → cause_of stop ≡ end_after answer → IsAdded (cause_of stop) b a → CollectsOnce made client old new a b (Err stop)
   collect_ends stop old new a b max answer m e w =
-      cut_one made IsFirstCollect client (cause_of stop) old new a b (record { call = Collect max; answer = answer; entries = m.entries }) (refl, max, refl)
+      cut_one made IsFirstCollect client (cause_of stop) old new a b (record { call = Collect max; answer = answer; entries = m.entries }) (refl, (max, refl))
       (record { made = m.are; cause_is = e }) m.led w
 
 -- ---- one after the other

@@ -1,9 +1,9 @@
 -- Laws of failings of a link, which end a session.
-use Rattle.std.proofs.Common.{◌≡◌, Option, Result, Ok, Err, sym, ap, subst, ◌∙◌, inl, inr, option_map}
+use Rattle.std.proofs.Common.{◌≡◌, Option, Result, sym, ap, subst, ◌∙◌, inl, inr, option_map}
 use Rattle.link_edge.specs.Failings.{with_failed_give, with_starved_call}
 use Rattle.link_edge.specs.declared.failings.Failings.{Failings}
 use Rattle.session.specs.Giving.{end_of}
-use Rattle.session.specs.Failing.{FailsBy, FailsIn, FailsGiving}
+use Rattle.session.specs.Failing.{FailsBy, FailsIn}
 use Rattle.session.specs.declared.ending.Ended.{Ended}
 use Rattle.session.specs.declared.ending.Ended.TheVariants as ends
 use Rattle.session.specs.declared.giving.GiveFault.{GiveFault}

@@ -10,9 +10,9 @@ use Rattle.js_api.specs.Clients.{Client}
 use Rattle.js_api.specs.Answering.{DeskCall, DeskAnswer, Settle, Settled}
 use Rattle.js_api.specs.Calls.{Does}
 use Rattle.session.specs.Calling.{Called}
-use Rattle.session.specs.Gathering.{Round, IsRound, IsCollectCall, AreReady, AreCollecting, AreCollects, AreGathered, IsGathering, IsSettle, IsBeforeSettle, all_round_calls, round_calls, most_rounds}
-use Rattle.session.specs.Leading.{Adds, Cuts}
-use Rattle.session.specs.Stopping.{IsCutBy, cause_of, end_after}
+use Rattle.session.specs.Gathering.{Round, IsRound, AreReady, AreCollecting, AreCollects, AreGathered, IsGathering, IsSettle, IsBeforeSettle, all_round_calls, round_calls, most_rounds}
+use Rattle.session.specs.Leading.{Adds}
+use Rattle.session.specs.Stopping.{cause_of, end_after}
 use Rattle.session.specs.Collecting.{IsNextCollect, Collects}
 use Rattle.session.specs.Settling.{AreSettled, IsInRound, SettlesOnce, Gathers}
 use Rattle.session.proofs.Led.{IsOne, adds_one, adds_as, adds_on, cut_as, cut_on, cut_one}

@@ -10,7 +10,7 @@ use Rattle.nats_frames.specs.Decoding.{Held, total, IsFront}
 use Rattle.nats_frames.specs.Grammar.{Fronts}
 use Rattle.nats_frames.specs.Reading.{op_at, Partial}
 use Rattle.js_api.specs.Entries.{DeskEntry}
-use Rattle.session.specs.Calling.{Called, entries_of_calls}
+use Rattle.session.specs.Calling.{entries_of_calls}
 use Rattle.session.specs.Peer.{Act, Hears as Hearing, Ticks, Peer, peer_after}
 use Rattle.session.specs.Talk.{Spoken, IsSpoken, AreSpoken, AreActs, EndsBy, IsWritten, IsFrontOf, IsCutOff, last_line, acts_of, hearings, heard_bytes, spoken_bytes, peer_at_end, entries_of_all, entries_of_spoken}
 use Rattle.session.specs.Giving.{GivesPart, IsFlushed, end_of}

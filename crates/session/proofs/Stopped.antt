@@ -1,5 +1,5 @@
 -- Laws of stops within an operation or a tick, and of operations that were not carried out whole.
-use Rattle.std.proofs.Common.{◌≡◌, ℕ, true, false, ◌&&◌, cond, codes, List, [], ◌∷◌, ◌++◌, Option, Some, None, Result, Ok, Err, refl, sym, subst, ◌∙◌, inl, inr}
+use Rattle.std.proofs.Common.{◌≡◌, ℕ, true, false, ◌&&◌, cond, codes, List, [], ◌∷◌, Option, Some, None, Result, Ok, Err, refl, sym, subst, inl, inr}
 use Rattle.std.proofs.lemmas.List.{append-nil}
 use Rattle.js_base.specs.Bytes.{Bytes}
 use Rattle.js_base.specs.Headers.{is_block}
@@ -16,15 +16,14 @@ use Rattle.js_api.specs.Answering.{DeskAnswer, Opened, Done, Took, Settled, Gave
 use Rattle.session.specs.Calling.{Called}
 use Rattle.session.specs.Connecting.{connect_options}
 use Rattle.session.specs.Peer.{Act, Hears as Hearing, Ticks, Peer, Request, Calls, IsWrong, IsRefused as Refuses, op_request, request, connecting, publishing, message, is_reply}
-use Rattle.session.specs.Stopping.{IsOwnEnd, Declined, Unasked, Asked, IsLastCall, cause_of, end_after}
+use Rattle.session.specs.Stopping.{IsOwnEnd, Declined, Unasked, Asked, end_after}
 use Rattle.session.specs.Talk.{IsStopped, InCall, InGathering}
 use Rattle.session.specs.Carrying.{Carries}
-use Rattle.session.specs.Hearing.{StopsAt, IsHalted}
+use Rattle.session.specs.Hearing.{IsHalted}
 use Rattle.session.specs.Ticking.{Within, Between}
 use Rattle.session.specs.declared.connect.ConnectOptions.{ConnectOptions}
 use Rattle.session.specs.declared.ending.Ended.{Ended}
 use Rattle.session.specs.declared.ending.Ended.TheVariants as ends
-use Rattle.session.specs.declared.ending.Refusal.{Refusal}
 use Rattle.session.specs.declared.ending.Refusal.TheVariants as refusals
 use Rattle.session.specs.declared.stop.Stop.{Stop}
 use Rattle.session.specs.declared.stop.Stop.TheVariants as stops

@@ -9,16 +9,14 @@ use Rattle.link_edge.specs.Moments.{ReadsMoment, ReadsMoments}
 use Rattle.link_edge.specs.declared.answers.Answer.{Answer}
 use Rattle.link_edge.specs.declared.answers.Answer.TheVariants as answers
 use Rattle.link_edge.proofs.Told.{grown-nil, grown_on}
-use Rattle.nats_frames.specs.declared.op.FrameFault.{FrameFault}
-use Rattle.nats_frames.specs.Decoding.{IsRefused}
 use Rattle.js_api.specs.Entries.{DeskEntry}
 use Rattle.js_api.specs.Clients.{Client}
 use Rattle.session.specs.Calling.{Called}
 use Rattle.session.specs.Keeping.{pinged, ping_bytes}
-use Rattle.session.specs.Peer.{Act, Hears as Hearing, Peer}
-use Rattle.session.specs.Talk.{Spoken, Stage, start, Turn, Within, Waiting, Told, Nothing, IsUnspent, IsWithin, IsStopped, IsCause, Ends, EndsBetween, EndsStopped, EndsPinging, EndsBy, IsUnwritten, IsCutOff, last_line, is_due, greeting, heard_bytes, heard_in, peer_in, pinged_peer, spoken_bytes, entries_of_spoken}
+use Rattle.session.specs.Peer.{Act, Peer}
+use Rattle.session.specs.Talk.{Spoken, Stage, start, Turn, Within, Waiting, Told, Nothing, IsUnspent, IsWithin, IsCause, Ends, EndsBetween, EndsStopped, EndsPinging, EndsBy, IsUnwritten, IsCutOff, last_line, is_due, greeting, heard_bytes, heard_in, peer_in, pinged_peer, spoken_bytes, entries_of_spoken}
 use Rattle.session.specs.Ticking.{IsTicked, IsTickCut, Stops, Within as StopsWithin, Between as StopsBetween}
-use Rattle.session.specs.Hearing.{IsHeard, IsCut, IsFaulty, StopsAt}
+use Rattle.session.specs.Hearing.{IsHeard, IsCut, StopsAt}
 use Rattle.session.proofs.Behind.{front_of, ends_behind}
 use Rattle.session.proofs.Stopped.{IsStopEnd, stop_ends}
 use Rattle.session.specs.Turning.{IsTurn, IsLastTurn, IsKept, IsGivenUp, IsUnpinged, IsRested, IsUnkept, IsUnticked, Rests, Turns}

@@ -9,7 +9,7 @@ pub returns-in-Broke-clause-made : goal.returns-in-Broke-clause-made
 returns-in-Broke-clause-made g c = rw c.in-Broke.is c.refuse_for.ensures.made
 
 pub returns-in-Stopped-clause-made : goal.returns-in-Stopped-clause-made
-returns-in-Stopped-clause-made g c = rw c.in-Stopped.is c.refuse_for.ensures.made
+returns-in-Stopped-clause-made g c = rw c.in-Stopped.is c.refuse_for-in-Stopped.ensures.made
 
 pub returns-in-Gone-clause-made : goal.returns-in-Gone-clause-made
-returns-in-Gone-clause-made g c = rw c.in-Gone.is c.refuse_for.ensures.made
+returns-in-Gone-clause-made g c = rw c.in-Gone.is c.refuse_for-in-Gone.ensures.made

@@ -6,12 +6,12 @@ use Rattle.js_model.specs.declared.event.What.TheVariants as whats
 use Rattle.js_api.specs.OneStream.{IsAbsent, IsOnStream, IsShowing, unchanged}
 use Rattle.js_api.specs.Stages.{LooksUp}
 use Rattle.js_model.specs.Catalog as catalog
-use Rattle.desk_calls.proofs.Stages.{by_fault, if_absent, if_found, stops}
+use Rattle.desk_calls.proofs.Stages.{if_absent, if_found, stops_by}
 use Rattle.desk_calls.proofs.OneStream.{named, on_stream}
 use Rattle.desk_calls.proofs.asking.show_stream.Goals as goal
 
 pub returns-in_err-by_name-clause-made : goal.returns-in_err-by_name-clause-made
-returns-in_err-by_name-clause-made g c = by_fault (λ r. Makes g.G.Ground.made (IsShowing c.args.stream.now c.args.to.now c.args.now r) _ _) _ _ c.from_residual.ensures.1 (stops g.G.Ground.made (LooksUp (catalog.ByName c.args.stream.now)) _ c.by_name.result _ _ _ c.in_err-by_name.was c.by_name.ensures.made)
+returns-in_err-by_name-clause-made g c = stops_by g.G.Ground.made (LooksUp (catalog.ByName c.args.stream.now)) _ c.by_name.result _ _ _ _ c.in_err-by_name.was c.from_residual.ensures.1 c.by_name.ensures.made
 
 pub returns-in-Some-clause-made : goal.returns-in-Some-clause-made
 returns-in-Some-clause-made g c = 

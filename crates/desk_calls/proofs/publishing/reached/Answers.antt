@@ -9,7 +9,7 @@ pub returns-in-Broke-clause-made : goal.returns-in-Broke-clause-made
 returns-in-Broke-clause-made g c = rw c.in-Broke.is c.refuse_publish.ensures.made
 
 pub returns-in-Stopped-clause-made : goal.returns-in-Stopped-clause-made
-returns-in-Stopped-clause-made g c = rw c.in-Stopped.is c.refuse_publish.ensures.made
+returns-in-Stopped-clause-made g c = rw c.in-Stopped.is c.refuse_publish-in-Stopped.ensures.made
 
 pub returns-in-Gone-clause-made : goal.returns-in-Gone-clause-made
 returns-in-Gone-clause-made g c = rw c.in-Gone.is (nothing g.G.Ground.made _ _ (g.met.G.Ground.made_nothing _) (record { result_is = refl; entries_are = refl }))

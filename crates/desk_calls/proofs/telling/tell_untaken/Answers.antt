@@ -4,14 +4,13 @@ use Rattle.desk_calls.proofs.Shorts.{unsent_then}
 use Rattle.js_api.specs.Publishing.{Tells, untaken_outs}
 use Rattle.js_api.specs.Stages.{Gives, Sends}
 use Rattle.desk_calls.specs.Callers.{client_of}
-use Rattle.desk_calls.proofs.Stages.{by_fault, goes_on, nothing, stops}
+use Rattle.desk_calls.proofs.Stages.{goes_on, nothing, stops_by}
 use Rattle.desk_calls.proofs.telling.tell_untaken.Goals as goal
 
 pub returns-in_err-send_all-clause-made : goal.returns-in_err-send_all-clause-made
 returns-in_err-send_all-clause-made g c = 
     let sent = rw (c.as_slice.ensures, c.in-Ok.ensures.outs) at c.send_all.ensures.made in
-    by_fault (λ r. Makes g.G.Ground.made (Tells (client_of c.args.caller) c.args.message.now c.args.taken r) _ _) _ _ c.from_residual.ensures.1
-    (stops g.G.Ground.made (Sends (untaken_outs c.args.caller.told c.args.message.now c.args.taken)) (λ _. Gives c.args.taken) c.send_all.result _ _ _ c.in_err-send_all.was sent)
+    (stops_by g.G.Ground.made (Sends (untaken_outs c.args.caller.told c.args.message.now c.args.taken)) (λ _. Gives c.args.taken) c.send_all.result _ _ _ _ c.in_err-send_all.was c.from_residual.ensures.1 sent)
 
 pub returns-in-Ok-clause-made : goal.returns-in-Ok-clause-made
 returns-in-Ok-clause-made g c = 

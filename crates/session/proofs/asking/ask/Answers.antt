@@ -1,5 +1,6 @@
 use Rattle.std.proofs.Common.{refl, sym}
-use Rattle.session.proofs.Asked.{asks_pub, asks_hpub, stays}
+use Rattle.session.specs.declared.ending.Refusal.TheVariants.{BadHeaders}
+use Rattle.session.proofs.Asked.{asks_pub, asks_hpub, blockless, declined, stays}
 use Rattle.session.proofs.asking.ask.Goals as goal
 
 pub returns-in_ok-message-in-Pub-clause-asks : goal.returns-in_ok-message-in-Pub-clause-asks
@@ -16,3 +17,8 @@ returns-in_ok-message-in-HPub-clause-asks g c =
 
 pub returns-in_ok-message-in-HPub-clause-peer : goal.returns-in_ok-message-in-HPub-clause-peer
 returns-in_ok-message-in-HPub-clause-peer g c = stays c.publish-in-HPub.result _ _ c.args.manners.now c.args.op _ c.in-HPub.is refl c.publish-in-HPub.ensures.client
+
+pub returns-then-not-is_block-clause-asks : goal.returns-then-not-is_block-clause-asks
+returns-then-not-is_block-clause-asks g c =
+    declined _ _ BadHeaders _ _ _ (blockless c.args.now c.args.op _ _ _ _ c.in-HPub.is (rw c.as_slice-in-HPub.ensures at (sym c.if-not-is_block.ensures.value)))
+    (g.met.D.Desk.made_nothing c.args.desk.now)

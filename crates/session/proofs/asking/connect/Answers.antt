@@ -8,7 +8,7 @@ returns-in-Err-clause-asks g c = unread _ _ c.in-Err.stop _ _ _ c.in-Err.ensures
 
 pub returns-in_err-options-clause-asks : goal.returns-in_err-options-clause-asks
 returns-in_err-options-clause-asks g c =
-    stopped_by _ _ _ _ _ _ _ _ c.from_residual-in_err-options.result _ _ c.from_residual-in_err-options.ensures.1 (ap connecting c.in-Ok.ensures.reads)
+    stopped_by _ _ _ _ _ _ _ _ c.from_residual.result _ _ c.from_residual.ensures.1 (ap connecting c.in-Ok.ensures.reads)
     c.in_err-options.ensures.made refl
 
 pub returns-in_err-write_fine-clause-asks : goal.returns-in_err-write_fine-clause-asks

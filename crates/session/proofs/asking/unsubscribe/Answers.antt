@@ -4,7 +4,7 @@ use Rattle.session.proofs.asking.unsubscribe.Goals as goal
 
 pub returns-in_err-unsub-clause-asks : goal.returns-in_err-unsub-clause-asks
 returns-in_err-unsub-clause-asks g c =
-    stopped_by _ _ _ _ _ _ _ _ c.from_residual-in_err-unsub.result _ _ c.from_residual-in_err-unsub.ensures.1 refl c.in_err-unsub.ensures.made refl
+    stopped_by _ _ _ _ _ _ _ _ c.from_residual.result _ _ c.from_residual.ensures.1 refl c.in_err-unsub.ensures.made refl
 
 pub returns-in_err-write_fine-clause-asks : goal.returns-in_err-write_fine-clause-asks
 returns-in_err-write_fine-clause-asks g c =
