@@ -4,18 +4,19 @@ ghost use Rattle.std.specs.Prelude.{◌≡◌, IfOk, IfSome, IsUtf8, option_map}
 ghost use Rattle.std.specs.Option.{option_copied, option_to_list};
 ghost use Rattle.api_calls.specs.declared.call.ApiCall.TheVariants as calls;
 ghost use Rattle.api_calls.specs.Names.{name_of};
-ghost use Rattle.api_replies.specs.Printed.{IsText};
+ghost use Rattle.api_replies.specs.Printed.{InfoIsText, IsText};
 ghost use Rattle.api_replies.specs.Replies.{reply_text};
 ghost use Rattle.api_replies.specs.declared.reply.ApiReply.TheVariants as replies;
 ghost use Rattle.js_api.specs.Outputs.{answer_of, api_reply, dropped, informed, text_for};
 ghost use Rattle.js_model.specs.Proper.{reply_of};
 ghost use Rattle.place_engine.specs.Shown.{IsShown};
+ghost use Rattle.desk_answers.specs.InfoCalls.{answer_by, call_of};
 
 use crate::copying::copy_info;
 use crate::replying::message_to;
 use js_api::{ApiCall, ApiReply, publish_text, reply_text};
 use js_base::{ApiError, Blob, NoMemory, Out};
-use js_model::{Publish, Reply, What};
+use js_model::{Publish, Reply, StreamInfo, What};
 use std::alloc::Global;
 
 /// The refusal of this call.
@@ -32,61 +33,49 @@ fn refused(alloc: Global, call: ApiCall, refusal: &ApiError) -> Result<ApiReply,
     Ok(ApiReply::Refused(Blob::of(alloc, call.name())?, copy))
 }
 
-/// How the making of a stream is answered.
-fn created(alloc: Global, reply: &Reply) -> Result<Option<ApiReply>, NoMemory>
-    requires shown { IsShown reply.now }
-    ensures value { IfOk result (λ told. told ≡ informed replies.StreamCreate (name_of calls.StreamCreate) reply.now) }
-    ensures texts { IfOk result (λ told. IfSome told IsText) }
-{
-    match reply {
-        Reply::Info(info) => Ok(Some(ApiReply::StreamCreate(copy_info(alloc, info)?))),
-        Reply::Refused(refusal) => Ok(Some(refused(alloc, ApiCall::StreamCreate, refusal)?)),
-        Reply::Done
-        | Reply::Published(_)
-        | Reply::Duplicate(_)
-        | Reply::Purged(_)
-        | Reply::ConsumerInfo(_)
-        | Reply::Message(_)
-        | Reply::Names { .. }
-        | Reply::Infos { .. }
-        | Reply::Confirmed
-        | Reply::Silent
-        | Reply::Nobody => Ok(None),
+/// A call that a stream answers by its information.
+#[derive(Clone, Copy)]
+enum InfoCall {
+    Create,
+    Update,
+    Info,
+}
+
+impl InfoCall {
+    /// The call of the API.
+    fn call(self) -> ApiCall
+        ensures value { result ≡ call_of self }
+    {
+        match self {
+            InfoCall::Create => ApiCall::StreamCreate,
+            InfoCall::Update => ApiCall::StreamUpdate,
+            InfoCall::Info => ApiCall::StreamInfo,
+        }
+    }
+
+    /// The answer with this information.
+    fn answer(self, info: StreamInfo) -> ApiReply
+        requires texts { InfoIsText info }
+        ensures value { result ≡ answer_by self info }
+        ensures texts { IsText result }
+    {
+        match self {
+            InfoCall::Create => ApiReply::StreamCreate(info),
+            InfoCall::Update => ApiReply::StreamUpdate(info),
+            InfoCall::Info => ApiReply::StreamInfo(info),
+        }
     }
 }
 
-/// How the change of a stream is answered.
-fn updated(alloc: Global, reply: &Reply) -> Result<Option<ApiReply>, NoMemory>
+/// How such a call is answered.
+fn informed(alloc: Global, call: InfoCall, reply: &Reply) -> Result<Option<ApiReply>, NoMemory>
     requires shown { IsShown reply.now }
-    ensures value { IfOk result (λ told. told ≡ informed replies.StreamUpdate (name_of calls.StreamUpdate) reply.now) }
+    ensures value { IfOk result (λ told. told ≡ informed (answer_by call) (name_of (call_of call)) reply.now) }
     ensures texts { IfOk result (λ told. IfSome told IsText) }
 {
     match reply {
-        Reply::Info(info) => Ok(Some(ApiReply::StreamUpdate(copy_info(alloc, info)?))),
-        Reply::Refused(refusal) => Ok(Some(refused(alloc, ApiCall::StreamUpdate, refusal)?)),
-        Reply::Done
-        | Reply::Published(_)
-        | Reply::Duplicate(_)
-        | Reply::Purged(_)
-        | Reply::ConsumerInfo(_)
-        | Reply::Message(_)
-        | Reply::Names { .. }
-        | Reply::Infos { .. }
-        | Reply::Confirmed
-        | Reply::Silent
-        | Reply::Nobody => Ok(None),
-    }
-}
-
-/// How the question for a stream's information is answered.
-fn shown(alloc: Global, reply: &Reply) -> Result<Option<ApiReply>, NoMemory>
-    requires shown { IsShown reply.now }
-    ensures value { IfOk result (λ told. told ≡ informed replies.StreamInfo (name_of calls.StreamInfo) reply.now) }
-    ensures texts { IfOk result (λ told. IfSome told IsText) }
-{
-    match reply {
-        Reply::Info(info) => Ok(Some(ApiReply::StreamInfo(copy_info(alloc, info)?))),
-        Reply::Refused(refusal) => Ok(Some(refused(alloc, ApiCall::StreamInfo, refusal)?)),
+        Reply::Info(info) => Ok(Some(call.answer(copy_info(alloc, info)?))),
+        Reply::Refused(refusal) => Ok(Some(refused(alloc, call.call(), refusal)?)),
         Reply::Done
         | Reply::Published(_)
         | Reply::Duplicate(_)
@@ -131,10 +120,10 @@ fn api_reply(alloc: Global, what: &What, reply: &Reply) -> Result<Option<ApiRepl
     ensures texts { IfOk result (λ told. IfSome told IsText) }
 {
     match what {
-        What::Make { .. } => created(alloc, reply),
-        What::Change { .. } => updated(alloc, reply),
+        What::Make { .. } => informed(alloc, InfoCall::Create, reply),
+        What::Change { .. } => informed(alloc, InfoCall::Update, reply),
         What::Drop { .. } => deleted(alloc, reply),
-        What::StreamInfo { .. } => shown(alloc, reply),
+        What::StreamInfo { .. } => informed(alloc, InfoCall::Info, reply),
         What::Publish(_)
         | What::Purge { .. }
         | What::Delete { .. }

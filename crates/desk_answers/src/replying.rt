@@ -2,9 +2,11 @@
 
 ghost use Rattle.std.specs.Prelude.{◌≡◌, ◌<◌, IfOk, IsUtf8, OnErr, length};
 ghost use Rattle.api_replies.specs.Printed.{IsText};
+ghost use Rattle.api_replies.specs.PubAcks.{publish_text};
 ghost use Rattle.js_api.specs.OneStream.{answer};
 ghost use Rattle.js_api.specs.Outputs.{message_to};
 ghost use Rattle.js_api.specs.Publishing.{publish_refusal};
+ghost use Rattle.js_model.specs.declared.reply.Reply.TheVariants.{Refused};
 
 use js_api::{ApiReply, publish_text, reply_text};
 use js_base::{ApiError, Blob, List, NoMemory, Out, Outs};
@@ -38,6 +40,16 @@ pub fn answer_outs(alloc: Global, to: &Option<Blob>, reply: &ApiReply) -> Result
     Ok(outs)
 }
 
+/// The text that refuses a publish to the stream of this name.
+fn refusal_text(alloc: Global, stream: &[u8], refusal: ApiError) -> Result<Option<Blob>, NoMemory>
+    requires utf8 { IsUtf8 stream.now }
+    requires text { IsUtf8 refusal.text }
+    ensures text { IfOk result (λ text. text ≡ publish_text stream.now (Refused refusal)) }
+{
+    let reply = Reply::Refused(refusal);
+    publish_text(alloc, stream, &reply)
+}
+
 /// The message that refuses a publish to the stream of this name, or no message if there is no subject for it. An `Err` comes only if there is one.
 pub fn publish_refusal(
     alloc: Global,
@@ -52,7 +64,7 @@ pub fn publish_refusal(
 {
     let mut outs = List::new(alloc);
     if let Some(to) = to {
-        if let Some(text) = publish_text(alloc, stream, &Reply::Refused(refusal))? {
+        if let Some(text) = refusal_text(alloc, stream, refusal)? {
             outs.push(message_to(to, text)?)?;
         }
     }

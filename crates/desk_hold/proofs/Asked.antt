@@ -1,5 +1,5 @@
 -- What is asked of one place, and what its answer tells.
-use Rattle.std.proofs.Common.{◌≡◌, ℕ, ◌<◌, ◌≤◌, ◌^◌, ◌&&◌, Bool, true, false, List, Option, Some, None, refl, sym, ap, subst, ◌∙◌, IsTrue}
+use Rattle.std.proofs.Common.{◌≡◌, ℕ, ◌<◌, ◌≤◌, ◌^◌, ◌&&◌, Bool, true, false, not, List, Option, Some, None, Err, refl, sym, ap, subst, ◌∙◌, IsTrue}
 use Rattle.std.specs.Prelude.{is_some, nat_le}
 use Rattle.std.proofs.lemmas.Bool.{and_from, le-leb}
 use Rattle.js_base.specs.Bytes.{Bytes}
@@ -15,7 +15,8 @@ use Rattle.js_model.specs.declared.reply.Reply.{Reply}
 use Rattle.js_model.specs.declared.reply.Reply.TheVariants.{Refused}
 use Rattle.js_model.specs.declared.stream.State.{State}
 use Rattle.js_model.specs.declared.stream.State.TheVariants.{Vacant, Live}
-use Rattle.js_model.specs.Events.{answered, kept_incarnation, IsEvent}
+use Rattle.js_model.specs.Events.{answered, is_refused, kept_incarnation, IsEvent}
+use Rattle.js_model.specs.PlaceStates.{PlaceIn}
 use Rattle.js_model.specs.Proper.{if_given, is_proper, is_proper_what, reply_of}
 use Rattle.js_model.specs.Refusals.{no_stream}
 use Rattle.js_api.specs.declared.fault.DeskFault.{DeskFault}
@@ -24,9 +25,13 @@ use Rattle.js_api.specs.declared.outcome.Became.TheVariants.{Made, Unsaid}
 use Rattle.js_api.specs.Holding.{event_at}
 use Rattle.js_api.specs.OneStream.{is_done}
 use Rattle.place_engine.specs.Shown.{IsShown}
+use Rattle.place_engine.specs.declared.faults.PlaceFault.{PlaceFault}
+use Rattle.place_engine.specs.declared.faults.PlaceFault.TheVariants as places
+use Rattle.place_engine.specs.declared.faults.Left.TheVariants as left
 use Rattle.desk_answers.specs.Asking.{MayAsk}
 use Rattle.desk_answers.specs.Became.{CanBeShown, IsExplained, NumbersDropped, is_dropped}
-use Rattle.desk_hold.specs.Steps.{IsNumbered}
+use Rattle.desk_hold.specs.Outcomes.{failed_by}
+use Rattle.desk_hold.specs.Steps.{EndsStep, IsNumbered, WithholdsStep}
 
 -- what is asked of the stream is an event as a reader gives it
 pub proper_event : (at : PlaceAt) (what : What) → at.incarnation ≤ 2 ^ 62 → MayAsk what → IsTrue (is_proper (event_at at what))
@@ -67,6 +72,39 @@ number_made what became at now old new reply outs numbered e h = tt
 pub number_undone : (what : What) (became : Became) (at : PlaceAt) → is_dropped became ≡ false → NumbersDropped what became at
 number_undone (DropStream to) became at e = λ dropped. absurd (let not_both : false ≡ true = sym e ∙ dropped in cc)
 number_undone what became at e = tt
+
+not_refused : (a b : Answer) → a ≡ b → is_refused a.reply ≡ true → is_refused b.reply ≡ false → ⊥
+not_refused a b e yes no = let not_both : true ≡ false = sym yes ∙ ap (λ (x : Answer). is_refused x.reply) e ∙ no in cc
+
+-- a stream that is not there is not dropped, which is refused
+unrefused_live : (at : PlaceAt) (to : Option Bytes) (now : ℕ) (room : Bool) (old new : State) (reply : Reply) (outs : List Out) → IsNumbered old
+    → answered old (event_at at (DropStream to)) now room ≡ record { reply = reply; outs = outs; state = new } → is_refused reply ≡ false → kept_incarnation old < 2 ^ 62
+unfolding answered
+unrefused_live at to now room (Vacant last) new reply outs numbered e none = absurd (not_refused _ _ e refl none)
+unrefused_live at to now room (Live stream) new reply outs numbered e none = numbered stream refl
+
+unless_true : (b : Bool) → not b ≡ true → b ≡ false
+unless_true true e = absurd (let not_both : false ≡ true = e in cc)
+unless_true false e = refl
+
+number_withheld : (what : What) (refused : Bool) (at : PlaceAt) (now : ℕ) (old new : PlaceIn) (before after : List Out) → IsNumbered old.state
+    → WithholdsStep refused (event_at at what) now old new before after → NumbersDropped what (Unsaid refused) at
+number_withheld (DropStream to) refused at now old new before after numbered h = λ dropped.
+    subst (λ (n : ℕ). n < 2 ^ 62) (sym h.made.step.event.kept)
+    (unrefused_live at to now h.made.step.event.room old.state new.state h.reply h.outs numbered h.made.step.event.answers
+    (sym h.refused_is ∙ unless_true refused dropped))
+number_withheld what refused at now old new before after numbered h = tt
+
+-- what a failed step came to
+pub number_failed : (what : What) (fault : PlaceFault) (stream : Bytes) (at : PlaceAt) (now : ℕ) (old new : PlaceIn) (before after : List Out) → IsNumbered old.state
+    → EndsStep (Err fault) (event_at at what) now old new before after → NumbersDropped what (failed_by fault stream).became at
+number_failed what (places.NoMemory left.Nothing) stream at now old new before after numbered h = number_undone what _ at refl
+number_failed what (places.NoMemory left.Ticked) stream at now old new before after numbered h = number_undone what _ at refl
+number_failed what (places.NoMemory (left.Unsaid refused)) stream at now old new before after numbered h = number_withheld what refused at now old new before after numbered h
+number_failed what places.StoreFault stream at now old new before after numbered h = number_undone what _ at refl
+number_failed what (places.Stopped count) stream at now old new before after numbered h = number_undone what _ at refl
+number_failed what (places.Gone kept) stream at now old new before after numbered h = number_undone what _ at refl
+number_failed what (places.Worn refused) stream at now old new before after numbered h = number_withheld what refused at now old new before after numbered h.withholds
 
 -- ---- whether a place is stopped
 

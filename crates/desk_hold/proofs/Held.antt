@@ -1,5 +1,5 @@
 -- A step at a place, and the sending of what it sends, are one hold.
-use Rattle.std.proofs.Common.{◌≡◌, ◌≢◌, ◌≤◌, ◌<◌, ℕ, Bool, true, false, List, [], ◌∷◌, ◌++◌, Option, Some, None, Result, Ok, Err, refl, sym, ap, subst, ◌∙◌, append_assoc, append-nil, inl, inr, arith}
+use Rattle.std.proofs.Common.{◌≡◌, ◌≢◌, ◌≤◌, ◌<◌, ◌-◌, ◌^◌, ℕ, Bool, true, false, List, [], ◌∷◌, ◌++◌, Option, Some, None, Result, Ok, Err, refl, sym, ap, subst, ◌∙◌, append_assoc, append-nil, inl, inr, arith}
 use Rattle.std.specs.Prelude.{MatchOption}
 use Rattle.js_base.specs.Bytes.{Bytes}
 use Rattle.js_base.specs.declared.out.Out.{Out}
@@ -21,7 +21,7 @@ use Rattle.js_model.specs.Router.{RouteCall, RouteTold}
 use Rattle.js_api.specs.declared.fault.DeskFault.{DeskFault}
 use Rattle.js_api.specs.declared.fault.DeskFault.TheVariants as faults
 use Rattle.js_api.specs.declared.outcome.Became.{Became}
-use Rattle.js_api.specs.declared.outcome.Became.TheVariants.{Made, Ticked, Nothing, Broke, Stopped, Gone}
+use Rattle.js_api.specs.declared.outcome.Became.TheVariants.{Made, Unsaid, Ticked, Nothing, Broke, Stopped, Gone}
 use Rattle.js_api.specs.declared.outcome.Outcome.{Outcome}
 use Rattle.js_api.specs.Entries.{Sending, Sent, Short, Unsent, Hold, DeskEntry, Held, Stirred, Halted, Missed}
 use Rattle.js_api.specs.Holding.{AreAsked, AreReadings, Explains, HoldsBy, MayEnd, event_at, is_ready_at, push_consumers, step}
@@ -33,9 +33,9 @@ use Rattle.place_engine.specs.declared.faults.PlaceFault.TheVariants as places
 use Rattle.place_engine.specs.declared.faults.Left.TheVariants as left
 use Rattle.desk_hold.specs.declared.stepping.MadeStep.{MadeStep}
 use Rattle.desk_hold.specs.OnePlace.{HoldsOn, OnPlace, on}
-use Rattle.desk_hold.specs.Outcomes.{SendsStep, SendsTick, failed_by, fault_of, quietly, shortly}
+use Rattle.desk_hold.specs.Outcomes.{SendsStep, SendsMade, SendsThem, failed_by, fault_of, quietly, shortly}
 use Rattle.desk_hold.specs.Ports.{Sends}
-use Rattle.desk_hold.specs.Steps.{AddsStep, EndsStep, IsMade}
+use Rattle.desk_hold.specs.Steps.{AddsStep, EndsStep, IsMade, WithholdsStep}
 
 -- ---- the entry of a step
 
@@ -171,9 +171,9 @@ module _ {R : Type 0} (routes : R → RouteCall → RouteTold → R → Type 0) 
 
   -- time passed, and no more
   ticked : (old new : PlaceIn) (outs : List Out) (r s : R) → EndsStep (Err (places.NoMemory left.Ticked)) (event_at at what) now old new [] outs
-      → SendsTick routes worn (places.NoMemory left.Ticked) outs r s → HoldsOn routes worn at what now (shortly Ticked) (on old r) (on new s)
+      → SendsMade routes worn (places.NoMemory left.Ticked) outs r s → HoldsOn routes worn at what now (shortly Ticked) (on old r) (on new s)
   ticked old new outs r s h sends =
-      let hold : Hold = hold_of at Tick now Silent h.outs false sends.0 old new in
+      let hold : Hold = hold_of at Tick now Silent h.outs false sends.sending old new in
       record {
         entries = Held hold ∷ [];
         holds = record {
@@ -203,10 +203,56 @@ module _ {R : Type 0} (routes : R → RouteCall → RouteTold → R → Type 0) 
           on new s,
           record {
             at_is = refl;
-            held = held_step at Tick now Silent h.outs false sends.0 old new h.made h.goes;
+            held = held_step at Tick now Silent h.outs false sends.sending old new h.made h.goes;
             told = r;
             heard = refl;
-            sent = subst (λ (os : List Out). Sends routes worn r os sends.0 s) (h.added ∙ sym (append-nil h.outs)) sends.1;
+            sent = subst (λ (os : List Out). Sends routes worn r os sends.sending s) (h.added ∙ sym (append-nil h.outs)) sends.sends;
+          },
+          refl,
+        );
+      }
+
+  -- it was made, and its reply is withheld
+  withheld : (refused : Bool) (fault : DeskFault) (old new : PlaceIn) (outs : List Out) (r s : R) (h : WithholdsStep refused (event_at at what) now old new [] outs)
+      (sends : SendsThem routes worn outs r s) → Explains (Some fault) true (hold_of at what now h.reply h.outs true sends.sending old new)
+      → HoldsOn routes worn at what now (record { became = Unsaid refused; ready = false; fault = Some fault }) (on old r) (on new s)
+  withheld refused fault old new outs r s h sends explained =
+      let hold : Hold = hold_of at what now h.reply h.outs true sends.sending old new in
+      record {
+        entries = Held hold ∷ [];
+        holds = record {
+          first = [];
+          more = Held hold ∷ [];
+          entries_are = refl;
+          prepares = inl refl;
+          holds = (
+            hold,
+            h.reply,
+            record {
+              seat = 0;
+              outs = h.outs;
+              unsaid = true;
+              at_is = refl;
+              steps = refl;
+              asked = inr (refl, refl);
+              deliveries = tt;
+              ready_is = tt;
+              explained = explained;
+              ends = tt;
+            },
+            refl,
+            refl,
+            h.refused_is,
+          );
+        };
+        led = (
+          on new s,
+          record {
+            at_is = refl;
+            held = held_step at what now h.reply h.outs true sends.sending old new h.made h.goes;
+            told = r;
+            heard = refl;
+            sent = subst (λ (os : List Out). Sends routes worn r os sends.sending s) (h.added ∙ sym (append-nil h.outs)) sends.sends;
           },
           refl,
         );
@@ -267,14 +313,15 @@ module _ {R : Type 0} (routes : R → RouteCall → RouteTold → R → Type 0) 
       }
 
   pub held_failed : (fault : PlaceFault) (stream : Bytes) (old new : PlaceIn) (outs : List Out) (r s : R) → stream ≡ stream_name old.state
-      → EndsStep (Err fault) (event_at at what) now old new [] outs → SendsTick routes worn fault outs r s → HoldsOn routes worn at what now (failed_by fault stream) (on old r) (on new s)
+      → EndsStep (Err fault) (event_at at what) now old new [] outs → SendsMade routes worn fault outs r s → HoldsOn routes worn at what now (failed_by fault stream) (on old r) (on new s)
   held_failed (places.NoMemory left.Nothing) stream old new outs r s name h sends = stirred old new outs r s h sends
   held_failed (places.NoMemory left.Ticked) stream old new outs r s name h sends = ticked old new outs r s h sends
-  held_failed (places.NoMemory left.Unsaid) stream old new outs r s name h sends = absurd h
+  held_failed (places.NoMemory (left.Unsaid refused)) stream old new outs r s name h sends = withheld refused faults.NoMemory old new outs r s h sends tt
   held_failed places.StoreFault stream old new outs r s name h sends = broke stream old new outs r s name h sends
   held_failed (places.Stopped count) stream old new outs r s name h sends = absurd h
   held_failed (places.Gone kept) stream old new outs r s name h sends = absurd h
-  held_failed places.Worn stream old new outs r s name h sends = absurd h
+  held_failed (places.Worn refused) stream old new outs r s name h sends =
+      withheld refused (faults.Worn (2 ^ 62 - 1)) old new outs r s h.withholds sends (inr (sym h.last, refl))
 
   -- memory ran out before anything
   pub held_nothing : (place : PlaceIn) (r : R) → HoldsOn routes worn at what now (shortly Nothing) (on place r) (on place r)

@@ -14,14 +14,13 @@ use Rattle.js_model.specs.Proper.{is_proper}
 use Rattle.js_model.specs.Runs.{IsStep, is_few, new_messages}
 use Rattle.js_api.specs.Outputs.{answer_of, stream_name, said}
 use Rattle.js_api.specs.Worlds.{IsLater}
-use Rattle.place_engine.specs.Provisional.{LeavesNoneUnsaid}
-use Rattle.place_engine.specs.Stepping.{Image, Seen, Steps, Elapses, Does, tick_of}
+use Rattle.place_engine.specs.Stepping.{Image, Seen, Steps, Elapses, Does, Withholds, tick_of}
 use Rattle.place_engine.specs.declared.faults.PlaceFault.{PlaceFault}
 use Rattle.place_engine.specs.declared.faults.PlaceFault.TheVariants.{NoMemory, StoreFault, Stopped, Gone, Worn}
 use Rattle.place_engine.specs.declared.faults.Left.TheVariants.{Nothing, Ticked, Unsaid}
 use Rattle.desk_hold.specs.declared.stepping.MadeStep.{MadeStep}
 use Rattle.desk_hold.specs.Outcomes.{IsOfStep}
-use Rattle.desk_hold.specs.Steps.{IsMade, EndsStep}
+use Rattle.desk_hold.specs.Steps.{IsMade, EndsStep, WithholdsStep}
 use Rattle.desk_hold.proofs.Ticks.{tick_silent, tick_proper}
 
 is_stopped : (count : ℕ) → None ≡ Some count → ⊥
@@ -62,10 +61,22 @@ module _ (holds : Image → State → Type 0) (event : Event) (now : ℕ) (old n
             ∙ append_assoc before a.outs answer;
       }
 
+  -- its reply is withheld
+  withheld : (refused : Bool) (before after : List Out) → Withholds refused event now old new before after → new.place.stored ≤ old.place.stored + length (new_messages old.place.state new.place.state)
+      → Elapses holds old new → WithholdsStep refused event now old.place new.place before after
+  withheld refused before after h stored time = record {
+    reply = (answered old.place.state event now old.room).reply;
+    outs = (answered old.place.state event now old.room).outs;
+    made = made event proper h.hides.does stored time;
+    goes = h.hides.goes;
+    added = h.hides.outs;
+    refused_is = h.refused_is;
+  }
+
   -- or it failed
-  pub failed_step : (fault : PlaceFault) (before after : List Out) → LeavesNoneUnsaid fault → Steps holds (Err fault) event now old new before after
+  pub failed_step : (fault : PlaceFault) (before after : List Out) → Steps holds (Err fault) event now old new before after
       → EndsStep (Err fault) event now old.place new.place before after
-  failed_step (NoMemory Nothing) before after fine h = record {
+  failed_step (NoMemory Nothing) before after h = record {
     going = going;
     state = h.ends.state;
     stored = h.ends.stored;
@@ -74,29 +85,27 @@ module _ (holds : Image → State → Type 0) (event : Event) (now : ℕ) (old n
     volume_is = refl;
     later = later h.time;
   }
-  failed_step (NoMemory Ticked) before after fine h = record {
+  failed_step (NoMemory Ticked) before after h = record {
     outs = (answered old.place.state (tick_of event) now old.room).outs;
     made = subst (λ (r : Reply). IsMade (tick_of event) now r (answered old.place.state (tick_of event) now old.room).outs old.place new.place)
         (tick_silent old.place.state event now old.room) (made (tick_of event) (tick_proper event proper) h.ends.does h.stored h.time);
     goes = h.ends.goes;
     added = h.ends.outs;
   }
-  failed_step (NoMemory Unsaid) before after fine h = absurd fine
-  failed_step StoreFault before after fine h = record {
+  failed_step (NoMemory (Unsaid refused)) before after h = withheld refused before after h.ends h.stored h.time
+  failed_step StoreFault before after h = record {
     reply = (answered old.place.state event now old.room).reply;
     outs = (answered old.place.state event now old.room).outs;
     made = made event proper h.ends.does h.stored h.time;
     stops = (h.ends.stops, h.ends.cause);
   }
-  failed_step (Stopped count) before after fine h = absurd (is_stopped count (sym going ∙ h.ends.stopped))
-  failed_step (Gone count) before after fine h = absurd (h.ends.other (kept ∙ sym h.ends.kept_is))
-  failed_step Worn before after fine h = absurd fine
+  failed_step (Stopped count) before after h = absurd (is_stopped count (sym going ∙ h.ends.stopped))
+  failed_step (Gone count) before after h = absurd (h.ends.other (kept ∙ sym h.ends.kept_is))
+  failed_step (Worn refused) before after h = record { withholds = withheld refused before after h.ends.withholds h.stored h.time; last = h.ends.last }
 
-  pub fault_of_step : (fault : PlaceFault) (before after : List Out) → LeavesNoneUnsaid fault → Steps holds (Err fault) event now old new before after → IsOfStep fault
-  fault_of_step (NoMemory Nothing) before after fine h = tt
-  fault_of_step (NoMemory Ticked) before after fine h = tt
-  fault_of_step (NoMemory Unsaid) before after fine h = fine
-  fault_of_step StoreFault before after fine h = tt
-  fault_of_step (Stopped count) before after fine h = is_stopped count (sym going ∙ h.ends.stopped)
-  fault_of_step (Gone count) before after fine h = h.ends.other (kept ∙ sym h.ends.kept_is)
-  fault_of_step Worn before after fine h = fine
+  pub fault_of_step : (fault : PlaceFault) (before after : List Out) → Steps holds (Err fault) event now old new before after → IsOfStep fault
+  fault_of_step (NoMemory what) before after h = tt
+  fault_of_step StoreFault before after h = tt
+  fault_of_step (Stopped count) before after h = is_stopped count (sym going ∙ h.ends.stopped)
+  fault_of_step (Gone count) before after h = h.ends.other (kept ∙ sym h.ends.kept_is)
+  fault_of_step (Worn refused) before after h = tt

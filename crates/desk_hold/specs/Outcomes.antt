@@ -35,7 +35,7 @@ worn_out became = record { became = became; ready = false; fault = Some (faults.
 
 -- the faults of a step at a place that is not stopped and keeps the incarnation
 abbrev pub IsOfStep : PlaceFault → Type 0
-IsOfStep (places.NoMemory left) = Unit {0}
+IsOfStep (places.NoMemory what) = Unit {0}
 IsOfStep places.StoreFault = Unit {0}
 IsOfStep (places.Stopped count) = ⊥
 IsOfStep (places.Gone kept) = ⊥

@@ -23,7 +23,12 @@ closed client = record client { is_open = false }
 
 abbrev pub client_opened : Client → Result DeskAnswer DeskFault → Client
 client_opened client (Ok (Opened number)) = new_client number
-client_opened client _ = client
+client_opened client (Ok Done) = client
+client_opened client (Ok (Took taken)) = client
+client_opened client (Ok (Settled ready)) = client
+client_opened client (Ok (Gave list more)) = client
+client_opened client (Ok (Slow length)) = client
+client_opened client (Err fault) = client
 
 abbrev pub client_set : Client → Bool → Bool → Result DeskAnswer DeskFault → Client
 client_set client headers no_responders (Ok answer) = with_options client headers no_responders

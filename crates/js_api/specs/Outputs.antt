@@ -100,11 +100,56 @@ entry_outs stream (Step seat event now reply outs unsaid) = outs ++ said unsaid 
 entry_outs stream (Deliver seat now listening delivery outs) = outs
 entry_outs stream (Broken seat now call) = []
 
--- the name of the stream after what was asked of it: an information tells it, and a stream that was dropped has none
+-- the name that an information tells, and else the one before
+abbrev pub name_told : Bytes → Reply → Bytes
+name_told stream (told.Info info) = info.config.name
+name_told stream told.Done = stream
+name_told stream (told.Published seq) = stream
+name_told stream (told.Duplicate seq) = stream
+name_told stream (told.Purged purged) = stream
+name_told stream (told.ConsumerInfo info) = stream
+name_told stream (told.Message message) = stream
+name_told stream (told.Names total list) = stream
+name_told stream (told.Infos total list) = stream
+name_told stream told.Confirmed = stream
+name_told stream told.Silent = stream
+name_told stream told.Nobody = stream
+name_told stream (told.Refused e) = stream
+
+-- a stream that was dropped has no name
+abbrev pub name_left : Bytes → Reply → Bytes
+name_left stream (told.Info info) = stream
+name_left stream told.Done = []
+name_left stream (told.Published seq) = stream
+name_left stream (told.Duplicate seq) = stream
+name_left stream (told.Purged purged) = stream
+name_left stream (told.ConsumerInfo info) = stream
+name_left stream (told.Message message) = stream
+name_left stream (told.Names total list) = stream
+name_left stream (told.Infos total list) = stream
+name_left stream told.Confirmed = stream
+name_left stream told.Silent = stream
+name_left stream told.Nobody = stream
+name_left stream (told.Refused e) = stream
+
+-- the name of the stream after what was asked of it
 abbrev pub name_after : Bytes → What → Reply → Bytes
-name_after stream what (told.Info info) = info.config.name
-name_after stream (whats.Drop reply) told.Done = []
-name_after stream _ _ = stream
+name_after stream (whats.Make to config) reply = name_told stream reply
+name_after stream (whats.Change to config) reply = name_told stream reply
+name_after stream (whats.Drop to) reply = name_left stream reply
+name_after stream (whats.Publish publish) reply = name_told stream reply
+name_after stream (whats.Purge to filter below keep) reply = name_told stream reply
+name_after stream (whats.Delete to seq) reply = name_told stream reply
+name_after stream (whats.MakeConsumer to name config update) reply = name_told stream reply
+name_after stream (whats.DropConsumer to name) reply = name_told stream reply
+name_after stream (whats.Ack to ack) reply = name_told stream reply
+name_after stream (whats.Pull to consumer ask) reply = name_told stream reply
+name_after stream whats.Tick reply = name_told stream reply
+name_after stream (whats.StreamInfo to) reply = name_told stream reply
+name_after stream (whats.MessageGet to by) reply = name_told stream reply
+name_after stream (whats.ConsumerInfo to name) reply = name_told stream reply
+name_after stream (whats.ConsumerNames to offset) reply = name_told stream reply
+name_after stream (whats.ConsumerList to offset) reply = name_told stream reply
 
 abbrev pub name_behind : Bytes → PlaceEntry → Bytes
 name_behind stream (Step seat event now reply outs unsaid) = name_after stream event.what reply

@@ -47,7 +47,7 @@ module _ (P : Consumer → Type 0) (k : IsKept P) (new : (s : Stream) (name : By
       only = λ s messages part h. all_only s messages h;
       configured = λ s reply config g h. h;
       stored = λ s p room g e h. stored s p p.wants.id h;
-      made = λ s reply name config g e h. All-with_new P s.consumers (new_consumer s name config) (new s name config) h;
+      made = λ s reply name config g e r h. All-with_new P s.consumers (new_consumer s name config) (new s name config) h;
       removed = λ s reply name c g e h. All-filter (λ d. not (same d.name c.name)) P s.consumers h;
       acked = λ s reply ack c g e q h. all_with s _ (after_ack-kept c.name P k s.moment reply ack.seq ack.kind c (All-by_name P s.consumers ack.consumer c e h)) h;
       pulled = λ s reply name ask c g e h. all_with s _ (k.pulled s.moment reply ask c (All-by_name P s.consumers name c e h)) h;

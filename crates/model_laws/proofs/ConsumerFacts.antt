@@ -132,7 +132,7 @@ module _ (name : Bytes) (P : Consumer → Type 0) (k : IsKept P) where
       only = λ s messages part h. in_only s messages h;
       configured = λ s reply config g h. h;
       stored = λ s p room g e h. in_stored s p h;
-      made = λ s reply other config g e h. stands-with_new (new_consumer s other config) e h;
+      made = λ s reply other config g e r h. stands-with_new (new_consumer s other config) e h;
       removed = λ s reply other c g e h. stands-without c.name (rw (found_named s.consumers other c e) g) h;
       acked = λ s reply ack c g e q h. in_change s ack.consumer c _ e (after_ack-name s.moment reply ack.seq ack.kind c) (after_ack-kept s.moment reply ack.seq ack.kind c) h;
       pulled = λ s reply other ask c g e h. in_change s other c _ e (pulled-name s.moment reply ask c) (k.pulled s.moment reply ask c) h;

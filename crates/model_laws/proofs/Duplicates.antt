@@ -112,7 +112,7 @@ module _ (id : Bytes) (n t window : ℕ) where
       only = λ s messages part h. record { window_is = h.window_is; stands = h.stands };
       configured = λ s reply config g h. absurd (true≢false (sym g));
       stored = λ s p room g e h. at_stored s p h;
-      made = λ s reply name config g e h. record { window_is = h.window_is; stands = h.stands };
+      made = λ s reply name config g e r h. record { window_is = h.window_is; stands = h.stands };
       removed = λ s reply name c g e h. record { window_is = h.window_is; stands = h.stands };
       acked = λ s reply ack c g e q h. record { window_is = h.window_is; stands = h.stands };
       pulled = λ s reply name ask c g e h. record { window_is = h.window_is; stands = h.stands };

@@ -118,7 +118,7 @@ module _ (P : Stream → Type 0) (part : (s : Stream) (messages : List Message) 
     only = part;
     configured = λ s reply config g h. absurd g;
     stored = λ s p room g e h. absurd g;
-    made = λ s reply name config g e h. absurd g;
+    made = λ s reply name config g e r h. absurd g;
     removed = λ s reply name c g e h. absurd g;
     acked = λ s reply ack c g e q h. absurd g;
     pulled = λ s reply name ask c g e h. absurd g;

@@ -45,7 +45,7 @@ pub record IsChangeFact (allowed : What → Type 0) (V : Type 0) (P : Stream →
   pub configured : (s : Stream) (reply : Option Bytes) (config : StreamConfig) → allowed (Change reply config) → P s → P (record s { config = config })
   pub stored : (s : Stream) (p : Publish) (room : Bool) → allowed (PublishIt p) → verdict s p room ≡ Take → P s → P (with_message s p)
   pub made : (s : Stream) (reply : Option Bytes) (name : Bytes) (config : ConsumerConfig) → allowed (MakeConsumer reply name config false) → by_name s.consumers name ≡ None
-      → P s → P (record s { consumers = with_new s.consumers (new_consumer s name config) })
+      → first_refusal (making_checks s name config) ≡ None → P s → P (record s { consumers = with_new s.consumers (new_consumer s name config) })
   pub removed : (s : Stream) (reply : Option Bytes) (name : Bytes) (c : Consumer) → allowed (DropConsumer reply name) → by_name s.consumers name ≡ Some c
       → P s → P (record s { consumers = filter (λ d. not (same d.name c.name)) s.consumers })
   pub acked : (s : Stream) (reply : Option Bytes) (ack : Ack) (c : Consumer) → allowed (AckIt reply ack) → by_name s.consumers ack.consumer ≡ Some c → is_no_delivery c ack.seq ≡ false
@@ -102,13 +102,13 @@ module _ (allowed : What → Type 0) (V : Type 0) (P : Stream → Type 0) (k : I
   change_told s None h = h
   change_told s (Some c) h = h
 
-  change_made : (s : Stream) (reply : Option Bytes) (name : Bytes) (config : ConsumerConfig) (e : Option ApiError) → allowed (MakeConsumer reply name config false) → by_name s.consumers name ≡ None → P s → IfLive V P (consumer_made s name config e).state
-  change_made s reply name config None g absent h = change_told (record s { consumers = with_new s.consumers (new_consumer s name config) }) _ (k.made s reply name config g absent h)
-  change_made s reply name config (Some e) g absent h = h
+  change_made : (s : Stream) (reply : Option Bytes) (name : Bytes) (config : ConsumerConfig) (e : Option ApiError) → first_refusal (making_checks s name config) ≡ e → allowed (MakeConsumer reply name config false) → by_name s.consumers name ≡ None → P s → IfLive V P (consumer_made s name config e).state
+  change_made s reply name config None q g absent h = change_told (record s { consumers = with_new s.consumers (new_consumer s name config) }) _ (k.made s reply name config g absent q h)
+  change_made s reply name config (Some e) q g absent h = h
 
   change_asked : (s : Stream) (reply : Option Bytes) (name : Bytes) (config : ConsumerConfig) (update : Bool) (c : Option Consumer) → by_name s.consumers name ≡ c → allowed (MakeConsumer reply name config update) → P s → IfLive V P (consumer_asked s name config update c).state
   change_asked s reply name config true None e g h = h
-  change_asked s reply name config false None e g h = change_made s reply name config (first_refusal (making_checks s name config)) g e h
+  change_asked s reply name config false None e g h = change_made s reply name config (first_refusal (making_checks s name config)) refl g e h
   change_asked s reply name config true (Some c) e g h = change_cond (same_consumer_config config c.config) _ _ (change_told s _ h) h
   change_asked s reply name config false (Some c) e g h = change_cond (same_consumer_config config c.config) _ _ (change_told s _ h) h
 

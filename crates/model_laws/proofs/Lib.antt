@@ -10,6 +10,7 @@ pub mod SoundAcks
 pub mod SoundSent
 pub mod Sounding
 pub mod SoundTests
+pub mod Changed
 pub mod Settled
 pub mod Entries
 pub mod Acked
@@ -26,6 +27,7 @@ pub mod Ordering
 pub mod Redelivery
 pub mod AllConsumers
 pub mod Within
+pub mod Bounded
 pub mod Quotas
 pub mod Turns
 pub mod Limiting

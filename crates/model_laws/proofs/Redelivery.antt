@@ -189,7 +189,7 @@ module _ (name : Bytes) (n : ℕ) (due : Due) where
       only = λ s messages part h. tracked_only s messages h;
       configured = λ s reply config g h. h;
       stored = λ s p room g e h. stored s p h;
-      made = λ s reply other config g e h. stands-with_new (new_consumer s other config) e h;
+      made = λ s reply other config g e r h. stands-with_new (new_consumer s other config) e h;
       removed = λ s reply other c g e h. stands-without c.name (rw (found_named s.consumers other c e) g.0) h;
       acked = λ s reply ack c g e q h. tracked_acked s reply ack c g.1 e h;
       pulled = λ s reply other ask c g e h. tracked_pull s reply other ask c e h;
@@ -369,7 +369,7 @@ moment_fact k = record {
   only = λ s messages part h. h;
   configured = λ s reply config g h. h;
   stored = λ s p room g e h. stored s p p.wants.id h;
-  made = λ s reply name config g e h. h;
+  made = λ s reply name config g e r h. h;
   removed = λ s reply name c g e h. h;
   acked = λ s reply ack c g e q h. h;
   pulled = λ s reply name ask c g e h. h;

@@ -71,7 +71,7 @@ has-with_pending new (p ∷ ps) n h = go (nat_lt p.seq new.seq) (p.seq == new.se
     go false true f k = later (at_new ps k)
     go false false f k = at_new (p ∷ ps) k
 
-All-with_pending : (P : Pending → Type 0) (new : Pending) (ps : List Pending) → P new → All P ps → All P (with_pending ps new)
+pub All-with_pending : (P : Pending → Type 0) (new : Pending) (ps : List Pending) → P new → All P ps → All P (with_pending ps new)
 All-with_pending P new [] h k = All-cons P new [] h k
 All-with_pending P new (p ∷ ps) h k = go (nat_lt p.seq new.seq) (p.seq == new.seq) (All-with_pending P new ps h (All-tail P p ps k))
   where
@@ -98,6 +98,10 @@ one_at_least greatest (Some n) h = let q : 0 < n = ltb-true 0 n (and_parts _ _ h
 
 pub limit_of : (config : ConsumerConfig) → IsTrue (is_consumer_config config) → is_limit (2 ^ 62 - 1) config.max_deliver ≡ true
 limit_of config h = (and_parts _ _ (and_parts _ _ (and_parts _ _ (and_parts _ _ (and_parts _ _ (and_parts _ _ (and_parts _ _ (and_parts _ _ (and_parts _ _ h).0).0).0).0).0).0).0).0).1
+
+-- no more entries than this server allows may wait
+pub ack_limit_of : (config : ConsumerConfig) → IsTrue (is_consumer_config config) → is_limit 65536 config.max_ack_pending ≡ true
+ack_limit_of config h = (and_parts _ _ (and_parts _ _ (and_parts _ _ (and_parts _ _ (and_parts _ _ (and_parts _ _ (and_parts _ _ (and_parts _ _ h).0).0).0).0).0).0).0).1
 
 -- a sequence that waits is counted; another one is not
 pub count_waiting : (c : Consumer) (n : ℕ) (p : Pending) → find (λ p. p.seq == n) c.pending ≡ Some p → count_of c n ≡ p.count

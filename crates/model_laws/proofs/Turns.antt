@@ -234,7 +234,7 @@ module _ (name : Bytes) where
     only = λ s messages part h. turns_only turns s messages h;
     configured = λ s reply config g h. h;
     stored = λ s p room g e h. turns_stored turns s p h;
-    made = λ s reply other config g e h. stands-with_new (new_consumer s other config) e h;
+    made = λ s reply other config g e r h. stands-with_new (new_consumer s other config) e h;
     removed = λ s reply other c g e h. stands-without c.name (rw (found_named s.consumers other c e) g.0) h;
     acked = λ s reply ack c g e q h. absurd (true≢false g.1);
     pulled = λ s reply other ask c g e h. absurd (true≢false g.1);

@@ -78,7 +78,7 @@ newest_count n subject (m ∷ later) = go (nat_lt (count_by (λ x. same x.subjec
     go true e h = rw (count_cons (λ x. same x.subject subject) m (newest n later)) (more (ltb-true (count_by (λ x. same x.subject m.subject) later) n e) h (same m.subject subject) refl)
     go false e h = h
 
-last_of_length : {X : Type 0} (n : ℕ) (xs : List X) → length (last_of n xs) ≤ n
+pub last_of_length : {X : Type 0} (n : ℕ) (xs : List X) → length (last_of n xs) ≤ n
 last_of_length {X} n xs = let q : length (drop (length xs - n) xs) ≡ length xs - (length xs - n) = length-drop (length xs - n) xs in omega arith
 
 fitting_sum : (n : ℕ) (ms : List Message) → sum_by size (fitting n ms) ≤ n
@@ -90,10 +90,10 @@ fitting_sum n (m ∷ later) = go (nat_le (sum_by size (m ∷ later)) n) refl (fi
     go false e h = h
 
 -- the messages of a stream within its limits
-record AreWithin (s : Stream) (ms : List Message) : Type 0 where
-  per_subject : IfSome s.config.max_msgs_per_subject (λ limit. (subject : Bytes) → count_by (λ m. same m.subject subject) ms ≤ limit)
-  messages : length ms ≤ max_messages s
-  bytes : IfSome s.config.max_bytes (λ limit. sum_by size ms ≤ limit)
+pub record AreWithin (s : Stream) (ms : List Message) : Type 0 where
+  pub per_subject : IfSome s.config.max_msgs_per_subject (λ limit. (subject : Bytes) → count_by (λ m. same m.subject subject) ms ≤ limit)
+  pub messages : length ms ≤ max_messages s
+  pub bytes : IfSome s.config.max_bytes (λ limit. sum_by size ms ≤ limit)
 
 subjects_part : (o : Option ℕ) {ys xs : List Message} → IsPart ys xs → IfSome o (λ limit. (subject : Bytes) → count_by (λ m. same m.subject subject) xs ≤ limit) → IfSome o (λ limit. (subject : Bytes) → count_by (λ m. same m.subject subject) ys ≤ limit)
 subjects_part None p h = tt
@@ -194,22 +194,22 @@ length_replaced new low high (p ∷ ps) h e = go (nat_lt p.seq new.seq) refl (p.
         absurd (omega arith)
 
 -- a delivery of what is due replaces its entry, and another one needs room
-few_sent : (a : Stream) (c : Consumer) (m : Message) (now : ℕ) → IsSoundConsumer a.messages a.last c → IsReason a c m → IsFew c → IsFew (sent_to now m c)
-few_sent a c m now k reason h = go (is_unacknowledged c) refl
+pub length_sent : (most : ℕ) (a : Stream) (c : Consumer) (m : Message) (now : ℕ) → IsSoundConsumer a.messages a.last c → IsReason a c m → unwrap_or c.config.max_ack_pending 65536 ≤ most → length c.pending ≤ most → length (sent_to now m c).pending ≤ most
+length_sent most a c m now k reason allowed h = go (is_unacknowledged c) refl
   where
     new : Pending
     new = record { seq = m.seq; count = count_of c m.seq + 1; due = plus now c.config.ack_wait }
 
-    room : may_wait c ≡ true → is_unacknowledged c ≡ false → length (with_pending c.pending new) ≤ unwrap_or c.config.max_ack_pending 65536
+    room : may_wait c ≡ true → is_unacknowledged c ≡ false → length (with_pending c.pending new) ≤ most
     room w e = either (or_cases (is_unacknowledged c) _ w)
       where
-        either : (is_unacknowledged c ≡ true) ⊎ (nat_lt (length c.pending) (unwrap_or c.config.max_ack_pending 65536) ≡ true) → length (with_pending c.pending new) ≤ unwrap_or c.config.max_ack_pending 65536
+        either : (is_unacknowledged c ≡ true) ⊎ (nat_lt (length c.pending) (unwrap_or c.config.max_ack_pending 65536) ≡ true) → length (with_pending c.pending new) ≤ most
         either (inl q) = absurd (true≢false (sym q ∙ e))
         either (inr q) =
             let l : length c.pending < unwrap_or c.config.max_ack_pending 65536 = ltb-true (length c.pending) (unwrap_or c.config.max_ack_pending 65536) q in
             let r : length (with_pending c.pending new) ≤ length c.pending + 1 = length_with_pending new c.pending in omega arith
 
-    waiting : is_unacknowledged c ≡ false → IsReason a c m → length (with_pending c.pending new) ≤ unwrap_or c.config.max_ack_pending 65536
+    waiting : is_unacknowledged c ≡ false → IsReason a c m → length (with_pending c.pending new) ≤ most
     waiting e (again q) =
         let x = find_one (λ p. p.seq) (is_due a.moment c) m.seq 1 c.cursor c.pending k.pending q in
         let there_is : has (pending_seqs c) m.seq ≡ true = subst (λ (n : ℕ). has (pending_seqs c) n ≡ true) x.3 (has_seq x.0 c.pending (found_in (λ p. p.seq == m.seq) x.0 c.pending x.1).0) in
@@ -217,12 +217,12 @@ few_sent a c m now k reason h = go (is_unacknowledged c) refl
     waiting e (picked p rest q r o) = room o e
     waiting e (onward q t l o) = room o e
 
-    go : (b : Bool) → is_unacknowledged c ≡ b → length (cond b c.pending (with_pending c.pending new)) ≤ unwrap_or c.config.max_ack_pending 65536
+    go : (b : Bool) → is_unacknowledged c ≡ b → length (cond b c.pending (with_pending c.pending new)) ≤ most
     go true e = h
     go false e = waiting e reason
 
 few_delivered : (a : Stream) (listening : List Bytes) (c after : Consumer) (d : Delivered) (outs : List Out) → Delivers a listening c d outs after → IsSoundConsumer a.messages a.last c → IsFew c → IsFew after
-few_delivered a listening c after (Sent seq count dseq) outs x k h = subst IsFew (sym x.after_is) (few_sent a c x.message a.moment k (candidate_is a c x.message x.candidate).reason h)
+few_delivered a listening c after (Sent seq count dseq) outs x k h = subst IsFew (sym x.after_is) (length_sent (unwrap_or c.config.max_ack_pending 65536) a c x.message a.moment k (candidate_is a c x.message x.candidate).reason (omega arith) h)
 few_delivered a listening c after TooSmall outs x k h = subst IsFew (sym x.after_is) h
 few_delivered a listening c after Emptied outs x k h = subst IsFew (sym x.after_is) h
 
@@ -231,7 +231,7 @@ few_delivered a listening c after Emptied outs x k h = subst IsFew (sym x.after_
 abbrev AreFew : State → Type 0
 AreFew s = IfLive ⊤ (λ t. All IsFew t.consumers) s
 
-abbrev FitsLimits : State → Type 0
+abbrev pub FitsLimits : State → Type 0
 FitsLimits s = IfLive ⊤ (λ t. AreWithin t t.messages) s
 
 as_within : (s : State) → FitsLimits s → AreFew s → IsWithin s
@@ -247,7 +247,7 @@ unfolding kept trim
 fits_settled (Vacant i) = tt
 fits_settled (Live t) = let w = settled_within t in record { per_subject = w.per_subject; messages = w.messages; bytes = w.bytes }
 
-fits_event : (old new : State) (e : Event) (now : ℕ) (reply : Reply) (outs : List Out) → IsEvent old e now reply outs new → FitsLimits new
+pub fits_event : (old new : State) (e : Event) (now : ℕ) (reply : Reply) (outs : List Out) → IsEvent old e now reply outs new → FitsLimits new
 unfolding answered
 fits_event (Vacant i) new e now reply outs x = subst FitsLimits (ap (λ (a : Answer). a.state) x.answers) (fits_settled (vacant_answer i e.what now).state)
 fits_event (Live s) new e now reply outs x = subst FitsLimits (ap (λ (a : Answer). a.state) x.answers) (fits_settled (stream_answer (advance s now) e.what x.room).state)

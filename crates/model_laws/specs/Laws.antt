@@ -22,6 +22,9 @@ use Rattle.js_model.specs.Streams.{seqs}
 use Rattle.js_model.specs.Acknowledge.{acknowledged}
 use Rattle.js_model.specs.StateMoments.{moment_of, state_at}
 use Rattle.model_laws.specs.Sound.{IsWellStored, IsMatched, IsSound}
+use Rattle.js_model.specs.Firm.{Changes}
+use Rattle.model_laws.specs.Changed.{changes}
+use Rattle.model_laws.specs.Bounds.{IsBounded}
 use Rattle.model_laws.specs.SoundTests.{is_well_stored, is_matched}
 use Rattle.model_laws.specs.OneConsumer.{consumer_of}
 use Rattle.model_laws.specs.Acked.{has_entry, ChangesEntries, IsToEnd, IsToStay, EndsEntry, NeverSent}
@@ -41,6 +44,14 @@ LawStoredTest = (s : State) → Decides (is_well_stored s) (IsWellStored s)
 
 abbrev pub LawMatchedTest : Type 0
 LawMatchedTest = (s : State) → Decides (is_matched s) (IsMatched s)
+
+-- whether more than the moment changed of what outlives a crash can be computed
+abbrev pub LawChangesTest : Type 0
+LawChangesTest = (old new : State) → Decides (changes old new) (Changes old new)
+
+-- a state within the bounds of a volume stays so
+abbrev pub LawBounded : Type 0
+LawBounded = (count : ℕ) (old new : State) (entries : List PlaceEntry) → IsSound old → IsBounded old → RunFrom count old entries new → IsBounded new
 
 -- what is acknowledged is not sent again
 abbrev pub LawAcked : Type 0

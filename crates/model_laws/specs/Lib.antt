@@ -1,5 +1,7 @@
 pub mod Sound
 pub mod SoundTests
+pub mod Bounds
+pub mod Changed
 pub mod OneConsumer
 pub mod Acked
 pub mod Repeats

@@ -1,6 +1,6 @@
 //! What holds of each run of a place, by the definitions of the machine alone.
 
-ghost use Rattle.model_laws.specs.Laws.{LawSound, LawStoredTest, LawMatchedTest, LawAcked, LawEnds, LawStays, LawEntries, LawDuplicate, LawKept, LawOrder, LawStart, LawRedelivery, LawLimits, LawReady};
+ghost use Rattle.model_laws.specs.Laws.{LawSound, LawStoredTest, LawMatchedTest, LawBounded, LawChangesTest, LawAcked, LawEnds, LawStays, LawEntries, LawDuplicate, LawKept, LawOrder, LawStart, LawRedelivery, LawLimits, LawReady};
 
 /// Soundness is kept: each state that a run reaches from a sound one is sound. Its two parts, of what is stored and of what
 /// filters match, are decided by the tests that compute them.
@@ -8,6 +8,17 @@ pub fn law_sound()
     ensures law { LawSound }
     ensures stored_test { LawStoredTest }
     ensures matched_test { LawMatchedTest }
+{}
+
+/// A sound state within the bounds of a volume stays within them: as many messages, ids, consumers, picks and entries as this
+/// server allows, ids and messages of their greatest lengths, and numbers below 2^62.
+pub fn law_bounded()
+    ensures law { LawBounded }
+{}
+
+/// Whether a step changed more than the moment of what outlives a crash is decided by the test that computes it.
+pub fn law_changes()
+    ensures law { LawChangesTest }
 {}
 
 /// A sequence whose entry an acknowledgement ended is not sent again to its consumer, until it or the stream is dropped. An

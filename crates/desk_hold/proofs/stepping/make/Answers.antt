@@ -12,10 +12,10 @@ pub returns-in-Err-clause-ends : goal.returns-in-Err-clause-ends
 returns-in-Err-clause-ends g c =
     let P = g.P.Place in let kept = g.met.P.Place.kept c.args.place.now in
     failed_step P.holds c.args.event.now c.args.now _ _ c.requires.going c.requires.kept c.requires.proper c.law_moment.ensures.bound kept.free
-    c.in-Err.fault _ _ c.in-Err.ensures.told c.in-Err.ensures.steps
+    c.in-Err.fault _ _ c.in-Err.ensures.steps
 
 pub returns-in-Err-clause-fault : goal.returns-in-Err-clause-fault
 returns-in-Err-clause-fault g c =
     let P = g.P.Place in let kept = g.met.P.Place.kept c.args.place.now in
     fault_of_step P.holds c.args.event.now c.args.now _ _ c.requires.going c.requires.kept c.requires.proper c.law_moment.ensures.bound kept.free
-    c.in-Err.fault _ _ c.in-Err.ensures.told c.in-Err.ensures.steps
+    c.in-Err.fault _ _ c.in-Err.ensures.steps
