@@ -13,12 +13,12 @@ use Rattle.place_engine.specs.InMemory.{Contents}
 use Rattle.js_api.specs.Entries.{Reading, entries_in, DeskEntry, Routed, Looked, Turned, Resumed, Held, Stirred, Halted, Missed, Spent}
 use Rattle.js_api.specs.Leading.{Leads}
 use Rattle.js_api.specs.Outputs.{outs_of}
-use Rattle.desk_calls.specs.Grounds.{Setting}
 use Rattle.desk_hold.specs.OnePlace.{OnPlace, PlaceStep}
 use Rattle.desk_hold.specs.Ports.{AreHeard, AreSent}
 use Rattle.desk_hold.proofs.Alone.{never}
 use Rattle.js_desk.specs.declared.turn.Turn.{Turn}
 use Rattle.js_desk.specs.Grounds.{place_in, setting_of, standing}
+use Rattle.js_desk.proofs.Routed.{opening_as}
 use Rattle.js_desk.proofs.Sets.{length_set}
 
 -- who listens is told, and nothing changes
@@ -65,5 +65,5 @@ held_setting r router c places i place ticked last later turn after h =
     let many : length (map place_in (slice_set places i place)) ≡ length (map place_in places) =
     length-map (slice_set places i place) place_in ∙ length_set places i place ∙ sym (length-map places place_in)
     in
-    ap (λ (o : ℕ → Bool). (record { opened = o; places = length (map place_in (slice_set places i place)) } : Setting)) (λ j n. h n j)
-    ∙ ap (λ (k : ℕ). (record { opened = is_open r; places = k } : Setting)) many
+    ap (opening_as (length (map place_in (slice_set places i place)))) (λ j n. h n j)
+    ∙ ap (λ (k : ℕ). opening_as k (is_open r)) many
