@@ -39,8 +39,10 @@ read_alone r (reading ∷ more) s h =
     let same : h.0 ≡ r = same_heard r h.0 reading.subject reading.group (Listens reading.heard) h.1 in
     let rest = read_alone h.0 more s h.2 in (
       rest.0 ∙ same,
-      subst (λ (x : Router). IsRoute r (Interest reading.subject reading.group) (Listens reading.heard) x) same h.1,
-      subst (λ (x : Router). AreRead x more) same rest.1,
+      (
+        subst (λ (x : Router). IsRoute r (Interest reading.subject reading.group) (Listens reading.heard) x) same h.1,
+        subst (λ (x : Router). AreRead x more) same rest.1,
+      ),
     )
 
 tried_alone : (r : Router) (outs : List Out) (taken : List Bool) (s : Router) → AreSent IsRoute never r outs taken s → AreTried r outs taken s

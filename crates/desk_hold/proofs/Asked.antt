@@ -1,27 +1,24 @@
 -- What is asked of one place, and what its answer tells.
-use Rattle.std.proofs.Common.{◌≡◌, ℕ, ◌<◌, ◌≤◌, ◌^◌, ◌&&◌, Bool, true, false, not, List, Option, Some, None, Err, refl, sym, ap, subst, ◌∙◌, IsTrue}
-use Rattle.std.specs.Prelude.{is_some, nat_le}
+use Rattle.std.proofs.Common.{◌≡◌, ◌≢◌, arith, ℕ, ◌<◌, ◌≤◌, ◌^◌, ◌&&◌, Bool, true, false, not, List, [], Option, Some, None, Err, refl, sym, ap, subst, ◌∙◌, IsTrue}
+use Rattle.std.specs.Prelude.{nat_le}
 use Rattle.std.proofs.lemmas.Bool.{and_from, le-leb}
 use Rattle.js_base.specs.Bytes.{Bytes}
 use Rattle.js_base.specs.Subjects.{is_subject_text}
 use Rattle.js_base.specs.declared.out.Out.{Out}
-use Rattle.js_base.specs.declared.out.ApiError.{ApiError}
 use Rattle.js_model.specs.declared.desk.PlaceAt.{PlaceAt}
-use Rattle.js_model.specs.declared.event.Event.{Event}
 use Rattle.js_model.specs.declared.event.What.{What}
 use Rattle.js_model.specs.declared.event.What.TheVariants.{Drop as DropStream}
 use Rattle.js_model.specs.declared.reply.Answer.{Answer}
 use Rattle.js_model.specs.declared.reply.Reply.{Reply}
-use Rattle.js_model.specs.declared.reply.Reply.TheVariants.{Refused}
 use Rattle.js_model.specs.declared.stream.State.{State}
 use Rattle.js_model.specs.declared.stream.State.TheVariants.{Vacant, Live}
 use Rattle.js_model.specs.Events.{answered, is_refused, kept_incarnation, IsEvent}
 use Rattle.js_model.specs.PlaceStates.{PlaceIn}
 use Rattle.js_model.specs.Proper.{if_given, is_proper, is_proper_what, reply_of}
-use Rattle.js_model.specs.Refusals.{no_stream}
 use Rattle.js_api.specs.declared.fault.DeskFault.{DeskFault}
 use Rattle.js_api.specs.declared.outcome.Became.{Became}
 use Rattle.js_api.specs.declared.outcome.Became.TheVariants.{Made, Unsaid}
+use Rattle.js_api.specs.declared.outcome.Outcome.{Outcome}
 use Rattle.js_api.specs.Holding.{event_at}
 use Rattle.js_api.specs.OneStream.{is_done}
 use Rattle.place_engine.specs.Shown.{IsShown}
@@ -51,7 +48,7 @@ shown_made became reply e shown = subst (λ (b : Became). CanBeShown b) (sym e) 
 -- ---- dropping
 
 not_done : (a b : Answer) → a ≡ b → is_done a.reply ≡ false → is_done b.reply ≡ true → ⊥
-not_done a b e no yes = let not_both : false ≡ true = sym no ∙ ap (λ (x : Answer). is_done x.reply) e ∙ yes in cc
+not_done a b e undone done = let not_both : false ≡ true = sym undone ∙ ap (λ (x : Answer). is_done x.reply) e ∙ done in cc
 
 -- only a stream that is there is dropped
 dropped_live : (at : PlaceAt) (to : Option Bytes) (now : ℕ) (room : Bool) (old new : State) (reply : Reply) (outs : List Out) → IsNumbered old
@@ -74,7 +71,7 @@ number_undone (DropStream to) became at e = λ dropped. absurd (let not_both : f
 number_undone what became at e = tt
 
 not_refused : (a b : Answer) → a ≡ b → is_refused a.reply ≡ true → is_refused b.reply ≡ false → ⊥
-not_refused a b e yes no = let not_both : true ≡ false = sym yes ∙ ap (λ (x : Answer). is_refused x.reply) e ∙ no in cc
+not_refused a b e was none = let not_both : true ≡ false = sym was ∙ ap (λ (x : Answer). is_refused x.reply) e ∙ none in cc
 
 -- a stream that is not there is not dropped, which is refused
 unrefused_live : (at : PlaceAt) (to : Option Bytes) (now : ℕ) (room : Bool) (old new : State) (reply : Reply) (outs : List Out) → IsNumbered old
@@ -95,8 +92,7 @@ number_withheld (DropStream to) refused at now old new before after numbered h =
     (sym h.refused_is ∙ unless_true refused dropped))
 number_withheld what refused at now old new before after numbered h = tt
 
--- what a failed step came to
-pub number_failed : (what : What) (fault : PlaceFault) (stream : Bytes) (at : PlaceAt) (now : ℕ) (old new : PlaceIn) (before after : List Out) → IsNumbered old.state
+number_failed : (what : What) (fault : PlaceFault) (stream : Bytes) (at : PlaceAt) (now : ℕ) (old new : PlaceIn) (before after : List Out) → IsNumbered old.state
     → EndsStep (Err fault) (event_at at what) now old new before after → NumbersDropped what (failed_by fault stream).became at
 number_failed what (places.NoMemory left.Nothing) stream at now old new before after numbered h = number_undone what _ at refl
 number_failed what (places.NoMemory left.Ticked) stream at now old new before after numbered h = number_undone what _ at refl
@@ -106,12 +102,13 @@ number_failed what (places.Stopped count) stream at now old new before after num
 number_failed what (places.Gone kept) stream at now old new before after numbered h = number_undone what _ at refl
 number_failed what (places.Worn refused) stream at now old new before after numbered h = number_withheld what refused at now old new before after numbered h.withholds
 
--- ---- whether a place is stopped
+-- what a failed step came to
+pub number_told : (what : What) (fault : PlaceFault) (stream : Bytes) (at : PlaceAt) (now : ℕ) (old new : PlaceIn) (outs : List Out) (outcome : Outcome) → IsNumbered old.state
+    → outcome ≡ failed_by fault stream → EndsStep (Err fault) (event_at at what) now old new [] outs → NumbersDropped what outcome.became at
+number_told what fault stream at now old new outs outcome numbered is h =
+    subst (λ (o : Outcome). NumbersDropped what o.became at) (sym is) (number_failed what fault stream at now old new [] outs numbered h)
 
-pub going_if : (stopped : Option ℕ) → is_some stopped ≡ false → stopped ≡ None
-going_if None e = refl
-going_if (Some count) e = absurd (let not_both : true ≡ false = e in cc)
+-- ---- an incarnation that no place keeps
 
-pub stopped_if : (stopped : Option ℕ) → is_some stopped ≡ true → (count : ℕ) × (stopped ≡ Some count)
-stopped_if None e = absurd (let not_both : false ≡ true = e in cc)
-stopped_if (Some count) e = (count, refl)
+pub none_keeps : (kept asked : ℕ) → kept ≤ 2 ^ 62 → 2 ^ 62 < asked → kept ≢ asked
+none_keeps kept asked small large same = omega (arith, small, large, same)

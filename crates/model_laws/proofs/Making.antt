@@ -28,7 +28,7 @@ use Rattle.model_laws.proofs.Facts.{at_settled}
 use Rattle.model_laws.proofs.ConsumerFacts.{IsKept, InStream, InState, in_stream_fact}
 
 -- time makes no consumer
-absent_at_time : (s : Stream) (now : ℕ) (name : Bytes) → by_name s.consumers name ≡ None → by_name (advance s now).consumers name ≡ None
+pub absent_at_time : (s : Stream) (now : ℕ) (name : Bytes) → by_name s.consumers name ≡ None → by_name (advance s now).consumers name ≡ None
 unfolding advance
 absent_at_time s now name h =
     by_name-map (consumer_at at) (record { name = λ c. refl }) (aged s at).consumers name

@@ -47,7 +47,7 @@ empty_decides : {X : Type 0} (xs : List X) → Decides (is_empty xs) (xs ≡ [])
 empty_decides [] = (λ e. refl, λ e. refl)
 empty_decides (x ∷ xs) = (λ e. absurd (true≢false (sym e)), λ e. ap is_empty e)
 
-not_decides : (a : Bool) → Decides (not a) (a ≡ false)
+pub not_decides : (a : Bool) → Decides (not a) (a ≡ false)
 not_decides a = (λ e. not-true a e, λ e. ap not e)
 
 -- ---- lists

@@ -1,5 +1,5 @@
 -- What holds of each run of a place, in the words of JetStream's streams and consumers: the laws follow from the definitions of the machine.
-use Rattle.std.specs.Prelude.{◌≡◌, true, Decides, Contains, ℕ, List, [], ◌∷◌, Some, IsTrue, ◌↔◌}
+use Rattle.std.specs.Prelude.{◌≡◌, Bool, true, Decides, Contains, ℕ, List, [], ◌∷◌, Some, None, IsTrue, ◌↔◌}
 use Rattle.js_base.specs.Bytes.{Bytes, has}
 use Rattle.js_base.specs.declared.out.Out.{Out}
 use Rattle.js_model.specs.declared.stream.Message.{Message}
@@ -10,6 +10,8 @@ use Rattle.js_model.specs.declared.consumer_config.ConsumerConfig.{ConsumerConfi
 use Rattle.js_model.specs.declared.consumer.Consumer.{Consumer}
 use Rattle.js_model.specs.declared.ack.AckKind.{AckKind}
 use Rattle.js_model.specs.declared.event.Event.{Event}
+use Rattle.js_model.specs.declared.event.Publish.{Publish}
+use Rattle.js_model.specs.declared.reply.Verdict.TheVariants.{Take}
 use Rattle.js_model.specs.declared.reply.Reply.{Reply}
 use Rattle.js_model.specs.declared.reply.Reply.TheVariants.{Published}
 use Rattle.js_model.specs.declared.entry.Delivered.{Delivered}
@@ -17,6 +19,9 @@ use Rattle.js_model.specs.declared.entry.PlaceEntry.{PlaceEntry}
 use Rattle.js_model.specs.Advance.{advance}
 use Rattle.js_model.specs.Deliver.{Delivers}
 use Rattle.js_model.specs.Ready.{is_ready}
+use Rattle.js_model.specs.Verdict.{verdict, discards_new}
+use Rattle.js_model.specs.Trim.{trim, trim_subjects}
+use Rattle.js_model.specs.Events.{with_message}
 use Rattle.js_model.specs.Runs.{RunFrom, IsStep, messages_of}
 use Rattle.js_model.specs.Streams.{seqs}
 use Rattle.js_model.specs.Acknowledge.{acknowledged}
@@ -25,12 +30,14 @@ use Rattle.model_laws.specs.Sound.{IsWellStored, IsMatched, IsSound}
 use Rattle.js_model.specs.Firm.{Changes}
 use Rattle.model_laws.specs.Changed.{changes}
 use Rattle.model_laws.specs.Bounds.{IsBounded}
+use Rattle.model_laws.specs.BoundTests.{is_bounded}
 use Rattle.model_laws.specs.SoundTests.{is_well_stored, is_matched}
 use Rattle.model_laws.specs.OneConsumer.{consumer_of}
 use Rattle.model_laws.specs.Acked.{has_entry, ChangesEntries, IsToEnd, IsToStay, EndsEntry, NeverSent}
 use Rattle.model_laws.specs.Repeats.{keeps_window, EachEvent, IsRepeatReply, Repeats}
 use Rattle.model_laws.specs.Leaving.{Leaves}
 use Rattle.model_laws.specs.Order.{IsInOrder, Makes, IsFromStart}
+use Rattle.model_laws.specs.MadeWithin.{IsMadeWithin}
 use Rattle.model_laws.specs.Redelivery.{due_first, Redelivers}
 use Rattle.model_laws.specs.Limits.{AreLimited}
 
@@ -52,6 +59,10 @@ LawChangesTest = (old new : State) → Decides (changes old new) (Changes old ne
 -- a state within the bounds of a volume stays so
 abbrev pub LawBounded : Type 0
 LawBounded = (count : ℕ) (old new : State) (entries : List PlaceEntry) → IsSound old → IsBounded old → RunFrom count old entries new → IsBounded new
+
+-- and whether it is within them can be computed
+abbrev pub LawBoundedTest : Type 0
+LawBoundedTest = (s : State) → Decides (is_bounded s) (IsBounded s)
 
 -- what is acknowledged is not sent again
 abbrev pub LawAcked : Type 0
@@ -85,6 +96,10 @@ LawKept = (count later : ℕ) (first old new : State) (entries : List PlaceEntry
     → IsSound first → RunFrom count first entries old → RunFrom later old (entry ∷ []) new
     → Contains (messages_of old) m → (Contains (messages_of new) m → ⊥) → Leaves old entry new m
 
+-- after a publish that was taken under discard new the limits on messages and on bytes drop nothing
+abbrev pub LawTaken : Type 0
+LawTaken = (s : Stream) (p : Publish) (room : Bool) → verdict s p room ≡ Take → discards_new s ≡ true → trim (with_message s p) ≡ trim_subjects (with_message s p)
+
 -- deliveries come in order
 abbrev pub LawOrder : Type 0
 LawOrder = (name : Bytes) (count : ℕ) (old new : State) (entries : List PlaceEntry) (c : Consumer)
@@ -95,6 +110,11 @@ abbrev pub LawStart : Type 0
 LawStart = (name : Bytes) (config : ConsumerConfig) (count later : ℕ) (old : Stream) (made new : State) (e : Event) (now : ℕ) (reply : Reply) (outs : List Out) (entries : List PlaceEntry)
     → IsSound (Live old) → IsStep count (Live old) e now reply outs made → Makes (Live old) e reply name config → RunFrom later made entries new
     → IsFromStart name config (advance old now) made entries
+
+-- a consumer that stands after a run and not before it was made within the run
+abbrev pub LawMade : Type 0
+LawMade = (name : Bytes) (count : ℕ) (old new : State) (entries : List PlaceEntry) (c : Consumer)
+    → IsSound old → consumer_of name old ≡ None → consumer_of name new ≡ Some c → RunFrom count old entries new → IsMadeWithin name count old entries new
 
 -- a delivery is made again only when it is due
 abbrev pub LawRedelivery : Type 0

@@ -1,6 +1,7 @@
 pub mod Sound
 pub mod SoundTests
 pub mod Bounds
+pub mod BoundTests
 pub mod Changed
 pub mod OneConsumer
 pub mod Acked
@@ -8,6 +9,7 @@ pub mod Repeats
 pub mod Leaving
 pub mod Sendings
 pub mod Order
+pub mod MadeWithin
 pub mod Redelivery
 pub mod Turns
 pub mod Limits

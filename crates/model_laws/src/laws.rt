@@ -1,6 +1,6 @@
 //! What holds of each run of a place, by the definitions of the machine alone.
 
-ghost use Rattle.model_laws.specs.Laws.{LawSound, LawStoredTest, LawMatchedTest, LawBounded, LawChangesTest, LawAcked, LawEnds, LawStays, LawEntries, LawDuplicate, LawKept, LawOrder, LawStart, LawRedelivery, LawLimits, LawReady};
+ghost use Rattle.model_laws.specs.Laws.{LawSound, LawStoredTest, LawMatchedTest, LawBounded, LawBoundedTest, LawChangesTest, LawAcked, LawEnds, LawStays, LawEntries, LawDuplicate, LawKept, LawTaken, LawOrder, LawStart, LawMade, LawRedelivery, LawLimits, LawReady};
 
 /// Soundness is kept: each state that a run reaches from a sound one is sound. Its two parts, of what is stored and of what
 /// filters match, are decided by the tests that compute them.
@@ -11,9 +11,11 @@ pub fn law_sound()
 {}
 
 /// A sound state within the bounds of a volume stays within them: as many messages, ids, consumers, picks and entries as this
-/// server allows, ids and messages of their greatest lengths, and numbers below 2^62.
+/// server allows, ids and messages of their greatest lengths, and numbers below 2^62. Whether it is within them is decided
+/// by the test that computes it.
 pub fn law_bounded()
     ensures law { LawBounded }
+    ensures test { LawBoundedTest }
 {}
 
 /// Whether a step changed more than the moment of what outlives a crash is decided by the test that computes it.
@@ -23,7 +25,8 @@ pub fn law_changes()
 
 /// A sequence whose entry an acknowledgement ended is not sent again to its consumer, until it or the stream is dropped. An
 /// acknowledgement of a delivery ends each entry that stands and that its kind and the ack policy name. Another entry
-/// stays as long as its message is stored, and nothing else of the consumer changes.
+/// stays as long as its message is stored, and but for the entries an acknowledgement itself changes nothing of its
+/// consumer.
 pub fn law_acked()
     ensures law { LawAcked }
     ensures ends { LawEnds }
@@ -47,13 +50,21 @@ pub fn law_kept()
     ensures law { LawKept }
 {}
 
+/// Under discard new, what a publish that was taken leaves is within the limits on messages and on bytes, once the limit of
+/// each subject has dropped what it drops: those two drop nothing.
+pub fn law_taken()
+    ensures law { LawTaken }
+{}
+
 /// What is sent to a consumer has consumer sequences one after the other and counts of 1 or more. Each output brings the
 /// subject, the header block and the payload of a message that was stored before under that sequence and that the
 /// consumer's filter matches. First deliveries are its picks in order, and then ascending sequences from its cursor on. A
-/// consumer that is made begins at the picks and the cursor of its deliver policy, with consumer sequence 1.
+/// consumer that is made begins at the picks and the cursor of its deliver policy, with consumer sequence 1; and one that
+/// stands after a run and not before it was made by an entry of the run, at which the run is split.
 pub fn law_order()
     ensures law { LawOrder }
     ensures start { LawStart }
+    ensures made { LawMade }
 {}
 
 /// A sequence is sent again once more than before, and not before the moment that its last delivery, a NAK or a WPI set.

@@ -8,6 +8,7 @@ use Rattle.js_base.specs.Bytes.{Bytes}
 use Rattle.link_edge.specs.Told.{grown}
 use Rattle.link_edge.specs.Moments.{ReadsMoments}
 use Rattle.link_edge.specs.declared.answers.Answer.{Answer}
+use Rattle.link_edge.specs.declared.failings.Failings.{Failings}
 use Rattle.link_edge.proofs.Told.{grown-nil, grown_on}
 use Rattle.link_edge.proofs.Moments.{reads_push, reads_on}
 use Rattle.js_api.specs.Entries.{DeskEntry}
@@ -15,7 +16,9 @@ use Rattle.session.specs.Talk.{Turn, Last, Greeting, Nothing, Told, Within, Wait
 use Rattle.session.specs.Giving.{GivesPart, IsLinkFault, end_of}
 use Rattle.link_edge.specs.Causes.{HasCause}
 use Rattle.session.specs.Turning.{IsTurn, IsLastTurn, IsGreeted}
+use Rattle.session.specs.Failing.{FailsBy}
 use Rattle.session.specs.Session.{Converses}
+use Rattle.session.proofs.Failed.{fails_at_after}
 use Rattle.session.proofs.Framed.{greeting_cut}
 use Rattle.session.proofs.Behind.{front_of}
 use Rattle.session.specs.declared.giving.GiveFault.{GiveFault}
@@ -93,9 +96,9 @@ conversing_first made limits session d a0 a g0 g c stage h e same given = record
 module _ {D : Type 0} (made : D → List DeskEntry → D → Type 0) (more_led : (a b c : D) (xs ys : List DeskEntry) → made a xs b → made b ys c → made a (xs ++ ys) c) (limits : Limits) (session : ℕ) where
   -- a turn more was taken
   pub conversing_more : (d0 d d1 : D) (a0 a a1 : Option (List Answer)) (g0 g g1 : Option Bytes) (c0 c c1 : Option (List ℕ)) (stage next : Stage)
-      → Conversing made limits session d0 d a0 a g0 g c0 c stage → IsTurn made limits stage next d d1 a a1 g g1 c c1
+      (f f1 : Option Failings) → Conversing made limits session d0 d a0 a g0 g c0 c stage → IsTurn made limits stage next d d1 a a1 g g1 c c1 f f1
       → Conversing made limits session d0 d1 a0 a1 g0 g1 c0 c1 next
-  conversing_more d0 d d1 a0 a a1 g0 g g1 c0 c c1 stage next h k = record {
+  conversing_more d0 d d1 a0 a a1 g0 g g1 c0 c c1 stage next f f1 h k = record {
     turns = h.turns ++ one k.turn;
     said = h.said ++ k.said;
     are_turns = turns_push limits (start session) stage next h.turns k.turn h.said k.said h.are_turns k.whole;
@@ -117,9 +120,9 @@ module _ {D : Type 0} (made : D → List DeskEntry → D → Type 0) (more_led :
 
   -- the turn in which it ended
   pub converses_last : (ended : Ended) (d0 d d1 : D) (a0 a a1 : Option (List Answer)) (g0 g g1 : Option Bytes) (c0 c c1 : Option (List ℕ)) (stage : Stage)
-      → Conversing made limits session d0 d a0 a g0 g c0 c stage → IsLastTurn made limits session ended stage d d1 a a1 g g1 c c1
-      → Converses made limits session d0 d1 a0 a1 g0 g1 c0 c1 ended
-  converses_last ended d0 d d1 a0 a a1 g0 g g1 c0 c c1 stage h k = record {
+      (f0 f f1 : Option Failings) → f ≡ f0 → Conversing made limits session d0 d a0 a g0 g c0 c stage → IsLastTurn made limits session ended stage d d1 a a1 g g1 c c1 f f1
+      → Converses made limits session d0 d1 a0 a1 g0 g1 c0 c1 f0 f1 ended
+  converses_last ended d0 d d1 a0 a a1 g0 g g1 c0 c c1 stage f0 f f1 none h k = record {
     turns = h.turns;
     last = k.last;
     stage = stage;
@@ -132,12 +135,13 @@ module _ {D : Type 0} (made : D → List DeskEntry → D → Type 0) (more_led :
     led = more_led d0 d d1 (flat_map entries_of_turn h.turns) (entries_of_last k.last) h.led k.led;
     given = grown_on g0 g g1 (greeting limits session ++ h.said) k.more h.given k.given
         ∙ ap (λ (bytes : Bytes). grown g0 (bytes ++ k.more)) (sym (behind_greeting k.last (greeting limits session) h.said k.greeted));
+    failings = fails_at_after k.last ended f0 f f1 none k.failings;
   }
 
 -- as much was taken, or was quiet in a row, as may be
 pub converses_spent : {D : Type 0} (made : D → List DeskEntry → D → Type 0) (limits : Limits) (session : ℕ) (d0 d : D) (a0 a : Option (List Answer)) (g0 g : Option Bytes) (c0 c : Option (List ℕ)) (stage : Stage)
-    → Conversing made limits session d0 d a0 a g0 g c0 c stage → IsSpent limits stage → Converses made limits session d0 d a0 a g0 g c0 c ends.InputLimit
-converses_spent made limits session d0 d a0 a g0 g c0 c stage h spent = record {
+    (f0 f : Option Failings) → f ≡ f0 → Conversing made limits session d0 d a0 a g0 g c0 c stage → IsSpent limits stage → Converses made limits session d0 d a0 a g0 g c0 c f0 f ends.InputLimit
+converses_spent made limits session d0 d a0 a g0 g c0 c stage f0 f none h spent = record {
   turns = h.turns;
   last = Nothing;
   stage = stage;
@@ -149,19 +153,22 @@ converses_spent made limits session d0 d a0 a g0 g c0 c stage h spent = record {
   moments = subst (λ (ms : List ℕ). ReadsMoments c0 ms c) (sym (append-nil (map moment h.turns))) h.moments;
   led = subst (λ (es : List DeskEntry). made d0 es d) (sym (append-nil (flat_map entries_of_turn h.turns))) h.led;
   given = h.given ∙ ap (grown g0) (sym (append-nil (greeting limits session ++ h.said)));
+  failings = none;
 }
 
 -- the server's information was not given whole
 pub converses_ungreeted : {D : Type 0} (made : D → List DeskEntry → D → Type 0) (limits : Limits) (session : ℕ) (fault : GiveFault) (ended : Ended) (d : D) (a0 a : Option (List Answer)) (g0 g : Option Bytes) (c : Option (List ℕ))
-    → made d [] d → a ≡ a0 → GivesPart g0 g (greeting limits session) → ended ≡ end_of fault → Converses made limits session d d a0 a g0 g c c ended
-converses_ungreeted {D = D} made limits session fault ended d a0 a g0 g c h same k e =
-    subst (λ (x : Ended). Converses made limits session d d a0 a g0 g c c x) (sym e) (go fault)
+    (f0 f : Option Failings) → made d [] d → a ≡ a0 → GivesPart g0 g (greeting limits session) → FailsBy (end_of fault) f0 f → ended ≡ end_of fault
+    → Converses made limits session d d a0 a g0 g c c f0 f ended
+converses_ungreeted {D = D} made limits session fault ended d a0 a g0 g c f0 f h same k fails e =
+    subst (λ (x : Ended). Converses made limits session d d a0 a g0 g c c f0 f x) (sym e) (go fault fails)
   where
     cut : IsCutOff k.0 (greeting limits session ++ [])
     cut = subst (IsCutOff k.0) (sym (append-nil (greeting limits session))) k.1
 
-    ungreeted : (x : Ended) → Ends limits (start session) (start session) (greeting limits session) Greeting x k.0 → Converses made limits session d d a0 a g0 g c c x
-    ungreeted x ends = record {
+    ungreeted : (x : Ended) → FailsBy x f0 f → Ends limits (start session) (start session) (greeting limits session) Greeting x k.0
+        → Converses made limits session d d a0 a g0 g c c f0 f x
+    ungreeted x failings ends = record {
       turns = [];
       last = Greeting;
       stage = start session;
@@ -173,19 +180,20 @@ converses_ungreeted {D = D} made limits session fault ended d a0 a g0 g c h same
       moments = refl;
       led = h;
       given = k.2;
+      failings = failings;
     }
 
-    go : (fault : GiveFault) → Converses made limits session d d a0 a g0 g c c (end_of fault)
-    go faults.LinkFault =
-        ungreeted ends.LinkFault
+    go : (fault : GiveFault) → FailsBy (end_of fault) f0 f → Converses made limits session d d a0 a g0 g c c f0 f (end_of fault)
+    go faults.LinkFault failings =
+        ungreeted ends.LinkFault failings
         (record {
           cause = ends.LinkFault;
           said = greeting limits session;
           is_cause = inr (inl (record { last_is = refl; first_is = refl; said_is = refl }));
           ends_as = inl (refl, cut);
         })
-    go faults.NoMemory =
-        ungreeted ends.NoMemory
+    go faults.NoMemory failings =
+        ungreeted ends.NoMemory failings
         (record {
           cause = ends.NoMemory;
           said = greeting limits session;
@@ -195,9 +203,9 @@ converses_ungreeted {D = D} made limits session fault ended d a0 a g0 g c h same
 
 -- there was no memory before the server's information
 pub converses_starved : {D : Type 0} (made : D → List DeskEntry → D → Type 0) (limits : Limits) (session : ℕ) (d : D) (a : Option (List Answer)) (g : Option Bytes) (c : Option (List ℕ))
-    → made d [] d → Converses made limits session d d a a g g c c ends.NoMemory
-converses_starved made limits session d a g c h =
-    converses_ungreeted made limits session faults.NoMemory ends.NoMemory d a a g g c h refl ([], greeting_cut limits session, sym (grown-nil g)) refl
+    (f : Option Failings) → made d [] d → Converses made limits session d d a a g g c c f f ends.NoMemory
+converses_starved made limits session d a g c f h =
+    converses_ungreeted made limits session faults.NoMemory ends.NoMemory d a a g g c f f h refl ([], greeting_cut limits session, sym (grown-nil g)) (inl refl) refl
 
 -- ---- the cause of an end that the link made
 

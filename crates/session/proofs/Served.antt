@@ -5,6 +5,7 @@ use Rattle.std.proofs.lemmas.List.{append-nil}
 use Rattle.js_base.specs.Bytes.{Bytes}
 use Rattle.link_edge.proofs.Told.{grown-nil}
 use Rattle.link_edge.specs.declared.answers.Answer.{Answer}
+use Rattle.link_edge.specs.declared.failings.Failings.{Failings}
 use Rattle.js_api.specs.declared.fault.DeskFault.{DeskFault}
 use Rattle.js_api.specs.Entries.{DeskEntry}
 use Rattle.js_api.specs.Leading.{Makes}
@@ -15,7 +16,9 @@ use Rattle.js_model.specs.Router as router
 use Rattle.session.specs.Calling.{Called, entries_of_calls}
 use Rattle.session.specs.Stopping.{end_of_fault}
 use Rattle.session.specs.Talk.{Nothing, IsClosing, greeting, before_last, entries_of_turn, entries_of_last}
+use Rattle.session.specs.Failing.{FailsBy}
 use Rattle.session.specs.Session.{Converses, Serves}
+use Rattle.session.proofs.Failed.{unopened_fails}
 use Rattle.session.specs.declared.ending.Limits.{Limits}
 use Rattle.session.specs.declared.ending.Ended.{Ended}
 
@@ -44,10 +47,10 @@ closing n answer entries (inl h) = closing_told n h.0 answer h.2 h.3
 closing n answer entries (inr h) = subst IsClosing (sym h.1) tt
 
 pub served : {D : Type 0} (made : D → List DeskEntry → D → Type 0) (more_led : (a b c : D) (xs ys : List DeskEntry) → made a xs b → made b ys c → made a (xs ++ ys) c)
-    (limits : Limits) (session : ℕ) (opener client : Client) (d0 d1 d2 d3 : D) (a0 a1 : Option (List Answer)) (g0 g1 : Option Bytes) (c0 c1 : Option (List ℕ)) (ended : Ended)
-    (answer : Result DeskAnswer DeskFault) → Makes made (Does opener Open (Ok (Opened session))) d0 d1 → Converses made limits session d1 d2 a0 a1 g0 g1 c0 c1 ended
-    → client.session ≡ session → client.is_open ≡ true → Makes made (Does client Close answer) d2 d3 → Serves made limits d0 d3 a0 a1 g0 g1 c0 c1 ended
-served made more_led limits session opener client d0 d1 d2 d3 a0 a1 g0 g1 c0 c1 ended answer m h e o k =
+    (limits : Limits) (session : ℕ) (opener client : Client) (d0 d1 d2 d3 : D) (a0 a1 : Option (List Answer)) (g0 g1 : Option Bytes) (c0 c1 : Option (List ℕ)) (f0 f1 : Option Failings) (ended : Ended)
+    (answer : Result DeskAnswer DeskFault) → Makes made (Does opener Open (Ok (Opened session))) d0 d1 → Converses made limits session d1 d2 a0 a1 g0 g1 c0 c1 f0 f1 ended
+    → client.session ≡ session → client.is_open ≡ true → Makes made (Does client Close answer) d2 d3 → Serves made limits d0 d3 a0 a1 g0 g1 c0 c1 f0 f1 ended
+served made more_led limits session opener client d0 d1 d2 d3 a0 a1 g0 g1 c0 c1 f0 f1 ended answer m h e o k =
     let opened : Called = record { call = Open; answer = Ok (Opened session); entries = m.entries } in
     let closed : Called = record { call = Close; answer = answer; entries = k.entries } in
     let closes = is_close client session answer k.entries e o k.are in
@@ -77,12 +80,14 @@ served made more_led limits session opener client d0 d1 d2 d3 a0 a1 g0 g1 c0 c1 
       moments = h.moments;
       led = more_led d0 d1 d3 m.entries (turns_led ++ (entries_of_last h.last ++ entries_of_calls (closed ∷ []))) m.led after;
       given = h.given;
+      failings = h.failings;
     }
 
 -- no session was opened
 pub unserved : {D : Type 0} (made : D → List DeskEntry → D → Type 0) (limits : Limits) (client : Client) (fault : DeskFault) (d0 d1 : D) (a : Option (List Answer)) (g : Option Bytes)
-    (c : Option (List ℕ)) (ended : Ended) → Makes made (Does client Open (Err fault)) d0 d1 → ended ≡ end_of_fault fault → Serves made limits d0 d1 a a g g c c ended
-unserved made limits client fault d0 d1 a g c ended m e =
+    (c : Option (List ℕ)) (f : Option Failings) (ended : Ended) → Makes made (Does client Open (Err fault)) d0 d1 → ended ≡ end_of_fault fault
+    → Serves made limits d0 d1 a a g g c c f f ended
+unserved made limits client fault d0 d1 a g c f ended m e =
     let opened : Called = record { call = Open; answer = Err fault; entries = m.entries } in
     record {
       journal = record { opened = opened; turns = []; last = Nothing; closed = [] };
@@ -92,4 +97,5 @@ unserved made limits client fault d0 d1 a g c ended m e =
       moments = refl;
       led = subst (λ (es : List DeskEntry). made d0 es d1) (sym (append-nil m.entries)) m.led;
       given = sym (grown-nil g);
+      failings = subst (λ (x : Ended). FailsBy x f f) (sym e) (unopened_fails fault f);
     }

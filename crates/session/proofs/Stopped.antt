@@ -15,7 +15,7 @@ use Rattle.js_api.specs.Entries.{DeskEntry}
 use Rattle.js_api.specs.Answering.{DeskAnswer, Opened, Done, Took, Settled, Gave, Slow, Publish, Sub as Subscribe}
 use Rattle.session.specs.Calling.{Called}
 use Rattle.session.specs.Connecting.{connect_options}
-use Rattle.session.specs.Peer.{Act, Hears as Hearing, Ticks, Peer, Request, Calls, IsWrong, IsRefused as Refuses, op_request, request, connecting, publishing, message, is_reply}
+use Rattle.session.specs.Peer.{Act, Hears as Hearing, Ticks, Peer, Request, Calls, CallsNothing, IsWrong, IsRefused as Refuses, op_request, request, connecting, publishing, message, is_reply}
 use Rattle.session.specs.Stopping.{IsOwnEnd, Declined, Unasked, Asked, end_after}
 use Rattle.session.specs.Talk.{IsStopped, InCall, InGathering}
 use Rattle.session.specs.Carrying.{Carries}
@@ -45,7 +45,9 @@ IsStopEnd ends.NoMemory = Unit {0}
 
 abbrev AreOwn : Request → Type 0
 AreOwn (Refuses refusal) = IsStopEnd (ends.Refused refusal)
-AreOwn _ = Unit {0}
+AreOwn (Calls call) = Unit {0}
+AreOwn CallsNothing = Unit {0}
+AreOwn (IsWrong text) = Unit {0}
 
 own_connecting : (options : Option ConnectOptions) → AreOwn (connecting options)
 own_connecting None = tt

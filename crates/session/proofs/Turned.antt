@@ -8,6 +8,7 @@ use Rattle.link_edge.specs.Told.{grown}
 use Rattle.link_edge.specs.Moments.{ReadsMoment, ReadsMoments}
 use Rattle.link_edge.specs.declared.answers.Answer.{Answer}
 use Rattle.link_edge.specs.declared.answers.Answer.TheVariants as answers
+use Rattle.link_edge.specs.declared.failings.Failings.{Failings}
 use Rattle.link_edge.proofs.Told.{grown-nil, grown_on}
 use Rattle.js_api.specs.Entries.{DeskEntry}
 use Rattle.js_api.specs.Clients.{Client}
@@ -16,6 +17,7 @@ use Rattle.session.specs.Keeping.{pinged, ping_bytes}
 use Rattle.session.specs.Peer.{Act, Peer}
 use Rattle.session.specs.Talk.{Spoken, Stage, start, Turn, Within, Waiting, Told, Nothing, IsUnspent, IsWithin, IsCause, Ends, EndsBetween, EndsStopped, EndsPinging, EndsBy, IsUnwritten, IsCutOff, last_line, is_due, greeting, heard_bytes, heard_in, peer_in, pinged_peer, spoken_bytes, entries_of_spoken}
 use Rattle.session.specs.Ticking.{IsTicked, IsTickCut, Stops, Within as StopsWithin, Between as StopsBetween}
+use Rattle.session.specs.Failing.{FailsBy, FailsIn}
 use Rattle.session.specs.Hearing.{IsHeard, IsCut, StopsAt}
 use Rattle.session.proofs.Behind.{front_of, ends_behind}
 use Rattle.session.proofs.Stopped.{IsStopEnd, stop_ends}
@@ -123,10 +125,10 @@ module _ (limits : Limits) (session : ℕ) (old : Stage) (turn : Turn) where
 
 -- it was heard whole
 pub turned_heard : {D : Type 0} (made : D → List DeskEntry → D → Type 0) (limits : Limits) (old : Stage) (peer : Peer) (now taken : ℕ) (piece held : Bytes) (d d1 : D)
-    (a0 a1 a2 : Option (List Answer)) (g0 g1 g2 : Option Bytes) (c0 c1 : Option (List ℕ)) → IsUnspent limits old → a1 ≡ grown a0 (answers.Piece piece ∷ []) → g1 ≡ g0 → ReadsMoment c0 now c1
-    → IsHeard made now old.peer peer d d1 (old.held ++ piece) held g1 g2 → a2 ≡ a1 → taken ≡ old.taken + length piece → taken ≤ limits.input
-    → IsTurn made limits old (record { held = held; taken = taken; quiets = 0; peer = peer; came = Some now }) d d1 a0 a2 g0 g2 c0 c1
-turned_heard made limits old peer now taken piece held d d1 a0 a1 a2 g0 g1 g2 c0 c1 unspent said kept read k same t fits = record {
+    (a0 a1 a2 : Option (List Answer)) (g0 g1 g2 : Option Bytes) (c0 c1 : Option (List ℕ)) (f0 f1 : Option Failings) → IsUnspent limits old → a1 ≡ grown a0 (answers.Piece piece ∷ [])
+    → g1 ≡ g0 → ReadsMoment c0 now c1 → f1 ≡ f0 → IsHeard made now old.peer peer d d1 (old.held ++ piece) held g1 g2 → a2 ≡ a1 → taken ≡ old.taken + length piece → taken ≤ limits.input
+    → IsTurn made limits old (record { held = held; taken = taken; quiets = 0; peer = peer; came = Some now }) d d1 a0 a2 g0 g2 c0 c1 f0 f1
+turned_heard made limits old peer now taken piece held d d1 a0 a1 a2 g0 g1 g2 c0 c1 f0 f1 unspent said kept read none k same t fits = record {
   turn = piece_turn piece now k.spoken;
   said = heard_bytes old.peer now k.spoken;
   whole = record {
@@ -149,14 +151,15 @@ turned_heard made limits old peer now taken piece held d d1 a0 a1 a2 g0 g1 g2 c0
   moment = read;
   led = k.led;
   given = k.given ∙ ap (λ (o : Option Bytes). grown o (heard_bytes old.peer now k.spoken)) kept;
+  unfailing = none;
 }
 
 -- the session ends within it
 pub turned_cut : {D : Type 0} (made : D → List DeskEntry → D → Type 0) (limits : Limits) (session : ℕ) (old : Stage) (ended : Ended) (now all : ℕ) (piece : Bytes) (d d1 : D)
-    (a0 a1 a2 : Option (List Answer)) (g0 g1 g2 : Option Bytes) (c0 c1 : Option (List ℕ)) → IsUnspent limits old → a1 ≡ grown a0 (answers.Piece piece ∷ []) → g1 ≡ g0
-    → ReadsMoment c0 now c1 → IsCut ended made now old.peer d d1 (old.held ++ piece) all g1 g2 → a2 ≡ a1 → all ≡ old.taken + length piece
-    → old.taken + length piece ≤ limits.input → IsLastTurn made limits session ended old d d1 a0 a2 g0 g2 c0 c1
-turned_cut made limits session old ended now all piece d d1 a0 a1 a2 g0 g1 g2 c0 c1 unspent said kept read k same t fits =
+    (a0 a1 a2 : Option (List Answer)) (g0 g1 g2 : Option Bytes) (c0 c1 : Option (List ℕ)) (f0 f1 : Option Failings) → IsUnspent limits old
+    → a1 ≡ grown a0 (answers.Piece piece ∷ []) → g1 ≡ g0 → ReadsMoment c0 now c1 → FailsBy ended f0 f1 → IsCut ended made now old.peer d d1 (old.held ++ piece) all g1 g2 → a2 ≡ a1 → all ≡ old.taken + length piece
+    → old.taken + length piece ≤ limits.input → IsLastTurn made limits session ended old d d1 a0 a2 g0 g2 c0 c1 f0 f1
+turned_cut made limits session old ended now all piece d d1 a0 a1 a2 g0 g1 g2 c0 c1 f0 f1 unspent said kept read fails k same t fits =
     let turn = piece_turn piece now k.spoken in
     let heard = heard_bytes old.peer now k.spoken in
     let within : IsWithin limits old turn k.begun k.rest (old.taken + length piece) = record { unspent = unspent; are_spoken = k.are_spoken; begins = (k.acts, refl, fits) } in
@@ -174,6 +177,7 @@ turned_cut made limits session old ended now all piece d d1 a0 a1 a2 g0 g1 g2 c0
       moments = reads_one c0 c1 now read;
       led = k.led;
       given = k.given ∙ ap (λ (o : Option Bytes). grown o k.out) kept;
+      failings = fails;
     }
 
 -- ---- a quiet turn
@@ -231,10 +235,10 @@ unkept made now old d g0 g1 came ended h e k = record {
 }
 
 module _ {D : Type 0} (made : D → List DeskEntry → D → Type 0) (limits : Limits) (session : ℕ) (old : Stage) (now : ℕ) (d d1 : D) (a0 a1 a2 : Option (List Answer)) (g0 g1 g2 : Option Bytes)
-    (c0 c1 : Option (List ℕ)) (unspent : IsUnspent limits old) (said : a1 ≡ grown a0 (answers.Quiet ∷ [])) (kept : g1 ≡ g0) (read : ReadsMoment c0 now c1) (same : a2 ≡ a1) where
+    (c0 c1 : Option (List ℕ)) (f0 f1 : Option Failings) (unspent : IsUnspent limits old) (said : a1 ≡ grown a0 (answers.Quiet ∷ [])) (kept : g1 ≡ g0) (read : ReadsMoment c0 now c1) (same : a2 ≡ a1) where
   -- the turn is whole
-  turned_rested : (new : Stage) → IsRested made now old new d d1 g1 g2 → IsTurn made limits old new d d1 a0 a2 g0 g2 c0 c1
-  turned_rested new k = record {
+  turned_rested : (new : Stage) → f1 ≡ f0 → IsRested made now old new d d1 g1 g2 → IsTurn made limits old new d d1 a0 a2 g0 g2 c0 c1 f0 f1
+  turned_rested new none k = record {
     turn = quiet_turn now k.spoken;
     said = k.said;
     whole = record { unspent = unspent; goes = k.waits; fits = fits };
@@ -242,6 +246,7 @@ module _ {D : Type 0} (made : D → List DeskEntry → D → Type 0) (limits : L
     moment = read;
     led = k.led;
     given = k.given ∙ ap (λ (o : Option Bytes). grown o k.said) kept;
+    unfailing = none;
   }
     where
       taken : new.taken ≡ old.taken
@@ -251,8 +256,8 @@ module _ {D : Type 0} (made : D → List DeskEntry → D → Type 0) (limits : L
       fits = omega (arith, taken, unspent.input)
 
   -- the session ended within the tick or behind it
-  unticked_end : (ended : Ended) → IsUnticked ended made now old d d1 g1 g2 → IsLastTurn made limits session ended old d d1 a0 a2 g0 g2 c0 c1
-  unticked_end ended k =
+  unticked_end : (ended : Ended) → FailsBy ended f0 f1 → IsUnticked ended made now old d d1 g1 g2 → IsLastTurn made limits session ended old d d1 a0 a2 g0 g2 c0 c1 f0 f1
+  unticked_end ended fails k =
       let t = k.cut in
       let turn = quiet_turn now t.spoken in
       let ping = ping_bytes (is_due old now) in
@@ -275,11 +280,12 @@ module _ {D : Type 0} (made : D → List DeskEntry → D → Type 0) (limits : L
         moments = reads_one c0 c1 now read;
         led = t.led;
         given = grown_on g1 k.mid g2 ping t.out k.pinged t.given ∙ ap (λ (o : Option Bytes). grown o (ping ++ t.out)) kept;
+        failings = fails;
       }
 
-  waiting_end : (ended : Ended) (more : Bytes) → made d [] d1 → Ends limits (start session) old (greeting limits session) (Waiting now) ended more → g2 ≡ grown g1 more
-      → IsLastTurn made limits session ended old d d1 a0 a2 g0 g2 c0 c1
-  waiting_end ended more h e k = record {
+  waiting_end : (ended : Ended) (more : Bytes) → FailsBy ended f0 f1 → made d [] d1 → Ends limits (start session) old (greeting limits session) (Waiting now) ended more → g2 ≡ grown g1 more
+      → IsLastTurn made limits session ended old d d1 a0 a2 g0 g2 c0 c1 f0 f1
+  waiting_end ended more fails h e k = record {
     last = Waiting now;
     more = more;
     greeted = tt;
@@ -288,11 +294,12 @@ module _ {D : Type 0} (made : D → List DeskEntry → D → Type 0) (limits : L
     moments = reads_one c0 c1 now read;
     led = h;
     given = k ∙ ap (λ (o : Option Bytes). grown o more) kept;
+    failings = fails;
   }
 
-  given_up : (ended : Ended) → made d [] d1 → IsGivenUp ended now old.peer.pings g1 g2 → IsLastTurn made limits session ended old d d1 a0 a2 g0 g2 c0 c1
-  given_up ended h k =
-      waiting_end ended k.parts.out h
+  given_up : (ended : Ended) → FailsBy ended f0 f1 → made d [] d1 → IsGivenUp ended now old.peer.pings g1 g2 → IsLastTurn made limits session ended old d d1 a0 a2 g0 g2 c0 c1 f0 f1
+  given_up ended fails h k =
+      waiting_end ended k.parts.out fails h
       (record {
         cause = ends.Stale;
         said = [];
@@ -305,8 +312,9 @@ module _ {D : Type 0} (made : D → List DeskEntry → D → Type 0) (limits : L
   pinging : (ended : Ended) → IsUnpinged ended (unwrap_or old.came now) now old.peer.pings g1 g2 → EndsPinging limits old (Waiting now) (frame Ping)
   pinging ended k = record { moment = now; last_is = refl; unspent = unspent; alive = k.alive; due = k.due; said_is = refl }
 
-  unpinged : (ended : Ended) → made d [] d1 → IsUnpinged ended (unwrap_or old.came now) now old.peer.pings g1 g2 → IsLastTurn made limits session ended old d d1 a0 a2 g0 g2 c0 c1
-  unpinged ended h k = go k.unwritten
+  unpinged : (ended : Ended) → FailsBy ended f0 f1 → made d [] d1 → IsUnpinged ended (unwrap_or old.came now) now old.peer.pings g1 g2
+      → IsLastTurn made limits session ended old d d1 a0 a2 g0 g2 c0 c1 f0 f1
+  unpinged ended fails h k = go k.unwritten
     where
       cut : IsCutOff k.given.0 (frame Ping ++ [])
       cut = subst (IsCutOff k.given.0) (sym (append-nil (frame Ping))) k.given.1
@@ -322,36 +330,36 @@ module _ {D : Type 0} (made : D → List DeskEntry → D → Type 0) (limits : L
         ends_as = inl (refl, front_of k.given.0 (frame Ping ++ []) cut);
       }
 
-      ending : (x : Ended) → ended ≡ x → Ends limits (start session) old (greeting limits session) (Waiting now) x k.given.0 → IsLastTurn made limits session ended old d d1 a0 a2 g0 g2 c0 c1
-      ending x f w = waiting_end ended k.given.0 h (subst (λ (y : Ended). Ends limits (start session) old (greeting limits session) (Waiting now) y k.given.0) (sym f) w) k.given.2
+      ending : (x : Ended) → ended ≡ x → Ends limits (start session) old (greeting limits session) (Waiting now) x k.given.0 → IsLastTurn made limits session ended old d d1 a0 a2 g0 g2 c0 c1 f0 f1
+      ending x f w = waiting_end ended k.given.0 fails h (subst (λ (y : Ended). Ends limits (start session) old (greeting limits session) (Waiting now) y k.given.0) (sym f) w) k.given.2
 
-      go : IsUnwritten ended → IsLastTurn made limits session ended old d d1 a0 a2 g0 g2 c0 c1
+      go : IsUnwritten ended → IsLastTurn made limits session ended old d d1 a0 a2 g0 g2 c0 c1 f0 f1
       go (inl f) = ending ends.LinkFault f failed
       go (inr f) = ending ends.NoMemory f starved
 
-  unkept_end : (ended : Ended) → made d [] d1 → IsGivenUp ended now old.peer.pings g1 g2 ⊎ IsUnpinged ended (unwrap_or old.came now) now old.peer.pings g1 g2
-      → IsLastTurn made limits session ended old d d1 a0 a2 g0 g2 c0 c1
-  unkept_end ended h (inl k) = given_up ended h k
-  unkept_end ended h (inr k) = unpinged ended h k
+  unkept_end : (ended : Ended) → FailsBy ended f0 f1 → made d [] d1 → IsGivenUp ended now old.peer.pings g1 g2 ⊎ IsUnpinged ended (unwrap_or old.came now) now old.peer.pings g1 g2
+      → IsLastTurn made limits session ended old d d1 a0 a2 g0 g2 c0 c1 f0 f1
+  unkept_end ended fails h (inl k) = given_up ended fails h k
+  unkept_end ended fails h (inr k) = unpinged ended fails h k
 
   -- the session ended in it
-  unrested_end : (ended : Ended) → IsUnkept ended made now old d d1 g1 g2 ⊎ IsUnticked ended made now old d d1 g1 g2
-      → IsLastTurn made limits session ended old d d1 a0 a2 g0 g2 c0 c1
-  unrested_end ended (inl k) = unkept_end ended k.led k.ends
-  unrested_end ended (inr k) = unticked_end ended k
+  unrested_end : (ended : Ended) → FailsBy ended f0 f1 → IsUnkept ended made now old d d1 g1 g2 ⊎ IsUnticked ended made now old d d1 g1 g2
+      → IsLastTurn made limits session ended old d d1 a0 a2 g0 g2 c0 c1 f0 f1
+  unrested_end ended fails (inl k) = unkept_end ended fails k.led k.ends
+  unrested_end ended fails (inr k) = unticked_end ended fails k
 
-  pub turned_quiet : (result : Result (Unit {0}) Ended) (new : Stage) → Rests result made now old new d d1 g1 g2
-      → Turns result made limits session old new d d1 a0 a2 g0 g2 c0 c1
-  turned_quiet (Ok x) new k = turned_rested new k
-  turned_quiet (Err ended) new k = unrested_end ended k
+  pub turned_quiet : (result : Result (Unit {0}) Ended) (new : Stage) → FailsIn result f0 f1 → Rests result made now old new d d1 g1 g2
+      → Turns result made limits session old new d d1 a0 a2 g0 g2 c0 c1 f0 f1
+  turned_quiet (Ok x) new none k = turned_rested new none k
+  turned_quiet (Err ended) new fails k = unrested_end ended fails k
 
 -- ---- the link's own ends
 
 module _ {D : Type 0} (made : D → List DeskEntry → D → Type 0) (limits : Limits) (session : ℕ) (old : Stage) (d : D) (a0 a1 : Option (List Answer)) (g0 g1 : Option Bytes) (c : Option (List ℕ))
-    (nothing_led : made d [] d) (kept : g1 ≡ g0) where
-  told_end : (ended : Ended) (answer : Answer) → a1 ≡ grown a0 (answer ∷ []) → Ends limits (start session) old (greeting limits session) (Told answer) ended []
-      → IsLastTurn made limits session ended old d d a0 a1 g0 g1 c c
-  told_end ended answer said e = record {
+    (f0 f1 : Option Failings) (nothing_led : made d [] d) (kept : g1 ≡ g0) where
+  told_end : (ended : Ended) (answer : Answer) → f1 ≡ f0 → a1 ≡ grown a0 (answer ∷ []) → Ends limits (start session) old (greeting limits session) (Told answer) ended []
+      → IsLastTurn made limits session ended old d d a0 a1 g0 g1 c c f0 f1
+  told_end ended answer none said e = record {
     last = Told answer;
     more = [];
     greeted = tt;
@@ -360,20 +368,21 @@ module _ {D : Type 0} (made : D → List DeskEntry → D → Type 0) (limits : L
     moments = refl;
     led = nothing_led;
     given = kept ∙ sym (grown-nil g0);
+    failings = none;
   }
 
-  pub turned_closed : IsUnspent limits old → a1 ≡ grown a0 (answers.Ended ∷ []) → IsLastTurn made limits session ends.Closed old d d a0 a1 g0 g1 c c
-  turned_closed unspent said =
-      told_end ends.Closed answers.Ended said
+  pub turned_closed : f1 ≡ f0 → IsUnspent limits old → a1 ≡ grown a0 (answers.Ended ∷ []) → IsLastTurn made limits session ends.Closed old d d a0 a1 g0 g1 c c f0 f1
+  turned_closed none unspent said =
+      told_end ends.Closed answers.Ended none said
       (record { cause = ends.Closed; said = []; is_cause = (unspent, record { last_is = refl; said_is = refl }); ends_as = (refl, refl) })
 
-  pub turned_failed : IsUnspent limits old → a1 ≡ grown a0 (answers.Failed ∷ []) → IsLastTurn made limits session ends.LinkFault old d d a0 a1 g0 g1 c c
-  turned_failed unspent said =
-      told_end ends.LinkFault answers.Failed said
+  pub turned_failed : f1 ≡ f0 → IsUnspent limits old → a1 ≡ grown a0 (answers.Failed ∷ []) → IsLastTurn made limits session ends.LinkFault old d d a0 a1 g0 g1 c c f0 f1
+  turned_failed none unspent said =
+      told_end ends.LinkFault answers.Failed none said
       (record { cause = ends.LinkFault; said = []; is_cause = inl (unspent, record { last_is = refl; said_is = refl }); ends_as = (refl, refl) })
 
-  pub turned_starved : a1 ≡ grown a0 [] → IsLastTurn made limits session ends.NoMemory old d d a0 a1 g0 g1 c c
-  turned_starved said = record {
+  pub turned_starved : FailsBy ends.NoMemory f0 f1 → a1 ≡ grown a0 [] → IsLastTurn made limits session ends.NoMemory old d d a0 a1 g0 g1 c c f0 f1
+  turned_starved fails said = record {
     last = Nothing;
     more = [];
     greeted = tt;
@@ -382,4 +391,5 @@ module _ {D : Type 0} (made : D → List DeskEntry → D → Type 0) (limits : L
     moments = refl;
     led = nothing_led;
     given = kept ∙ sym (grown-nil g0);
+    failings = fails;
   }

@@ -15,7 +15,10 @@ flag_or default name members = option_map (λ flag. unwrap_or flag default) (res
 abbrev pub options : Option Bool → Option Bool → Option Bool → Option Bool → Option ConnectOptions
 options (Some verbose) (Some echo) (Some headers) (Some no_responders) =
     Some (record { verbose = verbose; echo = echo; headers = headers; no_responders = no_responders })
-options _ _ _ _ = None
+options None echo headers no_responders = None
+options (Some verbose) None headers no_responders = None
+options (Some verbose) (Some echo) None no_responders = None
+options (Some verbose) (Some echo) (Some headers) None = None
 
 -- the options that the fields name: operations are answered and a client hears itself, unless they say otherwise
 abbrev pub options_in : Members → Option ConnectOptions

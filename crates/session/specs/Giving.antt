@@ -1,5 +1,5 @@
 -- What a link was given of some bytes.
-use Rattle.std.specs.Prelude.{◌≡◌, ◌++◌, Result, Ok, Err, Option}
+use Rattle.std.specs.Prelude.{◌≡◌, ℕ, [], ◌++◌, take, Result, Ok, Err, Option}
 use Rattle.js_base.specs.Bytes.{Bytes}
 use Rattle.link_edge.specs.Told.{grown}
 use Rattle.session.specs.Talk.{IsCutOff}
@@ -11,6 +11,11 @@ use Rattle.session.specs.declared.giving.GiveFault.TheVariants.{LinkFault, NoMem
 -- a prefix of the bytes was given that lacks one of them or more
 abbrev pub GivesPart : Option Bytes → Option Bytes → Bytes → Type 0
 GivesPart old new bytes = (out : Bytes) × IsCutOff out bytes × (new ≡ grown old out)
+
+-- so many of the first bytes were given, or none
+abbrev pub some_given : Result ℕ GiveFault → Bytes → Bytes
+some_given (Ok n) bytes = take n bytes
+some_given (Err fault) bytes = []
 
 -- all of the bytes were given, or not all of them
 abbrev pub Gives : {T : Type 0} → Result T GiveFault → Option Bytes → Option Bytes → Bytes → Type 0

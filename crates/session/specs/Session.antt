@@ -5,13 +5,15 @@ use Rattle.js_base.specs.Bytes.{Bytes}
 use Rattle.link_edge.specs.Told.{grown}
 use Rattle.link_edge.specs.Moments.{ReadsMoments}
 use Rattle.link_edge.specs.declared.answers.Answer.{Answer}
+use Rattle.link_edge.specs.declared.failings.Failings.{Failings}
 use Rattle.js_api.specs.Entries.{DeskEntry}
 use Rattle.session.specs.Talk.{Journal, Talk, Turn, Last, Stage, start, AreTurns, Ends, greeting, before_last, entries_of, entries_of_turn, entries_of_last, answers_of, last_answers, moments_of, last_moments}
+use Rattle.session.specs.Failing.{FailsAt}
 use Rattle.session.specs.declared.ending.Limits.{Limits}
 use Rattle.session.specs.declared.ending.Ended.{Ended}
 
 -- an open session from the server's information to its end
-pub record Converses {D : Type 0} (made : D → List DeskEntry → D → Type 0) (limits : Limits) (session : ℕ) (desk_old desk_new : D) (answered_old answered_new : Option (List Answer)) (given_old given_new : Option Bytes) (clock_old clock_new : Option (List ℕ)) (ended : Ended) : Type 0 where
+pub record Converses {D : Type 0} (made : D → List DeskEntry → D → Type 0) (limits : Limits) (session : ℕ) (desk_old desk_new : D) (answered_old answered_new : Option (List Answer)) (given_old given_new : Option Bytes) (clock_old clock_new : Option (List ℕ)) (failings_old failings_new : Option Failings) (ended : Ended) : Type 0 where
   pub turns : List Turn
   pub last : Last
   pub stage : Stage
@@ -23,10 +25,12 @@ pub record Converses {D : Type 0} (made : D → List DeskEntry → D → Type 0)
   pub moments : ReadsMoments clock_old (map (λ (turn : Turn). turn.moment) turns ++ last_moments last) clock_new
   pub led : made desk_old (flat_map entries_of_turn turns ++ entries_of_last last) desk_new
   pub given : given_new ≡ grown given_old (before_last (greeting limits session) last said ++ more)
+  pub failings : FailsAt last ended failings_old failings_new
 
 -- The session's journal is over just what the link answered and the moments that the clock told, the desk was led by its entries, and the
--- link was given its bytes. If nothing is told, it is over some answers and moments.
-pub record Serves {D : Type 0} (made : D → List DeskEntry → D → Type 0) (limits : Limits) (desk_old desk_new : D) (answered_old answered_new : Option (List Answer)) (given_old given_new : Option Bytes) (clock_old clock_new : Option (List ℕ)) (ended : Ended) : Type 0 where
+-- link was given its bytes. A give that failed and a call that found no memory ended it, and were not tried again. If nothing is told, it is over
+-- some answers and moments.
+pub record Serves {D : Type 0} (made : D → List DeskEntry → D → Type 0) (limits : Limits) (desk_old desk_new : D) (answered_old answered_new : Option (List Answer)) (given_old given_new : Option Bytes) (clock_old clock_new : Option (List ℕ)) (failings_old failings_new : Option Failings) (ended : Ended) : Type 0 where
   pub journal : Journal
   pub bytes : Bytes
   pub talk : Talk limits journal bytes ended
@@ -34,3 +38,4 @@ pub record Serves {D : Type 0} (made : D → List DeskEntry → D → Type 0) (l
   pub moments : ReadsMoments clock_old (moments_of journal) clock_new
   pub led : made desk_old (entries_of journal) desk_new
   pub given : given_new ≡ grown given_old bytes
+  pub failings : FailsAt journal.last ended failings_old failings_new

@@ -237,12 +237,16 @@ Begins limits stage turn acts rest taken answers.Failed = ⊥
 -- the client as a turn finds it
 abbrev pub peer_before : Stage → Answer → ℕ → Peer
 peer_before stage answers.Quiet moment = pinged_peer stage moment
-peer_before stage _ moment = stage.peer
+peer_before stage (answers.Piece bytes) moment = stage.peer
+peer_before stage answers.Ended moment = stage.peer
+peer_before stage answers.Failed moment = stage.peer
 
 -- what a turn says before its operations: in a quiet one a PING, if one is due
 abbrev pub said_before : Stage → Answer → ℕ → Bytes
 said_before stage answers.Quiet moment = ping_bytes (is_due stage moment)
-said_before stage _ moment = []
+said_before stage (answers.Piece bytes) moment = []
+said_before stage answers.Ended moment = []
+said_before stage answers.Failed moment = []
 
 -- these operations and ticks of a turn were carried out, one may have been begun, and this is the rest of so many bytes that were taken
 pub record IsWithin (limits : Limits) (stage : Stage) (turn : Turn) (begun : List Act) (rest : Bytes) (taken : ℕ) : Type 0 where
@@ -408,7 +412,10 @@ EndsBy cause ended bytes whole = ((ended ≡ cause) × IsWritten ended bytes who
 -- if an answer of the link is the end, nothing is left to write, and no writing fails
 abbrev pub EndsAs : Last → Ended → Ended → Bytes → Bytes → Type 0
 EndsAs (Told answer) cause ended bytes whole = (ended ≡ cause) × (bytes ≡ whole)
-EndsAs last cause ended bytes whole = EndsBy cause ended bytes whole
+EndsAs Greeting cause ended bytes whole = EndsBy cause ended bytes whole
+EndsAs Nothing cause ended bytes whole = EndsBy cause ended bytes whole
+EndsAs (Within turn begun calls) cause ended bytes whole = EndsBy cause ended bytes whole
+EndsAs (Waiting moment) cause ended bytes whole = EndsBy cause ended bytes whole
 
 -- how a session ends behind its whole turns: its cause, what is said in the last turn, and the error line; and which bytes were written of it.
 -- All that the turns before said was written before the link was asked again
@@ -433,8 +440,11 @@ abbrev pub entries_of_turn : Turn → List DeskEntry
 entries_of_turn turn = entries_of_all turn.spoken
 
 abbrev pub entries_of_last : Last → List DeskEntry
+entries_of_last Greeting = []
+entries_of_last Nothing = []
+entries_of_last (Told answer) = []
 entries_of_last (Within turn begun calls) = entries_of_turn turn ++ entries_of_calls calls
-entries_of_last _ = []
+entries_of_last (Waiting moment) = []
 
 -- the entries of all desk calls, in order
 abbrev pub entries_of : Journal → List DeskEntry
@@ -452,9 +462,11 @@ abbrev pub answers_of : Journal → List Answer
 answers_of journal = map (λ (turn : Turn). turn.answer) journal.turns ++ last_answers journal.last
 
 abbrev pub last_moments : Last → List ℕ
+last_moments Greeting = []
+last_moments Nothing = []
+last_moments (Told answer) = []
 last_moments (Within turn begun calls) = turn.moment ∷ []
 last_moments (Waiting moment) = moment ∷ []
-last_moments _ = []
 
 -- the moments that were read: one a turn, after the link's answer
 abbrev pub moments_of : Journal → List ℕ
@@ -467,7 +479,10 @@ greeting limits session = frame (Info session limits.host limits.port)
 -- the greeting, and what the turns said; but if the greeting itself was not written whole, nothing before it
 abbrev pub before_last : Bytes → Last → Bytes → Bytes
 before_last greeting Greeting said = []
-before_last greeting _ said = greeting ++ said
+before_last greeting Nothing said = greeting ++ said
+before_last greeting (Told answer) said = greeting ++ said
+before_last greeting (Within turn begun calls) said = greeting ++ said
+before_last greeting (Waiting moment) said = greeting ++ said
 
 -- The closing takes no memory. If the numbers of turns are used up, the session is closed in the desk, and the router keeps it.
 abbrev pub IsClosing : Result DeskAnswer DeskFault → Type 0

@@ -6,11 +6,13 @@ use Rattle.js_base.specs.declared.frame.Frame.TheVariants.{Ping}
 use Rattle.link_edge.specs.Told.{grown}
 use Rattle.link_edge.specs.Moments.{ReadsMoment, ReadsMoments}
 use Rattle.link_edge.specs.declared.answers.Answer.{Answer}
+use Rattle.link_edge.specs.declared.failings.Failings.{Failings}
 use Rattle.js_api.specs.Entries.{DeskEntry}
 use Rattle.js_api.specs.Clients.{Client}
 use Rattle.session.specs.Keeping.{is_ping_due, is_stale, pinged, ping_bytes}
-use Rattle.session.specs.Talk.{Spoken, Stage, start, Turn, Last, Greeting, IsWhole, Ends, IsUnwritten, Waits, greeting, is_due, pinged_peer, entries_of_all, entries_of_turn, entries_of_last, last_answers, last_moments}
+use Rattle.session.specs.Talk.{Spoken, Stage, start, Turn, Last, Greeting, Nothing, Told, Within, Waiting, IsWhole, Ends, IsUnwritten, Waits, greeting, is_due, pinged_peer, entries_of_all, entries_of_turn, entries_of_last, last_answers, last_moments}
 use Rattle.session.specs.Giving.{GivesPart}
+use Rattle.session.specs.Failing.{FailsAt}
 use Rattle.session.specs.Manners.{peer_of}
 use Rattle.session.specs.Parting.{Parts}
 use Rattle.session.specs.Ticking.{IsTickCut}
@@ -86,7 +88,7 @@ Rests (Err ended) made now old new desk_old desk_new given_old given_new =
 -- ---- any turn
 
 -- a whole turn
-pub record IsTurn {D : Type 0} (made : D → List DeskEntry → D → Type 0) (limits : Limits) (old new : Stage) (desk_old desk_new : D) (answered_old answered_new : Option (List Answer)) (given_old given_new : Option Bytes) (clock_old clock_new : Option (List ℕ)) : Type 0 where
+pub record IsTurn {D : Type 0} (made : D → List DeskEntry → D → Type 0) (limits : Limits) (old new : Stage) (desk_old desk_new : D) (answered_old answered_new : Option (List Answer)) (given_old given_new : Option Bytes) (clock_old clock_new : Option (List ℕ)) (failings_old failings_new : Option Failings) : Type 0 where
   pub turn : Turn
   pub said : Bytes
   pub whole : IsWhole limits old turn new said
@@ -94,14 +96,18 @@ pub record IsTurn {D : Type 0} (made : D → List DeskEntry → D → Type 0) (l
   pub moment : ReadsMoment clock_old turn.moment clock_new
   pub led : made desk_old (entries_of_turn turn) desk_new
   pub given : given_new ≡ grown given_old said
+  pub unfailing : failings_new ≡ failings_old
 
 -- the session does not end within the server's information
 abbrev pub IsGreeted : Last → Type 0
 IsGreeted Greeting = ⊥
-IsGreeted _ = Unit {0}
+IsGreeted Nothing = Unit {0}
+IsGreeted (Told answer) = Unit {0}
+IsGreeted (Within turn begun calls) = Unit {0}
+IsGreeted (Waiting moment) = Unit {0}
 
 -- the turn in which the session ends
-pub record IsLastTurn {D : Type 0} (made : D → List DeskEntry → D → Type 0) (limits : Limits) (session : ℕ) (ended : Ended) (stage : Stage) (desk_old desk_new : D) (answered_old answered_new : Option (List Answer)) (given_old given_new : Option Bytes) (clock_old clock_new : Option (List ℕ)) : Type 0 where
+pub record IsLastTurn {D : Type 0} (made : D → List DeskEntry → D → Type 0) (limits : Limits) (session : ℕ) (ended : Ended) (stage : Stage) (desk_old desk_new : D) (answered_old answered_new : Option (List Answer)) (given_old given_new : Option Bytes) (clock_old clock_new : Option (List ℕ)) (failings_old failings_new : Option Failings) : Type 0 where
   pub last : Last
   pub more : Bytes
   pub greeted : IsGreeted last
@@ -110,9 +116,10 @@ pub record IsLastTurn {D : Type 0} (made : D → List DeskEntry → D → Type 0
   pub moments : ReadsMoments clock_old (last_moments last) clock_new
   pub led : made desk_old (entries_of_last last) desk_new
   pub given : given_new ≡ grown given_old more
+  pub failings : FailsAt last ended failings_old failings_new
 
-abbrev pub Turns : {D T : Type 0} → Result T Ended → (D → List DeskEntry → D → Type 0) → Limits → ℕ → Stage → Stage → D → D → Option (List Answer) → Option (List Answer) → Option Bytes → Option Bytes → Option (List ℕ) → Option (List ℕ) → Type 0
-Turns (Ok x) made limits session old new desk_old desk_new answered_old answered_new given_old given_new clock_old clock_new =
-    IsTurn made limits old new desk_old desk_new answered_old answered_new given_old given_new clock_old clock_new
-Turns (Err ended) made limits session old new desk_old desk_new answered_old answered_new given_old given_new clock_old clock_new =
-    IsLastTurn made limits session ended old desk_old desk_new answered_old answered_new given_old given_new clock_old clock_new
+abbrev pub Turns : {D T : Type 0} → Result T Ended → (D → List DeskEntry → D → Type 0) → Limits → ℕ → Stage → Stage → D → D → Option (List Answer) → Option (List Answer) → Option Bytes → Option Bytes → Option (List ℕ) → Option (List ℕ) → Option Failings → Option Failings → Type 0
+Turns (Ok x) made limits session old new desk_old desk_new answered_old answered_new given_old given_new clock_old clock_new failings_old failings_new =
+    IsTurn made limits old new desk_old desk_new answered_old answered_new given_old given_new clock_old clock_new failings_old failings_new
+Turns (Err ended) made limits session old new desk_old desk_new answered_old answered_new given_old given_new clock_old clock_new failings_old failings_new =
+    IsLastTurn made limits session ended old desk_old desk_new answered_old answered_new given_old given_new clock_old clock_new failings_old failings_new

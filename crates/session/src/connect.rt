@@ -40,7 +40,9 @@ fn stop_by(fault: JsonFault) -> Stop
 {
     match fault {
         JsonFault::NoMemory => Stop::NoMemory,
-        _ => Stop::Refused(Refusal::BadConnect),
+        JsonFault::NotJson | JsonFault::NotObject | JsonFault::BadField(_) => {
+            Stop::Refused(Refusal::BadConnect)
+        }
     }
 }
 

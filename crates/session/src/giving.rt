@@ -1,9 +1,11 @@
 //! Bytes go out.
 
-ghost use Rattle.std.specs.Prelude.{◌≡◌};
+ghost use Rattle.std.specs.Prelude.{◌≡◌, ◌<◌, length, IfOk};
 ghost use Rattle.link_edge.specs.Causes.{HasCause};
 ghost use Rattle.js_base.specs.Framing.{frame as bytes_of};
-ghost use Rattle.session.specs.Giving.{Gives, Flushes, IsLinkFault, end_of};
+ghost use Rattle.link_edge.specs.Told.{grown};
+ghost use Rattle.link_edge.specs.Gives.{IsGiveWithin};
+ghost use Rattle.session.specs.Giving.{Gives, Flushes, IsLinkFault, end_of, some_given};
 ghost use Rattle.session.specs.Failing.{FailsGiving};
 
 use crate::ending::Ended;
@@ -35,6 +37,22 @@ impl From<GiveFault> for Ended {
     }
 }
 
+/// Gives a prefix of the bytes, which is not empty, and says how long it is. An `Err` gave none of them.
+fn give_some<L: Link>(link: &mut L, bytes: &[u8]) -> Result<usize, GiveFault>
+    requires bytes { 0 < length bytes.now }
+    ensures within { IfOk result (λ count. IsGiveWithin (Give.Gave count) (length bytes.now)) }
+    ensures given { L.given link.new ≡ grown (L.given link.old) (some_given result bytes.now) }
+    ensures answered { L.answered link.new ≡ L.answered link.old }
+    ensures failings { FailsGiving result (L.failings link.old) (L.failings link.new) }
+    ensures cause { HasCause (L.faults link.old) (L.faults link.new) (IsLinkFault result) }
+{
+    match link.give(bytes) {
+        Give::Gave(count) => Ok(count),
+        Give::Failed => Err(GiveFault::LinkFault),
+        Give::NoMemory => Err(GiveFault::NoMemory),
+    }
+}
+
 /// Gives all of the bytes. An `Err` gave a prefix of them.
 pub(crate) fn give_all<L: Link>(link: &mut L, bytes: &[u8]) -> Result<(), GiveFault>
     ensures given { Gives result (L.given link.old) (L.given link.new) bytes.now }
@@ -45,10 +63,9 @@ pub(crate) fn give_all<L: Link>(link: &mut L, bytes: &[u8]) -> Result<(), GiveFa
     let mut at = 0;
     while at < bytes.len() {
         let (_, rest) = bytes.split_at(at);
-        match link.give(rest) {
-            Give::Gave(count) => at += count,
-            Give::Failed => return Err(GiveFault::LinkFault),
-            Give::NoMemory => return Err(GiveFault::NoMemory),
+        match give_some(link, rest) {
+            Ok(count) => at += count,
+            Err(fault) => return Err(fault),
         }
     }
     Ok(())

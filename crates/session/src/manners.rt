@@ -53,7 +53,7 @@ impl Pings {
     {
         match self {
             Pings::Two(first, _) => has_passed(LONG_PATIENCE, first, now),
-            _ => false,
+            Pings::Answered | Pings::One(_) => false,
         }
     }
 

@@ -59,7 +59,7 @@ fn last_text(cause: Ended) -> Option<&'static [u8]>
         Ended::Refused(refusal) => refusal_text(refusal),
         Ended::Slow(_) => Some(SLOW_CONSUMER),
         Ended::Stale => Some(STALE_CONNECTION),
-        _ => None,
+        Ended::Closed | Ended::LinkFault | Ended::InputLimit | Ended::NoMemory => None,
     }
 }
 

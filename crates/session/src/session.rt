@@ -6,7 +6,7 @@ ghost use Rattle.js_api.specs.Clients.{new_client};
 ghost use Rattle.session.specs.Host.{is_plain};
 ghost use Rattle.session.specs.Talk.{greeting};
 ghost use Rattle.session.specs.Giving.{Gives, IsLinkFault};
-ghost use Rattle.session.specs.Failing.{FailsBy, FailsGiving};
+ghost use Rattle.session.specs.Failing.{FailsGiving};
 ghost use Rattle.session.specs.Session.{Converses, Serves};
 
 use crate::ending::{Ended, Limits};
@@ -67,10 +67,9 @@ fn converse<D: Desk, L: Link, C: Clock>(
     requires client { D.client desk.old ≡ new_client session }
     requires input { limits.now.input < 2 ^ 62 }
     ensures converses { Converses D.made limits.now session desk.old desk.new (L.answered link.old) (L.answered link.new)
-        (L.given link.old) (L.given link.new) (C.to_come clock.old) (C.to_come clock.new) result }
+        (L.given link.old) (L.given link.new) (C.to_come clock.old) (C.to_come clock.new) (L.failings link.old) (L.failings link.new) result }
     ensures session { (D.client desk.new).session ≡ session }
     ensures is_open { (D.client desk.new).is_open ≡ true }
-    ensures failings { FailsBy result (L.failings link.old) (L.failings link.new) }
     ensures cause { HasCause (L.faults link.old) (L.faults link.new) (result ≡ Ended.LinkFault) }
 {
     let mut room = match new_room(alloc) {
@@ -104,9 +103,8 @@ pub fn serve_link<D: Desk, L: Link, C: Clock>(
     requires input { limits.now.input < 2 ^ 62 }
     requires host { is_plain limits.now.host ≡ true }
     ensures serves { Serves D.made limits.now desk.old desk.new (L.answered link.old) (L.answered link.new)
-        (L.given link.old) (L.given link.new) (C.to_come clock.old) (C.to_come clock.new) result }
+        (L.given link.old) (L.given link.new) (C.to_come clock.old) (C.to_come clock.new) (L.failings link.old) (L.failings link.new) result }
     ensures closed { (D.client desk.new).is_open ≡ false }
-    ensures failings { FailsBy result (L.failings link.old) (L.failings link.new) }
     ensures cause { HasCause (L.faults link.old) (L.faults link.new) (result ≡ Ended.LinkFault) }
 {
     match desk.open() {

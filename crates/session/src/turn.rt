@@ -146,14 +146,14 @@ pub(crate) fn take_turn<D: Desk, L: Link, C: Clock>(
     requires input { limits.now.input < 2 ^ 62 }
     ensures turns { Turns result D.made limits.now (D.client desk.old).session
         (stage_of (D.client desk.old) course.old) (stage_of (D.client desk.new) course.new) desk.old desk.new
-        (L.answered link.old) (L.answered link.new) (L.given link.old) (L.given link.new) (C.to_come clock.old) (C.to_come clock.new) }
+        (L.answered link.old) (L.answered link.new) (L.given link.old) (L.given link.new) (C.to_come clock.old) (C.to_come clock.new)
+        (L.failings link.old) (L.failings link.new) }
     ensures fed { OnOk result (total course.new.decoder ≡ course.new.taken) }
     ensures input { OnOk result (course.new.taken ≤ limits.now.input) }
     ensures quiet { OnOk result (course.new.quiets ≤ limits.now.quiet) }
     ensures fewer { OnOk result (turns_left limits.now course.new < turns_left limits.now course.old) }
     ensures session { (D.client desk.new).session ≡ (D.client desk.old).session }
     ensures is_open { (D.client desk.new).is_open ≡ true }
-    ensures failings { FailsIn result (L.failings link.old) (L.failings link.new) }
     ensures cause { HasCause (L.faults link.old) (L.faults link.new) (result ≡ Err Ended.LinkFault) }
 {
     let most = room_within(room.len(), limits.input - course.taken);

@@ -8,11 +8,11 @@ use Rattle.js_model.specs.PlaceStates.{PlaceIn, vacant_place}
 use Rattle.js_model.specs.Runs.{RunFrom, IsStep, messages_of, total_of}
 use Rattle.model_laws.specs.Sound.{IsSound}
 use Rattle.model_laws.specs.Bounds.{IsBounded}
-use Rattle.model_laws.specs.Laws.{LawSound, LawBounded, LawAcked, LawEnds, LawStays, LawDuplicate, LawKept, LawOrder, LawStart, LawRedelivery, LawLimits}
+use Rattle.model_laws.specs.Laws.{LawSound, LawBounded, LawAcked, LawEnds, LawStays, LawDuplicate, LawKept, LawOrder, LawStart, LawMade, LawRedelivery, LawLimits}
 use Rattle.js_api.specs.Machines.{LawRuns}
 use Rattle.talk_laws.specs.Parts.{Part, count_before}
 use Rattle.talk_laws.specs.Talks.{IsSoundPlace}
-use Rattle.talk_laws.specs.TalkLaws.{LawOpening, LawTalkSound, LawTalkBounded, LawTalkAcked, LawTalkEnds, LawTalkStays, LawTalkDuplicate, LawTalkKept, LawTalkOrder, LawTalkStart, LawTalkRedelivery, LawTalkLimits}
+use Rattle.talk_laws.specs.TalkLaws.{LawOpening, LawTalkSound, LawTalkBounded, LawTalkAcked, LawTalkEnds, LawTalkStays, LawTalkDuplicate, LawTalkKept, LawTalkOrder, LawTalkStart, LawTalkMade, LawTalkRedelivery, LawTalkLimits}
 use Rattle.talk_laws.proofs.EachPart.{in_each_talk, sound_before, sound_after, step_of, step_before, step_after}
 
 -- ---- the opening
@@ -75,6 +75,10 @@ pub law_talk_start : LawRuns → LawSound → LawStart → LawTalkStart
 law_talk_start runs sound start = in_each_talk _ runs (λ p first name config s e now reply outs live is makes.
     start name config (count_before p) (count_after p) s p.new p.last e now reply outs p.later
     (subst IsSound live (sound_before sound p first)) (subst (λ (a : State). IsStep (count_before p) a e now reply outs p.new) live (step_of p e now reply outs is)) makes p.after)
+
+pub law_talk_made : LawRuns → LawSound → LawMade → LawTalkMade
+law_talk_made runs sound made = in_each_talk _ runs (λ p first name c absent found.
+    made name (count_before p) p.old p.new p.entries c (sound_before sound p first) absent found p.during)
 
 pub law_talk_redelivery : LawRuns → LawSound → LawRedelivery → LawTalkRedelivery
 law_talk_redelivery runs sound redelivery = in_each_talk _ runs (λ p first name n c found.

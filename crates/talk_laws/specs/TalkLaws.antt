@@ -1,5 +1,5 @@
 -- The laws of the machine, of what the entries of a desk of one caller did at one of its places.
-use Rattle.std.specs.Prelude.{◌≡◌, true, Contains, replicate, ℕ, List, [], ◌∷◌, Some, slice_get}
+use Rattle.std.specs.Prelude.{◌≡◌, true, Contains, replicate, ℕ, List, [], ◌∷◌, None, Some, slice_get}
 use Rattle.js_base.specs.Bytes.{Bytes, has}
 use Rattle.js_base.specs.declared.out.Out.{Out}
 use Rattle.js_model.specs.declared.stream.Message.{Message}
@@ -23,6 +23,7 @@ use Rattle.model_laws.specs.Acked.{has_entry, IsToEnd, IsToStay, EndsEntry, Neve
 use Rattle.model_laws.specs.Repeats.{keeps_window, EachEvent, IsRepeatReply, Repeats}
 use Rattle.model_laws.specs.Leaving.{Leaves}
 use Rattle.model_laws.specs.Order.{IsInOrder, Makes, IsFromStart}
+use Rattle.model_laws.specs.MadeWithin.{IsMadeWithin}
 use Rattle.model_laws.specs.Redelivery.{due_first, Redelivers}
 use Rattle.model_laws.specs.Limits.{AreLimited}
 use Rattle.js_api.specs.Worlds.{opening}
@@ -78,6 +79,11 @@ LawTalkOrder = InEachTalk (λ p. (name : Bytes) (c : Consumer) → consumer_of n
 abbrev pub LawTalkStart : Type 0
 LawTalkStart = InEachTalk (λ p. (name : Bytes) (config : ConsumerConfig) (s : Stream) (e : Event) (now : ℕ) (reply : Reply) (outs : List Out)
     → p.old ≡ Live s → IsStepOf p e now reply outs → Makes (Live s) e reply name config → IsFromStart name config (advance s now) p.new p.later)
+
+-- a consumer that stands after the part and not before it was made within the part
+abbrev pub LawTalkMade : Type 0
+LawTalkMade = InEachTalk (λ p. (name : Bytes) (c : Consumer)
+    → consumer_of name p.old ≡ None → consumer_of name p.new ≡ Some c → IsMadeWithin name (count_before p) p.old p.entries p.new)
 
 -- a delivery is made again only when it is due
 abbrev pub LawTalkRedelivery : Type 0

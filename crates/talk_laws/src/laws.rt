@@ -4,7 +4,7 @@
 //! first, as every place is when the desk opens. However the steps and deliveries that they made there are cut in three, there are states
 //! between which the middle part stands; and the law holds of each such part.
 
-ghost use Rattle.talk_laws.specs.TalkLaws.{LawOpening, LawTalkSound, LawTalkBounded, LawTalkAcked, LawTalkEnds, LawTalkStays, LawTalkDuplicate, LawTalkKept, LawTalkOrder, LawTalkStart, LawTalkRedelivery, LawTalkLimits};
+ghost use Rattle.talk_laws.specs.TalkLaws.{LawOpening, LawTalkSound, LawTalkBounded, LawTalkAcked, LawTalkEnds, LawTalkStays, LawTalkDuplicate, LawTalkKept, LawTalkOrder, LawTalkStart, LawTalkMade, LawTalkRedelivery, LawTalkLimits};
 
 use js_api::laws::law_runs;
 
@@ -71,10 +71,12 @@ pub fn law_talk_kept()
 /// of 1 or more. Each output brings the subject, the header block and the payload of a message that was stored before
 /// under that sequence and that the consumer's filter matches. First deliveries are its picks in order, and then ascending
 /// sequences from its cursor on. A consumer that is made begins at the picks and the cursor of its deliver policy, with
-/// consumer sequence 1.
+/// consumer sequence 1; and one that stands after the part and not before it was made by an entry of the part, at which
+/// the part is split.
 pub fn law_talk_order()
     ensures law { LawTalkOrder }
     ensures start { LawTalkStart }
+    ensures made { LawTalkMade }
 {
     law_runs();
     model_laws::law_sound();

@@ -11,7 +11,7 @@ returns-in-Ok-give_all-clause-parts g c =
     parts_whole _ _ _ _ _ c.requires.parting c.in-Ok.ensures.ok (rw c.as_slice.ensures.value at c.in-Ok-give_all.ensures.given)
 
 pub returns-in-Ok-give_all-clause-failings : goal.returns-in-Ok-give_all-clause-failings
-returns-in-Ok-give_all-clause-failings g c = none_fails c.args.cause _ _ c.in-Ok-give_all.ensures.failings
+returns-in-Ok-give_all-clause-failings g c = none_fails c.args.cause _ _ c.requires.parting c.in-Ok-give_all.ensures.failings
 
 pub returns-in-Err-give_all-clause-failings : goal.returns-in-Err-give_all-clause-failings
 returns-in-Err-give_all-clause-failings g c = giving_fails c.in-Err-give_all.fault _ _ _ _ refl c.from.ensures c.in-Err-give_all.ensures.failings

@@ -1,20 +1,19 @@
-use Rattle.std.proofs.Common.{ap, ◌∙◌, arith, inl, inr, refl}
+use Rattle.std.proofs.Common.{ap, ◌∙◌, arith, inl, inr}
 use Rattle.link_edge.proofs.Causes.{cause_before}
 use Rattle.js_api.specs.Clients.{Client}
 use Rattle.session.specs.Talk.{Stage, IsSpent}
 use Rattle.session.specs.Turning.{stage_of}
 use Rattle.session.proofs.Conversing.{conversing_first, conversing_more, converses_last, converses_spent, converses_ungreeted, converses_starved, fault_has_cause, end_has_cause, spent_has_cause}
-use Rattle.session.proofs.Failed.{fails_after, giving_fails}
 use Rattle.session.proofs.session.converse.Goals as goal
 use Rattle.session.proofs.session.converse.Goals.{then-loop-course-test+else-course-limits, else-loop-course-test}
 
 pub returns-in-Err-clause-converses : goal.returns-in-Err-clause-converses
-returns-in-Err-clause-converses g c = converses_starved _ _ _ _ _ _ _ (g.met.D.Desk.made_nothing c.args.desk.now)
+returns-in-Err-clause-converses g c = converses_starved _ _ _ _ _ _ _ _ (g.met.D.Desk.made_nothing c.args.desk.now)
 
 pub returns-in-Err-greet-clause-converses : goal.returns-in-Err-greet-clause-converses
 returns-in-Err-greet-clause-converses g c =
     let e = c.in-Err-greet.ensures in
-    converses_ungreeted _ _ _ c.in-Err-greet.fault _ _ _ _ _ _ _ (g.met.D.Desk.made_nothing c.args.desk.now) e.answered e.given c.from.ensures
+    converses_ungreeted _ _ _ c.in-Err-greet.fault _ _ _ _ _ _ _ _ _ (g.met.D.Desk.made_nothing c.args.desk.now) e.answered e.given e.failings c.from.ensures
 
 pub returns-in-Err-greet-clause-cause : goal.returns-in-Err-greet-clause-cause
 returns-in-Err-greet-clause-cause g c = fault_has_cause c.in-Err-greet.fault _ _ _ c.from.ensures c.in-Err-greet.ensures.cause
@@ -42,21 +41,21 @@ loop-course-preserved g c =
     let i = c.loop-course.invariant in
     let e = c.in-Ok-take_turn.ensures in
     record {
-      conversing = conversing_more _ g.met.D.Desk.made_more _ _ _ _ _ _ _ _ _ _ _ _ _ _ _ _ i.conversing e.turns;
+      conversing = conversing_more _ g.met.D.Desk.made_more _ _ _ _ _ _ _ _ _ _ _ _ _ _ _ _ _ _ i.conversing e.turns;
       fed = e.fed;
       input = e.input;
       quiet = e.quiet;
       room = i.room;
       session = e.session ∙ i.session;
       is_open = e.is_open;
-      failings = e.failings ∙ i.failings;
+      failings = e.turns.unfailing ∙ i.failings;
       later = omega (arith, i.later, e.cause.later);
     }
 
 pub returns-in-Err-take_turn-clause-converses : goal.returns-in-Err-take_turn-clause-converses
 returns-in-Err-take_turn-clause-converses g c =
     let i = c.loop-course.invariant in
-    converses_last _ g.met.D.Desk.made_more _ _ c.in-Err-take_turn.ended _ _ _ _ _ _ _ _ _ _ _ _ _ i.conversing (rw i.session at c.in-Err-take_turn.ensures.turns)
+    converses_last _ g.met.D.Desk.made_more _ _ c.in-Err-take_turn.ended _ _ _ _ _ _ _ _ _ _ _ _ _ _ _ _ i.failings i.conversing (rw i.session at c.in-Err-take_turn.ensures.turns)
 
 pub returns-in-Err-take_turn-clause-cause : goal.returns-in-Err-take_turn-clause-cause
 returns-in-Err-take_turn-clause-cause g c =
@@ -70,16 +69,7 @@ returns-clause-converses g c =
       | then-loop-course-test+else-course-limits w ↦ inr (omega (arith, i.quiet, w.if-course-limits.false))
       | else-loop-course-test w ↦ inl (omega (arith, i.input, w.loop-course-test.false))
     ] in
-    converses_spent _ _ _ _ _ _ _ _ _ _ _ _ i.conversing spent
+    converses_spent _ _ _ _ _ _ _ _ _ _ _ _ _ _ i.failings i.conversing spent
 
 pub returns-clause-cause : goal.returns-clause-cause
 returns-clause-cause g c = spent_has_cause _ _ c.loop-course.invariant.later
-
-pub returns-in-Err-greet-clause-failings : goal.returns-in-Err-greet-clause-failings
-returns-in-Err-greet-clause-failings g c = giving_fails c.in-Err-greet.fault _ _ _ _ refl c.from.ensures c.in-Err-greet.ensures.failings
-
-pub returns-in-Err-take_turn-clause-failings : goal.returns-in-Err-take_turn-clause-failings
-returns-in-Err-take_turn-clause-failings g c = fails_after c.in-Err-take_turn.ended _ _ _ c.loop-course.invariant.failings c.in-Err-take_turn.ensures.failings
-
-pub returns-in-Err-clause-failings : goal.returns-in-Err-clause-failings
-returns-in-Err-clause-failings g c = inl refl
