@@ -1,5 +1,5 @@
 -- What the parts of a call make, one after the other, is what the call makes.
-use Rattle.std.proofs.Common.{◌≡◌, Bool, true, false, List, [], ◌++◌, append-nil, Option, Some, None, Result, Ok, Err, refl, sym, subst, ap, inl, inr, IsErrAnd, MatchBool, MatchOption}
+use Rattle.std.proofs.Common.{◌≡◌, Bool, true, false, not, List, [], ◌++◌, append-nil, Option, Some, None, Result, Ok, Err, refl, sym, subst, ap, inl, inr, IsErrAnd, MatchBool, MatchOption}
 use Rattle.js_model.specs.declared.desk.PlaceAt.{PlaceAt}
 use Rattle.js_api.specs.declared.fault.DeskFault.{DeskFault}
 use Rattle.js_api.specs.Entries.{DeskEntry}
@@ -79,3 +79,13 @@ if_absent made Absent Present found a b is h = record {
   are = subst (λ (o : Option PlaceAt). MatchOption o (Absent h.entries) (λ p. Present p h.entries)) (sym is) h.are;
   led = h.led;
 }
+
+-- ---- what a test of the opposite says
+
+pub opposite_true : (test : Bool) → not test ≡ true → test ≡ false
+opposite_true true is = absurd (cc)
+opposite_true false is = refl
+
+pub opposite_false : (test : Bool) → not test ≡ false → test ≡ true
+opposite_false true is = refl
+opposite_false false is = absurd (cc)

@@ -1,6 +1,6 @@
 //! The stream that the command line names.
 
-ghost use Rattle.std.specs.Prelude.{◌≡◌, ◌∷◌, [], IfOk, IfSome, IsTrue, None, Ok};
+ghost use Rattle.std.specs.Prelude.{◌≡◌, ◌∷◌, [], true, IfOk, IfSome, IsTrue, None, Ok};
 ghost use Rattle.js_base.specs.Names.{name_of};
 ghost use Rattle.js_model.specs.Configs.{is_stream_subject};
 ghost use Rattle.js_model.specs.Refusals as refusals;
@@ -15,6 +15,7 @@ ghost use Rattle.desk_calls.specs.Grounds.{Outside, Within};
 ghost use Rattle.desk_calls.specs.Named.{GoesOnNamed};
 ghost use Rattle.desk_answers.specs.Became.{IsExplained};
 ghost use Rattle.desk_calls.specs.Outcomes.{IsThere};
+ghost use Rattle.desk_calls.specs.Refusing.{untaken};
 
 use crate::creating::make_at;
 use crate::ground::Ground;
@@ -110,6 +111,16 @@ fn making_told(
     }
 }
 
+/// Why no place was taken for the stream.
+fn untaken(fault: CatalogFault) -> Result<Option<ApiError>, DeskFault>
+    ensures value { result ≡ untaken fault }
+{
+    match fault {
+        CatalogFault::Refused(refusal) => Ok(Some(refusal)),
+        CatalogFault::NoMemory => Err(DeskFault::NoMemory),
+    }
+}
+
 /// Takes a place for the stream, and makes it there.
 fn add_prepared<G: Ground>(
     ground: &mut G,
@@ -117,6 +128,7 @@ fn add_prepared<G: Ground>(
     prepared: Prepared,
     now: Moment,
 ) -> Result<Option<ApiError>, DeskFault>
+    requires alone { G.alone ≡ true }
     requires turn { G.phase ground.old ≡ Within }
     requires asked { MayAsk (whats.Make None prepared.config) }
     requires broke { prepared.broke ≡ refusals.store_fault }
@@ -135,8 +147,7 @@ fn add_prepared<G: Ground>(
             let outcome = make_at(ground, at, &None, config, now);
             making_told(outcome, broke, stopped)
         }
-        Err(CatalogFault::Refused(refusal)) => Ok(Some(refusal)),
-        Err(CatalogFault::NoMemory) => Err(DeskFault::NoMemory),
+        Err(fault) => untaken(fault),
     }
 }
 
@@ -147,6 +158,7 @@ fn make_absent<G: Ground>(
     subject: &[u8],
     now: Moment,
 ) -> Result<Option<ApiError>, DeskFault>
+    requires alone { G.alone ≡ true }
     requires turn { G.phase ground.old ≡ Within }
     requires subject { IsTrue (is_stream_subject subject.now) }
     ensures made { Makes G.made (IsPreparing name.now (default_config name.now subject.now) now result) ground.old ground.new }
@@ -167,6 +179,7 @@ fn make_found<G: Ground>(
     subject: &[u8],
     now: Moment,
 ) -> Result<Option<ApiError>, DeskFault>
+    requires alone { G.alone ≡ true }
     requires turn { G.phase ground.old ≡ Within }
     requires subject { IsTrue (is_stream_subject subject.now) }
     ensures made { Makes G.made
@@ -188,6 +201,7 @@ pub fn make_stream<G: Ground>(
     subject: &[u8],
     now: Moment,
 ) -> Result<Option<ApiError>, DeskFault>
+    requires alone { G.alone ≡ true }
     requires outside { G.phase ground.old ≡ Outside }
     requires subject { IsTrue (is_stream_subject subject.now) }
     ensures made { Makes G.made (MakesStream name.now (default_config name.now subject.now) now result) ground.old ground.new }
