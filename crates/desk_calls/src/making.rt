@@ -7,7 +7,7 @@ ghost use Rattle.js_model.specs.Refusals as refusals;
 ghost use Rattle.js_model.specs.declared.event.What.TheVariants as whats;
 ghost use Rattle.stream_config.specs.Defaults.{default_config};
 ghost use Rattle.js_api.specs.Leading.{Makes};
-ghost use Rattle.js_api.specs.Making.{GoesOnTaken, IsMaking, IsPreparing, MakesStream};
+ghost use Rattle.js_api.specs.Making.{GoesOnTaken, IsMaking, IsPreparing, MakesStream, refusal_in};
 ghost use Rattle.js_api.specs.OneStream.{IsAdding};
 ghost use Rattle.js_api.specs.Stages.{Ending, Gives};
 ghost use Rattle.desk_answers.specs.Asking.{MayAsk};
@@ -15,7 +15,7 @@ ghost use Rattle.desk_calls.specs.Grounds.{Outside, Within};
 ghost use Rattle.desk_calls.specs.Named.{GoesOnNamed};
 ghost use Rattle.desk_answers.specs.Became.{IsExplained};
 ghost use Rattle.desk_calls.specs.Outcomes.{IsThere};
-ghost use Rattle.desk_calls.specs.Refusing.{untaken};
+ghost use Rattle.desk_calls.specs.Refusing.{refused_by, untaken};
 
 use crate::creating::make_at;
 use crate::ground::Ground;
@@ -84,7 +84,45 @@ fn prepare(alloc: Global, name: &Name, subject: &[u8]) -> Result<Prepared, NoMem
 
 // ---- the making
 
-/// Why the stream was not made, by what became of the hold.
+/// Why the stream was not made, if the reply says so.
+fn refusal_in(reply: Reply) -> Option<ApiError>
+    ensures value { result ≡ refusal_in reply }
+{
+    match reply {
+        Reply::Refused(refusal) => Some(refusal),
+        Reply::Info(_)
+        | Reply::Done
+        | Reply::Published(_)
+        | Reply::Duplicate(_)
+        | Reply::Purged(_)
+        | Reply::ConsumerInfo(_)
+        | Reply::Message(_)
+        | Reply::Names { .. }
+        | Reply::Infos { .. }
+        | Reply::Confirmed
+        | Reply::Silent
+        | Reply::Nobody => None,
+    }
+}
+
+/// Why the stream was not made, by what became of the hold: its refusal, or that the volume failed or had failed before.
+fn refused_by(became: Became, broke: ApiError, stopped: ApiError) -> Option<ApiError>
+    requires broke { broke ≡ refusals.store_fault }
+    requires stopped { stopped ≡ refusals.stream_stopped }
+    ensures value { result ≡ refused_by became }
+{
+    match became {
+        Became::Made(reply) => refusal_in(reply),
+        Became::Broke { stream: _ } => Some(broke),
+        Became::Stopped { stream: _ } => Some(stopped),
+        Became::Unsaid { refused: _ } => None,
+        Became::Ticked => None,
+        Became::Nothing => None,
+        Became::Gone => None,
+    }
+}
+
+/// Why the stream was not made, by what the hold came to.
 fn making_told(
     outcome: Outcome,
     broke: ApiError,
@@ -96,18 +134,11 @@ fn making_told(
     requires stopped { stopped ≡ refusals.stream_stopped }
     ensures told { Ending outcome.fault (IsMaking outcome.became) result [] }
 {
-    if let Some(fault) = outcome.fault {
-        return Err(fault);
-    }
-    match outcome.became {
-        Became::Made(Reply::Refused(refusal)) => Ok(Some(refusal)),
-        Became::Made(_) => Ok(None),
-        Became::Broke { stream: _ } => Ok(Some(broke)),
-        Became::Stopped { stream: _ } => Ok(Some(stopped)),
-        Became::Unsaid { refused: _ } => unreachable!(),
-        Became::Ticked => unreachable!(),
-        Became::Nothing => unreachable!(),
-        Became::Gone => unreachable!(),
+    let fault = outcome.fault;
+    let refused = refused_by(outcome.became, broke, stopped);
+    match fault {
+        Some(fault) => Err(fault),
+        None => Ok(refused),
     }
 }
 
