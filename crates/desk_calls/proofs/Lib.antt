@@ -8,4 +8,5 @@ mod Defaults
 mod Published
 mod Publishes
 mod Walks
+mod Refused
 mod Texts
