@@ -1,12 +1,11 @@
 -- The walk over all streams, place by place, and the answer by what they told.
-use Rattle.std.proofs.Common.{◌≡◌, ◌<◌, ℕ, Bool, true, false, List, [], ◌∷◌, ◌++◌, Option, None, Some, refl, sym, ap, subst, ◌∙◌, inl, inr, append_assoc, append-nil, if◌then◌else◌, nat_lt, IsErrAnd, arith}
+use Rattle.std.proofs.Common.{◌≡◌, ℕ, Bool, true, false, List, [], ◌∷◌, ◌++◌, Option, None, Some, refl, sym, ap, subst, ◌∙◌, inl, inr, append_assoc, append-nil, if◌then◌else◌, nat_lt, IsErrAnd, arith}
 use Rattle.std.proofs.lemmas.List.{length-append}
 use Rattle.std.proofs.lemmas.List.Elements.{All-append, All-cons, All-nil}
 use Rattle.std.specs.Prelude.{Result, Ok, Err}
 use Rattle.js_base.specs.Bytes.{Bytes}
 use Rattle.js_base.specs.declared.out.Out.{Out}
 use Rattle.js_base.specs.declared.out.ApiError.{ApiError}
-use Rattle.js_model.specs.declared.event.What.TheVariants as whats
 use Rattle.js_model.specs.declared.reply.StreamInfo.{StreamInfo}
 use Rattle.js_model.specs.declared.desk.PlaceAt.{PlaceAt}
 use Rattle.js_model.specs.Catalog as catalog
@@ -100,9 +99,16 @@ module _ {D : Type 0} (made : D → List DeskEntry → D → Type 0) (now : ℕ)
       entries = h.entries ++ (v.entries ++ w.entries);
       are = record {
         visits = visited v.are ∷ w.are.visits;
-        walks =
-            (h.entries, v.entries, w.entries, refl, looked, (next last found at next_is).is_further, v.are.holds,
-            goes v.are.outcome.fault (failure v.are.outcome.became) (told_by.0) (told_by.1));
+        walks = (
+          h.entries,
+          v.entries,
+          w.entries,
+          refl,
+          looked,
+          (next last found at next_is).is_further,
+          v.are.holds,
+          goes v.are.outcome.fault (failure v.are.outcome.became) (told_by.0) (told_by.1),
+        );
         adds = adds_more result w.are.adds;
       };
       led = more a b d h.entries (v.entries ++ w.entries) h.led (more b c d v.entries w.entries v.led w.led);
@@ -128,9 +134,16 @@ module _ {D : Type 0} (made : D → List DeskEntry → D → Type 0) (now : ℕ)
       entries = h.entries ++ v.entries;
       are = record {
         visits = visited v.are ∷ [];
-        walks =
-            (h.entries, v.entries, [], ap (λ (entries : List DeskEntry). h.entries ++ entries) (sym (append-nil v.entries)), looked, (next last found at next_is).is_further, v.are.holds,
-            stops seen v.are.outcome.fault (failure v.are.outcome.became) refl refl other v.are.told);
+        walks = (
+          h.entries,
+          v.entries,
+          [],
+          ap (λ (entries : List DeskEntry). h.entries ++ entries) (sym (append-nil v.entries)),
+          looked,
+          (next last found at next_is).is_further,
+          v.are.holds,
+          stops seen v.are.outcome.fault (failure v.are.outcome.became) refl refl other v.are.told,
+        );
         adds = adds_none seen other;
       };
       led = more a b c h.entries v.entries h.led v.led;

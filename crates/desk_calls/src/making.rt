@@ -115,10 +115,7 @@ fn refused_by(became: Became, broke: ApiError, stopped: ApiError) -> Option<ApiE
         Became::Made(reply) => refusal_in(reply),
         Became::Broke { stream: _ } => Some(broke),
         Became::Stopped { stream: _ } => Some(stopped),
-        Became::Unsaid { refused: _ } => None,
-        Became::Ticked => None,
-        Became::Nothing => None,
-        Became::Gone => None,
+        Became::Unsaid { refused: _ } | Became::Ticked | Became::Nothing | Became::Gone => None,
     }
 }
 
@@ -134,9 +131,8 @@ fn making_told(
     requires stopped { stopped ≡ refusals.stream_stopped }
     ensures told { Ending outcome.fault (IsMaking outcome.became) result [] }
 {
-    let fault = outcome.fault;
     let refused = refused_by(outcome.became, broke, stopped);
-    match fault {
+    match outcome.fault {
         Some(fault) => Err(fault),
         None => Ok(refused),
     }

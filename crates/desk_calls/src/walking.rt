@@ -76,10 +76,7 @@ fn add_told(outcome: Outcome, infos: &mut Vec<StreamInfo>) -> Result<Option<Reas
         }
         Became::Broke { stream: _ } => Ok(Some(Reason::StoreFault)),
         Became::Stopped { stream: _ } => Ok(Some(Reason::StreamStopped)),
-        Became::Unsaid { refused: _ } => Ok(None),
-        Became::Ticked => Ok(None),
-        Became::Nothing => Ok(None),
-        Became::Gone => Ok(None),
+        Became::Unsaid { refused: _ } | Became::Ticked | Became::Nothing | Became::Gone => Ok(None),
     }
 }
 

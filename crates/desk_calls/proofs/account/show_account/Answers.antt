@@ -1,8 +1,7 @@
 use Rattle.std.proofs.Common.{ap, ◌∙◌, Ok}
-use Rattle.js_api.specs.Leading.{Makes}
 use Rattle.api_calls.specs.declared.call.ApiCall.TheVariants as calls
 use Rattle.api_calls.specs.Names.{name_of}
-use Rattle.js_api.specs.AllStreams.{IsOverAll, account, informations, names}
+use Rattle.js_api.specs.AllStreams.{account}
 use Rattle.desk_calls.proofs.Walks.{over_all, over_cut, over_failed}
 use Rattle.desk_calls.proofs.account.show_account.Goals as goal
 

@@ -12,7 +12,7 @@ use Rattle.desk_calls.proofs.OneStream.{adding, on_new_stream}
 use Rattle.desk_calls.proofs.creating.add_stream.Goals as goal
 
 pub returns-in-Ok-clause-made : goal.returns-in-Ok-clause-made
-returns-in-Ok-clause-made g c = 
+returns-in-Ok-clause-made g c =
     adding g.G.Ground.made g.met.G.Ground.made_more c.args.stream.now c.args.config (GoesOnAdded c.args.config c.args.to.now c.args.now) (catalog.At (Some c.in-Ok.at)) c.end_call.result _ _ _ (rw (c.in-Ok.is, c.as_slice.ensures) at c.add.ensures.made)
     (on_new_stream g.G.Ground.made g.met.G.Ground.made_more (name_of calls.StreamCreate) c.in-Ok.at (whats.Make c.args.to.now c.args.config) c.args.now c.make_at-outcome.result c.end_call.result _ _ _ c.make_at-outcome.ensures.made c.end_call.ensures.made)
 

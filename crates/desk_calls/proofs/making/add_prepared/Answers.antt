@@ -8,7 +8,7 @@ use Rattle.desk_calls.proofs.OneStream.{adding, making_at}
 use Rattle.desk_calls.proofs.making.add_prepared.Goals as goal
 
 pub returns-in-Ok-clause-made : goal.returns-in-Ok-clause-made
-returns-in-Ok-clause-made g c = 
+returns-in-Ok-clause-made g c =
     adding g.G.Ground.made g.met.G.Ground.made_more c.args.name.now c.args.prepared.config (GoesOnTaken c.args.prepared.config c.args.now) (catalog.At (Some c.in-Ok.at)) c.making_told.result _ _ _ (rw (c.in-Ok.is, c.as_slice.ensures) at c.add.ensures.made)
     (making_at g.G.Ground.made c.args.prepared.config c.args.now c.in-Ok.at c.make_at-outcome.result c.making_told.result _ _ c.make_at-outcome.ensures.made c.making_told.ensures.told)
 

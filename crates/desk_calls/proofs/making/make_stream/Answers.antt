@@ -1,8 +1,7 @@
 use Rattle.std.proofs.Common.{None}
-use Rattle.js_api.specs.Leading.{Makes}
 use Rattle.js_model.specs.Catalog as catalog
 use Rattle.js_api.specs.Stages.{Gives, LooksUp}
-use Rattle.js_api.specs.Making.{IsPreparing, MakesStream}
+use Rattle.js_api.specs.Making.{IsPreparing}
 use Rattle.stream_config.specs.Defaults.{default_config}
 use Rattle.desk_calls.proofs.Stages.{stops_by}
 use Rattle.desk_calls.proofs.OneStream.{named_within}
