@@ -10,11 +10,12 @@ use Rattle.js_model.specs.declared.event.What.TheVariants as whats
 use Rattle.js_model.specs.declared.entry.PlaceEntry.{PlaceEntry}
 use Rattle.js_model.specs.declared.entry.PlaceEntry.TheVariants.{Step, Deliver, Broken}
 use Rattle.js_model.specs.declared.entry.Call.TheVariants.{Step as StepOf, Deliver as DeliverOf}
+use Rattle.js_model.specs.declared.reply.Answer.{Answer}
 use Rattle.js_model.specs.declared.reply.Reply.{Reply}
 use Rattle.js_model.specs.declared.reply.Reply.TheVariants as replies
 use Rattle.js_model.specs.declared.reply.Reply.TheVariants.{Done, Silent}
 use Rattle.js_model.specs.declared.desk.PlaceAt.{PlaceAt}
-use Rattle.js_model.specs.Events.{Answer, IsEvent, answered, is_refused, kept_incarnation}
+use Rattle.js_model.specs.Events.{IsEvent, answered, is_refused, kept_incarnation}
 use Rattle.js_model.specs.PlaceStates.{PlaceIn, VolumeAt}
 use Rattle.js_model.specs.Router.{Router, IsRoute}
 use Rattle.js_model.specs.Runs.{RunFrom, IsStep, new_messages}

@@ -14,6 +14,7 @@ use Rattle.js_model.specs.declared.event.What.TheVariants as whats
 use Rattle.js_model.specs.declared.entry.Delivery.{Delivery}
 use Rattle.js_model.specs.declared.entry.PlaceEntry.{PlaceEntry}
 use Rattle.js_model.specs.declared.entry.PlaceEntry.TheVariants.{Step, Deliver, Broken}
+use Rattle.js_model.specs.declared.reply.Answer.{Answer}
 use Rattle.js_model.specs.declared.reply.Reply.{Reply}
 use Rattle.js_model.specs.declared.reply.Reply.TheVariants.{Done, Refused, Silent}
 use Rattle.js_model.specs.declared.reply.Verdict.{Verdict}
@@ -22,7 +23,7 @@ use Rattle.js_base.specs.declared.out.Out.{Out}
 use Rattle.js_model.specs.Advance.{advance}
 use Rattle.js_model.specs.Configs.{same_stream_config, same_retention}
 use Rattle.js_model.specs.Deliver.{IsDelivered}
-use Rattle.js_model.specs.Events.{Answer, IsEvent, answered, is_refused, kept_incarnation, published, settled_state, stream_answer, stream_told, refused, vacant_answer, vacantly, with_id}
+use Rattle.js_model.specs.Events.{IsEvent, answered, is_refused, kept_incarnation, published, settled_state, stream_answer, stream_told, refused, vacant_answer, vacantly, with_id}
 use Rattle.js_model.specs.Consumers.{empty_stream}
 use Rattle.js_model.specs.Refusals.{other_config, retention_cannot_change, numbers_used_up}
 use Rattle.js_model.specs.Retention.{kept}
