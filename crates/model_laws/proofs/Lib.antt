@@ -39,3 +39,4 @@ pub mod RowsOfProper
 pub mod RowsOfEdges
 pub mod RowsOfGivenUp
 pub mod RowsOfSound
+pub mod RowsOfRefusals
