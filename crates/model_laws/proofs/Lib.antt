@@ -31,6 +31,7 @@ pub mod Within
 pub mod Bounded
 pub mod BoundTests
 pub mod Taken
+pub mod Ticks
 pub mod Quotas
 pub mod Turns
 pub mod Limiting
@@ -39,3 +40,4 @@ pub mod RowsOfProper
 pub mod RowsOfEdges
 pub mod RowsOfGivenUp
 pub mod RowsOfSound
+pub mod RowsOfRefusals

@@ -16,7 +16,7 @@ use Rattle.model_laws.proofs.Bounded.{ArePassed, all_passed, taken_passed}
 
 -- ---- the same messages again
 
-filter_again : {X : Type 0} (t : X → Bool) (xs : List X) → filter t (filter t xs) ≡ filter t xs
+pub filter_again : {X : Type 0} (t : X → Bool) (xs : List X) → filter t (filter t xs) ≡ filter t xs
 filter_again t [] = refl
 filter_again t (x ∷ xs) = go (t x) refl (filter_again t xs)
   where
@@ -31,19 +31,19 @@ all_again : (keep : List ℕ) (cs : List Consumer) → map (confined keep) (map 
 all_again keep [] = refl
 all_again keep (c ∷ cs) = rw (confined_again keep c, all_again keep cs) refl
 
-only_again : (s : Stream) (messages : List Message) → only (only s messages) messages ≡ only s messages
+pub only_again : (s : Stream) (messages : List Message) → only (only s messages) messages ≡ only s messages
 only_again s messages = ap (λ (cs : List Consumer). record (only s messages) { consumers = cs }) (all_again (seqs messages) s.consumers)
 
 -- ---- limits that are kept
 
-last_of_few : (n : ℕ) (ms : List Message) → length ms ≤ n → last_of n ms ≡ ms
-last_of_few n ms l = ap (λ (k : ℕ). drop k ms) (let q : length ms - n ≡ 0 = omega arith in q)
+pub last_of_few : {X : Type 0} (n : ℕ) (xs : List X) → length xs ≤ n → last_of n xs ≡ xs
+last_of_few n xs l = ap (λ (k : ℕ). drop k xs) (let q : length xs - n ≡ 0 = omega arith in q)
 
-fitting_few : (n : ℕ) (ms : List Message) → sum_by size ms ≤ n → fitting n ms ≡ ms
+pub fitting_few : (n : ℕ) (ms : List Message) → sum_by size ms ≤ n → fitting n ms ≡ ms
 fitting_few n [] l = refl
 fitting_few n (m ∷ ms) l = ap (λ (b : Bool). cond b (m ∷ ms) (fitting n ms)) (le-leb (sum_by size (m ∷ ms)) n l)
 
-fitting_at_few : (o : Option ℕ) (ms : List Message) → over_limit (sum_by size ms) o ≡ false → fitting_at o ms ≡ ms
+pub fitting_at_few : (o : Option ℕ) (ms : List Message) → over_limit (sum_by size ms) o ≡ false → fitting_at o ms ≡ ms
 fitting_at_few None ms e = refl
 fitting_at_few (Some n) ms e = fitting_few n ms (ltb-false n (sum_by size ms) e)
 

@@ -56,7 +56,7 @@ use Rattle.model_laws.proofs.AllConsumers.{all_fact, all_delivery}
 pub part-count : {X : Type 0} (t : X → Bool) {ys xs : List X} → IsPart ys xs → count_by t ys ≤ count_by t xs
 part-count t p = part-sum (λ x. cond (t x) 1 0) p
 
-count_cons : {X : Type 0} (t : X → Bool) (x : X) (xs : List X) → count_by t (x ∷ xs) ≡ cond (t x) 1 0 + count_by t xs
+pub count_cons : {X : Type 0} (t : X → Bool) (x : X) (xs : List X) → count_by t (x ∷ xs) ≡ cond (t x) 1 0 + count_by t xs
 count_cons t x xs = sum_by-cons (λ x. cond (t x) 1 0) x xs
 
 newest_count : (n : ℕ) (subject : Bytes) (ms : List Message) → count_by (λ m. same m.subject subject) (newest n ms) ≤ n
@@ -95,7 +95,7 @@ pub record AreWithin (s : Stream) (ms : List Message) : Type 0 where
   pub messages : length ms ≤ max_messages s
   pub bytes : IfSome s.config.max_bytes (λ limit. sum_by size ms ≤ limit)
 
-subjects_part : (o : Option ℕ) {ys xs : List Message} → IsPart ys xs → IfSome o (λ limit. (subject : Bytes) → count_by (λ m. same m.subject subject) xs ≤ limit) → IfSome o (λ limit. (subject : Bytes) → count_by (λ m. same m.subject subject) ys ≤ limit)
+pub subjects_part : (o : Option ℕ) {ys xs : List Message} → IsPart ys xs → IfSome o (λ limit. (subject : Bytes) → count_by (λ m. same m.subject subject) xs ≤ limit) → IfSome o (λ limit. (subject : Bytes) → count_by (λ m. same m.subject subject) ys ≤ limit)
 subjects_part None p h = tt
 subjects_part (Some n) {ys = ys} {xs = xs} p h = λ subject. let a : count_by (λ m. same m.subject subject) xs ≤ n = h subject in let b : count_by (λ m. same m.subject subject) ys ≤ count_by (λ m. same m.subject subject) xs = part-count (λ m. same m.subject subject) p in omega arith
 
@@ -130,7 +130,7 @@ trim_within s =
     }
 
 -- what an event leaves is within the limits of its configuration
-settled_within : (s : Stream) → AreWithin s (kept (trim s)).messages
+pub settled_within : (s : Stream) → AreWithin s (kept (trim s)).messages
 unfolding kept
 settled_within s = within_part s (filter_part _ (trim s).messages) (trim_within s)
 

@@ -10,6 +10,7 @@ use Rattle.js_model.specs.declared.consumer_config.ConsumerConfig.{ConsumerConfi
 use Rattle.js_model.specs.declared.consumer.Consumer.{Consumer}
 use Rattle.js_model.specs.declared.ack.AckKind.{AckKind}
 use Rattle.js_model.specs.declared.event.Event.{Event}
+use Rattle.js_model.specs.declared.event.What.TheVariants.{Tick}
 use Rattle.js_model.specs.declared.event.Publish.{Publish}
 use Rattle.js_model.specs.declared.reply.Verdict.TheVariants.{Take}
 use Rattle.js_model.specs.declared.reply.Reply.{Reply}
@@ -63,6 +64,11 @@ LawBounded = (count : ℕ) (old new : State) (entries : List PlaceEntry) → IsS
 -- and whether it is within them can be computed
 abbrev pub LawBoundedTest : Type 0
 LawBoundedTest = (s : State) → Decides (is_bounded s) (IsBounded s)
+
+-- a tick right after one at the same moment that sent nothing changes nothing and sends nothing
+abbrev pub LawTick : Type 0
+LawTick = (count later now : ℕ) (old mid new : State) (first second : Event) (reply again : Reply) (outs : List Out)
+    → IsStep count old first now reply [] mid → first.what ≡ Tick → IsStep later mid second now again outs new → second.what ≡ Tick → (new ≡ mid) × (outs ≡ [])
 
 -- what is acknowledged is not sent again
 abbrev pub LawAcked : Type 0

@@ -1,6 +1,6 @@
 //! What holds of each run of a place, by the definitions of the machine alone.
 
-ghost use Rattle.model_laws.specs.Laws.{LawSound, LawStoredTest, LawMatchedTest, LawBounded, LawBoundedTest, LawChangesTest, LawAcked, LawEnds, LawStays, LawEntries, LawDuplicate, LawKept, LawTaken, LawOrder, LawStart, LawMade, LawRedelivery, LawLimits, LawReady};
+ghost use Rattle.model_laws.specs.Laws.{LawSound, LawStoredTest, LawMatchedTest, LawBounded, LawBoundedTest, LawChangesTest, LawTick, LawAcked, LawEnds, LawStays, LawEntries, LawDuplicate, LawKept, LawTaken, LawOrder, LawStart, LawMade, LawRedelivery, LawLimits, LawReady};
 
 /// Soundness is kept: each state that a run reaches from a sound one is sound. Its two parts, of what is stored and of what
 /// filters match, are decided by the tests that compute them.
@@ -21,6 +21,12 @@ pub fn law_bounded()
 /// Whether a step changed more than the moment of what outlives a crash is decided by the test that computes it.
 pub fn law_changes()
     ensures law { LawChangesTest }
+{}
+
+/// A tick right after another one at the same moment changes nothing and sends nothing, if that one sent nothing. (At the
+/// last moment that there is, heartbeats come with each event.)
+pub fn law_tick()
+    ensures law { LawTick }
 {}
 
 /// A sequence whose entry an acknowledgement ended is not sent again to its consumer, until it or the stream is dropped. An

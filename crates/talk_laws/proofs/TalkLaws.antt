@@ -1,5 +1,5 @@
 -- The laws of the machine hold in each talk of a desk.
-use Rattle.std.proofs.Common.{ℕ, zero, suc, List, length, subst, arith}
+use Rattle.std.proofs.Common.{ℕ, zero, suc, List, [], length, subst, arith}
 use Rattle.std.proofs.lemmas.Option.{same_Some}
 use Rattle.js_model.specs.declared.stream.State.{State}
 use Rattle.js_model.specs.declared.entry.PlaceEntry.{PlaceEntry}
@@ -8,11 +8,11 @@ use Rattle.js_model.specs.PlaceStates.{PlaceIn, vacant_place}
 use Rattle.js_model.specs.Runs.{RunFrom, IsStep, messages_of, total_of}
 use Rattle.model_laws.specs.Sound.{IsSound}
 use Rattle.model_laws.specs.Bounds.{IsBounded}
-use Rattle.model_laws.specs.Laws.{LawSound, LawBounded, LawAcked, LawEnds, LawStays, LawDuplicate, LawKept, LawOrder, LawStart, LawMade, LawRedelivery, LawLimits}
+use Rattle.model_laws.specs.Laws.{LawSound, LawBounded, LawTick, LawAcked, LawEnds, LawStays, LawDuplicate, LawKept, LawOrder, LawStart, LawMade, LawRedelivery, LawLimits}
 use Rattle.js_api.specs.Machines.{LawRuns}
 use Rattle.talk_laws.specs.Parts.{Part, count_before}
 use Rattle.talk_laws.specs.Talks.{IsSoundPlace}
-use Rattle.talk_laws.specs.TalkLaws.{LawOpening, LawTalkSound, LawTalkBounded, LawTalkAcked, LawTalkEnds, LawTalkStays, LawTalkDuplicate, LawTalkKept, LawTalkOrder, LawTalkStart, LawTalkMade, LawTalkRedelivery, LawTalkLimits}
+use Rattle.talk_laws.specs.TalkLaws.{LawOpening, LawTalkSound, LawTalkBounded, LawTalkTick, LawTalkAcked, LawTalkEnds, LawTalkStays, LawTalkDuplicate, LawTalkKept, LawTalkOrder, LawTalkStart, LawTalkMade, LawTalkRedelivery, LawTalkLimits}
 use Rattle.talk_laws.proofs.EachPart.{in_each_talk, sound_before, sound_after, step_of, step_before, step_after}
 
 -- ---- the opening
@@ -41,6 +41,11 @@ pub law_talk_bounded : LawRuns → LawSound → LawBounded → LawTalkBounded
 law_talk_bounded runs sound bounded = in_each_talk _ runs (λ p first within.
     let old = bounded (length (messages_of p.first)) p.first p.old p.earlier first within p.before in
     (old, bounded (count_before p) p.old p.new p.entries (sound_before sound p first) old p.during))
+
+pub law_talk_tick : LawRuns → LawSound → LawTick → LawTalkTick
+law_talk_tick runs sound tick = in_each_talk _ runs (λ p first one other now reply again outs is is_tick then then_tick.
+    let a = step_before sound p first one now reply [] is in
+    tick a.count (count_before p) now a.old p.old p.new one other reply again outs a.step is_tick (step_of p other now again outs then) then_tick)
 
 pub law_talk_acked : LawRuns → LawSound → LawAcked → LawTalkAcked
 law_talk_acked runs sound acked = in_each_talk _ runs (λ p first name n e now reply outs is ended.

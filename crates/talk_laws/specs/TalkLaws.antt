@@ -8,6 +8,7 @@ use Rattle.js_model.specs.declared.stream.State.TheVariants.{Live}
 use Rattle.js_model.specs.declared.consumer_config.ConsumerConfig.{ConsumerConfig}
 use Rattle.js_model.specs.declared.consumer.Consumer.{Consumer}
 use Rattle.js_model.specs.declared.event.Event.{Event}
+use Rattle.js_model.specs.declared.event.What.TheVariants.{Tick}
 use Rattle.js_model.specs.declared.reply.Reply.{Reply}
 use Rattle.js_model.specs.declared.reply.Reply.TheVariants.{Published}
 use Rattle.js_model.specs.declared.entry.PlaceEntry.{PlaceEntry}
@@ -42,6 +43,11 @@ LawTalkSound = InEachTalk (λ p. IsSound p.old × IsSound p.new)
 -- and is within the bounds of a volume, if the first one was
 abbrev pub LawTalkBounded : Type 0
 LawTalkBounded = InEachTalk (λ p. IsBounded p.first → IsBounded p.old × IsBounded p.new)
+
+-- a tick right after one at the same moment that sent nothing changes nothing and sends nothing
+abbrev pub LawTalkTick : Type 0
+LawTalkTick = InEachTalk (λ p. (first second : Event) (now : ℕ) (reply again : Reply) (outs : List Out)
+    → IsStepBefore p first now reply [] → first.what ≡ Tick → IsStepOf p second now again outs → second.what ≡ Tick → (p.new ≡ p.old) × (outs ≡ []))
 
 -- what is acknowledged is not sent again
 abbrev pub LawTalkAcked : Type 0

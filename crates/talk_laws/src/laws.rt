@@ -4,7 +4,7 @@
 //! first, as every place is when the desk opens. However the steps and deliveries that they made there are cut in three, there are states
 //! between which the middle part stands; and the law holds of each such part.
 
-ghost use Rattle.talk_laws.specs.TalkLaws.{LawOpening, LawTalkSound, LawTalkBounded, LawTalkAcked, LawTalkEnds, LawTalkStays, LawTalkDuplicate, LawTalkKept, LawTalkOrder, LawTalkStart, LawTalkMade, LawTalkRedelivery, LawTalkLimits};
+ghost use Rattle.talk_laws.specs.TalkLaws.{LawOpening, LawTalkSound, LawTalkBounded, LawTalkTick, LawTalkAcked, LawTalkEnds, LawTalkStays, LawTalkDuplicate, LawTalkKept, LawTalkOrder, LawTalkStart, LawTalkMade, LawTalkRedelivery, LawTalkLimits};
 
 use js_api::laws::law_runs;
 
@@ -30,6 +30,15 @@ pub fn law_talk_bounded()
     law_runs();
     model_laws::law_sound();
     model_laws::law_bounded();
+}
+
+/// A tick right after another one at the same moment changes nothing and sends nothing, if that one sent nothing.
+pub fn law_talk_tick()
+    ensures law { LawTalkTick }
+{
+    law_runs();
+    model_laws::law_sound();
+    model_laws::law_tick();
 }
 
 /// A sequence whose entry an acknowledgement ended is not sent again to its consumer, until it or the stream is dropped. An
