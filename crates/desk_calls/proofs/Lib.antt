@@ -3,7 +3,6 @@ mod Outs
 mod Shorts
 mod OneStream
 mod Asked
-mod Known
 mod Defaults
 mod Published
 mod Publishes

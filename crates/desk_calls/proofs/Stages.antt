@@ -20,16 +20,6 @@ module _ {D : Type 0} (made : D → List DeskEntry → D → Type 0) where
   pub if_not : (test : Bool) (P Q : List DeskEntry → Type 0) (a b : D) → test ≡ false → Makes made Q a b → Makes made (λ entries. MatchBool test (P entries) (Q entries)) a b
   if_not test P Q a b is h = as_such Q (λ entries. MatchBool test (P entries) (Q entries)) a b h (λ entries q. subst (λ (t : Bool). MatchBool t (P entries) (Q entries)) (sym is) q)
 
-  -- these entries
-  pub one_made : (P : List DeskEntry → Type 0) (entries : List DeskEntry) (a b : D) → made a entries b → P entries → Makes made P a b
-  one_made P entries a b led h = record { entries = entries; are = h; led = led }
-
-  -- a stage ended the call
-  pub stops : {X Y : Type 0} (first : Result X DeskFault → List DeskEntry → Type 0) (next : X → Result Y DeskFault → List DeskEntry → Type 0) (told : Result X DeskFault) (fault : DeskFault) (a b : D)
-      → told ≡ Err fault → Makes made (first told) a b → Makes made (Then first next (Err fault)) a b
-  stops first next told fault a b is h =
-      as_such (first told) (Then first next (Err fault)) a b h (λ entries p. inl (record { fault = fault; result_is = refl; ended = subst (λ (r : Result _ DeskFault). first r entries) is p }))
-
   -- a stage ended the call, whose fault was handed on
   pub stops_by : {X Y : Type 0} (first : Result X DeskFault → List DeskEntry → Type 0) (next : X → Result Y DeskFault → List DeskEntry → Type 0) (told : Result X DeskFault) (fault : DeskFault) (result : Result Y DeskFault) (a b : D)
       → told ≡ Err fault → IsErrAnd result (λ e. e ≡ fault) → Makes made (first told) a b → Makes made (Then first next result) a b

@@ -1,8 +1,8 @@
 -- The calls of a turn of the catalog, and that the ground stays one.
-use Rattle.std.proofs.Common.{◌≡◌, ◌+◌, ◌<◌, ◌^◌, ℕ, Bool, true, false, List, [], ◌∷◌, length, Option, Some, None, Result, Ok, Err, IfErr, IfOk, OnOk, OnErr, refl, sym, ap, subst, ◌∙◌, inl, inr, if◌then◌else◌, arith}
-use Rattle.std.specs.Prelude.{◌==◌, IsSome, slice_get}
+use Rattle.std.proofs.Common.{◌≡◌, ◌<◌, ℕ, Bool, true, false, List, length, Option, Some, None, Result, Ok, Err, IfErr, IfOk, OnOk, OnErr, refl, sym, ap, subst, ◌∙◌, inl, inr, if◌then◌else◌, arith}
+use Rattle.std.specs.Prelude.{IsSome, slice_get}
 use Rattle.std.specs.Option.{IsSomeAnd}
-use Rattle.std.proofs.lemmas.Bool.{eq-eqb, ne_eqb}
+use Rattle.std.proofs.lemmas.Bool.{ne_eqb}
 use Rattle.js_base.specs.Bytes.{Bytes}
 use Rattle.js_model.specs.declared.desk.PlaceAt.{PlaceAt}
 use Rattle.js_model.specs.declared.catalog_fault.CatalogFault.{CatalogFault}
@@ -10,14 +10,14 @@ use Rattle.js_model.specs.declared.catalog_fault.CatalogFault.TheVariants as fau
 use Rattle.js_model.specs.Refusals.{subjects_overlap}
 use Rattle.js_model.specs.Catalog as catalog
 use Rattle.js_model.specs.Catalog.{Catalog, Place, Used, IsCatalogCall, catalog_call, telling, edited, on_used, changing, keeping, freed, stopping, overlaps_other}
-use Rattle.js_model.specs.Cataloging.{HasPlace, IsUsed, MayChange, MayKeep, add_told, change_told}
+use Rattle.js_model.specs.Cataloging.{HasPlace, MayChange, add_told, change_told}
 use Rattle.place_engine.specs.InMemory.{Contents}
 use Rattle.desk_calls.specs.Grounds as phases
 use Rattle.desk_calls.specs.Grounds.{IsBetween, IsKnown, IsTold, Knows, MayStop}
 use Rattle.js_desk.specs.declared.turn.Turn.{Turn}
 use Rattle.js_desk.specs.declared.turn.Turn.TheVariants as turns
 use Rattle.js_desk.specs.Grounds.{IsGrounded, after_change, is_between, phase_of, told_incarnation}
-use Rattle.js_desk.proofs.Added.{IsTaken, taken, taken_within, taken_length, taken_known, refused_utf8, overlap_utf8}
+use Rattle.js_desk.proofs.Added.{taken, taken_within, taken_known, refused_utf8, overlap_utf8}
 use Rattle.js_desk.proofs.Edits.{edited_there}
 use Rattle.js_desk.proofs.Found.{length-with_place}
 use Rattle.js_desk.proofs.Looked.{within_is}
@@ -106,10 +106,6 @@ module _ {V : Type 0} (c new : Catalog) (places : List (Contents V)) (last : Opt
   change_text place subjects (Ok done) k = tt
   change_text place subjects (Err fault) k = changed_told place subjects fault k
 
-  pub change_phase : (place : ℕ) (subjects : List Bytes) (result : Result (Unit {0}) CatalogFault) → phase_of turn ≡ phases.Within → phase_of (after_change turn result place) ≡ phases.changed_to place result
-  change_phase place subjects (Ok done) within = refl
-  change_phase place subjects (Err fault) within = within
-
   -- ---- one list is kept, and a place is freed or stopped
 
   pub kept_grounded : (place : ℕ) (b : Bool) → phase_of turn ≡ phases.Between place → catalog_call c (catalog.Keep place b) ≡ telling catalog.Done new → IsGrounded new places last turns.Within
@@ -173,6 +169,10 @@ module _ {V : Type 0} (c new : Catalog) (places : List (Contents V)) (last : Opt
       told turns.Within m n p = refl
       told (turns.Between other) m n p = refl
       told (turns.Owing other) m n p = absurd m
+
+pub change_phase : (turn : Turn) (place : ℕ) (result : Result (Unit {0}) CatalogFault) → phase_of turn ≡ phases.Within → phase_of (after_change turn result place) ≡ phases.changed_to place result
+change_phase turn place (Ok done) within = refl
+change_phase turn place (Err fault) within = within
 
 -- ---- the stream between its two lists
 

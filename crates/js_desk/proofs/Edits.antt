@@ -1,5 +1,5 @@
 -- A catalog of which one place was edited: what holds of each place.
-use Rattle.std.proofs.Common.{◌≡◌, ◌≢◌, ◌+◌, ℕ, zero, suc, Bool, true, false, List, [], ◌∷◌, length, Option, Some, None, refl, sym, ap, subst, ◌∙◌, if◌then◌else◌, arith}
+use Rattle.std.proofs.Common.{◌≡◌, ◌≢◌, ◌+◌, ℕ, zero, suc, Bool, true, false, [], ◌∷◌, Option, Some, None, refl, sym, ap, subst, ◌∙◌, if◌then◌else◌, arith}
 use Rattle.std.specs.Prelude.{◌==◌, slice_get}
 use Rattle.std.proofs.lemmas.Bool.{eq-eqb, ne_eqb, eqb-true}
 use Rattle.js_model.specs.Catalog.{Catalog, Place, with_place, edited}
@@ -53,4 +53,4 @@ module _ (edit : Place → Place) where
       by true e = at (slice_get c n) refl (eqb-true place n e)
       by false e =
           let miss : place ≡ n → ⊥ = λ hit. (let yes : (place == n) ≡ true = eq-eqb place n hit in absurd (cc (yes, e))) in
-          other n p miss (each n p (sym (edited_other place 0 n c miss) ∙ there))
+          other n p miss (each n p (sym (edited_other place 0 n c (λ e. miss (omega (arith, e)))) ∙ there))

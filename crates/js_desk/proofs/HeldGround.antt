@@ -1,7 +1,7 @@
 -- What a hold makes of the ground of one caller.
-use Rattle.std.proofs.Common.{◌≡◌, ◌<◌, ◌≤◌, ◌+◌, ℕ, Bool, get_or, true, false, ◌&&◌, List, [], ◌∷◌, length, map, Option, Some, None, refl, sym, ap, subst, ◌∙◌, if◌then◌else◌, IfSome, arith}
+use Rattle.std.proofs.Common.{◌≡◌, ◌<◌, ◌+◌, ℕ, Bool, get_or, true, false, ◌&&◌, List, length, map, Option, Some, None, refl, sym, ap, subst, ◌∙◌, if◌then◌else◌, IfSome, arith}
 use Rattle.std.specs.Prelude.{◌==◌, slice_get, slice_set}
-use Rattle.std.proofs.lemmas.Bool.{eq-eqb, ne_eqb, eqb-true}
+use Rattle.std.proofs.lemmas.Bool.{eq-eqb, eqb-true}
 use Rattle.std.specs.Option.{IsSomeAnd}
 use Rattle.std.proofs.lemmas.Option.{slice_get_read, slice_get_within}
 use Rattle.std.proofs.lemmas.List.{length-map}
@@ -11,7 +11,7 @@ use Rattle.js_model.specs.declared.desk.PlaceAt.{PlaceAt}
 use Rattle.js_model.specs.Catalog.{Catalog, Place}
 use Rattle.js_model.specs.Cataloging.{HasPlace}
 use Rattle.js_model.specs.Events.{kept_incarnation}
-use Rattle.js_model.specs.PlaceStates.{PlaceIn, in_memory}
+use Rattle.js_model.specs.PlaceStates.{PlaceIn}
 use Rattle.js_model.specs.Router.{Router, IsRoute}
 use Rattle.place_engine.specs.InMemory.{Contents}
 use Rattle.place_engine.specs.Places.{IsBuilt}
@@ -30,7 +30,7 @@ use Rattle.desk_hold.specs.OnePlace.{HoldsOn, on}
 use Rattle.js_desk.specs.declared.turn.Turn.{Turn}
 use Rattle.js_desk.specs.declared.turn.Turn.TheVariants as turns
 use Rattle.js_desk.specs.Dropping.{is_drop}
-use Rattle.js_desk.specs.Grounds.{AreAgreed, AreSingle, IsGrounded, SoloMade, after_hold, is_held, is_owing, phase_of, place_in, standing, told_incarnation, vol_of, volumes}
+use Rattle.js_desk.specs.Grounds.{AreAgreed, AreSingle, IsGrounded, SoloMade, after_hold, is_held, phase_of, place_in, standing, told_incarnation, vol_of, volumes}
 use Rattle.desk_hold.proofs.Alone.{held_alone, last_of, never, with_place}
 use Rattle.js_desk.proofs.HoldFacts.{Facts, hold_facts}
 use Rattle.js_desk.proofs.Looked.{within_is}
@@ -205,9 +205,9 @@ module _ {V : Type 0} (r router : Router) (c : Catalog) (places : List (Contents
       let s : Scene = (standing r c places ticked last turn).scene in
       let m = held_alone at what now outcome s (place_in old) (place_in new) router (map_get place_in places at.place old there) h in
       let ends : with_place s at.place (on (place_in new) router) (last_of at outcome.became last) ≡ (standing router c (slice_set places at.place new) ticked later after).scene =
-          ap (λ (l : Option PlaceAt). with_place s at.place (on (place_in new) router) l) (last_so outcome.became ∙ sym later_is)
-          ∙ ap (λ (ps : List PlaceIn). record { world = record { router = router; catalog = c; places = ps }; cursor = record { ticked = ticked; last = later } })
-          (sym (map_set place_in places at.place new)) in
+      ap (λ (l : Option PlaceAt). with_place s at.place (on (place_in new) router) l) (last_so outcome.became ∙ sym later_is)
+      ∙ ap (λ (ps : List PlaceIn). record { world = record { router = router; catalog = c; places = ps }; cursor = record { ticked = ticked; last = later } })
+      (sym (map_set place_in places at.place new)) in
       record {
         entries = m.entries;
         are = m.are;

@@ -1,5 +1,5 @@
 -- Calls of the router, as the entries that they make.
-use Rattle.std.proofs.Common.{◌≡◌, ℕ, Bool, true, false, List, [], ◌∷◌, Option, Some, None, Result, Ok, Err, IfOk, refl, sym, ap, subst, ◌∙◌, inl, inr}
+use Rattle.std.proofs.Common.{◌≡◌, ℕ, Bool, true, false, List, [], ◌∷◌, Option, Some, None, Result, Ok, Err, IfOk, refl, sym, ap, subst, inl, inr}
 use Rattle.js_base.specs.Bytes.{Bytes}
 use Rattle.js_base.specs.declared.out.Out.{Out}
 use Rattle.js_model.specs.declared.desk.PlaceAt.{PlaceAt}
@@ -123,7 +123,7 @@ module _ {V : Type 0} (r new : routes.Router) (c : Catalog) (places : List (Cont
   collected_so n max (Err fault) is_open h =
       let call = routes.Collect n max in
       let only = wants r new call fault (collect_done r n max is_open) h in
-      wanted call fault only h (λ (f : DeskFault). Routes call (Err f)) (inl (routes.NoMemory, (refl, (refl, refl))))
+      wanted call fault only h (λ (f : DeskFault). Routes call (Err f)) (inl (routes.NoMemory, refl, refl, refl))
 
 -- if a collect left more, it left less than before
 pub collect_leaves : (answer : Result Collected RouteFault) (before after : ℕ) → LeavesFewer answer before after → LeavesLess (desk_answer answer) before after

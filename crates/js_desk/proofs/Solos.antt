@@ -1,8 +1,7 @@
 -- What the ground of the desk makes, the desk makes.
-use Rattle.std.proofs.Common.{◌≡◌, ◌≤◌, ℕ, Bool, List, length, sym, ap, subst, ◌∙◌}
+use Rattle.std.proofs.Common.{◌≡◌, ◌≤◌, ℕ, List, length, sym, ap, subst, ◌∙◌}
 use Rattle.js_api.specs.Entries.{DeskEntry}
-use Rattle.js_api.specs.Leading.{Leads, Makes}
-use Rattle.js_api.specs.Worlds.{SoloStep}
+use Rattle.js_api.specs.Leading.{Makes}
 use Rattle.desk_calls.specs.declared.caller.Caller.{Caller}
 use Rattle.js_model.specs.Router.{is_open}
 use Rattle.desk_calls.specs.Grounds.{Outside, Setting}
@@ -17,7 +16,7 @@ pub kept_consistent : {V : Type 0} (old new : Standing V) (before after : Caller
     → new.phase ≡ Outside → new.vols ≡ old.vols → after.session ≡ before.session → after.is_open ≡ before.is_open → IsConsistent new after vols capacity
 kept_consistent old new before after vols capacity k same outside own session state = record {
   outside = outside;
-  opened = λ open. ap (λ (s : Setting). s.opened after.session) same ∙ ap (λ (n : ℕ). is_open old.scene.world.router n) session ∙ k.opened (sym state ∙ open);
+  opened = λ yes. ap (λ (s : Setting). s.opened after.session) same ∙ ap (λ (n : ℕ). is_open old.scene.world.router n) session ∙ k.opened (sym state ∙ yes);
   empty = k.empty;
   room = subst (λ (vs : List _). length vs ≤ capacity) (sym own) k.room;
 }

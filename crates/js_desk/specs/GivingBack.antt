@@ -10,7 +10,7 @@ use Rattle.js_desk.specs.declared.faults.HubFault.TheVariants as faults
 -- in memory no place is damaged and none was opened before: memory ran out, and the volumes are given back in their order
 abbrev pub GivesBack : {V : Type 0} → List V → HubFault V → Type 0
 GivesBack vols (faults.NoMemory back) = back.items ≡ vols
-GivesBack vols (faults.Open place fault back) = ⊥
+GivesBack vols (faults.Open place reason back) = ⊥
 GivesBack vols (faults.Conflict first second back) = ⊥
 
 -- What is left of the world at the closing: a volume for each place, in their order. In memory a place has its stream beside its volume, and never calls that:

@@ -98,11 +98,7 @@ fn place_or(before: u32, found: Option<PlaceAt>) -> u32
 }
 
 /// Takes a place of the catalog for a stream of this name, of which it keeps a copy. An `Err` takes none.
-fn add_named(
-    catalog: &mut Catalog,
-    name: &Name,
-    subjects: &[Blob],
-) -> Result<PlaceAt, CatalogFault>
+fn add_named(catalog: &mut Catalog, name: &Name, subjects: &[Blob]) -> Result<PlaceAt, CatalogFault>
     ensures added { IsCatalogCall catalog.old (Add name.now subjects.now) (add_told result) catalog.new }
     ensures err { OnErr result (catalog.new ≡ catalog.old) }
 {

@@ -46,8 +46,8 @@ status_of ends.NoMemory = 7
 -- ---- the session
 
 -- A link with this report was served over a desk in this scene: it was given the bytes of a talk over just what it answered and the moments that
--- the clock told, and the talk's entries led the desk on. The status tells how the talk ended. No give failed and no call of the link found no
--- memory, but one that ended the talk.
+-- the clock told, and the talk's entries led the desk on. The status tells how the talk ended. One give failed at most, one call of the link
+-- found no memory at most, and then the talk ended so.
 pub record IsServed (limits : Limits) (scene after : Scene) (status : ℕ) (report : Report) (clock_old clock_new : Option (List ℕ)) : Type 0 where
   pub journal : Journal
   pub bytes : Bytes

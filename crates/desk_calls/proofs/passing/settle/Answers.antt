@@ -1,5 +1,5 @@
 use Rattle.std.proofs.Common.{Ok, refl}
-use Rattle.js_api.specs.Answering.{Done, Settled, done, settled}
+use Rattle.js_api.specs.Answering.{Settled}
 use Rattle.js_api.specs.Calls.{Passes, Resumes, Settles}
 use Rattle.desk_calls.proofs.Stages.{goes_on}
 use Rattle.desk_calls.proofs.Publishes.{answered}

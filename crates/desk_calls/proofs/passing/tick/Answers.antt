@@ -1,7 +1,6 @@
 use Rattle.std.proofs.Common.{Ok, refl}
-use Rattle.js_api.specs.Leading.{Makes}
-use Rattle.js_api.specs.Answering.{Done, Settled, done, settled}
-use Rattle.js_api.specs.Calls.{Answered, Feeds, Passes, Ticks, Turns}
+use Rattle.js_api.specs.Answering.{Done}
+use Rattle.js_api.specs.Calls.{Feeds, Passes, Ticks, Turns}
 use Rattle.js_api.specs.Stages.{Then, Gives}
 use Rattle.desk_calls.proofs.Stages.{goes_on, nothing, stops_by}
 use Rattle.desk_calls.proofs.Publishes.{answered}

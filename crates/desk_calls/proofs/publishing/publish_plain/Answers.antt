@@ -1,6 +1,3 @@
-use Rattle.std.proofs.Common.{refl}
-use Rattle.js_api.specs.Leading.{Makes}
-use Rattle.js_api.specs.Publishing.{PublishesPlain}
 use Rattle.desk_calls.specs.Callers.{client_of}
 use Rattle.desk_calls.proofs.Publishes.{looked, offered, stored, unlooked, unoffered, unstored}
 use Rattle.desk_calls.proofs.publishing.publish_plain.Goals as goal

@@ -1,4 +1,4 @@
-use Rattle.std.proofs.Common.{Err, None, Ok, Some, sym}
+use Rattle.std.proofs.Common.{Err, None, Ok, Some}
 use Rattle.desk_calls.specs.Callers.{client_of}
 use Rattle.desk_calls.proofs.Publishes.{read, unread}
 use Rattle.desk_calls.proofs.publishing.publish_to_api.Goals as goal

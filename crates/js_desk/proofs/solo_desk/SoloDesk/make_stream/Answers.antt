@@ -1,4 +1,4 @@
-use Rattle.std.proofs.Common.{refl, ◌∙◌}
+use Rattle.std.proofs.Common.{refl}
 use Rattle.js_desk.proofs.Solos.{kept_consistent}
 use Rattle.js_desk.proofs.solo_desk.SoloDesk.make_stream.Goals as goal
 

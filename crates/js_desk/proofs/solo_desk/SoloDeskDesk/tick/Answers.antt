@@ -1,4 +1,4 @@
-use Rattle.std.proofs.Common.{refl, ◌∙◌}
+use Rattle.std.proofs.Common.{refl}
 use Rattle.js_desk.proofs.Solos.{desk_made, kept_consistent}
 use Rattle.js_desk.proofs.solo_desk.SoloDeskDesk.tick.Goals as goal
 

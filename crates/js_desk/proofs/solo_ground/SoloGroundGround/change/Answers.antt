@@ -5,8 +5,8 @@ use Rattle.js_desk.proofs.Cataloged.{change_between, change_grounded, change_pha
 use Rattle.js_desk.proofs.Looked.{looked}
 use Rattle.js_desk.proofs.solo_ground.SoloGroundGround.change.Goals as goal
 
-pub change-requires : goal.change-requires
-change-requires g c = record { single = known_single _ c.args.at (rw (← c.self.view_is) at c.requires.known) }
+pub change-changed-requires : goal.change-changed-requires
+change-changed-requires g c = record { single = known_single _ c.args.at (rw (← c.self.view_is) at c.requires.known) }
 
 pub invariant_of-self : goal.invariant_of-self
 invariant_of-self g c = rw c.after_change-self-inside.ensures.value (change_grounded _ _ _ _ _ c.self.invariant c.args.at.place _ c.change-changed.result (rw (← c.self.view_is) at c.requires.turn) c.change-changed.ensures.changed c.change-changed.ensures.err)
@@ -21,4 +21,4 @@ pub returns-clause-text : goal.returns-clause-text
 returns-clause-text g c = change_text _ _ _ _ _ c.self.invariant c.args.at.place _ c.change-changed.result c.change-changed.ensures.changed
 
 pub returns-clause-phase : goal.returns-clause-phase
-returns-clause-phase g c = rw c.after_change-self-inside.ensures.value (change_phase _ _ _ _ _ c.self.invariant c.args.at.place _ c.change-changed.result (rw (← c.self.view_is) at c.requires.turn))
+returns-clause-phase g c = rw c.after_change-self-inside.ensures.value (change_phase c.self.inside.turn c.args.at.place c.change-changed.result (rw (← c.self.view_is) at c.requires.turn))

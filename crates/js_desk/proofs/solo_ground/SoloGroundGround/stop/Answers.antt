@@ -1,4 +1,4 @@
-use Rattle.std.proofs.Common.{inl, refl, true}
+use Rattle.std.proofs.Common.{inl, true}
 use Rattle.js_model.specs.Catalog as catalog
 use Rattle.js_desk.specs.declared.turn.Turn.TheVariants as turns
 use Rattle.js_desk.proofs.Cataloged.{stopped_grounded}
