@@ -34,7 +34,7 @@ fn limits(alloc: Global) -> Result<Limits, NoMemory>
 
 /// A desk with so many places as the program's.
 fn open(alloc: Global) -> Result<SoloDesk<()>, NoMemory>
-    ensures closed { IfOk result (λ desk. desk.is_open ≡ false) }
+    ensures closed { IfOk result (λ desk. desk.client.is_open ≡ false) }
 {
     let vols = vec![in alloc; (); 32]?;
     match SoloDesk::open(alloc, vols) {
@@ -45,7 +45,7 @@ fn open(alloc: Global) -> Result<SoloDesk<()>, NoMemory>
 
 /// A desk with a stream that takes the subjects `orders.*`.
 pub(crate) fn desk(alloc: Global, now: Moment) -> Result<SoloDesk<()>, NoMemory>
-    ensures closed { IfOk result (λ desk. desk.is_open ≡ false) }
+    ensures closed { IfOk result (λ desk. desk.client.is_open ≡ false) }
 {
     let name = match Name::read(alloc, b"ORDERS") {
         Ok(name) => name,

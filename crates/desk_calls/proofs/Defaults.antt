@@ -1,5 +1,5 @@
 -- The stream that the command line names may be asked for.
-use Rattle.std.proofs.Common.{◌≡◌, ℕ, Bool, true, false, List, [], ◌∷◌, length, Option, None, Some, Result, Ok, Err, refl, sym, ap, subst, ◌∙◌, if◌then◌else◌, IsTrue, arith}
+use Rattle.std.proofs.Common.{◌≡◌, ℕ, Bool, true, false, [], ◌∷◌, length, Option, None, Some, Result, Ok, Err, refl, sym, ap, subst, ◌∙◌, if◌then◌else◌, IsTrue, arith}
 use Rattle.std.specs.Prelude.{is_none, nat_lt, nat_le}
 use Rattle.std.specs.Str.{is_utf8, chars}
 use Rattle.std.proofs.lemmas.Bool.{and_from}

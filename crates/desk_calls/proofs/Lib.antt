@@ -3,9 +3,9 @@ mod Outs
 mod Shorts
 mod OneStream
 mod Asked
-mod Known
 mod Defaults
 mod Published
 mod Publishes
 mod Walks
+mod Refused
 mod Texts

@@ -1,5 +1,5 @@
 -- Calls on one stream: the look-up by its name, the hold, what became of it makes of the catalog, and the end of the call.
-use Rattle.std.proofs.Common.{◌≡◌, ℕ, Bool, true, List, [], ◌∷◌, ◌++◌, append-nil, append_assoc, Option, Some, None, Result, Ok, Err, refl, sym, subst, ap, ◌∙◌, inl, MatchOption}
+use Rattle.std.proofs.Common.{◌≡◌, ℕ, Bool, true, List, [], ◌∷◌, ◌++◌, append-nil, append_assoc, Option, None, Result, Ok, refl, sym, ap, ◌∙◌, inl, MatchOption}
 use Rattle.js_base.specs.Bytes.{Bytes}
 use Rattle.js_base.specs.declared.out.ApiError.{ApiError}
 use Rattle.js_model.specs.declared.stream_config.StreamConfig.{StreamConfig}

@@ -1,5 +1,5 @@
 -- A publish: the subscriptions, the stream, and what the client is told; or a call of the API.
-use Rattle.std.proofs.Common.{◌≡◌, ℕ, Bool, List, [], ◌∷◌, ◌++◌, Option, None, Some, Result, Ok, Err, refl, sym, subst, inl, inr, IsErrAnd}
+use Rattle.std.proofs.Common.{◌≡◌, ℕ, Bool, List, [], ◌++◌, Option, Result, Ok, Err, refl, sym, inl, inr, IsErrAnd}
 use Rattle.js_base.specs.declared.out.Out.{Out}
 use Rattle.js_base.specs.declared.out.ApiError.{ApiError}
 use Rattle.js_model.specs.declared.desk.PlaceAt.{PlaceAt}
@@ -59,14 +59,6 @@ module _ {D : Type 0} (made : D → List DeskEntry → D → Type 0) (more : (a 
       → Makes made (Stores message now found told) a b → Makes made (AfterFind count found result) a b
   unstored count found told fault result a b is handed h = stops_by made (Stores message now found) (λ other. Tells client message (taken_by count other)) told fault result a b is handed h
 
-  pub reaches : (at : PlaceAt) (outcome : Outcome) (result : Result Bool DeskFault) (a b c : D) → Makes made (Holds at (published message) now outcome) a b
-      → Makes made (Ending outcome.fault (IsReached message outcome.became) result) b c → Makes made (Reaches message now at result) a c
-  reaches at outcome result a b c h k = record {
-    entries = h.entries ++ k.entries;
-    are = record { outcome = outcome; held = h.entries; rest = k.entries; entries_are = refl; holds = h.are; ends = k.are };
-    led = more a b c h.entries k.entries h.led k.led;
-  }
-
   -- ---- to the API
 
   -- the call was read
@@ -74,6 +66,16 @@ module _ {D : Type 0} (made : D → List DeskEntry → D → Type 0) (more : (a 
       → Makes made (PublishesToApi client message now result) a b
   read given result a b is h = as_such made (IsAsked client message now given result) (PublishesToApi client message now result) a b h
       (λ entries asked. inr (record { given = given; before = []; more = entries; entries_are = refl; first_is = (sym is, refl); next_is = asked }))
+
+-- a hold, and what became of it
+pub reaches : {D : Type 0} (made : D → List DeskEntry → D → Type 0) (more : (a b c : D) (first more : List DeskEntry) → made a first b → made b more c → made a (first ++ more) c) (message : Out) (now : ℕ) (at : PlaceAt)
+    (outcome : Outcome) (result : Result Bool DeskFault) (a b c : D) → Makes made (Holds at (published message) now outcome) a b
+    → Makes made (Ending outcome.fault (IsReached message outcome.became) result) b c → Makes made (Reaches message now at result) a c
+reaches made more message now at outcome result a b c h k = record {
+  entries = h.entries ++ k.entries;
+  are = record { outcome = outcome; held = h.entries; rest = k.entries; entries_are = refl; holds = h.are; ends = k.are };
+  led = more a b c h.entries k.entries h.led k.led;
+}
 
 -- memory ran out as it was read
 pub unread : {D : Type 0} (made : D → List DeskEntry → D → Type 0) (client : Client) (message : Out) (now : ℕ) (a : D) → made a [] a → Makes made (PublishesToApi client message now (Err faults.NoMemory)) a a

@@ -1,16 +1,14 @@
 -- Memory runs out before a message of the server's own is made, or there is no subject for it.
-use Rattle.std.proofs.Common.{◌≡◌, ◌<◌, ℕ, Bool, true, false, not, List, [], ◌∷◌, length, Option, Some, None, Result, Ok, Err, refl, sym, subst, inl, inr, arith}
+use Rattle.std.proofs.Common.{◌≡◌, ◌<◌, Bool, true, false, not, List, [], ◌∷◌, length, Option, Some, None, Result, Ok, Err, refl, inl, inr, arith}
 use Rattle.std.specs.Option.{is_some}
 use Rattle.js_base.specs.Bytes.{Bytes}
 use Rattle.js_base.specs.declared.out.Out.{Out}
-use Rattle.js_base.specs.declared.out.ApiError.{ApiError}
-use Rattle.js_model.specs.declared.desk.Taken.{Taken}
 use Rattle.api_replies.specs.declared.reply.ApiReply.{ApiReply}
 use Rattle.js_api.specs.declared.fault.DeskFault.{DeskFault}
 use Rattle.js_api.specs.declared.fault.DeskFault.TheVariants as faults
 use Rattle.js_api.specs.Entries.{DeskEntry}
-use Rattle.js_api.specs.Stages.{Then, Gives, Sends}
-use Rattle.js_api.specs.OneStream.{Answers, answer, refusal}
+use Rattle.js_api.specs.Stages.{Then, Sends}
+use Rattle.js_api.specs.OneStream.{Answers, answer}
 
 -- no message is sent, since memory ran out before the first one
 pub unsent : (outs : List Out) → 0 < length outs → Sends outs (Err faults.NoMemory) []

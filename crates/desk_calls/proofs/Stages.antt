@@ -1,5 +1,5 @@
 -- What the parts of a call make, one after the other, is what the call makes.
-use Rattle.std.proofs.Common.{◌≡◌, List, [], ◌++◌, append-nil, Option, Some, None, Result, Ok, Err, refl, sym, subst, ap, inl, inr, IsErrAnd, MatchOption}
+use Rattle.std.proofs.Common.{◌≡◌, Bool, true, false, not, List, [], ◌++◌, append-nil, Option, Some, None, Result, Ok, Err, refl, sym, subst, ap, inl, inr, IsErrAnd, MatchBool, MatchOption}
 use Rattle.js_model.specs.declared.desk.PlaceAt.{PlaceAt}
 use Rattle.js_api.specs.declared.fault.DeskFault.{DeskFault}
 use Rattle.js_api.specs.Entries.{DeskEntry}
@@ -13,15 +13,12 @@ module _ {D : Type 0} (made : D → List DeskEntry → D → Type 0) where
   pub nothing : (P : List DeskEntry → Type 0) (a : D) → made a [] a → P [] → Makes made P a a
   nothing P a led h = record { entries = []; are = h; led = led }
 
-  -- these entries
-  pub one_made : (P : List DeskEntry → Type 0) (entries : List DeskEntry) (a b : D) → made a entries b → P entries → Makes made P a b
-  one_made P entries a b led h = record { entries = entries; are = h; led = led }
+  -- what is made by a test
+  pub if_so : (test : Bool) (P Q : List DeskEntry → Type 0) (a b : D) → test ≡ true → Makes made P a b → Makes made (λ entries. MatchBool test (P entries) (Q entries)) a b
+  if_so test P Q a b is h = as_such P (λ entries. MatchBool test (P entries) (Q entries)) a b h (λ entries p. subst (λ (t : Bool). MatchBool t (P entries) (Q entries)) (sym is) p)
 
-  -- a stage ended the call
-  pub stops : {X Y : Type 0} (first : Result X DeskFault → List DeskEntry → Type 0) (next : X → Result Y DeskFault → List DeskEntry → Type 0) (told : Result X DeskFault) (fault : DeskFault) (a b : D)
-      → told ≡ Err fault → Makes made (first told) a b → Makes made (Then first next (Err fault)) a b
-  stops first next told fault a b is h =
-      as_such (first told) (Then first next (Err fault)) a b h (λ entries p. inl (record { fault = fault; result_is = refl; ended = subst (λ (r : Result _ DeskFault). first r entries) is p }))
+  pub if_not : (test : Bool) (P Q : List DeskEntry → Type 0) (a b : D) → test ≡ false → Makes made Q a b → Makes made (λ entries. MatchBool test (P entries) (Q entries)) a b
+  if_not test P Q a b is h = as_such Q (λ entries. MatchBool test (P entries) (Q entries)) a b h (λ entries q. subst (λ (t : Bool). MatchBool t (P entries) (Q entries)) (sym is) q)
 
   -- a stage ended the call, whose fault was handed on
   pub stops_by : {X Y : Type 0} (first : Result X DeskFault → List DeskEntry → Type 0) (next : X → Result Y DeskFault → List DeskEntry → Type 0) (told : Result X DeskFault) (fault : DeskFault) (result : Result Y DeskFault) (a b : D)
@@ -72,3 +69,13 @@ if_absent made Absent Present found a b is h = record {
   are = subst (λ (o : Option PlaceAt). MatchOption o (Absent h.entries) (λ p. Present p h.entries)) (sym is) h.are;
   led = h.led;
 }
+
+-- ---- what a test of the opposite says
+
+pub opposite_true : (test : Bool) → not test ≡ true → test ≡ false
+opposite_true true is = absurd (cc)
+opposite_true false is = refl
+
+pub opposite_false : (test : Bool) → not test ≡ false → test ≡ true
+opposite_false true is = refl
+opposite_false false is = absurd (cc)

@@ -1,12 +1,11 @@
 -- The walk over all streams, place by place, and the answer by what they told.
-use Rattle.std.proofs.Common.{◌≡◌, ◌<◌, ℕ, Bool, true, false, List, [], ◌∷◌, ◌++◌, Option, None, Some, refl, sym, ap, subst, ◌∙◌, inl, inr, append_assoc, append-nil, if◌then◌else◌, nat_lt, arith}
+use Rattle.std.proofs.Common.{◌≡◌, ℕ, Bool, true, false, List, [], ◌∷◌, ◌++◌, Option, None, Some, refl, sym, ap, subst, ◌∙◌, inl, inr, append_assoc, append-nil, if◌then◌else◌, nat_lt, IsErrAnd, arith}
 use Rattle.std.proofs.lemmas.List.{length-append}
 use Rattle.std.proofs.lemmas.List.Elements.{All-append, All-cons, All-nil}
 use Rattle.std.specs.Prelude.{Result, Ok, Err}
 use Rattle.js_base.specs.Bytes.{Bytes}
 use Rattle.js_base.specs.declared.out.Out.{Out}
 use Rattle.js_base.specs.declared.out.ApiError.{ApiError}
-use Rattle.js_model.specs.declared.event.What.TheVariants as whats
 use Rattle.js_model.specs.declared.reply.StreamInfo.{StreamInfo}
 use Rattle.js_model.specs.declared.desk.PlaceAt.{PlaceAt}
 use Rattle.js_model.specs.Catalog as catalog
@@ -62,13 +61,14 @@ module _ {D : Type 0} (made : D → List DeskEntry → D → Type 0) (now : ℕ)
       nothing made (IsWalk now last (Err faults.NoMemory) infos infos_new) a led (record { visits = []; walks = inr (inr (refl, refl)); adds = tt })
 
   -- the turn of the next look-up cannot be entered
-  pub walk_unlooked : (told : Result (Option PlaceAt) DeskFault) (fault : DeskFault) (infos infos_new : List StreamInfo) (a b : D) → told ≡ Err fault
-      → Makes made (LooksUp (catalog.NextUsed (behind last)) told) a b → Makes made (IsWalk now last (Err fault) infos infos_new) a b
-  walk_unlooked told fault infos infos_new a b is h =
-      as_such made (LooksUp (catalog.NextUsed (behind last)) told) (IsWalk now last (Err fault) infos infos_new) a b h
+  pub walk_unlooked : (told : Result (Option PlaceAt) DeskFault) (fault : DeskFault) (result : Result (Option Reason) DeskFault) (infos infos_new : List StreamInfo) (a b : D) → told ≡ Err fault → IsErrAnd result (λ e. e ≡ fault)
+      → Makes made (LooksUp (catalog.NextUsed (behind last)) told) a b → Makes made (IsWalk now last result infos infos_new) a b
+  walk_unlooked told fault (Ok reason) infos infos_new a b is handed h = absurd handed
+  walk_unlooked told fault (Err e) infos infos_new a b is handed h =
+      as_such made (LooksUp (catalog.NextUsed (behind last)) told) (IsWalk now last (Err e) infos infos_new) a b h
       (λ entries l. record {
         visits = [];
-        walks = inr (inl (fault, subst (λ (r : Result (Option PlaceAt) DeskFault). LooksUp (catalog.NextUsed (behind last)) r entries) is l, refl));
+        walks = inr (inl (fault, subst (λ (r : Result (Option PlaceAt) DeskFault). LooksUp (catalog.NextUsed (behind last)) r entries) is l, ap Err handed));
         adds = tt;
       })
 
@@ -99,9 +99,16 @@ module _ {D : Type 0} (made : D → List DeskEntry → D → Type 0) (now : ℕ)
       entries = h.entries ++ (v.entries ++ w.entries);
       are = record {
         visits = visited v.are ∷ w.are.visits;
-        walks =
-            (h.entries, v.entries, w.entries, refl, looked, (next last found at next_is).is_further, v.are.holds,
-            goes v.are.outcome.fault (failure v.are.outcome.became) (told_by.0) (told_by.1));
+        walks = (
+          h.entries,
+          v.entries,
+          w.entries,
+          refl,
+          looked,
+          (next last found at next_is).is_further,
+          v.are.holds,
+          goes v.are.outcome.fault (failure v.are.outcome.became) (told_by.0) (told_by.1),
+        );
         adds = adds_more result w.are.adds;
       };
       led = more a b d h.entries (v.entries ++ w.entries) h.led (more b c d v.entries w.entries v.led w.led);
@@ -121,15 +128,22 @@ module _ {D : Type 0} (made : D → List DeskEntry → D → Type 0) (now : ℕ)
         adds_more (Err fault) k = tt
 
     -- the walk stops at this place
-    pub walk_stopped : (seen : Result (Option Reason) DeskFault) (infos mids : List StreamInfo) (c : D) → (seen ≡ Ok None → ⊥) → Makes made (IsVisit at now seen infos mids) b c
+    walk_stopped : (seen : Result (Option Reason) DeskFault) (infos mids : List StreamInfo) (c : D) → (seen ≡ Ok None → ⊥) → Makes made (IsVisit at now seen infos mids) b c
         → Makes made (IsWalk now last seen infos mids) a c
     walk_stopped seen infos mids c other v = record {
       entries = h.entries ++ v.entries;
       are = record {
         visits = visited v.are ∷ [];
-        walks =
-            (h.entries, v.entries, [], ap (λ (entries : List DeskEntry). h.entries ++ entries) (sym (append-nil v.entries)), looked, (next last found at next_is).is_further, v.are.holds,
-            stops seen v.are.outcome.fault (failure v.are.outcome.became) refl refl other v.are.told);
+        walks = (
+          h.entries,
+          v.entries,
+          [],
+          ap (λ (entries : List DeskEntry). h.entries ++ entries) (sym (append-nil v.entries)),
+          looked,
+          (next last found at next_is).is_further,
+          v.are.holds,
+          stops seen v.are.outcome.fault (failure v.are.outcome.became) refl refl other v.are.told,
+        );
         adds = adds_none seen other;
       };
       led = more a b c h.entries v.entries h.led v.led;
@@ -148,6 +162,19 @@ module _ {D : Type 0} (made : D → List DeskEntry → D → Type 0) (now : ℕ)
         adds_none (Ok None) o = absurd (o refl)
         adds_none (Ok (Some reason)) o = tt
         adds_none (Err fault) o = tt
+
+    -- the walk stops at this place, since its volume failed
+    pub walk_failed : (seen : Result (Option Reason) DeskFault) (reason : Reason) (infos mids : List StreamInfo) (c : D) → seen ≡ Ok (Some reason) → Makes made (IsVisit at now seen infos mids) b c
+        → Makes made (IsWalk now last (Ok (Some reason)) infos mids) a c
+    walk_failed seen reason infos mids c is v =
+        subst (λ (r : Result (Option Reason) DeskFault). Makes made (IsWalk now last r infos mids) a c) is (walk_stopped seen infos mids c (λ none. absurd (let no : Ok (Some reason) ≡ Ok None = sym is ∙ none in cc)) v)
+
+    -- the call ended in the visit
+    pub walk_cut : (seen : Result (Option Reason) DeskFault) (fault : DeskFault) (result : Result (Option Reason) DeskFault) (infos mids : List StreamInfo) (c : D) → seen ≡ Err fault → IsErrAnd result (λ e. e ≡ fault)
+        → Makes made (IsVisit at now seen infos mids) b c → Makes made (IsWalk now last result infos mids) a c
+    walk_cut seen fault (Ok reason) infos mids c is handed v = absurd handed
+    walk_cut seen fault (Err e) infos mids c is handed v =
+        subst (λ (r : Result (Option Reason) DeskFault). Makes made (IsWalk now last r infos mids) a c) (is ∙ sym (ap Err handed)) (walk_stopped seen infos mids c (λ none. absurd (let no : Err fault ≡ Ok None = sym is ∙ none in cc)) v)
 
 -- ---- the answer
 
@@ -175,9 +202,10 @@ module _ {D : Type 0} (made : D → List DeskEntry → D → Type 0) (more : (a 
       over result c h.entries h.led (subst (λ (r : Result (Option Reason) DeskFault). GoesOnWalked (answer_or answering name to w.are.visits) (failing r) result h.entries) (sym is) h.are)
 
   -- the call ended in the walk
-  pub over_cut : (fault : DeskFault) → told ≡ Err fault → made b [] b → Makes made (IsOverAll name to now answering (Err fault)) a b
-  over_cut fault is led =
-      over (Err fault) b [] led (subst (λ (r : Result (Option Reason) DeskFault). GoesOnWalked (answer_or answering name to w.are.visits) (failing r) (Err fault) []) (sym is) (refl, refl))
+  pub over_cut : (fault : DeskFault) (result : Result Bool DeskFault) → told ≡ Err fault → IsErrAnd result (λ e. e ≡ fault) → made b [] b → Makes made (IsOverAll name to now answering result) a b
+  over_cut fault (Ok taken) is handed led = absurd handed
+  over_cut fault (Err e) is handed led =
+      over (Err e) b [] led (subst (λ (r : Result (Option Reason) DeskFault). GoesOnWalked (answer_or answering name to w.are.visits) (failing r) (Err e) []) (sym is) (ap Err handed, refl))
 
 -- ---- the informations
 

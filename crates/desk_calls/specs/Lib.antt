@@ -6,4 +6,5 @@ pub mod Reasons
 pub mod Named
 pub mod Plain
 pub mod MakingAt
+pub mod Refusing
 pub mod Walking

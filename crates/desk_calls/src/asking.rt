@@ -8,7 +8,7 @@ ghost use Rattle.js_model.specs.Proper.{if_given};
 ghost use Rattle.js_model.specs.declared.event.What.TheVariants as whats;
 ghost use Rattle.js_api.specs.Holding.{Holds};
 ghost use Rattle.js_api.specs.Leading.{Makes};
-ghost use Rattle.js_api.specs.OneStream.{IsAbsent, IsDeleting, IsOnStream, IsShowing, free_if_dropped};
+ghost use Rattle.js_api.specs.OneStream.{IsAbsent, IsDeleting, IsOnStream, IsShowing, free_if_dropped, unchanged};
 ghost use Rattle.desk_calls.specs.Grounds.{IsWithin, Knows, Outside, Owing, Within};
 ghost use Rattle.desk_calls.specs.Named.{GoesOnNamed};
 ghost use Rattle.desk_answers.specs.Became.{IsExplained, is_dropped};
@@ -40,6 +40,30 @@ fn ask_info<G: Ground>(ground: &mut G, at: PlaceAt, to: &Option<Blob>, now: Mome
     }
 }
 
+/// Shows the stream that was looked up, if it is there.
+fn show_found<G: Ground>(
+    ground: &mut G,
+    found: Option<PlaceAt>,
+    to: &Option<Blob>,
+    now: Moment,
+) -> Result<bool, DeskFault>
+    requires within { IfSome found (IsWithin (G.setting ground.old)) }
+    requires to { IsTrue (if_given is_subject_text to.now) }
+    ensures made { Makes G.made
+        (GoesOnNamed (IsAbsent (name_of calls.StreamInfo) to.now)
+        (λ at. IsOnStream (name_of calls.StreamInfo) at (whats.StreamInfo to.now) now unchanged) found result) ground.old ground.new }
+    ensures setting { G.setting ground.new ≡ G.setting ground.old }
+    ensures phase { G.phase ground.new ≡ G.phase ground.old }
+{
+    match found {
+        Some(at) => {
+            let outcome = ask_info(ground, at, to, now);
+            end_call(ground, ApiCall::StreamInfo, to, &outcome)
+        }
+        None => refuse_for(ground, ApiCall::StreamInfo, to, Reason::NoStream),
+    }
+}
+
 /// Shows the stream of this name.
 pub fn show_stream<G: Ground>(
     ground: &mut G,
@@ -53,13 +77,8 @@ pub fn show_stream<G: Ground>(
     ensures setting { G.setting ground.new ≡ G.setting ground.old }
     ensures phase { G.phase ground.new ≡ Outside }
 {
-    match ground.by_name(stream)? {
-        Some(at) => {
-            let outcome = ask_info(ground, at, to, now);
-            end_call(ground, ApiCall::StreamInfo, to, &outcome)
-        }
-        None => refuse_for(ground, ApiCall::StreamInfo, to, Reason::NoStream),
-    }
+    let found = ground.by_name(stream)?;
+    show_found(ground, found, to, now)
 }
 
 // ---- STREAM.DELETE

@@ -20,11 +20,12 @@ use crate::answering::{end_call, unmade};
 use crate::freeing::keep_subjects;
 use crate::ground::Ground;
 use crate::reason::Reason;
-use crate::telling::{refuse, refuse_for};
+use crate::refusing::end_refused;
+use crate::telling::refuse_for;
 use desk_answers::copy_reply;
 use js_api::{ApiCall, DeskFault, Outcome};
 use js_base::{Blob, Moment, Name};
-use js_model::{CatalogFault, PlaceAt, StreamConfig, What};
+use js_model::{PlaceAt, StreamConfig, What};
 
 /// Asks a stream to take this configuration.
 fn ask_change<G: Ground>(
@@ -87,10 +88,7 @@ fn change_at<G: Ground>(
 {
     match ground.change(at, config.subjects.as_slice()) {
         Ok(()) => change_between(ground, at, config, to, now),
-        Err(CatalogFault::Refused(refusal)) => {
-            refuse(ground, ApiCall::StreamUpdate.name(), to, refusal)
-        }
-        Err(CatalogFault::NoMemory) => Err(DeskFault::NoMemory),
+        Err(fault) => end_refused(ground, ApiCall::StreamUpdate, to, fault),
     }
 }
 

@@ -1,6 +1,6 @@
 //! The call that creates a stream.
 
-ghost use Rattle.std.specs.Prelude.{◌≡◌, IfSome, IsTrue};
+ghost use Rattle.std.specs.Prelude.{◌≡◌, true, IfSome, IsTrue};
 ghost use Rattle.api_calls.specs.Names.{name_of};
 ghost use Rattle.api_calls.specs.declared.call.ApiCall.TheVariants as calls;
 ghost use Rattle.api_requests.specs.Read.{IsSetup};
@@ -20,11 +20,11 @@ ghost use Rattle.desk_calls.specs.Outcomes.{IsThere};
 use crate::answering::{end_call, unmade};
 use crate::freeing::free_unless_made;
 use crate::ground::Ground;
-use crate::telling::refuse;
+use crate::refusing::end_refused;
 use desk_answers::copy_reply;
 use js_api::{ApiCall, DeskFault, Outcome};
 use js_base::{Blob, Moment, Name};
-use js_model::{CatalogFault, PlaceAt, StreamConfig, What};
+use js_model::{PlaceAt, StreamConfig, What};
 
 /// Asks the stream of a place, or the vacant place, to be made so.
 fn ask_make<G: Ground>(
@@ -38,7 +38,7 @@ fn ask_make<G: Ground>(
     requires asked { MayAsk (whats.Make to.now config) }
     ensures made { Makes G.made (Holds at (whats.Make to.now config) now result) ground.old ground.new }
     ensures explained { IsExplained result.fault result.became }
-    ensures there { G.phase ground.old ≡ Within → Knows (G.kept ground.old) at → IsThere result.became }
+    ensures there { G.alone ≡ true → G.phase ground.old ≡ Within → Knows (G.kept ground.old) at → IsThere result.became }
     ensures kept { G.kept ground.new ≡ G.kept ground.old }
     ensures setting { G.setting ground.new ≡ G.setting ground.old }
     ensures phase { G.phase ground.new ≡ G.phase ground.old }
@@ -63,7 +63,7 @@ pub fn make_at<G: Ground>(
     requires known { Knows (G.kept ground.old) at }
     ensures made { Makes G.made (IsMadeAt at (whats.Make to.now config) now result) ground.old ground.new }
     ensures explained { IsExplained result.fault result.became }
-    ensures there { IsThere result.became }
+    ensures there { G.alone ≡ true → IsThere result.became }
     ensures setting { G.setting ground.new ≡ G.setting ground.old }
     ensures phase { G.phase ground.new ≡ Within }
 {
@@ -91,10 +91,7 @@ fn add_stream<G: Ground>(
             let outcome = make_at(ground, at, to, config, now);
             end_call(ground, ApiCall::StreamCreate, to, &outcome)
         }
-        Err(CatalogFault::Refused(refusal)) => {
-            refuse(ground, ApiCall::StreamCreate.name(), to, refusal)
-        }
-        Err(CatalogFault::NoMemory) => Err(DeskFault::NoMemory),
+        Err(fault) => end_refused(ground, ApiCall::StreamCreate, to, fault),
     }
 }
 

@@ -30,11 +30,8 @@ pub fn free_unless_made<G: Ground>(ground: &mut G, at: PlaceAt, became: &Became)
                 ground.remove(at.place, false);
             }
         }
-        Became::Broke { stream: _ } => ground.stop(at.place),
-        Became::Stopped { stream: _ } => ground.stop(at.place),
-        Became::Ticked => ground.remove(at.place, false),
-        Became::Nothing => ground.remove(at.place, false),
-        Became::Gone => ground.remove(at.place, false),
+        Became::Broke { stream: _ } | Became::Stopped { stream: _ } => ground.stop(at.place),
+        Became::Ticked | Became::Nothing | Became::Gone => ground.remove(at.place, false),
     }
 }
 
@@ -50,10 +47,8 @@ pub fn keep_subjects<G: Ground>(ground: &mut G, at: PlaceAt, became: &Became)
         Became::Made(reply) => ground.keep(at.place, is_info(reply)),
         Became::Unsaid { refused } => ground.keep(at.place, !*refused),
         Became::Broke { stream: _ } => ground.stop(at.place),
-        Became::Ticked => ground.keep(at.place, false),
-        Became::Nothing => ground.keep(at.place, false),
         Became::Stopped { stream: _ } => ground.keep(at.place, false),
-        Became::Gone => ground.keep(at.place, false),
+        Became::Ticked | Became::Nothing | Became::Gone => ground.keep(at.place, false),
     }
 }
 
@@ -78,9 +73,6 @@ pub fn free_if_dropped<G: Ground>(ground: &mut G, at: PlaceAt, became: &Became)
             }
         }
         Became::Broke { stream: _ } => ground.stop(at.place),
-        Became::Ticked => {}
-        Became::Nothing => {}
-        Became::Stopped { stream: _ } => {}
-        Became::Gone => {}
+        Became::Ticked | Became::Nothing | Became::Stopped { stream: _ } | Became::Gone => {}
     }
 }

@@ -16,6 +16,7 @@ mod making;
 mod passing;
 mod publishing;
 mod reason;
+mod refusing;
 mod session;
 mod telling;
 mod walking;

@@ -1,13 +1,13 @@
 //! The stream that the command line names.
 
-ghost use Rattle.std.specs.Prelude.{◌≡◌, ◌∷◌, [], IfOk, IfSome, IsTrue, None, Ok};
+ghost use Rattle.std.specs.Prelude.{◌≡◌, ◌∷◌, [], true, IfOk, IfSome, IsTrue, None, Ok};
 ghost use Rattle.js_base.specs.Names.{name_of};
 ghost use Rattle.js_model.specs.Configs.{is_stream_subject};
 ghost use Rattle.js_model.specs.Refusals as refusals;
 ghost use Rattle.js_model.specs.declared.event.What.TheVariants as whats;
 ghost use Rattle.stream_config.specs.Defaults.{default_config};
 ghost use Rattle.js_api.specs.Leading.{Makes};
-ghost use Rattle.js_api.specs.Making.{GoesOnTaken, IsMaking, IsPreparing, MakesStream};
+ghost use Rattle.js_api.specs.Making.{GoesOnTaken, IsMaking, IsPreparing, MakesStream, refusal_in};
 ghost use Rattle.js_api.specs.OneStream.{IsAdding};
 ghost use Rattle.js_api.specs.Stages.{Ending, Gives};
 ghost use Rattle.desk_answers.specs.Asking.{MayAsk};
@@ -15,6 +15,7 @@ ghost use Rattle.desk_calls.specs.Grounds.{Outside, Within};
 ghost use Rattle.desk_calls.specs.Named.{GoesOnNamed};
 ghost use Rattle.desk_answers.specs.Became.{IsExplained};
 ghost use Rattle.desk_calls.specs.Outcomes.{IsThere};
+ghost use Rattle.desk_calls.specs.Refusing.{refused_by, untaken};
 
 use crate::creating::make_at;
 use crate::ground::Ground;
@@ -83,7 +84,42 @@ fn prepare(alloc: Global, name: &Name, subject: &[u8]) -> Result<Prepared, NoMem
 
 // ---- the making
 
-/// Why the stream was not made, by what became of the hold.
+/// Why the stream was not made, if the reply says so.
+fn refusal_in(reply: Reply) -> Option<ApiError>
+    ensures value { result ≡ refusal_in reply }
+{
+    match reply {
+        Reply::Refused(refusal) => Some(refusal),
+        Reply::Info(_)
+        | Reply::Done
+        | Reply::Published(_)
+        | Reply::Duplicate(_)
+        | Reply::Purged(_)
+        | Reply::ConsumerInfo(_)
+        | Reply::Message(_)
+        | Reply::Names { .. }
+        | Reply::Infos { .. }
+        | Reply::Confirmed
+        | Reply::Silent
+        | Reply::Nobody => None,
+    }
+}
+
+/// Why the stream was not made, by what became of the hold: its refusal, or that the volume failed or had failed before.
+fn refused_by(became: Became, broke: ApiError, stopped: ApiError) -> Option<ApiError>
+    requires broke { broke ≡ refusals.store_fault }
+    requires stopped { stopped ≡ refusals.stream_stopped }
+    ensures value { result ≡ refused_by became }
+{
+    match became {
+        Became::Made(reply) => refusal_in(reply),
+        Became::Broke { stream: _ } => Some(broke),
+        Became::Stopped { stream: _ } => Some(stopped),
+        Became::Unsaid { refused: _ } | Became::Ticked | Became::Nothing | Became::Gone => None,
+    }
+}
+
+/// Why the stream was not made, by what the hold came to.
 fn making_told(
     outcome: Outcome,
     broke: ApiError,
@@ -95,18 +131,20 @@ fn making_told(
     requires stopped { stopped ≡ refusals.stream_stopped }
     ensures told { Ending outcome.fault (IsMaking outcome.became) result [] }
 {
-    if let Some(fault) = outcome.fault {
-        return Err(fault);
+    let refused = refused_by(outcome.became, broke, stopped);
+    match outcome.fault {
+        Some(fault) => Err(fault),
+        None => Ok(refused),
     }
-    match outcome.became {
-        Became::Made(Reply::Refused(refusal)) => Ok(Some(refusal)),
-        Became::Made(_) => Ok(None),
-        Became::Broke { stream: _ } => Ok(Some(broke)),
-        Became::Stopped { stream: _ } => Ok(Some(stopped)),
-        Became::Unsaid { refused: _ } => unreachable!(),
-        Became::Ticked => unreachable!(),
-        Became::Nothing => unreachable!(),
-        Became::Gone => unreachable!(),
+}
+
+/// Why no place was taken for the stream.
+fn untaken(fault: CatalogFault) -> Result<Option<ApiError>, DeskFault>
+    ensures value { result ≡ untaken fault }
+{
+    match fault {
+        CatalogFault::Refused(refusal) => Ok(Some(refusal)),
+        CatalogFault::NoMemory => Err(DeskFault::NoMemory),
     }
 }
 
@@ -117,6 +155,7 @@ fn add_prepared<G: Ground>(
     prepared: Prepared,
     now: Moment,
 ) -> Result<Option<ApiError>, DeskFault>
+    requires alone { G.alone ≡ true }
     requires turn { G.phase ground.old ≡ Within }
     requires asked { MayAsk (whats.Make None prepared.config) }
     requires broke { prepared.broke ≡ refusals.store_fault }
@@ -135,8 +174,7 @@ fn add_prepared<G: Ground>(
             let outcome = make_at(ground, at, &None, config, now);
             making_told(outcome, broke, stopped)
         }
-        Err(CatalogFault::Refused(refusal)) => Ok(Some(refusal)),
-        Err(CatalogFault::NoMemory) => Err(DeskFault::NoMemory),
+        Err(fault) => untaken(fault),
     }
 }
 
@@ -147,6 +185,7 @@ fn make_absent<G: Ground>(
     subject: &[u8],
     now: Moment,
 ) -> Result<Option<ApiError>, DeskFault>
+    requires alone { G.alone ≡ true }
     requires turn { G.phase ground.old ≡ Within }
     requires subject { IsTrue (is_stream_subject subject.now) }
     ensures made { Makes G.made (IsPreparing name.now (default_config name.now subject.now) now result) ground.old ground.new }
@@ -167,6 +206,7 @@ fn make_found<G: Ground>(
     subject: &[u8],
     now: Moment,
 ) -> Result<Option<ApiError>, DeskFault>
+    requires alone { G.alone ≡ true }
     requires turn { G.phase ground.old ≡ Within }
     requires subject { IsTrue (is_stream_subject subject.now) }
     ensures made { Makes G.made
@@ -188,6 +228,7 @@ pub fn make_stream<G: Ground>(
     subject: &[u8],
     now: Moment,
 ) -> Result<Option<ApiError>, DeskFault>
+    requires alone { G.alone ≡ true }
     requires outside { G.phase ground.old ≡ Outside }
     requires subject { IsTrue (is_stream_subject subject.now) }
     ensures made { Makes G.made (MakesStream name.now (default_config name.now subject.now) now result) ground.old ground.new }

@@ -26,11 +26,7 @@ fn pass_at<G: Ground>(ground: &mut G, at: PlaceAt, now: Moment) -> Result<bool, 
 }
 
 /// Lets time pass at a place, if there is one.
-fn pass<G: Ground>(
-    ground: &mut G,
-    found: Option<PlaceAt>,
-    now: Moment,
-) -> Result<bool, DeskFault>
+fn pass<G: Ground>(ground: &mut G, found: Option<PlaceAt>, now: Moment) -> Result<bool, DeskFault>
     requires within { IfSome found (IsWithin (G.setting ground.old)) }
     ensures made { Makes G.made (Passes now found result) ground.old ground.new }
     ensures setting { G.setting ground.new ≡ G.setting ground.old }

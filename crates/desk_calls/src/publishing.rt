@@ -96,11 +96,7 @@ fn reached<G: Ground>(ground: &mut G, message: &Out, became: &Became) -> Result<
 }
 
 /// Goes on after a hold with the message, unless the call ended in it.
-fn end_store<G: Ground>(
-    ground: &mut G,
-    message: &Out,
-    outcome: &Outcome,
-) -> Result<bool, DeskFault>
+fn end_store<G: Ground>(ground: &mut G, message: &Out, outcome: &Outcome) -> Result<bool, DeskFault>
     requires explained { IsExplained outcome.now.fault outcome.now.became }
     requires shown { CanBeShown outcome.now.became }
     ensures made { Makes G.made (Ending outcome.now.fault (IsReached message.now outcome.now.became) result) ground.old ground.new }

@@ -33,7 +33,7 @@ pub fn send_all<G: Ground>(ground: &mut G, outs: &[Out]) -> Result<(), DeskFault
 
 // ---- answers to calls of the API
 
-/// Answers a call by these messages, which so is taken.
+/// Answers by these messages what so is taken.
 fn answer_by<G: Ground>(ground: &mut G, outs: &[Out]) -> Result<bool, DeskFault>
     ensures made { Makes G.made (Answers outs.now result) ground.old ground.new }
     ensures setting { G.setting ground.new ≡ G.setting ground.old }
@@ -140,20 +140,27 @@ pub fn refuse_publish<G: Ground>(
     reason: Reason,
 ) -> Result<bool, DeskFault>
     requires utf8 { IsUtf8 stream.now }
-    ensures made { Makes G.made (Then (Sends (publish_refusal to.now stream.now (error_of reason))) (λ _. Gives true) result) ground.old ground.new }
+    ensures made { Makes G.made (Answers (publish_refusal to.now stream.now (error_of reason)) result) ground.old ground.new }
     ensures setting { G.setting ground.new ≡ G.setting ground.old }
     ensures phase { G.phase ground.new ≡ G.phase ground.old }
 {
     match publish_refusal_outs(ground.alloc(), to, stream, reason) {
-        Ok(outs) => {
-            send_all(ground, outs.as_slice())?;
-            Ok(true)
-        }
+        Ok(outs) => answer_by(ground, outs.as_slice()),
         Err(_) => Err(DeskFault::NoMemory),
     }
 }
 
 // ---- what a client is told
+
+/// Tells a client by these messages who took its message.
+fn tell_by<G: Ground>(ground: &mut G, outs: &[Out], taken: Taken) -> Result<Taken, DeskFault>
+    ensures made { Makes G.made (Then (Sends outs.now) (λ _. Gives taken) result) ground.old ground.new }
+    ensures setting { G.setting ground.new ≡ G.setting ground.old }
+    ensures phase { G.phase ground.new ≡ G.phase ground.old }
+{
+    send_all(ground, outs)?;
+    Ok(taken)
+}
 
 /// Answers who took a message, and tells its client if nobody did, unless this client is not told so.
 pub fn tell_untaken<G: Ground>(
@@ -167,10 +174,7 @@ pub fn tell_untaken<G: Ground>(
     ensures phase { G.phase ground.new ≡ G.phase ground.old }
 {
     match untaken_outs(ground.alloc(), caller.told, message, taken) {
-        Ok(outs) => {
-            send_all(ground, outs.as_slice())?;
-            Ok(taken)
-        }
+        Ok(outs) => tell_by(ground, outs.as_slice(), taken),
         Err(_) => Err(DeskFault::NoMemory),
     }
 }

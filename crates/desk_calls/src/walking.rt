@@ -1,11 +1,12 @@
 //! All streams are asked for their informations.
 
-ghost use Rattle.std.specs.Prelude.{◌≡◌, ◌≤◌, ◌+◌, [], None, vec_capacity, vec_len};
-ghost use Rattle.js_api.specs.AllStreams.{behind};
+ghost use Rattle.std.specs.Prelude.{◌≡◌, ◌≤◌, ◌+◌, ◌++◌, [], None, vec_capacity, vec_len};
+ghost use Rattle.place_engine.specs.Shown.{IsShown};
+ghost use Rattle.js_api.specs.AllStreams.{behind, info_in};
 ghost use Rattle.js_api.specs.Leading.{Makes};
 ghost use Rattle.desk_answers.specs.StreamInfos.{AreSound};
 ghost use Rattle.desk_calls.specs.Grounds.{IsWithin, Outside};
-ghost use Rattle.desk_answers.specs.Became.{CanBeShown, IsExplained};
+ghost use Rattle.desk_answers.specs.Became.{CanBeShown};
 ghost use Rattle.desk_calls.specs.Walking.{AddsSound, AreSoundTo, IsVisit, IsVisitTold, IsWalk, further, most_to};
 
 use crate::ground::Ground;
@@ -34,9 +35,32 @@ fn further(last: Option<PlaceAt>, found: Option<PlaceAt>) -> Option<PlaceAt>
     }
 }
 
+/// Adds the information of a reply, if it is one.
+fn add_info(reply: Reply, infos: &mut Vec<StreamInfo>)
+    requires shown { IsShown reply }
+    requires room { vec_len infos.old + 1 ≤ vec_capacity infos.old }
+    ensures added { infos.new.items ≡ infos.old.items ++ info_in reply }
+    ensures sound { AddsSound infos.old.items infos.new.items }
+{
+    match reply {
+        Reply::Info(info) => infos.push_reserved(info),
+        Reply::Done
+        | Reply::Published(_)
+        | Reply::Duplicate(_)
+        | Reply::Purged(_)
+        | Reply::ConsumerInfo(_)
+        | Reply::Message(_)
+        | Reply::Names { .. }
+        | Reply::Infos { .. }
+        | Reply::Confirmed
+        | Reply::Silent
+        | Reply::Nobody
+        | Reply::Refused(_) => {}
+    }
+}
+
 /// Adds the information that a hold told, if it told one, and answers by which failure the call is refused.
 fn add_told(outcome: Outcome, infos: &mut Vec<StreamInfo>) -> Result<Option<Reason>, DeskFault>
-    requires explained { IsExplained outcome.fault outcome.became }
     requires shown { CanBeShown outcome.became }
     requires room { vec_len infos.old + 1 ≤ vec_capacity infos.old }
     ensures told { IsVisitTold result outcome infos.old.items infos.new.items }
@@ -46,14 +70,13 @@ fn add_told(outcome: Outcome, infos: &mut Vec<StreamInfo>) -> Result<Option<Reas
         return Err(fault);
     }
     match outcome.became {
-        Became::Made(Reply::Info(info)) => {
-            infos.push_reserved(info);
+        Became::Made(reply) => {
+            add_info(reply, infos);
             Ok(None)
         }
         Became::Broke { stream: _ } => Ok(Some(Reason::StoreFault)),
         Became::Stopped { stream: _ } => Ok(Some(Reason::StreamStopped)),
-        Became::Made(_) | Became::Ticked | Became::Nothing | Became::Gone => Ok(None),
-        Became::Unsaid { refused: _ } => Ok(None),
+        Became::Unsaid { refused: _ } | Became::Ticked | Became::Nothing | Became::Gone => Ok(None),
     }
 }
 

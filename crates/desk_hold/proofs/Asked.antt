@@ -1,6 +1,6 @@
 -- What is asked of one place, and what its answer tells.
-use Rattle.std.proofs.Common.{◌≡◌, ℕ, ◌<◌, ◌≤◌, ◌^◌, ◌&&◌, Bool, true, false, not, List, [], Option, Some, None, Err, refl, sym, ap, subst, ◌∙◌, IsTrue}
-use Rattle.std.specs.Prelude.{is_some, nat_le}
+use Rattle.std.proofs.Common.{◌≡◌, ◌≢◌, arith, ℕ, ◌<◌, ◌≤◌, ◌^◌, ◌&&◌, Bool, true, false, not, List, [], Option, Some, None, Err, refl, sym, ap, subst, ◌∙◌, IsTrue}
+use Rattle.std.specs.Prelude.{nat_le}
 use Rattle.std.proofs.lemmas.Bool.{and_from, le-leb}
 use Rattle.js_base.specs.Bytes.{Bytes}
 use Rattle.js_base.specs.Subjects.{is_subject_text}
@@ -108,12 +108,7 @@ pub number_told : (what : What) (fault : PlaceFault) (stream : Bytes) (at : Plac
 number_told what fault stream at now old new outs outcome numbered is h =
     subst (λ (o : Outcome). NumbersDropped what o.became at) (sym is) (number_failed what fault stream at now old new [] outs numbered h)
 
--- ---- whether a place is stopped
+-- ---- an incarnation that no place keeps
 
-pub going_if : (stopped : Option ℕ) → is_some stopped ≡ false → stopped ≡ None
-going_if None e = refl
-going_if (Some count) e = absurd (let not_both : true ≡ false = e in cc)
-
-pub stopped_if : (stopped : Option ℕ) → is_some stopped ≡ true → (count : ℕ) × (stopped ≡ Some count)
-stopped_if None e = absurd (let not_both : false ≡ true = e in cc)
-stopped_if (Some count) e = (count, refl)
+pub none_keeps : (kept asked : ℕ) → kept ≤ 2 ^ 62 → 2 ^ 62 < asked → kept ≢ asked
+none_keeps kept asked small large same = omega (arith, small, large, same)

@@ -23,8 +23,8 @@ use Rattle.js_api.specs.declared.fault.DeskFault.TheVariants as faults
 use Rattle.js_api.specs.declared.outcome.Became.{Became}
 use Rattle.js_api.specs.declared.outcome.Became.TheVariants.{Made, Unsaid, Ticked, Nothing, Broke, Stopped, Gone}
 use Rattle.js_api.specs.declared.outcome.Outcome.{Outcome}
-use Rattle.js_api.specs.Entries.{Sending, Sent, Short, Unsent, Hold, Held, Stirred, Halted, Missed}
-use Rattle.js_api.specs.Holding.{AreAsked, AreReadings, Explains, HoldsBy, MayEnd, event_at, is_ready_at, push_consumers, step}
+use Rattle.js_api.specs.Entries.{Reading, Sending, Sent, Short, Unsent, Hold, Held, Stirred, Halted, Missed}
+use Rattle.js_api.specs.Holding.{AreAsked, AreFirstReadings, AreReadings, Explains, HoldsBy, MayEnd, event_at, is_ready_at, push_consumers, step}
 use Rattle.js_api.specs.Outputs.{stream_name}
 use Rattle.js_api.specs.Worlds.{IsHeld, IsLater}
 use Rattle.place_engine.specs.Provisional.{IsSilent}
@@ -33,9 +33,10 @@ use Rattle.place_engine.specs.declared.faults.PlaceFault.TheVariants as places
 use Rattle.place_engine.specs.declared.faults.Left.TheVariants as left
 use Rattle.desk_hold.specs.declared.stepping.MadeStep.{MadeStep}
 use Rattle.desk_hold.specs.OnePlace.{HoldsOn, OnPlace, on}
-use Rattle.desk_hold.specs.Outcomes.{SendsStep, SendsMade, SendsThem, failed_by, fault_of, quietly, shortly}
+use Rattle.desk_hold.specs.Outcomes.{SendsStep, SendsMade, SendsThem, absent_by, failed_by, fault_of, quietly, shortly}
 use Rattle.desk_hold.specs.Ports.{Sends}
-use Rattle.desk_hold.specs.Steps.{EndsStep, IsMade, WithholdsStep}
+use Rattle.desk_hold.specs.Steps.{EndsStep, IsMade, IsUndoneStep, WithholdsStep}
+use Rattle.desk_hold.proofs.Stepped.{same_place}
 
 -- ---- the entry of a step
 
@@ -80,9 +81,13 @@ none_push : (state : State) → IsSilent state → push_consumers state ≡ []
 none_push (Vacant last) silent = refl
 none_push (Live stream) silent = silent
 
+none_read : (cs : List Consumer) → AreFirstReadings cs []
+none_read [] = tt
+none_read (c ∷ cs) = tt
+
 asked_none : (fault : Option DeskFault) (hold : Hold) → push_consumers hold.between ≡ [] → hold.readings ≡ [] → hold.deliveries ≡ [] → AreAsked fault hold
 asked_none None hold none readings deliveries = subst (λ (cs : List Consumer). AreReadings cs hold.readings) (sym none) readings
-asked_none (Some fault) hold none readings deliveries = inr (readings, deliveries)
+asked_none (Some fault) hold none readings deliveries = inr (subst (λ (rs : List Reading). AreFirstReadings (push_consumers hold.between) rs) (sym readings) (none_read (push_consumers hold.between)), deliveries)
 
 unless_fault : (fault : Option DeskFault) (P : Type 0) → P → MatchOption fault P (λ f. Unit {0})
 unless_fault None P p = p
@@ -154,20 +159,84 @@ module _ {R : Type 0} (routes : R → RouteCall → RouteTold → R → Type 0) 
         );
       }
 
-  -- nothing was made there, and the volume was called
-  stirred : (old new : PlaceIn) (outs : List Out) (r s : R) → EndsStep (Err (places.NoMemory left.Nothing)) (event_at at what) now old new [] outs → s ≡ r
-      → HoldsOn routes worn at what now (shortly Nothing) (on old r) (on new s)
-  stirred old new outs r s h same = record {
-    entries = Stirred at old.volume new.volume false ∷ [];
-    holds = record {
-      first = Stirred at old.volume new.volume false ∷ [];
-      more = [];
-      entries_are = refl;
-      prepares = inr (old.volume, new.volume, false, refl);
-      holds = (refl, refl);
-    };
-    led = (on new s, record { at_is = refl; stirred = h; port = same }, refl);
+  -- memory ran out before anything
+  pub held_nothing : (place : PlaceIn) (r : R) → HoldsOn routes worn at what now (shortly Nothing) (on place r) (on place r)
+  held_nothing place r = record {
+    entries = [];
+    holds = record { first = []; more = []; entries_are = refl; prepares = inl refl; holds = (refl, refl) };
+    led = refl;
   }
+
+  -- the place is stopped
+  pub held_stopped : (stream : Bytes) (count : ℕ) (place : PlaceIn) (r : R) → stream ≡ stream_name place.state → place.stopped ≡ Some count
+      → HoldsOn routes worn at what now (quietly (Stopped stream)) (on place r) (on place r)
+  held_stopped stream count place r name stopped = record {
+    entries = Halted at place.state ∷ [];
+    holds = record {
+      first = [];
+      more = Halted at place.state ∷ [];
+      entries_are = refl;
+      prepares = inl refl;
+      holds = (place.state, refl, name, (refl, refl));
+    };
+    led = (on place r, record { at_is = refl; count = count; stopped = stopped; state_is = refl; same = refl }, refl);
+  }
+
+  -- it keeps another incarnation
+  pub held_gone : (place : PlaceIn) (r : R) → place.stopped ≡ None → kept_incarnation place.state ≢ at.incarnation → HoldsOn routes worn at what now (quietly Gone) (on place r) (on place r)
+  held_gone place r going other = record {
+    entries = Missed at (kept_incarnation place.state) ∷ [];
+    holds = record {
+      first = [];
+      more = Missed at (kept_incarnation place.state) ∷ [];
+      entries_are = refl;
+      prepares = inl refl;
+      holds = (kept_incarnation place.state, refl, (refl, refl));
+    };
+    led = (on place r, record { at_is = refl; going = going; kept_is = refl; other = other; same = refl }, refl);
+  }
+
+  -- all is as it was
+  held_same : (outcome : Outcome) (old new : PlaceIn) (r s : R) → new ≡ old → s ≡ r → HoldsOn routes worn at what now outcome (on old r) (on old r)
+      → HoldsOn routes worn at what now outcome (on old r) (on new s)
+  held_same outcome old new r s place port h =
+      subst (λ (x : R). HoldsOn routes worn at what now outcome (on old r) (on new x)) (sym port)
+      (subst (λ (x : PlaceIn). HoldsOn routes worn at what now outcome (on old r) (on x r)) (sym place) h)
+
+  -- no place keeps this incarnation
+  pub held_absent : (stream : Bytes) (place : PlaceIn) (r : R) → stream ≡ stream_name place.state → kept_incarnation place.state ≢ at.incarnation
+      → HoldsOn routes worn at what now (absent_by place.stopped stream) (on place r) (on place r)
+  held_absent stream place r name other = by place.stopped refl
+    where
+      by : (stopped : Option ℕ) → place.stopped ≡ stopped → HoldsOn routes worn at what now (absent_by stopped stream) (on place r) (on place r)
+      by None is = held_gone place r is other
+      by (Some count) is = held_stopped stream count place r name is
+
+  -- nothing was made there, and the volume was called unless the place is stopped
+  undone : (old new : PlaceIn) (r s : R) → IsUndoneStep old new → s ≡ r → HoldsOn routes worn at what now (shortly Nothing) (on old r) (on new s)
+  undone old new r s h same = by old.stopped refl
+    where
+      by : (stopped : Option ℕ) → old.stopped ≡ stopped → HoldsOn routes worn at what now (shortly Nothing) (on old r) (on new s)
+      by None is = record {
+        entries = Stirred at old.volume new.volume false ∷ [];
+        holds = record {
+          first = Stirred at old.volume new.volume false ∷ [];
+          more = [];
+          entries_are = refl;
+          prepares = inr (old.volume, new.volume, false, refl);
+          holds = (refl, refl);
+        };
+        led = (
+          on new s,
+          record {
+            at_is = refl;
+            stirred = record { going = is; state = h.state; stored = h.stored; stops = h.stopped ∙ is; volume_was = refl; volume_is = refl; later = h.later };
+            port = same;
+          },
+          refl,
+        );
+      }
+      by (Some count) is = held_same (shortly Nothing) old new r s (same_place old new h.state h.stored h.stopped (h.volume count is)) same (held_nothing old r)
 
   -- time passed, and no more
   ticked : (old new : PlaceIn) (outs : List Out) (r s : R) → EndsStep (Err (places.NoMemory left.Ticked)) (event_at at what) now old new [] outs
@@ -190,7 +259,7 @@ module _ {R : Type 0} (routes : R → RouteCall → RouteTold → R → Type 0) 
               unsaid = false;
               at_is = refl;
               steps = refl;
-              asked = inr (refl, refl);
+              asked = inr (none_read (push_consumers new.state), refl);
               deliveries = tt;
               ready_is = tt;
               explained = tt;
@@ -234,7 +303,7 @@ module _ {R : Type 0} (routes : R → RouteCall → RouteTold → R → Type 0) 
               unsaid = true;
               at_is = refl;
               steps = refl;
-              asked = inr (refl, refl);
+              asked = inr (none_read (push_consumers new.state), refl);
               deliveries = tt;
               ready_is = tt;
               explained = explained;
@@ -311,50 +380,20 @@ module _ {R : Type 0} (routes : R → RouteCall → RouteTold → R → Type 0) 
         );
       }
 
-  pub held_failed : (fault : PlaceFault) (stream : Bytes) (old new : PlaceIn) (outs : List Out) (r s : R) → stream ≡ stream_name old.state
+  failed : (fault : PlaceFault) (stream : Bytes) (old new : PlaceIn) (outs : List Out) (r s : R) → stream ≡ stream_name old.state
       → EndsStep (Err fault) (event_at at what) now old new [] outs → SendsMade routes worn fault outs r s → HoldsOn routes worn at what now (failed_by fault stream) (on old r) (on new s)
-  held_failed (places.NoMemory left.Nothing) stream old new outs r s name h sends = stirred old new outs r s h sends
-  held_failed (places.NoMemory left.Ticked) stream old new outs r s name h sends = ticked old new outs r s h sends
-  held_failed (places.NoMemory (left.Unsaid refused)) stream old new outs r s name h sends = withheld refused faults.NoMemory old new outs r s h sends tt
-  held_failed places.StoreFault stream old new outs r s name h sends = broke stream old new outs r s name h sends
-  held_failed (places.Stopped count) stream old new outs r s name h sends = absurd h
-  held_failed (places.Gone kept) stream old new outs r s name h sends = absurd h
-  held_failed (places.Worn refused) stream old new outs r s name h sends =
+  failed (places.NoMemory left.Nothing) stream old new outs r s name h sends = undone old new r s h sends
+  failed (places.NoMemory left.Ticked) stream old new outs r s name h sends = ticked old new outs r s h sends
+  failed (places.NoMemory (left.Unsaid refused)) stream old new outs r s name h sends = withheld refused faults.NoMemory old new outs r s h sends tt
+  failed places.StoreFault stream old new outs r s name h sends = broke stream old new outs r s name h sends
+  failed (places.Stopped count) stream old new outs r s name h sends =
+      held_same (quietly (Stopped stream)) old new r s h.same sends (held_stopped stream count old r name h.stopped)
+  failed (places.Gone kept) stream old new outs r s name h sends = held_same (quietly Gone) old new r s h.same sends (held_gone old r h.going h.other)
+  failed (places.Worn refused) stream old new outs r s name h sends =
       withheld refused (faults.Worn (2 ^ 62 - 1)) old new outs r s h.withholds sends (inr (sym h.last, refl))
 
-  -- memory ran out before anything
-  pub held_nothing : (place : PlaceIn) (r : R) → HoldsOn routes worn at what now (shortly Nothing) (on place r) (on place r)
-  held_nothing place r = record {
-    entries = [];
-    holds = record { first = []; more = []; entries_are = refl; prepares = inl refl; holds = (refl, refl) };
-    led = refl;
-  }
-
-  -- the place is stopped
-  pub held_stopped : (stream : Bytes) (count : ℕ) (place : PlaceIn) (r : R) → stream ≡ stream_name place.state → place.stopped ≡ Some count
-      → HoldsOn routes worn at what now (quietly (Stopped stream)) (on place r) (on place r)
-  held_stopped stream count place r name stopped = record {
-    entries = Halted at place.state ∷ [];
-    holds = record {
-      first = [];
-      more = Halted at place.state ∷ [];
-      entries_are = refl;
-      prepares = inl refl;
-      holds = (place.state, refl, name, (refl, refl));
-    };
-    led = (on place r, record { at_is = refl; count = count; stopped = stopped; state_is = refl; same = refl }, refl);
-  }
-
-  -- it keeps another incarnation
-  pub held_gone : (place : PlaceIn) (r : R) → place.stopped ≡ None → kept_incarnation place.state ≢ at.incarnation → HoldsOn routes worn at what now (quietly Gone) (on place r) (on place r)
-  held_gone place r going other = record {
-    entries = Missed at (kept_incarnation place.state) ∷ [];
-    holds = record {
-      first = [];
-      more = Missed at (kept_incarnation place.state) ∷ [];
-      entries_are = refl;
-      prepares = inl refl;
-      holds = (kept_incarnation place.state, refl, (refl, refl));
-    };
-    led = (on place r, record { at_is = refl; going = going; kept_is = refl; other = other; same = refl }, refl);
-  }
+  -- it failed
+  pub held_failed : (outcome : Outcome) (fault : PlaceFault) (stream : Bytes) (old new : PlaceIn) (outs : List Out) (r s : R) → outcome ≡ failed_by fault stream → stream ≡ stream_name old.state
+      → EndsStep (Err fault) (event_at at what) now old new [] outs → SendsMade routes worn fault outs r s → HoldsOn routes worn at what now outcome (on old r) (on new s)
+  held_failed outcome fault stream old new outs r s is name h sends =
+      as_told outcome (failed_by fault stream) (on old r) (on new s) is (failed fault stream old new outs r s name h sends)

@@ -81,8 +81,7 @@ module _ {R : Type 0} (routes : R → RouteCall → RouteTold → R → Type 0) 
       → SendsBy routes worn mid out (Err (faults.Worn number)) new → Sends routes worn old outs (sending_by (Err (faults.Worn number))) new
   worn_out outs out rest sent number old mid new h k = inr (record {
     first = h.first;
-    out = out;
-    more = rest;
+    more = out ∷ rest;
     outs_are = h.whole;
     taken = h.taken;
     mid = mid;

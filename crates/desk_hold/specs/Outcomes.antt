@@ -6,7 +6,7 @@ use Rattle.js_model.specs.Router.{RouteCall, RouteTold}
 use Rattle.js_api.specs.declared.fault.DeskFault.{DeskFault}
 use Rattle.js_api.specs.declared.fault.DeskFault.TheVariants as faults
 use Rattle.js_api.specs.declared.outcome.Became.{Became}
-use Rattle.js_api.specs.declared.outcome.Became.TheVariants.{Unsaid, Nothing, Ticked, Broke}
+use Rattle.js_api.specs.declared.outcome.Became.TheVariants.{Unsaid, Nothing, Ticked, Broke, Stopped, Gone}
 use Rattle.js_api.specs.declared.outcome.Outcome.{Outcome}
 use Rattle.js_api.specs.Entries.{Sending, Sent, Short, Unsent}
 use Rattle.place_engine.specs.declared.faults.PlaceFault.{PlaceFault}
@@ -33,23 +33,20 @@ shortly became = record { became = became; ready = false; fault = Some faults.No
 abbrev pub worn_out : Became → Outcome
 worn_out became = record { became = became; ready = false; fault = Some (faults.Worn (2 ^ 62 - 1)) }
 
--- the faults of a step at a place that is not stopped and keeps the incarnation
-abbrev pub IsOfStep : PlaceFault → Type 0
-IsOfStep (places.NoMemory what) = Unit {0}
-IsOfStep places.StoreFault = Unit {0}
-IsOfStep (places.Stopped count) = ⊥
-IsOfStep (places.Gone kept) = ⊥
-IsOfStep (places.Worn refused) = Unit {0}
-
 -- what a hold comes to whose step failed so
 abbrev pub failed_by : PlaceFault → Bytes → Outcome
 failed_by (places.NoMemory left.Nothing) stream = shortly Nothing
 failed_by (places.NoMemory left.Ticked) stream = shortly Ticked
 failed_by (places.NoMemory (left.Unsaid refused)) stream = shortly (Unsaid refused)
 failed_by places.StoreFault stream = quietly (Broke stream)
-failed_by (places.Stopped count) stream = shortly Nothing
-failed_by (places.Gone kept) stream = shortly Nothing
+failed_by (places.Stopped count) stream = quietly (Stopped stream)
+failed_by (places.Gone kept) stream = quietly Gone
 failed_by (places.Worn refused) stream = worn_out (Unsaid refused)
+
+-- what it comes to if no place keeps the incarnation that is asked for, by the count at which the place stopped, if it did
+abbrev pub absent_by : Option ℕ → Bytes → Outcome
+absent_by None stream = quietly Gone
+absent_by (Some count) stream = quietly (Stopped stream)
 
 module _ {R : Type 0} (routes : R → RouteCall → RouteTold → R → Type 0) (worn : R → ℕ → R → Type 0) where
   -- the outputs were sent, and this fault tells what became of them and of the answer
@@ -69,6 +66,6 @@ module _ {R : Type 0} (routes : R → RouteCall → RouteTold → R → Type 0) 
   SendsMade (places.NoMemory left.Ticked) outs old new = SendsThem outs old new
   SendsMade (places.NoMemory (left.Unsaid refused)) outs old new = SendsThem outs old new
   SendsMade places.StoreFault outs old new = new ≡ old
-  SendsMade (places.Stopped count) outs old new = ⊥
-  SendsMade (places.Gone kept) outs old new = ⊥
+  SendsMade (places.Stopped count) outs old new = new ≡ old
+  SendsMade (places.Gone kept) outs old new = new ≡ old
   SendsMade (places.Worn refused) outs old new = SendsThem outs old new

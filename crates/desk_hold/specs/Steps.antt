@@ -1,5 +1,5 @@
 -- An event on one place, and what became of it.
-use Rattle.std.specs.Prelude.{◌≡◌, ◌<◌, ◌≤◌, ◌+◌, ◌-◌, ◌^◌, ◌++◌, ℕ, Bool, true, false, List, length, None, Result, Ok, Err}
+use Rattle.std.specs.Prelude.{◌≡◌, ◌≢◌, ◌<◌, ◌≤◌, ◌+◌, ◌-◌, ◌^◌, ◌++◌, ℕ, Bool, true, List, length, None, Some, Result, Ok, Err}
 use Rattle.js_base.specs.declared.out.Out.{Out}
 use Rattle.js_model.specs.declared.stream.State.{State}
 use Rattle.js_model.specs.declared.stream.State.TheVariants.{Live}
@@ -11,7 +11,7 @@ use Rattle.js_model.specs.Events.{is_refused, kept_incarnation}
 use Rattle.js_model.specs.PlaceStates.{PlaceIn}
 use Rattle.js_model.specs.Runs.{IsStep, new_messages}
 use Rattle.js_api.specs.Outputs.{answer_of, stream_name, said}
-use Rattle.js_api.specs.Worlds.{IsLater, IsStirred, Stops}
+use Rattle.js_api.specs.Worlds.{IsLater, Stops}
 use Rattle.place_engine.specs.Stepping.{tick_of}
 use Rattle.place_engine.specs.declared.faults.PlaceFault.{PlaceFault}
 use Rattle.place_engine.specs.declared.faults.PlaceFault.TheVariants.{NoMemory, StoreFault, Stopped, Gone, Worn}
@@ -64,12 +64,31 @@ pub record BreaksStep (event : Event) (now : ℕ) (old new : PlaceIn) : Type 0 w
   pub made : IsMade event now reply outs old new
   pub stops : Stops true old.volume new.volume new.stopped
 
+-- nothing was made; the volume may have been called unless the place is stopped
+pub record IsUndoneStep (old new : PlaceIn) : Type 0 where
+  pub state : new.state ≡ old.state
+  pub stored : new.stored ≡ old.stored
+  pub stopped : new.stopped ≡ old.stopped
+  pub volume : (count : ℕ) → old.stopped ≡ Some count → new.volume ≡ old.volume
+  pub later : IsLater old.volume new.volume
+
+-- the place was stopped before at this count, and all is as it was
+pub record FindsStopped (count : ℕ) (old new : PlaceIn) : Type 0 where
+  pub stopped : old.stopped ≡ Some count
+  pub same : new ≡ old
+
+-- the place is not stopped and keeps another incarnation, and all is as it was
+pub record FindsOther (event : Event) (old new : PlaceIn) : Type 0 where
+  pub going : old.stopped ≡ None
+  pub other : kept_incarnation old.state ≢ event.incarnation
+  pub same : new ≡ old
+
 abbrev pub EndsStep : Result MadeStep PlaceFault → Event → ℕ → PlaceIn → PlaceIn → List Out → List Out → Type 0
 EndsStep (Ok step) event now old new before after = AddsStep step event now old new before after
-EndsStep (Err (NoMemory Nothing)) event now old new before after = IsStirred old.volume new.volume false old new
+EndsStep (Err (NoMemory Nothing)) event now old new before after = IsUndoneStep old new
 EndsStep (Err (NoMemory Ticked)) event now old new before after = AddsTick event now old new before after
 EndsStep (Err (NoMemory (Unsaid refused))) event now old new before after = WithholdsStep refused event now old new before after
 EndsStep (Err StoreFault) event now old new before after = BreaksStep event now old new
-EndsStep (Err (Stopped count)) event now old new before after = ⊥
-EndsStep (Err (Gone kept)) event now old new before after = ⊥
+EndsStep (Err (Stopped count)) event now old new before after = FindsStopped count old new
+EndsStep (Err (Gone kept)) event now old new before after = FindsOther event old new
 EndsStep (Err (Worn refused)) event now old new before after = WearsStep refused event now old new before after

@@ -1,6 +1,6 @@
 //! One hold on a place: an event is made there, and what it sends goes to the port. No place delivers to a consumer yet.
 
-ghost use Rattle.std.specs.Prelude.{◌≡◌, ◌≢◌, ◌≤◌, ◌^◌, [], None, false, true, IsUtf8};
+ghost use Rattle.std.specs.Prelude.{◌≡◌, ◌≤◌, ◌^◌, [], false, IsUtf8};
 ghost use Rattle.js_api.specs.declared.outcome.Became.TheVariants.{Made};
 ghost use Rattle.js_api.specs.Outputs.{stream_name};
 ghost use Rattle.js_model.specs.Events.{kept_incarnation};
@@ -9,9 +9,9 @@ ghost use Rattle.js_api.specs.Holding.{event_at};
 ghost use Rattle.place_engine.specs.Provisional.{IsSilent};
 ghost use Rattle.place_engine.specs.Shown.{IsShown};
 ghost use Rattle.desk_answers.specs.Asking.{MayAsk};
-ghost use Rattle.desk_answers.specs.Became.{CanBeShown, IsExplained, NumbersDropped};
+ghost use Rattle.desk_answers.specs.Became.{CanBeShown, IsExplained, NumbersDropped, is_dropped};
 ghost use Rattle.desk_hold.specs.OnePlace.{HoldsOn, on};
-ghost use Rattle.desk_hold.specs.Outcomes.{IsOfStep, SendsMade, SendsStep, failed_by, quietly, shortly, worn_out};
+ghost use Rattle.desk_hold.specs.Outcomes.{SendsMade, SendsStep, absent_by, failed_by, quietly, shortly, worn_out};
 ghost use Rattle.desk_hold.specs.Steps.{IsNumbered};
 
 use crate::port::Port;
@@ -22,6 +22,9 @@ use js_base::{Blob, List, Moment, Out};
 use js_model::{Event, PlaceAt, What};
 use place_engine::{Left, Place, PlaceFault};
 use std::alloc::Global;
+
+/// Streams have incarnations below it.
+const INCARNATIONS_END: u64 = 1 << 62;
 
 /// The last number of a store's generations.
 const LAST_GENERATION: u64 = (1 << 62) - 1;
@@ -89,7 +92,6 @@ fn finish<R: Port>(port: &mut R, outs: &[Out], step: MadeStep, ready: bool) -> O
 /// Sends what a failed step added, and tells what it came to at the stream of this name.
 fn fail<R: Port>(port: &mut R, outs: &[Out], fault: PlaceFault, stream: Blob) -> Outcome
     requires utf8 { IsUtf8 stream }
-    requires fault { IsOfStep fault }
     ensures value { result ≡ failed_by fault stream }
     ensures sends { SendsMade R.routes R.worn fault outs.now port.old port.new }
     ensures shown { CanBeShown result.became }
@@ -110,12 +112,13 @@ fn fail<R: Port>(port: &mut R, outs: &[Out], fault: PlaceFault, stream: Blob) ->
             worn_out(Became::Unsaid { refused })
         }
         PlaceFault::StoreFault => quietly(Became::Broke { stream }),
-        PlaceFault::Stopped(_) | PlaceFault::Gone(_) => unreachable!(),
+        PlaceFault::Stopped(_) => quietly(Became::Stopped { stream }),
+        PlaceFault::Gone(_) => quietly(Became::Gone),
     }
 }
 
-/// Makes the event for the stream that the place keeps, and that has this name.
-fn hold_kept<P: Place, R: Port>(
+/// Makes the event on a place whose stream has this name. The step decides whether the place is stopped, and whether it keeps another incarnation.
+fn hold_named<P: Place, R: Port>(
     alloc: Global,
     place: &mut P,
     port: &mut R,
@@ -126,8 +129,6 @@ fn hold_kept<P: Place, R: Port>(
 ) -> Outcome
     requires event { event.now ≡ event_at at event.now.what }
     requires asked { MayAsk event.now.what }
-    requires going { (P.seen place.old).place.stopped ≡ None }
-    requires kept { at.incarnation ≡ kept_incarnation (P.seen place.old).place.state }
     requires small { at.incarnation ≤ 2 ^ 62 }
     requires stream { stream ≡ stream_name (P.seen place.old).place.state }
     requires utf8 { IsUtf8 stream }
@@ -148,13 +149,20 @@ fn hold_kept<P: Place, R: Port>(
     }
 }
 
-/// Whether the place keeps the incarnation that is asked for.
-fn is_kept<P: Place>(place: &P, at: PlaceAt) -> bool
-    ensures kept { result ≡ true → at.incarnation ≡ kept_incarnation (P.seen place.now).place.state }
-    ensures small { result ≡ true → at.incarnation ≤ 2 ^ 62 }
-    ensures other { result ≡ false → kept_incarnation (P.seen place.now).place.state ≢ at.incarnation }
+/// What a hold comes to that asks for an incarnation above 2^62, which no place keeps.
+fn absent<P: Place>(place: &P, stream: Blob) -> Outcome
+    requires utf8 { IsUtf8 stream }
+    ensures value { result ≡ absent_by (P.seen place.now).place.stopped stream }
+    ensures kept { kept_incarnation (P.seen place.now).place.state ≤ 2 ^ 62 }
+    ensures shown { CanBeShown result.became }
+    ensures explained { IsExplained result.fault result.became }
+    ensures stays { is_dropped result.became ≡ false }
 {
-    place.incarnation() == at.incarnation
+    let _ = place.incarnation();
+    match place.stopped() {
+        Some(_) => quietly(Became::Stopped { stream }),
+        None => quietly(Became::Gone),
+    }
 }
 
 /// Makes the event for the stream of a place.
@@ -178,13 +186,10 @@ fn hold_event<P: Place, R: Port>(
         Ok(stream) => stream,
         Err(_) => return shortly(Became::Nothing),
     };
-    if place.stopped().is_some() {
-        return quietly(Became::Stopped { stream });
+    if at.incarnation > INCARNATIONS_END {
+        return absent(place, stream);
     }
-    if !is_kept(place, at) {
-        return quietly(Became::Gone);
-    }
-    hold_kept(alloc, place, port, at, event, stream, now)
+    hold_named(alloc, place, port, at, event, stream, now)
 }
 
 /// Asks this of the stream of a place at a moment, and sends by the port all that this sends. What came of it is told as a desk's entry; nothing is

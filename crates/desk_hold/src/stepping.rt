@@ -1,12 +1,10 @@
 //! An event is made on a place, and what it sends is put together.
 
-ghost use Rattle.std.specs.Prelude.{◌≡◌, ◌<◌, ◌^◌, ◌++◌, None, IfErr, IfOk, IsTrue, IsUtf8};
+ghost use Rattle.std.specs.Prelude.{◌≡◌, ◌<◌, ◌^◌, ◌++◌, IfOk, IsTrue, IsUtf8};
 ghost use Rattle.js_api.specs.Outputs.{answer_of, said, stream_name};
-ghost use Rattle.js_model.specs.Events.{kept_incarnation};
 ghost use Rattle.js_model.specs.Proper.{is_proper};
 ghost use Rattle.place_engine.specs.Places.{IsBuilt};
 ghost use Rattle.place_engine.specs.Shown.{IsShown};
-ghost use Rattle.desk_hold.specs.Outcomes.{IsOfStep};
 ghost use Rattle.desk_hold.specs.Steps.{EndsStep, IsNumbered};
 
 use desk_answers::answer_of;
@@ -64,15 +62,12 @@ pub fn make<P: Place>(
     now: Moment,
     outs: &mut Outs,
 ) -> Result<MadeStep, PlaceFault>
-    requires going { (P.seen place.old).place.stopped ≡ None }
-    requires kept { event.now.incarnation ≡ kept_incarnation (P.seen place.old).place.state }
     requires stream { stream.now ≡ stream_name (P.seen place.old).place.state }
     requires utf8 { IsUtf8 stream.now }
     requires built { IsBuilt event.now.what }
     requires proper { IsTrue (is_proper event.now) }
     ensures ends { EndsStep result event.now now (P.seen place.old).place (P.seen place.new).place outs.old outs.new }
     ensures shown { IfOk result (λ step. IsShown step.reply) }
-    ensures fault { IfErr result IsOfStep }
     ensures vol { P.keeps_vol (P.vol place.old) (P.vol place.new) }
 {
     law_moment(now);

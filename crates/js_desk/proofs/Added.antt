@@ -1,6 +1,6 @@
 -- A place that was taken for a new stream, and what the refusals of the catalog tell.
-use Rattle.std.proofs.Common.{◌≡◌, ◌<◌, ◌+◌, ℕ, Bool, true, false, List, [], ◌∷◌, length, Option, Some, None, refl, sym, ap, subst, ◌∙◌, inl, inr, if◌then◌else◌, IsUtf8, arith}
-use Rattle.std.specs.Prelude.{not, slice_get}
+use Rattle.std.proofs.Common.{◌≡◌, ◌<◌, ℕ, Bool, true, false, List, length, Option, Some, None, refl, sym, ap, subst, ◌∙◌, inl, inr, if◌then◌else◌, IsUtf8, arith}
+use Rattle.std.specs.Prelude.{not}
 use Rattle.std.specs.Str.{is_utf8, chars}
 use Rattle.std.specs.Option.{IsSomeAnd}
 use lib.Utf8.{encode}

@@ -1,8 +1,8 @@
 -- The calls of a turn of the catalog, and that the ground stays one.
-use Rattle.std.proofs.Common.{◌≡◌, ◌+◌, ◌<◌, ◌^◌, ℕ, Bool, true, false, List, [], ◌∷◌, length, Option, Some, None, Result, Ok, Err, IfErr, IfOk, OnOk, OnErr, refl, sym, ap, subst, ◌∙◌, inl, inr, if◌then◌else◌, arith}
-use Rattle.std.specs.Prelude.{◌==◌, IsSome, slice_get}
+use Rattle.std.proofs.Common.{◌≡◌, ◌<◌, ℕ, Bool, true, false, List, length, Option, Some, None, Result, Ok, Err, IfErr, IfOk, OnOk, OnErr, refl, sym, ap, subst, ◌∙◌, inl, inr, if◌then◌else◌, arith}
+use Rattle.std.specs.Prelude.{IsSome, slice_get}
 use Rattle.std.specs.Option.{IsSomeAnd}
-use Rattle.std.proofs.lemmas.Bool.{eq-eqb, ne_eqb}
+use Rattle.std.proofs.lemmas.Bool.{ne_eqb}
 use Rattle.js_base.specs.Bytes.{Bytes}
 use Rattle.js_model.specs.declared.desk.PlaceAt.{PlaceAt}
 use Rattle.js_model.specs.declared.catalog_fault.CatalogFault.{CatalogFault}
@@ -10,14 +10,14 @@ use Rattle.js_model.specs.declared.catalog_fault.CatalogFault.TheVariants as fau
 use Rattle.js_model.specs.Refusals.{subjects_overlap}
 use Rattle.js_model.specs.Catalog as catalog
 use Rattle.js_model.specs.Catalog.{Catalog, Place, Used, IsCatalogCall, catalog_call, telling, edited, on_used, changing, keeping, freed, stopping, overlaps_other}
-use Rattle.js_model.specs.Cataloging.{HasPlace, IsUsed, MayKeep, add_told, change_told}
+use Rattle.js_model.specs.Cataloging.{HasPlace, MayChange, add_told, change_told}
 use Rattle.place_engine.specs.InMemory.{Contents}
 use Rattle.desk_calls.specs.Grounds as phases
 use Rattle.desk_calls.specs.Grounds.{IsBetween, IsKnown, IsTold, Knows, MayStop}
 use Rattle.js_desk.specs.declared.turn.Turn.{Turn}
 use Rattle.js_desk.specs.declared.turn.Turn.TheVariants as turns
-use Rattle.js_desk.specs.Grounds.{IsGrounded, is_between, phase_of, told_incarnation}
-use Rattle.js_desk.proofs.Added.{IsTaken, taken, taken_within, taken_length, taken_known, refused_utf8, overlap_utf8}
+use Rattle.js_desk.specs.Grounds.{IsGrounded, after_change, is_between, phase_of, told_incarnation}
+use Rattle.js_desk.proofs.Added.{taken, taken_within, taken_known, refused_utf8, overlap_utf8}
 use Rattle.js_desk.proofs.Edits.{edited_there}
 use Rattle.js_desk.proofs.Found.{length-with_place}
 use Rattle.js_desk.proofs.Looked.{within_is}
@@ -96,6 +96,16 @@ module _ {V : Type 0} (c new : Catalog) (places : List (Contents V)) (last : Opt
   changed_told place subjects (faults.Refused refusal) k = overlap_utf8 place subjects refusal c new k
   changed_told place subjects faults.NoMemory k = tt
 
+  -- also if they were not changed
+  pub change_grounded : (place : ℕ) (subjects : List Bytes) (result : Result (Unit {0}) CatalogFault) → phase_of turn ≡ phases.Within → IsCatalogCall c (catalog.Change place subjects) (change_told result) new
+      → OnErr result (new ≡ c) → IsGrounded new places last (after_change turn result place)
+  change_grounded place subjects (Ok done) within k same = changed_grounded place subjects within k
+  change_grounded place subjects (Err fault) within k same = subst (λ (d : Catalog). IsGrounded d places last turn) (sym same) g
+
+  pub change_text : (place : ℕ) (subjects : List Bytes) (result : Result (Unit {0}) CatalogFault) → IsCatalogCall c (catalog.Change place subjects) (change_told result) new → IfErr result IsTold
+  change_text place subjects (Ok done) k = tt
+  change_text place subjects (Err fault) k = changed_told place subjects fault k
+
   -- ---- one list is kept, and a place is freed or stopped
 
   pub kept_grounded : (place : ℕ) (b : Bool) → phase_of turn ≡ phases.Between place → catalog_call c (catalog.Keep place b) ≡ telling catalog.Done new → IsGrounded new places last turns.Within
@@ -160,7 +170,18 @@ module _ {V : Type 0} (c new : Catalog) (places : List (Contents V)) (last : Opt
       told (turns.Between other) m n p = refl
       told (turns.Owing other) m n p = absurd m
 
+pub change_phase : (turn : Turn) (place : ℕ) (result : Result (Unit {0}) CatalogFault) → phase_of turn ≡ phases.Within → phase_of (after_change turn result place) ≡ phases.changed_to place result
+change_phase turn place (Ok done) within = refl
+change_phase turn place (Err fault) within = within
+
 -- ---- the stream between its two lists
+
+pub known_single : (c : Catalog) (at : PlaceAt) → Knows c at → HasPlace c at.place MayChange
+known_single c at known = by (slice_get c at.place) known
+  where
+    by : (o : Option Place) → IsSomeAnd o (IsKnown at) → IsSomeAnd o MayChange
+    by None h = h
+    by (Some place) h = h.single
 
 changed_two : (subjects : List Bytes) (u : Used) → (changing subjects u).stopped ≡ false → IsSome (changing subjects u).new_subjects
 changed_two subjects u = by u.stopped refl
@@ -186,3 +207,9 @@ changed_between c new at subjects k is known = by (slice_get c at.place) refl kn
         let now : slice_get (edited (on_used (changing subjects)) at.place c) at.place ≡ Some (on_used (changing subjects) p) = edited_there (on_used (changing subjects)) at.place 0 at.place c p (omega arith) e in
         subst (λ (d : Catalog). HasPlace d at.place (IsBetween at)) (sym is)
         (subst (λ (x : Option Place). IsSomeAnd x (IsBetween at)) (sym now) (between_place subjects at p (subst (λ (x : Option Place). IsSomeAnd x (IsKnown at)) e h)))
+
+module _ {V : Type 0} (c new : Catalog) (places : List (Contents V)) (last : Option PlaceAt) (turn : Turn) (g : IsGrounded c places last turn) where
+  pub change_between : (at : PlaceAt) (subjects : List Bytes) (result : Result (Unit {0}) CatalogFault) → IsCatalogCall c (catalog.Change at.place subjects) (change_told result) new → Knows c at
+      → OnOk result (HasPlace new at.place (IsBetween at))
+  change_between at subjects (Ok done) k known = changed_between c new at subjects k (changed_is c new places last turn g at.place subjects k) known
+  change_between at subjects (Err fault) k known = tt

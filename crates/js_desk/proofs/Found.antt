@@ -1,11 +1,10 @@
 -- What a look-up of the catalog finds is one of its places.
-use Rattle.std.proofs.Common.{◌≡◌, ◌<◌, ◌+◌, ℕ, suc, Bool, true, false, List, [], ◌∷◌, length, Option, Some, None, refl, sym, ap, subst, ◌∙◌, if◌then◌else◌, arith}
+use Rattle.std.proofs.Common.{◌≡◌, ◌<◌, ◌+◌, ℕ, suc, Bool, true, false, [], ◌∷◌, length, Option, Some, None, refl, sym, ap, subst, ◌∙◌, if◌then◌else◌, arith}
 use Rattle.std.specs.Prelude.{◌==◌, IsNone, IsSome, slice_get}
 use Rattle.std.specs.Option.{IsSomeAnd}
 use Rattle.std.proofs.lemmas.Option.{slice_get_within}
 use Rattle.js_model.specs.declared.desk.PlaceAt.{PlaceAt}
 use Rattle.js_model.specs.Catalog.{Catalog, Place, Used, first_place, if_used, with_place}
-use Rattle.js_model.specs.Cataloging.{HasPlace}
 use Rattle.desk_calls.specs.Grounds.{Knows, IsKnown}
 use Rattle.js_desk.specs.declared.turn.Turn.TheVariants.{Outside}
 use Rattle.js_desk.specs.Grounds.{AreSingle, HasOneList}

@@ -1,16 +1,17 @@
 -- What a hold makes of the ground of one caller.
-use Rattle.std.proofs.Common.{◌≡◌, ◌<◌, ◌≤◌, ◌+◌, ℕ, Bool, true, false, ◌&&◌, List, [], ◌∷◌, length, map, Option, Some, None, refl, sym, ap, subst, ◌∙◌, if◌then◌else◌, IfSome, arith}
+use Rattle.std.proofs.Common.{◌≡◌, ◌<◌, ◌+◌, ℕ, Bool, get_or, true, false, ◌&&◌, List, length, map, Option, Some, None, refl, sym, ap, subst, ◌∙◌, if◌then◌else◌, IfSome, arith}
 use Rattle.std.specs.Prelude.{◌==◌, slice_get, slice_set}
-use Rattle.std.proofs.lemmas.Bool.{eq-eqb, ne_eqb, eqb-eq}
+use Rattle.std.proofs.lemmas.Bool.{eq-eqb, eqb-true}
 use Rattle.std.specs.Option.{IsSomeAnd}
-use Rattle.std.proofs.lemmas.Option.{slice_get_within}
+use Rattle.std.proofs.lemmas.Option.{slice_get_read, slice_get_within}
+use Rattle.std.proofs.lemmas.List.{length-map}
 use Rattle.js_model.specs.declared.event.What.{What}
 use Rattle.js_model.specs.declared.event.What.TheVariants as whats
 use Rattle.js_model.specs.declared.desk.PlaceAt.{PlaceAt}
 use Rattle.js_model.specs.Catalog.{Catalog, Place}
 use Rattle.js_model.specs.Cataloging.{HasPlace}
 use Rattle.js_model.specs.Events.{kept_incarnation}
-use Rattle.js_model.specs.PlaceStates.{PlaceIn, in_memory}
+use Rattle.js_model.specs.PlaceStates.{PlaceIn}
 use Rattle.js_model.specs.Router.{Router, IsRoute}
 use Rattle.place_engine.specs.InMemory.{Contents}
 use Rattle.place_engine.specs.Places.{IsBuilt}
@@ -29,11 +30,15 @@ use Rattle.desk_hold.specs.OnePlace.{HoldsOn, on}
 use Rattle.js_desk.specs.declared.turn.Turn.{Turn}
 use Rattle.js_desk.specs.declared.turn.Turn.TheVariants as turns
 use Rattle.js_desk.specs.Dropping.{is_drop}
-use Rattle.js_desk.specs.Grounds.{AreAgreed, AreSingle, IsGrounded, SoloMade, after_hold, is_held, is_owing, phase_of, place_in, standing, told_incarnation, vol_of, volumes}
+use Rattle.js_desk.specs.Grounds.{AreAgreed, AreSingle, IsGrounded, SoloMade, after_hold, is_held, phase_of, place_in, standing, told_incarnation, vol_of, volumes}
 use Rattle.desk_hold.proofs.Alone.{held_alone, last_of, never, with_place}
 use Rattle.js_desk.proofs.HoldFacts.{Facts, hold_facts}
 use Rattle.js_desk.proofs.Looked.{within_is}
 use Rattle.js_desk.proofs.Sets.{get_other, get_set, length_set, map_get, map_set, set_same}
+
+-- a place that was taken out of the row stood there
+pub there_is : {V : Type 0} (places : List (Contents V)) (at : PlaceAt) (old : Contents V) → at.place < length (map place_in places) → old ≡ get_or places at.place old → slice_get places at.place ≡ Some old
+there_is places at old within is = slice_get_read places (length places) at.place old refl (omega (arith, within, length-map places place_in)) is
 
 -- ---- the turn
 
@@ -115,13 +120,13 @@ module _ {V : Type 0} (c : Catalog) (places : List (Contents V)) (last : Option 
       by : (b : Bool) → (is_drop what && is_dropped told) ≡ b → (n : ℕ) (place : Place) (contents : Contents V) → slice_get c n ≡ Some place → slice_get (slice_set places at.place new) n ≡ Some contents
           → (d : Bool) → (at.place == n) ≡ d → told_incarnation (after_hold turn b at.place) n place ≡ kept_incarnation contents.state
       by false e n place contents is stands true d =
-          let hit : at.place ≡ n = eqb-eq at.place n d in
+          let hit : at.place ≡ n = eqb-true at.place n d in
           g.agreed n place old is (stood n hit) ∙ sym (f.keeps (λ drop. not_both (is_drop what) (is_dropped told) e drop)) ∙ ap (λ (x : Contents V). kept_incarnation x.state) (sym (here n hit contents stands))
       by false e n place contents is stands false d =
           let miss : at.place ≡ n → ⊥ = λ hit. (let yes : (at.place == n) ≡ true = eq-eqb at.place n hit in absurd (cc (yes, d))) in
           g.agreed n place contents is (sym (get_other places at.place n new miss) ∙ stands)
       by true e n place contents is stands true d =
-          let hit : at.place ≡ n = eqb-eq at.place n d in
+          let hit : at.place ≡ n = eqb-true at.place n d in
           let two = both (is_drop what) (is_dropped told) e in
           let in_turn = subst (λ (t : Turn). AreAgreed t c places) (drops_within what turn two.0 may) g.agreed in
           ap (λ (x : Bool). if x then place.incarnation + 1 else place.incarnation) d
@@ -144,6 +149,19 @@ module _ {V : Type 0} (c : Catalog) (places : List (Contents V)) (last : Option 
     agreed = agreed_held (is_drop what && is_dropped told) refl;
     within = last_held (is_held told);
   }
+
+  module _ (asked dropped : Bool) (later : Option PlaceAt) (after : Turn) (asked_is : asked ≡ is_drop what) (dropped_is : dropped ≡ (asked && is_dropped told)) (later_is : later ≡ (if is_held told then Some at else last))
+      (after_is : after ≡ after_hold turn dropped at.place) where
+    turn_is : after_hold turn (is_drop what && is_dropped told) at.place ≡ after
+    turn_is = ap (λ (b : Bool). after_hold turn (b && is_dropped told) at.place) (sym asked_is) ∙ ap (λ (b : Bool). after_hold turn b at.place) (sym dropped_is) ∙ sym after_is
+
+    pub held_after : IsGrounded c (slice_set places at.place new) later after
+    held_after =
+        subst (λ (l : Option PlaceAt). IsGrounded c (slice_set places at.place new) l after) (sym later_is)
+        (subst (λ (t : Turn). IsGrounded c (slice_set places at.place new) (if is_held told then Some at else last) t) turn_is held_grounded)
+
+    pub phase_after_held : phase_of after ≡ phase_after what at told (phase_of turn)
+    phase_after_held = ap phase_of (sym turn_is) ∙ phase_held what at told turn
 
   -- what the catalog knows within its turn is there
   pub there_held : phase_of turn ≡ phases.Within → Knows c at → IsThere told
@@ -181,15 +199,15 @@ module _ {V : Type 0} (r router : Router) (c : Catalog) (places : List (Contents
   last_so (became.Stopped stream) = refl
   last_so became.Gone = refl
 
-  pub made_of : (after : Turn) → new.vol ≡ old.vol
-      → Makes SoloMade (Holds at what now outcome) (standing r c places ticked last turn) (standing router c (slice_set places at.place new) ticked (if is_held outcome.became then Some at else last) after)
-  made_of after same =
+  pub made_of : (later : Option PlaceAt) (after : Turn) → later ≡ (if is_held outcome.became then Some at else last) → new.vol ≡ old.vol
+      → Makes SoloMade (Holds at what now outcome) (standing r c places ticked last turn) (standing router c (slice_set places at.place new) ticked later after)
+  made_of later after later_is same =
       let s : Scene = (standing r c places ticked last turn).scene in
       let m = held_alone at what now outcome s (place_in old) (place_in new) router (map_get place_in places at.place old there) h in
-      let ends : with_place s at.place (on (place_in new) router) (last_of at outcome.became last) ≡ (standing router c (slice_set places at.place new) ticked (if is_held outcome.became then Some at else last) after).scene =
-          ap (λ (l : Option PlaceAt). with_place s at.place (on (place_in new) router) l) (last_so outcome.became)
-          ∙ ap (λ (ps : List PlaceIn). record { world = record { router = router; catalog = c; places = ps }; cursor = record { ticked = ticked; last = if is_held outcome.became then Some at else last } })
-          (sym (map_set place_in places at.place new)) in
+      let ends : with_place s at.place (on (place_in new) router) (last_of at outcome.became last) ≡ (standing router c (slice_set places at.place new) ticked later after).scene =
+      ap (λ (l : Option PlaceAt). with_place s at.place (on (place_in new) router) l) (last_so outcome.became ∙ sym later_is)
+      ∙ ap (λ (ps : List PlaceIn). record { world = record { router = router; catalog = c; places = ps }; cursor = record { ticked = ticked; last = later } })
+      (sym (map_set place_in places at.place new)) in
       record {
         entries = m.entries;
         are = m.are;

@@ -1,5 +1,5 @@
 -- What a hold that was told so made of the incarnation that its place keeps.
-use Rattle.std.proofs.Common.{◌≡◌, ◌⊎◌, ◌+◌, ℕ, Bool, true, false, List, [], ◌∷◌, ◌++◌, length, Option, Some, None, refl, sym, ap, subst, ◌∙◌, inl, inr, append-nil, if◌then◌else◌}
+use Rattle.std.proofs.Common.{◌≡◌, ◌+◌, ℕ, Bool, true, false, List, [], ◌∷◌, ◌++◌, length, Option, Some, None, refl, sym, ap, subst, ◌∙◌, inl, inr}
 use Rattle.std.specs.Prelude.{not}
 use Rattle.js_base.specs.Bytes.{Bytes}
 use Rattle.js_base.specs.declared.out.Out.{Out}
@@ -10,27 +10,28 @@ use Rattle.js_model.specs.declared.event.What.TheVariants as whats
 use Rattle.js_model.specs.declared.entry.PlaceEntry.{PlaceEntry}
 use Rattle.js_model.specs.declared.entry.PlaceEntry.TheVariants.{Step, Deliver, Broken}
 use Rattle.js_model.specs.declared.entry.Call.TheVariants.{Step as StepOf, Deliver as DeliverOf}
+use Rattle.js_model.specs.declared.reply.Answer.{Answer}
 use Rattle.js_model.specs.declared.reply.Reply.{Reply}
 use Rattle.js_model.specs.declared.reply.Reply.TheVariants as replies
 use Rattle.js_model.specs.declared.reply.Reply.TheVariants.{Done, Silent}
 use Rattle.js_model.specs.declared.desk.PlaceAt.{PlaceAt}
-use Rattle.js_model.specs.Events.{Answer, IsEvent, answered, is_refused, kept_incarnation}
-use Rattle.js_model.specs.PlaceStates.{PlaceIn, VolumeAt}
+use Rattle.js_model.specs.Events.{IsEvent, answered, is_refused, kept_incarnation}
+use Rattle.js_model.specs.PlaceStates.{PlaceIn}
 use Rattle.js_model.specs.Router.{Router, IsRoute}
-use Rattle.js_model.specs.Runs.{RunFrom, IsStep, new_messages}
+use Rattle.js_model.specs.Runs.{RunFrom, new_messages}
 use Rattle.place_engine.specs.Places.{IsBuilt}
 use Rattle.js_api.specs.declared.fault.DeskFault.{DeskFault}
 use Rattle.js_api.specs.declared.fault.DeskFault.TheVariants as faults
 use Rattle.js_api.specs.declared.outcome.Became.{Became}
 use Rattle.js_api.specs.declared.outcome.Became.TheVariants as became
 use Rattle.js_api.specs.declared.outcome.Outcome.{Outcome}
-use Rattle.js_api.specs.Entries.{Hold, entries_in, DeskEntry, Held, Stirred, Halted, Missed, Spent}
-use Rattle.js_api.specs.Holding.{AreDeliveries, Holds, HoldsBy, IsHold, IsBrokenHold, Prepares, Unmakes, event_at, listening_of, step}
+use Rattle.js_api.specs.Entries.{Hold, entries_in, DeskEntry, Held, Stirred}
+use Rattle.js_api.specs.Holding.{AreDeliveries, Holds, HoldsBy, IsHold, Prepares, Unmakes, event_at, listening_of}
 use Rattle.js_api.specs.Leading.{Leads}
 use Rattle.js_api.specs.OneStream.{is_done}
 use Rattle.js_api.specs.Worlds.{IsHeld, Stops, is_broken}
 use Rattle.desk_answers.specs.Became.{is_dropped}
-use Rattle.desk_hold.specs.OnePlace.{OnPlace, PlaceStep, IsHeldOn}
+use Rattle.desk_hold.specs.OnePlace.{OnPlace, PlaceStep}
 use Rattle.desk_hold.proofs.Alone.{never}
 use Rattle.js_desk.specs.Dropping.{is_drop}
 use Rattle.js_desk.proofs.Incarnations.{event_keeps, drop_counts, drop_done, undropped_keeps, delivery_keeps}
@@ -209,7 +210,7 @@ module _ (at : PlaceAt) (what : What) (now : ℕ) (built : IsBuilt what) where
       let led = subst (λ (es : List DeskEntry). Leads (PlaceStep IsRoute never at) old es new) h.1 l in
       let held = one_held h.0 old new led in
       let broken : is_broken (entries_in h.0) ≡ true =
-          ap (λ (es : List PlaceEntry). is_broken (es ++ h.0.deliveries)) h.2.steps in
+      ap (λ (es : List PlaceEntry). is_broken (es ++ h.0.deliveries)) h.2.steps in
       let stops = subst (λ (b : Bool). Stops b h.0.volume_before h.0.volume_after new.place.stopped) broken held.stops in
       absurd (cc (stops.0, going))
   by_became (became.Stopped stream) ready fault entries old new h l going =

@@ -1,34 +1,29 @@
 -- An event keeps the incarnation of its place, unless it drops the stream; and so does a delivery.
-use Rattle.std.proofs.Common.{◌≡◌, ◌+◌, ◌^◌, ℕ, Bool, true, false, List, [], ◌∷◌, length, refl, sym, ap, subst, ◌∙◌, if◌then◌else◌}
+use Rattle.std.proofs.Common.{◌≡◌, ◌+◌, ◌^◌, ℕ, Bool, true, false, List, [], ◌∷◌, refl, ap, ◌∙◌, if◌then◌else◌}
 use Rattle.std.specs.Prelude.{◌==◌}
 use Rattle.js_base.specs.Bytes.{Bytes}
 use Rattle.js_model.specs.declared.stream.State.{State}
 use Rattle.js_model.specs.declared.stream.State.TheVariants.{Vacant, Live}
 use Rattle.js_model.specs.declared.stream.Stream.{Stream}
-use Rattle.js_model.specs.declared.stream.Message.{Message}
-use Rattle.js_model.specs.declared.stream_config.StreamConfig.{StreamConfig}
 use Rattle.js_model.specs.declared.event.Event.{Event}
 use Rattle.js_model.specs.declared.event.Publish.{Publish}
 use Rattle.js_model.specs.declared.event.What.{What}
 use Rattle.js_model.specs.declared.event.What.TheVariants as whats
 use Rattle.js_model.specs.declared.entry.Delivery.{Delivery}
-use Rattle.js_model.specs.declared.entry.PlaceEntry.{PlaceEntry}
-use Rattle.js_model.specs.declared.entry.PlaceEntry.TheVariants.{Step, Deliver, Broken}
-use Rattle.js_model.specs.declared.reply.Reply.{Reply}
-use Rattle.js_model.specs.declared.reply.Reply.TheVariants.{Done, Refused, Silent}
+use Rattle.js_model.specs.declared.reply.Answer.{Answer}
+use Rattle.js_model.specs.declared.reply.Reply.TheVariants.{Done, Refused}
 use Rattle.js_model.specs.declared.reply.Verdict.{Verdict}
 use Rattle.js_model.specs.declared.reply.Verdict.TheVariants.{Take, Duplicate as TakenBefore, Refused as RefusedBy}
 use Rattle.js_base.specs.declared.out.Out.{Out}
 use Rattle.js_model.specs.Advance.{advance}
 use Rattle.js_model.specs.Configs.{same_stream_config, same_retention}
 use Rattle.js_model.specs.Deliver.{IsDelivered}
-use Rattle.js_model.specs.Events.{Answer, IsEvent, answered, is_refused, kept_incarnation, published, settled_state, stream_answer, stream_told, refused, vacant_answer, vacantly, with_id}
+use Rattle.js_model.specs.Events.{answered, is_refused, kept_incarnation, published, settled_state, stream_answer, stream_told, refused, vacant_answer, vacantly, with_id}
 use Rattle.js_model.specs.Consumers.{empty_stream}
 use Rattle.js_model.specs.Refusals.{other_config, retention_cannot_change, numbers_used_up}
 use Rattle.js_model.specs.Retention.{kept}
 use Rattle.js_model.specs.Trim.{trim}
 use Rattle.js_model.specs.Verdict.{verdict}
-use Rattle.js_model.specs.Runs.{RunFrom, IsStep, IsDeliverStep, new_messages}
 use Rattle.place_engine.specs.Places.{IsBuilt}
 use Rattle.js_desk.specs.Dropping.{is_drop}
 

@@ -11,6 +11,7 @@ pub mod Looked
 pub mod Lookups
 pub mod Opened
 pub mod Routed
+pub mod Sessions
 pub mod Sets
 pub mod Solos
 pub mod Turns

@@ -1,12 +1,12 @@
 -- Look-ups and calls of the catalog, as the entries that they make.
-use Rattle.std.proofs.Common.{◌≡◌, ℕ, Bool, true, false, List, [], ◌∷◌, length, Option, Some, None, Ok, refl, sym, ap, subst, ◌∙◌}
+use Rattle.std.proofs.Common.{◌≡◌, ℕ, Bool, false, List, [], ◌∷◌, Option, Ok, refl, subst}
 use Rattle.js_model.specs.declared.desk.PlaceAt.{PlaceAt}
 use Rattle.js_model.specs.Router.{Router}
 use Rattle.js_model.specs.Catalog as catalog
 use Rattle.js_model.specs.Catalog.{Catalog, CatCall, CatTold, IsCatalogCall}
 use Rattle.place_engine.specs.InMemory.{Contents}
 use Rattle.js_api.specs.Calls.{Resumes, Turns}
-use Rattle.js_api.specs.Entries.{DeskEntry, Looked, Turned, Resumed}
+use Rattle.js_api.specs.Entries.{Looked, Turned, Resumed}
 use Rattle.js_api.specs.Leading.{Makes}
 use Rattle.js_api.specs.Stages.{LooksUp}
 use Rattle.js_api.specs.Worlds.{place_or}
@@ -14,7 +14,7 @@ use Rattle.desk_calls.specs.Grounds as phases
 use Rattle.desk_calls.specs.Grounds.{Phase}
 use Rattle.js_desk.specs.declared.turn.Turn.{Turn}
 use Rattle.js_desk.specs.declared.turn.Turn.TheVariants as turns
-use Rattle.js_desk.specs.Grounds.{AreAgreed, AreSingle, IsGrounded, SoloMade, phase_of, standing}
+use Rattle.js_desk.specs.Grounds.{AreSingle, IsGrounded, SoloMade, phase_of, standing}
 
 module _ {V : Type 0} (r : Router) (places : List (Contents V)) (ticked : ℕ) (last : Option PlaceAt) where
   -- one call

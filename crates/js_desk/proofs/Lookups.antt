@@ -1,5 +1,5 @@
 -- What the look-ups of the catalog find.
-use Rattle.std.proofs.Common.{◌≡◌, ◌<◌, ◌≤◌, ◌+◌, ℕ, List, length, Option, Some, None, refl, sym, ap, ◌∙◌, arith}
+use Rattle.std.proofs.Common.{◌≡◌, ◌<◌, ◌≤◌, ℕ, length, Option, Some, None, refl, ap, ◌∙◌, arith}
 use Rattle.std.specs.Prelude.{IfSome}
 use Rattle.js_base.specs.Bytes.{Bytes, same}
 use Rattle.js_model.specs.declared.desk.PlaceAt.{PlaceAt}

@@ -1,27 +1,32 @@
 -- Calls of the router, as the entries that they make.
-use Rattle.std.proofs.Common.{◌≡◌, ℕ, true, false, List, [], ◌∷◌, Option, Some, None, Result, Ok, Err, refl, sym, ap, subst, ◌∙◌, inl, inr}
+use Rattle.std.proofs.Common.{◌≡◌, ℕ, Bool, true, false, List, [], ◌∷◌, Option, Some, None, Result, Ok, Err, IfOk, refl, sym, ap, subst, inl, inr}
 use Rattle.js_base.specs.Bytes.{Bytes}
 use Rattle.js_base.specs.declared.out.Out.{Out}
 use Rattle.js_model.specs.declared.desk.PlaceAt.{PlaceAt}
 use Rattle.js_model.specs.declared.route_fault.RouteFault.{RouteFault}
 use Rattle.js_model.specs.declared.route_fault.RouteFault.TheVariants as refused
 use Rattle.js_model.specs.Router as routes
-use Rattle.js_model.specs.Routing.{fault_told, collected_told, KeepsOpen}
+use Rattle.js_model.specs.Routing.{fault_told, collected_told, done_told, open_told, publish_told, KeepsOpen, LeavesFewer, Opens}
 use Rattle.js_model.specs.declared.desk.Collected.{Collected}
 use Rattle.js_model.specs.declared.desk.Collected.TheVariants.{Frames, Slow}
 use Rattle.js_model.specs.Catalog.{Catalog}
 use Rattle.place_engine.specs.InMemory.{Contents}
 use Rattle.js_api.specs.declared.fault.DeskFault.{DeskFault}
 use Rattle.js_api.specs.declared.fault.DeskFault.TheVariants as faults
-use Rattle.js_api.specs.Answering.{DeskAnswer, gives}
+use Rattle.js_api.specs.Answering.{DeskAnswer, Done, Opened, done, gave, gives, opened}
 use Rattle.js_api.specs.Calls.{MaySay, Routes, Says}
+use Rattle.js_api.specs.Collecting.{LeavesLess}
 use Rattle.js_api.specs.Entries.{DeskEntry, Routed}
 use Rattle.js_api.specs.Leading.{Makes}
+use Rattle.js_api.specs.Publishing.{Offers}
+use Rattle.js_api.specs.Stages.{SendsOne}
+use Rattle.desk_calls.specs.Callers.{client_of}
+use Rattle.desk_calls.specs.declared.caller.Caller.{Caller}
 use Rattle.desk_calls.specs.Grounds.{Setting}
 use Rattle.js_desk.specs.declared.turn.Turn.{Turn}
-use Rattle.js_desk.specs.Faults.{desk_fault}
+use Rattle.js_desk.specs.Faults.{desk_answer, desk_fault, sent}
 use Rattle.js_desk.specs.Grounds.{SoloMade, setting_of, standing}
-use Rattle.desk_hold.proofs.Refused.{open_kind, sub_kind, wants, never}
+use Rattle.desk_hold.proofs.Refused.{open_kind, sub_kind, wants, never, publish_done, sending_done, unsub_done, collect_done}
 
 -- ---- why a call is refused
 
@@ -44,6 +49,9 @@ sub_refused r new n pattern queue sid refused.Worn is_open h = absurd (sub_kind 
 
 -- ---- the entry
 
+abbrev pub opening_as : ℕ → (ℕ → Bool) → Setting
+opening_as places opened = record { opened = opened; places = places }
+
 module _ {V : Type 0} (r new : routes.Router) (c : Catalog) (places : List (Contents V)) (ticked : ℕ) (last : Option PlaceAt) (turn : Turn) where
   pub routed : (call : routes.RouteCall) (told : routes.RouteTold) → routes.IsRoute r call told new → SoloMade (standing r c places ticked last turn) (Routed call told ∷ []) (standing new c places ticked last turn)
   routed call told h = (((standing new c places ticked last turn).scene, (h, refl), refl), refl)
@@ -54,9 +62,77 @@ module _ {V : Type 0} (r new : routes.Router) (c : Catalog) (places : List (Cont
 
   -- the same sessions are open
   pub same_setting : KeepsOpen r new → setting_of (standing new c places ticked last turn).scene ≡ setting_of (standing r c places ticked last turn).scene
-  same_setting h = ap (λ (o : ℕ → _). (record { opened = o; places = (setting_of (standing r c places ticked last turn).scene).places } : Setting)) (λ i n. h n i)
+  same_setting h = ap (opening_as (setting_of (standing r c places ticked last turn).scene).places) (λ i n. h n i)
 
-  pub collected_so : (n max : ℕ) (got : Collected) → routes.IsRoute r (routes.Collect n max) (collected_told (Ok got)) new
-      → Makes SoloMade (Routes (routes.Collect n max) (Ok (gives got))) (standing r c places ticked last turn) (standing new c places ticked last turn)
-  collected_so n max (Frames list rest) h = routes_so (routes.Collect n max) (routes.Frames list rest) (Ok (gives (Frames list rest))) h tt refl
-  collected_so n max (Slow size) h = routes_so (routes.Collect n max) (routes.Slow size) (Ok (gives (Slow size))) h tt refl
+  module _ (call : routes.RouteCall) (fault : RouteFault) (only : fault ≡ refused.NoMemory) (h : routes.IsRoute r call (fault_told fault) new) where
+    wanting : routes.IsRoute r call routes.NoMemory new
+    wanting = subst (λ (f : RouteFault). routes.IsRoute r call (fault_told f) new) only h
+
+    abbrev Answered : (DeskFault → List DeskEntry → Type 0) → Type 0
+    Answered answers = Makes SoloMade (answers (desk_fault fault)) (standing r c places ticked last turn) (standing new c places ticked last turn)
+
+    -- memory ran out
+    wanted : (answers : DeskFault → List DeskEntry → Type 0) → answers faults.NoMemory (Routed call routes.NoMemory ∷ []) → Answered answers
+    wanted answers are =
+        subst (λ (f : RouteFault). Makes SoloMade (answers (desk_fault f)) (standing r c places ticked last turn) (standing new c places ticked last turn)) (sym only)
+        (record { entries = Routed call routes.NoMemory ∷ []; are = are; led = routed call routes.NoMemory wanting })
+
+  pub opened_so : (answer : Result ℕ RouteFault) → routes.IsRoute r routes.Open (open_told answer) new
+      → Makes SoloMade (Routes routes.Open (opened (desk_answer answer))) (standing r c places ticked last turn) (standing new c places ticked last turn)
+  opened_so (Ok session) h = routes_so routes.Open (routes.Opened session) (Ok (Opened session)) h tt refl
+  opened_so (Err fault) h = let f = open_refused r new fault h in routes_so routes.Open (fault_told fault) (Err (desk_fault fault)) h f.may f.says
+
+  pub subscribed_so : (n : ℕ) (pattern : Bytes) (queue : Option Bytes) (sid : Bytes) (answer : Result (Unit {0}) RouteFault) → routes.is_open r n ≡ true
+      → routes.IsRoute r (routes.Sub n pattern queue sid) (done_told answer) new
+      → Makes SoloMade (Routes (routes.Sub n pattern queue sid) (done (desk_answer answer))) (standing r c places ticked last turn) (standing new c places ticked last turn)
+  subscribed_so n pattern queue sid (Ok u) is_open h = routes_so (routes.Sub n pattern queue sid) routes.Done (Ok Done) h tt refl
+  subscribed_so n pattern queue sid (Err fault) is_open h =
+      let f = sub_refused r new n pattern queue sid fault is_open h in routes_so (routes.Sub n pattern queue sid) (fault_told fault) (Err (desk_fault fault)) h f.may f.says
+
+  pub unsubscribed_so : (n : ℕ) (sid : Bytes) (max : Option ℕ) (answer : Result (Unit {0}) RouteFault) → routes.is_open r n ≡ true → routes.IsRoute r (routes.Unsub n sid max) (done_told answer) new
+      → Makes SoloMade (Routes (routes.Unsub n sid max) (done (desk_answer answer))) (standing r c places ticked last turn) (standing new c places ticked last turn)
+  unsubscribed_so n sid max (Ok u) is_open h = routes_so (routes.Unsub n sid max) routes.Done (Ok Done) h tt refl
+  unsubscribed_so n sid max (Err fault) is_open h = absurd (never r new (routes.Unsub n sid max) fault (unsub_done r n sid max is_open) refl h)
+
+  pub published_so : (caller : Caller) (message : Out) (answer : Result ℕ RouteFault) → routes.is_open r caller.session ≡ true → routes.IsRoute r (routes.Publish message (Some caller.session)) (publish_told answer) new
+      → Makes SoloMade (Offers (client_of caller) message (desk_answer answer)) (standing r c places ticked last turn) (standing new c places ticked last turn)
+  published_so caller message (Ok count) is_open h = record {
+    entries = Routed (routes.Publish message (Some caller.session)) (routes.Taken count) ∷ [];
+    are = refl;
+    led = routed (routes.Publish message (Some caller.session)) (routes.Taken count) h;
+  }
+  published_so caller message (Err fault) is_open h =
+      let call = routes.Publish message (Some caller.session) in
+      wanted call fault (wants r new call fault (publish_done r caller.session message is_open) h) h (λ (f : DeskFault). Offers (client_of caller) message (Err f)) refl
+
+  pub sent_so : (message : Out) (answer : Result ℕ RouteFault) → routes.IsRoute r (routes.Publish message None) (publish_told answer) new
+      → Makes SoloMade (SendsOne message (sent answer)) (standing r c places ticked last turn) (standing new c places ticked last turn)
+  sent_so message (Ok count) h = record {
+    entries = Routed (routes.Publish message None) (routes.Taken count) ∷ [];
+    are = (count, refl);
+    led = routed (routes.Publish message None) (routes.Taken count) h;
+  }
+  sent_so message (Err fault) h =
+      let call = routes.Publish message None in
+      wanted call fault (wants r new call fault (sending_done r message) h) h (λ (f : DeskFault). SendsOne message (Err f)) (inr refl)
+
+  pub collected_so : (n max : ℕ) (answer : Result Collected RouteFault) → routes.is_open r n ≡ true → routes.IsRoute r (routes.Collect n max) (collected_told answer) new
+      → Makes SoloMade (Routes (routes.Collect n max) (gave (desk_answer answer))) (standing r c places ticked last turn) (standing new c places ticked last turn)
+  collected_so n max (Ok (Frames list rest)) is_open h = routes_so (routes.Collect n max) (routes.Frames list rest) (Ok (gives (Frames list rest))) h tt refl
+  collected_so n max (Ok (Slow size)) is_open h = routes_so (routes.Collect n max) (routes.Slow size) (Ok (gives (Slow size))) h tt refl
+  collected_so n max (Err fault) is_open h =
+      let call = routes.Collect n max in
+      let only = wants r new call fault (collect_done r n max is_open) h in
+      wanted call fault only h (λ (f : DeskFault). Routes call (Err f)) (inl (routes.NoMemory, refl, refl, refl))
+
+-- if a collect left more, it left less than before
+pub collect_leaves : (answer : Result Collected RouteFault) (before after : ℕ) → LeavesFewer answer before after → LeavesLess (desk_answer answer) before after
+collect_leaves (Ok (Frames list true)) before after h = h
+collect_leaves (Ok (Frames list false)) before after h = tt
+collect_leaves (Ok (Slow size)) before after h = tt
+collect_leaves (Err fault) before after h = tt
+
+-- a session that was opened is open
+pub opened_opens : (new : routes.Router) (answer : Result ℕ RouteFault) → IfOk answer (Opens new) → IfOk (desk_answer answer) (λ session. routes.is_open new session ≡ true)
+opened_opens new (Ok session) h = h.0
+opened_opens new (Err fault) h = tt

@@ -1,5 +1,5 @@
 -- A list of which one element was put.
-use Rattle.std.proofs.Common.{◌≡◌, ℕ, zero, suc, List, [], ◌∷◌, length, map, Option, Some, None, refl, sym, ap, ◌∙◌}
+use Rattle.std.proofs.Common.{◌≡◌, ℕ, zero, suc, List, [], ◌∷◌, length, map, Some, refl, sym, ap}
 use Rattle.std.specs.Prelude.{slice_get, slice_set}
 
 module _ {X : Type 0} where

@@ -1,11 +1,22 @@
 -- What the ground of the desk makes, the desk makes.
-use Rattle.std.proofs.Common.{◌≡◌, List}
+use Rattle.std.proofs.Common.{◌≡◌, ◌≤◌, ℕ, List, length, sym, ap, subst, ◌∙◌}
 use Rattle.js_api.specs.Entries.{DeskEntry}
-use Rattle.js_api.specs.Leading.{Leads, Makes}
-use Rattle.js_api.specs.Worlds.{SoloStep}
+use Rattle.js_api.specs.Leading.{Makes}
 use Rattle.desk_calls.specs.declared.caller.Caller.{Caller}
-use Rattle.js_desk.specs.Grounds.{SoloMade, Standing}
-use Rattle.js_desk.specs.Solo.{DeskMade, solo}
+use Rattle.js_model.specs.Router.{is_open}
+use Rattle.desk_calls.specs.Grounds.{Outside, Setting}
+use Rattle.js_desk.specs.Grounds.{SoloMade, Standing, setting_of}
+use Rattle.js_desk.specs.Solo.{DeskMade, IsConsistent, solo}
 
 pub desk_made : {V : Type 0} (P : List DeskEntry → Type 0) (old new : Standing V) (before after : Caller) → Makes SoloMade P old new → Makes DeskMade P (solo old before) (solo new after)
 desk_made P old new before after h = record { entries = h.entries; are = h.are; led = h.led }
+
+-- a call that opens and closes no session leaves the desk consistent
+pub kept_consistent : {V : Type 0} (old new : Standing V) (before after : Caller) (vols : List V) (capacity : ℕ) → IsConsistent old before vols capacity → setting_of new.scene ≡ setting_of old.scene
+    → new.phase ≡ Outside → new.vols ≡ old.vols → after.session ≡ before.session → after.is_open ≡ before.is_open → IsConsistent new after vols capacity
+kept_consistent old new before after vols capacity k same outside own session state = record {
+  outside = outside;
+  opened = λ yes. ap (λ (s : Setting). s.opened after.session) same ∙ ap (λ (n : ℕ). is_open old.scene.world.router n) session ∙ k.opened (sym state ∙ yes);
+  empty = k.empty;
+  room = subst (λ (vs : List _). length vs ≤ capacity) (sym own) k.room;
+}

@@ -1,5 +1,5 @@
 -- What the calls of a turn of the catalog keep: one list of subjects for each stream, and the incarnations that the places keep.
-use Rattle.std.proofs.Common.{◌≡◌, ◌≢◌, ◌+◌, ℕ, Bool, true, false, List, [], ◌∷◌, length, Option, Some, None, refl, sym, ap, subst, ◌∙◌, if◌then◌else◌, IsNone, is_none}
+use Rattle.std.proofs.Common.{◌≡◌, ◌≢◌, ◌+◌, ℕ, Bool, true, false, List, Option, Some, None, refl, sym, ap, ◌∙◌, if◌then◌else◌, IsNone, is_some}
 use Rattle.std.specs.Prelude.{◌==◌, slice_get}
 use Rattle.std.proofs.lemmas.Bool.{eq-eqb, ne_eqb}
 use Rattle.js_base.specs.Bytes.{Bytes}
@@ -47,12 +47,12 @@ module _ {V : Type 0} (c : Catalog) (places : List (Contents V)) (place : ℕ) w
   kept_one new (Some u) p = by u.stopped refl
     where
       lists : (other : Option (List Bytes)) → u.new_subjects ≡ other → (kept_list new u other).stopped ≡ false → IsNone (kept_list new u other).new_subjects
-      lists None e going = ap is_none e
+      lists None e going = ap is_some e
       lists (Some subjects) e going = refl
 
-      by : (b : Bool) → u.stopped ≡ b → (if u.stopped then u else kept_list new u u.new_subjects).stopped ≡ false → IsNone (if u.stopped then u else kept_list new u u.new_subjects).new_subjects
-      by true e = rw e (λ going. absurd (cc (e, going)))
-      by false e = rw e (lists u.new_subjects refl)
+      by : (b : Bool) → u.stopped ≡ b → (if b then u else kept_list new u u.new_subjects).stopped ≡ false → IsNone (if b then u else kept_list new u u.new_subjects).new_subjects
+      by true e going = absurd (cc (e, going))
+      by false e going = lists u.new_subjects refl going
 
   pub kept_single : (new : Bool) → AreSingle (turns.Between place) c → AreSingle turns.Within (edited (on_used (keeping new)) place c)
   kept_single new h = edited_all (on_used (keeping new)) place c (One (turns.Between place)) (One turns.Within) h (λ p one b. kept_one new p.used p) (λ n p other one b. one (ne_eqb place n other))

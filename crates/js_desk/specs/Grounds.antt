@@ -1,8 +1,8 @@
 -- What contracts see of the ground of one caller, and what holds of it.
-use Rattle.std.specs.Prelude.{◌≡◌, ◌≤◌, ◌<◌, ◌+◌, ◌==◌, ℕ, Bool, true, false, List, [], ◌∷◌, map, length, Option, None, Some, IsNone, IfSome, slice_get, if◌then◌else◌}
-use Rattle.js_model.specs.declared.stream.State.{State}
+use Rattle.std.specs.Prelude.{◌≡◌, ◌≤◌, ◌<◌, ◌+◌, ◌==◌, ℕ, Bool, true, false, List, [], ◌∷◌, map, length, Option, None, Some, IsNone, IfSome, Result, Ok, Err, slice_get, if◌then◌else◌}
 use Rattle.js_model.specs.declared.stream.State.TheVariants.{Vacant}
 use Rattle.js_model.specs.declared.desk.PlaceAt.{PlaceAt}
+use Rattle.js_model.specs.declared.catalog_fault.CatalogFault.{CatalogFault}
 use Rattle.js_model.specs.Catalog.{Catalog, Used, Place}
 use Rattle.js_model.specs.Events.{kept_incarnation}
 use Rattle.js_model.specs.PlaceStates.{PlaceIn, in_memory}
@@ -105,7 +105,12 @@ abbrev pub AreFresh : {V : Type 0} → List (Contents V) → Type 0
 AreFresh [] = Unit {0}
 AreFresh (place ∷ places) = (place.state ≡ Vacant 0) × AreFresh places
 
--- ---- holds
+-- ---- the turn after a call
+
+-- after the subjects of the stream of a place were changed, or were not
+abbrev pub after_change : Turn → Result (Unit {0}) CatalogFault → ℕ → Turn
+after_change turn (Ok done) place = turns.Between place
+after_change turn (Err fault) place = turn
 
 -- the turn after a hold, by which a stream was dropped or not
 abbrev pub after_hold : Turn → Bool → ℕ → Turn

@@ -1,7 +1,7 @@
 //! Why a desk was not opened, what is left of one, and why a call of its router is refused.
 
 ghost use Rattle.std.specs.Prelude.{◌≡◌};
-ghost use Rattle.js_desk.specs.Faults.{desk_fault};
+ghost use Rattle.js_desk.specs.Faults.{desk_answer, desk_fault, sent};
 
 use js_api::DeskFault;
 use js_model::RouteFault;
@@ -38,7 +38,7 @@ pub struct Closed<V> {
 }
 
 /// Why a call of a desk is refused, by why its router refused it.
-pub(crate) fn desk_fault(fault: RouteFault) -> DeskFault
+fn desk_fault(fault: RouteFault) -> DeskFault
     ensures value { result ≡ desk_fault fault }
 {
     match fault {
@@ -46,5 +46,25 @@ pub(crate) fn desk_fault(fault: RouteFault) -> DeskFault
         RouteFault::TooManySubs => DeskFault::TooManySubs,
         RouteFault::NoMemory => DeskFault::NoMemory,
         RouteFault::Worn => DeskFault::Worn(LAST_SESSION),
+    }
+}
+
+/// What a call of a desk answers, by what its router answered.
+pub(crate) fn desk_answer<T>(answer: Result<T, RouteFault>) -> Result<T, DeskFault>
+    ensures value { result ≡ desk_answer answer }
+{
+    match answer {
+        Ok(value) => Ok(value),
+        Err(fault) => Err(desk_fault(fault)),
+    }
+}
+
+/// What the sending of a message answers, by what the router answered.
+pub(crate) fn sent(answer: Result<u64, RouteFault>) -> Result<(), DeskFault>
+    ensures value { result ≡ sent answer }
+{
+    match answer {
+        Ok(_) => Ok(()),
+        Err(fault) => Err(desk_fault(fault)),
     }
 }

@@ -1,18 +1,18 @@
 //! What the desk of one caller stands on: the router, the catalog and the places, which all are its own.
 
-ghost use Rattle.std.specs.Prelude.{◌≡◌, ◌≤◌, None, Some, if◌then◌else◌, length, map};
+ghost use Rattle.std.specs.Prelude.{◌≡◌, ◌≤◌, ◌&&◌, OnErr, None, Some, true, if◌then◌else◌, length, map, replicate};
 ghost use Rattle.js_api.specs.Leading.{leads_more, leads_nothing};
-ghost use Rattle.js_api.specs.Worlds.{SoloStep, opening};
-ghost use Rattle.js_model.specs.Catalog.{new_place};
+ghost use Rattle.js_api.specs.Worlds.{SoloStep, opening, place_or};
+ghost use Rattle.js_model.specs.Catalog.{Add, IsCatalogCall, new_place};
+ghost use Rattle.js_model.specs.Cataloging.{add_told};
 ghost use Rattle.js_model.specs.Routing.{waiting_for};
 ghost use Rattle.std.proofs.Common.{refl, ◌∙◌};
 ghost use Rattle.js_desk.specs.Dropping.{is_drop};
 ghost use Rattle.js_desk.specs.Grounds.{AreFresh, SoloMade, is_held, place_in, setting_of, volumes};
 ghost use Rattle.desk_calls.specs.Grounds.{Outside};
 ghost use Rattle.desk_answers.specs.Became.{is_dropped};
-ghost use Rattle.std.specs.Prelude.{replicate};
 
-use crate::faults::desk_fault;
+use crate::faults::{desk_answer, sent};
 use crate::turn::Turn;
 use catalog::Catalog;
 use desk_calls::{Caller, Ground};
@@ -49,11 +49,11 @@ impl<V> Model for SoloGround<V> {
     ghost invariant = { λ ground. IsGrounded ground.catalog ground.places.items ground.last ground.turn };
 }
 
-/// Whether a stream was dropped, if that was asked.
-fn is_dropped(became: &Became) -> bool
-    ensures value { result ≡ is_dropped became.now }
+/// Whether a stream was dropped by what became so, if that was asked.
+fn is_dropped(asked: bool, became: &Became) -> bool
+    ensures value { result ≡ (asked && is_dropped became.now) }
 {
-    match became {
+    let done = match became {
         Became::Made(reply) => matches!(reply, Reply::Done),
         Became::Unsaid { refused } => !*refused,
         Became::Ticked => false,
@@ -61,7 +61,8 @@ fn is_dropped(became: &Became) -> bool
         Became::Broke { stream: _ } => false,
         Became::Stopped { stream: _ } => false,
         Became::Gone => false,
-    }
+    };
+    asked && done
 }
 
 /// Whether a stream is asked to be dropped.
@@ -83,6 +84,27 @@ fn last_of(became: &Became, at: PlaceAt, before: Option<PlaceAt>) -> Option<Plac
         Became::Nothing => before,
         Became::Stopped { stream: _ } => before,
         Became::Gone => before,
+    }
+}
+
+/// The place that was found, or the one before.
+fn place_or(before: u32, found: Option<PlaceAt>) -> u32
+    ensures value { result ≡ place_or before found }
+{
+    match found {
+        Some(at) => at.place,
+        None => before,
+    }
+}
+
+/// Takes a place of the catalog for a stream of this name, of which it keeps a copy. An `Err` takes none.
+fn add_named(catalog: &mut Catalog, name: &Name, subjects: &[Blob]) -> Result<PlaceAt, CatalogFault>
+    ensures added { IsCatalogCall catalog.old (Add name.now subjects.now) (add_told result) catalog.new }
+    ensures err { OnErr result (catalog.new ≡ catalog.old) }
+{
+    match name.clone() {
+        Ok(name) => catalog.add(name, subjects),
+        Err(_) => Err(CatalogFault::NoMemory),
     }
 }
 
@@ -138,15 +160,14 @@ impl<V> Ground for SoloGround<V> {
 
     ghost left = { λ ground session. waiting_for ground.scene.world.router session };
 
+    ghost alone = { true };
+
     fn alloc(&self) -> Global {
         self.alloc
     }
 
     fn open(&mut self) -> Result<u64, DeskFault> {
-        match self.router.open() {
-            Ok(session) => Ok(session),
-            Err(fault) => Err(desk_fault(fault)),
-        }
+        desk_answer(self.router.open())
     }
 
     fn options(&mut self, session: u64, echo: bool, headers: bool) -> Result<(), DeskFault> {
@@ -161,38 +182,23 @@ impl<V> Ground for SoloGround<V> {
         queue: Option<&[u8]>,
         sid: &[u8],
     ) -> Result<(), DeskFault> {
-        match self.router.sub(session, subject, queue, sid) {
-            Ok(()) => Ok(()),
-            Err(fault) => Err(desk_fault(fault)),
-        }
+        desk_answer(self.router.sub(session, subject, queue, sid))
     }
 
     fn unsub(&mut self, session: u64, sid: &[u8], max: Option<u64>) -> Result<(), DeskFault> {
-        match self.router.unsub(session, sid, max) {
-            Ok(()) => Ok(()),
-            Err(_) => unreachable!(),
-        }
+        desk_answer(self.router.unsub(session, sid, max))
     }
 
     fn publish(&mut self, message: &Out, caller: Caller) -> Result<u64, DeskFault> {
-        match self.router.publish(message, Some(caller.session)) {
-            Ok(count) => Ok(count),
-            Err(_) => Err(DeskFault::NoMemory),
-        }
+        desk_answer(self.router.publish(message, Some(caller.session)))
     }
 
     fn send(&mut self, out: &Out) -> Result<(), DeskFault> {
-        match self.router.publish(out, None) {
-            Ok(_) => Ok(()),
-            Err(_) => Err(DeskFault::NoMemory),
-        }
+        sent(self.router.publish(out, None))
     }
 
     fn collect(&mut self, session: u64, max: usize) -> Result<Collected, DeskFault> {
-        match self.router.collect(session, max) {
-            Ok(collected) => Ok(collected),
-            Err(_) => Err(DeskFault::NoMemory),
-        }
+        desk_answer(self.router.collect(session, max))
     }
 
     fn close(&mut self, session: u64) -> Result<(), DeskFault> {
@@ -216,9 +222,7 @@ impl<V> Ground for SoloGround<V> {
 
     fn turn(&mut self) -> Result<Option<PlaceAt>, DeskFault> {
         let found = self.catalog.next_used(self.ticked);
-        if let Some(at) = found {
-            self.ticked = at.place;
-        }
+        self.ticked = place_or(self.ticked, found);
         Ok(found)
     }
 
@@ -230,21 +234,13 @@ impl<V> Ground for SoloGround<V> {
     }
 
     fn add(&mut self, name: &Name, subjects: &[Blob]) -> Result<PlaceAt, CatalogFault> {
-        let name = match name.clone() {
-            Ok(name) => name,
-            Err(_) => return Err(CatalogFault::NoMemory),
-        };
-        self.catalog.add(name, subjects)
+        add_named(&mut self.catalog, name, subjects)
     }
 
     fn change(&mut self, at: PlaceAt, subjects: &[Blob]) -> Result<(), CatalogFault> {
-        match self.catalog.change(at.place, subjects) {
-            Ok(()) => {
-                self.turn = Turn::Between(at.place);
-                Ok(())
-            }
-            Err(fault) => Err(fault),
-        }
+        let changed = self.catalog.change(at.place, subjects);
+        self.turn = self.turn.after_change(&changed, at.place);
+        changed
     }
 
     fn keep(&mut self, place: u32, new: bool) {
@@ -273,7 +269,7 @@ impl<V> Ground for SoloGround<V> {
     }
 
     fn hold(&mut self, at: PlaceAt, what: What, now: Moment) -> Outcome {
-        let drops = is_drop(&what);
+        let asked = is_drop(&what);
         let outcome = hold_on(
             self.alloc,
             &mut self.places[at.place as usize],
@@ -282,7 +278,7 @@ impl<V> Ground for SoloGround<V> {
             what,
             now,
         );
-        let dropped = drops && is_dropped(&outcome.became);
+        let dropped = is_dropped(asked, &outcome.became);
         self.turn = self.turn.after_hold(dropped, at.place);
         self.last = last_of(&outcome.became, at, self.last);
         outcome

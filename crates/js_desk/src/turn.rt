@@ -1,7 +1,9 @@
 //! Whether a caller is in a turn of the catalog.
 
 ghost use Rattle.std.specs.Prelude.{◌≡◌};
-ghost use Rattle.js_desk.specs.Grounds.{after_hold};
+ghost use Rattle.js_desk.specs.Grounds.{after_change, after_hold};
+
+use js_model::CatalogFault;
 
 /// Whether a caller is in a turn of the catalog, and what of it is still to be told there.
 #[derive(Clone, Copy, Debug, PartialEq, Eq)]
@@ -16,6 +18,16 @@ pub(crate) enum Turn {
 }
 
 impl Turn {
+    /// The turn after the subjects of the stream of a place were changed, or were not.
+    pub(crate) fn after_change(self, changed: &Result<(), CatalogFault>, place: u32) -> Turn
+        ensures value { result ≡ after_change self changed.now place }
+    {
+        match changed {
+            Ok(()) => Turn::Between(place),
+            Err(_) => self,
+        }
+    }
+
     /// The turn after a hold at a place, by which its stream was dropped or not.
     pub(crate) fn after_hold(self, dropped: bool, place: u32) -> Turn
         ensures value { result ≡ after_hold self dropped place }

@@ -1,28 +1,35 @@
 -- Laws of the ends of a run.
-use Rattle.std.proofs.Common.{◌≡◌, ◌+◌, ℕ, List, [], ◌∷◌, Option, None, Some, inl, inr, arith, refl, sym, ◌∙◌, subst, option_map}
+use Rattle.std.proofs.Common.{◌≡◌, ◌+◌, ℕ, List, [], ◌∷◌, Option, None, Some, Result, Ok, Err, inl, inr, arith, refl, sym, ◌∙◌, subst, option_map}
 use Rattle.std.specs.Prelude.{IfSome, ◌↔◌}
 use Rattle.js_base.specs.Bytes.{Bytes}
+use Rattle.js_base.specs.Causes.{HasCause, Rose, raised}
+use Rattle.js_base.specs.declared.out.ApiError.{ApiError}
+use Rattle.js_model.specs.PlaceStates.{PlaceIn}
 use Rattle.link_edge.specs.Told.{grown}
-use Rattle.link_edge.specs.Causes.{HasCause, Rose}
-use Rattle.link_edge.specs.Reports.{Report, IsFresh}
+use Rattle.link_edge.specs.Failings.{no_failings}
+use Rattle.link_edge.specs.Reports.{Report, HasOut, IsFresh}
 use Rattle.link_edge.specs.declared.answers.Answer.{Answer}
 use Rattle.link_edge.specs.declared.answers.Accepted.{Accepted}
 use Rattle.link_edge.specs.declared.answers.Accepted.TheVariants as accepted
-use Rattle.link_edge.proofs.Told.{grown-nil}
-use Rattle.js_api.specs.Desks.{World}
-use Rattle.js_desk.specs.Solo.{Solo, SoloRun}
+use Rattle.link_edge.specs.declared.failings.Failings.{Failings}
+use Rattle.js_api.specs.declared.fault.DeskFault.{DeskFault}
+use Rattle.js_api.specs.Worlds.{Scene}
+use Rattle.js_desk.specs.GivingBack.{Closes}
+use Rattle.js_desk.specs.Solo.{Solo, DeskMade}
+use Rattle.js_desk.specs.declared.faults.Closed.{Closed}
+use Rattle.session.specs.Failing.{FailsBy, FailsAt}
 use Rattle.session.specs.Session.{Serves}
-use Rattle.session.specs.Talk.{answers_of}
+use Rattle.session.specs.Stopping.{end_of_fault}
+use Rattle.session.specs.Talk.{Last, Greeting, Nothing, Told, Within, Waiting, answers_of}
 use Rattle.session.specs.declared.ending.Limits.{Limits}
 use Rattle.session.specs.declared.ending.Ended.{Ended}
 use Rattle.session.specs.declared.ending.Ended.TheVariants as ends
 use Rattle.server.specs.declared.words.NamedStream.{NamedStream}
 use Rattle.server.specs.declared.words.Command.{Command}
 use Rattle.server.specs.declared.words.Command.TheVariants.{Pipe}
-use Rattle.server.specs.Outside.{DoorTold, Outside}
+use Rattle.server.specs.Outside.{DoorTold, SinkTold, Outside}
 use Rattle.server.specs.Accepting.{IsAccepted, IsQuiet}
-use Rattle.server.specs.Preparing.{ReadsFor}
-use Rattle.server.specs.Running.{IsUnserved, WasClosed, HasFailed, WasQuiet, HasStarved, IsGivenBack, IsRefused, Waits, PipeEnds, Starved, Refused, Open, CommandEnds, pipe_limits, status_of}
+use Rattle.server.specs.Running.{IsUnserved, WasClosed, HasFailed, WasQuiet, HasStarved, WasUnasked, IsGivenBack, Waits, Unmakes, Attends, Unmade, Awaited, IsUnmade, PipeEnds, Unopened, Attended, CommandEnds, opened_of, pipe_limits, status_of}
 use Rattle.server.proofs.Arriving.{told_whole}
 
 -- ---- the status
@@ -42,28 +49,52 @@ ended_other ends.InputLimit = record { words = λ e. cc; stream = λ e. cc }
 ended_other ends.NoMemory = record { words = λ e. cc; stream = λ e. cc }
 
 unserved_other : (status : ℕ) (old new : DoorTold) → IsUnserved status old new → IsOther status
-unserved_other status old new (WasClosed s a) = record { words = λ e. omega (arith, s, e); stream = λ e. omega (arith, s, e) }
-unserved_other status old new (HasFailed s r a) = record { words = λ e. omega (arith, s, e); stream = λ e. omega (arith, s, e) }
-unserved_other status old new (WasQuiet s a) = record { words = λ e. omega (arith, s, e); stream = λ e. omega (arith, s, e) }
-unserved_other status old new (HasStarved s a) = record { words = λ e. omega (arith, s, e); stream = λ e. omega (arith, s, e) }
+unserved_other status old new (WasClosed s a n) = record { words = λ e. omega (arith, s, e); stream = λ e. omega (arith, s, e) }
+unserved_other status old new (HasFailed s r a n) = record { words = λ e. omega (arith, s, e); stream = λ e. omega (arith, s, e) }
+unserved_other status old new (WasQuiet s a n) = record { words = λ e. omega (arith, s, e); stream = λ e. omega (arith, s, e) }
+unserved_other status old new (HasStarved s a n) = record { words = λ e. omega (arith, s, e); stream = λ e. omega (arith, s, e) }
+unserved_other status old new (WasUnasked s a n) = record { words = λ e. omega (arith, s, e); stream = λ e. omega (arith, s, e) }
 
-waits_other : (world : World) (status : ℕ) (old new : DoorTold) (c0 c1 : Option (List ℕ)) → Waits world status old new c0 c1 → IsOther status
-waits_other world status old new c0 c1 (inl h) = unserved_other status old new h.unserved
-waits_other world status old new c0 c1 (inr h) =
+waits_other : (scene after : Scene) (status : ℕ) (old new : DoorTold) (c0 c1 : Option (List ℕ)) → Waits scene after status old new c0 c1 → IsOther status
+waits_other scene after status old new c0 c1 (inl h) = unserved_other status old new h.unserved
+waits_other scene after status old new c0 c1 (inr h) =
     subst IsOther (sym h.given_back.served.status_is) (ended_other h.given_back.served.ended)
 
--- no run of `pipe` ends with the status of another command line
-pipe_worded : (count : ℕ) (stream : Option NamedStream) (status : ℕ) (old new : Outside) → PipeEnds count stream status old new → status ≡ 2 → ⊥
-pipe_worded count stream status old new (Starved h) e = omega (arith, h.status_is, e)
-pipe_worded count stream status old new (Refused h) e = omega (arith, h.status_is, e)
-pipe_worded count stream status old new (Open h) e = (waits_other h.world status old.door new.door h.rest new.clock h.waits).words e
+-- a making that failed has no status of another command line
+unmade_worded : (result : Result (Option ApiError) DeskFault) (status : ℕ) (old new : SinkTold) → Unmakes result status old new → status ≡ 2 → ⊥
+unmade_worded (Ok None) status old new h e = absurd h
+unmade_worded (Ok (Some error)) status old new h e = omega (arith, h.0, e)
+unmade_worded (Err fault) status old new h e = (ended_other (end_of_fault fault)).words (sym h ∙ e)
 
--- and with 11 the stream was refused
-pub pipe_refused : (count : ℕ) (stream : Option NamedStream) (status : ℕ) (old new : Outside) → PipeEnds count stream status old new → status ≡ 11
-    → IsRefused count stream status old new
-pipe_refused count stream status old new (Starved h) e = absurd (omega (arith, h.status_is, e))
-pipe_refused count stream status old new (Refused h) e = h
-pipe_refused count stream status old new (Open h) e = absurd ((waits_other h.world status old.door new.door h.rest new.clock h.waits).stream e)
+attends_worded : (opened : List PlaceIn) (stream : Option NamedStream) (after : Scene) (status : ℕ) (old new : Outside) → Attends opened stream after status old new → status ≡ 2 → ⊥
+attends_worded opened stream after status old new (Unmade h) e = unmade_worded h.result status old.sink new.sink h.unmade e
+attends_worded opened stream after status old new (Awaited h) e = (waits_other h.scene after status old.door new.door h.rest new.clock h.waits).words e
+
+-- no run of `pipe` ends with the status of another command line
+pipe_worded : {V : Type 0} (opened : List PlaceIn) (stream : Option NamedStream) (status : ℕ) (v0 v1 : List V) (old new : Outside) → PipeEnds opened stream status None v0 v1 old new → status ≡ 2 → ⊥
+pipe_worded opened stream status v0 v1 old new (Unopened h) e = omega (arith, h.status_is, e)
+pipe_worded opened stream status v0 v1 old new (Attended h) e = attends_worded opened stream h.after h.talked old new h.attends (sym h.status_is ∙ e)
+
+-- ---- the stream
+
+-- with 11 the stream was refused
+pub record IsRefusal (result : Result (Option ApiError) DeskFault) : Type 0 where
+  pub error : ApiError
+  pub is : result ≡ Ok (Some error)
+
+unmade_refusal : (result : Result (Option ApiError) DeskFault) (status : ℕ) (old new : SinkTold) → Unmakes result status old new → status ≡ 11 → IsRefusal result
+unmade_refusal (Ok None) status old new h e = absurd h
+unmade_refusal (Ok (Some error)) status old new h e = record { error = error; is = refl }
+unmade_refusal (Err fault) status old new h e = absurd ((ended_other (end_of_fault fault)).stream (sym h ∙ e))
+
+pub record WasRefused (opened : List PlaceIn) (stream : Option NamedStream) (after : Scene) (status : ℕ) (old new : Outside) : Type 0 where
+  pub unmade : IsUnmade opened stream after status old new
+  pub refusal : IsRefusal unmade.result
+
+pub attends_refused : (opened : List PlaceIn) (stream : Option NamedStream) (after : Scene) (status : ℕ) (old new : Outside) → Attends opened stream after status old new → status ≡ 11
+    → WasRefused opened stream after status old new
+attends_refused opened stream after status old new (Unmade h) e = record { unmade = h; refusal = unmade_refusal h.result status old.sink new.sink h.unmade e }
+attends_refused opened stream after status old new (Awaited h) e = absurd ((waits_other h.scene after status old.door new.door h.rest new.clock h.waits).stream e)
 
 -- status 3 is that of a link's failure
 ended_by_link : (ended : Ended) → status_of ended ≡ 3 → ended ≡ ends.LinkFault
@@ -77,22 +108,48 @@ ended_by_link ends.NoMemory e = cc
 
 -- ---- the link
 
+-- what a fresh link tells of its failings is told from nothing on
+failed_by : (ended : Ended) (failings : Failings) → FailsBy ended None (Some failings) → ⊥
+failed_by ends.Closed failings h = cc
+failed_by (ends.Refused refusal) failings h = cc
+failed_by (ends.Slow size) failings h = cc
+failed_by ends.Stale failings h = cc
+failed_by ends.LinkFault failings h = cc
+failed_by ends.InputLimit failings h = cc
+failed_by ends.NoMemory failings (inl h) = cc
+failed_by ends.NoMemory failings (inr h) = cc
+
+none_told : (last : Last) (ended : Ended) (failings : Failings) → FailsAt last ended None (Some failings) → ⊥
+none_told Greeting ended failings h = failed_by ended failings h
+none_told Nothing ended failings h = failed_by ended failings h
+none_told (Told answer) ended failings h = cc
+none_told (Within turn begun calls) ended failings h = failed_by ended failings h
+none_told (Waiting moment) ended failings h = failed_by ended failings h
+
+failed_whole : (last : Last) (ended : Ended) (old new : Option Failings) → old ≡ option_map (λ _. no_failings) old → FailsAt last ended old new
+    → IfSome new (λ failings. FailsAt last ended (Some no_failings) (Some failings))
+failed_whole last ended old None fresh h = tt
+failed_whole last ended None (Some failings) fresh h = absurd (none_told last ended failings h)
+failed_whole last ended (Some first) (Some failings) fresh h = subst (λ (o : Option Failings). FailsAt last ended o (Some failings)) fresh h
+
 -- a fresh link was served, and came back
-pub given_back : {V : Type 0} (limits : Limits) (desk new : Solo V) (ended : Ended) (status : ℕ) (a0 a1 : Option (List Answer)) (g0 g1 : Option Bytes) (f0 f1 : ℕ) (b0 b1 : Option (List Report)) (c0 c1 : Option (List ℕ))
-    → Serves SoloRun limits desk new a0 a1 g0 g1 c0 c1 ended → IsFresh a0 g0 f0 → HasCause f0 f1 (ended ≡ ends.LinkFault)
-    → b1 ≡ grown b0 (record { answered = a1; given = g1; faults = f1 } ∷ []) → status ≡ status_of ended → IsGivenBack limits desk.world status b0 b1 c0 c1
-given_back limits desk new ended status a0 a1 g0 g1 f0 f1 b0 b1 c0 c1 s fresh cause back e = record {
-  report = record { answered = a1; given = g1; faults = f1 };
+pub given_back : {V : Type 0} (limits : Limits) (desk new : Solo V) (ended : Ended) (status : ℕ) (a0 a1 : Option (List Answer)) (g0 g1 : Option Bytes) (n0 n1 : Option Failings) (f0 f1 : ℕ)
+    (gave : Option ℕ) (b0 b1 : Option (List Report)) (c0 c1 : Option (List ℕ))
+    → Serves DeskMade limits desk new a0 a1 g0 g1 c0 c1 n0 n1 ended → IsFresh a0 g0 n0 f0 → HasCause f0 f1 (ended ≡ ends.LinkFault)
+    → (HasOut gave b0 → b1 ≡ grown b0 (record { answered = a1; given = g1; failings = n1; faults = f1 } ∷ [])) → status ≡ status_of ended
+    → IsGivenBack limits desk.scene new.scene status gave b0 b1 c0 c1
+given_back limits desk new ended status a0 a1 g0 g1 n0 n1 f0 f1 gave b0 b1 c0 c1 s fresh cause back e = record {
+  report = record { answered = a1; given = g1; failings = n1; faults = f1 };
   back = back;
   served = record {
     journal = s.journal;
     bytes = s.bytes;
     ended = ended;
-    after = new.world;
     talk = s.talk;
-    led = s.led.led;
+    led = s.led.0;
     answered = told_whole a0 a1 (answers_of s.journal) fresh.silent s.answered;
     given = told_whole g0 g1 s.bytes fresh.unwritten s.given;
+    failings = failed_whole s.journal.last ended n0 n1 fresh.unfailing s.failings;
     moments = s.moments;
     status_is = e;
     cause = λ three. subst (λ (n : ℕ). Rose n f1) fresh.unfailed (cause.failed (ended_by_link ended (sym e ∙ three)));
@@ -102,63 +159,72 @@ given_back limits desk new ended status a0 a1 g0 g1 f0 f1 b0 b1 c0 c1 s fresh ca
 -- ---- the door
 
 -- a link came, was served and came back
-pub linked : (world : World) (status : ℕ) (a0 a1 a2 : Option (List Accepted)) (g0 g1 g2 : Option ℕ) (b0 b1 b2 : Option (List Report)) (f0 f2 : ℕ) (c0 c1 : Option (List ℕ)) (limits : Limits)
-    → limits ≡ pipe_limits → IsAccepted a0 a1 (accepted.Got ∷ []) → a2 ≡ a1 → g1 ≡ option_map (λ n. n + 1) g0 → g2 ≡ g1 → b1 ≡ b0 → IsGivenBack limits world status b1 b2 c0 c1
-    → Waits world status (record { answered = a0; gave = g0; back = b0; faults = f0 }) (record { answered = a2; gave = g2; back = b2; faults = f2 }) c0 c1
-linked world status a0 a1 a2 g0 g1 g2 b0 b1 b2 f0 f2 c0 c1 limits l came a gave g b given = inr (record {
+pub linked : (scene after : Scene) (status : ℕ) (a0 a1 a2 : Option (List Accepted)) (g0 g1 g2 : Option ℕ) (b0 b1 b2 : Option (List Report)) (n0 n1 n2 : Option ℕ) (f0 f2 : ℕ) (c0 c1 : Option (List ℕ)) (limits : Limits)
+    → limits ≡ pipe_limits → IsAccepted a0 a1 (accepted.Got ∷ []) → a2 ≡ a1 → g1 ≡ option_map (λ n. n + 1) g0 → g2 ≡ g1 → b1 ≡ b0 → n1 ≡ n0 → n2 ≡ n1
+    → IsGivenBack limits scene after status g1 b1 b2 c0 c1
+    → Waits scene after status (record { answered = a0; gave = g0; back = b0; starved = n0; faults = f0 }) (record { answered = a2; gave = g2; back = b2; starved = n2; faults = f2 }) c0 c1
+linked scene after status a0 a1 a2 g0 g1 g2 b0 b1 b2 n0 n1 n2 f0 f2 c0 c1 limits l came a gave g b n m given = inr (record {
   accepts = record { quiets = came.quiets; few = came.few; answered = a ∙ came.answered };
+  starved = m ∙ n;
   gave = g ∙ gave;
-  given_back = subst (λ (back : Option (List Report)). IsGivenBack pipe_limits world status back b2 c0 c1) b
-      (subst (λ (most : Limits). IsGivenBack most world status b1 b2 c0 c1) l given);
+  given_back = subst (λ (most : Limits). IsGivenBack most scene after status g2 b0 b2 c0 c1) l
+      (subst (λ (back : Option (List Report)). IsGivenBack limits scene after status g2 back b2 c0 c1) b
+      (subst (λ (out : Option ℕ). IsGivenBack limits scene after status out b1 b2 c0 c1) (sym g) given));
 })
 
 -- no link came
-module _ (world : World) (a0 a1 : Option (List Accepted)) (g0 g1 : Option ℕ) (b0 b1 : Option (List Report)) (f0 f1 : ℕ) (c : Option (List ℕ)) (gave : g1 ≡ g0) (back : b1 ≡ b0) where
+module _ (scene : Scene) (a0 a1 : Option (List Accepted)) (g0 g1 : Option ℕ) (b0 b1 : Option (List Report)) (n0 n1 : Option ℕ) (f0 f1 : ℕ) (c : Option (List ℕ)) (gave : g1 ≡ g0) (back : b1 ≡ b0) where
   abbrev Unlinked : ℕ → Type 0
-  Unlinked status = Waits world status (record { answered = a0; gave = g0; back = b0; faults = f0 }) (record { answered = a1; gave = g1; back = b1; faults = f1 }) c c
+  Unlinked status = Waits scene scene status (record { answered = a0; gave = g0; back = b0; starved = n0; faults = f0 }) (record { answered = a1; gave = g1; back = b1; starved = n1; faults = f1 }) c c
 
-  pub was_closed : IsAccepted a0 a1 (accepted.Closed ∷ []) → Unlinked 0
-  was_closed a = inl (record { gave = gave; back = back; unread = refl; unserved = WasClosed refl a })
+  pub was_closed : n1 ≡ n0 → IsAccepted a0 a1 (accepted.Closed ∷ []) → Unlinked 0
+  was_closed n a = inl (record { gave = gave; back = back; idle = refl; unread = refl; unserved = WasClosed refl a n })
 
-  pub has_failed : Rose f0 f1 → IsAccepted a0 a1 (accepted.Failed ∷ []) → Unlinked 8
-  has_failed r a = inl (record { gave = gave; back = back; unread = refl; unserved = HasFailed refl r a })
+  pub has_failed : n1 ≡ n0 → Rose f0 f1 → IsAccepted a0 a1 (accepted.Failed ∷ []) → Unlinked 8
+  has_failed n r a = inl (record { gave = gave; back = back; idle = refl; unread = refl; unserved = HasFailed refl r a n })
 
-  pub was_quiet : IsQuiet a0 a1 → Unlinked 6
-  was_quiet a = inl (record { gave = gave; back = back; unread = refl; unserved = WasQuiet refl a })
+  pub was_quiet : n1 ≡ n0 → IsQuiet a0 a1 → Unlinked 6
+  was_quiet n a = inl (record { gave = gave; back = back; idle = refl; unread = refl; unserved = WasQuiet refl a n })
 
-  pub has_starved : IsAccepted a0 a1 [] → Unlinked 7
-  has_starved a = inl (record { gave = gave; back = back; unread = refl; unserved = HasStarved refl a })
+  pub has_starved : n1 ≡ option_map raised n0 → IsAccepted a0 a1 [] → Unlinked 7
+  has_starved n a = inl (record { gave = gave; back = back; idle = refl; unread = refl; unserved = HasStarved refl a n })
 
--- nothing was accepted
-pub none_accepted : (a : Option (List Accepted)) → IsAccepted a a []
-none_accepted a = record { quiets = 0; few = omega arith; answered = sym (grown-nil a) }
+  pub was_unasked : n1 ≡ n0 → a1 ≡ a0 → Unlinked 7
+  was_unasked n a = inl (record { gave = gave; back = back; idle = refl; unread = refl; unserved = WasUnasked refl a n })
 
--- ---- the command line
+-- ---- the whole
 
--- the clock was not read
-pub unread : (stream : Option NamedStream) (clock : Option (List ℕ)) → ReadsFor stream clock clock
-unread None clock = refl
-unread (Some stream) clock = inl refl
+-- the desk was closed as it was left
+pub attended : {V : Type 0} (stream : Option NamedStream) (status : ℕ) (held v0 v1 : List V) (after : Scene) (closed : Closed V) (old new : Outside)
+    → held ≡ v0 → Attends (opened_of held) stream after status old new → Closes after.world closed → closed.failed ≡ None → closed.vols.items ≡ v1
+    → PipeEnds (opened_of v0) stream status None v0 v1 old new
+attended stream status held v0 v1 after closed old new same attends closes failed vols =
+    subst (λ (v : List _). PipeEnds (opened_of v) stream status None v0 v1 old new) same (Attended (record {
+      after = after;
+      talked = status;
+      attends = attends;
+      closed = record { closed = closed; closes = closes; failed_is = failed; vols_are = vols };
+      status_is = refl;
+    }))
 
 -- nothing was opened: out of memory
-pub starved : (count : ℕ) (stream : Option NamedStream) (door : DoorTold) (clock : Option (List ℕ)) (old new : Outside) → old.clock ≡ clock → new.clock ≡ clock → new.door ≡ old.door
-    → PipeEnds count stream 7 old new
-starved count stream door clock old new e f d =
-    Starved (record { status_is = refl; read = subst (λ (c : Option (List ℕ)). ReadsFor stream old.clock c) (e ∙ sym f) (unread stream old.clock); door = d })
+pub unopened : {V : Type 0} (opened : List PlaceIn) (stream : Option NamedStream) (v0 v1 : List V) (old new : Outside) → v1 ≡ v0 → new.clock ≡ old.clock → new.door ≡ old.door
+    → PipeEnds opened stream 7 None v0 v1 old new
+unopened opened stream v0 v1 old new v c d = Unopened (record { status_is = refl; unfailed = refl; vols = v; unread = c; door = d })
 
-module _ (count : ℕ) (read : Option Command) (stream : Option NamedStream) (e : read ≡ Some (Pipe stream)) where
+module _ {V : Type 0} (v0 v1 : List V) (read : Option Command) (stream : Option NamedStream) (e : read ≡ Some (Pipe stream)) where
   -- the status is not that of another command line
-  pub words_kept : (status : ℕ) (old new : Outside) → PipeEnds count stream status old new → (status ≡ 2) ↔ (read ≡ None)
-  words_kept status old new h = (λ two. absurd (pipe_worded count stream status old new h two), λ none. cc)
+  pub words_kept : (status : ℕ) (old new : Outside) → PipeEnds (opened_of v0) stream status None v0 v1 old new → (status ≡ 2) ↔ (read ≡ None)
+  words_kept status old new h = (λ two. absurd (pipe_worded (opened_of v0) stream status v0 v1 old new h two), λ none. cc)
 
   -- the command was run
-  pub ends_kept : (status : ℕ) (old new : Outside) → PipeEnds count stream status old new → IfSome read (λ command. CommandEnds count command status old new)
-  ends_kept status old new h = subst (λ (o : Option Command). IfSome o (λ command. CommandEnds count command status old new)) (sym e) h
+  pub ends_kept : (status : ℕ) (old new : Outside) → PipeEnds (opened_of v0) stream status None v0 v1 old new → IfSome read (λ command. CommandEnds command status v0 v1 old new)
+  ends_kept status old new h = subst (λ (o : Option Command). IfSome o (λ command. CommandEnds command status v0 v1 old new)) (sym e) h
 
-command_starved : (count : ℕ) (command : Command) (outside : Outside) → CommandEnds count command 7 outside outside
-command_starved count (Pipe stream) outside = Starved (record { status_is = refl; read = unread stream outside.clock; door = refl })
+command_starved : {V : Type 0} (vols : List V) (command : Command) (outside : Outside) → CommandEnds command 7 vols vols outside outside
+command_starved vols (Pipe stream) outside = unopened (opened_of vols) stream vols vols outside outside refl refl refl
 
 -- nothing was run: out of memory
-pub ends_starved : (count : ℕ) (read : Option Command) (outside : Outside) → IfSome read (λ command. CommandEnds count command 7 outside outside)
-ends_starved count None outside = tt
-ends_starved count (Some command) outside = command_starved count command outside
+pub ends_starved : {V : Type 0} (vols : List V) (read : Option Command) (outside : Outside) → IfSome read (λ command. CommandEnds command 7 vols vols outside outside)
+ends_starved vols None outside = tt
+ends_starved vols (Some command) outside = command_starved vols command outside

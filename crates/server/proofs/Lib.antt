@@ -4,7 +4,11 @@ pub mod Printed
 pub mod Worded
 pub mod Whole
 pub mod Taken
+pub mod Untroubled
+pub mod Numbered
 pub mod Slowed
 pub mod Opened
+pub mod Prepared
+pub mod Closing
 pub mod Placeless
 pub mod Completes

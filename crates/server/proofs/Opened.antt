@@ -1,43 +1,57 @@
 -- Laws of a desk that was just prepared: no session was opened yet, so their numbers are not used up.
-use Rattle.std.proofs.Common.{◌≡◌, ℕ, ◌+◌, ◌^◌, List, [], ◌∷◌, ◌++◌, Bool, Option, None, Some, refl, sym, ◌∙◌, ap, subst, inl, inr}
+use Rattle.std.proofs.Common.{◌≡◌, ℕ, ◌+◌, ◌^◌, List, [], ◌∷◌, ◌++◌, Bool, true, false, Option, None, Some, Result, Ok, Err, refl, sym, ◌∙◌, ap, subst, inl, inr}
 use Rattle.std.specs.Prelude.{◌==◌, if◌then◌else◌, MatchOption}
 use Rattle.js_base.specs.Bytes.{Bytes}
 use Rattle.js_base.specs.declared.out.Out.{Out}
+use Rattle.js_base.specs.declared.out.ApiError.{ApiError}
+use Rattle.js_model.specs.PlaceStates.{PlaceIn}
 use Rattle.js_model.specs.declared.desk.PlaceAt.{PlaceAt}
-use Rattle.js_model.specs.declared.event.What.TheVariants as whats
-use Rattle.js_model.specs.declared.reply.Reply.{Reply}
-use Rattle.js_model.specs.declared.reply.Reply.TheVariants.{Info}
+use Rattle.js_model.specs.declared.event.What.{What}
 use Rattle.js_model.specs.declared.stream_config.StreamConfig.{StreamConfig}
 use Rattle.js_model.specs.Catalog as catalog
 use Rattle.js_model.specs.Router as router
 use Rattle.js_model.specs.Router.{route}
-use Rattle.js_api.specs.Desks.{World, DeskEntry, Routed, Looked, Turned, Resumed, Held, Missed, DeskRun, opening, place_or}
-use Rattle.js_api.specs.Holding.{Made, Said, Cut, Unmade, Gone, Holds, AreRouted, reply_made}
-use Rattle.js_api.specs.Api.{free_unless_made}
-use Rattle.js_api.specs.Making.{Stands, NoMemory, making_of, GoesOn, IsAdding, MakesStream}
+use Rattle.stream_config.specs.Defaults.{default_config}
+use Rattle.js_api.specs.declared.fault.DeskFault.{DeskFault}
+use Rattle.js_api.specs.declared.fault.DeskFault.TheVariants as faults
+use Rattle.js_api.specs.declared.outcome.Became.{Became}
+use Rattle.js_api.specs.declared.outcome.Became.TheVariants.{Made, Unsaid, Ticked, Nothing, Broke, Stopped, Gone}
+use Rattle.js_api.specs.Entries.{DeskEntry, Routed, Looked, Turned, Resumed, Held, Stirred, Halted, Missed, Spent}
+use Rattle.js_api.specs.Holding.{HoldsBy, Prepares, Unmakes}
+use Rattle.js_api.specs.Leading.{Leads}
+use Rattle.js_api.specs.Making.{MakesStream, MakesAt, GoesOnTaken, IsMaking, IsPreparing}
+use Rattle.js_api.specs.OneStream.{free_unless_made, is_info, removed}
+use Rattle.js_api.specs.Stages.{Gives, LooksUp, Reads, Ending}
+use Rattle.js_api.specs.Worlds.{Scene, SoloStep, AreTried, opening}
 use Rattle.server.specs.declared.words.NamedStream.{NamedStream}
-use Rattle.server.specs.Preparing.{IsPrepared}
+use Rattle.server.specs.Preparing as preparing
 
--- ---- entries that open no session
+-- ---- entries without a call of the router
 
-abbrev IsServers : router.RouteCall → Type 0
-IsServers (router.Publish out None) = Unit {0}
-IsServers _ = ⊥
+abbrev IsUnrouted : DeskEntry → Type 0
+IsUnrouted (Routed call told) = ⊥
+IsUnrouted (Looked joined call told) = Unit {0}
+IsUnrouted (Turned after found) = Unit {0}
+IsUnrouted (Resumed last) = Unit {0}
+IsUnrouted (Held hold) = Unit {0}
+IsUnrouted (Stirred at before after failed) = Unit {0}
+IsUnrouted (Halted at state) = Unit {0}
+IsUnrouted (Missed at kept) = Unit {0}
+IsUnrouted (Spent number) = Unit {0}
 
--- of the router they are messages of the server itself
-abbrev AreServers : List DeskEntry → Type 0
-AreServers [] = Unit {0}
-AreServers (Routed call told ∷ more) = IsServers call × AreServers more
-AreServers (_ ∷ more) = AreServers more
+abbrev AreUnrouted : List DeskEntry → Type 0
+AreUnrouted [] = Unit {0}
+AreUnrouted (entry ∷ more) = IsUnrouted entry × AreUnrouted more
 
-servers-append : (first more : List DeskEntry) → AreServers first → AreServers more → AreServers (first ++ more)
-servers-append [] more h k = k
-servers-append (Routed call told ∷ first) more h k = (h.0, servers-append first more h.1 k)
-servers-append (Looked call told ∷ first) more h k = servers-append first more h k
-servers-append (Turned found ∷ first) more h k = servers-append first more h k
-servers-append (Resumed last ∷ first) more h k = servers-append first more h k
-servers-append (Held place before entries after ∷ first) more h k = servers-append first more h k
-servers-append (Missed at ∷ first) more h k = servers-append first more h k
+unrouted-append : (first more : List DeskEntry) → AreUnrouted first → AreUnrouted more → AreUnrouted (first ++ more)
+unrouted-append [] more h k = k
+unrouted-append (entry ∷ first) more h k = (h.0, unrouted-append first more h.1 k)
+
+none_routed : (entries : List DeskEntry) → entries ≡ [] → AreUnrouted entries
+none_routed entries e = subst AreUnrouted (sym e) tt
+
+one_unrouted : (entry : DeskEntry) (entries : List DeskEntry) → IsUnrouted entry → entries ≡ entry ∷ [] → AreUnrouted entries
+one_unrouted entry entries h e = subst AreUnrouted (sym e) (h, tt)
 
 -- ---- the latest number
 
@@ -51,57 +65,131 @@ publish_latest r new out told (inl h) =
     sym (ap (λ (x : router.Routed). x.router.latest) h.routed) ∙ routed_latest out r (router.takers r out.to None h.chosen)
 publish_latest r new out told (inr h) = ap (λ (x : router.Router). x.latest) h.same
 
-servers_latest : (call : router.RouteCall) (told : router.RouteTold) (r new : router.Router) → IsServers call → router.IsRoute r call told new → new.latest ≡ r.latest
-servers_latest (router.Publish out None) told r new is h = publish_latest r new out told h
-servers_latest _ told r new is h = absurd is
+tried_latest : (outs : List Out) (taken : List Bool) (r new : router.Router) → AreTried r outs taken new → new.latest ≡ r.latest
+tried_latest [] [] r new h = ap (λ (x : router.Router). x.latest) (sym h)
+tried_latest [] (b ∷ taken) r new h = absurd h
+tried_latest (out ∷ outs) [] r new h = absurd h
+tried_latest (out ∷ outs) (b ∷ taken) r new h = tried_latest outs taken h.1 new h.4 ∙ publish_latest r h.1 out h.0 h.3
 
--- such entries leave it
-kept_latest : (old new : World) (entries : List DeskEntry) → AreServers entries → DeskRun old entries new → new.router.latest ≡ old.router.latest
-kept_latest old new [] are h = ap (λ (w : World). w.router.latest) (sym h)
-kept_latest old new (Routed call told ∷ more) are h = kept_latest (record old { router = h.0 }) new more are.1 h.2 ∙ servers_latest call told old.router h.0 are.0 h.1
-kept_latest old new (Looked call told ∷ more) are h = kept_latest (record old { catalog = h.0 }) new more are h.2
-kept_latest old new (Turned found ∷ more) are h = kept_latest (record old { ticked = place_or old.ticked found }) new more are h.1
-kept_latest old new (Resumed last ∷ more) are h = kept_latest old new more are h.1
-kept_latest old new (Held place before entries after ∷ more) are h = kept_latest _ new more are h.2
-kept_latest old new (Missed at ∷ more) are h = kept_latest old new more are h.1
+step_latest : (old new : Scene) (entry : DeskEntry) → SoloStep old entry new → IsUnrouted entry → new.world.router.latest ≡ old.world.router.latest
+step_latest old new (Routed call told) h u = absurd u
+step_latest old new (Looked joined call told) h u = ap (λ (s : Scene). s.world.router.latest) h.1
+step_latest old new (Turned after found) h u = ap (λ (s : Scene). s.world.router.latest) h.2
+step_latest old new (Resumed last) h u = ap (λ (s : Scene). s.world.router.latest) h.1
+step_latest old new (Held hold) h u = tried_latest _ h.0.taken old.world.router new.world.router h.0.tried
+step_latest old new (Stirred at before after failed) h u = ap (λ (r : router.Router). r.latest) h.0.router
+step_latest old new (Halted at state) h u = ap (λ (s : Scene). s.world.router.latest) h.1
+step_latest old new (Missed at kept) h u = ap (λ (s : Scene). s.world.router.latest) h.1
+step_latest old new (Spent number) h u = absurd h
+
+kept_latest : (old new : Scene) (entries : List DeskEntry) → Leads SoloStep old entries new → AreUnrouted entries → new.world.router.latest ≡ old.world.router.latest
+kept_latest old new [] h u = ap (λ (s : Scene). s.world.router.latest) (sym h)
+kept_latest old new (entry ∷ more) h u = kept_latest h.0 new more h.2 u.1 ∙ step_latest old h.0 entry h.1 u.0
 
 -- ---- the making of a stream
 
-routed_servers : (outs : List Out) (entries : List DeskEntry) → AreRouted outs entries → AreServers entries
-routed_servers [] entries h = subst AreServers (sym h) tt
-routed_servers (out ∷ outs) entries h = subst AreServers (sym h.2) (tt, routed_servers outs h.1 h.3)
+prepares_unrouted : (at : PlaceAt) (entries : List DeskEntry) → Prepares at entries → AreUnrouted entries
+prepares_unrouted at entries (inl e) = none_routed entries e
+prepares_unrouted at entries (inr h) = one_unrouted _ entries tt h.3
 
-free_servers : (at : PlaceAt) (reply : Option Reply) → AreServers (free_unless_made at reply)
-free_servers at (Some (Info info)) = tt
-free_servers at _ = tt
+unmade_unrouted : (at : PlaceAt) (fault : Option DeskFault) (entries : List DeskEntry) → Unmakes at fault entries → AreUnrouted entries
+unmade_unrouted at None entries h = absurd h
+unmade_unrouted at (Some faults.NoMemory) entries h = none_routed entries h
+unmade_unrouted at (Some faults.TooManySubs) entries h = absurd h
+unmade_unrouted at (Some (faults.Worn number)) entries (inl h) = one_unrouted (Spent number) entries tt h
+unmade_unrouted at (Some (faults.Worn number)) entries (inr h) = one_unrouted _ entries tt h.2
+unmade_unrouted at (Some (faults.NoSession latest)) entries h = absurd h
 
-held_servers : (at : PlaceAt) (config : StreamConfig) (now : ℕ) (made : Made) (held : List DeskEntry) → Holds at (whats.Make None config) now made held → Stands ≡ making_of made
-    → AreServers held
-held_servers at config now (Said reply after) held h e = subst AreServers (sym h.entries_are) (routed_servers _ h.routed h.routing_is)
-held_servers at config now (Cut reply after) held h e = cc
-held_servers at config now Unmade held h e = cc
-held_servers at config now Gone held h e = cc
+became_unrouted : (became : Became) (at : PlaceAt) (what : What) (now : ℕ) (ready : Bool) (fault : Option DeskFault) (entries : List DeskEntry)
+    → HoldsBy became at what now ready fault entries → AreUnrouted entries
+became_unrouted (Made reply) at what now ready fault entries h = one_unrouted _ entries tt h.1
+became_unrouted (Unsaid refused) at what now ready fault entries h = one_unrouted _ entries tt h.3
+became_unrouted Ticked at what now ready fault entries h = one_unrouted _ entries tt h.1
+became_unrouted Nothing at what now ready fault entries h = unmade_unrouted at fault entries h.1
+became_unrouted (Broke stream) at what now ready fault entries h = one_unrouted _ entries tt h.1
+became_unrouted (Stopped stream) at what now ready fault entries h = one_unrouted _ entries tt h.1
+became_unrouted Gone at what now ready fault entries h = one_unrouted _ entries tt h.1
 
-on_servers : (config : StreamConfig) (now : ℕ) (told : catalog.CatTold) (entries : List DeskEntry) → GoesOn config now Stands told entries → AreServers entries
-on_servers config now (catalog.At (Some at)) entries h =
-    subst AreServers (sym h.entries_are)
-    (servers-append h.held (free_unless_made at (reply_made h.made)) (held_servers at config now h.made h.held h.holds h.making_is) (free_servers at (reply_made h.made)))
-on_servers config now (catalog.At None) entries h = absurd h
-on_servers config now (catalog.Refused e) entries h = let clash = h.0 in cc
-on_servers config now catalog.NoMemory entries h = let clash = h.0 in cc
-on_servers config now catalog.Done entries h = absurd h
+free_unrouted : (at : PlaceAt) (became : Became) → AreUnrouted (free_unless_made at became)
+free_unrouted at (Made reply) = by (is_info reply)
+  where
+    by : (b : Bool) → AreUnrouted (if b then [] else removed at false)
+    by true = tt
+    by false = (tt, tt)
+free_unrouted at (Unsaid true) = (tt, tt)
+free_unrouted at (Unsaid false) = tt
+free_unrouted at Ticked = (tt, tt)
+free_unrouted at Nothing = (tt, tt)
+free_unrouted at (Broke stream) = (tt, tt)
+free_unrouted at (Stopped stream) = (tt, tt)
+free_unrouted at Gone = (tt, tt)
 
-named_servers : (name : Bytes) (config : StreamConfig) (now : ℕ) (found : Option PlaceAt) (more : List DeskEntry)
-    → MatchOption found (IsAdding name config now Stands more) (λ at. (more ≡ []) × (Stands ≡ Stands)) → AreServers more
-named_servers name config now None more h = subst AreServers (sym h.entries_are) (on_servers config now h.added h.more h.goes_on)
-named_servers name config now (Some at) more h = subst AreServers (sym h.0) tt
+made_unrouted : (became : Became) (result : Result (Option ApiError) DeskFault) (entries : List DeskEntry) → IsMaking became result entries → AreUnrouted entries
+made_unrouted (Made reply) result entries h = none_routed entries h.entries_are
+made_unrouted (Unsaid refused) result entries h = absurd h
+made_unrouted Ticked result entries h = absurd h
+made_unrouted Nothing result entries h = absurd h
+made_unrouted (Broke stream) result entries h = none_routed entries h.entries_are
+made_unrouted (Stopped stream) result entries h = none_routed entries h.entries_are
+made_unrouted Gone result entries h = absurd h
 
-making_servers : (name : Bytes) (config : StreamConfig) (now : ℕ) (entries : List DeskEntry) → MakesStream name config now Stands entries → AreServers entries
-making_servers name config now entries h = subst AreServers (sym h.entries_are) (named_servers name config now h.found h.more h.goes_on)
+ended_unrouted : (fault : Option DeskFault) (became : Became) (result : Result (Option ApiError) DeskFault) (entries : List DeskEntry) → Ending fault (IsMaking became) result entries → AreUnrouted entries
+ended_unrouted None became result entries h = made_unrouted became result entries h
+ended_unrouted (Some fault) became result entries h = none_routed entries h.1
 
-pub prepared_latest : (count : ℕ) (stream : Option NamedStream) (c0 c1 : Option (List ℕ)) (world : World) → IsPrepared count stream c0 c1 world → world.router.latest ≡ 0
-prepared_latest count None c0 c1 world h = ap (λ (w : World). w.router.latest) h.0
-prepared_latest count (Some stream) c0 c1 world h = kept_latest (opening count) world h.entries (making_servers stream.name _ h.moment h.entries h.makes) h.led
+at_unrouted : (config : StreamConfig) (now : ℕ) (at : PlaceAt) (result : Result (Option ApiError) DeskFault) (entries : List DeskEntry) → MakesAt config now at result entries → AreUnrouted entries
+at_unrouted config now at result entries h =
+    let held = unrouted-append h.holds.first h.holds.more (prepares_unrouted at h.holds.first h.holds.prepares)
+    (became_unrouted h.outcome.became at _ now h.outcome.ready h.outcome.fault h.holds.more h.holds.holds)
+    in
+    let ended = ended_unrouted h.outcome.fault h.outcome.became result h.ended h.ends in
+    let freed = unrouted-append (free_unless_made at h.outcome.became) h.ended (free_unrouted at h.outcome.became) ended in
+    subst AreUnrouted (sym h.entries_are) (unrouted-append h.held (free_unless_made at h.outcome.became ++ h.ended) (subst AreUnrouted (sym h.holds.entries_are) held) freed)
+
+taken_unrouted : (config : StreamConfig) (now : ℕ) (told : catalog.CatTold) (result : Result (Option ApiError) DeskFault) (entries : List DeskEntry) → GoesOnTaken config now told result entries → AreUnrouted entries
+taken_unrouted config now (catalog.At (Some at)) result entries h = at_unrouted config now at result entries h
+taken_unrouted config now (catalog.At None) result entries h = absurd h
+taken_unrouted config now (catalog.Refused e) result entries h = none_routed entries h.entries_are
+taken_unrouted config now catalog.NoMemory result entries h = none_routed entries h.1
+taken_unrouted config now catalog.Done result entries h = absurd h
+
+read_unrouted : (config : StreamConfig) (result : Result StreamConfig DeskFault) (entries : List DeskEntry) → Reads config result entries → AreUnrouted entries
+read_unrouted config (Ok given) entries h = none_routed entries h.1
+read_unrouted config (Err faults.NoMemory) entries h = none_routed entries h
+read_unrouted config (Err faults.TooManySubs) entries h = absurd h
+read_unrouted config (Err (faults.Worn number)) entries h = absurd h
+read_unrouted config (Err (faults.NoSession latest)) entries h = absurd h
+
+preparing_unrouted : (name : Bytes) (config : StreamConfig) (now : ℕ) (result : Result (Option ApiError) DeskFault) (entries : List DeskEntry) → IsPreparing name config now result entries → AreUnrouted entries
+preparing_unrouted name config now result entries (inl h) = read_unrouted config (Err h.fault) entries h.ended
+preparing_unrouted name config now result entries (inr h) =
+    let a = h.next_is in
+    let more = subst AreUnrouted (sym a.entries_are) (tt, taken_unrouted h.given now a.added result a.more a.went_on) in
+    subst AreUnrouted (sym h.entries_are) (unrouted-append h.before h.more (read_unrouted config (Ok h.given) h.before h.first_is) more)
+
+looks_unrouted : (call : catalog.CatCall) (result : Result (Option PlaceAt) DeskFault) (entries : List DeskEntry) → LooksUp call result entries → AreUnrouted entries
+looks_unrouted call (Ok found) entries h = one_unrouted _ entries tt h
+looks_unrouted call (Err faults.NoMemory) entries h = absurd h
+looks_unrouted call (Err faults.TooManySubs) entries h = absurd h
+looks_unrouted call (Err (faults.Worn number)) entries h = one_unrouted (Spent number) entries tt h
+looks_unrouted call (Err (faults.NoSession latest)) entries h = absurd h
+
+found_unrouted : (name : Bytes) (config : StreamConfig) (now : ℕ) (found : Option PlaceAt) (result : Result (Option ApiError) DeskFault) (more : List DeskEntry)
+    → MatchOption found (IsPreparing name config now result more) (λ at. Gives None result more) → AreUnrouted more
+found_unrouted name config now None result more h = preparing_unrouted name config now result more h
+found_unrouted name config now (Some at) result more h = none_routed more h.entries_are
+
+making_unrouted : (name : Bytes) (config : StreamConfig) (now : ℕ) (result : Result (Option ApiError) DeskFault) (entries : List DeskEntry) → MakesStream name config now result entries → AreUnrouted entries
+making_unrouted name config now result entries (inl h) = looks_unrouted (catalog.ByName name) (Err h.fault) entries h.ended
+making_unrouted name config now result entries (inr h) =
+    subst AreUnrouted (sym h.entries_are)
+    (unrouted-append h.before h.more (looks_unrouted (catalog.ByName name) (Ok h.given) h.before h.first_is) (found_unrouted name config now h.given result h.more h.next_is))
+
+pub prepared_latest : (opened : List PlaceIn) (stream : Option NamedStream) (result : Result (Option ApiError) DeskFault) (c0 c1 : Option (List ℕ)) (scene : Scene)
+    → preparing.Prepares opened stream result c0 c1 scene → scene.world.router.latest ≡ 0
+prepared_latest opened None result c0 c1 scene h = ap (λ (s : Scene). s.world.router.latest) h.1
+prepared_latest opened (Some stream) result c0 c1 scene h =
+    kept_latest (opening opened) scene h.entries h.led (making_unrouted stream.name (default_config stream.name stream.subject) h.moment result h.entries h.makes)
 
 -- the first session has a number
 pub is_not_worn : (r new : router.Router) → r.latest ≡ 0 → router.IsRoute r router.Open router.Worn new → ⊥

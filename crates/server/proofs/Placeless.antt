@@ -1,6 +1,6 @@
--- Laws of a making that was refused over a desk that was just opened: there was no place for the stream.
-use Rattle.std.proofs.Common.{◌≡◌, ◌+◌, ℕ, zero, suc, Bool, true, false, List, [], ◌∷◌, ◌++◌, replicate, Option, Some, None, inl, inr, refl, sym, ◌∙◌, ap, subst, if◌then◌else◌}
-use Rattle.std.specs.Prelude.{slice_get, ◌⊎◌, IsSome, MatchOption}
+-- Laws of a making that was refused over places that never had a stream, though no volume failed: there was no place for the stream.
+use Rattle.std.proofs.Common.{◌≡◌, ◌+◌, ℕ, zero, suc, Bool, true, false, List, [], ◌∷◌, ◌++◌, map, replicate, length, Option, Some, None, Result, Ok, ◌⊎◌, inl, inr, refl, sym, ◌∙◌, ap, subst, append_assoc, arith, if◌then◌else◌}
+use Rattle.std.specs.Prelude.{slice_get, slice_set, IsSome, MatchOption}
 use Rattle.js_base.specs.Bytes.{Bytes, same}
 use Rattle.js_base.specs.declared.out.Out.{Out}
 use Rattle.js_base.specs.declared.out.ApiError.{ApiError}
@@ -12,22 +12,36 @@ use Rattle.js_model.specs.declared.reply.Reply.TheVariants as replies
 use Rattle.js_model.specs.declared.stream.State.{State}
 use Rattle.js_model.specs.declared.stream.State.TheVariants.{Vacant}
 use Rattle.js_model.specs.declared.stream_config.StreamConfig.{StreamConfig}
-use Rattle.js_model.specs.Catalog as catalog
 use Rattle.js_model.specs.declared.reply.Answer.{Answer}
-use Rattle.js_model.specs.Events.{answered, kept_incarnation, IsEvent}
+use Rattle.js_model.specs.declared.entry.PlaceEntry.{PlaceEntry}
+use Rattle.js_model.specs.Catalog as catalog
+use Rattle.js_model.specs.Events.{answered, IsEvent}
+use Rattle.js_model.specs.PlaceStates.{PlaceIn, vacant_place}
 use Rattle.js_model.specs.Refusals.{other_config, subjects_overlap, no_free_place, first_refusal}
-use Rattle.js_api.specs.Desks.{World, DeskEntry, Missed, DeskRun, opening}
-use Rattle.js_api.specs.Holding.{Made, Said, Cut, Unmade, Gone, Holds, IsHold, AreRouted, reply_made}
-use Rattle.js_api.specs.Api.{free_unless_made}
-use Rattle.js_api.specs.Making.{Stands, IsRefused, NoMemory, making_of, GoesOn, IsAdding, MakesStream}
+use Rattle.js_model.specs.Runs.{RunFrom}
+use Rattle.stream_config.specs.Defaults.{default_config}
+use Rattle.js_api.specs.declared.fault.DeskFault.{DeskFault}
+use Rattle.js_api.specs.declared.outcome.Became.{Became}
+use Rattle.js_api.specs.declared.outcome.Became.TheVariants.{Made, Unsaid, Ticked, Nothing, Broke, Stopped, Gone}
+use Rattle.js_api.specs.Entries.{DeskEntry, Looked, Held, Hold}
+use Rattle.js_api.specs.Holding.{HoldsBy, IsHold, IsBrokenHold, Prepares}
+use Rattle.js_api.specs.Leading.{Leads}
+use Rattle.js_api.specs.Making.{MakesStream, MakesAt, GoesOnTaken, IsMaking, IsPreparing, refusal_in}
+use Rattle.js_api.specs.OneStream.{IsAdding, free_unless_made}
+use Rattle.js_api.specs.Stages.{Gives, Ending}
+use Rattle.js_api.specs.Worlds.{Scene, SoloStep, kept_in, opening, is_broken}
 use Rattle.server.specs.declared.words.NamedStream.{NamedStream}
 use Rattle.server.specs.declared.words.Command.{Command}
 use Rattle.server.specs.declared.words.Command.TheVariants.{Pipe}
 use Rattle.server.specs.Words.{NamesStream}
-use Rattle.server.specs.Outside.{Outside, Prints, number_line}
-use Rattle.server.specs.Preparing.{WasRefused}
-use Rattle.server.specs.Running.{PipeEnds}
-use Rattle.server.proofs.Ending.{pipe_refused}
+use Rattle.server.specs.Outside.{Outside, SinkTold, Prints, number_line}
+use Rattle.server.specs.Preparing as preparing
+use Rattle.server.specs.Running.{PipeEnds, Unopened, Attended, Unmakes, opened_of}
+use Rattle.server.specs.Laws.{AreUntroubled, HasPlace, LawWelcome}
+use Rattle.server.proofs.Ending.{WasRefused, attends_refused}
+use Rattle.server.proofs.Untroubled.{AreFit, fit_front, fit_behind, run_fit}
+use Rattle.server.proofs.Slowed.{reaches}
+use Rattle.server.proofs.Closing.{left_untroubled}
 
 -- no place is there, and that is why
 pub record IsPlaceless (count : ℕ) (error : ApiError) : Type 0 where
@@ -38,6 +52,11 @@ pub record IsPlaceless (count : ℕ) (error : ApiError) : Type 0 where
 
 abbrev fresh : ℕ → catalog.Catalog
 fresh count = replicate count catalog.new_place
+
+-- the desk begins with it
+begins : (count : ℕ) → catalog.catalog_of (map kept_in (replicate count vacant_place)) ≡ fresh count
+begins zero = refl
+begins (suc count) = ap (λ (c : catalog.Catalog). catalog.new_place ∷ c) (begins count)
 
 none_named : (name : Bytes) (count n : ℕ) → catalog.first_place (λ k p. catalog.if_used (λ u. same u.name name) p.used) n (fresh count) ≡ None
 none_named name zero n = refl
@@ -68,17 +87,15 @@ there found e = ap catalog.is_there e
 wrong_none : (name : Bytes) (subjects : List Bytes) (count : ℕ) → wrong name subjects (suc count) ≡ None
 wrong_none name subjects count = first_of _ _ false (there _ (none_named name (suc count) 0)) (none_met subjects (suc count) 0) other_config subjects_overlap no_free_place
 
-wrong_placeless : (name : Bytes) (subjects : List Bytes) → wrong name subjects 0 ≡ Some no_free_place
-wrong_placeless name subjects = refl
-
--- if there is a place, the first one is taken
-added_first : (name : Bytes) (subjects : List Bytes) (count : ℕ) (told : catalog.CatTold) (kept : catalog.Catalog)
-    → catalog.IsCatalogCall (fresh (suc count)) (catalog.Add name subjects) told kept → (told ≡ catalog.At (Some (record { place = 0; incarnation = 1 }))) ⊎ (told ≡ catalog.NoMemory)
+-- if there is a place, none is refused
+added_first : (name : Bytes) (subjects : List Bytes) (count : ℕ) (e : ApiError) (kept : catalog.Catalog)
+    → catalog.IsCatalogCall (fresh (suc count)) (catalog.Add name subjects) (catalog.Refused e) kept → ⊥
 unfolding catalog.catalog_call
-added_first name subjects count told kept (inl h) =
-    inl (sym (ap (λ (x : catalog.Cataloged). x.told)
-    (subst (λ (refused : Option ApiError). catalog.added name subjects (fresh (suc count)) refused ≡ catalog.telling told kept) (wrong_none name subjects count) h)))
-added_first name subjects count told kept (inr h) = inr h.0
+added_first name subjects count e kept (inl h) =
+    let clash = ap (λ (x : catalog.Cataloged). x.told)
+    (subst (λ (refused : Option ApiError). catalog.added name subjects (fresh (suc count)) refused ≡ catalog.telling (catalog.Refused e) kept) (wrong_none name subjects count) h)
+    in cc
+added_first name subjects count e kept (inr h) = let clash = h.0 in cc
 
 -- if there is none, that is told
 added_none : (name : Bytes) (subjects : List Bytes) (told : catalog.CatTold) (kept : catalog.Catalog)
@@ -89,10 +106,10 @@ added_none name subjects told kept (inr h) = inr h.0
 
 -- ---- the place
 
-vacant_at : (count k : ℕ) (state : State) → slice_get (replicate count (Vacant 0)) k ≡ Some state → state ≡ Vacant 0
-vacant_at zero k state h = cc
-vacant_at (suc count) zero state h = let e : Vacant 0 ≡ state = cc in sym e
-vacant_at (suc count) (suc k) state h = vacant_at count k state h
+vacant_at : (count k : ℕ) (place : PlaceIn) → slice_get (replicate count vacant_place) k ≡ Some place → place ≡ vacant_place
+vacant_at zero k place h = cc
+vacant_at (suc count) zero place h = let e : vacant_place ≡ place = cc in sym e
+vacant_at (suc count) (suc k) place h = vacant_at count k place h
 
 -- a place that never had a stream does not refuse one
 made_there : (to : Option Bytes) (config : StreamConfig) (incarnation now : ℕ) (e : ApiError) (outs : List Out) (old new : State) → old ≡ Vacant 0
@@ -105,104 +122,184 @@ made_there to config incarnation now e outs old new vacant h =
     in
     let clash = ap (λ (a : Answer). a.reply) k in cc
 
+-- ---- the states of the places
+
+-- each place never had a stream
+abbrev AreVacant : List PlaceIn → Type 0
+AreVacant places = (k : ℕ) (place : PlaceIn) → slice_get places k ≡ Some place → place.state ≡ Vacant 0
+
+opened_vacant : (count : ℕ) → AreVacant (replicate count vacant_place)
+opened_vacant count k place h = ap (λ (p : PlaceIn). p.state) (vacant_at count k place h)
+
+set_vacant : (places : List PlaceIn) (n : ℕ) (new : PlaceIn) → new.state ≡ Vacant 0 → AreVacant places → AreVacant (slice_set places n new)
+set_vacant [] n new v h k place e = cc
+set_vacant (first ∷ places) zero new v h zero place e = let same : new ≡ place = cc in subst (λ (p : PlaceIn). p.state ≡ Vacant 0) same v
+set_vacant (first ∷ places) zero new v h (suc k) place e = h (suc k) place e
+set_vacant (first ∷ places) (suc n) new v h zero place e = h zero place e
+set_vacant (first ∷ places) (suc n) new v h (suc k) place e = set_vacant places n new v (λ i p g. h (suc i) p g) k place e
+
+-- the volume was called before what was asked, or was not
+prepared_vacant : (at : PlaceAt) (first : List DeskEntry) (old new : Scene) → Prepares at first → Leads SoloStep old first new → AreVacant old.world.places → AreVacant new.world.places
+prepared_vacant at first old new (inl e) led h = let same : old ≡ new = subst (λ (es : List DeskEntry). Leads SoloStep old es new) e led in subst (λ (s : Scene). AreVacant s.world.places) same h
+prepared_vacant at first old new (inr p) led h =
+    let k = subst (λ (es : List DeskEntry). Leads SoloStep old es new) p.3 led in
+    let a = k.1.0 in
+    let set = set_vacant old.world.places at.place a.stirred (a.is_stirred.state ∙ h at.place a.place a.is_there) h in
+    subst (λ (s : Scene). AreVacant s.world.places) k.2 (subst AreVacant (sym a.places) set)
+
+-- ---- the making at a place
+
+refusing : (reply : Reply) (e : ApiError) → Some e ≡ refusal_in reply → (error : ApiError) × (reply ≡ replies.Refused error)
+refusing (replies.Refused error) e h = (error, refl)
+refusing _ e h = cc
+
+given_so : (e : ApiError) (found : Option ApiError) (entries : List DeskEntry) → Gives found (Ok (Some e)) entries → Some e ≡ found
+given_so e found entries h = let k = h.result_is in cc
+
+module _ (at : PlaceAt) (config : StreamConfig) (now : ℕ) (e : ApiError) (old new : Scene) (vacant : AreVacant old.world.places) where
+  held_there : (reply : Reply) (ready : Bool) (fault : Option DeskFault) (hold : Hold) (rest : List DeskEntry) → IsHold at (whats.Make None config) now reply ready fault hold
+      → Some e ≡ refusal_in reply → Leads SoloStep old (Held hold ∷ rest) new → ⊥
+  held_there reply ready fault hold rest h making run =
+      let r = refusing reply e making in
+      let a = run.1.0 in
+      let steps = subst (λ (entries : List PlaceEntry). RunFrom a.place.stored hold.before entries hold.between) h.steps a.held.steps in
+      let event = subst (λ (x : Reply). IsEvent hold.before (record { incarnation = at.incarnation; what = whats.Make None config }) now x h.outs steps.0) r.1 steps.1.event in
+      made_there None config at.incarnation now r.0 h.outs hold.before steps.0 (sym a.held.was ∙ vacant hold.at.place a.place a.is_there) event
+
+  broken_there : (stream : Bytes) (hold : Hold) → IsBrokenHold at (whats.Make None config) now stream hold → AreFit (Held hold ∷ []) → ⊥
+  broken_there stream hold h fit =
+      let clash : true ≡ false = sym (ap (λ (entries : List PlaceEntry). is_broken (entries ++ hold.deliveries)) h.steps) ∙ fit.0.unbroken in cc
+
+  became_there : (became : Became) (ready : Bool) (held rest ended : List DeskEntry) → HoldsBy became at (whats.Make None config) now ready None held
+      → IsMaking became (Ok (Some e)) ended → AreFit held → Leads SoloStep old (held ++ rest) new → ⊥
+  became_there (Made reply) ready held rest ended h making fit run =
+      held_there reply ready None h.0 rest h.2 (given_so e (refusal_in reply) ended making) (subst (λ (es : List DeskEntry). Leads SoloStep old (es ++ rest) new) h.1 run)
+  became_there (Unsaid refused) ready held rest ended h making fit run = making
+  became_there Ticked ready held rest ended h making fit run = making
+  became_there Nothing ready held rest ended h making fit run = making
+  became_there (Broke stream) ready held rest ended h making fit run = broken_there stream h.0 h.2 (subst AreFit h.1 fit)
+  became_there (Stopped stream) ready held rest ended h making fit run = let k = subst AreFit h.1 fit in k.0
+  became_there Gone ready held rest ended h making fit run = making
+
+  fault_there : (fault : Option DeskFault) (became : Became) (ready : Bool) (held rest ended : List DeskEntry) → HoldsBy became at (whats.Make None config) now ready fault held
+      → Ending fault (IsMaking became) (Ok (Some e)) ended → AreFit held → Leads SoloStep old (held ++ rest) new → ⊥
+  fault_there None became ready held rest ended h making fit run = became_there became ready held rest ended h making fit run
+  fault_there (Some fault) became ready held rest ended h making fit run = let clash = making.0 in cc
+
+-- at the place that was taken it was not refused
+not_refused_at : (at : PlaceAt) (config : StreamConfig) (now : ℕ) (e : ApiError) (old new : Scene) (entries : List DeskEntry) → AreVacant old.world.places
+    → MakesAt config now at (Ok (Some e)) entries → AreFit entries → Leads SoloStep old entries new → ⊥
+not_refused_at at config now e old new entries vacant h fit run =
+    let freed = free_unless_made at h.outcome.became ++ h.ended in
+    let whole = subst AreFit h.entries_are fit in
+    let held = subst AreFit h.holds.entries_are (fit_front h.held freed whole) in
+    let first = h.holds.first in
+    let more = h.holds.more in
+    let are : entries ≡ first ++ (more ++ freed) =
+    h.entries_are ∙ ap (λ (es : List DeskEntry). es ++ freed) h.holds.entries_are ∙ append_assoc first more freed
+    in
+    let r = reaches old new first (more ++ freed) (subst (λ (es : List DeskEntry). Leads SoloStep old es new) are run) in
+    fault_there at config now e r.mid new (prepared_vacant at first old r.mid h.holds.prepares r.first vacant) h.outcome.fault h.outcome.became h.outcome.ready more freed h.ended h.holds.holds h.ends
+    (fit_behind first more held) r.behind
+
 -- ---- the making
 
--- a reply with which a making was refused is a refusal
-refusing : (reply : Reply) (after : State) (e : ApiError) → IsRefused e ≡ making_of (Said reply after) → (error : ApiError) × (reply ≡ replies.Refused error)
-refusing (replies.Refused error) after e h = (error, refl)
-refusing _ after e h = cc
+refused_so : (count : ℕ) (name : Bytes) (subjects : List Bytes) (e f : ApiError) (kept : catalog.Catalog) → catalog.IsCatalogCall (fresh count) (catalog.Add name subjects) (catalog.Refused f) kept
+    → Some e ≡ Some f → IsPlaceless count e
+refused_so zero name subjects e f kept call same = record { none = refl; error_is = by (added_none name subjects (catalog.Refused f) kept call) }
+  where
+    by : (catalog.Refused f ≡ catalog.Refused no_free_place) ⊎ (catalog.Refused f ≡ catalog.NoMemory) → e ≡ no_free_place
+    by (inl is) = let k : f ≡ no_free_place = cc in let j : e ≡ f = cc in j ∙ k
+    by (inr is) = cc
+refused_so (suc count) name subjects e f kept call same = absurd (added_first name subjects count f kept call)
 
-module _ (count : ℕ) (config : StreamConfig) (now : ℕ) (e : ApiError) (old new : World) (places : old.places ≡ replicate count (Vacant 0)) where
-  found_vacant : (k : ℕ) (state : State) → slice_get old.places k ≡ Some state → state ≡ Vacant 0
-  found_vacant k state h = vacant_at count k state (subst (λ (xs : List State). slice_get xs k ≡ Some state) places h)
+added_so : (count : ℕ) (name : Bytes) (config : StreamConfig) (now : ℕ) (e : ApiError) (told : catalog.CatTold) (more : List DeskEntry) (old new : Scene)
+    → catalog.IsCatalogCall (fresh count) (catalog.Add name config.subjects) told old.world.catalog → AreVacant old.world.places
+    → GoesOnTaken config now told (Ok (Some e)) more → AreFit more → Leads SoloStep old more new → IsPlaceless count e
+added_so count name config now e (catalog.At (Some at)) more old new call vacant h fit run = absurd (not_refused_at at config now e old new more vacant h fit run)
+added_so count name config now e (catalog.At None) more old new call vacant h fit run = absurd h
+added_so count name config now e (catalog.Refused f) more old new call vacant h fit run = refused_so count name config.subjects e f old.world.catalog call (given_so e (Some f) more h)
+added_so count name config now e catalog.NoMemory more old new call vacant h fit run = let clash = h.0 in cc
+added_so count name config now e catalog.Done more old new call vacant h fit run = absurd h
 
-  held_there : (at : PlaceAt) (reply : Reply) (after : State) (held freed : List DeskEntry) → IsHold at (whats.Make None config) now reply after false AreRouted held
-      → IsRefused e ≡ making_of (Said reply after) → DeskRun old (held ++ freed) new → ⊥
-  held_there at reply after held freed h making run =
-      let r = refusing reply after e making in
-      let k = subst (λ (es : List DeskEntry). DeskRun old (es ++ freed) new) h.entries_are run in
-      let s = k.1 0 in
-      let event = subst (λ (x : Reply). IsEvent h.before (record { incarnation = at.incarnation; what = whats.Make None config }) now x h.outs s.0) r.1 s.1.event in
-      made_there None config at.incarnation now r.0 h.outs h.before s.0 (found_vacant at.place h.before k.0) event
+adding : (count : ℕ) (name : Bytes) (config : StreamConfig) (now : ℕ) (e : ApiError) (entries : List DeskEntry) (old new : Scene) → old.world.catalog ≡ fresh count → AreVacant old.world.places
+    → IsAdding name config (GoesOnTaken config now) (Ok (Some e)) entries → AreFit entries → Leads SoloStep old entries new → IsPlaceless count e
+adding count name config now e entries old new c vacant h fit run =
+    let k = subst (λ (es : List DeskEntry). Leads SoloStep old es new) h.entries_are run in
+    let whole = subst AreFit h.entries_are fit in
+    let call = subst (λ (d : catalog.Catalog). catalog.IsCatalogCall d (catalog.Add name config.subjects) h.added k.0.world.catalog) c k.1.0 in
+    let places : k.0.world.places ≡ old.world.places = ap (λ (s : Scene). s.world.places) k.1.1 in
+    added_so count name config now e h.added h.more k.0 new call (subst AreVacant (sym places) vacant) h.went_on whole.1 k.2
 
-  missed_there : (at : PlaceAt) (held freed : List DeskEntry) → at ≡ record { place = 0; incarnation = 1 } → held ≡ Missed at ∷ [] → DeskRun old (held ++ freed) new → ⊥
-  missed_there at held freed is are run =
-      let k = subst (λ (es : List DeskEntry). DeskRun old (es ++ freed) new) are run in
-      let m = k.0 in
-      m.other (ap kept_incarnation (found_vacant at.place m.state m.is_there) ∙ sym (ap (λ (x : PlaceAt). x.incarnation) is))
+preparing_so : (count : ℕ) (name : Bytes) (config : StreamConfig) (now : ℕ) (e : ApiError) (entries : List DeskEntry) (old new : Scene) → old.world.catalog ≡ fresh count → AreVacant old.world.places
+    → IsPreparing name config now (Ok (Some e)) entries → AreFit entries → Leads SoloStep old entries new → IsPlaceless count e
+preparing_so count name config now e entries old new c vacant (inl h) fit run = let clash = h.result_is in cc
+preparing_so count name config now e entries old new c vacant (inr g) fit run =
+    let are : entries ≡ g.more = g.entries_are ∙ ap (λ (es : List DeskEntry). es ++ g.more) g.first_is.1 in
+    adding count name g.given now e g.more old new c vacant g.next_is (subst AreFit are fit) (subst (λ (es : List DeskEntry). Leads SoloStep old es new) are run)
 
-  -- at the place that was taken it was not refused
-  not_refused_at : (at : PlaceAt) (made : Made) (held : List DeskEntry) → at ≡ record { place = 0; incarnation = 1 } → Holds at (whats.Make None config) now made held
-      → IsRefused e ≡ making_of made → DeskRun old (held ++ free_unless_made at (reply_made made)) new → ⊥
-  not_refused_at at (Said reply after) held is h making run = held_there at reply after held _ h making run
-  not_refused_at at (Cut reply after) held is h making run = cc
-  not_refused_at at Unmade held is h making run = cc
-  not_refused_at at Gone held is h making run = missed_there at held _ is h run
+found_so : (count : ℕ) (name : Bytes) (config : StreamConfig) (now : ℕ) (e : ApiError) (found : Option PlaceAt) (more : List DeskEntry) (old new : Scene) → old.world.catalog ≡ fresh count
+    → AreVacant old.world.places → MatchOption found (IsPreparing name config now (Ok (Some e)) more) (λ at. Gives None (Ok (Some e)) more) → AreFit more → Leads SoloStep old more new → IsPlaceless count e
+found_so count name config now e None more old new c vacant h fit run = preparing_so count name config now e more old new c vacant h fit run
+found_so count name config now e (Some at) more old new c vacant h fit run = let clash = h.result_is in cc
 
-making_error : (e f : ApiError) → IsRefused e ≡ IsRefused f → e ≡ f
-making_error e f h = cc
-
--- if there is a place, no making was refused
-goes_on : (count : ℕ) (config : StreamConfig) (now : ℕ) (e : ApiError) (old new : World) (told : catalog.CatTold) (entries : List DeskEntry) → old.places ≡ replicate count (Vacant 0)
-    → (told ≡ catalog.At (Some (record { place = 0; incarnation = 1 }))) ⊎ (told ≡ catalog.NoMemory) → GoesOn config now (IsRefused e) told entries → DeskRun old entries new → ⊥
-goes_on count config now e old new (catalog.At (Some at)) entries places (inl is) h run =
-    let same : at ≡ record { place = 0; incarnation = 1 } = cc in
-    not_refused_at count config now e old new places at h.made h.held same h.holds h.making_is (subst (λ (es : List DeskEntry). DeskRun old es new) h.entries_are run)
-goes_on count config now e old new (catalog.At (Some at)) entries places (inr is) h run = cc
-goes_on count config now e old new (catalog.At None) entries places is h run = absurd h
-goes_on count config now e old new (catalog.Refused f) entries places (inl is) h run = cc
-goes_on count config now e old new (catalog.Refused f) entries places (inr is) h run = cc
-goes_on count config now e old new catalog.NoMemory entries places is h run = let clash : IsRefused e ≡ NoMemory = h.0 in cc
-goes_on count config now e old new catalog.Done entries places is h run = absurd h
-
--- if there is none, that is why
-goes_nowhere : (config : StreamConfig) (now : ℕ) (e : ApiError) (told : catalog.CatTold) (entries : List DeskEntry)
-    → (told ≡ catalog.Refused no_free_place) ⊎ (told ≡ catalog.NoMemory) → GoesOn config now (IsRefused e) told entries → e ≡ no_free_place
-goes_nowhere config now e (catalog.At found) entries (inl is) h = cc
-goes_nowhere config now e (catalog.At found) entries (inr is) h = cc
-goes_nowhere config now e (catalog.Refused f) entries (inl is) h = let same : f ≡ no_free_place = cc in making_error e f h.0 ∙ same
-goes_nowhere config now e (catalog.Refused f) entries (inr is) h = cc
-goes_nowhere config now e catalog.NoMemory entries is h = let clash : IsRefused e ≡ NoMemory = h.0 in cc
-goes_nowhere config now e catalog.Done entries is h = absurd h
-
-adding : (count : ℕ) (name : Bytes) (config : StreamConfig) (now : ℕ) (e : ApiError) (entries : List DeskEntry) (new : World)
-    → IsAdding name config now (IsRefused e) entries → DeskRun (opening count) entries new → IsPlaceless count e
-adding zero name config now e entries new h run =
-    let k = subst (λ (es : List DeskEntry). DeskRun (opening 0) es new) h.entries_are run in
-    record { none = refl; error_is = goes_nowhere config now e h.added h.more (added_none name config.subjects h.added k.0 k.1) h.goes_on }
-adding (suc count) name config now e entries new h run =
-    let k = subst (λ (es : List DeskEntry). DeskRun (opening (suc count)) es new) h.entries_are run in
-    absurd (goes_on (suc count) config now e (record (opening (suc count)) { catalog = k.0 }) new h.added h.more refl (added_first name config.subjects count h.added k.0 k.1) h.goes_on k.2)
-
-named : (count : ℕ) (name : Bytes) (config : StreamConfig) (now : ℕ) (e : ApiError) (found : Option PlaceAt) (more : List DeskEntry) (new : World)
-    → MatchOption found (IsAdding name config now (IsRefused e) more) (λ at. (more ≡ []) × (IsRefused e ≡ Stands)) → DeskRun (opening count) more new → IsPlaceless count e
-named count name config now e None more new h run = adding count name config now e more new h run
-named count name config now e (Some at) more new h run = let clash = h.1 in cc
+named_so : (count : ℕ) (name : Bytes) (config : StreamConfig) (now : ℕ) (e : ApiError) (entries : List DeskEntry) (old new : Scene) → old.world.catalog ≡ fresh count → AreVacant old.world.places
+    → MakesStream name config now (Ok (Some e)) entries → AreFit entries → Leads SoloStep old entries new → IsPlaceless count e
+named_so count name config now e entries old new c vacant (inl h) fit run = let clash = h.result_is in cc
+named_so count name config now e entries old new c vacant (inr g) fit run =
+    let are : entries ≡ Looked false (catalog.ByName name) (catalog.At g.given) ∷ g.more = g.entries_are ∙ ap (λ (es : List DeskEntry). es ++ g.more) g.first_is in
+    let k = subst (λ (es : List DeskEntry). Leads SoloStep old es new) are run in
+    let whole = subst AreFit are fit in
+    let kept : k.0.world.catalog ≡ old.world.catalog = looked name (catalog.At g.given) old.world.catalog k.0.world.catalog k.1.0 in
+    let places : k.0.world.places ≡ old.world.places = ap (λ (s : Scene). s.world.places) k.1.1 in
+    found_so count name config now e g.given g.more k.0 new (kept ∙ c) (subst AreVacant (sym places) vacant) g.next_is whole.1 k.2
 
 -- a making over a desk that was just opened is refused only there
-pub placeless : (count : ℕ) (name : Bytes) (config : StreamConfig) (now : ℕ) (e : ApiError) (entries : List DeskEntry) (new : World)
-    → MakesStream name config now (IsRefused e) entries → DeskRun (opening count) entries new → IsPlaceless count e
-placeless count name config now e entries new h run =
-    let k = subst (λ (es : List DeskEntry). DeskRun (opening count) es new) h.entries_are run in
-    let kept : k.0 ≡ (opening count).catalog = looked name (catalog.At h.found) (opening count).catalog k.0 k.1 in
-    named count name config now e h.found h.more new h.goes_on
-    (subst (λ (c : catalog.Catalog). DeskRun (record (opening count) { catalog = c }) h.more new) kept k.2)
+pub placeless : (count : ℕ) (name : Bytes) (config : StreamConfig) (now : ℕ) (e : ApiError) (entries : List DeskEntry) (new : Scene)
+    → MakesStream name config now (Ok (Some e)) entries → Leads SoloStep (opening (replicate count vacant_place)) entries new → AreUntroubled new.world → IsPlaceless count e
+placeless count name config now e entries new h run u =
+    let old = opening (replicate count vacant_place) in
+    named_so count name config now e entries old new (begins count) (opened_vacant count) h (run_fit old new entries run u) run
 
 -- ---- the run
 
 -- the stream was named
-pub refused_placeless : (count : ℕ) (stream : Option NamedStream) (error : ApiError) (c0 c1 : Option (List ℕ)) (world : World)
-    → WasRefused count stream error c0 c1 world → IsPlaceless count error × IsSome stream
-refused_placeless count None error c0 c1 world h = absurd h
-refused_placeless count (Some stream) error c0 c1 world h = (placeless count stream.name _ h.moment error h.entries world h.makes h.led, refl)
+refused_placeless : (count : ℕ) (stream : Option NamedStream) (result : Result (Option ApiError) DeskFault) (error : ApiError) (c0 c1 : Option (List ℕ)) (after : Scene)
+    → preparing.Prepares (replicate count vacant_place) stream result c0 c1 after → result ≡ Ok (Some error) → AreUntroubled after.world → IsPlaceless count error × IsSome stream
+refused_placeless count None result error c0 c1 after h e u = let clash = sym h.0 ∙ e in absurd (cc)
+refused_placeless count (Some stream) result error c0 c1 after h e u =
+    let config = default_config stream.name stream.subject in
+    let makes = subst (λ (r : Result (Option ApiError) DeskFault). MakesStream stream.name config h.moment r h.entries) e h.makes in
+    (placeless count stream.name config h.moment error h.entries after makes h.led u, refl)
 
--- a run that tells so had a stream to make and no volume, and printed that number
-pub run_placeless : (count : ℕ) (read : Option Command) (stream : Option NamedStream) (status : ℕ) (old new : Outside) → PipeEnds count stream status old new → read ≡ Some (Pipe stream)
-    → status ≡ 11 → NamesStream read × (count ≡ 0) × Prints (number_line 20007) old.sink new.sink
-run_placeless count read stream status old new ends e eleven =
-    let h = pipe_refused count stream status old new ends eleven in
-    let k = refused_placeless count stream h.error old.clock new.clock h.world h.refused in (
-      subst NamesStream (sym e) k.1,
-      k.0.none,
-      subst (λ (error : ApiError). Prints (number_line error.err_code) old.sink new.sink) k.0.error_is h.printed,
-    )
+printed_so : (result : Result (Option ApiError) DeskFault) (error : ApiError) (status : ℕ) (old new : SinkTold) → Unmakes result status old new → result ≡ Ok (Some error) → Prints (number_line error.err_code) old new
+printed_so result error status old new h e = let k = subst (λ (r : Result (Option ApiError) DeskFault). Unmakes r status old new) e h in k.1
+
+module _ {V : Type 0} (v0 v1 : List V) (read : Option Command) (stream : Option NamedStream) (is : read ≡ Some (Pipe stream)) (old new : Outside) where
+  refused_over : (after : Scene) (status : ℕ) → WasRefused (opened_of v0) stream after status old new → AreUntroubled after.world
+      → NamesStream read × (length v0 ≡ 0) × Prints (number_line 20007) old.sink new.sink
+  refused_over after status h u =
+      let error = h.refusal.error in
+      let k = refused_placeless (length v0) stream h.unmade.result error old.clock new.clock after h.unmade.prepared h.refusal.is u in (
+        subst NamesStream (sym is) k.1,
+        k.0.none,
+        subst (λ (e : ApiError). Prints (number_line e.err_code) old.sink new.sink) k.0.error_is (printed_so h.unmade.result error status old.sink new.sink h.unmade.unmade h.refusal.is),
+      )
+
+  -- a run that tells so had a stream to make and no volume, and printed that number
+  pub run_placeless : (status : ℕ) → PipeEnds (opened_of v0) stream status None v0 v1 old new → status ≡ 11
+      → NamesStream read × (length v0 ≡ 0) × Prints (number_line 20007) old.sink new.sink
+  run_placeless status (Unopened h) eleven = absurd (omega (arith, h.status_is, eleven))
+  run_placeless status (Attended h) eleven =
+      refused_over h.after h.talked (attends_refused (opened_of v0) stream h.after h.talked old new h.attends (sym h.status_is ∙ eleven)) (left_untroubled h.after.world v1 h.closed)
+
+-- ---- the law
+
+has_place : (count : ℕ) (stream : Option NamedStream) → HasPlace count stream → IsSome stream → count ≡ 0 → ⊥
+has_place count None place some none = cc
+has_place count (Some stream) place some none = omega (arith, place, none)
+
+pub welcome : LawWelcome
+welcome count None place = tt
+welcome count (Some stream) place = λ error c0 c1 after making u.
+    let k = refused_placeless count (Some stream) (Ok (Some error)) error c0 c1 after making refl u in has_place count (Some stream) place refl k.0.none

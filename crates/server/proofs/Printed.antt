@@ -4,7 +4,7 @@ use Rattle.std.proofs.Math.Seq.{take-append-add}
 use Rattle.std.proofs.lemmas.List.{take-append-le, take_min}
 use Rattle.js_base.specs.Bytes.{Bytes}
 use Rattle.link_edge.specs.Told.{grown}
-use Rattle.link_edge.specs.Causes.{HasCause, Rose}
+use Rattle.js_base.specs.Causes.{HasCause, Rose}
 use Rattle.link_edge.specs.Puts.{Writes}
 use Rattle.link_edge.specs.declared.answers.Put.{Put}
 use Rattle.link_edge.specs.declared.answers.Put.TheVariants as puts

@@ -1,7 +1,6 @@
 -- What a run accepts at its door.
-use Rattle.std.specs.Prelude.{◌≡◌, ℕ, ◌<◌, List, ◌++◌, Option, replicate}
+use Rattle.std.specs.Prelude.{◌≡◌, ℕ, ◌<◌, List, [], ◌∷◌, ◌++◌, Option, replicate}
 use Rattle.link_edge.specs.Told.{grown}
-use Rattle.link_edge.specs.Accepts.{accepted_of}
 use Rattle.link_edge.specs.declared.answers.Accept.{Accept}
 use Rattle.link_edge.specs.declared.answers.Accept.TheVariants as accepts
 use Rattle.link_edge.specs.declared.answers.Accepted.{Accepted}
@@ -21,5 +20,8 @@ pub record IsQuiet (old new : Option (List Accepted)) : Type 0 where
 
 -- the door's first answer that is not quiet, or quiet if a million were
 abbrev pub Arrives : {L : Type 0} → Accept L → Option (List Accepted) → Option (List Accepted) → Type 0
+Arrives (accepts.Got link) old new = IsAccepted old new (accepted.Got ∷ [])
 Arrives accepts.Quiet old new = IsQuiet old new
-Arrives accept old new = IsAccepted old new (accepted_of accept)
+Arrives accepts.Closed old new = IsAccepted old new (accepted.Closed ∷ [])
+Arrives accepts.Failed old new = IsAccepted old new (accepted.Failed ∷ [])
+Arrives accepts.NoMemory old new = IsAccepted old new []

@@ -1,15 +1,20 @@
 -- What a run comes to whose client sends whole operations, if nothing stands in the way.
-use Rattle.std.specs.Prelude.{◌≡◌, ℕ, ◌<◌, false, ◌⊎◌, List, [], ◌∷◌, ◌++◌, length, replicate, All, IfSome, Option, None, Some}
+use Rattle.std.specs.Prelude.{◌≡◌, ℕ, ◌<◌, ◌^◌, ◌-◌, false, ◌⊎◌, List, [], ◌∷◌, ◌++◌, length, replicate, All, IfSome, Option, None, Some, Ok}
 use Rattle.std.specs.List.{flat_map}
 use mathlib.Core.Logic.{inl, inr}
 use Rattle.js_base.specs.Bytes.{Bytes}
-use Rattle.js_model.specs.Router.{Session, Waiting, Queue, Marked, session_of}
-use Rattle.link_edge.specs.Causes.{Rose}
+use Rattle.js_base.specs.Causes.{Rose}
+use Rattle.js_base.specs.declared.out.ApiError.{ApiError}
+use Rattle.js_model.specs.PlaceStates.{PlaceIn, vacant_place}
+use Rattle.js_model.specs.Router.{Router, Session, Waiting, Queue, Marked, session_of}
 use Rattle.link_edge.specs.declared.answers.Answer.{Answer}
 use Rattle.link_edge.specs.declared.answers.Answer.TheVariants as answers
 use Rattle.nats_frames.specs.declared.op.Op.{Op}
 use Rattle.nats_frames.specs.Grammar.{Fronts}
-use Rattle.js_api.specs.Desks.{World, DeskEntry, DeskRun}
+use Rattle.place_engine.specs.declared.faults.PlaceFault.{PlaceFault}
+use Rattle.js_api.specs.Entries.{DeskEntry, Routed, Looked, Turned, Resumed, Held, Stirred, Halted, Missed, Spent, entries_in}
+use Rattle.js_api.specs.Leading.{Leads}
+use Rattle.js_api.specs.Worlds.{World, Scene, SoloStep, is_broken}
 use Rattle.session.specs.Keeping.{is_stale}
 use Rattle.session.specs.Peer.{Act, Hears, Ticks, op_request, IsRefused}
 use Rattle.session.specs.Talk.{Journal, Waiting as AtQuiet, Stage, start, AreTurns, IsFrontOf, acts_of, answers_of, entries_of, greeting, turn_spoken}
@@ -17,7 +22,8 @@ use Rattle.session.specs.declared.ending.Refusal.{Refusal}
 use Rattle.server.specs.declared.words.NamedStream.{NamedStream}
 use Rattle.server.specs.Outside.{DoorTold, Outside}
 use Rattle.server.specs.Accepting.{IsQuiet}
-use Rattle.server.specs.Running.{Waits, PipeEnds, Starved, Refused, Open, pipe_limits}
+use Rattle.server.specs.Preparing.{IsMaking}
+use Rattle.server.specs.Running.{Waits, IsAttended, PipeEnds, Attends, Unopened, Attended, Unmade, Awaited, flush_status, pipe_limits}
 
 -- ---- what the client sends
 
@@ -34,7 +40,9 @@ pub record IsValid (input : Bytes) (ops : List Op) : Type 0 where
 -- the bytes that the link answered
 abbrev pub piece_of : Answer → Bytes
 piece_of (answers.Piece bytes) = bytes
-piece_of _ = []
+piece_of answers.Quiet = []
+piece_of answers.Ended = []
+piece_of answers.Failed = []
 
 abbrev pub bytes_of : List Answer → Bytes
 bytes_of said = flat_map piece_of said
@@ -45,12 +53,29 @@ pub record Tells (input : Bytes) (said : List Answer) : Type 0 where
   pub whole : (before : List Answer) → said ≡ before ++ answers.Ended ∷ [] → bytes_of said ≡ input
   pub lively : (before after : List Answer) (quiets : ℕ) → quiets ≡ pipe_limits.quiet → said ≡ before ++ (replicate quiets answers.Quiet ++ after) → ⊥
 
--- ---- nothing stands in the way
+-- ---- the volumes
 
--- there is a place for the stream, if one is to be made
-abbrev pub HasPlace : ℕ → Option NamedStream → Type 0
-HasPlace count None = Unit {0}
-HasPlace count (Some stream) = 0 < count
+-- its volume did not fail, and stands before its last generation
+pub record IsUntroubled (place : PlaceIn) : Type 0 where
+  pub going : place.stopped ≡ None
+  pub generation : place.volume.generation < 2 ^ 62 - 1
+
+abbrev pub AreUntroubled : World → Type 0
+AreUntroubled world = All IsUntroubled world.places
+
+-- nothing could be brought to a volume only because memory ran out
+abbrev pub IsFlushed : Option (ℕ × PlaceFault) → Type 0
+IsFlushed failed = IfSome failed (λ (f : ℕ × PlaceFault). flush_status f.1 ≡ 7)
+
+-- ---- the stream
+
+-- a making of the stream is refused by none of these places, unless a volume fails
+abbrev pub IsWelcome : List PlaceIn → Option NamedStream → Type 0
+IsWelcome opened None = Unit {0}
+IsWelcome opened (Some stream) = (error : ApiError) (clock_old clock_new : Option (List ℕ)) (after : Scene)
+    → IsMaking opened stream (Ok (Some error)) clock_old clock_new after → AreUntroubled after.world → ⊥
+
+-- ---- nothing stands in the way
 
 -- if the link was quiet last, the client was not stale
 abbrev pub IsAlive : Journal → Type 0
@@ -61,27 +86,43 @@ abbrev pub IsQueue : Waiting → Type 0
 IsQueue (Queue frames) = Unit {0}
 IsQueue (Marked length) = ⊥
 
+abbrev pub AreQueues : Router → Type 0
+AreQueues router = (session : ℕ) → IfSome (session_of router session) (λ (s : Session). IsQueue s.waiting)
+
 -- in no state on the way was a session marked, since more waited for it than may
-abbrev pub IsUnmarked : World → List DeskEntry → Type 0
-IsUnmarked world entries = (before after : List DeskEntry) (mid : World) → entries ≡ before ++ after → DeskRun world before mid
-    → (session : ℕ) → IfSome (session_of mid.router session) (λ (s : Session). IsQueue s.waiting)
+abbrev pub IsUnmarked : Scene → List DeskEntry → Type 0
+IsUnmarked scene entries = (before after : List DeskEntry) (mid : Scene) → entries ≡ before ++ after → Leads SoloStep scene before mid
+    → AreQueues mid.world.router
 
 -- a session over this input: its link told the input and did not fail, and it was closed neither for a stale client nor for a slow one
-pub record IsCalmSession (input : Bytes) (world : World) (journal : Journal) (faults : ℕ) : Type 0 where
+pub record IsCalmSession (input : Bytes) (scene : Scene) (journal : Journal) (faults : ℕ) : Type 0 where
   pub tells : Tells input (answers_of journal)
   pub alive : IsAlive journal
-  pub unmarked : IsUnmarked world (entries_of journal)
+  pub unmarked : IsUnmarked scene (entries_of journal)
   pub unfailed : faults ≡ 0
 
 -- a calm session; or the door gave out no link, did not fail, and was not quiet as often as a run allows
-abbrev pub IsCalmWait : {world : World} {status : ℕ} {old new : DoorTold} {clock_old clock_new : Option (List ℕ)} → Bytes → Waits world status old new clock_old clock_new → Type 0
+abbrev pub IsCalmWait : {scene after : Scene} {status : ℕ} {old new : DoorTold} {clock_old clock_new : Option (List ℕ)}
+    → Bytes → Waits scene after status old new clock_old clock_new → Type 0
 IsCalmWait {old = old} {new = new} input (inl none) = (Rose old.faults new.faults → ⊥) × (IsQuiet old.answered new.answered → ⊥)
-IsCalmWait {world = world} input (inr link) = IsCalmSession input world link.given_back.served.journal link.given_back.report.faults
+IsCalmWait {scene = scene} input (inr link) = IsCalmSession input scene link.given_back.served.journal link.given_back.report.faults
 
-abbrev pub IsCalm : {count : ℕ} {stream : Option NamedStream} {status : ℕ} {old new : Outside} → Bytes → PipeEnds count stream status old new → Type 0
-IsCalm input (Starved run) = Unit {0}
-IsCalm input (Refused run) = Unit {0}
-IsCalm input (Open run) = IsCalmWait input run.waits
+abbrev pub IsCalmOver : {opened : List PlaceIn} {stream : Option NamedStream} {after : Scene} {status : ℕ} {old new : Outside}
+    → Bytes → Attends opened stream after status old new → Type 0
+IsCalmOver input (Unmade unmade) = Unit {0}
+IsCalmOver input (Awaited awaited) = IsCalmWait input awaited.waits
+
+-- Each way in which it can have gone is calm, by all that was told: what the door and the links answered, what these were given, the moments that
+-- the clock told, and the volumes as they came back untroubled.
+abbrev pub IsCalm : {V : Type 0} → Bytes → List PlaceIn → Option NamedStream → ℕ → Option (ℕ × PlaceFault) → List V → Outside → Outside → Type 0
+IsCalm input opened stream status failed vols old new =
+    (run : IsAttended opened stream status failed vols old new) → AreUntroubled run.after.world → IsCalmOver input run.attends
+
+-- the volumes came back untroubled
+abbrev pub LeavesUntroubled : {V : Type 0} {opened : List PlaceIn} {stream : Option NamedStream} {status : ℕ} {failed : Option (ℕ × PlaceFault)} {vols_old vols_new : List V} {old new : Outside}
+    → PipeEnds opened stream status failed vols_old vols_new old new → Type 0
+LeavesUntroubled (Unopened run) = Unit {0}
+LeavesUntroubled (Attended run) = AreUntroubled run.after.world
 
 -- ---- what it comes to
 
@@ -93,28 +134,65 @@ op_of Ticks = []
 abbrev pub ops_of : List Act → List Op
 ops_of acts = flat_map op_of acts
 
--- each operation was carried out, in their order, and the bytes are the server's information and what was said turn by turn, for the operations
--- and for the ticks
+-- no volume failed in it, and no place was found stopped, so no call is answered by errors 20011 and 20012
+abbrev pub IsUnbroken : DeskEntry → Type 0
+IsUnbroken (Routed call told) = Unit {0}
+IsUnbroken (Looked joined call told) = Unit {0}
+IsUnbroken (Turned after found) = Unit {0}
+IsUnbroken (Resumed last) = Unit {0}
+IsUnbroken (Held hold) = is_broken (entries_in hold) ≡ false
+IsUnbroken (Stirred at before after failed) = failed ≡ false
+IsUnbroken (Halted at state) = ⊥
+IsUnbroken (Missed at kept) = Unit {0}
+IsUnbroken (Spent number) = ⊥
+
+abbrev pub AreUnbroken : List DeskEntry → Type 0
+AreUnbroken [] = Unit {0}
+AreUnbroken (entry ∷ more) = IsUnbroken entry × AreUnbroken more
+
+-- each operation was carried out, in their order and by no place that failed, and the bytes are the server's information and what was said turn by
+-- turn, for the operations and for the ticks
 pub record IsAnswered (ops : List Op) (journal : Journal) (bytes : Bytes) : Type 0 where
   pub session : ℕ
   pub stage : Stage
   pub said : Bytes
   pub turns : AreTurns pipe_limits (start session) journal.turns stage said
   pub all : ops_of (acts_of (flat_map turn_spoken journal.turns)) ≡ ops
+  pub unbroken : AreUnbroken (entries_of journal)
   pub written : bytes ≡ greeting pipe_limits session ++ said
 
 -- if a link was given out, its session answered each of the operations
-abbrev pub AreAnsweredAt : {world : World} {status : ℕ} {old new : DoorTold} {clock_old clock_new : Option (List ℕ)} → List Op → Waits world status old new clock_old clock_new → Type 0
+abbrev pub AreAnsweredAt : {scene after : Scene} {status : ℕ} {old new : DoorTold} {clock_old clock_new : Option (List ℕ)}
+    → List Op → Waits scene after status old new clock_old clock_new → Type 0
 AreAnsweredAt ops (inl none) = Unit {0}
 AreAnsweredAt ops (inr link) = IsAnswered ops link.given_back.served.journal link.given_back.served.bytes
 
-abbrev pub AreAnswered : {count : ℕ} {stream : Option NamedStream} {status : ℕ} {old new : Outside} → List Op → PipeEnds count stream status old new → Type 0
-AreAnswered ops (Starved run) = ⊥
-AreAnswered ops (Refused run) = ⊥
-AreAnswered ops (Open run) = AreAnsweredAt ops run.waits
+abbrev pub AreAnsweredOver : {opened : List PlaceIn} {stream : Option NamedStream} {after : Scene} {status : ℕ} {old new : Outside}
+    → List Op → Attends opened stream after status old new → Type 0
+AreAnsweredOver ops (Unmade unmade) = ⊥
+AreAnsweredOver ops (Awaited awaited) = AreAnsweredAt ops awaited.waits
 
--- a calm run over whole operations, with a place for its stream, ends with status 0, and a link that was given out was answered each of them; or
--- memory ran out
-abbrev pub LawComplete : Type 0
-LawComplete = (count : ℕ) (stream : Option NamedStream) (status : ℕ) (old new : Outside) (run : PipeEnds count stream status old new)
-    (input : Bytes) (ops : List Op) → HasPlace count stream → IsValid input ops → IsCalm input run → ((status ≡ 0) × AreAnswered ops run) ⊎ (status ≡ 7)
+abbrev pub AreAnswered : {V : Type 0} {opened : List PlaceIn} {stream : Option NamedStream} {status : ℕ} {failed : Option (ℕ × PlaceFault)} {vols_old vols_new : List V} {old new : Outside}
+    → List Op → PipeEnds opened stream status failed vols_old vols_new old new → Type 0
+AreAnswered ops (Unopened run) = ⊥
+AreAnswered ops (Attended run) = AreAnsweredOver ops run.attends
+
+-- a calm run over whole operations, with a place for its stream and volumes that came back untroubled, ends with status 0, and a link that was
+-- given out was answered each of them; or memory ran out
+abbrev pub LawComplete : Type 0 → Type 0
+LawComplete V = (opened : List PlaceIn) (stream : Option NamedStream) (status : ℕ) (failed : Option (ℕ × PlaceFault)) (vols_old vols_new : List V) (old new : Outside)
+    (input : Bytes) (ops : List Op) → IsWelcome opened stream → IsValid input ops → IsCalm input opened stream status failed vols_new old new → IsFlushed failed
+    → (run : PipeEnds opened stream status failed vols_old vols_new old new) → LeavesUntroubled run → ((status ≡ 0) × AreAnswered ops run) ⊎ (status ≡ 7)
+
+-- places that never had a stream refuse none, if there is one
+abbrev pub HasPlace : ℕ → Option NamedStream → Type 0
+HasPlace count None = Unit {0}
+HasPlace count (Some stream) = 0 < count
+
+abbrev pub LawWelcome : Type 0
+LawWelcome = (count : ℕ) (stream : Option NamedStream) → HasPlace count stream → IsWelcome (replicate count vacant_place) stream
+
+-- in memory, where no place fails in the closing, volumes come back untroubled
+abbrev pub LawUntroubled : Type 0 → Type 0
+LawUntroubled V = (opened : List PlaceIn) (stream : Option NamedStream) (status : ℕ) (vols_old vols_new : List V) (old new : Outside)
+    (run : PipeEnds opened stream status None vols_old vols_new old new) → LeavesUntroubled run

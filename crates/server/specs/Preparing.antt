@@ -1,40 +1,27 @@
 -- The making of the stream that the command line names, before a link is served.
-use Rattle.std.specs.Prelude.{◌≡◌, ℕ, ◌⊎◌, List, [], ◌∷◌, Option, Some, None, Result, Ok, Err}
-use Rattle.js_base.specs.declared.memory.NoMemory.{NoMemory}
+use Rattle.std.specs.Prelude.{◌≡◌, ℕ, List, [], ◌∷◌, Option, Some, None, Result, Ok}
 use Rattle.js_base.specs.declared.out.ApiError.{ApiError}
+use Rattle.js_model.specs.PlaceStates.{PlaceIn}
 use Rattle.link_edge.specs.Moments.{ReadsMoments}
-use Rattle.js_api.specs.Desks.{World, DeskEntry, DeskRun, opening}
-use Rattle.js_api.specs.Making.{Making, Stands, IsRefused, MakesStream}
-use Rattle.desk_calls.specs.Defaults.{default_config}
+use Rattle.stream_config.specs.Defaults.{default_config}
+use Rattle.js_api.specs.declared.fault.DeskFault.{DeskFault}
+use Rattle.js_api.specs.Entries.{DeskEntry}
+use Rattle.js_api.specs.Leading.{Leads}
+use Rattle.js_api.specs.Making.{MakesStream}
+use Rattle.js_api.specs.Worlds.{Scene, SoloStep, opening}
 use Rattle.server.specs.declared.words.NamedStream.{NamedStream}
 
--- The clock was read once, and the entries of the making of this stream, which ended so, lead from the opening of a desk over so many volumes to
--- this world.
-pub record IsMaking (count : ℕ) (stream : NamedStream) (making : Making) (clock_old clock_new : Option (List ℕ)) (world : World) : Type 0 where
+-- The clock was read once, and the entries of the making of this stream, which came to that, led a desk over places that were opened so from its
+-- opening to this scene.
+pub record IsMaking (opened : List PlaceIn) (stream : NamedStream) (result : Result (Option ApiError) DeskFault) (clock_old clock_new : Option (List ℕ)) (after : Scene) : Type 0 where
   pub moment : ℕ
   pub entries : List DeskEntry
   pub read : ReadsMoments clock_old (moment ∷ []) clock_new
-  pub makes : MakesStream stream.name (default_config stream.name stream.subject) moment making entries
-  pub led : DeskRun (opening count) entries world
+  pub makes : MakesStream stream.name (default_config stream.name stream.subject) moment result entries
+  pub led : Leads SoloStep (opening opened) entries after
 
--- the world over which a link is served: the stream that the command line names stands in it; if it names none, it is as it was opened, and the
--- clock was not read
-abbrev pub IsPrepared : ℕ → Option NamedStream → Option (List ℕ) → Option (List ℕ) → World → Type 0
-IsPrepared count None clock_old clock_new world = (world ≡ opening count) × (clock_new ≡ clock_old)
-IsPrepared count (Some stream) clock_old clock_new world = IsMaking count stream Stands clock_old clock_new world
-
--- the stream that the command line names was refused by this error
-abbrev pub WasRefused : ℕ → Option NamedStream → ApiError → Option (List ℕ) → Option (List ℕ) → World → Type 0
-WasRefused count None error clock_old clock_new world = ⊥
-WasRefused count (Some stream) error clock_old clock_new world = IsMaking count stream (IsRefused error) clock_old clock_new world
-
--- the clock was not read, or once, if a stream is to be made
-abbrev pub ReadsFor : Option NamedStream → Option (List ℕ) → Option (List ℕ) → Type 0
-ReadsFor None clock_old clock_new = clock_new ≡ clock_old
-ReadsFor (Some stream) clock_old clock_new = (clock_new ≡ clock_old) ⊎ ((moment : ℕ) × ReadsMoments clock_old (moment ∷ []) clock_new)
-
--- how it ended: the stream was made or none is named, it was refused, or memory ran out
-abbrev pub Prepares : ℕ → Option NamedStream → Result (Option ApiError) NoMemory → Option (List ℕ) → Option (List ℕ) → World → Type 0
-Prepares count stream (Ok None) clock_old clock_new world = IsPrepared count stream clock_old clock_new world
-Prepares count stream (Ok (Some error)) clock_old clock_new world = WasRefused count stream error clock_old clock_new world
-Prepares count stream (Err _) clock_old clock_new world = ReadsFor stream clock_old clock_new
+-- the stream that the command line names was made, or was not, as the result tells; if it names none, the desk is as it was opened, and the clock
+-- was not read
+abbrev pub Prepares : List PlaceIn → Option NamedStream → Result (Option ApiError) DeskFault → Option (List ℕ) → Option (List ℕ) → Scene → Type 0
+Prepares opened None result clock_old clock_new after = (result ≡ Ok None) × (after ≡ opening opened) × (clock_new ≡ clock_old)
+Prepares opened (Some stream) result clock_old clock_new after = IsMaking opened stream result clock_old clock_new after

@@ -1,13 +1,24 @@
 -- What a run of the program answers, and why.
-use Rattle.std.specs.Prelude.{◌≡◌, ℕ, ◌+◌, ◌⊎◌, List, [], ◌∷◌, Option, IfSome, codes, option_map}
+use Rattle.std.specs.Prelude.{◌≡◌, ℕ, ◌+◌, Bool, true, false, ◌&&◌, ◌==◌, ◌⊎◌, List, [], ◌∷◌, length, replicate, Option, Some, None, IfSome, codes, option_map, Result, Ok, Err, if◌then◌else◌}
+use mathlib.Core.Logic.{inl, inr}
 use Rattle.js_base.specs.Bytes.{Bytes}
+use Rattle.js_base.specs.Causes.{Rose, raised}
 use Rattle.js_base.specs.declared.out.ApiError.{ApiError}
+use Rattle.js_model.specs.PlaceStates.{PlaceIn, vacant_place}
 use Rattle.link_edge.specs.Told.{grown}
-use Rattle.link_edge.specs.Causes.{Rose}
 use Rattle.link_edge.specs.Moments.{ReadsMoments}
-use Rattle.link_edge.specs.Reports.{Report}
+use Rattle.link_edge.specs.Failings.{no_failings}
+use Rattle.link_edge.specs.Reports.{Report, HasOut}
 use Rattle.link_edge.specs.declared.answers.Accepted.TheVariants as accepted
-use Rattle.js_api.specs.Desks.{World, DeskRun}
+use Rattle.place_engine.specs.declared.faults.PlaceFault.{PlaceFault}
+use Rattle.place_engine.specs.declared.faults.PlaceFault.TheVariants as faults
+use Rattle.js_api.specs.declared.fault.DeskFault.{DeskFault}
+use Rattle.js_api.specs.Leading.{Leads}
+use Rattle.js_api.specs.Worlds.{World, Scene, SoloStep}
+use Rattle.js_desk.specs.GivingBack.{Closes}
+use Rattle.js_desk.specs.declared.faults.Closed.{Closed}
+use Rattle.session.specs.Failing.{FailsAt}
+use Rattle.session.specs.Stopping.{end_of_fault}
 use Rattle.session.specs.Talk.{Journal, Talk, entries_of, answers_of, moments_of}
 use Rattle.session.specs.declared.ending.Limits.{Limits}
 use Rattle.session.specs.declared.ending.Ended.{Ended}
@@ -15,9 +26,9 @@ use Rattle.session.specs.declared.ending.Ended.TheVariants as ends
 use Rattle.server.specs.declared.words.NamedStream.{NamedStream}
 use Rattle.server.specs.declared.words.Command.{Command}
 use Rattle.server.specs.declared.words.Command.TheVariants.{Pipe}
-use Rattle.server.specs.Outside.{DoorTold, Outside, Prints, number_line}
+use Rattle.server.specs.Outside.{DoorTold, SinkTold, Outside, Prints, number_line}
 use Rattle.server.specs.Accepting.{IsAccepted, IsQuiet}
-use Rattle.server.specs.Preparing.{IsPrepared, WasRefused, ReadsFor}
+use Rattle.server.specs.Preparing.{Prepares}
 
 -- a gigabyte of input, and a million takes in a row that are quiet
 abbrev pub pipe_limits : Limits
@@ -34,83 +45,151 @@ status_of ends.NoMemory = 7
 
 -- ---- the session
 
--- A link with this report was served over a desk in this world: it was given the bytes of a talk over just what it answered and the moments that
--- the clock told, the talk's entries led the desk on, and the status tells how the talk ended.
-pub record IsServed (limits : Limits) (world : World) (status : ℕ) (report : Report) (clock_old clock_new : Option (List ℕ)) : Type 0 where
+-- A link with this report was served over a desk in this scene: it was given the bytes of a talk over just what it answered and the moments that
+-- the clock told, and the talk's entries led the desk on. The status tells how the talk ended. One give failed at most, one call of the link
+-- found no memory at most, and then the talk ended so.
+pub record IsServed (limits : Limits) (scene after : Scene) (status : ℕ) (report : Report) (clock_old clock_new : Option (List ℕ)) : Type 0 where
   pub journal : Journal
   pub bytes : Bytes
   pub ended : Ended
-  pub after : World
   pub talk : Talk limits journal bytes ended
-  pub led : DeskRun world (entries_of journal) after
+  pub led : Leads SoloStep scene (entries_of journal) after
   pub answered : IfSome report.answered (λ answers. answers ≡ answers_of journal)
   pub given : IfSome report.given (λ given. given ≡ bytes)
+  pub failings : IfSome report.failings (λ failings. FailsAt journal.last ended (Some no_failings) (Some failings))
   pub moments : ReadsMoments clock_old (moments_of journal) clock_new
   pub status_is : status ≡ status_of ended
   pub cause : status ≡ 3 → Rose 0 report.faults
 
--- a link came back with its report, and it was served over the desk
-pub record IsGivenBack (limits : Limits) (world : World) (status : ℕ) (old new : Option (List Report)) (clock_old clock_new : Option (List ℕ)) : Type 0 where
+-- A link was served over the desk, and came back with its report, which is told if by then more links were given out than came back.
+pub record IsGivenBack (limits : Limits) (scene after : Scene) (status : ℕ) (gave : Option ℕ) (old new : Option (List Report)) (clock_old clock_new : Option (List ℕ)) : Type 0 where
   pub report : Report
-  pub back : new ≡ grown old (report ∷ [])
-  pub served : IsServed limits world status report clock_old clock_new
+  pub back : HasOut gave old → new ≡ grown old (report ∷ [])
+  pub served : IsServed limits scene after status report clock_old clock_new
 
 -- ---- the door
 
--- why no link was served: the door was closed, it failed, it was quiet a million times, or memory ran out
+-- why no link was served: the door was closed, it failed, it was quiet a million times, an accept found no memory, or memory ran out before the
+-- door was asked
 pub data IsUnserved (status : ℕ) (old new : DoorTold) : Type 0 where
-  WasClosed : status ≡ 0 → IsAccepted old.answered new.answered (accepted.Closed ∷ []) → IsUnserved status old new
-  HasFailed : status ≡ 8 → Rose old.faults new.faults → IsAccepted old.answered new.answered (accepted.Failed ∷ []) → IsUnserved status old new
-  WasQuiet : status ≡ 6 → IsQuiet old.answered new.answered → IsUnserved status old new
-  HasStarved : status ≡ 7 → IsAccepted old.answered new.answered [] → IsUnserved status old new
+  WasClosed : status ≡ 0 → IsAccepted old.answered new.answered (accepted.Closed ∷ []) → new.starved ≡ old.starved → IsUnserved status old new
+  HasFailed : status ≡ 8 → Rose old.faults new.faults → IsAccepted old.answered new.answered (accepted.Failed ∷ []) → new.starved ≡ old.starved → IsUnserved status old new
+  WasQuiet : status ≡ 6 → IsQuiet old.answered new.answered → new.starved ≡ old.starved → IsUnserved status old new
+  HasStarved : status ≡ 7 → IsAccepted old.answered new.answered [] → new.starved ≡ option_map raised old.starved → IsUnserved status old new
+  WasUnasked : status ≡ 7 → new.answered ≡ old.answered → new.starved ≡ old.starved → IsUnserved status old new
 
--- no link was given out, and the clock was not read
-pub record NoLink (status : ℕ) (old new : DoorTold) (clock_old clock_new : Option (List ℕ)) : Type 0 where
+-- no link was given out, the desk is as it was, and the clock was not read
+pub record NoLink (scene after : Scene) (status : ℕ) (old new : DoorTold) (clock_old clock_new : Option (List ℕ)) : Type 0 where
   pub gave : new.gave ≡ old.gave
   pub back : new.back ≡ old.back
-  pub unread : clock_new ≡ clock_old
   pub unserved : IsUnserved status old new
+  pub idle : after ≡ scene
+  pub unread : clock_new ≡ clock_old
 
--- a link was given out, and it was served over a desk in this world
-pub record IsLinkServed (world : World) (status : ℕ) (old new : DoorTold) (clock_old clock_new : Option (List ℕ)) : Type 0 where
+-- a link was given out at the first answer that was not quiet, and it was served over a desk in this scene
+pub record IsLinkServed (scene after : Scene) (status : ℕ) (old new : DoorTold) (clock_old clock_new : Option (List ℕ)) : Type 0 where
   pub accepts : IsAccepted old.answered new.answered (accepted.Got ∷ [])
+  pub starved : new.starved ≡ old.starved
   pub gave : new.gave ≡ option_map (λ n. n + 1) old.gave
-  pub given_back : IsGivenBack pipe_limits world status old.back new.back clock_old clock_new
+  pub given_back : IsGivenBack pipe_limits scene after status new.gave old.back new.back clock_old clock_new
 
--- how the door was waited at
-abbrev pub Waits : World → ℕ → DoorTold → DoorTold → Option (List ℕ) → Option (List ℕ) → Type 0
-Waits world status old new clock_old clock_new = NoLink status old new clock_old clock_new ⊎ IsLinkServed world status old new clock_old clock_new
+-- how the door was waited at, and what of the desk is left by that
+abbrev pub Waits : Scene → Scene → ℕ → DoorTold → DoorTold → Option (List ℕ) → Option (List ℕ) → Type 0
+Waits scene after status old new clock_old clock_new =
+    NoLink scene after status old new clock_old clock_new ⊎ IsLinkServed scene after status old new clock_old clock_new
 
--- ---- the end
+abbrev pub is_link_served : {scene after : Scene} {status : ℕ} {old new : DoorTold} {clock_old clock_new : Option (List ℕ)}
+    → Waits scene after status old new clock_old clock_new → Bool
+is_link_served (inl none) = false
+is_link_served (inr link) = true
 
--- memory ran out before the door was asked
-pub record IsStarved (stream : Option NamedStream) (status : ℕ) (old new : Outside) : Type 0 where
-  pub status_is : status ≡ 7
-  pub read : ReadsFor stream old.clock new.clock
+-- ---- over a desk that was opened
+
+-- the stream was refused, and the number of the error was printed; or its making ended by a fault of the desk
+abbrev pub Unmakes : Result (Option ApiError) DeskFault → ℕ → SinkTold → SinkTold → Type 0
+Unmakes (Ok None) status old new = ⊥
+Unmakes (Ok (Some error)) status old new = (status ≡ 11) × Prints (number_line error.err_code) old new
+Unmakes (Err fault) status old new = status ≡ status_of (end_of_fault fault)
+
+-- the stream was not made, and the door was not asked
+pub record IsUnmade (opened : List PlaceIn) (stream : Option NamedStream) (after : Scene) (status : ℕ) (old new : Outside) : Type 0 where
+  pub result : Result (Option ApiError) DeskFault
+  pub prepared : Prepares opened stream result old.clock new.clock after
+  pub unmade : Unmakes result status old.sink new.sink
   pub door : new.door ≡ old.door
 
--- the stream was refused, and the number of the error was printed; the door was not asked
-pub record IsRefused (count : ℕ) (stream : Option NamedStream) (status : ℕ) (old new : Outside) : Type 0 where
-  pub error : ApiError
-  pub world : World
-  pub status_is : status ≡ 11
-  pub refused : WasRefused count stream error old.clock new.clock world
-  pub printed : Prints (number_line error.err_code) old.sink new.sink
-  pub door : new.door ≡ old.door
-
--- a link was waited for over the desk that was prepared
-pub record IsOpen (count : ℕ) (stream : Option NamedStream) (status : ℕ) (old new : Outside) : Type 0 where
-  pub world : World
+-- a link was waited for over the desk in which the stream stands
+pub record IsAwaited (opened : List PlaceIn) (stream : Option NamedStream) (after : Scene) (status : ℕ) (old new : Outside) : Type 0 where
+  pub scene : Scene
   pub rest : Option (List ℕ)
-  pub prepared : IsPrepared count stream old.clock rest world
-  pub waits : Waits world status old.door new.door rest new.clock
+  pub prepared : Prepares opened stream (Ok None) old.clock rest scene
+  pub waits : Waits scene after status old.door new.door rest new.clock
 
--- how a run of `pipe` over so many volumes ends
-pub data PipeEnds (count : ℕ) (stream : Option NamedStream) (status : ℕ) (old new : Outside) : Type 0 where
-  Starved : IsStarved stream status old new → PipeEnds count stream status old new
-  Refused : IsRefused count stream status old new → PipeEnds count stream status old new
-  Open : IsOpen count stream status old new → PipeEnds count stream status old new
+-- what was done over the desk from its opening on, with this status, and this is the desk after it
+pub data Attends (opened : List PlaceIn) (stream : Option NamedStream) (after : Scene) (status : ℕ) (old new : Outside) : Type 0 where
+  Unmade : IsUnmade opened stream after status old new → Attends opened stream after status old new
+  Awaited : IsAwaited opened stream after status old new → Attends opened stream after status old new
 
--- how a run of a command ends
-abbrev pub CommandEnds : ℕ → Command → ℕ → Outside → Outside → Type 0
-CommandEnds count (Pipe stream) status old new = PipeEnds count stream status old new
+-- a session was served
+abbrev pub is_session : {opened : List PlaceIn} {stream : Option NamedStream} {after : Scene} {status : ℕ} {old new : Outside} → Attends opened stream after status old new → Bool
+is_session (Unmade unmade) = false
+is_session (Awaited awaited) = is_link_served awaited.waits
+
+-- ---- the closing
+
+-- the status of a place that could not be brought to its volume: the store failed, its generations are used up, or memory ran out
+abbrev pub flush_status : PlaceFault → ℕ
+flush_status (faults.NoMemory left) = 7
+flush_status faults.StoreFault = 4
+flush_status (faults.Stopped count) = 4
+flush_status (faults.Gone kept) = 4
+flush_status (faults.Worn refused) = 10
+
+-- of a run that ended so and a place that failed then, the first one gives the status; but want of memory in the closing stands before what a
+-- session ended by
+abbrev pub status_with : (served : Bool) (status flushed : ℕ) → ℕ
+status_with served status flushed = if status == 0 then flushed else if served && flushed == 7 then 7 else status
+
+-- the status that is left by the closing
+abbrev pub closing_status : Bool → ℕ → Option (ℕ × PlaceFault) → ℕ
+closing_status served status None = status
+closing_status served status (Some failed) = status_with served status (flush_status failed.1)
+
+-- the desk was closed in this world: its volumes came back, and that is what failed
+pub record IsClosed {V : Type 0} (world : World) (failed : Option (ℕ × PlaceFault)) (vols : List V) : Type 0 where
+  pub closed : Closed V
+  pub closes : Closes world closed
+  pub failed_is : closed.failed ≡ failed
+  pub vols_are : closed.vols.items ≡ vols
+
+-- ---- the whole
+
+-- nothing was opened, since memory ran out: the volumes came back as they were
+pub record IsUnopened {V : Type 0} (status : ℕ) (failed : Option (ℕ × PlaceFault)) (vols_old vols_new : List V) (old new : Outside) : Type 0 where
+  pub status_is : status ≡ 7
+  pub unfailed : failed ≡ None
+  pub vols : vols_new ≡ vols_old
+  pub unread : new.clock ≡ old.clock
+  pub door : new.door ≡ old.door
+
+-- a desk was opened over places in these states, and closed in the world that was reached
+pub record IsAttended {V : Type 0} (opened : List PlaceIn) (stream : Option NamedStream) (status : ℕ) (failed : Option (ℕ × PlaceFault)) (vols : List V) (old new : Outside) : Type 0 where
+  pub after : Scene
+  pub talked : ℕ
+  pub attends : Attends opened stream after talked old new
+  pub closed : IsClosed after.world failed vols
+  pub status_is : status ≡ closing_status (is_session attends) talked failed
+
+-- How a run of `pipe` ends over volumes that open to places in these states: its status, the place that failed in the closing, and the volumes
+-- before and after.
+pub data PipeEnds {V : Type 0} (opened : List PlaceIn) (stream : Option NamedStream) (status : ℕ) (failed : Option (ℕ × PlaceFault)) (vols_old vols_new : List V) (old new : Outside) : Type 0 where
+  Unopened : IsUnopened status failed vols_old vols_new old new → PipeEnds opened stream status failed vols_old vols_new old new
+  Attended : IsAttended opened stream status failed vols_new old new → PipeEnds opened stream status failed vols_old vols_new old new
+
+-- in memory each volume opens to a place that never had a stream
+abbrev pub opened_of : {V : Type 0} → List V → List PlaceIn
+opened_of vols = replicate (length vols) vacant_place
+
+-- how a run of a command ends in memory, where no place fails in the closing
+abbrev pub CommandEnds : {V : Type 0} → Command → ℕ → List V → List V → Outside → Outside → Type 0
+CommandEnds (Pipe stream) status vols_old vols_new old new = PipeEnds (opened_of vols_old) stream status None vols_old vols_new old new

@@ -9,3 +9,4 @@ mod serving;
 mod words;
 
 pub use running::{Finish, run};
+pub use words::{Command, NamedStream, WordsFault, read_words};

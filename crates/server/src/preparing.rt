@@ -1,12 +1,14 @@
 //! The stream that the command line names, which is made before a link is served.
 
-ghost use Rattle.std.specs.Prelude.{◌≡◌, IfSome, IsTrue, length};
-ghost use Rattle.js_api.specs.Desks.{opening};
+ghost use Rattle.std.specs.Prelude.{◌≡◌, IfSome, IsTrue};
+ghost use Rattle.js_api.specs.Worlds.{opening};
 ghost use Rattle.js_model.specs.Configs.{is_stream_subject};
 ghost use Rattle.server.specs.Preparing.{Prepares};
+ghost use Rattle.server.specs.Running.{opened_of};
 
 use crate::words::NamedStream;
-use js_base::{ApiError, NoMemory};
+use js_api::DeskFault;
+use js_base::ApiError;
 use js_desk::SoloDesk;
 use link_edge::Clock;
 
@@ -15,12 +17,12 @@ pub fn prepare<V, C: Clock>(
     desk: &mut SoloDesk<V>,
     stream: &Option<NamedStream>,
     clock: &mut C,
-) -> Result<Option<ApiError>, NoMemory>
-    requires opened { desk.old.world ≡ opening (length desk.old.vols) }
+) -> Result<Option<ApiError>, DeskFault>
+    requires opened { desk.old.scene ≡ opening (opened_of desk.old.vols) }
     requires subject { IfSome stream.now (λ named. IsTrue (is_stream_subject named.subject)) }
-    ensures prepares { Prepares (length desk.old.vols) stream.now result (C.to_come clock.old) (C.to_come clock.new) desk.new.world }
+    ensures prepares { Prepares (opened_of desk.old.vols) stream.now result (C.to_come clock.old) (C.to_come clock.new) desk.new.scene }
     ensures vols { desk.new.vols ≡ desk.old.vols }
-    ensures is_open { desk.new.is_open ≡ desk.old.is_open }
+    ensures client { desk.new.client ≡ desk.old.client }
 {
     match stream {
         Some(named) => {

@@ -1,20 +1,20 @@
 //! The top call.
 
 ghost use Rattle.std.specs.Prelude.{◌≡◌, ◌≢◌, ◌≤◌, ◌↔◌, List, None, false, IfSome, IsTrue, length, vec_len};
-ghost use Rattle.js_api.specs.Desks.{opening};
+ghost use Rattle.js_api.specs.Worlds.{opening};
 ghost use Rattle.js_desk.specs.GivingBack.{GivesBack};
 ghost use Rattle.js_model.specs.Configs.{is_stream_subject};
-ghost use Rattle.link_edge.specs.Reports.{IsBalanced};
 ghost use Rattle.server.specs.Outside.{words_line, number_line, Prints};
 ghost use Rattle.server.specs.Words.{texts, command_of, NamesStream};
-ghost use Rattle.server.specs.Running.{CommandEnds, PipeEnds};
+ghost use Rattle.server.specs.Running.{Attends, CommandEnds, PipeEnds, opened_of};
 
 use crate::preparing::prepare;
 use crate::printing::{print_number, print_words};
-use crate::serving::serve_first;
+use crate::serving::{serve_first, status_of};
 use crate::words::{Command, NamedStream, WordsFault, read_words};
 use js_desk::{Closed, HubFault, SoloDesk};
 use link_edge::{Clock, Door, Gate, Sink};
+use session::Ended;
 use std::alloc::Global;
 
 /// What is left at the end of a run: its status, the door, and the volumes in their order.
@@ -34,18 +34,17 @@ fn attend<R: Door, V, C: Clock, O: Sink>(
     clock: &mut C,
     out: &mut O,
 ) -> u8
-    requires opened { desk.old.world ≡ opening (length desk.old.vols) }
-    requires closed { desk.old.is_open ≡ false }
+    requires opened { desk.old.scene ≡ opening (opened_of desk.old.vols) }
+    requires closed { desk.old.client.is_open ≡ false }
     requires subject { IfSome stream.now (λ named. IsTrue (is_stream_subject named.subject)) }
-    requires links { IsBalanced (R.gave door.old) (R.back door.old) }
-    ensures ends { PipeEnds (length desk.old.vols) stream.now result
+    ensures attends { Attends (opened_of desk.old.vols) stream.now desk.new.scene result
         (record {
-          door = record { answered = R.answered door.old; gave = R.gave door.old; back = R.back door.old; faults = R.faults door.old };
+          door = record { answered = R.answered door.old; gave = R.gave door.old; back = R.back door.old; starved = R.starved door.old; faults = R.faults door.old };
           clock = C.to_come clock.old;
           sink = record { written = O.written out.old; faults = O.faults out.old };
         })
         (record {
-          door = record { answered = R.answered door.new; gave = R.gave door.new; back = R.back door.new; faults = R.faults door.new };
+          door = record { answered = R.answered door.new; gave = R.gave door.new; back = R.back door.new; starved = R.starved door.new; faults = R.faults door.new };
           clock = C.to_come clock.new;
           sink = record { written = O.written out.new; faults = O.faults out.new };
         }) }
@@ -59,7 +58,7 @@ fn attend<R: Door, V, C: Clock, O: Sink>(
             print_number(out, error.err_code);
             11
         }
-        Err(_) => 7,
+        Err(fault) => status_of(Ended::from(fault)),
     }
 }
 
@@ -74,7 +73,8 @@ fn given_back<V>(fault: HubFault<V>) -> Vec<V>
     }
 }
 
-/// Opens a desk over the volumes for the stream and the first link that comes. The volumes are given back with the status.
+/// Opens a desk over the volumes for the stream and the first link that comes, and closes it as these leave it. The volumes are given back with the
+/// status. In memory nothing fails in the closing.
 fn pipe<R: Door, V, C: Clock, O: Sink>(
     alloc: Global,
     stream: &Option<NamedStream>,
@@ -85,15 +85,14 @@ fn pipe<R: Door, V, C: Clock, O: Sink>(
 ) -> (u8, Vec<V>)
     requires volumes { vec_len vols ≤ 32 }
     requires subject { IfSome stream.now (λ named. IsTrue (is_stream_subject named.subject)) }
-    requires links { IsBalanced (R.gave door.old) (R.back door.old) }
-    ensures ends { PipeEnds (vec_len vols) stream.now result.0
+    ensures ends { PipeEnds (opened_of vols.items) stream.now result.0 None vols.items result.1.items
         (record {
-          door = record { answered = R.answered door.old; gave = R.gave door.old; back = R.back door.old; faults = R.faults door.old };
+          door = record { answered = R.answered door.old; gave = R.gave door.old; back = R.back door.old; starved = R.starved door.old; faults = R.faults door.old };
           clock = C.to_come clock.old;
           sink = record { written = O.written out.old; faults = O.faults out.old };
         })
         (record {
-          door = record { answered = R.answered door.new; gave = R.gave door.new; back = R.back door.new; faults = R.faults door.new };
+          door = record { answered = R.answered door.new; gave = R.gave door.new; back = R.back door.new; starved = R.starved door.new; faults = R.faults door.new };
           clock = C.to_come clock.new;
           sink = record { written = O.written out.new; faults = O.faults out.new };
         }) }
@@ -113,8 +112,8 @@ fn pipe<R: Door, V, C: Clock, O: Sink>(
 }
 
 /// All that the program does for its command line. `pipe` opens a desk over the volumes, makes the stream that the command line names, if it names
-/// one and no stream of its name is there, with every default, accepts one link and serves it. Any other command line is refused. The volumes come
-/// back as they were handed in.
+/// one and no stream of its name is there, with every default, accepts one link and serves it, and closes the desk as this leaves it. Any other
+/// command line is refused. The volumes come back as they were handed in.
 pub fn run<R: Door, V, C: Clock, G: Gate, O: Sink>(
     alloc: Global,
     words: &[String],
@@ -125,30 +124,29 @@ pub fn run<R: Door, V, C: Clock, G: Gate, O: Sink>(
     out: &mut O,
 ) -> Finish<R, V>
     requires volumes { vec_len vols ≤ 32 }
-    requires links { IsBalanced (R.gave door) (R.back door) }
 
     // Status 2 comes exactly if the command line is none of the forms. It is refused in a line, the door is not touched and the clock not read.
     ensures words { (result.status ≡ 2) ↔ (command_of (texts words.now) ≡ None) }
     ensures refused { command_of (texts words.now) ≡ None → (result.door ≡ door) × (C.to_come clock.new ≡ C.to_come clock.old)
         × Prints words_line (record { written = O.written out.old; faults = O.faults out.old }) (record { written = O.written out.new; faults = O.faults out.new }) }
 
-    // Else the status tells why the run ended: 11 if the stream was refused, and the others by the link that came back, which was served over a
-    // desk with the stream, or by why none came.
-    ensures ends { IfSome (command_of (texts words.now)) (λ command. CommandEnds (vec_len vols) command result.status
+    // Else the status tells why the run ended: whether the stream was made, how the link ended that was served over a desk with the stream, or why
+    // none came, and the desk was closed in the world that was reached by then. The volumes are those before and after.
+    ensures ends { IfSome (command_of (texts words.now)) (λ command. CommandEnds command result.status vols.items result.vols.items
         (record {
-          door = record { answered = R.answered door; gave = R.gave door; back = R.back door; faults = R.faults door };
+          door = record { answered = R.answered door; gave = R.gave door; back = R.back door; starved = R.starved door; faults = R.faults door };
           clock = C.to_come clock.old;
           sink = record { written = O.written out.old; faults = O.faults out.old };
         })
         (record {
-          door = record { answered = R.answered result.door; gave = R.gave result.door; back = R.back result.door; faults = R.faults result.door };
+          door = record { answered = R.answered result.door; gave = R.gave result.door; back = R.back result.door; starved = R.starved result.door; faults = R.faults result.door };
           clock = C.to_come clock.new;
           sink = record { written = O.written out.new; faults = O.faults out.new };
         })) }
     ensures later { R.faults door ≤ R.faults result.door }
 
-    // A stream is refused only if no volume was handed in, and so no place is free for it, which is error 20007.
-    ensures placeless { result.status ≡ 11 → NamesStream (command_of (texts words.now)) × (vec_len vols ≡ 0)
+    // In memory a stream is refused only if no volume was handed in, and so no place is free for it, which is error 20007.
+    ensures placeless { result.status ≡ 11 → NamesStream (command_of (texts words.now)) × (length vols.items ≡ 0)
         × Prints (number_line 20007) (record { written = O.written out.old; faults = O.faults out.old }) (record { written = O.written out.new; faults = O.faults out.new }) }
 
     // With every other status nothing is printed.

@@ -1,9 +1,10 @@
 //! The first link that comes, which is served over a desk.
 
 ghost use Rattle.std.specs.Prelude.{◌≡◌, ◌≤◌, ◌<◌, ◌^◌, false, true, IfOk};
+ghost use Rattle.js_base.specs.Causes.{HasCause};
 ghost use Rattle.link_edge.specs.Accepts.{IfGot, gave_after};
-ghost use Rattle.link_edge.specs.Causes.{HasCause};
-ghost use Rattle.link_edge.specs.Reports.{HasOut, IsBalanced, IsFresh};
+ghost use Rattle.link_edge.specs.Failings.{after_accept};
+ghost use Rattle.link_edge.specs.Reports.{IsFresh};
 ghost use Rattle.session.specs.Host.{is_plain};
 ghost use Rattle.server.specs.Accepting.{Arrives};
 ghost use Rattle.server.specs.Running.{pipe_limits, status_of, IsGivenBack, Waits};
@@ -30,7 +31,7 @@ fn pipe_limits(alloc: Global) -> Result<Limits, NoMemory>
 }
 
 /// The status that a session's end gives.
-fn status_of(ended: Ended) -> u8
+pub fn status_of(ended: Ended) -> u8
     ensures status { result ≡ status_of ended }
 {
     match ended {
@@ -47,7 +48,8 @@ fn accept<R: Door>(door: &mut R) -> Accept<R::Link>
     ensures arrives { Arrives result (R.answered door.old) (R.answered door.new) }
     ensures gave { R.gave door.new ≡ gave_after (R.gave door.old) result }
     ensures back { R.back door.new ≡ R.back door.old }
-    ensures fresh { IfGot result (λ link. IsFresh (R.Link.answered link) (R.Link.given link) (R.Link.faults link)) }
+    ensures starved { R.starved door.new ≡ after_accept result (R.starved door.old) }
+    ensures fresh { IfGot result (λ link. IsFresh (R.Link.answered link) (R.Link.given link) (R.Link.failings link) (R.Link.faults link)) }
     ensures cause { HasCause (R.faults door.old) (R.faults door.new) (result ≡ Accept.Failed) }
 {
     for _ in 0..QUIET {
@@ -68,15 +70,16 @@ fn serve<R: Door, V, C: Clock>(
     clock: &mut C,
     limits: &Limits,
 ) -> u8
-    requires closed { desk.old.is_open ≡ false }
-    requires out { HasOut (R.gave door.old) (R.back door.old) }
-    requires fresh { IsFresh (R.Link.answered link) (R.Link.given link) (R.Link.faults link) }
+    requires closed { desk.old.client.is_open ≡ false }
+    requires fresh { IsFresh (R.Link.answered link) (R.Link.given link) (R.Link.failings link) (R.Link.faults link) }
     requires input { limits.now.input < 2 ^ 62 }
     requires host { is_plain limits.now.host ≡ true }
-    ensures given_back { IsGivenBack limits.now desk.old.world result (R.back door.old) (R.back door.new) (C.to_come clock.old) (C.to_come clock.new) }
+    ensures given_back { IsGivenBack limits.now desk.old.scene desk.new.scene result (R.gave door.old) (R.back door.old) (R.back door.new)
+        (C.to_come clock.old) (C.to_come clock.new) }
     ensures vols { desk.new.vols ≡ desk.old.vols }
     ensures answered { R.answered door.new ≡ R.answered door.old }
     ensures gave { R.gave door.new ≡ R.gave door.old }
+    ensures starved { R.starved door.new ≡ R.starved door.old }
     ensures later { R.faults door.old ≤ R.faults door.new }
 {
     let mut link = link;
@@ -92,11 +95,10 @@ pub fn serve_first<R: Door, V, C: Clock>(
     door: &mut R,
     clock: &mut C,
 ) -> u8
-    requires closed { desk.old.is_open ≡ false }
-    requires links { IsBalanced (R.gave door.old) (R.back door.old) }
-    ensures waits { Waits desk.old.world result
-        (record { answered = R.answered door.old; gave = R.gave door.old; back = R.back door.old; faults = R.faults door.old })
-        (record { answered = R.answered door.new; gave = R.gave door.new; back = R.back door.new; faults = R.faults door.new })
+    requires closed { desk.old.client.is_open ≡ false }
+    ensures waits { Waits desk.old.scene desk.new.scene result
+        (record { answered = R.answered door.old; gave = R.gave door.old; back = R.back door.old; starved = R.starved door.old; faults = R.faults door.old })
+        (record { answered = R.answered door.new; gave = R.gave door.new; back = R.back door.new; starved = R.starved door.new; faults = R.faults door.new })
         (C.to_come clock.old) (C.to_come clock.new) }
     ensures vols { desk.new.vols ≡ desk.old.vols }
     ensures later { R.faults door.old ≤ R.faults door.new }

@@ -1,9 +1,11 @@
 //! The program: the server over standard input and output.
 #![tactic(auto)]
 
+ghost use Rattle.std.specs.Prelude.{◌≤◌, IfOk, vec_len};
+
 use link_edge::{OpenGate, PipeDoor, SystemClock, WriterSink};
-use server::{Finish, run};
-use std::alloc::AllocError;
+use server::{Finish, WordsFault, read_words, run};
+use std::alloc::{AllocError, Global};
 use std::env;
 use std::io::{self, ErrorKind, Write};
 use std::process::ExitCode;
@@ -65,10 +67,21 @@ fn print(rt: &HostRuntime, text: &[u8]) -> u8 {
     }
 }
 
+/// The volumes for the command line. One that is refused has none.
+fn volumes_for(alloc: Global, words: &[String]) -> Result<Vec<()>, AllocError>
+    ensures few { IfOk result (λ vols. vec_len vols ≤ 32) }
+{
+    match read_words(alloc, words) {
+        Ok(_) => vec![in alloc; (); VOLUMES],
+        Err(WordsFault::Words) => Ok(Vec::new(alloc)),
+        Err(WordsFault::NoMemory) => Err(AllocError),
+    }
+}
+
 /// Serves standard input and output, and returns the status.
 fn serve(rt: &HostRuntime, words: &[String]) -> Result<u8, AllocError> {
     let alloc = rt.alloc();
-    let vols = vec![in alloc; (); VOLUMES]?;
+    let vols = volumes_for(alloc, words)?;
     let door = PipeDoor::new(rt.stdin(), rt.stdout());
     let mut clock = SystemClock::new(rt);
     let mut out = WriterSink::new(rt.stderr());

@@ -1,4 +1,4 @@
--- What the link tells of its failings after a session: a failing ends the session, and is not tried again.
+-- What the link tells of its failings after a session: how often it failed, which is once at most, and how the session ended then.
 use Rattle.std.specs.Prelude.{◌≡◌, ◌⊎◌, Option, option_map, Result, Ok, Err}
 use Rattle.link_edge.specs.Failings.{with_failed_give, with_starved_call}
 use Rattle.link_edge.specs.declared.failings.Failings.{Failings}

@@ -28,8 +28,8 @@ pub record Converses {D : Type 0} (made : D → List DeskEntry → D → Type 0)
   pub failings : FailsAt last ended failings_old failings_new
 
 -- The session's journal is over just what the link answered and the moments that the clock told, the desk was led by its entries, and the
--- link was given its bytes. A give that failed and a call that found no memory ended it, and were not tried again. If nothing is told, it is over
--- some answers and moments.
+-- link was given its bytes. One give failed at most, and then the session ended as a fault of the link; one call found no memory at most, and
+-- then it ended as out of memory. If nothing is told, it is over some answers and moments.
 pub record Serves {D : Type 0} (made : D → List DeskEntry → D → Type 0) (limits : Limits) (desk_old desk_new : D) (answered_old answered_new : Option (List Answer)) (given_old given_new : Option Bytes) (clock_old clock_new : Option (List ℕ)) (failings_old failings_new : Option Failings) (ended : Ended) : Type 0 where
   pub journal : Journal
   pub bytes : Bytes

@@ -1,9 +1,8 @@
-use Rattle.js_api.specs.Leading.{Makes}
 use Rattle.api_calls.specs.declared.call.ApiCall.TheVariants as calls
 use Rattle.api_calls.specs.Names.{name_of}
 use Rattle.js_model.specs.declared.event.What.TheVariants as whats
 use Rattle.js_model.specs.Catalog as catalog
-use Rattle.js_api.specs.OneStream.{IsAbsent, IsAdding, IsChanging, IsCreating, IsDeleting, IsOnStream, IsUpdating, GoesOnAdded, free_if_dropped, unchanged}
+use Rattle.js_api.specs.OneStream.{IsAbsent, IsOnStream, free_if_dropped}
 use Rattle.js_api.specs.Stages.{LooksUp}
 use Rattle.desk_calls.proofs.Stages.{stops_by}
 use Rattle.desk_calls.proofs.OneStream.{named_within}

@@ -1,4 +1,3 @@
-use Rattle.std.proofs.Common.{refl}
 use Rattle.desk_calls.proofs.OneStream.{unmade_here}
 use Rattle.desk_calls.proofs.changing.ask_change.Goals as goal
 

@@ -1,9 +1,7 @@
 use Rattle.api_calls.specs.declared.call.ApiCall.TheVariants as calls
 use Rattle.api_calls.specs.Names.{name_of}
-use Rattle.js_model.specs.declared.event.What.TheVariants as whats
-use Rattle.js_api.specs.OneStream.{IsAbsent, IsAdding, IsChanging, IsOnStream, GoesOnAdded, free_if_dropped, unchanged}
+use Rattle.js_api.specs.OneStream.{IsAbsent, IsChanging}
 use Rattle.desk_calls.proofs.Stages.{if_absent, if_found}
-use Rattle.desk_calls.proofs.OneStream.{on_stream}
 use Rattle.desk_calls.proofs.changing.change_found.Goals as goal
 
 pub returns-in-Some-clause-made : goal.returns-in-Some-clause-made

@@ -1,20 +1,18 @@
 use Rattle.desk_calls.proofs.Asked.{may_change}
-use Rattle.js_api.specs.Leading.{Makes}
 use Rattle.api_calls.specs.declared.call.ApiCall.TheVariants as calls
 use Rattle.api_calls.specs.Names.{name_of}
-use Rattle.js_model.specs.declared.event.What.TheVariants as whats
 use Rattle.js_model.specs.Catalog as catalog
-use Rattle.js_api.specs.OneStream.{IsAbsent, IsAdding, IsChanging, IsCreating, IsDeleting, IsOnStream, IsUpdating, GoesOnAdded, free_if_dropped, unchanged}
+use Rattle.js_api.specs.OneStream.{IsAbsent, IsChanging}
 use Rattle.js_api.specs.Stages.{LooksUp}
-use Rattle.desk_calls.proofs.Stages.{by_fault, stops}
+use Rattle.desk_calls.proofs.Stages.{stops_by}
 use Rattle.desk_calls.proofs.OneStream.{named_within}
 use Rattle.desk_calls.proofs.changing.update_stream.Goals as goal
 
 pub returns-in_err-found-clause-made : goal.returns-in_err-found-clause-made
-returns-in_err-found-clause-made g c = by_fault (λ r. Makes g.G.Ground.made (IsUpdating c.args.stream.now c.args.config c.args.to.now c.args.now r) _ _) _ _ c.from_residual.ensures.1 (stops g.G.Ground.made (LooksUp (catalog.ByName c.args.stream.now)) _ c.begin.result _ _ _ c.in_err-found.was c.begin.ensures.made)
+returns-in_err-found-clause-made g c = stops_by g.G.Ground.made (LooksUp (catalog.ByName c.args.stream.now)) _ c.begin.result _ _ _ _ c.in_err-found.was c.from_residual.ensures.1 c.begin.ensures.made
 
 pub returns-clause-made : goal.returns-clause-made
 returns-clause-made g c = named_within g.G.Ground.made g.met.G.Ground.made_more c.args.stream.now (IsAbsent (name_of calls.StreamUpdate) c.args.to.now) (IsChanging c.args.config c.args.to.now c.args.now) c.begin.result c.in_ok-found.found c.change_found-result.result _ _ _ _ c.in_ok-found.was c.begin.ensures.made c.change_found-result.ensures.made c.end.ensures.made
 
-pub change_found-requires-clause-asked : goal.change_found-requires-clause-asked
-change_found-requires-clause-asked g c = may_change c.args.stream.now c.args.config c.args.to.now c.requires.setup c.requires.to
+pub change_found-result-requires-clause-asked : goal.change_found-result-requires-clause-asked
+change_found-result-requires-clause-asked g c = may_change c.args.stream.now c.args.config c.args.to.now c.requires.setup c.requires.to

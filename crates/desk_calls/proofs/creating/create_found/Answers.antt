@@ -7,7 +7,7 @@ use Rattle.desk_calls.proofs.OneStream.{on_stream}
 use Rattle.desk_calls.proofs.creating.create_found.Goals as goal
 
 pub returns-in-Some-clause-made : goal.returns-in-Some-clause-made
-returns-in-Some-clause-made g c = 
+returns-in-Some-clause-made g c =
     let name = name_of calls.StreamCreate in
     let what = whats.Make c.args.to.now c.args.config in
     if_found g.G.Ground.made (IsAdding c.args.stream.now c.args.config (GoesOnAdded c.args.config c.args.to.now c.args.now) c.end_call.result) (λ at. IsOnStream name at what c.args.now unchanged c.end_call.result) c.args.found c.in-Some.at _ _ c.in-Some.is

@@ -1,13 +1,12 @@
-use Rattle.std.proofs.Common.{◌∙◌, sym, refl}
-use Rattle.desk_calls.proofs.Shorts.{is_none_so, is_some_so, one_answer, unanswered, unsent_then}
+use Rattle.desk_calls.proofs.Shorts.{none_so, one_answer, some_so, unanswered, unsent_then}
 use Rattle.desk_calls.proofs.Stages.{nothing}
 use Rattle.desk_calls.proofs.listing.answer_names.Goals as goal
 
 pub returns-then-is_none-clause-made : goal.returns-then-is_none-clause-made
-returns-then-is_none-clause-made g c = nothing g.G.Ground.made _ _ (g.met.G.Ground.made_nothing _) (unanswered _ _ (is_none_so _ (sym c.is_none.ensures ∙ c.if-is_none.true)))
+returns-then-is_none-clause-made g c = nothing g.G.Ground.made _ _ (g.met.G.Ground.made_nothing _) (unanswered _ _ (none_so _ _ c.is_none.ensures c.if-is_none.true))
 
 pub returns-in-Ok-clause-made : goal.returns-in-Ok-clause-made
 returns-in-Ok-clause-made g c = rw c.in-Ok.ensures.value at c.answer.ensures.made
 
 pub returns-in-Err-clause-made : goal.returns-in-Err-clause-made
-returns-in-Err-clause-made g c = nothing g.G.Ground.made _ _ (g.met.G.Ground.made_nothing _) (unsent_then _ _ (one_answer _ _ (λ none. is_some_so _ none (sym c.is_none.ensures ∙ c.if-is_none.false))))
+returns-in-Err-clause-made g c = nothing g.G.Ground.made _ _ (g.met.G.Ground.made_nothing _) (unsent_then _ _ (one_answer _ _ (some_so _ _ c.is_none.ensures c.if-is_none.false)))

@@ -1,4 +1,4 @@
-use Rattle.std.proofs.Common.{Err, Ok, refl, inl, inr}
+use Rattle.std.proofs.Common.{Ok, refl, inl}
 use Rattle.js_api.specs.Making.{GoesOnTaken}
 use Rattle.js_api.specs.OneStream.{IsAdding}
 use Rattle.js_api.specs.Stages.{Reads}
@@ -8,7 +8,7 @@ use Rattle.desk_calls.proofs.Stages.{goes_on, nothing}
 use Rattle.desk_calls.proofs.making.make_absent.Goals as goal
 
 pub returns-in-Ok-clause-made : goal.returns-in-Ok-clause-made
-returns-in-Ok-clause-made g c = 
+returns-in-Ok-clause-made g c =
     let config = default_config c.args.name.now c.args.subject.now in
     goes_on g.G.Ground.made g.met.G.Ground.made_more (Reads config) (λ given. IsAdding c.args.name.now given (GoesOnTaken given c.args.now)) (Ok config) config c.add_prepared.result _ _ _ refl (nothing g.G.Ground.made _ _ (g.met.G.Ground.made_nothing _) (refl, refl))
     (rw c.in-Ok.ensures.config at c.add_prepared.ensures.made)

@@ -1,6 +1,5 @@
-use Rattle.std.proofs.Common.{Err, Some}
-use Rattle.js_api.specs.Leading.{Makes}
-use Rattle.js_api.specs.Api.{CarriesOut, IsAsked, TakesByApi}
+use Rattle.std.proofs.Common.{Err}
+use Rattle.js_api.specs.Api.{CarriesOut, TakesByApi}
 use Rattle.desk_calls.specs.Callers.{client_of}
 use Rattle.desk_calls.proofs.Stages.{goes_on, stops_by}
 use Rattle.desk_calls.proofs.publishing.refuse_call.Goals as goal

@@ -1,7 +1,6 @@
 use Rattle.std.proofs.Common.{Ok, false, refl}
 use Rattle.js_api.specs.Publishing.{Reaches}
 use Rattle.js_api.specs.Stages.{Gives}
-use Rattle.desk_calls.specs.Callers.{client_of}
 use Rattle.desk_calls.proofs.Stages.{if_absent, if_found, nothing}
 use Rattle.desk_calls.proofs.Publishes.{reaches}
 use Rattle.desk_calls.proofs.publishing.store.Goals as goal

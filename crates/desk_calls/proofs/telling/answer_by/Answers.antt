@@ -1,6 +1,4 @@
 use Rattle.std.proofs.Common.{true, Ok, refl}
-use Rattle.js_api.specs.Leading.{Makes}
-use Rattle.js_api.specs.OneStream.{Answers}
 use Rattle.js_api.specs.Stages.{Gives, Sends}
 use Rattle.desk_calls.proofs.Stages.{goes_on, nothing, stops_by}
 use Rattle.desk_calls.proofs.telling.answer_by.Goals as goal

@@ -1,4 +1,3 @@
-use Rattle.std.proofs.Common.{refl}
 use Rattle.desk_calls.proofs.Shorts.{none_so, one_answer, some_so, unanswered, unsent_then}
 use Rattle.desk_calls.proofs.Stages.{nothing}
 use Rattle.desk_calls.proofs.telling.refuse_for.Goals as goal

@@ -1,4 +1,3 @@
-use Rattle.std.proofs.Common.{refl}
 use Rattle.desk_calls.proofs.walking.visit.Goals as goal
 
 pub returns-clause-made : goal.returns-clause-made

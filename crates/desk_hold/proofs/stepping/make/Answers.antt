@@ -1,20 +1,14 @@
-use Rattle.desk_hold.proofs.Stepped.{told_step, failed_step, fault_of_step}
+use Rattle.desk_hold.proofs.Stepped.{told_step, failed_step}
 use Rattle.desk_hold.proofs.stepping.make.Goals as goal
 
 pub returns-in-Ok-clause-ends : goal.returns-in-Ok-clause-ends
 returns-in-Ok-clause-ends g c =
     let P = g.P.Place in let kept = g.met.P.Place.kept c.args.place.now in
-    told_step P.holds c.args.event.now c.args.now _ _ c.requires.going c.requires.kept c.requires.proper c.law_moment.ensures.bound kept.free
+    told_step P.holds c.args.event.now c.args.now _ _ c.requires.proper c.law_moment.ensures.bound kept.free
     c.in-Ok.reply c.add_answer-unsaid.result c.args.stream.now _ _ _ c.in-Ok.ensures.steps c.requires.stream c.add_answer-unsaid.ensures.added
 
 pub returns-in-Err-clause-ends : goal.returns-in-Err-clause-ends
 returns-in-Err-clause-ends g c =
     let P = g.P.Place in let kept = g.met.P.Place.kept c.args.place.now in
-    failed_step P.holds c.args.event.now c.args.now _ _ c.requires.going c.requires.kept c.requires.proper c.law_moment.ensures.bound kept.free
-    c.in-Err.fault _ _ c.in-Err.ensures.steps
-
-pub returns-in-Err-clause-fault : goal.returns-in-Err-clause-fault
-returns-in-Err-clause-fault g c =
-    let P = g.P.Place in let kept = g.met.P.Place.kept c.args.place.now in
-    fault_of_step P.holds c.args.event.now c.args.now _ _ c.requires.going c.requires.kept c.requires.proper c.law_moment.ensures.bound kept.free
+    failed_step P.holds c.args.event.now c.args.now _ _ c.requires.proper c.law_moment.ensures.bound kept.free
     c.in-Err.fault _ _ c.in-Err.ensures.steps

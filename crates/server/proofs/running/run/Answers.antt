@@ -13,7 +13,7 @@ pipe-status-requires-clause-subject g c =
 
 pub returns-in-Ok-Pipe-clause-placeless : goal.returns-in-Ok-Pipe-clause-placeless
 returns-in-Ok-Pipe-clause-placeless g c =
-    let h = c.in-Ok-Pipe.ensures in run_placeless _ (command_of (texts c.args.words.now)) _ _ _ _ c.pipe-status.ensures.ends (grind (arith, common_steps))
+    let h = c.in-Ok-Pipe.ensures in run_placeless _ _ (command_of (texts c.args.words.now)) _ (grind (arith, common_steps)) _ _ _ c.pipe-status.ensures.ends
 
 pub returns-in-Err-NoMemory-clause-ends : goal.returns-in-Err-NoMemory-clause-ends
 returns-in-Err-NoMemory-clause-ends g c = ends_starved _ (command_of (texts c.args.words.now)) _

@@ -13,6 +13,7 @@ loop-preserved g c =
       answered = grown_on _ _ _ _ _ i.answered e.answered ∙ ap (grown (g.R.Door.answered c.args.door.now)) (replicate_more c.loop.counter Quiet);
       gave = e.gave ∙ i.gave;
       back = e.back ∙ i.back;
+      starved = e.starved ∙ i.starved;
       later = omega (arith, i.later, e.cause.later);
     }
 

@@ -11,5 +11,6 @@ invariant-loop g l =
       answered : door.answered l.door ≡ grown (door.answered l.fn.door) (replicate l.counter Quiet);
       gave : door.gave l.door ≡ door.gave l.fn.door;
       back : door.back l.door ≡ door.back l.fn.door;
+      starved : door.starved l.door ≡ door.starved l.fn.door;
       later : door.faults l.fn.door ≤ door.faults l.door;
     }

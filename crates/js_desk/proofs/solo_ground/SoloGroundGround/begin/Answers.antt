@@ -13,7 +13,7 @@ pub returns-clause-made : goal.returns-clause-made
 returns-clause-made g c = rw (← c.self.view_is) (begun_up _ _ _ _ _ _ (catalog.ByName c.args.name.now) c.by_name.result (inl c.by_name.ensures.found))
 
 pub returns-clause-within : goal.returns-clause-within
-returns-clause-within g c = rw (← c.self.view_is) (named_within c.self.inside.catalog c.args.name.now c.by_name.result _ c.by_name.ensures.found (c.self.invariant.same ∙ sym (length-map c.self.inside.places.items place_in)))
+returns-clause-within g c = (named_within c.self.inside.catalog c.args.name.now c.by_name.result _ c.by_name.ensures.found (c.self.invariant.same ∙ sym (length-map c.self.inside.places.items place_in)))
 
 pub returns-clause-known : goal.returns-clause-known
 returns-clause-known g c = named_known c.self.inside.catalog c.args.name.now c.by_name.result (outside_single _ _ (rw (← c.self.view_is) at c.requires.outside) c.self.invariant.single) c.by_name.ensures.found

@@ -1,4 +1,4 @@
-use Rattle.std.proofs.Common.{arith, inl, sym, ◌∙◌}
+use Rattle.std.proofs.Common.{inl, sym, ◌∙◌}
 use Rattle.std.proofs.lemmas.List.{length-map}
 use Rattle.js_model.specs.Catalog as catalog
 use Rattle.js_desk.specs.Grounds.{place_in}

@@ -1,6 +1,6 @@
 use Rattle.std.proofs.Common.{Ok, refl}
 use Rattle.js_model.specs.Router as routes
-use Rattle.js_api.specs.Answering.{Done, Gave, Opened, Slow, gives}
+use Rattle.js_api.specs.Answering.{Done}
 use Rattle.js_desk.proofs.Routed.{routes_so}
 use Rattle.js_desk.proofs.solo_ground.SoloGroundGround.close.Goals as goal
 

@@ -1,5 +1,6 @@
-use Rattle.std.proofs.Common.{inl, refl}
+use Rattle.std.proofs.Common.{inl, true}
 use Rattle.js_model.specs.Catalog as catalog
+use Rattle.js_desk.specs.declared.turn.Turn.TheVariants as turns
 use Rattle.js_desk.proofs.Cataloged.{kept_grounded}
 use Rattle.js_desk.proofs.Looked.{looked}
 use Rattle.js_desk.proofs.solo_ground.SoloGroundGround.keep.Goals as goal
@@ -11,4 +12,4 @@ pub invariant_of-self : goal.invariant_of-self
 invariant_of-self g c = kept_grounded _ _ _ _ _ c.self.invariant c.args.place c.args.new (rw (← c.self.view_is) at c.requires.turn) c.keep.ensures.kept
 
 pub returns-clause-made : goal.returns-clause-made
-returns-clause-made g c = rw (← c.self.view_is) (looked _ _ _ _ _ _ _ _ true (catalog.Keep c.args.place c.args.new) catalog.Done (inl c.keep.ensures.kept))
+returns-clause-made g c = rw (← c.self.view_is) (looked _ _ _ _ _ _ c.self.inside.turn turns.Within true (catalog.Keep c.args.place c.args.new) catalog.Done (inl c.keep.ensures.kept))

@@ -1,19 +1,8 @@
-use Rattle.std.proofs.Common.{Err, Ok, refl}
-use Rattle.js_model.specs.Router as routes
-use Rattle.js_api.specs.Answering.{Done, Gave, Opened, Slow, gives}
-use Rattle.js_desk.specs.Faults.{desk_fault}
-use Rattle.js_model.specs.Routing.{fault_told}
-use Rattle.js_desk.proofs.Routed.{open_refused, routes_so}
+use Rattle.js_desk.proofs.Routed.{opened_opens, opened_so}
 use Rattle.js_desk.proofs.solo_ground.SoloGroundGround.open.Goals as goal
 
-pub returns-in-Ok-clause-made : goal.returns-in-Ok-clause-made
-returns-in-Ok-clause-made g c = rw (← c.self.view_is) (routes_so _ _ _ _ _ _ _ routes.Open (routes.Opened c.in-Ok.session) (Ok (Opened c.in-Ok.session)) (rw c.in-Ok.is at c.open.ensures.routes) tt refl)
+pub returns-clause-made : goal.returns-clause-made
+returns-clause-made g c = rw c.desk_answer.ensures.value (rw (← c.self.view_is) (opened_so c.self.inside.router c.open.new.self c.self.inside.catalog c.self.inside.places.items c.self.inside.ticked c.self.inside.last c.self.inside.turn c.open.result c.open.ensures.routes))
 
-pub returns-in-Ok-clause-opens : goal.returns-in-Ok-clause-opens
-returns-in-Ok-clause-opens g c = c.in-Ok.ensures.opens.0
-
-pub returns-in-Err-clause-made : goal.returns-in-Err-clause-made
-returns-in-Err-clause-made g c = 
-    let r = rw c.in-Err.is at c.open.ensures.routes in
-    let f = open_refused _ _ c.in-Err.fault r in
-    rw c.desk_fault.ensures.value (rw (← c.self.view_is) (routes_so _ _ _ _ _ _ _ routes.Open (fault_told c.in-Err.fault) (Err (desk_fault c.in-Err.fault)) r f.may f.says))
+pub returns-clause-opens : goal.returns-clause-opens
+returns-clause-opens g c = rw c.desk_answer.ensures.value (opened_opens c.open.new.self c.open.result c.open.ensures.opens)

@@ -1,21 +1,8 @@
-use Rattle.std.proofs.Common.{Ok, Some, refl, ◌∷◌, []}
-use Rattle.js_model.specs.Router as routes
-use Rattle.js_api.specs.Entries.{Routed}
-use Rattle.desk_hold.proofs.Refused.{publish_done, wants}
-use Rattle.js_desk.proofs.Routed.{routed, same_setting}
+use Rattle.js_desk.proofs.Routed.{published_so, same_setting}
 use Rattle.js_desk.proofs.solo_ground.SoloGroundGround.publish.Goals as goal
 
-pub returns-in-Ok-clause-made : goal.returns-in-Ok-clause-made
-returns-in-Ok-clause-made g c = rw (← c.self.view_is) (record { entries = Routed (routes.Publish c.args.message.now (Some c.args.caller.session)) (routes.Taken c.in-Ok.count) ∷ []; are = refl; led = routed _ _ _ _ _ _ _ _ _ (rw c.in-Ok.is at c.publish.ensures.routes) })
+pub returns-clause-made : goal.returns-clause-made
+returns-clause-made g c = rw c.desk_answer.ensures.value (rw (← c.self.view_is) (published_so c.self.inside.router c.publish.new.self c.self.inside.catalog c.self.inside.places.items c.self.inside.ticked c.self.inside.last c.self.inside.turn c.args.caller c.args.message.now c.publish.result (rw (← c.self.view_is) at c.requires.open) c.publish.ensures.routes))
 
-pub returns-in-Ok-clause-setting : goal.returns-in-Ok-clause-setting
-returns-in-Ok-clause-setting g c = rw (← c.self.view_is) (same_setting _ _ _ _ _ _ _ c.publish.ensures.stay)
-
-pub returns-in-Err-clause-made : goal.returns-in-Err-clause-made
-returns-in-Err-clause-made g c = 
-    let r = rw c.in-Err.is at c.publish.ensures.routes in
-    let none = wants _ _ _ c.in-Err.field-0 (publish_done c.self.inside.router c.args.caller.session c.args.message.now (rw (← c.self.view_is) at c.requires.open)) r in
-    rw (← c.self.view_is) (record { entries = Routed (routes.Publish c.args.message.now (Some c.args.caller.session)) routes.NoMemory ∷ []; are = refl; led = routed _ _ _ _ _ _ _ _ _ (rw none at r) })
-
-pub returns-in-Err-clause-setting : goal.returns-in-Err-clause-setting
-returns-in-Err-clause-setting g c = rw (← c.self.view_is) (same_setting _ _ _ _ _ _ _ c.publish.ensures.stay)
+pub returns-clause-setting : goal.returns-clause-setting
+returns-clause-setting g c = rw (← c.self.view_is) (same_setting c.self.inside.router c.publish.new.self c.self.inside.catalog c.self.inside.places.items c.self.inside.ticked c.self.inside.last c.self.inside.turn c.publish.ensures.stay)

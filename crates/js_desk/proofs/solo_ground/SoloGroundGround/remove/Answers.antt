@@ -1,5 +1,6 @@
-use Rattle.std.proofs.Common.{inl, refl}
+use Rattle.std.proofs.Common.{inl, true}
 use Rattle.js_model.specs.Catalog as catalog
+use Rattle.js_desk.specs.declared.turn.Turn.TheVariants as turns
 use Rattle.js_desk.proofs.Cataloged.{freed_grounded}
 use Rattle.js_desk.proofs.Looked.{looked}
 use Rattle.js_desk.proofs.solo_ground.SoloGroundGround.remove.Goals as goal
@@ -11,4 +12,4 @@ pub invariant_of-self : goal.invariant_of-self
 invariant_of-self g c = freed_grounded _ _ _ _ _ c.self.invariant c.args.place c.args.dropped (rw (← c.self.view_is) at c.requires.turn) c.remove.ensures.removed
 
 pub returns-clause-made : goal.returns-clause-made
-returns-clause-made g c = rw (← c.self.view_is) (looked _ _ _ _ _ _ _ _ true (catalog.Remove c.args.place c.args.dropped) catalog.Done (inl c.remove.ensures.removed))
+returns-clause-made g c = rw (← c.self.view_is) (looked _ _ _ _ _ _ c.self.inside.turn turns.Within true (catalog.Remove c.args.place c.args.dropped) catalog.Done (inl c.remove.ensures.removed))

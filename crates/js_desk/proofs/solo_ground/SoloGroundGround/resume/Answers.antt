@@ -1,4 +1,3 @@
-use Rattle.std.proofs.Common.{refl, sym, ◌∙◌}
 use Rattle.js_desk.proofs.Looked.{resumed}
 use Rattle.js_desk.proofs.solo_ground.SoloGroundGround.resume.Goals as goal
 

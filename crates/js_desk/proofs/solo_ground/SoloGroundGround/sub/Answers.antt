@@ -1,22 +1,8 @@
-use Rattle.std.proofs.Common.{Err, Ok, refl}
-use Rattle.js_model.specs.Router as routes
-use Rattle.js_api.specs.Answering.{Done, Gave, Opened, Slow, gives}
-use Rattle.js_desk.specs.Faults.{desk_fault}
-use Rattle.js_model.specs.Routing.{fault_told}
-use Rattle.js_desk.proofs.Routed.{routes_so, same_setting, sub_refused}
+use Rattle.js_desk.proofs.Routed.{same_setting, subscribed_so}
 use Rattle.js_desk.proofs.solo_ground.SoloGroundGround.sub.Goals as goal
 
-pub returns-in-Ok-clause-made : goal.returns-in-Ok-clause-made
-returns-in-Ok-clause-made g c = rw (← c.self.view_is) (routes_so _ _ _ _ _ _ _ (routes.Sub c.args.session c.args.subject.now _ c.args.sid.now) routes.Done (Ok Done) (rw c.in-Ok.is at c.sub.ensures.routes) tt refl)
+pub returns-clause-made : goal.returns-clause-made
+returns-clause-made g c = rw c.desk_answer.ensures.value (rw (← c.self.view_is) (subscribed_so c.self.inside.router c.sub.new.self c.self.inside.catalog c.self.inside.places.items c.self.inside.ticked c.self.inside.last c.self.inside.turn c.args.session c.args.subject.now _ c.args.sid.now c.sub.result (rw (← c.self.view_is) at c.requires.open) c.sub.ensures.routes))
 
-pub returns-in-Ok-clause-setting : goal.returns-in-Ok-clause-setting
-returns-in-Ok-clause-setting g c = rw (← c.self.view_is) (same_setting _ _ _ _ _ _ _ c.sub.ensures.stay)
-
-pub returns-in-Err-clause-made : goal.returns-in-Err-clause-made
-returns-in-Err-clause-made g c = 
-    let r = rw c.in-Err.is at c.sub.ensures.routes in
-    let f = sub_refused _ _ c.args.session _ _ _ c.in-Err.fault (rw (← c.self.view_is) at c.requires.open) r in
-    rw c.desk_fault.ensures.value (rw (← c.self.view_is) (routes_so _ _ _ _ _ _ _ (routes.Sub c.args.session c.args.subject.now _ c.args.sid.now) (fault_told c.in-Err.fault) (Err (desk_fault c.in-Err.fault)) r f.may f.says))
-
-pub returns-in-Err-clause-setting : goal.returns-in-Err-clause-setting
-returns-in-Err-clause-setting g c = rw (← c.self.view_is) (same_setting _ _ _ _ _ _ _ c.sub.ensures.stay)
+pub returns-clause-setting : goal.returns-clause-setting
+returns-clause-setting g c = rw (← c.self.view_is) (same_setting c.self.inside.router c.sub.new.self c.self.inside.catalog c.self.inside.places.items c.self.inside.ticked c.self.inside.last c.self.inside.turn c.sub.ensures.stay)

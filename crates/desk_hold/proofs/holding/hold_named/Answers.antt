@@ -1,14 +1,11 @@
-use Rattle.std.proofs.Common.{IsTrue, [], Ok, Err, sym, ap, subst, ◌∙◌}
+use Rattle.std.proofs.Common.{IsTrue, [], Ok, Err, sym, subst, ◌∙◌}
 use Rattle.js_model.specs.declared.event.Event.{Event}
 use Rattle.js_model.specs.Proper.{is_proper}
 use Rattle.js_api.specs.Holding.{event_at}
 use Rattle.desk_hold.specs.Steps.{EndsStep}
 use Rattle.desk_hold.proofs.Asked.{proper_event, number_made, number_told}
-use Rattle.desk_hold.proofs.Held.{as_told, ends_at, held_made, held_failed}
-use Rattle.desk_hold.proofs.holding.hold_kept.Goals as goal
-
-pub make-requires-clause-kept : goal.make-requires-clause-kept
-make-requires-clause-kept g c = ap (λ (e : Event). e.incarnation) c.requires.event ∙ c.requires.kept
+use Rattle.desk_hold.proofs.Held.{ends_at, held_made, held_failed}
+use Rattle.desk_hold.proofs.holding.hold_named.Goals as goal
 
 pub make-requires-clause-built : goal.make-requires-clause-built
 make-requires-clause-built g c = c.requires.asked.built
@@ -39,10 +36,9 @@ pub returns-in-Err-clause-holds : goal.returns-in-Err-clause-holds
 returns-in-Err-clause-holds g c =
     let R = g.R.Port in let old = (g.P.Place.seen c.args.place.now).place in let new = (g.P.Place.seen c.make.new.place).place in
     let what = c.args.event.now.what in
-    as_told R.routes R.worn c.args.at what c.args.now _ _ _ _ c.fail.ensures.value
-    (held_failed R.routes R.worn c.args.at what c.args.now c.in-Err.fault c.args.stream old new c.make.new.outs _ _ c.requires.stream
+    held_failed R.routes R.worn c.args.at what c.args.now c.fail.result c.in-Err.fault c.args.stream old new c.make.new.outs c.args.port.now c.fail.new.port c.fail.ensures.value c.requires.stream
     (ends_at R.routes R.worn c.args.at what c.args.now (Err c.in-Err.fault) c.args.event.now old new c.new-outs.result c.make.new.outs c.requires.event c.new-outs.ensures c.in-Err.ensures.ends)
-    (rw c.as_slice-in-Err.ensures at c.fail.ensures.sends))
+    (rw c.as_slice-in-Err.ensures at c.fail.ensures.sends)
 
 pub returns-in-Err-clause-number : goal.returns-in-Err-clause-number
 returns-in-Err-clause-number g c =
