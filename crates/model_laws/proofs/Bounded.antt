@@ -1,7 +1,7 @@
 -- A run keeps the bounds of a sound state.
 use Rattle.std.proofs.Common.{◌≡◌, ◌≢◌, ℕ, ◌+◌, ◌-◌, ◌^◌, ◌<◌, ◌≤◌, Bool, true, false, ◌&&◌, not, cond, List, [], ◌∷◌, ◌++◌, map, length, length-append, max, min, refl, sym, ap, subst, arith, ◌⊎◌, inl, inr}
 use Rattle.std.proofs.lemmas.List.{length-map}
-use Rattle.std.specs.Prelude.{Option, Some, None, unwrap_or, fold, filter, nat_le, ◌==◌, All, Contains, IsTrue, ⊤}
+use Rattle.std.specs.Prelude.{Option, Some, None, unwrap_or, fold, filter, nat_le, ◌==◌, All, Contains, ⊤}
 use Rattle.std.proofs.lemmas.Bool.{true≢false, ltb-false, leb-true, leb-false, eqb-false, and_parts}
 use Rattle.std.proofs.lemmas.List.Elements.{All-nil, All-map, All-weaker, All-filter, All-push}
 use Rattle.js_base.specs.Bytes.{Bytes, is_empty, same, has}
@@ -38,7 +38,6 @@ use Rattle.js_model.specs.Lists.{IsPart}
 use Rattle.js_model.specs.Streams.{only, seqs, confined, with_consumer, in_place_of, is_unacknowledged}
 use Rattle.js_model.specs.Refusals.{Check, first_refusal, numbers_used_up}
 use Rattle.js_model.specs.Configs.{is_limit}
-use Rattle.js_model.specs.Proper.{is_proper_publish}
 use Rattle.js_model.specs.Advance.{advance, consumer_at, is_spent, placed, young, remembered}
 use Rattle.js_model.specs.Retention.{kept, is_kept}
 use Rattle.js_model.specs.Trim.{max_messages, trim}
@@ -241,7 +240,7 @@ record IsHeldStream (s : Stream) : Type 0 where
   consumers : length s.consumers ≤ 256
   each_consumer : All IsHeld s.consumers
 
-All-part : {X : Type 0} (P : X → Type 0) {ys xs : List X} → IsPart ys xs → All P xs → All P ys
+pub All-part : {X : Type 0} (P : X → Type 0) {ys xs : List X} → IsPart ys xs → All P xs → All P ys
 All-part P {ys = ys} {xs = xs} p h = all_from_in P ys (λ x i. all_in P xs h (in_part p i))
 
 held_only : (s : Stream) (messages : List Message) → IsPart messages s.messages → IsHeldStream s → IsHeldStream (only s messages)
@@ -272,8 +271,8 @@ held_with s new k h = record {
     go c q true = k
     go c q false = q
 
-held_stored : (s : Stream) (p : Publish) (room : Bool) → IsTrue (is_proper_publish p) → verdict s p room ≡ Take → IsHeldStream s → IsHeldStream (with_message s p)
-held_stored s p room proper e h = go p.wants.id t.id t.window
+held_stored : (s : Stream) (p : Publish) (room : Bool) → verdict s p room ≡ Take → IsHeldStream s → IsHeldStream (with_message s p)
+held_stored s p room e h = go p.wants.id t.id t.window
   where
     t : IsTaken s p
     t = taken s p room e
@@ -282,10 +281,7 @@ held_stored s p room proper e h = go p.wants.id t.id t.window
     number = let q : s.last < 2 ^ 62 = h.last in let r : s.last + 1 ≢ 2 ^ 62 = t.number in omega arith
 
     new : IsBoundedMessage (message_of s p)
-    new =
-        let bytes = and_parts _ _ (and_parts _ _ (and_parts _ _ proper).0).0 in
-        let block = and_parts _ _ bytes.0 in
-        record { seq = number; at = h.moment; subject = block.0; headers = block.1; bytes = leb-true (length p.headers + length p.payload) 1048576 bytes.1 }
+    new = record { seq = number; at = h.moment }
 
     messages : All IsBoundedMessage (s.messages ++ message_of s p ∷ [])
     messages = All-push IsBoundedMessage s.messages (message_of s p) h.messages new
@@ -344,7 +340,7 @@ held_change = record {
   gone = λ s reply g h. tt;
   only = held_only;
   configured = λ s reply config g h. record { made = h.made; last = h.last; moment = h.moment; messages = h.messages; ids = h.ids; each_id = h.each_id; consumers = h.consumers; each_consumer = h.each_consumer };
-  stored = λ s p room g e h. held_stored s p room g e h;
+  stored = λ s p room g e h. held_stored s p room e h;
   made = λ s reply name config g e r h. held_made s name config r h;
   removed = λ s reply name c g e h. held_removed s _ h;
   acked = λ s reply ack c g e q h. held_with s _ (held_after_ack s.moment reply ack.seq ack.kind c (All-by_name IsHeld s.consumers ack.consumer c e h.each_consumer)) h;

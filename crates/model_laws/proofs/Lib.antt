@@ -30,6 +30,8 @@ pub mod AllConsumers
 pub mod Within
 pub mod Bounded
 pub mod BoundTests
+pub mod Writable
+pub mod Lasting
 pub mod Taken
 pub mod Ticks
 pub mod Quotas

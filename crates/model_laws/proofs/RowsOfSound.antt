@@ -1,7 +1,8 @@
--- Worked rows of the computed tests: a state that is sound and bounded, ones that are not, and what is a change.
+-- Worked rows of the computed tests: a state that is sound, bounded and such as can be written, ones that are not, and what is a change.
 use Rattle.std.specs.Prelude.{◌≡◌, ◌^◌, true, false, [], ◌∷◌, codes, refl, map}
 use Rattle.std.specs.Str.{is_utf8, chars}
 use lib.Utf8.{encode}
+use Rattle.js_model.specs.declared.stream.Message.{Message}
 use Rattle.js_model.specs.declared.stream.Stream.{Stream}
 use Rattle.js_model.specs.declared.stream.State.{State}
 use Rattle.js_model.specs.declared.stream.State.TheVariants.{Vacant, Live}
@@ -15,7 +16,7 @@ use Rattle.js_model.specs.Verdict.{verdict}
 use Rattle.js_model.specs.Deliver.{candidates}
 use Rattle.js_model.specs.Events.{answered}
 use Rattle.model_laws.specs.SoundTests.{is_well_stored, is_matched}
-use Rattle.model_laws.specs.BoundTests.{is_bounded}
+use Rattle.model_laws.specs.BoundTests.{is_bounded, is_writable}
 use Rattle.model_laws.specs.Changed.{changes}
 use Rattle.js_model.proofs.Samples.{t0, orders, worker, make, hello, make_consumer, ask_of, pull, ack, after, state_after, delivered}
 
@@ -32,8 +33,12 @@ unfolding answered advance advance_outs kept trim verdict candidates
 matched = refl
 
 bounded : is_bounded busy ≡ true
-unfolding answered advance advance_outs kept trim verdict candidates is_utf8 chars encode
+unfolding answered advance advance_outs kept trim verdict candidates
 bounded = refl
+
+writable : is_writable busy ≡ true
+unfolding answered advance advance_outs kept trim verdict candidates is_utf8 chars encode
+writable = refl
 
 -- ---- states that are not
 
@@ -52,6 +57,25 @@ not_stored = refl
 not_stored_matches : is_matched emptied ≡ true
 unfolding answered advance advance_outs kept trim verdict candidates
 not_stored_matches = refl
+
+-- the texts of its messages are gone: what is stored and the bounds can still be asked
+abbrev without_text : Message → Message
+without_text m = record m { subject = []; headers = []; payload = [] }
+
+abbrev unread : State
+unread = changed_to (λ s. record s { messages = map without_text s.messages }) busy
+
+unread_stored : is_well_stored unread ≡ true
+unfolding answered advance advance_outs kept trim verdict candidates is_utf8 chars encode
+unread_stored = refl
+
+unread_bounded : is_bounded unread ≡ true
+unfolding answered advance advance_outs kept trim verdict candidates
+unread_bounded = refl
+
+not_writable : is_writable unread ≡ false
+unfolding answered advance advance_outs kept trim verdict candidates is_utf8 chars encode
+not_writable = refl
 
 -- what waits does not match the filter
 abbrev with_filter : Consumer → Consumer

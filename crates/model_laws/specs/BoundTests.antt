@@ -1,5 +1,5 @@
--- Whether a state is within its bounds, computed.
-use Rattle.std.specs.Prelude.{◌+◌, ◌^◌, nat_le, Bool, ◌&&◌, ◌||◌, not, length}
+-- Whether a state is within its bounds, and whether its messages can be written, computed.
+use Rattle.std.specs.Prelude.{◌+◌, ◌^◌, nat_le, Bool, true, ◌&&◌, ◌||◌, not, length}
 use Rattle.std.specs.List.{list_all}
 use Rattle.js_base.specs.Bytes.{is_empty}
 use Rattle.js_base.specs.Headers.{is_block}
@@ -12,9 +12,10 @@ use Rattle.js_model.specs.declared.consumer.Pending.{Pending}
 use Rattle.js_model.specs.declared.consumer.Consumer.{Consumer}
 use Rattle.js_model.specs.Configs.{is_number}
 
+-- ---- how much it holds
+
 abbrev pub is_bounded_message : Message → Bool
-is_bounded_message m =
-    is_number m.seq && is_number m.at && is_subject_text m.subject && (is_empty m.headers || is_block m.headers) && nat_le (length m.headers + length m.payload) 1048576
+is_bounded_message m = is_number m.seq && is_number m.at
 
 abbrev pub is_bounded_id : Id → Bool
 is_bounded_id i = not (is_empty i.id) && nat_le (length i.id) 256 && is_number i.seq && is_number i.at
@@ -33,3 +34,12 @@ is_bounded (Live s) =
     is_number s.incarnation && is_number s.made && is_number s.last && is_number s.moment
     && nat_le (length s.messages) (2 ^ 24) && list_all is_bounded_message s.messages && nat_le (length s.ids) (2 ^ 20) && list_all is_bounded_id s.ids
     && nat_le (length s.consumers) 256 && list_all is_bounded_consumer s.consumers
+
+-- ---- which messages can be written
+
+abbrev pub is_writable_message : Message → Bool
+is_writable_message m = is_subject_text m.subject && (is_empty m.headers || is_block m.headers) && nat_le (length m.headers + length m.payload) 1048576
+
+abbrev pub is_writable : State → Bool
+is_writable (Vacant i) = true
+is_writable (Live s) = list_all is_writable_message s.messages

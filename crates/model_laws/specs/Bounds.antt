@@ -1,5 +1,5 @@
--- How much a state holds at most, by this server's limits, and which numbers and texts its volume can write.
-use Rattle.std.specs.Prelude.{◌≡◌, ℕ, ◌+◌, ◌^◌, ◌<◌, ◌≤◌, ◌||◌, false, length, All, IsTrue}
+-- How much a state holds at most, by this server's limits, which numbers its volume can write, and which messages.
+use Rattle.std.specs.Prelude.{◌≡◌, ℕ, ◌+◌, ◌^◌, ◌<◌, ◌≤◌, ◌||◌, false, length, All, IsTrue, ⊤}
 use Rattle.js_base.specs.Bytes.{is_empty}
 use Rattle.js_base.specs.Headers.{is_block}
 use Rattle.js_base.specs.Subjects.{is_subject_text}
@@ -11,6 +11,8 @@ use Rattle.js_model.specs.declared.stream.State.TheVariants.{Vacant, Live}
 use Rattle.js_model.specs.declared.consumer.Pending.{Pending}
 use Rattle.js_model.specs.declared.consumer.Consumer.{Consumer}
 
+-- ---- how much it holds
+
 -- a moment, a sequence or a count
 abbrev pub IsNumber : ℕ → Type 0
 IsNumber n = n < 2 ^ 62
@@ -18,9 +20,6 @@ IsNumber n = n < 2 ^ 62
 pub record IsBoundedMessage (m : Message) : Type 0 where
   pub seq : IsNumber m.seq
   pub at : IsNumber m.at
-  pub subject : IsTrue (is_subject_text m.subject)
-  pub headers : IsTrue (is_empty m.headers || is_block m.headers)
-  pub bytes : length m.headers + length m.payload ≤ 1048576
 
 pub record IsBoundedId (i : Id) : Type 0 where
   pub given : is_empty i.id ≡ false
@@ -54,6 +53,19 @@ pub record IsBoundedStream (s : Stream) : Type 0 where
   pub consumers : length s.consumers ≤ 256
   pub each_consumer : All IsBoundedConsumer s.consumers
 
+-- it speaks of a message's sequence and moment alone, so that it can be asked of a state whose messages cannot be read
 abbrev pub IsBounded : State → Type 0
 IsBounded (Vacant i) = IsNumber i
 IsBounded (Live s) = IsBoundedStream s
+
+-- ---- which messages can be written
+
+-- a block file can hold it
+pub record IsWritableMessage (m : Message) : Type 0 where
+  pub subject : IsTrue (is_subject_text m.subject)
+  pub headers : IsTrue (is_empty m.headers || is_block m.headers)
+  pub bytes : length m.headers + length m.payload ≤ 1048576
+
+abbrev pub IsWritable : State → Type 0
+IsWritable (Vacant i) = ⊤
+IsWritable (Live s) = All IsWritableMessage s.messages

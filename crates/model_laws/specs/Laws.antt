@@ -29,9 +29,10 @@ use Rattle.js_model.specs.Acknowledge.{acknowledged}
 use Rattle.js_model.specs.StateMoments.{moment_of, state_at}
 use Rattle.model_laws.specs.Sound.{IsWellStored, IsMatched, IsSound}
 use Rattle.js_model.specs.Firm.{Changes}
+use Rattle.js_model.specs.Lasting.{lasting}
 use Rattle.model_laws.specs.Changed.{changes}
-use Rattle.model_laws.specs.Bounds.{IsBounded}
-use Rattle.model_laws.specs.BoundTests.{is_bounded}
+use Rattle.model_laws.specs.Bounds.{IsBounded, IsWritable}
+use Rattle.model_laws.specs.BoundTests.{is_bounded, is_writable}
 use Rattle.model_laws.specs.SoundTests.{is_well_stored, is_matched}
 use Rattle.model_laws.specs.OneConsumer.{consumer_of}
 use Rattle.model_laws.specs.Acked.{has_entry, ChangesEntries, IsToEnd, IsToStay, EndsEntry, NeverSent}
@@ -45,6 +46,10 @@ use Rattle.model_laws.specs.Limits.{AreLimited}
 -- soundness is kept
 abbrev pub LawSound : Type 0
 LawSound = (count : ℕ) (old new : State) (entries : List PlaceEntry) → IsSound old → RunFrom count old entries new → IsSound new
+
+-- what outlives a crash of a sound state is sound
+abbrev pub LawSoundLasting : Type 0
+LawSoundLasting = (s : State) → IsSound s → IsSound (lasting s)
 
 -- both of its parts can be computed
 abbrev pub LawStoredTest : Type 0
@@ -61,9 +66,25 @@ LawChangesTest = (old new : State) → Decides (changes old new) (Changes old ne
 abbrev pub LawBounded : Type 0
 LawBounded = (count : ℕ) (old new : State) (entries : List PlaceEntry) → IsSound old → IsBounded old → RunFrom count old entries new → IsBounded new
 
--- and whether it is within them can be computed
+-- what outlives a crash is within them too
+abbrev pub LawBoundedLasting : Type 0
+LawBoundedLasting = (s : State) → IsBounded s → IsBounded (lasting s)
+
+-- and whether a state is within them can be computed
 abbrev pub LawBoundedTest : Type 0
 LawBoundedTest = (s : State) → Decides (is_bounded s) (IsBounded s)
+
+-- a state whose messages can be written stays so
+abbrev pub LawWritable : Type 0
+LawWritable = (count : ℕ) (old new : State) (entries : List PlaceEntry) → IsWritable old → RunFrom count old entries new → IsWritable new
+
+-- what outlives a crash has the same messages
+abbrev pub LawWritableLasting : Type 0
+LawWritableLasting = (s : State) → IsWritable s → IsWritable (lasting s)
+
+-- and whether they can be written is computed
+abbrev pub LawWritableTest : Type 0
+LawWritableTest = (s : State) → Decides (is_writable s) (IsWritable s)
 
 -- a tick right after one at the same moment that sent nothing changes nothing and sends nothing
 abbrev pub LawTick : Type 0

@@ -1,21 +1,32 @@
 //! What holds of each run of a place, by the definitions of the machine alone.
 
-ghost use Rattle.model_laws.specs.Laws.{LawSound, LawStoredTest, LawMatchedTest, LawBounded, LawBoundedTest, LawChangesTest, LawTick, LawAcked, LawEnds, LawStays, LawEntries, LawDuplicate, LawKept, LawTaken, LawOrder, LawStart, LawMade, LawRedelivery, LawLimits, LawReady};
+ghost use Rattle.model_laws.specs.Laws.{LawSound, LawSoundLasting, LawStoredTest, LawMatchedTest, LawBounded, LawBoundedLasting, LawBoundedTest, LawWritable, LawWritableLasting, LawWritableTest, LawChangesTest, LawTick, LawAcked, LawEnds, LawStays, LawEntries, LawDuplicate, LawKept, LawTaken, LawOrder, LawStart, LawMade, LawRedelivery, LawLimits, LawReady};
 
-/// Soundness is kept: each state that a run reaches from a sound one is sound. Its two parts, of what is stored and of what
-/// filters match, are decided by the tests that compute them.
+/// Soundness is kept: each state that a run reaches from a sound one is sound, and so is what of it outlives a crash. Its two
+/// parts, of what is stored and of what filters match, are decided by the tests that compute them.
 pub fn law_sound()
     ensures law { LawSound }
+    ensures lasting { LawSoundLasting }
     ensures stored_test { LawStoredTest }
     ensures matched_test { LawMatchedTest }
 {}
 
 /// A sound state within the bounds of a volume stays within them: as many messages, ids, consumers, picks and entries as this
-/// server allows, ids and messages of their greatest lengths, and numbers below 2^62. Whether it is within them is decided
-/// by the test that computes it.
+/// server allows, ids of their greatest length, and numbers below 2^62. Of each message they ask the sequence and the moment
+/// alone. What outlives a crash is within them too. Whether a state is within them is decided by the test that computes it.
 pub fn law_bounded()
     ensures law { LawBounded }
+    ensures lasting { LawBoundedLasting }
     ensures test { LawBoundedTest }
+{}
+
+/// A state whose messages can be written to a block file stays so: each has a subject without wildcards, no header block or
+/// a whole one, and at most as many bytes of header block and payload as this server allows. What outlives a crash is
+/// so too. Whether a state is so is decided by the test that computes it.
+pub fn law_writable()
+    ensures law { LawWritable }
+    ensures lasting { LawWritableLasting }
+    ensures test { LawWritableTest }
 {}
 
 /// Whether a step changed more than the moment of what outlives a crash is decided by the test that computes it.

@@ -5,5 +5,5 @@ mod laws;
 
 pub use laws::{
     law_acked, law_bounded, law_changes, law_duplicate, law_kept, law_limits, law_order, law_ready,
-    law_redelivery, law_sound, law_taken, law_tick,
+    law_redelivery, law_sound, law_taken, law_tick, law_writable,
 };

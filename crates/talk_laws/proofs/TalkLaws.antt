@@ -7,21 +7,21 @@ use Rattle.js_model.specs.declared.reply.Reply.TheVariants.{Published}
 use Rattle.js_model.specs.PlaceStates.{PlaceIn, vacant_place}
 use Rattle.js_model.specs.Runs.{RunFrom, IsStep, messages_of, total_of}
 use Rattle.model_laws.specs.Sound.{IsSound}
-use Rattle.model_laws.specs.Bounds.{IsBounded}
-use Rattle.model_laws.specs.Laws.{LawSound, LawBounded, LawTick, LawAcked, LawEnds, LawStays, LawDuplicate, LawKept, LawOrder, LawStart, LawMade, LawRedelivery, LawLimits}
+use Rattle.model_laws.specs.Bounds.{IsBounded, IsWritable}
+use Rattle.model_laws.specs.Laws.{LawSound, LawBounded, LawWritable, LawTick, LawAcked, LawEnds, LawStays, LawDuplicate, LawKept, LawOrder, LawStart, LawMade, LawRedelivery, LawLimits}
 use Rattle.js_api.specs.Machines.{LawRuns}
 use Rattle.talk_laws.specs.Parts.{Part, count_before}
 use Rattle.talk_laws.specs.Talks.{IsSoundPlace}
-use Rattle.talk_laws.specs.TalkLaws.{LawOpening, LawTalkSound, LawTalkBounded, LawTalkTick, LawTalkAcked, LawTalkEnds, LawTalkStays, LawTalkDuplicate, LawTalkKept, LawTalkOrder, LawTalkStart, LawTalkMade, LawTalkRedelivery, LawTalkLimits}
+use Rattle.talk_laws.specs.TalkLaws.{LawOpening, LawTalkSound, LawTalkBounded, LawTalkWritable, LawTalkTick, LawTalkAcked, LawTalkEnds, LawTalkStays, LawTalkDuplicate, LawTalkKept, LawTalkOrder, LawTalkStart, LawTalkMade, LawTalkRedelivery, LawTalkLimits}
 use Rattle.talk_laws.proofs.EachPart.{in_each_talk, sound_before, sound_after, step_of, step_before, step_after}
 
 -- ---- the opening
 
 abbrev IsOpen : PlaceIn → Type 0
-IsOpen place = IsSoundPlace place × IsBounded place.state
+IsOpen place = IsSoundPlace place × IsBounded place.state × IsWritable place.state
 
 vacant_open : IsOpen vacant_place
-vacant_open = (record { sound = record { stored = tt; matched = tt }; counted = omega arith }, omega arith)
+vacant_open = (record { sound = record { stored = tt; matched = tt }; counted = omega arith }, omega arith, tt)
 
 pub law_opening : LawOpening
 law_opening zero place before there = let no : ⊥ = cc in absurd no
@@ -41,6 +41,11 @@ pub law_talk_bounded : LawRuns → LawSound → LawBounded → LawTalkBounded
 law_talk_bounded runs sound bounded = in_each_talk _ runs (λ p first within.
     let old = bounded (length (messages_of p.first)) p.first p.old p.earlier first within p.before in
     (old, bounded (count_before p) p.old p.new p.entries (sound_before sound p first) old p.during))
+
+pub law_talk_writable : LawRuns → LawWritable → LawTalkWritable
+law_talk_writable runs writable = in_each_talk _ runs (λ p first can_be.
+    let old = writable (length (messages_of p.first)) p.first p.old p.earlier can_be p.before in
+    (old, writable (count_before p) p.old p.new p.entries old p.during))
 
 pub law_talk_tick : LawRuns → LawSound → LawTick → LawTalkTick
 law_talk_tick runs sound tick = in_each_talk _ runs (λ p first one other now reply again outs is is_tick then then_tick.

@@ -18,7 +18,7 @@ use Rattle.js_model.specs.Runs.{messages_of}
 use Rattle.js_model.specs.StateMoments.{moment_of, state_at}
 use Rattle.js_model.specs.Streams.{seqs}
 use Rattle.model_laws.specs.Sound.{IsSound}
-use Rattle.model_laws.specs.Bounds.{IsBounded}
+use Rattle.model_laws.specs.Bounds.{IsBounded, IsWritable}
 use Rattle.model_laws.specs.OneConsumer.{consumer_of}
 use Rattle.model_laws.specs.Acked.{has_entry, IsToEnd, IsToStay, EndsEntry, NeverSent}
 use Rattle.model_laws.specs.Repeats.{keeps_window, EachEvent, IsRepeatReply, Repeats}
@@ -31,10 +31,10 @@ use Rattle.js_api.specs.Worlds.{opening}
 use Rattle.talk_laws.specs.Parts.{count_before, IsStepOf, IsStepBefore, IsStepAfter}
 use Rattle.talk_laws.specs.Talks.{IsSoundPlace, InEachTalk}
 
--- a desk opens with places that are sound and within the bounds of a volume
+-- a desk opens with places that are sound, within the bounds of a volume and without a message that cannot be written
 abbrev pub LawOpening : Type 0
 LawOpening = (count place : ℕ) (before : PlaceIn)
-    → slice_get (opening (replicate count vacant_place)).world.places place ≡ Some before → IsSoundPlace before × IsBounded before.state
+    → slice_get (opening (replicate count vacant_place)).world.places place ≡ Some before → IsSoundPlace before × IsBounded before.state × IsWritable before.state
 
 -- each state that stands there is sound
 abbrev pub LawTalkSound : Type 0
@@ -43,6 +43,10 @@ LawTalkSound = InEachTalk (λ p. IsSound p.old × IsSound p.new)
 -- and is within the bounds of a volume, if the first one was
 abbrev pub LawTalkBounded : Type 0
 LawTalkBounded = InEachTalk (λ p. IsBounded p.first → IsBounded p.old × IsBounded p.new)
+
+-- and its messages can be written, if those of the first one could
+abbrev pub LawTalkWritable : Type 0
+LawTalkWritable = InEachTalk (λ p. IsWritable p.first → IsWritable p.old × IsWritable p.new)
 
 -- a tick right after one at the same moment that sent nothing changes nothing and sends nothing
 abbrev pub LawTalkTick : Type 0

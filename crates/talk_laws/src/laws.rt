@@ -4,12 +4,12 @@
 //! first, as every place is when the desk opens. However the steps and deliveries that they made there are cut in three, there are states
 //! between which the middle part stands; and the law holds of each such part.
 
-ghost use Rattle.talk_laws.specs.TalkLaws.{LawOpening, LawTalkSound, LawTalkBounded, LawTalkTick, LawTalkAcked, LawTalkEnds, LawTalkStays, LawTalkDuplicate, LawTalkKept, LawTalkOrder, LawTalkStart, LawTalkMade, LawTalkRedelivery, LawTalkLimits};
+ghost use Rattle.talk_laws.specs.TalkLaws.{LawOpening, LawTalkSound, LawTalkBounded, LawTalkWritable, LawTalkTick, LawTalkAcked, LawTalkEnds, LawTalkStays, LawTalkDuplicate, LawTalkKept, LawTalkOrder, LawTalkStart, LawTalkMade, LawTalkRedelivery, LawTalkLimits};
 
 use js_api::laws::law_runs;
 
-/// A desk over vacant places opens with places that are sound and within the bounds of a volume, and against whose stores no
-/// message counts.
+/// A desk over vacant places opens with places that are sound, within the bounds of a volume and without a message that can't
+/// be written to a block file, and against whose stores no message counts.
 pub fn law_opening()
     ensures law { LawOpening }
 {}
@@ -23,13 +23,22 @@ pub fn law_talk_sound()
 }
 
 /// If the first state is within the bounds of a volume, then each state in which the place stands is: as many messages, ids,
-/// consumers, picks and entries as this server allows, ids and messages of their greatest lengths, and numbers below 2^62.
+/// consumers, picks and entries as this server allows, ids of their greatest length, and numbers below 2^62.
 pub fn law_talk_bounded()
     ensures law { LawTalkBounded }
 {
     law_runs();
     model_laws::law_sound();
     model_laws::law_bounded();
+}
+
+/// If the messages of the first state can be written to a block file, by their subjects, header blocks and lengths, then so
+/// can those of each state in which the place stands.
+pub fn law_talk_writable()
+    ensures law { LawTalkWritable }
+{
+    law_runs();
+    model_laws::law_writable();
 }
 
 /// A tick right after another one at the same moment changes nothing and sends nothing, if that one sent nothing.
