@@ -136,7 +136,9 @@ module _ {R : Type 0} (routes : R → RouteCall → RouteTold → R → Type 0) 
               seat = 0;
               outs = h.outs;
               unsaid = made.unsaid;
+              before = [];
               at_is = refl;
+              made_first = refl;
               steps = refl;
               asked = asked_none outcome.fault hold (none_push new.state silent) refl refl;
               deliveries = tt;

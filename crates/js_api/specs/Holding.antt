@@ -35,6 +35,13 @@ event_at at what = record { incarnation = at.incarnation; what = what }
 abbrev pub step : ℕ → PlaceAt → What → ℕ → Reply → List Out → Bool → List PlaceEntry
 step seat at what now reply outs unsaid = Step seat (event_at at what) now reply outs unsaid ∷ []
 
+-- what was asked was made one after the other, by the same seat at the moment
+abbrev pub AreSteps : ℕ → PlaceAt → ℕ → List What → List PlaceEntry → Type 0
+AreSteps seat at now [] steps = steps ≡ []
+AreSteps seat at now (what ∷ whats) steps =
+    (reply : Reply) × (outs : List Out) × (unsaid : Bool) × (more : List PlaceEntry)
+    × (steps ≡ step seat at what now reply outs unsaid ++ more) × AreSteps seat at now whats more
+
 -- ---- who listens
 
 abbrev pub consumers_of : State → List Consumer
@@ -134,18 +141,24 @@ abbrev pub MayEnd : Option DeskFault → Bool → Hold → Type 0
 MayEnd None ready hold = ready ≡ true → IsFull hold
 MayEnd (Some fault) ready hold = Unit {0}
 
--- the step was made so, and the rest of the hold followed
-pub record IsHold (at : PlaceAt) (what : What) (now : ℕ) (reply : Reply) (ready : Bool) (fault : Option DeskFault) (hold : Hold) : Type 0 where
+-- what was asked first was made, then the last step with this reply, and the rest of the hold followed
+pub record IsHoldOf (at : PlaceAt) (first : List What) (what : What) (now : ℕ) (reply : Reply) (ready : Bool) (fault : Option DeskFault) (hold : Hold) : Type 0 where
   pub seat : ℕ
   pub outs : List Out
   pub unsaid : Bool
+  pub before : List PlaceEntry
   pub at_is : hold.at ≡ at
-  pub steps : hold.steps ≡ step seat at what now reply outs unsaid
+  pub made_first : AreSteps seat at now first before
+  pub steps : hold.steps ≡ before ++ step seat at what now reply outs unsaid
   pub asked : AreAsked fault hold
   pub deliveries : AreDeliveries seat at now (listening_of hold.readings) fault hold.deliveries
   pub ready_is : MatchOption fault (ready ≡ is_ready_at now hold) (λ f. Unit {0})
   pub explained : Explains fault unsaid hold
   pub ends : MayEnd fault ready hold
+
+-- one thing was asked
+abbrev pub IsHold : PlaceAt → What → ℕ → Reply → Bool → Option DeskFault → Hold → Type 0
+IsHold at what now reply ready fault hold = IsHoldOf at [] what now reply ready fault hold
 
 -- the volume failed in the step, which nobody is told of by the place
 pub record IsBrokenHold (at : PlaceAt) (what : What) (now : ℕ) (stream : Bytes) (hold : Hold) : Type 0 where

@@ -26,7 +26,7 @@ use Rattle.js_api.specs.declared.outcome.Became.{Became}
 use Rattle.js_api.specs.declared.outcome.Became.TheVariants as became
 use Rattle.js_api.specs.declared.outcome.Outcome.{Outcome}
 use Rattle.js_api.specs.Entries.{Hold, entries_in, DeskEntry, Held, Stirred}
-use Rattle.js_api.specs.Holding.{AreDeliveries, Holds, HoldsBy, IsHold, Prepares, Unmakes, event_at, listening_of}
+use Rattle.js_api.specs.Holding.{AreDeliveries, Holds, HoldsBy, IsHold, Prepares, Unmakes, event_at, listening_of, step}
 use Rattle.js_api.specs.Leading.{Leads}
 use Rattle.js_api.specs.OneStream.{is_done}
 use Rattle.js_api.specs.Worlds.{IsHeld, Stops, is_broken}
@@ -71,9 +71,12 @@ deliveries_keep seat at now listening fault (Broken by moment (StepOf event) ∷
 -- ---- a hold that was made
 
 module _ (at : PlaceAt) (what : What) (now : ℕ) (reply : Reply) (ready : Bool) (fault : Option DeskFault) (hold : Hold) (h : IsHold at what now reply ready fault hold) (old new : PlaceIn) (held : IsHeld hold old new) where
+  one_step : hold.steps ≡ step h.seat at what now reply h.outs h.unsaid
+  one_step = h.steps ∙ ap (λ (es : List PlaceEntry). es ++ step h.seat at what now reply h.outs h.unsaid) h.made_first
+
   the_event : IsEvent hold.before (event_at at what) now reply h.outs hold.between
   the_event = event_is old.stored hold.before h.seat (event_at at what) now reply h.outs h.unsaid hold.between
-      (subst (λ (es : List PlaceEntry). RunFrom old.stored hold.before es hold.between) h.steps held.steps)
+      (subst (λ (es : List PlaceEntry). RunFrom old.stored hold.before es hold.between) one_step held.steps)
 
   between_is : (answered hold.before (event_at at what) now the_event.room).state ≡ hold.between
   between_is = state_of hold.before (event_at at what) now reply h.outs hold.between the_event

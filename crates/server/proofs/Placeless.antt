@@ -24,7 +24,7 @@ use Rattle.js_api.specs.declared.fault.DeskFault.{DeskFault}
 use Rattle.js_api.specs.declared.outcome.Became.{Became}
 use Rattle.js_api.specs.declared.outcome.Became.TheVariants.{Made, Unsaid, Ticked, Nothing, Broke, Stopped, Gone}
 use Rattle.js_api.specs.Entries.{DeskEntry, Looked, Held, Hold}
-use Rattle.js_api.specs.Holding.{HoldsBy, IsHold, IsBrokenHold, Prepares}
+use Rattle.js_api.specs.Holding.{HoldsBy, IsHold, IsBrokenHold, Prepares, step}
 use Rattle.js_api.specs.Leading.{Leads}
 use Rattle.js_api.specs.Making.{MakesStream, MakesAt, GoesOnTaken, IsMaking, IsPreparing, refusal_in}
 use Rattle.js_api.specs.OneStream.{IsAdding, free_unless_made}
@@ -162,7 +162,8 @@ module _ (at : PlaceAt) (config : StreamConfig) (now : ℕ) (e : ApiError) (old 
   held_there reply ready fault hold rest h making run =
       let r = refusing reply e making in
       let a = run.1.0 in
-      let steps = subst (λ (entries : List PlaceEntry). RunFrom a.place.stored hold.before entries hold.between) h.steps a.held.steps in
+      let one = h.steps ∙ ap (λ (entries : List PlaceEntry). entries ++ step h.seat at (whats.Make None config) now reply h.outs h.unsaid) h.made_first in
+      let steps = subst (λ (entries : List PlaceEntry). RunFrom a.place.stored hold.before entries hold.between) one a.held.steps in
       let event = subst (λ (x : Reply). IsEvent hold.before (record { incarnation = at.incarnation; what = whats.Make None config }) now x h.outs steps.0) r.1 steps.1.event in
       made_there None config at.incarnation now r.0 h.outs hold.before steps.0 (sym a.held.was ∙ vacant hold.at.place a.place a.is_there) event
 
