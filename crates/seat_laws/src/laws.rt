@@ -1,0 +1,32 @@
+//! What holds of each run of a router that many seats share, by the definitions alone.
+
+ghost use Rattle.seat_laws.specs.Laws.{LawRoutes, LawOpening, LawOpeners, LawStays, LawAnswered, LawJoined, LawCut};
+
+/// The entries of a run of many seats are a run of the router.
+pub fn law_routes()
+    ensures law { LawRoutes }
+{}
+
+/// The openers are just those of the open sessions, each session once: so it is of the empty router, and of each state that a run
+/// reaches from such a state.
+pub fn law_openers()
+    ensures opening { LawOpening }
+    ensures law { LawOpeners }
+{}
+
+/// After a run from a state whose openers are just those of the open sessions, and none of whose entries is by one of some seats, each
+/// session that one of them had opened is still open, and is still its own.
+pub fn law_stays()
+    ensures law { LawStays }
+{}
+
+/// Where the openers are just those of the open sessions, no call that a seat may make is told `NoSession`.
+pub fn law_answered()
+    ensures law { LawAnswered }
+{}
+
+/// Two runs in a row are one, and wherever the entries of a run are cut in two there is a state between them.
+pub fn law_joined()
+    ensures law { LawJoined }
+    ensures cut { LawCut }
+{}
