@@ -136,8 +136,8 @@ module _ {R : Type 0} (routes : R → RouteCall → RouteTold → R → Type 0) 
               seat = 0;
               outs = h.outs;
               unsaid = made.unsaid;
-              before = [];
               at_is = refl;
+              before = [];
               made_first = refl;
               steps = refl;
               asked = asked_none outcome.fault hold (none_push new.state silent) refl refl;
@@ -260,6 +260,8 @@ module _ {R : Type 0} (routes : R → RouteCall → RouteTold → R → Type 0) 
               outs = h.outs;
               unsaid = false;
               at_is = refl;
+              before = [];
+              made_first = refl;
               steps = refl;
               asked = inr (none_read (push_consumers new.state), refl);
               deliveries = tt;
@@ -304,6 +306,8 @@ module _ {R : Type 0} (routes : R → RouteCall → RouteTold → R → Type 0) 
               outs = h.outs;
               unsaid = true;
               at_is = refl;
+              before = [];
+              made_first = refl;
               steps = refl;
               asked = inr (none_read (push_consumers new.state), refl);
               deliveries = tt;
