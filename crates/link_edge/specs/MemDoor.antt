@@ -9,21 +9,23 @@ use Rattle.link_edge.specs.declared.mem_door.Knock.TheVariants as knocks
 use Rattle.link_edge.specs.Reports.{Report}
 use Rattle.link_edge.specs.Calls.{CallState, calls_of, next_fails, with_pass, with_failure}
 use Rattle.link_edge.specs.MemLink.{LinkState, link_of}
-use Rattle.js_base.specs.Causes.{raised}
+use Rattle.link_edge.specs.Failings.{none_starved, with_accept, with_starved_accept}
+use Rattle.link_edge.specs.declared.failings.Starved.{Starved}
 
--- who is still to knock, the accepts and their answers, how many links were given out, which came back, and how many accepts found no memory
+-- who is still to knock, the accepts and their answers, how many links were given out, which came back, and what it counts of accepts that found
+-- no memory
 pub record DoorState : Type 0 where
   pub knocks : List Knock
   pub calls : CallState
   pub answered : List Accepted
   pub gave : ℕ
   pub back : List LinkState
-  pub starved : ℕ
+  pub starved : Starved
 
 -- a door with a script, of whose accepts those with these numbers fail
 abbrev pub door_of : List Knock → List ℕ → DoorState
 door_of knocks failing =
-    record { knocks = knocks; calls = calls_of failing; answered = []; gave = 0; back = []; starved = 0 }
+    record { knocks = knocks; calls = calls_of failing; answered = []; gave = 0; back = []; starved = none_starved }
 
 -- whether it is a link that comes
 abbrev pub is_link : Knock → Bool
@@ -55,13 +57,17 @@ after_knock door answer = record door {
   knocks = knocks_after door.knocks;
   calls = with_pass door.calls;
   answered = door.answered ++ answer ∷ [];
+  starved = with_accept door.starved;
 }
 
 -- the door after an accept that was answered so
 abbrev pub after_accept : DoorState → Accept LinkState → DoorState
-after_accept door accepts.NoMemory = record door { starved = raised door.starved }
-after_accept door accepts.Failed =
-    record door { calls = with_failure door.calls; answered = door.answered ++ accepted.Failed ∷ [] }
+after_accept door accepts.NoMemory = record door { starved = with_starved_accept (with_accept door.starved) }
+after_accept door accepts.Failed = record door {
+  calls = with_failure door.calls;
+  answered = door.answered ++ accepted.Failed ∷ [];
+  starved = with_accept door.starved;
+}
 after_accept door (accepts.Got link) =
     record (after_knock door accepted.Got) { gave = door.gave + 1 }
 after_accept door accepts.Quiet = after_knock door accepted.Quiet

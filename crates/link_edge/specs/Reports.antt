@@ -1,8 +1,8 @@
 -- What is known of the links that a door gave out and took back.
-use Rattle.std.specs.Prelude.{◌≡◌, ℕ, ◌<◌, ◌≤◌, List, length, Option, option_map, IfSome}
+use Rattle.std.specs.Prelude.{◌≡◌, ℕ, ◌<◌, ◌≤◌, List, length, Option, IfSome}
 use Rattle.link_edge.specs.declared.answers.Answer.{Answer}
 use Rattle.link_edge.specs.Told.{emptied}
-use Rattle.link_edge.specs.Failings.{no_failings}
+use Rattle.link_edge.specs.Failings.{HasNoFailings}
 use Rattle.link_edge.specs.declared.failings.Failings.{Failings}
 
 -- what is known of a link that came back
@@ -24,5 +24,5 @@ IsBalanced gave back = IfSome gave (λ n. IfSome back (λ reports. length report
 pub record IsFresh (answered : Option (List Answer)) (given : Option (List ℕ)) (failings : Option Failings) (faults : ℕ) : Type 0 where
   pub silent : answered ≡ emptied answered
   pub unwritten : given ≡ emptied given
-  pub unfailing : failings ≡ option_map (λ _. no_failings) failings
+  pub unfailing : HasNoFailings failings
   pub unfailed : faults ≡ 0

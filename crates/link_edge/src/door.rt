@@ -5,6 +5,7 @@ ghost use Rattle.link_edge.specs.declared.answers.Accepted.{Accepted};
 ghost use Rattle.link_edge.specs.Told.{grown};
 ghost use Rattle.link_edge.specs.Accepts.{IfGot, accepted_of, gave_after};
 ghost use Rattle.link_edge.specs.Failings.{after_accept};
+ghost use Rattle.link_edge.specs.declared.failings.Starved.{Starved};
 ghost use Rattle.link_edge.specs.Reports.{Report, HasOut, IsFresh};
 ghost use Rattle.js_base.specs.Causes.{HasCause};
 
@@ -24,8 +25,8 @@ pub trait Door {
     /// What is known of each link that came back so far, if it is known.
     ghost back: { Self → Option (List Report) };
 
-    /// How often an accept found no memory so far, if it is known.
-    ghost starved: { Self → Option ℕ };
+    /// How often an accept found no memory, and how many accepts came after the first of these so far, if it is known.
+    ghost starved: { Self → Option Starved };
 
     /// How often it failed so far.
     ghost faults: { Self → ℕ };

@@ -24,7 +24,7 @@ mod writer_sink;
 pub use answers::{Accept, Accepted, Answer, Give, Put, Take};
 pub use clock::Clock;
 pub use door::Door;
-pub use failings::Failings;
+pub use failings::{Failings, Starved};
 pub use gate::Gate;
 pub use gates::{HoldGate, OpenGate};
 pub use link::Link;

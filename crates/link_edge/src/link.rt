@@ -23,7 +23,7 @@ pub trait Link {
     /// The bytes that it was given so far, if they are known.
     ghost given: { Self → Option (List ℕ) };
 
-    /// How often a give failed and how often a call found no memory so far, if it is known.
+    /// How often a give failed, how often a call found no memory, and how many calls came after the first of these so far, if it is known.
     ghost failings: { Self → Option Failings };
 
     /// How often it failed so far.

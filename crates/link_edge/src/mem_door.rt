@@ -8,6 +8,7 @@ ghost use Rattle.js_base.specs.Causes.{HasCause};
 use crate::answers::{Accept, Accepted};
 use crate::calls::Calls;
 use crate::door::Door;
+use crate::failings::Starved;
 use crate::mem_link::MemLink;
 use crate::script::Said;
 use js_base::{List, NoMemory};
@@ -38,7 +39,7 @@ pub struct MemDoor {
     answers: List<Accepted>,
     gave: usize,
     back: Vec<MemLink>,
-    starved: u64,
+    starved: Starved,
 }
 
 impl Model for MemDoor {
@@ -122,7 +123,7 @@ impl MemDoor {
             answers: List::new(alloc),
             gave: 0,
             back,
-            starved: 0,
+            starved: Starved::none(),
         })
     }
 
@@ -176,16 +177,17 @@ impl Door for MemDoor {
         ensures after { self.new ≡ after_accept self.old result }
         ensures cause { HasCause self.old.calls.failed self.new.calls.failed (result ≡ Accept.Failed) }
     {
+        self.starved.count_accept();
         if self.calls.next_fails() {
             if self.answers.push(Accepted::Failed).is_err() {
-                self.starved = self.starved.saturating_add(1);
+                self.starved.starve();
                 return Accept::NoMemory;
             }
             self.calls.fail();
             return Accept::Failed;
         }
         if self.answers.push(next_accepted(&self.knocks)).is_err() {
-            self.starved = self.starved.saturating_add(1);
+            self.starved.starve();
             return Accept::NoMemory;
         }
         self.calls.pass();

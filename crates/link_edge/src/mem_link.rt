@@ -160,6 +160,7 @@ impl Link for MemLink {
             ≡ taken_bytes result into.new ++ script_bytes self.new.script }
         ensures cause { HasCause self.old.calls.failed self.new.calls.failed (result ≡ Take.Failed) }
     {
+        self.failings.count_call();
         let take = next_take(&self.calls, &self.script, into);
         if remember(self.alloc, &mut self.answers, take, into).is_err() {
             self.failings.starve();
@@ -181,6 +182,7 @@ impl Link for MemLink {
         ensures after { self.new ≡ after_give self.old result bytes.now }
         ensures cause { HasCause self.old.calls.failed self.new.calls.failed (result ≡ Give.Failed) }
     {
+        self.failings.count_call();
         if self.calls.next_fails() {
             self.calls.fail();
             self.failings.fail_give();

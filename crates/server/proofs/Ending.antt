@@ -196,14 +196,15 @@ module _ (scene : Scene) (a0 a1 : Option (List Accepted)) (g0 g1 : Option ℕ) (
 
 -- the desk was closed as it was left
 pub attended : {V : Type 0} (stream : Option NamedStream) (status : ℕ) (held v0 v1 : List V) (after : Scene) (closed : Closed V) (old new : Outside)
-    → held ≡ v0 → Attends (opened_of held) stream after status old new → Closes after.world closed → closed.failed ≡ None → closed.vols.items ≡ v1
+    → held ≡ v0 → v1 ≡ v0 → Attends (opened_of held) stream after status old new → Closes after.world closed → closed.failed ≡ None → closed.vols.items ≡ v1
     → PipeEnds (opened_of v0) stream status None v0 v1 old new
-attended stream status held v0 v1 after closed old new same attends closes failed vols =
+attended stream status held v0 v1 after closed old new same kept attends closes failed vols =
     subst (λ (v : List _). PipeEnds (opened_of v) stream status None v0 v1 old new) same (Attended (record {
       after = after;
       talked = status;
       attends = attends;
       closed = record { closed = closed; closes = closes; failed_is = failed; vols_are = vols };
+      kept = kept;
       status_is = refl;
     }))
 

@@ -112,11 +112,11 @@ abbrev pub IsCalmOver : {opened : List PlaceIn} {stream : Option NamedStream} {a
 IsCalmOver input (Unmade unmade) = Unit {0}
 IsCalmOver input (Awaited awaited) = IsCalmWait input awaited.waits
 
--- Each way in which it can have gone is calm, by all that was told: what the door and the links answered, what these were given, the moments that
--- the clock told, and the volumes as they came back untroubled.
-abbrev pub IsCalm : {V : Type 0} → Bytes → List PlaceIn → Option NamedStream → ℕ → Option (ℕ × PlaceFault) → List V → Outside → Outside → Type 0
-IsCalm input opened stream status failed vols old new =
-    (run : IsAttended opened stream status failed vols old new) → AreUntroubled run.after.world → IsCalmOver input run.attends
+-- Each way in which it can have gone is calm, by all that was told: the status, what the door and the link answered, what the link was given, the
+-- moments that the clock told, and the volumes, which came back untroubled.
+abbrev pub IsCalm : {V : Type 0} → Bytes → List PlaceIn → Option NamedStream → ℕ → Option (ℕ × PlaceFault) → List V → List V → Outside → Outside → Type 0
+IsCalm input opened stream status failed vols_old vols_new old new =
+    (run : IsAttended opened stream status failed vols_old vols_new old new) → AreUntroubled run.after.world → IsCalmOver input run.attends
 
 -- the volumes came back untroubled
 abbrev pub LeavesUntroubled : {V : Type 0} {opened : List PlaceIn} {stream : Option NamedStream} {status : ℕ} {failed : Option (ℕ × PlaceFault)} {vols_old vols_new : List V} {old new : Outside}
@@ -181,7 +181,7 @@ AreAnswered ops (Attended run) = AreAnsweredOver ops run.attends
 -- given out was answered each of them; or memory ran out
 abbrev pub LawComplete : Type 0 → Type 0
 LawComplete V = (opened : List PlaceIn) (stream : Option NamedStream) (status : ℕ) (failed : Option (ℕ × PlaceFault)) (vols_old vols_new : List V) (old new : Outside)
-    (input : Bytes) (ops : List Op) → IsWelcome opened stream → IsValid input ops → IsCalm input opened stream status failed vols_new old new → IsFlushed failed
+    (input : Bytes) (ops : List Op) → IsWelcome opened stream → IsValid input ops → IsCalm input opened stream status failed vols_old vols_new old new → IsFlushed failed
     → (run : PipeEnds opened stream status failed vols_old vols_new old new) → LeavesUntroubled run → ((status ≡ 0) × AreAnswered ops run) ⊎ (status ≡ 7)
 
 -- places that never had a stream refuse none, if there is one

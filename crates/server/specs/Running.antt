@@ -172,19 +172,20 @@ pub record IsUnopened {V : Type 0} (status : ℕ) (failed : Option (ℕ × Place
   pub unread : new.clock ≡ old.clock
   pub door : new.door ≡ old.door
 
--- a desk was opened over places in these states, and closed in the world that was reached
-pub record IsAttended {V : Type 0} (opened : List PlaceIn) (stream : Option NamedStream) (status : ℕ) (failed : Option (ℕ × PlaceFault)) (vols : List V) (old new : Outside) : Type 0 where
+-- A desk was opened over places in these states, and closed in the world that was reached. In memory the volumes come back as they were.
+pub record IsAttended {V : Type 0} (opened : List PlaceIn) (stream : Option NamedStream) (status : ℕ) (failed : Option (ℕ × PlaceFault)) (vols_old vols_new : List V) (old new : Outside) : Type 0 where
   pub after : Scene
   pub talked : ℕ
   pub attends : Attends opened stream after talked old new
-  pub closed : IsClosed after.world failed vols
+  pub closed : IsClosed after.world failed vols_new
+  pub kept : vols_new ≡ vols_old
   pub status_is : status ≡ closing_status (is_session attends) talked failed
 
 -- How a run of `pipe` ends over volumes that open to places in these states: its status, the place that failed in the closing, and the volumes
 -- before and after.
 pub data PipeEnds {V : Type 0} (opened : List PlaceIn) (stream : Option NamedStream) (status : ℕ) (failed : Option (ℕ × PlaceFault)) (vols_old vols_new : List V) (old new : Outside) : Type 0 where
   Unopened : IsUnopened status failed vols_old vols_new old new → PipeEnds opened stream status failed vols_old vols_new old new
-  Attended : IsAttended opened stream status failed vols_new old new → PipeEnds opened stream status failed vols_old vols_new old new
+  Attended : IsAttended opened stream status failed vols_old vols_new old new → PipeEnds opened stream status failed vols_old vols_new old new
 
 -- in memory each volume opens to a place that never had a stream
 abbrev pub opened_of : {V : Type 0} → List V → List PlaceIn

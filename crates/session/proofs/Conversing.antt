@@ -7,6 +7,7 @@ use Rattle.std.proofs.lemmas.Grind.{flat_map-append}
 use Rattle.js_base.specs.Bytes.{Bytes}
 use Rattle.link_edge.specs.Told.{grown}
 use Rattle.link_edge.specs.Moments.{ReadsMoments}
+use Rattle.link_edge.specs.Failings.{HasNoFailings}
 use Rattle.link_edge.specs.declared.answers.Answer.{Answer}
 use Rattle.link_edge.specs.declared.failings.Failings.{Failings}
 use Rattle.link_edge.proofs.Told.{grown-nil, grown_on}
@@ -120,7 +121,7 @@ module _ {D : Type 0} (made : D → List DeskEntry → D → Type 0) (more_led :
 
   -- the turn in which it ended
   pub converses_last : (ended : Ended) (d0 d d1 : D) (a0 a a1 : Option (List Answer)) (g0 g g1 : Option Bytes) (c0 c c1 : Option (List ℕ)) (stage : Stage)
-      (f0 f f1 : Option Failings) → f ≡ f0 → Conversing made limits session d0 d a0 a g0 g c0 c stage → IsLastTurn made limits session ended stage d d1 a a1 g g1 c c1 f f1
+      (f0 f f1 : Option Failings) → (HasNoFailings f0 → f ≡ f0) → Conversing made limits session d0 d a0 a g0 g c0 c stage → IsLastTurn made limits session ended stage d d1 a a1 g g1 c c1 f f1
       → Converses made limits session d0 d1 a0 a1 g0 g1 c0 c1 f0 f1 ended
   converses_last ended d0 d d1 a0 a a1 g0 g g1 c0 c c1 stage f0 f f1 none h k = record {
     turns = h.turns;
@@ -140,7 +141,7 @@ module _ {D : Type 0} (made : D → List DeskEntry → D → Type 0) (more_led :
 
 -- as much was taken, or was quiet in a row, as may be
 pub converses_spent : {D : Type 0} (made : D → List DeskEntry → D → Type 0) (limits : Limits) (session : ℕ) (d0 d : D) (a0 a : Option (List Answer)) (g0 g : Option Bytes) (c0 c : Option (List ℕ)) (stage : Stage)
-    (f0 f : Option Failings) → f ≡ f0 → Conversing made limits session d0 d a0 a g0 g c0 c stage → IsSpent limits stage → Converses made limits session d0 d a0 a g0 g c0 c f0 f ends.InputLimit
+    (f0 f : Option Failings) → (HasNoFailings f0 → f ≡ f0) → Conversing made limits session d0 d a0 a g0 g c0 c stage → IsSpent limits stage → Converses made limits session d0 d a0 a g0 g c0 c f0 f ends.InputLimit
 converses_spent made limits session d0 d a0 a g0 g c0 c stage f0 f none h spent = record {
   turns = h.turns;
   last = Nothing;
@@ -158,7 +159,7 @@ converses_spent made limits session d0 d a0 a g0 g c0 c stage f0 f none h spent 
 
 -- the server's information was not given whole
 pub converses_ungreeted : {D : Type 0} (made : D → List DeskEntry → D → Type 0) (limits : Limits) (session : ℕ) (fault : GiveFault) (ended : Ended) (d : D) (a0 a : Option (List Answer)) (g0 g : Option Bytes) (c : Option (List ℕ))
-    (f0 f : Option Failings) → made d [] d → a ≡ a0 → GivesPart g0 g (greeting limits session) → FailsBy (end_of fault) f0 f → ended ≡ end_of fault
+    (f0 f : Option Failings) → made d [] d → a ≡ a0 → GivesPart g0 g (greeting limits session) → (HasNoFailings f0 → FailsBy (end_of fault) f0 f) → ended ≡ end_of fault
     → Converses made limits session d d a0 a g0 g c c f0 f ended
 converses_ungreeted {D = D} made limits session fault ended d a0 a g0 g c f0 f h same k fails e =
     subst (λ (x : Ended). Converses made limits session d d a0 a g0 g c c f0 f x) (sym e) (go fault fails)
@@ -166,7 +167,7 @@ converses_ungreeted {D = D} made limits session fault ended d a0 a g0 g c f0 f h
     cut : IsCutOff k.0 (greeting limits session ++ [])
     cut = subst (IsCutOff k.0) (sym (append-nil (greeting limits session))) k.1
 
-    ungreeted : (x : Ended) → FailsBy x f0 f → Ends limits (start session) (start session) (greeting limits session) Greeting x k.0
+    ungreeted : (x : Ended) → (HasNoFailings f0 → FailsBy x f0 f) → Ends limits (start session) (start session) (greeting limits session) Greeting x k.0
         → Converses made limits session d d a0 a g0 g c c f0 f x
     ungreeted x failings ends = record {
       turns = [];
@@ -183,7 +184,7 @@ converses_ungreeted {D = D} made limits session fault ended d a0 a g0 g c f0 f h
       failings = failings;
     }
 
-    go : (fault : GiveFault) → FailsBy (end_of fault) f0 f → Converses made limits session d d a0 a g0 g c c f0 f (end_of fault)
+    go : (fault : GiveFault) → (HasNoFailings f0 → FailsBy (end_of fault) f0 f) → Converses made limits session d d a0 a g0 g c c f0 f (end_of fault)
     go faults.LinkFault failings =
         ungreeted ends.LinkFault failings
         (record {
@@ -205,7 +206,7 @@ converses_ungreeted {D = D} made limits session fault ended d a0 a g0 g c f0 f h
 pub converses_starved : {D : Type 0} (made : D → List DeskEntry → D → Type 0) (limits : Limits) (session : ℕ) (d : D) (a : Option (List Answer)) (g : Option Bytes) (c : Option (List ℕ))
     (f : Option Failings) → made d [] d → Converses made limits session d d a a g g c c f f ends.NoMemory
 converses_starved made limits session d a g c f h =
-    converses_ungreeted made limits session faults.NoMemory ends.NoMemory d a a g g c f f h refl ([], greeting_cut limits session, sym (grown-nil g)) (inl refl) refl
+    converses_ungreeted made limits session faults.NoMemory ends.NoMemory d a a g g c f f h refl ([], greeting_cut limits session, sym (grown-nil g)) (λ none. inl refl) refl
 
 -- ---- the cause of an end that the link made
 

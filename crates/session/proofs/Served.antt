@@ -97,5 +97,5 @@ unserved made limits client fault d0 d1 a g c f ended m e =
       moments = refl;
       led = subst (λ (es : List DeskEntry). made d0 es d1) (sym (append-nil m.entries)) m.led;
       given = sym (grown-nil g);
-      failings = subst (λ (x : Ended). FailsBy x f f) (sym e) (unopened_fails fault f);
+      failings = λ none. subst (λ (x : Ended). FailsBy x f f) (sym e) (unopened_fails fault f);
     }

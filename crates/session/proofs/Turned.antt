@@ -6,6 +6,7 @@ use Rattle.js_base.specs.Framing.{frame}
 use Rattle.js_base.specs.declared.frame.Frame.TheVariants.{Ping}
 use Rattle.link_edge.specs.Told.{grown}
 use Rattle.link_edge.specs.Moments.{ReadsMoment, ReadsMoments}
+use Rattle.link_edge.specs.Failings.{HasNoFailings}
 use Rattle.link_edge.specs.declared.answers.Answer.{Answer}
 use Rattle.link_edge.specs.declared.answers.Answer.TheVariants as answers
 use Rattle.link_edge.specs.declared.failings.Failings.{Failings}
@@ -126,7 +127,7 @@ module _ (limits : Limits) (session : ℕ) (old : Stage) (turn : Turn) where
 -- it was heard whole
 pub turned_heard : {D : Type 0} (made : D → List DeskEntry → D → Type 0) (limits : Limits) (old : Stage) (peer : Peer) (now taken : ℕ) (piece held : Bytes) (d d1 : D)
     (a0 a1 a2 : Option (List Answer)) (g0 g1 g2 : Option Bytes) (c0 c1 : Option (List ℕ)) (f0 f1 : Option Failings) → IsUnspent limits old → a1 ≡ grown a0 (answers.Piece piece ∷ [])
-    → g1 ≡ g0 → ReadsMoment c0 now c1 → f1 ≡ f0 → IsHeard made now old.peer peer d d1 (old.held ++ piece) held g1 g2 → a2 ≡ a1 → taken ≡ old.taken + length piece → taken ≤ limits.input
+    → g1 ≡ g0 → ReadsMoment c0 now c1 → (HasNoFailings f0 → f1 ≡ f0) → IsHeard made now old.peer peer d d1 (old.held ++ piece) held g1 g2 → a2 ≡ a1 → taken ≡ old.taken + length piece → taken ≤ limits.input
     → IsTurn made limits old (record { held = held; taken = taken; quiets = 0; peer = peer; came = Some now }) d d1 a0 a2 g0 g2 c0 c1 f0 f1
 turned_heard made limits old peer now taken piece held d d1 a0 a1 a2 g0 g1 g2 c0 c1 f0 f1 unspent said kept read none k same t fits = record {
   turn = piece_turn piece now k.spoken;
@@ -157,7 +158,7 @@ turned_heard made limits old peer now taken piece held d d1 a0 a1 a2 g0 g1 g2 c0
 -- the session ends within it
 pub turned_cut : {D : Type 0} (made : D → List DeskEntry → D → Type 0) (limits : Limits) (session : ℕ) (old : Stage) (ended : Ended) (now all : ℕ) (piece : Bytes) (d d1 : D)
     (a0 a1 a2 : Option (List Answer)) (g0 g1 g2 : Option Bytes) (c0 c1 : Option (List ℕ)) (f0 f1 : Option Failings) → IsUnspent limits old
-    → a1 ≡ grown a0 (answers.Piece piece ∷ []) → g1 ≡ g0 → ReadsMoment c0 now c1 → FailsBy ended f0 f1 → IsCut ended made now old.peer d d1 (old.held ++ piece) all g1 g2 → a2 ≡ a1 → all ≡ old.taken + length piece
+    → a1 ≡ grown a0 (answers.Piece piece ∷ []) → g1 ≡ g0 → ReadsMoment c0 now c1 → (HasNoFailings f0 → FailsBy ended f0 f1) → IsCut ended made now old.peer d d1 (old.held ++ piece) all g1 g2 → a2 ≡ a1 → all ≡ old.taken + length piece
     → old.taken + length piece ≤ limits.input → IsLastTurn made limits session ended old d d1 a0 a2 g0 g2 c0 c1 f0 f1
 turned_cut made limits session old ended now all piece d d1 a0 a1 a2 g0 g1 g2 c0 c1 f0 f1 unspent said kept read fails k same t fits =
     let turn = piece_turn piece now k.spoken in
@@ -237,7 +238,7 @@ unkept made now old d g0 g1 came ended h e k = record {
 module _ {D : Type 0} (made : D → List DeskEntry → D → Type 0) (limits : Limits) (session : ℕ) (old : Stage) (now : ℕ) (d d1 : D) (a0 a1 a2 : Option (List Answer)) (g0 g1 g2 : Option Bytes)
     (c0 c1 : Option (List ℕ)) (f0 f1 : Option Failings) (unspent : IsUnspent limits old) (said : a1 ≡ grown a0 (answers.Quiet ∷ [])) (kept : g1 ≡ g0) (read : ReadsMoment c0 now c1) (same : a2 ≡ a1) where
   -- the turn is whole
-  turned_rested : (new : Stage) → f1 ≡ f0 → IsRested made now old new d d1 g1 g2 → IsTurn made limits old new d d1 a0 a2 g0 g2 c0 c1 f0 f1
+  turned_rested : (new : Stage) → (HasNoFailings f0 → f1 ≡ f0) → IsRested made now old new d d1 g1 g2 → IsTurn made limits old new d d1 a0 a2 g0 g2 c0 c1 f0 f1
   turned_rested new none k = record {
     turn = quiet_turn now k.spoken;
     said = k.said;
@@ -256,7 +257,7 @@ module _ {D : Type 0} (made : D → List DeskEntry → D → Type 0) (limits : L
       fits = omega (arith, taken, unspent.input)
 
   -- the session ended within the tick or behind it
-  unticked_end : (ended : Ended) → FailsBy ended f0 f1 → IsUnticked ended made now old d d1 g1 g2 → IsLastTurn made limits session ended old d d1 a0 a2 g0 g2 c0 c1 f0 f1
+  unticked_end : (ended : Ended) → (HasNoFailings f0 → FailsBy ended f0 f1) → IsUnticked ended made now old d d1 g1 g2 → IsLastTurn made limits session ended old d d1 a0 a2 g0 g2 c0 c1 f0 f1
   unticked_end ended fails k =
       let t = k.cut in
       let turn = quiet_turn now t.spoken in
@@ -283,7 +284,7 @@ module _ {D : Type 0} (made : D → List DeskEntry → D → Type 0) (limits : L
         failings = fails;
       }
 
-  waiting_end : (ended : Ended) (more : Bytes) → FailsBy ended f0 f1 → made d [] d1 → Ends limits (start session) old (greeting limits session) (Waiting now) ended more → g2 ≡ grown g1 more
+  waiting_end : (ended : Ended) (more : Bytes) → (HasNoFailings f0 → FailsBy ended f0 f1) → made d [] d1 → Ends limits (start session) old (greeting limits session) (Waiting now) ended more → g2 ≡ grown g1 more
       → IsLastTurn made limits session ended old d d1 a0 a2 g0 g2 c0 c1 f0 f1
   waiting_end ended more fails h e k = record {
     last = Waiting now;
@@ -297,7 +298,7 @@ module _ {D : Type 0} (made : D → List DeskEntry → D → Type 0) (limits : L
     failings = fails;
   }
 
-  given_up : (ended : Ended) → FailsBy ended f0 f1 → made d [] d1 → IsGivenUp ended now old.peer.pings g1 g2 → IsLastTurn made limits session ended old d d1 a0 a2 g0 g2 c0 c1 f0 f1
+  given_up : (ended : Ended) → (HasNoFailings f0 → FailsBy ended f0 f1) → made d [] d1 → IsGivenUp ended now old.peer.pings g1 g2 → IsLastTurn made limits session ended old d d1 a0 a2 g0 g2 c0 c1 f0 f1
   given_up ended fails h k =
       waiting_end ended k.parts.out fails h
       (record {
@@ -312,7 +313,7 @@ module _ {D : Type 0} (made : D → List DeskEntry → D → Type 0) (limits : L
   pinging : (ended : Ended) → IsUnpinged ended (unwrap_or old.came now) now old.peer.pings g1 g2 → EndsPinging limits old (Waiting now) (frame Ping)
   pinging ended k = record { moment = now; last_is = refl; unspent = unspent; alive = k.alive; due = k.due; said_is = refl }
 
-  unpinged : (ended : Ended) → FailsBy ended f0 f1 → made d [] d1 → IsUnpinged ended (unwrap_or old.came now) now old.peer.pings g1 g2
+  unpinged : (ended : Ended) → (HasNoFailings f0 → FailsBy ended f0 f1) → made d [] d1 → IsUnpinged ended (unwrap_or old.came now) now old.peer.pings g1 g2
       → IsLastTurn made limits session ended old d d1 a0 a2 g0 g2 c0 c1 f0 f1
   unpinged ended fails h k = go k.unwritten
     where
@@ -337,18 +338,18 @@ module _ {D : Type 0} (made : D → List DeskEntry → D → Type 0) (limits : L
       go (inl f) = ending ends.LinkFault f failed
       go (inr f) = ending ends.NoMemory f starved
 
-  unkept_end : (ended : Ended) → FailsBy ended f0 f1 → made d [] d1 → IsGivenUp ended now old.peer.pings g1 g2 ⊎ IsUnpinged ended (unwrap_or old.came now) now old.peer.pings g1 g2
+  unkept_end : (ended : Ended) → (HasNoFailings f0 → FailsBy ended f0 f1) → made d [] d1 → IsGivenUp ended now old.peer.pings g1 g2 ⊎ IsUnpinged ended (unwrap_or old.came now) now old.peer.pings g1 g2
       → IsLastTurn made limits session ended old d d1 a0 a2 g0 g2 c0 c1 f0 f1
   unkept_end ended fails h (inl k) = given_up ended fails h k
   unkept_end ended fails h (inr k) = unpinged ended fails h k
 
   -- the session ended in it
-  unrested_end : (ended : Ended) → FailsBy ended f0 f1 → IsUnkept ended made now old d d1 g1 g2 ⊎ IsUnticked ended made now old d d1 g1 g2
+  unrested_end : (ended : Ended) → (HasNoFailings f0 → FailsBy ended f0 f1) → IsUnkept ended made now old d d1 g1 g2 ⊎ IsUnticked ended made now old d d1 g1 g2
       → IsLastTurn made limits session ended old d d1 a0 a2 g0 g2 c0 c1 f0 f1
   unrested_end ended fails (inl k) = unkept_end ended fails k.led k.ends
   unrested_end ended fails (inr k) = unticked_end ended fails k
 
-  pub turned_quiet : (result : Result (Unit {0}) Ended) (new : Stage) → FailsIn result f0 f1 → Rests result made now old new d d1 g1 g2
+  pub turned_quiet : (result : Result (Unit {0}) Ended) (new : Stage) → (HasNoFailings f0 → FailsIn result f0 f1) → Rests result made now old new d d1 g1 g2
       → Turns result made limits session old new d d1 a0 a2 g0 g2 c0 c1 f0 f1
   turned_quiet (Ok x) new none k = turned_rested new none k
   turned_quiet (Err ended) new fails k = unrested_end ended fails k
@@ -357,7 +358,7 @@ module _ {D : Type 0} (made : D → List DeskEntry → D → Type 0) (limits : L
 
 module _ {D : Type 0} (made : D → List DeskEntry → D → Type 0) (limits : Limits) (session : ℕ) (old : Stage) (d : D) (a0 a1 : Option (List Answer)) (g0 g1 : Option Bytes) (c : Option (List ℕ))
     (f0 f1 : Option Failings) (nothing_led : made d [] d) (kept : g1 ≡ g0) where
-  told_end : (ended : Ended) (answer : Answer) → f1 ≡ f0 → a1 ≡ grown a0 (answer ∷ []) → Ends limits (start session) old (greeting limits session) (Told answer) ended []
+  told_end : (ended : Ended) (answer : Answer) → (HasNoFailings f0 → f1 ≡ f0) → a1 ≡ grown a0 (answer ∷ []) → Ends limits (start session) old (greeting limits session) (Told answer) ended []
       → IsLastTurn made limits session ended old d d a0 a1 g0 g1 c c f0 f1
   told_end ended answer none said e = record {
     last = Told answer;
@@ -371,17 +372,17 @@ module _ {D : Type 0} (made : D → List DeskEntry → D → Type 0) (limits : L
     failings = none;
   }
 
-  pub turned_closed : f1 ≡ f0 → IsUnspent limits old → a1 ≡ grown a0 (answers.Ended ∷ []) → IsLastTurn made limits session ends.Closed old d d a0 a1 g0 g1 c c f0 f1
+  pub turned_closed : (HasNoFailings f0 → f1 ≡ f0) → IsUnspent limits old → a1 ≡ grown a0 (answers.Ended ∷ []) → IsLastTurn made limits session ends.Closed old d d a0 a1 g0 g1 c c f0 f1
   turned_closed none unspent said =
       told_end ends.Closed answers.Ended none said
       (record { cause = ends.Closed; said = []; is_cause = (unspent, record { last_is = refl; said_is = refl }); ends_as = (refl, refl) })
 
-  pub turned_failed : f1 ≡ f0 → IsUnspent limits old → a1 ≡ grown a0 (answers.Failed ∷ []) → IsLastTurn made limits session ends.LinkFault old d d a0 a1 g0 g1 c c f0 f1
+  pub turned_failed : (HasNoFailings f0 → f1 ≡ f0) → IsUnspent limits old → a1 ≡ grown a0 (answers.Failed ∷ []) → IsLastTurn made limits session ends.LinkFault old d d a0 a1 g0 g1 c c f0 f1
   turned_failed none unspent said =
       told_end ends.LinkFault answers.Failed none said
       (record { cause = ends.LinkFault; said = []; is_cause = inl (unspent, record { last_is = refl; said_is = refl }); ends_as = (refl, refl) })
 
-  pub turned_starved : FailsBy ends.NoMemory f0 f1 → a1 ≡ grown a0 [] → IsLastTurn made limits session ends.NoMemory old d d a0 a1 g0 g1 c c f0 f1
+  pub turned_starved : (HasNoFailings f0 → FailsBy ends.NoMemory f0 f1) → a1 ≡ grown a0 [] → IsLastTurn made limits session ends.NoMemory old d d a0 a1 g0 g1 c c f0 f1
   turned_starved fails said = record {
     last = Nothing;
     more = [];

@@ -1,4 +1,5 @@
--- What the link tells of its failings after a session: how often it failed, which is once at most, and how the session ended then.
+-- What a link that had no failing before tells of its failings after a session: how often it failed, which is once at most, that it was not called
+-- after that, and how the session ended then.
 use Rattle.std.specs.Prelude.{◌≡◌, ◌⊎◌, Option, option_map, Result, Ok, Err}
 use Rattle.link_edge.specs.Failings.{with_failed_give, with_starved_call}
 use Rattle.link_edge.specs.declared.failings.Failings.{Failings}

@@ -4,6 +4,7 @@ use Rattle.std.specs.List.{flat_map}
 use Rattle.js_base.specs.Bytes.{Bytes}
 use Rattle.link_edge.specs.Told.{grown}
 use Rattle.link_edge.specs.Moments.{ReadsMoments}
+use Rattle.link_edge.specs.Failings.{HasNoFailings}
 use Rattle.link_edge.specs.declared.answers.Answer.{Answer}
 use Rattle.link_edge.specs.declared.failings.Failings.{Failings}
 use Rattle.js_api.specs.Entries.{DeskEntry}
@@ -25,11 +26,12 @@ pub record Converses {D : Type 0} (made : D → List DeskEntry → D → Type 0)
   pub moments : ReadsMoments clock_old (map (λ (turn : Turn). turn.moment) turns ++ last_moments last) clock_new
   pub led : made desk_old (flat_map entries_of_turn turns ++ entries_of_last last) desk_new
   pub given : given_new ≡ grown given_old (before_last (greeting limits session) last said ++ more)
-  pub failings : FailsAt last ended failings_old failings_new
+  pub failings : HasNoFailings failings_old → FailsAt last ended failings_old failings_new
 
 -- The session's journal is over just what the link answered and the moments that the clock told, the desk was led by its entries, and the
--- link was given its bytes. One give failed at most, and then the session ended as a fault of the link; one call found no memory at most, and
--- then it ended as out of memory. If nothing is told, it is over some answers and moments.
+-- link was given its bytes. Of a link that had no failing before, one give failed at most, and then the session ended as a fault of the link; or one
+-- call found no memory at most, and then it ended as out of memory; and no call came after that one. If nothing is told, it is over some answers and
+-- moments.
 pub record Serves {D : Type 0} (made : D → List DeskEntry → D → Type 0) (limits : Limits) (desk_old desk_new : D) (answered_old answered_new : Option (List Answer)) (given_old given_new : Option Bytes) (clock_old clock_new : Option (List ℕ)) (failings_old failings_new : Option Failings) (ended : Ended) : Type 0 where
   pub journal : Journal
   pub bytes : Bytes
@@ -38,4 +40,4 @@ pub record Serves {D : Type 0} (made : D → List DeskEntry → D → Type 0) (l
   pub moments : ReadsMoments clock_old (moments_of journal) clock_new
   pub led : made desk_old (entries_of journal) desk_new
   pub given : given_new ≡ grown given_old bytes
-  pub failings : FailsAt journal.last ended failings_old failings_new
+  pub failings : HasNoFailings failings_old → FailsAt journal.last ended failings_old failings_new

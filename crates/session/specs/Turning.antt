@@ -5,6 +5,7 @@ use Rattle.js_base.specs.Framing.{frame}
 use Rattle.js_base.specs.declared.frame.Frame.TheVariants.{Ping}
 use Rattle.link_edge.specs.Told.{grown}
 use Rattle.link_edge.specs.Moments.{ReadsMoment, ReadsMoments}
+use Rattle.link_edge.specs.Failings.{HasNoFailings}
 use Rattle.link_edge.specs.declared.answers.Answer.{Answer}
 use Rattle.link_edge.specs.declared.failings.Failings.{Failings}
 use Rattle.js_api.specs.Entries.{DeskEntry}
@@ -96,7 +97,7 @@ pub record IsTurn {D : Type 0} (made : D → List DeskEntry → D → Type 0) (l
   pub moment : ReadsMoment clock_old turn.moment clock_new
   pub led : made desk_old (entries_of_turn turn) desk_new
   pub given : given_new ≡ grown given_old said
-  pub unfailing : failings_new ≡ failings_old
+  pub unfailing : HasNoFailings failings_old → failings_new ≡ failings_old
 
 -- the session does not end within the server's information
 abbrev pub IsGreeted : Last → Type 0
@@ -116,7 +117,7 @@ pub record IsLastTurn {D : Type 0} (made : D → List DeskEntry → D → Type 0
   pub moments : ReadsMoments clock_old (last_moments last) clock_new
   pub led : made desk_old (entries_of_last last) desk_new
   pub given : given_new ≡ grown given_old more
-  pub failings : FailsAt last ended failings_old failings_new
+  pub failings : HasNoFailings failings_old → FailsAt last ended failings_old failings_new
 
 abbrev pub Turns : {D T : Type 0} → Result T Ended → (D → List DeskEntry → D → Type 0) → Limits → ℕ → Stage → Stage → D → D → Option (List Answer) → Option (List Answer) → Option Bytes → Option Bytes → Option (List ℕ) → Option (List ℕ) → Option Failings → Option Failings → Type 0
 Turns (Ok x) made limits session old new desk_old desk_new answered_old answered_new given_old given_new clock_old clock_new failings_old failings_new =

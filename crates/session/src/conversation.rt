@@ -2,6 +2,7 @@
 
 ghost use Rattle.std.specs.Prelude.{◌≡◌, ◌+◌, ◌<◌, ◌^◌, ◌++◌, true, OnOk, length};
 ghost use Rattle.link_edge.specs.Causes.{HasCause};
+ghost use Rattle.link_edge.specs.Failings.{HasNoFailings};
 ghost use Rattle.nats_frames.specs.Decoding.{total};
 ghost use Rattle.session.specs.Failing.{FailsIn};
 ghost use Rattle.session.specs.Manners.{peer_of};
@@ -63,7 +64,7 @@ fn carry_all<D: Desk, L: Link>(
     ensures session { (D.client desk.new).session ≡ (D.client desk.old).session }
     ensures is_open { (D.client desk.new).is_open ≡ true }
     ensures answered { L.answered link.new ≡ L.answered link.old }
-    ensures failings { FailsIn result (L.failings link.old) (L.failings link.new) }
+    ensures failings { HasNoFailings (L.failings link.old) → FailsIn result (L.failings link.old) (L.failings link.new) }
     ensures cause { HasCause (L.faults link.old) (L.faults link.new) (result ≡ Err Ended.LinkFault) }
 {
     let mut out = Vec::new(alloc);
@@ -100,7 +101,7 @@ pub(crate) fn hear<D: Desk, L: Link>(
     ensures session { (D.client desk.new).session ≡ (D.client desk.old).session }
     ensures is_open { (D.client desk.new).is_open ≡ true }
     ensures answered { L.answered link.new ≡ L.answered link.old }
-    ensures failings { FailsIn result (L.failings link.old) (L.failings link.new) }
+    ensures failings { HasNoFailings (L.failings link.old) → FailsIn result (L.failings link.old) (L.failings link.new) }
     ensures cause { HasCause (L.faults link.old) (L.faults link.new) (result ≡ Err Ended.LinkFault) }
 {
     match decoder.feed(piece) {

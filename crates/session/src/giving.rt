@@ -2,6 +2,7 @@
 
 ghost use Rattle.std.specs.Prelude.{◌≡◌, ◌<◌, length, IfOk};
 ghost use Rattle.link_edge.specs.Causes.{HasCause};
+ghost use Rattle.link_edge.specs.Failings.{HasNoFailings};
 ghost use Rattle.js_base.specs.Framing.{frame as bytes_of};
 ghost use Rattle.link_edge.specs.Told.{grown};
 ghost use Rattle.link_edge.specs.Gives.{IsGiveWithin};
@@ -43,7 +44,7 @@ fn give_some<L: Link>(link: &mut L, bytes: &[u8]) -> Result<usize, GiveFault>
     ensures within { IfOk result (λ count. IsGiveWithin (Give.Gave count) (length bytes.now)) }
     ensures given { L.given link.new ≡ grown (L.given link.old) (some_given result bytes.now) }
     ensures answered { L.answered link.new ≡ L.answered link.old }
-    ensures failings { FailsGiving result (L.failings link.old) (L.failings link.new) }
+    ensures failings { HasNoFailings (L.failings link.old) → FailsGiving result (L.failings link.old) (L.failings link.new) }
     ensures cause { HasCause (L.faults link.old) (L.faults link.new) (IsLinkFault result) }
 {
     match link.give(bytes) {
@@ -57,7 +58,7 @@ fn give_some<L: Link>(link: &mut L, bytes: &[u8]) -> Result<usize, GiveFault>
 pub(crate) fn give_all<L: Link>(link: &mut L, bytes: &[u8]) -> Result<(), GiveFault>
     ensures given { Gives result (L.given link.old) (L.given link.new) bytes.now }
     ensures answered { L.answered link.new ≡ L.answered link.old }
-    ensures failings { FailsGiving result (L.failings link.old) (L.failings link.new) }
+    ensures failings { HasNoFailings (L.failings link.old) → FailsGiving result (L.failings link.old) (L.failings link.new) }
     ensures cause { HasCause (L.faults link.old) (L.faults link.new) (IsLinkFault result) }
 {
     let mut at = 0;
@@ -75,7 +76,7 @@ pub(crate) fn give_all<L: Link>(link: &mut L, bytes: &[u8]) -> Result<(), GiveFa
 pub(crate) fn flush<L: Link>(link: &mut L, waiting: &mut Vec<u8>) -> Result<(), GiveFault>
     ensures flushes { Flushes result (L.given link.old) (L.given link.new) waiting.old.items waiting.new.items }
     ensures answered { L.answered link.new ≡ L.answered link.old }
-    ensures failings { FailsGiving result (L.failings link.old) (L.failings link.new) }
+    ensures failings { HasNoFailings (L.failings link.old) → FailsGiving result (L.failings link.old) (L.failings link.new) }
     ensures cause { HasCause (L.faults link.old) (L.faults link.new) (IsLinkFault result) }
 {
     if waiting.len() < FLUSH {
@@ -98,7 +99,7 @@ pub(crate) fn give_frame<L: Link>(
 ) -> Result<(), GiveFault>
     ensures given { Gives result (L.given link.old) (L.given link.new) (bytes_of frame.now) }
     ensures answered { L.answered link.new ≡ L.answered link.old }
-    ensures failings { FailsGiving result (L.failings link.old) (L.failings link.new) }
+    ensures failings { HasNoFailings (L.failings link.old) → FailsGiving result (L.failings link.old) (L.failings link.new) }
     ensures cause { HasCause (L.faults link.old) (L.faults link.new) (IsLinkFault result) }
 {
     let mut bytes = Vec::new(alloc);

@@ -2,6 +2,7 @@
 
 ghost use Rattle.std.specs.Prelude.{◌≡◌, ◌++◌, true, is_some, option_map, OnOk, OnErr};
 ghost use Rattle.link_edge.specs.Causes.{HasCause};
+ghost use Rattle.link_edge.specs.Failings.{HasNoFailings};
 ghost use Rattle.session.specs.Talk.{fault_text, refusal_text, last_text, last_line, is_parting};
 ghost use Rattle.session.specs.Failing.{FailsBy};
 ghost use Rattle.session.specs.Parting.{Parts, PartsAt};
@@ -84,7 +85,7 @@ pub(crate) fn part<L: Link>(
     requires parting { is_parting cause ≡ true }
     ensures parts { Parts cause result (L.given link.old) (L.given link.new) waiting.old.items }
     ensures answered { L.answered link.new ≡ L.answered link.old }
-    ensures failings { FailsBy result (L.failings link.old) (L.failings link.new) }
+    ensures failings { HasNoFailings (L.failings link.old) → FailsBy result (L.failings link.old) (L.failings link.new) }
     ensures cause { HasCause (L.faults link.old) (L.faults link.new) (result ≡ Ended.LinkFault) }
 {
     match write_last_line(alloc, cause, waiting) {
@@ -106,7 +107,7 @@ pub(crate) fn part_at<L: Link>(
 ) -> Ended
     ensures parts { PartsAt stop result (L.given link.old) (L.given link.new) waiting.old.items }
     ensures answered { L.answered link.new ≡ L.answered link.old }
-    ensures failings { FailsBy result (L.failings link.old) (L.failings link.new) }
+    ensures failings { HasNoFailings (L.failings link.old) → FailsBy result (L.failings link.old) (L.failings link.new) }
     ensures cause { HasCause (L.faults link.old) (L.faults link.new) (result ≡ Ended.LinkFault) }
 {
     match stop {

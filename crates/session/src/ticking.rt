@@ -2,6 +2,7 @@
 
 ghost use Rattle.std.specs.Prelude.{◌≡◌, true};
 ghost use Rattle.link_edge.specs.Causes.{HasCause};
+ghost use Rattle.link_edge.specs.Failings.{HasNoFailings};
 ghost use Rattle.session.specs.Failing.{FailsIn};
 ghost use Rattle.session.specs.Manners.{peer_of};
 ghost use Rattle.session.specs.Ticking.{EndsTurn};
@@ -29,7 +30,7 @@ pub(crate) fn end_turn<D: Desk, L: Link>(
     ensures client { D.client desk.new ≡ D.client desk.old }
     ensures is_open { (D.client desk.new).is_open ≡ true }
     ensures answered { L.answered link.new ≡ L.answered link.old }
-    ensures failings { FailsIn result (L.failings link.old) (L.failings link.new) }
+    ensures failings { HasNoFailings (L.failings link.old) → FailsIn result (L.failings link.old) (L.failings link.new) }
     ensures cause { HasCause (L.faults link.old) (L.faults link.new) (result ≡ Err Ended.LinkFault) }
 {
     match carry_tick(desk, now, waiting) {

@@ -2,6 +2,7 @@
 
 ghost use Rattle.std.specs.Prelude.{◌≡◌, ◌≤◌, ◌<◌, ◌+◌, ◌^◌, true, OnOk, length};
 ghost use Rattle.link_edge.specs.Causes.{HasCause};
+ghost use Rattle.link_edge.specs.Failings.{HasNoFailings};
 ghost use Rattle.nats_frames.specs.Decoding.{total};
 ghost use Rattle.js_api.specs.Clients.{new_client};
 ghost use Rattle.session.specs.Failing.{FailsIn};
@@ -74,7 +75,7 @@ fn keep_alive<L: Link>(
 ) -> Result<(), Ended>
     ensures keeps { Keeps result came now (moments pings.old) (moments pings.new) (L.given link.old) (L.given link.new) }
     ensures answered { L.answered link.new ≡ L.answered link.old }
-    ensures failings { FailsIn result (L.failings link.old) (L.failings link.new) }
+    ensures failings { HasNoFailings (L.failings link.old) → FailsIn result (L.failings link.old) (L.failings link.new) }
     ensures cause { HasCause (L.faults link.old) (L.faults link.new) (result ≡ Err Ended.LinkFault) }
 {
     if pings.is_stale(now) {
@@ -111,7 +112,7 @@ fn rest<D: Desk, L: Link>(
     ensures client { D.client desk.new ≡ D.client desk.old }
     ensures is_open { (D.client desk.new).is_open ≡ true }
     ensures answered { L.answered link.new ≡ L.answered link.old }
-    ensures failings { FailsIn result (L.failings link.old) (L.failings link.new) }
+    ensures failings { HasNoFailings (L.failings link.old) → FailsIn result (L.failings link.old) (L.failings link.new) }
     ensures cause { HasCause (L.faults link.old) (L.faults link.new) (result ≡ Err Ended.LinkFault) }
 {
     let came = course.came.unwrap_or(now);

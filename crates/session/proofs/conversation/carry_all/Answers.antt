@@ -4,7 +4,7 @@ use Rattle.nats_frames.specs.Reading.{op_at}
 use Rattle.js_api.specs.Clients.{Client}
 use Rattle.session.specs.Manners.{peer_of}
 use Rattle.session.proofs.Heard.{answering_first, answering_more, answering_flushed, answering_idle, cut_halted, cut_given, hears_ticked}
-use Rattle.session.proofs.Failed.{fails_after, fails_in_after, giving_fails}
+use Rattle.session.proofs.Failed.{none_after, fails_after, fails_in_after, giving_fails}
 use Rattle.session.proofs.conversation.carry_all.Goals as goal
 
 pub loop-stop-init : goal.loop-stop-init
@@ -14,7 +14,7 @@ loop-stop-init g c = record {
   session = refl;
   is_open = c.requires.is_open;
   answered = refl;
-  failings = refl;
+  failings = λ none. refl;
   later = omega arith;
 }
 
@@ -33,7 +33,7 @@ loop-stop-preserved g c =
       session = c.carry_next.ensures.session ∙ i.session;
       is_open = c.carry_next.ensures.is_open;
       answered = c.flush.ensures.answered ∙ i.answered;
-      failings = c.in-Ok.ensures.failings ∙ i.failings;
+      failings = none_after _ _ _ i.failings c.in-Ok.ensures.failings;
       later = omega (arith, i.later, c.flush.ensures.cause.later);
     }
 

@@ -1,4 +1,5 @@
 use Rattle.std.proofs.Common.{◌≡◌, ◌≤◌, true, length}
+use Rattle.link_edge.specs.Failings.{HasNoFailings}
 use Rattle.nats_frames.specs.Decoding.{total}
 use Rattle.session.specs.Manners.{peer_of}
 use Rattle.session.proofs.Heard.{Answering}
@@ -16,7 +17,7 @@ invariant-loop-stop g l =
       session : (desk.client l.desk).session ≡ (desk.client l.fn.desk).session;
       is_open : (desk.client l.desk).is_open ≡ true;
       answered : link.answered l.link ≡ link.answered l.fn.link;
-      failings : link.failings l.link ≡ link.failings l.fn.link;
+      failings : HasNoFailings (link.failings l.fn.link) → link.failings l.link ≡ link.failings l.fn.link;
       later : link.faults l.fn.link ≤ link.faults l.link;
     }
 

@@ -1,7 +1,7 @@
 use Rattle.std.proofs.Common.{arith, ap, ◌∙◌, take, length}
 use Rattle.link_edge.specs.Told.{grown}
 use Rattle.session.proofs.GivenBytes.{given_more, given_part}
-use Rattle.session.proofs.Failed.{fails_after}
+use Rattle.session.proofs.Failed.{fails_after, none_after}
 use Rattle.session.specs.Giving.{end_of}
 use Rattle.session.proofs.giving.give_all.Goals as goal
 
@@ -15,7 +15,7 @@ loop-at-preserved g c =
       given = given_more _ _ _ c.args.bytes.now c.loop-at.at c.in-Ok.count i.given
           (e.given ∙ ap (λ xs. grown (g.L.Link.given c.loop-at.link) (take c.in-Ok.count xs)) c.split_at.ensures.back);
       answered = e.answered ∙ i.answered;
-      failings = e.failings ∙ i.failings;
+      failings = none_after _ _ _ i.failings e.failings;
       later = omega (arith, e.cause.later, i.later);
     }
 

@@ -7,4 +7,4 @@ pub returns-clause-given : goal.returns-clause-given
 returns-clause-given g c = ([], frame_cut c.args.frame.now, sym (grown-nil _))
 
 pub returns-clause-failings : goal.returns-clause-failings
-returns-clause-failings g c = inl refl
+returns-clause-failings g c = λ none. inl refl

@@ -14,7 +14,7 @@ pub returns-in-Ok-give_all-clause-failings : goal.returns-in-Ok-give_all-clause-
 returns-in-Ok-give_all-clause-failings g c = none_fails c.args.cause _ _ c.requires.parting c.in-Ok-give_all.ensures.failings
 
 pub returns-in-Err-give_all-clause-failings : goal.returns-in-Err-give_all-clause-failings
-returns-in-Err-give_all-clause-failings g c = giving_fails c.in-Err-give_all.fault _ _ _ _ refl c.from.ensures c.in-Err-give_all.ensures.failings
+returns-in-Err-give_all-clause-failings g c = giving_fails c.in-Err-give_all.fault _ _ _ _ (λ none. refl) c.from.ensures c.in-Err-give_all.ensures.failings
 
 pub returns-in-Err-clause-failings : goal.returns-in-Err-clause-failings
-returns-in-Err-clause-failings g c = inl refl
+returns-in-Err-clause-failings g c = λ none. inl refl

@@ -4,6 +4,7 @@ use Rattle.js_api.specs.Clients.{Client}
 use Rattle.session.specs.Talk.{Stage, IsSpent}
 use Rattle.session.specs.Turning.{stage_of}
 use Rattle.session.proofs.Conversing.{conversing_first, conversing_more, converses_last, converses_spent, converses_ungreeted, converses_starved, fault_has_cause, end_has_cause, spent_has_cause}
+use Rattle.session.proofs.Failed.{none_after}
 use Rattle.session.proofs.session.converse.Goals as goal
 use Rattle.session.proofs.session.converse.Goals.{then-loop-course-test+else-course-limits, else-loop-course-test}
 
@@ -48,7 +49,7 @@ loop-course-preserved g c =
       room = i.room;
       session = e.session ∙ i.session;
       is_open = e.is_open;
-      failings = e.turns.unfailing ∙ i.failings;
+      failings = none_after _ _ _ i.failings e.turns.unfailing;
       later = omega (arith, i.later, e.cause.later);
     }
 

@@ -1,4 +1,5 @@
 use Rattle.std.proofs.Common.{◌≡◌, ◌<◌, ◌≤◌, true, vec_len}
+use Rattle.link_edge.specs.Failings.{HasNoFailings}
 use Rattle.nats_frames.specs.Decoding.{total}
 use Rattle.session.specs.Turning.{stage_of, turns_left}
 use Rattle.session.proofs.Conversing.{Conversing}
@@ -18,7 +19,7 @@ invariant-loop-course g l =
       room : 0 < vec_len l.room;
       session : (desk.client l.desk).session ≡ l.session;
       is_open : (desk.client l.desk).is_open ≡ true;
-      failings : link.failings l.link ≡ link.failings l.fn.link;
+      failings : HasNoFailings (link.failings l.fn.link) → link.failings l.link ≡ link.failings l.fn.link;
       later : link.faults l.fn.link ≤ link.faults l.link;
     }
 

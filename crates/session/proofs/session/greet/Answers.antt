@@ -12,4 +12,4 @@ pub returns-in-Err-clause-given : goal.returns-in-Err-clause-given
 returns-in-Err-clause-given g c = ([], greeting_cut c.args.limits.now c.args.session, sym (grown-nil _))
 
 pub returns-in-Err-clause-failings : goal.returns-in-Err-clause-failings
-returns-in-Err-clause-failings g c = inl refl
+returns-in-Err-clause-failings g c = λ none. inl refl

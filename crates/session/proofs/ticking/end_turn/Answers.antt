@@ -16,4 +16,4 @@ returns-in-Err-give_all-clause-ticks g c =
     (rw c.as_slice.ensures.value at c.in-Err-give_all.ensures.given) c.from.ensures
 
 pub returns-in-Err-give_all-clause-failings : goal.returns-in-Err-give_all-clause-failings
-returns-in-Err-give_all-clause-failings g c = giving_fails c.in-Err-give_all.fault _ _ _ _ refl c.from.ensures c.in-Err-give_all.ensures.failings
+returns-in-Err-give_all-clause-failings g c = giving_fails c.in-Err-give_all.fault _ _ _ _ (λ none. refl) c.from.ensures c.in-Err-give_all.ensures.failings
