@@ -1,5 +1,5 @@
 -- The list of a window's ids, and how the map by their texts mirrors it.
-use Rattle.std.specs.Prelude.{◌≡◌, ℕ, ◌^◌, ◌≤◌, List, [], ◌∷◌, length, None, option_map, ⊤}
+use Rattle.std.specs.Prelude.{◌≡◌, ◌^◌, ◌≤◌, List, [], ◌∷◌, length, None, option_map, ⊤}
 use Rattle.std.specs.List.Sorted.{IsNonDecreasingBy}
 use Rattle.js_base.specs.Bytes.{Bytes}
 use Rattle.js_model.specs.declared.stream.Id.{Id}

@@ -39,6 +39,7 @@ impl Model for DedupWindow {
 
     ghost invariant = { λ w. Mirrors w.ids.items w.known };
 }
+
 impl DedupWindow {
     /// A window without ids, in which an id counts for this many nanoseconds. It takes no memory.
     pub fn new(alloc: Global, window: u64) -> DedupWindow
@@ -164,9 +165,10 @@ impl DedupWindow {
     fn drop_oldest(&mut self)
         ensures left { self.new ≡ record self.old { ids = drop 1 self.old.ids } }
     {
-        if let Some(oldest) = self.ids.pop_front() {
-            self.known.remove(oldest.id.as_slice());
-        }
+        let Some(oldest) = self.ids.pop_front() else {
+            return;
+        };
+        self.known.remove(oldest.id.as_slice());
     }
 }
 
