@@ -1,11 +1,12 @@
 -- Messages under their sequences: what is found, added and removed.
-use Rattle.std.proofs.Common.{◌≡◌, ℕ, ◌+◌, ◌<◌, ◌≤◌, ◌^◌, ◌*◌, ◌==◌, ◌&&◌, Bool, true, false, cond, not, List, [], ◌∷◌, ◌++◌, Option, Some, None, length, refl, sym, ap, ◌∙◌, arith, eqb-true}
+use Rattle.std.proofs.Common.{◌≡◌, ℕ, ◌+◌, ◌<◌, ◌≤◌, ◌^◌, ◌*◌, ◌==◌, ◌&&◌, Bool, true, false, cond, not, List, [], ◌∷◌, ◌++◌, Option, Some, None, length, refl, sym, ap, ◌∙◌, arith, Bor}
 use Rattle.std.specs.Prelude.{All, filter, find, nat_le, sum_by, unwrap_or}
-use Rattle.std.specs.List.{AllByRecursion, last_or}
+use Rattle.std.specs.List.{last_or}
 use Rattle.std.specs.List.Sorted.{IsStrictlySortedBy}
 use Rattle.std.specs.Cmp.{nat_cmp_is, nat_cmp_total, eq_by_cmp_equiv}
-use Rattle.std.specs.Option.{option_map}
-use Rattle.std.specs.Ordering.{nat_cmp, match_ordering}
+use Rattle.std.specs.Map.Iter.{TakesLast, deref}
+use Rattle.std.specs.Option.{option_copied, option_map}
+use Rattle.std.specs.Ordering.{nat_cmp, is_le, is_lt, match_ordering}
 use Rattle.std.specs.declared.cmp.Ordering.TheVariants.{Greater}
 use Rattle.std.specs.Map.{keys_of, values_of, lookup, remove_entry}
 use Rattle.std.specs.BTreeMap.{is_at, insert_entry}
@@ -22,10 +23,10 @@ use Rattle.js_model.specs.Counts.{first_message}
 use Rattle.js_model.specs.Streams.{size}
 use Rattle.message_store.specs.Stored.{IsSmall, AreNumbered, AreStored}
 
-abbrev Entries : Type 0
+abbrev pub Entries : Type 0
 Entries = List (ℕ × Message)
 
-abbrev at : ℕ → ℕ → Bool
+abbrev pub at : ℕ → ℕ → Bool
 at seq = is_at (nat_cmp seq)
 
 at_is : (seq n : ℕ) → at seq n ≡ (n == seq)
@@ -60,6 +61,31 @@ find_is p (m ∷ ms) = go (p m) (find_is p ms)
 pub last_or-push : (o : Option Message) (ms : List Message) (m : Message) → last_or o (ms ++ m ∷ []) ≡ Some m
 last_or-push o [] m = refl
 last_or-push o (x ∷ ms) m = last_or-push (Some x) ms m
+
+-- what a range from a sequence on begins with
+pub first_from : (seq : ℕ) (es part : Entries) → AreNumbered es → part ≡ filter (λ e. is_le (nat_cmp seq e.0) && true) es → first_message (values_of part) ≡ find (λ m. nat_le seq m.seq) (values_of es)
+first_from seq es part h is =
+    ap (λ (p : Entries). first_message (values_of p)) is
+    ∙ ap first_message (values-filter (λ n. is_le (nat_cmp seq n) && true) (λ m. nat_le seq m.seq) (λ m. from_is m.seq) es h)
+    ∙ sym (find_is (λ m. nat_le seq m.seq) (values_of es))
+  where
+    from_is : (n : ℕ) → (is_le (nat_cmp seq n) && true) ≡ nat_le seq n
+    from_is n = grind (arith, nat_tests)
+
+-- what a range up to a sequence ends with
+pub last_upto : (seq : ℕ) (es part : Entries) → AreNumbered es → part ≡ filter (λ e. not (is_lt (nat_cmp seq e.0))) es → last_or None (values_of part) ≡ last_or None (filter (λ m. nat_le m.seq seq) (values_of es))
+last_upto seq es part h is =
+    ap (λ (p : Entries). last_or None (values_of p)) is ∙ ap (last_or None) (values-filter (λ n. not (is_lt (nat_cmp seq n))) (λ m. nat_le m.seq seq) (λ m. upto_is m.seq) es h)
+  where
+    upto_is : (n : ℕ) → not (is_lt (nat_cmp seq n)) ≡ nat_le n seq
+    upto_is n = grind (arith, nat_tests)
+
+pub last_entry : (part rest : Entries) (e : ℕ × Message) → part ≡ rest ++ e ∷ [] → Some e.1 ≡ last_or None (values_of part)
+last_entry part rest e is = sym (ap (λ (p : Entries). last_or None (values_of p)) is ∙ ap (last_or None) (map-append (λ (x : ℕ × Message). x.1) rest (e ∷ [])) ∙ last_or-push None (values_of rest) e.1)
+
+pub last_taken : (ms rest : List Message) (r : Option (Bor Message)) → TakesLast deref ms r rest → option_copied r ≡ last_or None ms
+last_taken ms rest None h = sym (ap (last_or None) h.0)
+last_taken ms rest (Some m) h = sym (ap (last_or None) h ∙ last_or-push None rest m.now)
 
 -- ---- a message more
 
@@ -122,9 +148,6 @@ pub sum_small : (es : Entries) (bytes : ℕ) → AreStored es bytes → bytes �
 sum_small es bytes stored =
     let most : sum_by size (values_of es) ≤ length (values_of es) * 2097152 = sum_by-le size 2097152 (values_of es) stored.small in
     omega (arith, most, stored.few, stored.sum, length-values_of es)
-
-pub stored_none : AreStored [] 0
-stored_none = record { ordered = search rules; numbered = tt; few = omega arith; small = search rules; sum = refl }
 
 pub stored_more : (es fs : Entries) (bytes : ℕ) (m : Message) → AreStored es bytes → IsSmall m → length (values_of es) + 1 < 2 ^ 32 → IsStrictlySortedBy nat_cmp (keys_of fs) → fs ≡ es ++ (m.seq, m) ∷ [] → AreStored fs (bytes + size m)
 stored_more es fs bytes m stored small room ordered is = record {

@@ -128,8 +128,12 @@ impl MessageStore {
         ensures value { result ≡ find (λ m. m.seq == seq) self.old }
         ensures left { self.new ≡ filter (λ m. not (m.seq == seq)) self.old }
     {
-        let message = self.messages.remove(&seq)?;
-        self.bytes -= message.size() as u64;
-        Some(message)
+        match self.messages.remove(&seq) {
+            Some(message) => {
+                self.bytes -= message.size() as u64;
+                Some(message)
+            }
+            None => None,
+        }
     }
 }
