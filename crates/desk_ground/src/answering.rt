@@ -26,6 +26,9 @@ pub fn unmade() -> Outcome
     }
 }
 
+/// Lets go of what a hold came to. The prover writes this out case by case wherever it stands, so it stands here alone.
+pub fn let_go(_outcome: Outcome) {}
+
 /// Whether somebody took what was asked.
 fn is_taken(reply: &Reply) -> bool
     ensures value { result ≡ is_taken reply.now }

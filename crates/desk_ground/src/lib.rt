@@ -8,7 +8,7 @@ mod ground;
 mod reason;
 mod telling;
 
-pub use answering::{end_call, unmade};
+pub use answering::{end_call, let_go, unmade};
 pub use caller::Caller;
 pub use ground::Ground;
 pub use reason::Reason;

@@ -6,7 +6,7 @@ ghost use Rattle.js_api.specs.Calls.{Answered, Passes, PassesAt, Settles, Ticks}
 ghost use Rattle.js_api.specs.Leading.{Makes};
 ghost use Rattle.desk_ground.specs.Grounds.{IsWithin, Outside};
 
-use desk_ground::Ground;
+use desk_ground::{Ground, let_go};
 use js_api::DeskFault;
 use js_base::Moment;
 use js_model::{PlaceAt, What};
@@ -19,9 +19,12 @@ fn pass_at<G: Ground>(ground: &mut G, at: PlaceAt, now: Moment) -> Result<bool, 
     ensures phase { G.phase ground.new ≡ G.phase ground.old }
 {
     let outcome = ground.hold(at, What::Tick, now);
-    match outcome.fault {
+    let fault = outcome.fault;
+    let ready = outcome.ready;
+    let_go(outcome);
+    match fault {
         Some(fault) => Err(fault),
-        None => Ok(outcome.ready),
+        None => Ok(ready),
     }
 }
 

@@ -11,7 +11,7 @@ ghost use Rattle.desk_answers.specs.Became.{CanBeShown, IsExplained};
 ghost use Rattle.desk_messaging.specs.Plain.{IsPlain};
 
 use crate::telling::{refuse_publish, tell_untaken};
-use desk_ground::{Caller, Ground, Reason, unmade};
+use desk_ground::{Caller, Ground, Reason, let_go, unmade};
 use js_api::{Became, DeskFault, Outcome};
 use js_base::{Blob, Moment, NoMemory, Out};
 use js_model::{PlaceAt, Publish, Taken, Wants, What};
@@ -109,7 +109,9 @@ fn store<G: Ground>(
     match found {
         Some(at) => {
             let outcome = ask_store(ground, at, message, now);
-            end_store(ground, message, &outcome)
+            let result = end_store(ground, message, &outcome);
+            let_go(outcome);
+            result
         }
         None => Ok(false),
     }

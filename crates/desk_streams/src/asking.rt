@@ -15,7 +15,7 @@ ghost use Rattle.desk_answers.specs.Became.{IsExplained, is_dropped};
 
 use crate::freeing::free_if_dropped;
 use desk_answers::copy_reply;
-use desk_ground::{Ground, Reason, end_call, refuse_for, unmade};
+use desk_ground::{Ground, Reason, end_call, let_go, refuse_for, unmade};
 use js_api::{ApiCall, DeskFault, Outcome};
 use js_base::{Blob, Moment, Name};
 use js_model::{PlaceAt, What};
@@ -55,7 +55,9 @@ fn show_found<G: Ground>(
     match found {
         Some(at) => {
             let outcome = ask_info(ground, at, to, now);
-            end_call(ground, ApiCall::StreamInfo, to, &outcome)
+            let result = end_call(ground, ApiCall::StreamInfo, to, &outcome);
+            let_go(outcome);
+            result
         }
         None => refuse_for(ground, ApiCall::StreamInfo, to, Reason::NoStream),
     }
@@ -115,7 +117,9 @@ fn drop_at<G: Ground>(
 {
     let outcome = ask_drop(ground, at, to, now);
     free_if_dropped(ground, at, &outcome.became);
-    end_call(ground, ApiCall::StreamDelete, to, &outcome)
+    let result = end_call(ground, ApiCall::StreamDelete, to, &outcome);
+    let_go(outcome);
+    result
 }
 
 /// Drops the stream that was looked up, if it is there.

@@ -19,7 +19,7 @@ ghost use Rattle.desk_answers.specs.Became.{IsExplained};
 use crate::freeing::keep_subjects;
 use crate::refusing::end_refused;
 use desk_answers::copy_reply;
-use desk_ground::{Ground, Reason, end_call, refuse_for, unmade};
+use desk_ground::{Ground, Reason, end_call, let_go, refuse_for, unmade};
 use js_api::{ApiCall, DeskFault, Outcome};
 use js_base::{Blob, Moment, Name};
 use js_model::{PlaceAt, StreamConfig, What};
@@ -64,7 +64,9 @@ fn change_between<G: Ground>(
 {
     let outcome = ask_change(ground, at, to, config, now);
     keep_subjects(ground, at, &outcome.became);
-    end_call(ground, ApiCall::StreamUpdate, to, &outcome)
+    let result = end_call(ground, ApiCall::StreamUpdate, to, &outcome);
+    let_go(outcome);
+    result
 }
 
 /// Changes the stream of a place.

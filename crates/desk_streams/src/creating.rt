@@ -20,7 +20,7 @@ ghost use Rattle.desk_ground.specs.Outcomes.{IsThere};
 use crate::freeing::free_unless_made;
 use crate::refusing::end_refused;
 use desk_answers::copy_reply;
-use desk_ground::{Ground, end_call, unmade};
+use desk_ground::{Ground, end_call, let_go, unmade};
 use js_api::{ApiCall, DeskFault, Outcome};
 use js_base::{Blob, Moment, Name};
 use js_model::{PlaceAt, StreamConfig, What};
@@ -88,7 +88,9 @@ fn add_stream<G: Ground>(
     match ground.add(stream, config.subjects.as_slice()) {
         Ok(at) => {
             let outcome = make_at(ground, at, to, config, now);
-            end_call(ground, ApiCall::StreamCreate, to, &outcome)
+            let result = end_call(ground, ApiCall::StreamCreate, to, &outcome);
+            let_go(outcome);
+            result
         }
         Err(fault) => end_refused(ground, ApiCall::StreamCreate, to, fault),
     }
@@ -115,7 +117,9 @@ fn create_found<G: Ground>(
     match found {
         Some(at) => {
             let outcome = ask_make(ground, at, to, config, now);
-            end_call(ground, ApiCall::StreamCreate, to, &outcome)
+            let result = end_call(ground, ApiCall::StreamCreate, to, &outcome);
+            let_go(outcome);
+            result
         }
         None => add_stream(ground, stream, config, to, now),
     }

@@ -10,8 +10,8 @@ pub returns-in-Some-clause-made : goal.returns-in-Some-clause-made
 returns-in-Some-clause-made g c =
     let name = name_of calls.StreamInfo in
     let what = whats.StreamInfo c.args.to.now in
-    if_found g.G.Ground.made (IsAbsent name c.args.to.now c.end_call.result) (λ at. IsOnStream name at what c.args.now unchanged c.end_call.result) c.args.found c.in-Some.at _ _ c.in-Some.is
-    (on_stream g.G.Ground.made g.met.G.Ground.made_more name c.in-Some.at what c.args.now unchanged c.ask_info-outcome.result c.end_call.result _ _ _ _ c.ask_info-outcome.ensures.made (g.met.G.Ground.made_nothing _) c.end_call.ensures.made)
+    if_found g.G.Ground.made (IsAbsent name c.args.to.now c.end_call-result.result) (λ at. IsOnStream name at what c.args.now unchanged c.end_call-result.result) c.args.found c.in-Some.at _ _ c.in-Some.is
+    (on_stream g.G.Ground.made g.met.G.Ground.made_more name c.in-Some.at what c.args.now unchanged c.ask_info-outcome.result c.end_call-result.result _ _ _ _ c.ask_info-outcome.ensures.made (g.met.G.Ground.made_nothing _) c.end_call-result.ensures.made)
 
 pub returns-in-None-clause-made : goal.returns-in-None-clause-made
 returns-in-None-clause-made g c =

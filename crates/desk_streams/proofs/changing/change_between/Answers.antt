@@ -6,4 +6,4 @@ use Rattle.desk_ground.proofs.OneStream.{on_stream}
 use Rattle.desk_streams.proofs.changing.change_between.Goals as goal
 
 pub returns-clause-made : goal.returns-clause-made
-returns-clause-made g c = on_stream g.G.Ground.made g.met.G.Ground.made_more (name_of calls.StreamUpdate) c.args.at (whats.Change c.args.to.now c.args.config) c.args.now (keep_subjects c.args.at) c.ask_change-outcome.result c.end_call.result _ _ _ _ c.ask_change-outcome.ensures.made c.keep_subjects.ensures.made c.end_call.ensures.made
+returns-clause-made g c = on_stream g.G.Ground.made g.met.G.Ground.made_more (name_of calls.StreamUpdate) c.args.at (whats.Change c.args.to.now c.args.config) c.args.now (keep_subjects c.args.at) c.ask_change-outcome.result c.end_call-result.result _ _ _ _ c.ask_change-outcome.ensures.made c.keep_subjects.ensures.made c.end_call-result.ensures.made

@@ -13,8 +13,8 @@ use Rattle.desk_streams.proofs.creating.add_stream.Goals as goal
 
 pub returns-in-Ok-clause-made : goal.returns-in-Ok-clause-made
 returns-in-Ok-clause-made g c =
-    adding g.G.Ground.made g.met.G.Ground.made_more c.args.stream.now c.args.config (GoesOnAdded c.args.config c.args.to.now c.args.now) (catalog.At (Some c.in-Ok.at)) c.end_call.result _ _ _ (rw (c.in-Ok.is, c.as_slice.ensures) at c.add.ensures.made)
-    (on_new_stream g.G.Ground.made g.met.G.Ground.made_more (name_of calls.StreamCreate) c.in-Ok.at (whats.Make c.args.to.now c.args.config) c.args.now c.make_at-outcome.result c.end_call.result _ _ _ c.make_at-outcome.ensures.made c.end_call.ensures.made)
+    adding g.G.Ground.made g.met.G.Ground.made_more c.args.stream.now c.args.config (GoesOnAdded c.args.config c.args.to.now c.args.now) (catalog.At (Some c.in-Ok.at)) c.end_call-result.result _ _ _ (rw (c.in-Ok.is, c.as_slice.ensures) at c.add.ensures.made)
+    (on_new_stream g.G.Ground.made g.met.G.Ground.made_more (name_of calls.StreamCreate) c.in-Ok.at (whats.Make c.args.to.now c.args.config) c.args.now c.make_at-outcome.result c.end_call-result.result _ _ _ c.make_at-outcome.ensures.made c.end_call-result.ensures.made)
 
 pub returns-in-Err-clause-made : goal.returns-in-Err-clause-made
 returns-in-Err-clause-made g c =
