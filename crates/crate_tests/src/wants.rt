@@ -19,7 +19,8 @@ fn asked(alloc: Global, block: &str) -> Result<Option<Wants>, NoMemory> {
 #[test]
 fn each_header_asks(rt: HostRuntime) -> Result<(), Fail> {
     let alloc = rt.alloc();
-    let block = "NATS/1.0\r\nNats-Msg-Id: m\r\nNats-Expected-Stream: S\r\nNats-Expected-Last-Sequence: 7\r\n\
+    let block =
+        "NATS/1.0\r\nNats-Msg-Id: m\r\nNats-Expected-Stream: S\r\nNats-Expected-Last-Sequence: 7\r\n\
         Nats-Expected-Last-Subject-Sequence: 0\r\nNats-Expected-Last-Msg-Id: l\r\n\r\n";
     let wants = Wants {
         bad: None,

@@ -36,8 +36,8 @@ module _ (per_subject : Option ℕ) (most : ℕ) (bytes : Option ℕ) where
   limits_keep-without ms front back m h =
       ap (λ l. fitting_at bytes (last_of most l))
       (newest_at-without per_subject front back m
-          (subst (λ all. AllByRecursion (λ y. is_crowded per_subject all y ≡ false) front) h.whole h.before)
-          (subst (λ all. is_crowded per_subject all m ≡ true) h.whole h.passes))
+      (subst (λ all. AllByRecursion (λ y. is_crowded per_subject all y ≡ false) front) h.whole h.before)
+      (subst (λ all. is_crowded per_subject all m ≡ true) h.whole h.passes))
       ∙ ap limits_keep (sym h.whole)
 
   -- without the first message of a list that is too large

@@ -45,26 +45,35 @@ none_large s = ap (λ b. b || over_limit 0 s.config.max_bytes) (le-ltb (max_mess
 next_of_large : (s : Stream) (ms : List Message) → s.messages ≡ ms → over_subject s ≡ None → is_over s ≡ true → NextIs s (option_map (λ m. m.seq) (first_message ms))
 next_of_large s [] e f large =
     absurd (true≢false (sym large ∙ ap (is_large s.config.max_msgs_per_subject (max_messages s) s.config.max_bytes) e ∙ none_large s))
-next_of_large s (m ∷ back) e f large = ([], m, back, record {
-  whole = e;
-  seq = refl;
-  same = limits_keep-rest s.config.max_msgs_per_subject (max_messages s) s.config.max_bytes m back
-      (subst (λ ms. find (is_crowded s.config.max_msgs_per_subject ms) ms ≡ None) e f)
-      (subst (λ ms. is_large s.config.max_msgs_per_subject (max_messages s) s.config.max_bytes ms ≡ true) e large)
-      ∙ ap (kept_of s) (sym e);
-})
+next_of_large s (m ∷ back) e f large = (
+  [],
+  m,
+  back,
+  record {
+    whole = e;
+    seq = refl;
+    same = limits_keep-rest s.config.max_msgs_per_subject (max_messages s) s.config.max_bytes m back
+        (subst (λ ms. find (is_crowded s.config.max_msgs_per_subject ms) ms ≡ None) e f)
+        (subst (λ ms. is_large s.config.max_msgs_per_subject (max_messages s) s.config.max_bytes ms ≡ true) e large)
+        ∙ ap (kept_of s) (sym e);
+  },
+)
 
 next_is : (s : Stream) → NextIs s (next_over s)
 next_is s = go (over_subject s) refl (is_over s) refl
   where
     go : (o : Option Message) → over_subject s ≡ o → (b : Bool) → is_over s ≡ b → NextIs s (option_map (λ m. m.seq) (option_or o (cond b (first_message s.messages) None)))
     go (Some m) e b f =
-        let w = split_at_found (is_crowded s.config.max_msgs_per_subject s.messages) m s.messages e in
-        (w.0, m, w.1, record {
-          whole = w.2.whole;
-          seq = refl;
-          same = limits_keep-without s.config.max_msgs_per_subject (max_messages s) s.config.max_bytes s.messages w.0 w.1 m w.2;
-        })
+        let w = split_at_found (is_crowded s.config.max_msgs_per_subject s.messages) m s.messages e in (
+          w.0,
+          m,
+          w.1,
+          record {
+            whole = w.2.whole;
+            seq = refl;
+            same = limits_keep-without s.config.max_msgs_per_subject (max_messages s) s.config.max_bytes s.messages w.0 w.1 m w.2;
+          },
+        )
     go None e true f = next_of_large s s.messages refl e f
     go None e false f = (e, f)
 

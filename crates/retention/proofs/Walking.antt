@@ -206,10 +206,12 @@ module _ (s : Stream) (order : IsInOrder s) (seq : ℕ) (ahead : IsAhead s seq) 
   -- the message, and those after it
   step : (b : Bool) → is_over_on s head.subject ≡ b → (m : Message) × (head.seq ≡ m.seq) × (over_subject s ≡ cond b (Some m) (find (λ m. is_over_on s m.subject) (all_from (m.seq + 1) s.messages)))
   step b e =
-      let w = seen (find (λ m. nat_le seq m.seq) s.messages) head found in
-      (w.0, ap (λ h. h.seq) w.2,
-          ahead ∙ ap (find (λ m. is_over_on s m.subject)) (all_from_some 1 (s.last + 1) seq w.0 s.messages order.ascends w.1)
-          ∙ ap (λ b. cond b (Some w.0) (find (λ m. is_over_on s m.subject) (all_from (w.0.seq + 1) s.messages))) (ap (is_over_on s) (sym (ap (λ h. h.subject) w.2)) ∙ e))
+      let w = seen (find (λ m. nat_le seq m.seq) s.messages) head found in (
+        w.0,
+        ap (λ h. h.seq) w.2,
+        ahead ∙ ap (find (λ m. is_over_on s m.subject)) (all_from_some 1 (s.last + 1) seq w.0 s.messages order.ascends w.1)
+            ∙ ap (λ b. cond b (Some w.0) (find (λ m. is_over_on s m.subject) (all_from (w.0.seq + 1) s.messages))) (ap (is_over_on s) (sym (ap (λ h. h.subject) w.2)) ∙ e),
+      )
 
   pub stops : is_over_on s head.subject ≡ true → Some head.seq ≡ option_map (λ m. m.seq) (over_subject s)
   stops e = let w = step true e in ap Some w.1 ∙ sym (ap (option_map (λ m. m.seq)) w.2)

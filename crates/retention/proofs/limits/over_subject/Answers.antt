@@ -18,8 +18,10 @@ pub returns-in_err-head : goal.returns-in_err-head
 returns-in_err-head g c = record { value = c.from_residual.ensures ∙ sym (ap (option_map (λ m. m.seq)) (none_ahead (g.W.View.stream c.args.view.now) c.loop-seq.seq c.loop-seq.invariant c.in_err-head.ensures.value)) }
 
 pub returns-then-is_some : goal.returns-then-is_some
-returns-then-is_some g c = record { value = stops (g.W.View.stream c.args.view.now) c.last-last.ensures.order c.loop-seq.seq c.loop-seq.invariant (record { seq = c.head.inside.seq; at = c.head.inside.at; subject = c.head.inside.subject.now; size = c.head.inside.size }) (ap Some c.head.view_is ∙ c.in_ok-head.ensures.value)
-    (told (g.W.View.stream c.args.view.now) c.head.inside.subject.now c.as_slice.result.now c.over_on.result true c.as_slice.ensures c.over_on.ensures.value (sym c.if-is_some.ensures)) }
+returns-then-is_some g c = record {
+  value = stops (g.W.View.stream c.args.view.now) c.last-last.ensures.order c.loop-seq.seq c.loop-seq.invariant (record { seq = c.head.inside.seq; at = c.head.inside.at; subject = c.head.inside.subject.now; size = c.head.inside.size }) (ap Some c.head.view_is ∙ c.in_ok-head.ensures.value)
+      (told (g.W.View.stream c.args.view.now) c.head.inside.subject.now c.as_slice.result.now c.over_on.result true c.as_slice.ensures c.over_on.ensures.value (sym c.if-is_some.ensures));
+}
 
 pub overflow_add-seq : goal.overflow_add-seq
 overflow_add-seq g c =
