@@ -1,8 +1,8 @@
 -- What the limits keep of the messages of a stream without consumers.
-use Rattle.std.proofs.Common.{◌≡◌, ℕ, ◌<◌, ◌≤◌, Bool, true, false, ◌||◌, cond, List, [], ◌∷◌, ◌++◌, Option, Some, None, length, map, refl, sym, ap, ◌∙◌, subst, arith}
+use Rattle.std.proofs.Common.{◌≡◌, ℕ, ◌≤◌, Bool, true, false, ◌||◌, List, [], ◌∷◌, ◌++◌, Option, None, length, map, refl, sym, ap, ◌∙◌, subst, arith}
 use Rattle.std.specs.Prelude.{nat_lt, find, sum_by}
 use Rattle.std.specs.List.{AllByRecursion}
-use Rattle.std.proofs.lemmas.Bool.{true≢false, ltb-false, or_parts}
+use Rattle.std.proofs.lemmas.Bool.{ltb-false, or_parts}
 use borrow.Author.Tests.{ltb-true}
 use Rattle.js_base.specs.Bytes.{last_of}
 use Rattle.js_model.specs.declared.stream.Message.{Message}

@@ -1,23 +1,22 @@
 -- The laws of what goes next: without it the limits keep the same, and if nothing goes, all.
-use Rattle.std.proofs.Common.{◌≡◌, ℕ, suc, zero, ◌+◌, ◌<◌, ◌≤◌, Bool, true, false, ◌||◌, cond, List, [], ◌∷◌, ◌++◌, Option, Some, None, length, map, refl, sym, ap, ◌∙◌, subst, arith, length-append}
-use Rattle.std.specs.Prelude.{◌==◌, not, nat_lt, filter, find, sum_by, option_map}
+use Rattle.std.proofs.Common.{◌≡◌, ℕ, suc, zero, ◌+◌, ◌≤◌, Bool, true, false, ◌||◌, cond, List, [], ◌∷◌, ◌++◌, Option, Some, None, length, refl, sym, ap, ◌∙◌, subst, arith}
+use Rattle.std.specs.Prelude.{◌==◌, not, filter, find, option_map}
 use Rattle.std.specs.Option.{option_or}
 use Rattle.std.proofs.lemmas.Bool.{true≢false, le-ltb}
 use Rattle.js_base.specs.Bytes.{has}
 use Rattle.js_model.specs.declared.stream.Message.{Message}
 use Rattle.js_model.specs.declared.stream.Stream.{Stream}
-use Rattle.js_model.specs.declared.consumer.Consumer.{Consumer}
 use Rattle.js_model.specs.Counts.{first_message}
 use Rattle.js_model.specs.Events.{message_at, without_messages}
-use Rattle.js_model.specs.Lists.{Between, IsPart, none, keep, skip}
-use Rattle.js_model.specs.Streams.{confined, seqs, size, over_limit}
+use Rattle.js_model.specs.Lists.{Between, IsPart, keep, skip}
+use Rattle.js_model.specs.Streams.{seqs, over_limit}
 use Rattle.js_model.specs.Trim.{max_messages, trim}
 use Rattle.js_model.proofs.Parts.{all_part, part_between, trim_part}
 use Rattle.retention.specs.Laws.{IsLone, LawTrimmed, LawWithin, LawWithout}
-use Rattle.retention.specs.Over.{is_over, next_over, over_stream, over_subject}
+use Rattle.retention.specs.Over.{is_over, next_over, over_subject}
 use Rattle.retention.proofs.Dropping.{holding, is_large, limits_keep, limits_keep_few, limits_keep-rest, limits_keep-without, only-holding, trim-holding}
 use Rattle.retention.proofs.Keeping.{is_crowded}
-use Rattle.retention.proofs.Splitting.{IsSplit, found_by_seq, split_at_found, without_it}
+use Rattle.retention.proofs.Splitting.{found_by_seq, split_at_found, without_it}
 
 -- what the limits keep of these messages
 abbrev kept_of : Stream → List Message → List Message

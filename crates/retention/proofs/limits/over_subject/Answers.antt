@@ -1,11 +1,5 @@
 use Rattle.retention.proofs.Walking.{none_without_limit, told, ahead_at_first, none_ahead, none_past_last, stops, goes_on, within}
-use Rattle.stream_view.specs.Heads.{MessageHead}
-use Rattle.std.proofs.Common.{rules, is_some, arith, ap, sym, ◌∙◌, Some, ◌≡◌, ℕ, option_map, if◌then◌else◌, None, ◌+◌, ◌-◌, ◌*◌, ◌^◌, ◌<◌, ◌≤◌, length, ◌/◌, ◌%◌, Bool, true, false, nat_eq, nat_lt, List, [], ◌∷◌, ◌++◌, slice_index_or, slice_set, bit_and, bit_or, Fits, w8, w32, w64, Bor, MutBor}
-use Rattle.js_model.specs.Streams.{over_limit}
-use Rattle.js_model.specs.Trim.{max_messages}
-use Rattle.stream_view.specs.Counting.{seqs_on}
-use Rattle.retention.specs.Over.{is_over, is_over_on, next_over, over_stream, over_subject, IsOverOnlyOn}
-use Rattle.retention.specs.Firsts.{first_number}
+use Rattle.std.proofs.Common.{is_some, arith, ap, sym, ◌∙◌, Some, ◌≡◌, option_map, ◌^◌, ◌<◌, ◌≤◌, true, false}
 use Rattle.retention.proofs.limits.over_subject.Goals as goal
 
 pub returns-then-is_none : goal.returns-then-is_none
