@@ -8,3 +8,5 @@ pub mod Pushing
 pub mod Selections
 pub mod Purges
 pub mod Loops
+pub mod Taken
+pub mod Gathering

@@ -1,5 +1,5 @@
 -- Limits that hold go on holding when messages go, and messages that go one by one leave what the limits keep.
-use Rattle.std.proofs.Common.{◌≡◌, ℕ, ◌+◌, ◌<◌, ◌≤◌, ◌==◌, ◌||◌, Bool, true, false, cond, not, List, [], ◌∷◌, Option, Some, None, length, refl, sym, ap, ◌∙◌, arith, subst}
+use Rattle.std.proofs.Common.{◌≡◌, ℕ, ◌+◌, ◌<◌, ◌≤◌, ◌==◌, ◌||◌, ◌⊎◌, inl, inr, Bool, true, false, cond, not, List, [], ◌∷◌, Option, Some, None, length, refl, sym, ap, ◌∙◌, arith, subst}
 use Rattle.std.specs.Prelude.{filter, find, nat_lt, count_by, sum_by, option_map, IsSome}
 use Rattle.std.specs.Option.{option_or}
 use Rattle.std.proofs.lemmas.Bool.{ltb-true, ltb-false, lt-ltb, le-ltb, or_parts, or_from, eqb-true}
@@ -8,12 +8,14 @@ use Rattle.std.proofs.lemmas.List.Sums.{length-filter}
 use Rattle.js_base.specs.Bytes.{Bytes, same, has}
 use Rattle.js_model.specs.declared.stream.Message.{Message}
 use Rattle.js_model.specs.declared.stream.Stream.{Stream}
+use Rattle.js_model.specs.declared.stream_config.StreamConfig.{StreamConfig}
+use Rattle.js_model.specs.Consumers.{empty_stream}
 use Rattle.js_model.specs.Counts.{first_message}
 use Rattle.js_model.specs.Events.{message_at, without_messages}
 use Rattle.js_model.specs.Lists.{IsPart, none, keep, skip}
 use Rattle.js_model.specs.Streams.{size, seqs, over_limit, only}
 use Rattle.js_model.specs.Trim.{max_messages, trim}
-use Rattle.js_model.proofs.Members.{IsIn, here, there, in_filter, found_in}
+use Rattle.js_model.proofs.Members.{IsIn, here, there, in_cons, in_filter, found_in}
 use Rattle.js_model.proofs.Named.{same_is}
 use Rattle.js_model.proofs.Parts.{filter_part, part-length, part-sum}
 use Rattle.retention.specs.Over.{is_over_on, is_over, over_subject, over_stream, next_over, IsOverOnlyOn}
@@ -61,12 +63,12 @@ module _ (s : Stream) {ms : List Message} (part : IsPart ms s.messages) where
 
 none_found : (test : Message → Bool) (ms : List Message) → find test ms ≡ None → (m : Message) → IsIn m ms → test m ≡ false
 none_found test [] h m k = elim k [ ]
-none_found test (x ∷ ms) h m k = go (test x) refl h k (λ f i. none_found test ms f m i)
+none_found test (x ∷ ms) h m k = go (test x) refl h (in_cons k) (λ f i. none_found test ms f m i)
   where
-    go : (b : Bool) → test x ≡ b → cond b (Some x) (find test ms) ≡ None → IsIn m (x ∷ ms) → (find test ms ≡ None → IsIn m ms → test m ≡ false) → test m ≡ false
+    go : (b : Bool) → test x ≡ b → cond b (Some x) (find test ms) ≡ None → (x ≡ m) ⊎ IsIn m ms → (find test ms ≡ None → IsIn m ms → test m ≡ false) → test m ≡ false
     go true e f i rest = absurd cc
-    go false e f here rest = e
-    go false e f (there i) rest = rest f i
+    go false e f (inl is) rest = ap test (sym is) ∙ e
+    go false e f (inr i) rest = rest f i
 
 find_nothing : (test : Message → Bool) (ms : List Message) → ((m : Message) → IsIn m ms → test m ≡ false) → find test ms ≡ None
 find_nothing test [] h = refl
@@ -107,6 +109,10 @@ not_over s h = go (is_over s) refl
 
 pub next_none : (s : Stream) → over_subject s ≡ None → is_over s ≡ false → next_over s ≡ None
 next_none s h k = ap (λ (o : Option Message). option_map (λ m. m.seq) (option_or o (over_stream s))) h ∙ ap (λ b. option_map (λ m. m.seq) (cond b (first_message s.messages) None)) k
+
+-- an empty stream is not over
+pub empty_within : (incarnation : ℕ) (config : StreamConfig) (now : ℕ) → next_over (empty_stream incarnation config now) ≡ None
+empty_within incarnation config now = next_none (empty_stream incarnation config now) refl (none_over (empty_stream incarnation config now) refl)
 
 -- no subject is over, also one without messages
 pub subjects_within : (s : Stream) → next_over s ≡ None → (t : Bytes) → is_over_on s t ≡ false

@@ -1,7 +1,7 @@
 -- What a purge names, and what is left without it.
 use Rattle.std.proofs.Common.{◌≡◌, ℕ, ◌+◌, ◌-◌, ◌^◌, ◌<◌, ◌≤◌, ◌==◌, ◌&&◌, ◌||◌, Bool, true, false, cond, not, List, [], ◌∷◌, ◌++◌, Option, Some, None, zero, suc, length, take, map, refl, sym, ap, ◌∙◌, arith, subst}
 use Rattle.std.specs.Prelude.{filter, find, nat_le, nat_lt, option_map}
-use Rattle.std.specs.List.{list_any}
+use Rattle.std.specs.Option.{option_to_list}
 use Rattle.std.proofs.lemmas.Bool.{and_parts, leb-true, ltb-false, le-ltb, le-leb}
 use Rattle.std.proofs.lemmas.Bool.Decides.{nat_tests}
 use Rattle.std.proofs.lemmas.List.Elements.{filter_agree}
@@ -9,13 +9,16 @@ use Rattle.std.proofs.lemmas.List.{length-append}
 use Rattle.js_base.specs.Bytes.{Bytes, has}
 use Rattle.js_model.specs.declared.stream.Message.{Message}
 use Rattle.js_model.specs.declared.stream.Stream.{Stream}
-use Rattle.js_model.specs.Events.{is_below, all_but_last, purge_list, without_messages}
-use Rattle.js_model.specs.Lists.{Between}
+use Rattle.js_model.specs.Events.{is_below, all_but_last, message_at, purge_list, without_messages}
+use Rattle.js_model.specs.Lists.{Between, IsPart}
 use Rattle.js_model.specs.Streams.{passes_filter, seqs}
 use Rattle.js_model.proofs.Members.{in_bounds, found_in}
 use Rattle.stream_state.specs.Selecting.{is_named, named, selects, next_passing, next_selected, next_named}
 use Rattle.stream_state.specs.declared.selector.Selector.{Selector}
 use Rattle.stream_state.specs.Stored.{without, without_all}
+use Rattle.js_model.proofs.Parts.{filter_part}
+use Rattle.stream_state.proofs.Indexing.{none_less}
+use Rattle.stream_state.proofs.Limiting.{without_is}
 use Rattle.stream_state.proofs.Sounding.{only_alone}
 
 abbrev Ascending : ℕ → ℕ → List Message → Type 0
@@ -115,11 +118,8 @@ map-take f (suc n) [] = refl
 map-take {Y = Y} f (suc n) (x ∷ xs) = ap (λ (ys : List Y). f x ∷ ys) (map-take f n xs)
 
 pub take_long : {X : Type 0} (n : ℕ) (xs : List X) → length xs ≤ n → take n xs ≡ xs
-take_long n [] h = go n
-  where
-    go : (k : ℕ) → take k [] ≡ []
-    go zero = refl
-    go (suc k) = refl
+take_long zero [] h = refl
+take_long (suc n) [] h = refl
 take_long zero (x ∷ xs) h = absurd (omega arith)
 take_long {X} (suc n) (x ∷ xs) h = ap (λ (ys : List X). x ∷ ys) (take_long n xs (omega arith))
 
@@ -169,3 +169,11 @@ without_none s = ap (λ (ms : List Message). record s { messages = ms }) (all s.
 
 pub without_all_is : (s : Stream) (gone : List Message) → s.consumers ≡ [] → without_all (seqs gone) s ≡ without_messages s gone
 without_all_is s gone alone = sym (only_alone s (filter (λ m. not (has (seqs gone) m.seq)) s.messages) alone)
+
+pub without_messages_part : (s : Stream) (gone : List Message) → IsPart (filter (λ m. not (has (seqs gone) m.seq)) s.messages) s.messages
+without_messages_part s gone = filter_part (λ m. not (has (seqs gone) m.seq)) s.messages
+
+-- a delete
+pub deleted_is : (s : Stream) (n : ℕ) (o : Option Message) → s.consumers ≡ [] → message_at s n ≡ o → without n s ≡ without_messages s (option_to_list o)
+deleted_is s n None alone e = ap (λ (ms : List Message). record s { messages = ms }) (none_less s.messages n e) ∙ sym (without_none s) ∙ without_all_is s [] alone
+deleted_is s n (Some m) alone e = sym (without_is s n m alone e)

@@ -1,7 +1,7 @@
 -- What the limit of each subject keeps of one message more.
-use Rattle.std.proofs.Common.{◌≡◌, ℕ, suc, ◌+◌, ◌^◌, ◌-◌, ◌<◌, ◌≤◌, Bool, true, false, cond, List, [], ◌∷◌, ◌++◌, Option, Some, None, length, refl, sym, ap, ◌∙◌, arith, IsTrue}
+use Rattle.std.proofs.Common.{◌≡◌, ℕ, suc, ◌+◌, ◌^◌, ◌-◌, ◌<◌, ◌≤◌, Bool, true, false, cond, List, [], ◌∷◌, ◌++◌, Option, Some, None, length, refl, sym, ap, subst, ◌∙◌, arith, IsTrue}
 use Rattle.std.specs.Prelude.{find, nat_lt, nat_le, count_by, sum_by}
-use Rattle.std.proofs.lemmas.Bool.{and_parts, ltb-true, ltb-false, leb-true, leb-false, lt-ltb, le-ltb}
+use Rattle.std.proofs.lemmas.Bool.{and_parts, ltb-true, ltb-false, leb-true, leb-false, lt-ltb, le-ltb, lt-leb, le-leb}
 use Rattle.std.proofs.lemmas.List.{length-append}
 use Rattle.std.proofs.lemmas.List.Sums.{sum_by-cons, sum_by_push}
 use Rattle.js_base.specs.Bytes.{Bytes, same}
@@ -11,12 +11,15 @@ use Rattle.js_model.specs.declared.stream.Message.{Message}
 use Rattle.js_model.specs.declared.stream.Stream.{Stream}
 use Rattle.js_model.specs.declared.event.Publish.{Publish}
 use Rattle.js_model.specs.Configs.{is_limit, is_stream_config}
+use Rattle.js_model.specs.Events.{message_at}
 use Rattle.js_model.specs.Streams.{size, over_limit}
 use Rattle.js_model.specs.Trim.{newest, newest_at}
 use Rattle.js_model.specs.Verdict.{message_of, held_after}
 use Rattle.retention.specs.Over.{next_over}
 use Rattle.stream_state.specs.PushedOut.{reaches, pushed_out}
 use Rattle.stream_state.specs.Stored.{IsSound}
+use Rattle.stream_view.specs.declared.counts.Counts.{Counts}
+use Rattle.stream_state.proofs.Finding.{IsCounted}
 use Rattle.stream_state.proofs.Limiting.{subjects_within}
 use Rattle.stream_state.proofs.Lists.{same_flip}
 
@@ -185,3 +188,31 @@ module _ (s : Stream) (p : Publish) (sound : IsSound s) (settled : next_over s �
 
   pub held : Holds s p (pushed_out s p.subject)
   held = held_by s.config.max_msgs_per_subject refl
+
+  pub held_at : (o : Option Message) → o ≡ pushed_out s p.subject → Holds s p o
+  held_at o e = subst (λ (x : Option Message). Holds s p x) (sym e) held
+
+-- ---- by what is counted of a subject
+
+module _ (s : Stream) (subject : Bytes) where
+  by_limit : Option ℕ → Option Message
+  by_limit o = cond (reaches (count subject s.messages) o) (find (on subject) s.messages) None
+
+  pub none_pushed : find (on subject) s.messages ≡ None → pushed_out s subject ≡ None
+  none_pushed e = ap (λ (o : Option Message). cond (reaches (count subject s.messages) s.config.max_msgs_per_subject) o None) e ∙ go (reaches (count subject s.messages) s.config.max_msgs_per_subject)
+    where
+      go : (b : Bool) → cond b None None ≡ None {T = Message}
+      go true = refl
+      go false = refl
+
+  module _ (c : Counts) (n : ℕ) (counted : IsCounted s subject c) (limit : s.config.max_msgs_per_subject ≡ Some n) where
+    at_limit : pushed_out s subject ≡ cond (nat_le n c.count) (find (on subject) s.messages) None
+    at_limit =
+        ap (λ (o : Option ℕ). cond (reaches (count subject s.messages) o) (find (on subject) s.messages) None) limit
+        ∙ ap (λ k. cond (nat_le n k) (find (on subject) s.messages) None) counted.count
+
+    pub few_pushed : c.count < n → pushed_out s subject ≡ None
+    few_pushed l = at_limit ∙ ap (λ b. cond b (find (on subject) s.messages) None) (lt-leb n c.count l)
+
+    pub full_pushed : n ≤ c.count → message_at s c.first ≡ pushed_out s subject
+    full_pushed l = counted.first ∙ sym (at_limit ∙ ap (λ b. cond b (find (on subject) s.messages) None) (le-leb n c.count l))

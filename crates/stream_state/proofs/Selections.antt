@@ -29,8 +29,8 @@ plain_same [] [] h k = refl
 plain_same [] (s ∷ ss) h k = absurd cc
 plain_same (p ∷ ps) [] h k = absurd cc
 plain_same (p ∷ ps) (s ∷ ss) h k =
-    let plain = and_parts _ _ h in
-    let wild = or_parts _ _ (not-true (is_wild p) plain.0) in
+    let plain = and_parts (not (is_wild p)) (is_plain ps) h in
+    let wild = or_parts (same p star) (same p rest) (not-true (is_wild p) plain.0) in
     let step : ((false && is_empty ps) || ((false || same p s) && matches ps ss)) ≡ true = rw wild.0 at (rw wild.1 at k) in
     let parts = and_parts (same p s) (matches ps ss) step in
     ap (λ (t : Bytes). t ∷ ps) (same_is p s parts.0) ∙ ap (λ (ts : List Bytes). s ∷ ts) (plain_same ps ss plain.1 parts.1)
@@ -38,8 +38,8 @@ plain_same (p ∷ ps) (s ∷ ss) h k =
 plain_self : (ps : List Bytes) → is_plain ps ≡ true → matches ps ps ≡ true
 plain_self [] h = refl
 plain_self (p ∷ ps) h =
-    let plain = and_parts _ _ h in
-    let wild = or_parts _ _ (not-true (is_wild p) plain.0) in
+    let plain = and_parts (not (is_wild p)) (is_plain ps) h in
+    let wild = or_parts (same p star) (same p rest) (not-true (is_wild p) plain.0) in
     rw (wild.1, wild.0, same_self p) (plain_self ps plain.1)
 
 same_tokens : (a b : Bytes) → tokens a ≡ tokens b → a ≡ b
@@ -188,3 +188,14 @@ none_passes t from (x ∷ ms) h = go (nat_le from x.seq) h (none_passes t from m
     go : (b : Bool) → cond b (Some x) (find (λ y. nat_le from y.seq) ms) ≡ None → (find (λ y. nat_le from y.seq) ms ≡ None → find (λ y. nat_le from y.seq && t y) ms ≡ None) → cond (b && t x) (Some x) (find (λ y. nat_le from y.seq && t y) ms) ≡ None
     go true e r = absurd cc
     go false e r = r e
+
+-- ---- turns of a search
+
+pub found_seq : (t : Message → Bool) (from : ℕ) (m : Message) (ms : List Message) → Some m ≡ find (λ x. nat_le from x.seq) ms → t m ≡ true → Some m.seq ≡ next_passing t ms from
+found_seq t from m ms h k = sym (ap (option_map (λ (x : Message). x.seq)) (found_next t from m ms (sym h) k))
+
+pub passed_seq : (t : Message → Bool) (from low high : ℕ) (m : Message) (ms : List Message) → Ascending low high ms → Some m ≡ find (λ x. nat_le from x.seq) ms → t m ≡ false → next_passing t ms (m.seq + 1) ≡ next_passing t ms from
+passed_seq t from low high m ms ascends h k = sym (ap (option_map (λ (x : Message). x.seq)) (passed_over t from low high m ms ascends (sym h) k))
+
+pub none_seq : (t : Message → Bool) (from : ℕ) (ms : List Message) → None ≡ find (λ x. nat_le from x.seq) ms → None ≡ next_passing t ms from
+none_seq t from ms h = sym (ap (option_map (λ (x : Message). x.seq)) (none_passes t from ms (sym h)))

@@ -1,9 +1,9 @@
 -- A sound stream stays sound.
-use Rattle.std.proofs.Common.{◌≡◌, ℕ, ◌+◌, ◌^◌, ◌<◌, ◌≤◌, Bool, true, false, List, [], ◌∷◌, ◌++◌, length, refl, ap, ◌∙◌, arith}
+use Rattle.std.proofs.Common.{◌≡◌, ℕ, ◌+◌, ◌^◌, ◌<◌, ◌≤◌, ◌==◌, Bool, true, false, cond, not, List, [], ◌∷◌, ◌++◌, length, refl, ap, ◌∙◌, arith, append-nil}
 use Rattle.std.specs.Prelude.{All, IsTrue, nat_lt, filter}
-use Rattle.std.proofs.lemmas.Bool.{and_parts, leb-true}
+use Rattle.std.proofs.lemmas.Bool.{and_parts, leb-true, eq-eqb, ne_eqb}
 use Rattle.std.proofs.lemmas.List.{length-append}
-use Rattle.std.proofs.lemmas.List.Elements.{All-head, All-tail, All-cons, All-nil, All-push, All-filter, All-weaker}
+use Rattle.std.proofs.lemmas.List.Elements.{All-head, All-tail, All-cons, All-nil, All-push, All-filter, All-weaker, filter-append}
 use Rattle.js_base.specs.Bytes.{Bytes}
 use Rattle.js_model.specs.declared.stream_config.StreamConfig.{StreamConfig}
 use Rattle.js_model.specs.declared.stream.Message.{Message}
@@ -14,12 +14,13 @@ use Rattle.js_model.specs.Advance.{remembered}
 use Rattle.js_model.specs.Configs.{is_stream_config}
 use Rattle.js_model.specs.Consumers.{empty_stream}
 use Rattle.js_model.specs.Events.{with_id, with_message}
-use Rattle.js_model.specs.Lists.{IsPart, none, keep, skip}
+use Rattle.js_model.specs.Lists.{Between, IsPart, none, keep, skip}
 use Rattle.js_model.specs.Proper.{is_proper_publish}
 use Rattle.js_model.specs.Streams.{only}
 use Rattle.js_model.specs.Verdict.{message_of}
-use Rattle.js_model.proofs.Parts.{part_between, part-length, between_push}
+use Rattle.js_model.proofs.Parts.{part_between, part-length, between_push, between_bounds}
 use Rattle.message_store.specs.Stored.{IsSmall}
+use Rattle.stream_state.proofs.Lists.{filter_all}
 use Rattle.stream_state.specs.Stored.{Rises, IsSound, IsText, stored_message, with_known}
 
 -- ---- lists
@@ -155,3 +156,20 @@ module _ (s : Stream) (h : IsSound s) where
     ids = h.ids;
     alone = h.alone;
   }
+
+-- ---- the next message
+
+above_all : (low high : ℕ) (ms : List Message) → Between (λ m. m.seq) low high ms → All (λ m. m.seq < high) ms
+above_all low high [] h = All-nil (λ (m : Message). m.seq < high)
+above_all low high (m ∷ ms) h = All-cons (λ (x : Message). x.seq < high) m ms (let q : m.seq + 1 ≤ high = between_bounds (λ (x : Message). x.seq) (m.seq + 1) high ms h.1 in omega arith) (above_all (m.seq + 1) high ms h.1)
+
+pub above_last : (s : Stream) → IsSound s → All (λ m. m.seq < s.last + 1) s.messages
+above_last s h = above_all 1 (s.last + 1) s.messages h.ascends
+
+-- a message that was added last and goes again
+pub last_undone : (ms : List Message) (m : Message) (n : ℕ) → m.seq ≡ n → All (λ x. x.seq < n) ms → filter (λ x. not (x.seq == n)) (ms ++ m ∷ []) ≡ ms
+last_undone ms m n is above =
+    filter-append (λ x. not (x.seq == n)) ms (m ∷ [])
+    ∙ ap (λ (b : Bool). filter (λ x. not (x.seq == n)) ms ++ cond (not b) (m ∷ []) []) (eq-eqb m.seq n is)
+    ∙ append-nil (filter (λ x. not (x.seq == n)) ms)
+    ∙ filter_all (λ x. not (x.seq == n)) ms (All-weaker (λ (x : Message). x.seq < n) (λ x. not (x.seq == n) ≡ true) (λ x l. ap not (ne_eqb x.seq n (omega arith))) ms above)

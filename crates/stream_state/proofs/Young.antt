@@ -1,6 +1,6 @@
 -- Messages that are too old stand first.
-use Rattle.std.proofs.Common.{◌≡◌, ℕ, ◌+◌, ◌<◌, ◌≤◌, ◌==◌, Bool, true, false, cond, not, List, [], ◌∷◌, Option, Some, None, min, max, refl, sym, ap, ◌∙◌, arith}
-use Rattle.std.specs.Prelude.{filter, find, nat_lt}
+use Rattle.std.proofs.Common.{◌≡◌, ℕ, ◌+◌, ◌<◌, ◌≤◌, ◌==◌, Bool, true, false, cond, not, List, [], ◌∷◌, Option, Some, None, min, max, refl, sym, ap, subst, ◌∙◌, arith}
+use Rattle.std.specs.Prelude.{filter, find, nat_lt, IfNone, IfSome, IsSome}
 use Rattle.std.proofs.lemmas.Bool.{ltb-true, ltb-false, lt-ltb, le-ltb, eq-eqb, ne_eqb}
 use Rattle.js_base.specs.Moments.{plus}
 use Rattle.js_model.specs.declared.stream.Message.{Message}
@@ -62,6 +62,26 @@ module _ (s : Stream) (now : ℕ) (sound : IsSound s) where
           let is : x ≡ m = cc in
           ap (filter (λ y. nat_lt now (plus y.at s.config.max_age))) (ap (λ (n : ℕ). filter (λ y. not (y.seq == n)) (x ∷ ms)) (ap (λ (y : Message). y.seq) (sym is)) ∙ without_first 1 (s.last + 1) x ms h)
           ∙ sym (ap (λ b. cond b (x ∷ filter (λ y. nat_lt now (plus y.at s.config.max_age)) ms) (filter (λ y. nat_lt now (plus y.at s.config.max_age)) ms)) (ap (λ (y : Message). nat_lt now (plus y.at s.config.max_age)) is ∙ le-ltb now (plus m.at s.config.max_age) l))
+
+-- ---- the first message
+
+-- what is told of the first message, if it is there
+pub record FirstOld (s : Stream) (now : ℕ) (told : Option ℕ) : Type 0 where
+  pub there : IfSome told (λ n. IsSome (message_at s n))
+  pub old : IfSome told (λ n. young (without n s) now ≡ young s now)
+  pub none : IfNone told (young s now ≡ s.messages)
+
+pub first_old : (s : Stream) (now : ℕ) → IsSound s → (m : Message) → first_message s.messages ≡ Some m → (s.config.max_age == 0) ≡ false
+    → FirstOld s now (cond (nat_lt now (plus m.at s.config.max_age)) None (Some m.seq))
+first_old s now sound m e limited = go (nat_lt now (plus m.at s.config.max_age)) refl
+  where
+    go : (b : Bool) → nat_lt now (plus m.at s.config.max_age) ≡ b → FirstOld s now (cond b None (Some m.seq))
+    go true f = record { there = tt; old = tt; none = young_first s now sound m e (ltb-true now (plus m.at s.config.max_age) f) }
+    go false f = record {
+      there = subst IsSome (sym (first_found s m e)) refl;
+      old = young_less s now sound m e limited (ltb-false now (plus m.at s.config.max_age) f);
+      none = tt;
+    }
 
 -- ---- all of it
 

@@ -1,12 +1,14 @@
 //! Messages that are too old.
 
-ghost use Rattle.std.specs.Prelude.{◌≡◌, IfNone, IfSome, IsSome};
+ghost use Rattle.std.specs.Prelude.{◌≡◌, None, Some, nat_lt, if◌then◌else◌, IfNone, IfSome, IsSome};
+ghost use Rattle.js_base.specs.Moments.{plus};
 ghost use Rattle.js_model.specs.Advance.{young};
 ghost use Rattle.js_model.specs.Events.{message_at};
 ghost use Rattle.stream_state.specs.Stored.{IsSound, without};
 
 use crate::stored::StoredStream;
 use js_base::Moment;
+use js_model::Message;
 use stream_view::View;
 
 /// Lets the messages go that are too old at a moment, by JetStream's `max_age`. It takes no memory, and costs what it removes.
@@ -31,9 +33,19 @@ fn first_old(stream: &StoredStream, now: Moment) -> Option<u64>
     if max_age == 0 {
         return None;
     }
-    let first = stream.first()?;
-    if now.as_nanos() < first.at.plus(max_age).as_nanos() {
-        return None;
+    match stream.first() {
+        Some(first) => if_old(first, max_age, now),
+        None => None,
     }
-    Some(first.seq)
+}
+
+/// The sequence of a message, if that many nanoseconds have passed since it was stored.
+fn if_old(message: &Message, age: u64, now: Moment) -> Option<u64>
+    ensures value { result ≡ (if nat_lt now (plus message.now.at age) then None else Some message.now.seq) }
+{
+    if now.as_nanos() < message.at.plus(age).as_nanos() {
+        None
+    } else {
+        Some(message.seq)
+    }
 }

@@ -66,7 +66,7 @@ fn first_named(
     let mut from = 0;
     while (gone.len() as u64) < most {
         let Some(seq) = next_named(stream, selector, below, from) else {
-            break;
+            return Ok(gone);
         };
         gone.push(seq)?;
         from = seq + 1;

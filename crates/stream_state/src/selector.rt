@@ -41,7 +41,7 @@ impl<'a> Selector<'a> {
         ensures value { result ≡ next_selected self.entry stream.now.messages from }
     {
         match self {
-            Selector::All => stream.at_or_after(from).map(|head| head.seq),
+            Selector::All => next_of_all(stream, from),
             Selector::Subject(subject) => stream.messages().at_or_after(subject, from),
             Selector::Pattern(pattern) => next_matching(stream, pattern, from),
         }
@@ -56,6 +56,16 @@ impl<'a> Selector<'a> {
             Selector::Subject(subject) => Some(count_of(stream, subject)),
             Selector::Pattern(_) => None,
         }
+    }
+}
+
+/// The sequence of the first message from a sequence on.
+fn next_of_all(stream: &StoredStream, from: u64) -> Option<u64>
+    ensures value { result ≡ next_selected Selector.All stream.now.messages from }
+{
+    match stream.first_from(from) {
+        Some(message) => Some(message.seq),
+        None => None,
     }
 }
 
@@ -75,11 +85,11 @@ fn next_matching(stream: &StoredStream, pattern: &[u8], from: u64) -> Option<u64
     ensures value { result ≡ next_selected (Selector.Pattern pattern.entry) stream.now.messages from }
 {
     let mut from = from;
-    while let Some(head) = stream.at_or_after(from) {
-        if matches(pattern, head.subject.as_slice()) {
-            return Some(head.seq);
+    while let Some(message) = stream.first_from(from) {
+        if matches(pattern, message.subject.as_slice()) {
+            return Some(message.seq);
         }
-        from = head.seq + 1;
+        from = message.seq + 1;
     }
     None
 }

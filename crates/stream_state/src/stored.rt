@@ -1,6 +1,6 @@
 //! A stream's messages, ids and numbers, whether or not its limits hold.
 
-ghost use Rattle.std.specs.Prelude.{◌≡◌, ◌+◌, ◌^◌, ◌<◌, ◌≤◌, None, false, is_some, length, IfOk, IfSome, IsTrue, IsUtf8, OnOk, OnErr};
+ghost use Rattle.std.specs.Prelude.{◌≡◌, ◌+◌, ◌^◌, ◌<◌, ◌≤◌, None, false, find, is_some, length, nat_le, IfOk, IfSome, IsTrue, IsUtf8, OnOk, OnErr};
 ghost use Rattle.std.specs.Bool.{OnTrue};
 ghost use Rattle.std.specs.Option.{option_copied};
 ghost use Rattle.dedup_window.specs.Window.{id_of, IsLatest};
@@ -106,6 +106,13 @@ impl StoredStream {
         self.messages.by_sequence().first()
     }
 
+    /// The first message from a sequence on.
+    pub(crate) fn first_from(&self, seq: u64) -> Option<&Message>
+        ensures value { option_copied result ≡ find (λ m. nat_le seq m.seq) self.now.messages }
+    {
+        self.messages.by_sequence().at_or_after(seq)
+    }
+
     /// The message of a sequence.
     pub(crate) fn get(&self, seq: u64) -> Option<&Message>
         ensures value { option_copied result ≡ message_at self.now seq }
@@ -135,7 +142,8 @@ impl StoredStream {
         ensures err { OnErr result (self.new ≡ self.old) }
     {
         let seq = self.last + 1;
-        self.messages.push(message_of(publish, seq, self.moment)?)?;
+        let message = message_of(publish, seq, self.moment)?;
+        self.messages.push(message)?;
         match remember(&mut self.ids, &publish.wants.id, seq, self.moment) {
             Ok(()) => {
                 self.last = seq;

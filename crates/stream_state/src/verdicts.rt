@@ -1,6 +1,6 @@
 //! Whether a publish is taken, and why not.
 
-ghost use Rattle.std.specs.Prelude.{◌≡◌, ◌+◌, ◌&&◌, None, IfOk, length, nat_lt, option_map, sum_by};
+ghost use Rattle.std.specs.Prelude.{◌≡◌, ◌+◌, ◌^◌, ◌<◌, ◌&&◌, None, IfOk, length, nat_lt, option_map, sum_by};
 ghost use Rattle.std.specs.Option.{option_copied};
 ghost use Rattle.js_model.specs.Streams.{over_limit, size};
 ghost use Rattle.js_model.specs.Trim.{max_messages};
@@ -176,9 +176,10 @@ fn count_after(stream: &StoredStream, publish: &Publish) -> u64
     requires within { next_over stream.now ≡ None }
     ensures value { result ≡ length (held_after stream.now publish.now) }
 {
+    let count = stream.count();
     match pushed_out(stream, publish.subject.as_slice()) {
-        Some(_) => stream.count(),
-        None => stream.count() + 1,
+        Some(_) => count,
+        None => count + 1,
     }
 }
 
@@ -211,6 +212,7 @@ fn pushed_out<'a>(stream: &'a StoredStream, subject: &[u8]) -> Option<&'a Messag
 /// The size of the message that a publish stores.
 fn publish_size(publish: &Publish) -> u128
     ensures value { result ≡ length publish.now.subject + length publish.now.headers + length publish.now.payload + 40 }
+    ensures bound { result < 2 ^ 66 }
 {
     publish.subject.len() as u128
         + publish.headers.len() as u128
