@@ -14,7 +14,7 @@ use Rattle.retention.specs.Over.{next_over, IsOverOnlyOn}
 use Rattle.retention.specs.Laws.{LawWithin, LawWithout}
 use Rattle.stream_state.specs.Stored.{IsSound, without, without_all}
 use Rattle.stream_state.proofs.Limiting.{lone, trim_without, over_only_less}
-use Rattle.stream_state.proofs.Purges.{without_none, without_one_more}
+use Rattle.stream_state.proofs.Purges.{take_long, without_none, without_one_more}
 
 -- messages that are too old have gone
 pub record Ages (now : ℕ) (old new : Stream) : Type 0 where
@@ -60,8 +60,11 @@ pub record Removes (gone : List ℕ) (old new : Stream) : Type 0 where
 pub removes_none : (s : Stream) → IsSound s → Removes [] s s
 removes_none s sound = record { sound = sound; left = sym (without_none s) }
 
-pub removes_more : (all : List ℕ) (i n : ℕ) (old mid new : Stream) → Removes (take i all) old mid → i < length all → n ≡ get_or all i n → new ≡ without n mid → IsSound new → Removes (take (i + 1) all) old new
-removes_more all i n old mid new h l item is sound = record {
+pub removes_more : (all : List ℕ) (i : ℕ) (old mid new : Stream) → Removes (take i all) old mid → i < length all → new ≡ without (get_or all i 0) mid → IsSound new → Removes (take (i + 1) all) old new
+removes_more all i old mid new h l is sound = record {
   sound = sound;
-  left = is ∙ ap (without n) h.left ∙ without_one_more (take i all) n old ∙ ap (λ (ns : List ℕ). without_all ns old) (sym (take_more all i n l ∙ ap (λ k. take i all ++ k ∷ []) (sym item)));
+  left = is ∙ ap (without (get_or all i 0)) h.left ∙ without_one_more (take i all) (get_or all i 0) old ∙ ap (λ (ns : List ℕ). without_all ns old) (sym (take_more all i 0 l));
 }
+
+pub removes_all : (all : List ℕ) (i : ℕ) (old new : Stream) → Removes (take i all) old new → length all ≤ i → new ≡ without_all all old
+removes_all all i old new h l = h.left ∙ ap (λ (ns : List ℕ). without_all ns old) (take_long i all l)
