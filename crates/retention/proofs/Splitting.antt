@@ -46,7 +46,7 @@ before_it low high (x ∷ front) back m h =
     let below : x.seq + 1 ≤ m.seq = after.0 in
     (omega arith, before_it (x.seq + 1) high front back m h.1)
 
-all_after : (low high n : ℕ) (back : List Message) → Ascending low high back → n < low → AllByRecursion (λ x. n < x.seq) back
+pub all_after : (low high n : ℕ) (back : List Message) → Ascending low high back → n < low → AllByRecursion (λ x. n < x.seq) back
 all_after low high n [] h l = tt
 all_after low high n (x ∷ back) h l = let q : low ≤ x.seq = h.0 in (omega arith, all_after (x.seq + 1) high n back h.1 (omega arith))
 
