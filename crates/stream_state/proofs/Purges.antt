@@ -1,6 +1,6 @@
 -- What a purge names, and what is left without it.
 use Rattle.std.proofs.Common.{◌≡◌, ℕ, ◌+◌, ◌-◌, ◌^◌, ◌<◌, ◌≤◌, ◌==◌, ◌&&◌, ◌||◌, Bool, true, false, cond, not, List, [], ◌∷◌, ◌++◌, Option, Some, None, zero, suc, length, take, map, refl, sym, ap, ◌∙◌, arith, subst}
-use Rattle.std.specs.Prelude.{filter, find, is_none, nat_le, option_map}
+use Rattle.std.specs.Prelude.{filter, find, is_some, nat_le, option_map}
 use Rattle.std.specs.Option.{option_to_list}
 use Rattle.std.proofs.lemmas.Bool.{and_parts, leb-true, ltb-false, le-ltb, le-leb}
 use Rattle.std.proofs.lemmas.Bool.Decides.{nat_tests}
@@ -144,7 +144,7 @@ count_all selector below most ms h l =
     ap length (sym (map-take (λ (m : Message). m.seq) most (named selector below ms)) ∙ ap seqs (take_all selector below most ms h l)) ∙ length-map (named selector below ms) (λ (m : Message). m.seq)
 
 -- without a limit, all that are selected
-pub named_selected : (selector : Selector) (below : Option ℕ) (ms : List Message) → is_none below ≡ true → length (named selector below ms) ≡ length (selected selector ms)
+pub named_selected : (selector : Selector) (below : Option ℕ) (ms : List Message) → is_some below ≡ false → length (named selector below ms) ≡ length (selected selector ms)
 named_selected selector None ms h = ap length (filter_agree (is_named selector None) (λ m. selects selector m.subject) (λ m. sym (and_true (selects selector m.subject))) ms)
 named_selected selector (Some n) ms h = absurd cc
 

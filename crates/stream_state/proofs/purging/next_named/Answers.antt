@@ -3,7 +3,7 @@ use Rattle.stream_state.proofs.Purges.{named_found, named_past, named_none}
 use Rattle.stream_state.proofs.purging.next_named.Goals as goal
 
 pub returns-in_err-seq : goal.returns-in_err-seq
-returns-in_err-seq c = record { value = c.from_residual.ensures ∙ named_none c.args.selector c.args.below c.args.stream.now.messages c.args.from c.in_err-seq.ensures.value }
+returns-in_err-seq c = record { value = c.from_residual.ensures ∙ named_none c.args.selector c.args.below c.args.stream.now.messages c.args.from (sym c.in_err-seq.was ∙ c.next.ensures.value) }
 
 pub returns-then-is_below : goal.returns-then-is_below
 returns-then-is_below c =
