@@ -1,14 +1,13 @@
 -- What the functions find as they look at a stream.
-use Rattle.std.proofs.Common.{◌≡◌, ℕ, ◌+◌, ◌<◌, ◌≤◌, Bool, true, false, cond, List, [], ◌∷◌, Option, Some, None, length, map, refl, sym, ap, ◌∙◌, subst, arith}
+use Rattle.std.proofs.Common.{◌≡◌, ℕ, ◌+◌, ◌<◌, ◌≤◌, Bool, true, false, cond, List, [], ◌∷◌, Option, Some, None, length, refl, sym, ap, ◌∙◌, subst, arith}
 use Rattle.std.specs.Prelude.{nat_lt, nat_le, filter, find, count_by, option_map, is_some}
 use Rattle.std.specs.List.{AllByRecursion}
-use Rattle.std.specs.Option.{option_or}
-use Rattle.std.proofs.lemmas.Bool.{true≢false, le-leb, lt-leb, leb-true, leb-false, lt-ltb, le-ltb, ltb-false}
+use Rattle.std.proofs.lemmas.Bool.{true≢false, le-leb, lt-leb, leb-true, lt-ltb, le-ltb}
 use borrow.Author.Tests.{ltb-true}
 use Rattle.std.proofs.lemmas.List.Sums.{length-filter}
 use Rattle.std.proofs.lemmas.List.{length-map}
 use Rattle.js_base.specs.Bytes.{Bytes, same}
-use Rattle.js_base.proofs.Meeting.{same_is, same_self}
+use Rattle.js_base.proofs.Meeting.{same_is}
 use Rattle.js_model.specs.declared.stream.Message.{Message}
 use Rattle.js_model.specs.declared.stream.Stream.{Stream}
 use Rattle.js_model.specs.Streams.{seqs, over_limit}
@@ -19,8 +18,8 @@ use Rattle.stream_view.specs.Order.{IsInOrder}
 use Rattle.stream_view.specs.declared.counts.Counts.{Counts}
 use Rattle.stream_view.specs.Counting.{counts_of, seqs_on}
 use Rattle.retention.specs.Firsts.{first_number}
-use Rattle.retention.specs.Over.{is_over_on, next_over, over_stream, over_subject, IsOverOnlyOn}
-use Rattle.retention.proofs.Splitting.{Ascending, all_after}
+use Rattle.retention.specs.Over.{is_over_on, over_subject, IsOverOnlyOn}
+use Rattle.retention.proofs.Splitting.{Ascending}
 
 -- ---- one subject
 
@@ -43,15 +42,6 @@ module _ (s : Stream) (t : Bytes) (limit : ℕ) (counts : Counts) (limited : s.c
   pub none_if_within : counts.count ≤ limit → None ≡ cond (is_over_on s t) (first_number (seqs_on s t)) None
   none_if_within l = sym (ap (λ b. cond b (first_number (seqs_on s t)) None) (over_by_count ∙ le-ltb limit counts.count l))
 
--- ---- of subjects and of all
-
-either_or : {X Y : Type 0} (f : X → Y) (o p : Option X) → option_map f (option_or o p) ≡ option_or (option_map f o) (option_map f p)
-either_or f None p = refl
-either_or f (Some x) p = refl
-
-pub next_over-either : (s : Stream) (one all : Option ℕ) → one ≡ option_map (λ m. m.seq) (over_subject s) → all ≡ option_map (λ m. m.seq) (over_stream s) → option_or one all ≡ next_over s
-next_over-either s one all e f = ap (λ o. option_or o all) e ∙ ap (option_or (option_map (λ m. m.seq) (over_subject s))) f ∙ sym (either_or (λ m. m.seq) (over_subject s) (over_stream s))
-
 -- ---- if only one subject may have too many
 
 same_either : (b : Bool) (o : Option ℕ) → o ≡ cond b o o
@@ -59,9 +49,6 @@ same_either true o = refl
 same_either false o = refl
 
 module _ (s : Stream) (t : Bytes) (only_on : IsOverOnlyOn s t) where
-  first_on : List Message → Option ℕ
-  first_on ms = first_number (seqs (filter (λ m. same m.subject t) ms))
-
   test_is : (m : Message) (own : Bool) → same m.subject t ≡ own → is_over_on s m.subject ≡ cond own (is_over_on s t) false
   test_is m true e = ap (is_over_on s) (same_is m.subject t e)
   test_is m false e = only_on.others m.subject e
@@ -206,10 +193,12 @@ module _ (s : Stream) (order : IsInOrder s) (seq : ℕ) (ahead : IsAhead s seq) 
   -- the message, and those after it
   step : (b : Bool) → is_over_on s head.subject ≡ b → (m : Message) × (head.seq ≡ m.seq) × (over_subject s ≡ cond b (Some m) (find (λ m. is_over_on s m.subject) (all_from (m.seq + 1) s.messages)))
   step b e =
-      let w = seen (find (λ m. nat_le seq m.seq) s.messages) head found in
-      (w.0, ap (λ h. h.seq) w.2,
-          ahead ∙ ap (find (λ m. is_over_on s m.subject)) (all_from_some 1 (s.last + 1) seq w.0 s.messages order.ascends w.1)
-          ∙ ap (λ b. cond b (Some w.0) (find (λ m. is_over_on s m.subject) (all_from (w.0.seq + 1) s.messages))) (ap (is_over_on s) (sym (ap (λ h. h.subject) w.2)) ∙ e))
+      let w = seen (find (λ m. nat_le seq m.seq) s.messages) head found in (
+        w.0,
+        ap (λ h. h.seq) w.2,
+        ahead ∙ ap (find (λ m. is_over_on s m.subject)) (all_from_some 1 (s.last + 1) seq w.0 s.messages order.ascends w.1)
+            ∙ ap (λ b. cond b (Some w.0) (find (λ m. is_over_on s m.subject) (all_from (w.0.seq + 1) s.messages))) (ap (is_over_on s) (sym (ap (λ h. h.subject) w.2)) ∙ e),
+      )
 
   pub stops : is_over_on s head.subject ≡ true → Some head.seq ≡ option_map (λ m. m.seq) (over_subject s)
   stops e = let w = step true e in ap Some w.1 ∙ sym (ap (option_map (λ m. m.seq)) w.2)

@@ -1,6 +1,6 @@
 //! What the limits of a stream drop next.
 
-ghost use Rattle.std.specs.Prelude.{◌≡◌, ℕ, option_map, if◌then◌else◌, None};
+ghost use Rattle.std.specs.Prelude.{◌≡◌, option_map, if◌then◌else◌, None};
 ghost use Rattle.js_model.specs.Streams.{over_limit};
 ghost use Rattle.js_model.specs.Trim.{max_messages};
 ghost use Rattle.stream_view.specs.Counting.{seqs_on};

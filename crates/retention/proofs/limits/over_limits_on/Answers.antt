@@ -1,10 +1,6 @@
 use Rattle.retention.proofs.Walking.{over_subject-on}
-use Rattle.std.proofs.Common.{rules, sym, ◌∙◌, ◌≡◌, ℕ, option_map, if◌then◌else◌, None, ◌+◌, ◌-◌, ◌*◌, ◌<◌, ◌≤◌, length, ◌/◌, ◌%◌, Bool, true, false, nat_eq, nat_lt, List, [], ◌∷◌, ◌++◌, slice_index_or, slice_set, bit_and, bit_or, Fits, w8, w32, w64, Bor, MutBor}
-use Rattle.js_model.specs.Streams.{over_limit}
-use Rattle.js_model.specs.Trim.{max_messages}
-use Rattle.stream_view.specs.Counting.{seqs_on}
-use Rattle.retention.specs.Over.{is_over, is_over_on, next_over, over_stream, over_subject, IsOverOnlyOn}
-use Rattle.retention.specs.Firsts.{first_number}
+use Rattle.std.proofs.Common.{rules, sym, ◌∙◌, ◌≡◌, option_map}
+use Rattle.retention.specs.Over.{over_subject}
 use Rattle.retention.proofs.limits.over_limits_on.Goals as goal
 
 -- src/limits.rt:24:1
