@@ -1,6 +1,6 @@
 //! Messages that are removed on request.
 
-ghost use Rattle.std.specs.Prelude.{◌≡◌, ◌==◌, ◌&&◌, ◌^◌, ◌<◌, nat_le, not, filter, find, length, map, option_map, take, IfOk};
+ghost use Rattle.std.specs.Prelude.{◌≡◌, ◌==◌, ◌&&◌, ◌^◌, ◌<◌, nat_le, not, filter, find, length, map, option_map, take, IfOk, Some};
 ghost use Rattle.js_base.specs.Bytes.{has};
 ghost use Rattle.js_model.specs.Events.{all_but_last, is_below, purge_list};
 ghost use Rattle.js_model.specs.Streams.{seqs};
@@ -41,12 +41,24 @@ fn count_purged(
     ensures value { IfOk result (λ count. take count (named selector.entry below stream.now.messages) ≡ all_but_last keep (named selector.entry below stream.now.messages)) }
 {
     match keep {
-        Some(keep) => {
-            let count = count_named(alloc, stream, selector, below)?;
-            Ok(count.saturating_sub(keep))
-        }
+        Some(keep) => count_unkept(alloc, stream, selector, below, keep),
         None => Ok(u64::MAX),
     }
+}
+
+/// How many of them go, if this many of the last ones are kept.
+fn count_unkept(
+    alloc: Global,
+    stream: &StoredStream,
+    selector: Selector<'_>,
+    below: Option<u64>,
+    keep: u64,
+) -> Result<u64, NoMemory>
+    requires sound { IsSound stream.now }
+    ensures value { IfOk result (λ count. take count (named selector.entry below stream.now.messages) ≡ all_but_last (Some keep) (named selector.entry below stream.now.messages)) }
+{
+    let count = count_named(alloc, stream, selector, below)?;
+    Ok(count.saturating_sub(keep))
 }
 
 /// How many of the selected messages are below a sequence.
@@ -65,7 +77,7 @@ fn count_named(
         }
     }
     let all = first_named(alloc, stream, selector, below, u64::MAX)?;
-    Ok(all.len() as u64)
+    Ok(all.as_slice().len() as u64)
 }
 
 /// The sequences of the first of the selected messages below a sequence, at most so many.

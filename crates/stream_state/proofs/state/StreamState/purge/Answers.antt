@@ -10,8 +10,8 @@ use Rattle.stream_state.proofs.Limiting.{lone, within_less}
 use Rattle.stream_state.proofs.Purges.{without_all_is, without_messages_part}
 use Rattle.stream_state.proofs.state.StreamState.purge.Goals as goal
 
-pub invariant_of-self-2 : goal.invariant_of-self-2
-invariant_of-self-2 c =
+pub invariant_of-self : goal.invariant_of-self
+invariant_of-self c =
     let s = c.self.inside.stream in
     let list = purge_list s c.args.pattern.now c.args.below c.args.keep in
     let left : c.remove_all.new.stream ≡ without_all (seqs list) s = c.remove_all.ensures.left ∙ ap (λ (ns : List ℕ). without_all ns s) (c.as_slice.ensures.value ∙ c.in_ok-gone.ensures.value) in
@@ -27,7 +27,7 @@ returns-clause-ok c =
 pub returns-clause-count : goal.returns-clause-count
 returns-clause-count c =
     let list = purge_list c.self.inside.stream c.args.pattern.now c.args.below c.args.keep in
-    rw (← c.self.view_is) (c.len.ensures ∙ ap length c.in_ok-gone.ensures.value ∙ length-map list (λ (m : Message). m.seq))
+    rw (← c.self.view_is) (c.len.ensures ∙ sym c.as_slice.ensures.len ∙ ap length (c.as_slice.ensures.value ∙ c.in_ok-gone.ensures.value) ∙ length-map list (λ (m : Message). m.seq))
 
 pub returns-clause-settled : goal.returns-clause-settled
 returns-clause-settled c =
