@@ -7,4 +7,4 @@ returns-in-Some c = record { value = c.in-Some.ensures.value ∙ sym (named_sele
 
 pub returns : goal.returns
 returns c =
-    record { value = c.len.ensures ∙ ap length (c.as_slice.ensures.value ∙ c.in_ok-all.ensures.value) ∙ count_all c.args.selector c.args.below 18446744073709551615 c.args.stream.now.messages c.requires.sound.few (omega arith) }
+    record { value = ap length (c.as_slice.ensures.value ∙ c.in_ok-all.ensures.value) ∙ count_all c.args.selector c.args.below 18446744073709551615 c.args.stream.now.messages c.requires.sound.few (omega arith) }
