@@ -4,7 +4,8 @@ use Rattle.std.proofs.lemmas.Bool.{or_parts, and_cases, leb-false, ltb-false}
 use Rattle.std.proofs.lemmas.Bool.Decides.{nat_tests}
 use Rattle.std.proofs.lemmas.List.{take_all, drop_all, take-take, get_or-take, ext_get_or}
 use Rattle.std.proofs.lemmas.List.Folds.{list_any-append}
-use Rattle.vol_disk.specs.Steps.{Torn, CutTo}
+use Rattle.std.specs.Prelude.{if◌then◌else◌}
+use Rattle.vol_disk.specs.Steps.{written, Torn, CutTo}
 use Rattle.vol_disk.specs.Does.{Follows}
 use Rattle.vol_disk.specs.FileState.{FileState, at_rest, IsSound}
 use Rattle.vol_disk.specs.Left.{is_in, is_written, IsLeft, IsReached}
@@ -216,3 +217,29 @@ fits s wanted left len is size stays asked may =
     at : (k : ℕ) → k < len → k < length wanted → (get_or left k 0 ≡ get_or wanted k 0) ⊎ ((k < s.least) × (is_written s.written k ≡ false)) → get_or left k 0 ≡ get_or wanted k 0
     at k lt there (inl is) = is
     at k lt there (inr low) = stays k lt low.0 low.1 ∙ sym (may.stays k low.0 low.1)
+
+-- a write, done or not, in the words of the code
+pub reached_write : (s : FileState) (at : ℕ) (bytes now : List ℕ) (is_done : Bool) (greatest : ℕ) (spans : List Span) → at ≤ length s.bytes →
+    now ≡ (if is_done then written at bytes s.bytes else s.bytes) → greatest ≡ max s.greatest (max (length s.bytes) (at + length bytes)) →
+    spans ≡ s.written ++ record { from = at; to = at + length bytes } ∷ [] → IsReached s →
+    IsReached (record { bytes = now; synced = s.synced; least = s.least; greatest = greatest; written = spans })
+reached_write s at bytes now is_done greatest spans can is longer noted was =
+    reached_by s (record { bytes = now; synced = s.synced; least = s.least; greatest = greatest; written = spans }) (sound is_done is) refl (omega arith) (omega (arith, longer)) (kept is_done is) was
+  where
+    sound : (b : Bool) → now ≡ (if b then written at bytes s.bytes else s.bytes) → IsSound (record { bytes = now; synced = s.synced; least = s.least; greatest = greatest; written = spans })
+    sound true is = record {
+      no_shorter = omega (arith, ap length is, length-written at bytes s.bytes can, was.sound.no_shorter);
+      no_longer = omega (arith, ap length is, longer, length-written at bytes s.bytes can);
+    }
+    sound false is = record { no_shorter = omega (arith, ap length is, was.sound.no_shorter); no_longer = omega (arith, ap length is, longer) }
+
+    range : Span
+    range = record { from = at; to = at + length bytes }
+
+    kept : (b : Bool) → now ≡ (if b then written at bytes s.bytes else s.bytes) → (k : ℕ) → k < s.least → is_written spans k ≡ false → (is_written s.written k ≡ false) × (get_or now k 0 ≡ get_or s.bytes k 0)
+    kept true is k low none =
+        let out = subst (λ (all : List Span). is_written all k ≡ false) noted none in
+        (less_written s.written range k out, ap (λ (l : List ℕ). get_or l k 0) is ∙ written_out at k bytes s.bytes can (outside at (at + length bytes) k (in_none s.written range k out)))
+    kept false is k low none =
+        let out = subst (λ (all : List Span). is_written all k ≡ false) noted none in
+        (less_written s.written range k out, ap (λ (l : List ℕ). get_or l k 0) is)

@@ -17,25 +17,25 @@ span from to = record { from = from; to = to }
 
 -- a file of one byte, to which two more are written
 abbrev grown : FileState
-grown = record { bytes = 1 ∷ 2 ∷ 3 ∷ []; least = 1; greatest = 3; written = span 1 3 ∷ [] }
+grown = record { bytes = 1 ∷ 2 ∷ 3 ∷ []; synced = 1 ∷ []; least = 1; greatest = 3; written = span 1 3 ∷ [] }
 
-row_write : state_of ((1 ∷ []) ∷ []) (call (Write 1 (2 ∷ 3 ∷ [])) true ∷ []) 0 ≡ grown
+row_write : state_of ((0, 1 ∷ []) ∷ []) (call (Write 1 (2 ∷ 3 ∷ [])) true ∷ []) 0 ≡ grown
 row_write = refl
 
 -- one that fails reads as before, and may be there
-row_failed : state_of ((1 ∷ []) ∷ []) (call (Write 1 (2 ∷ 3 ∷ [])) false ∷ []) 0 ≡ record grown { bytes = 1 ∷ [] }
+row_failed : state_of ((0, 1 ∷ []) ∷ []) (call (Write 1 (2 ∷ 3 ∷ [])) false ∷ []) 0 ≡ record grown { bytes = 1 ∷ [] }
 row_failed = refl
 
 -- a write and a cut keep the least and the greatest length
-row_cut : state_of ((1 ∷ []) ∷ []) (call (Write 1 (2 ∷ 3 ∷ [])) true ∷ call (Cut 0) true ∷ []) 0 ≡ record grown { bytes = []; least = 0 }
+row_cut : state_of ((0, 1 ∷ []) ∷ []) (call (Write 1 (2 ∷ 3 ∷ [])) true ∷ call (Cut 0) true ∷ []) 0 ≡ record grown { bytes = []; least = 0 }
 row_cut = refl
 
 -- a sync ends all doubt
-row_sync : state_of ((1 ∷ []) ∷ []) (call (Write 1 (2 ∷ 3 ∷ [])) true ∷ call Sync true ∷ []) 0 ≡ at_rest (1 ∷ 2 ∷ 3 ∷ [])
+row_sync : state_of ((0, 1 ∷ []) ∷ []) (call (Write 1 (2 ∷ 3 ∷ [])) true ∷ call Sync true ∷ []) 0 ≡ at_rest (1 ∷ 2 ∷ 3 ∷ [])
 row_sync = refl
 
 -- another file rests
-row_other : state_of ((1 ∷ []) ∷ (7 ∷ []) ∷ []) (call (Write 1 (2 ∷ 3 ∷ [])) true ∷ []) 1 ≡ at_rest (7 ∷ [])
+row_other : state_of ((0, 1 ∷ []) ∷ (5, 7 ∷ []) ∷ []) (call (Write 1 (2 ∷ 3 ∷ [])) true ∷ []) 5 ≡ at_rest (7 ∷ [])
 row_other = refl
 
 -- a crash may leave no byte of the write, or one of them and another in its place

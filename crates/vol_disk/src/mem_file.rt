@@ -1,6 +1,6 @@
 //! A file in memory.
 
-ghost use Rattle.std.specs.Prelude.{◌≡◌, ◌⊎◌, ◌<◌, ◌≤◌, [], false, length, slice_index, IfOk, OnOk, OnErr};
+ghost use Rattle.std.specs.Prelude.{◌≡◌, ◌⊎◌, ◌<◌, ◌≤◌, if◌then◌else◌, [], ◌∷◌, ◌++◌, false, length, slice_index, IfOk, OnOk, OnErr, vec_len, vec_capacity};
 ghost use Rattle.vol_disk.specs.Images.{AreBytes};
 ghost use Rattle.vol_disk.specs.Steps.{written};
 ghost use Rattle.vol_disk.specs.Calls.{CanDo, after};
@@ -63,6 +63,29 @@ pub(crate) fn write_over(held: &mut Vec<u8>, at: usize, bytes: &[u8]) -> Result<
     let all = held.as_mut_slice();
     all[at..at + over].copy_from_slice(&bytes[..over]);
     Ok(())
+}
+
+/// Writes the bytes so if they are to be written. An `Err` leaves all as it was.
+fn write_if(held: &mut Vec<u8>, at: usize, bytes: &[u8], is_done: bool) -> Result<(), NoMemory>
+    requires within { at ≤ length held.old.items }
+    ensures ok { OnOk result (held.new.items ≡ (if is_done then written at bytes.now held.old.items else held.old.items)) }
+    ensures err { OnErr result (held.new.items ≡ held.old.items) }
+{
+    if is_done {
+        return write_over(held, at, bytes);
+    }
+    Ok(())
+}
+
+/// Keeps a range where there is room for it.
+fn keep_span(spans: &mut Vec<Span>, span: Span)
+    requires room { vec_len spans.old < vec_capacity spans.old }
+    ensures kept { spans.new.items ≡ spans.old.items ++ span ∷ [] }
+{
+    match spans.push(span) {
+        Ok(()) => {}
+        Err(_) => unreachable!(),
+    }
 }
 
 /// A copy of the bytes.
@@ -181,18 +204,13 @@ impl MemFile {
         }
         let to = at + bytes.len() as u64;
         let len = (self.bytes.len() as u64).max(to);
-        if is_done {
-            match write_over(&mut self.bytes, at as usize, bytes) {
-                Ok(()) => {}
-                Err(_) => return Err(NoMemory),
-            }
+        match write_if(&mut self.bytes, at as usize, bytes, is_done) {
+            Ok(()) => {}
+            Err(NoMemory) => return Err(NoMemory),
         }
-        self.least = self.least.min(len);
         self.greatest = self.greatest.max(len);
-        match self.written.push(Span { from: at, to }) {
-            Ok(()) => Ok(()),
-            Err(_) => Err(NoMemory),
-        }
+        keep_span(&mut self.written, Span { from: at, to });
+        Ok(())
     }
 
     /// Cuts, or fails at some part of it.
