@@ -2,12 +2,16 @@
 use Rattle.std.proofs.Common.{◌≡◌, inl, inr, ⊎_elim, ℕ, List, refl, sym, ◌∙◌, subst, arith}
 use Rattle.std.proofs.lemmas.Bool.{cases_eq}
 use Rattle.vol_disk.specs.Disk.{Disk, Files}
-use Rattle.vol_disk.specs.Images.{IsImage, IsDurable}
+use Rattle.vol_disk.specs.Images.{IsImage, IsHonest, IsDurable, AreBytes}
 use Rattle.vol_disk.specs.Steps.{Torn, CutTo, Kept}
 use Rattle.vol_disk.specs.Does.{Elapses, Rests, Does}
 use Rattle.vol_disk.specs.Clock.{IsClocked}
 use Rattle.vol_disk.specs.Moments.{LeavesOnly, Elsewhere, Quiet}
 use Rattle.vol_disk.specs.Synced.{DoesSynced}
+
+-- as it reads
+pub read_is_image : (disk : Disk) → IsHonest disk → ((file : ℕ) → AreBytes (disk.seen file)) → IsImage disk disk.seen
+read_is_image disk honest bytes = record { bytes = bytes; left = honest }
 
 -- before the first call
 pub started : (old : Disk) (P : Files → Type 0) → IsClocked old → ((image : Files) → IsImage old image → P image) → LeavesOnly old old P

@@ -21,7 +21,7 @@ use Rattle.vol_disk.specs.Held.{state_in, IsReplayed, IsPicked, ArePicked}
 use Rattle.vol_disk.specs.declared.call.Call.{Call}
 use Rattle.vol_disk.specs.declared.call.Deed.{Deed}
 use Rattle.vol_disk.specs.declared.call.Deed.TheVariants.{Len, Read, Write, Cut, Sync}
-use Rattle.vol_disk.proofs.Leaving.{left_as_read, follows_after}
+use Rattle.vol_disk.proofs.Leaving.{follows_after}
 
 -- one call more
 pub one_more : (calls : List Call) (call : Call) (file : ℕ) (s : FileState) → after_calls (calls ++ call ∷ []) file s ≡ after_call call file (after_calls calls file s)

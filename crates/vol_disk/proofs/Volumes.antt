@@ -12,7 +12,7 @@ use Rattle.vol_disk.specs.MemVol.{VolState, disk_of, file_of, IsDone, IsFailed, 
 use Rattle.vol_disk.specs.declared.call.Call.{Call}
 use Rattle.vol_disk.specs.declared.call.Deed.{Deed}
 use Rattle.vol_disk.specs.declared.call.Deed.TheVariants.{Len, Read, Write, Cut, Sync}
-use Rattle.vol_disk.proofs.Leaving.{only_at_rest, left_as_read, step_same}
+use Rattle.vol_disk.proofs.Leaving.{only_at_rest, step_same}
 use Rattle.vol_disk.proofs.Replays.{state_here, does_call, does_nothing}
 
 -- the call as it is recorded

@@ -11,7 +11,7 @@ pub record IsImage (disk : Disk) (image : Files) : Type 0 where
   pub bytes : (file : ℕ) → AreBytes (image file)
   pub left : (file : ℕ) → disk.leaves file (image file)
 
--- a crash now may leave each file as it reads
+-- A crash now may leave each file as it reads. So a disk is one of its own images, where reads give bytes.
 abbrev pub IsHonest : Disk → Type 0
 IsHonest disk = (file : ℕ) → disk.leaves file (disk.seen file)
 

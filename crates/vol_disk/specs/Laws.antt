@@ -20,8 +20,8 @@ clocked start calls =
         subst (λ (cs : List Call). AreLeft start cs image) (sym (take_all (length calls) calls all)) (record { bytes = now.bytes; left = now.left }),
       );
       only_now = λ image since.
-        let now = subst (λ (cs : List Call). AreLeft start cs image) (take_all since.0 calls since.1) since.3 in
-        record { bytes = now.bytes; left = now.left };
+          let now = subst (λ (cs : List Call). AreLeft start cs image) (take_all since.0 calls since.1) since.3 in
+          record { bytes = now.bytes; left = now.left };
       earlier = λ t u image le since. (since.0, le_trans le since.1, since.2, since.3);
     }
 

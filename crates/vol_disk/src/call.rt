@@ -17,8 +17,8 @@ pub enum Deed {
     Sync,
 }
 
-/// A call on a file, and its answer: whether it was done or failed. What a call that was done answered else,
-/// a length or bytes, follows from the calls before it.
+/// A call on a file, and whether it was done or failed. Whatever else it answered, a length or bytes, follows
+/// from the calls before it.
 #[derive(Drop, Debug)]
 pub struct Call {
     pub file: u32,

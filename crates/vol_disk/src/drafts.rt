@@ -56,7 +56,13 @@ fn piece(alloc: Global, bytes: &[u8], drawn: &mut u64) -> Result<Vec<u8>, NoMemo
 }
 
 /// Writes some part of the bytes. What is before them and is not there is zeros.
-fn draft_write(alloc: Global, draft: &mut Vec<u8>, at: usize, bytes: &[u8], drawn: &mut u64) -> Result<(), NoMemory> {
+fn draft_write(
+    alloc: Global,
+    draft: &mut Vec<u8>,
+    at: usize,
+    bytes: &[u8],
+    drawn: &mut u64,
+) -> Result<(), NoMemory> {
     let piece = piece(alloc, bytes, drawn)?;
     if piece.is_empty() {
         return Ok(());
@@ -68,9 +74,20 @@ fn draft_write(alloc: Global, draft: &mut Vec<u8>, at: usize, bytes: &[u8], draw
 }
 
 /// Does some part of a call.
-fn draft_call(alloc: Global, draft: &mut Vec<u8>, deed: &Deed, drawn: &mut u64) -> Result<(), NoMemory> {
+fn draft_call(
+    alloc: Global,
+    draft: &mut Vec<u8>,
+    deed: &Deed,
+    drawn: &mut u64,
+) -> Result<(), NoMemory> {
     match deed {
-        Deed::Write { at, bytes } => draft_write(alloc, draft, *at as usize, bytes.as_slice(), drawn),
+        Deed::Write { at, bytes } => draft_write(
+            alloc,
+            draft,
+            *at as usize,
+            bytes.as_slice(),
+            drawn,
+        ),
         Deed::Cut { to } => {
             if draw(drawn) % 2 == 0 {
                 draft.truncate(*to as usize);

@@ -38,7 +38,11 @@ impl Model for Held {
 }
 
 /// Does to a file what a write does to an empty one that is not held. An `Err` changes nothing.
-fn write_first(alloc: Global, files: &mut BTreeMap<u32, MemFile>, call: &Call) -> Result<(), NoMemory>
+fn write_first(
+    alloc: Global,
+    files: &mut BTreeMap<u32, MemFile>,
+    call: &Call,
+) -> Result<(), NoMemory>
     requires absent { get nat_cmp files.old call.now.file ≡ None }
     requires can { CanDo call.now.deed (at_rest []) }
     ensures ok { OnOk result ((file : ℕ)
@@ -52,7 +56,11 @@ fn write_first(alloc: Global, files: &mut BTreeMap<u32, MemFile>, call: &Call) -
 }
 
 /// Does to a file that is not held what a call does. Only a write needs that it is held. An `Err` changes nothing.
-fn apply_first(alloc: Global, files: &mut BTreeMap<u32, MemFile>, call: &Call) -> Result<(), NoMemory>
+fn apply_first(
+    alloc: Global,
+    files: &mut BTreeMap<u32, MemFile>,
+    call: &Call,
+) -> Result<(), NoMemory>
     requires absent { get nat_cmp files.old call.now.file ≡ None }
     requires can { CanDo call.now.deed (at_rest []) }
     ensures ok { OnOk result ((file : ℕ)

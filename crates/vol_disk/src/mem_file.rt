@@ -180,7 +180,13 @@ impl MemFile {
 
     /// Bytes that a crash may leave of it, as the number picks them. This file has the stated number in the
     /// calls, which are those of its volume.
-    pub fn image(&self, alloc: Global, number: u32, calls: &[Call], pick: u64) -> Result<Vec<u8>, NoMemory>
+    pub fn image(
+        &self,
+        alloc: Global,
+        number: u32,
+        calls: &[Call],
+        pick: u64,
+    ) -> Result<Vec<u8>, NoMemory>
         ensures picked { IfOk result (λ image. IsPicked pick self.now image.items) }
     {
         match pick {

@@ -22,7 +22,8 @@ use std::marker::Model;
 /// it was, but an image may have any part of it.
 ///
 /// It keeps the calls that were made on it, in their order, with every byte that was written, and each file
-/// twice, as it reads and as it was last synced. A file never written takes no memory.
+/// twice, as it reads and as it was last synced: a sync takes the time of its file. A file never written
+/// takes no memory.
 #[derive(Drop, Debug)]
 pub struct MemVol {
     alloc: Global,

@@ -1,6 +1,5 @@
-use Rattle.std.proofs.Common.{ℕ, ◌≡◌, subst, ◌∙◌}
+use Rattle.std.proofs.Common.{ℕ, subst}
 use Rattle.vol_disk.specs.Replay.{bytes_in}
-use Rattle.vol_disk.specs.MemDisk.{AreLeft}
 use Rattle.vol_disk.specs.Held.{HeldState, IsPicked, held_file}
 use Rattle.vol_disk.proofs.Replays.{picked_left, all_left}
 use Rattle.vol_disk.proofs.held.Held.image.Goals as goal
