@@ -1,0 +1,6 @@
+pub mod Moments
+mod Overlays
+mod Leaving
+pub mod Replays
+mod Volumes
+mod Rows

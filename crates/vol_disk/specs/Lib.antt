@@ -1,0 +1,16 @@
+pub mod Disk
+pub mod Images
+pub mod Steps
+pub mod Does
+pub mod Clock
+pub mod Moments
+pub mod Synced
+pub mod FileState
+pub mod Left
+pub mod Calls
+pub mod Replay
+pub mod Held
+pub mod MemDisk
+pub mod Sound
+pub mod Laws
+pub mod MemVol

@@ -1,0 +1,22 @@
+//! Volumes of numbered files, with what a crash may leave of them: a trait with a meaning, and a form in
+//! memory that has every image and tells each call that was made on it.
+#![tactic(auto)]
+
+mod call;
+mod drafts;
+mod failed;
+mod held;
+mod hold_vol;
+mod mem_file;
+mod mem_vol;
+mod span;
+mod synced;
+mod vol;
+
+pub use call::{Call, Deed};
+pub use failed::Failed;
+pub use hold_vol::HoldVol;
+pub use mem_vol::MemVol;
+pub use span::Span;
+pub use synced::{cut_synced, write_synced};
+pub use vol::Vol;

@@ -1,0 +1,76 @@
+//! Volumes of numbered files.
+
+ghost use Rattle.std.specs.Prelude.{◌≡◌, ℕ, ◌+◌, ◌≤◌, length, take, drop, OnOk, OnErr, IfOk, IsErr};
+ghost use Rattle.vol_disk.specs.Disk.{Disk};
+ghost use Rattle.vol_disk.specs.Images.{IsDurable, IsHonest};
+ghost use Rattle.vol_disk.specs.Steps.{written, Torn, CutTo, Kept};
+ghost use Rattle.vol_disk.specs.Does.{Does};
+ghost use Rattle.vol_disk.specs.Clock.{IsClocked};
+ghost use Rattle.js_base.specs.Causes.{HasCause};
+
+use crate::failed::Failed;
+
+/// A volume of numbered files. A file never written has length 0.
+///
+/// Between two syncs of a file a crash may leave any bytes in the ranges that were written and past the
+/// least length that the file had, and any length from the least to the greatest that it had. The other
+/// bytes stay. After a sync that succeeds a crash leaves what a read gives.
+///
+/// A write or a cut that fails may have done any part of it, both to what a read gives and to what a crash
+/// leaves. Any other call that fails, a sync too, keeps what a read gives, and a crash leaves nothing that it
+/// might not have left before.
+pub trait Vol {
+    /// What the disk reads as, and what a crash may leave of it.
+    ghost disk: { Self → Disk };
+
+    /// That the volume keeps what is told of its disk, and nobody else writes it. Of a real disk this is
+    /// not known.
+    ghost told: { Type 0 };
+
+    /// How often it failed so far.
+    ghost faults: { Self → ℕ };
+
+    /// The file's length.
+    fn len(&mut self, file: u32) -> Result<u64, Failed>
+        ensures value { told → IfOk result (λ len. len ≡ length ((disk self.old).seen file)) }
+        ensures seen { told → (disk self.new).seen file ≡ (disk self.old).seen file }
+        ensures does { told → Does file Kept (disk self.old) (disk self.new) }
+        ensures cause { HasCause (faults self.old) (faults self.new) (IsErr result) };
+
+    /// Reads a range of the file.
+    fn read_at(&mut self, file: u32, at: u64, into: &mut [u8]) -> Result<(), Failed>
+        requires within { told → at + length into.old ≤ length ((disk self.old).seen file) }
+        ensures value { told → OnOk result (into.new ≡ take (length into.old) (drop at ((disk self.old).seen file))) }
+        ensures seen { told → (disk self.new).seen file ≡ (disk self.old).seen file }
+        ensures does { told → Does file Kept (disk self.old) (disk self.new) }
+        ensures cause { HasCause (faults self.old) (faults self.new) (IsErr result) };
+
+    /// Writes the bytes over what is there, and past the end.
+    fn write_at(&mut self, file: u32, at: u64, bytes: &[u8]) -> Result<(), Failed>
+        requires within { told → at ≤ length ((disk self.old).seen file) }
+        ensures seen { told → OnOk result ((disk self.new).seen file ≡ written at bytes.now ((disk self.old).seen file)) }
+        ensures torn { told → OnErr result (Torn at (length bytes.now) ((disk self.old).seen file) ((disk self.new).seen file)) }
+        ensures does { told → Does file (Torn at (length bytes.now)) (disk self.old) (disk self.new) }
+        ensures cause { HasCause (faults self.old) (faults self.new) (IsErr result) };
+
+    /// Cuts the file to a length.
+    fn cut(&mut self, file: u32, to: u64) -> Result<(), Failed>
+        requires within { told → to ≤ length ((disk self.old).seen file) }
+        ensures seen { told → OnOk result ((disk self.new).seen file ≡ take to ((disk self.old).seen file)) }
+        ensures torn { told → OnErr result (CutTo to ((disk self.old).seen file) ((disk self.new).seen file)) }
+        ensures does { told → Does file (CutTo to) (disk self.old) (disk self.new) }
+        ensures cause { HasCause (faults self.old) (faults self.new) (IsErr result) };
+
+    /// Brings the file to the disk, so that a crash leaves of it what a read gives.
+    fn sync(&mut self, file: u32) -> Result<(), Failed>
+        ensures durable { told → OnOk result (IsDurable (disk self.new) file) }
+        ensures seen { told → (disk self.new).seen file ≡ (disk self.old).seen file }
+        ensures does { told → Does file Kept (disk self.old) (disk self.new) }
+        ensures cause { HasCause (faults self.old) (faults self.new) (IsErr result) };
+
+    /// The clock of its disk goes with the images.
+    ghost clocked: { (vol : Self) → IsClocked (disk vol) };
+
+    /// A crash may leave each file as it reads.
+    ghost honest: { told → (vol : Self) → IsHonest (disk vol) };
+}
