@@ -1,6 +1,6 @@
 //! The queue of the pulls.
 
-ghost use Rattle.std.specs.Prelude.{◌≡◌, ◌≤◌, ◌↔◌, ◌++◌, [], ◌∷◌, length, find, slice_get, IsNone, OnOk, OnErr};
+ghost use Rattle.std.specs.Prelude.{◌≡◌, ◌≤◌, ◌↔◌, ◌++◌, [], ◌∷◌, length, find, slice_get, IsNone, IfOk, OnOk, OnErr};
 ghost use Rattle.std.specs.List.{list_any, position};
 ghost use Rattle.std.specs.Option.{option_copied};
 ghost use Rattle.js_model.specs.Deliver.{fits, front_served, served, without_first};
@@ -79,7 +79,7 @@ impl PullQueue {
         ensures value { option_copied result ≡ find (λ p. p.no_wait) self.now.pulls }
     {
         let place = self.no_wait_place()?;
-        self.pulls.get(place)
+        self.at(place as u64)
     }
 
     fn no_wait_place(&self) -> Option<usize>

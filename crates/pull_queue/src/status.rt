@@ -1,8 +1,8 @@
 //! What pulls are sent as time passes, as status messages.
 
 ghost use Rattle.std.specs.Prelude.{◌≡◌, ◌++◌, IfOk, OnOk, filter, map};
-ghost use Rattle.js_model.specs.Advance.{status_out, timeout, pull_beat, is_over, pull_comes};
-ghost use Rattle.pull_queue.specs.Passing.{going_on};
+ghost use Rattle.js_model.specs.Advance.{status_out, left_fields, timeout, pull_beat, is_over};
+ghost use Rattle.pull_queue.specs.Passing.{is_beaten};
 
 use crate::moments::{is_over, pull_comes};
 use js_base::{Blob, Moment, NoMemory, Out};
@@ -23,13 +23,20 @@ fn status_out(to: &Blob, block: Blob) -> Result<Out, NoMemory>
     })
 }
 
+/// What a pull is still owed, as the fields of a status block.
+fn left_fields(alloc: Global, pull: &Pull) -> Result<[(Blob, u64); 2], NoMemory>
+    ensures value { IfOk result (λ fields. fields ≡ left_fields pull.now) }
+{
+    let messages = Blob::of(alloc, b"Nats-Pending-Messages")?;
+    let bytes = Blob::of(alloc, b"Nats-Pending-Bytes")?;
+    Ok([(messages, pull.batch), (bytes, pull.bytes.unwrap_or(0))])
+}
+
 /// Tells a pull that it has ended, and what it is still owed.
 fn timeout(alloc: Global, pull: &Pull) -> Result<Out, NoMemory>
     ensures value { IfOk result (λ out. out ≡ timeout pull.now) }
 {
-    let messages = Blob::of(alloc, b"Nats-Pending-Messages")?;
-    let bytes = Blob::of(alloc, b"Nats-Pending-Bytes")?;
-    let left = [(messages, pull.batch), (bytes, pull.bytes.unwrap_or(0))];
+    let left = left_fields(alloc, pull)?;
     let block = write_status(alloc, 408, b"Request Timeout", &left)?;
     status_out(&pull.reply, block)
 }
@@ -59,14 +66,14 @@ pub(crate) fn put_timeouts(
     Ok(())
 }
 
-/// Adds the heartbeats to the pulls that go on.
+/// Adds the heartbeats to the pulls that go on, for which they have come.
 pub(crate) fn put_beats(
     alloc: Global,
     outs: &mut Vec<Out>,
     pulls: &[Pull],
     now: Moment,
 ) -> Result<(), NoMemory>
-    ensures ok { OnOk result (outs.new.items ≡ outs.old.items ++ map pull_beat (filter (pull_comes now) (going_on now pulls.now))) }
+    ensures ok { OnOk result (outs.new.items ≡ outs.old.items ++ map pull_beat (filter (is_beaten now) pulls.now)) }
 {
     for pull in pulls {
         if !is_over(pull, now) && pull_comes(pull, now) {
