@@ -1,0 +1,4 @@
+pub mod Places
+pub mod Quieter
+pub mod Passes
+pub mod Loops

@@ -1,0 +1,4 @@
+pub mod Queue
+pub mod Passing
+pub mod Fronts
+pub mod Quiet
