@@ -1,11 +1,1 @@
-mod Stages
-mod Outs
-mod Shorts
-mod OneStream
-mod Asked
-mod Defaults
-mod Published
-mod Publishes
-mod Walks
-mod Refused
-mod Texts
+mod ApiCalls

@@ -6,14 +6,13 @@ ghost use Rattle.js_api.specs.Api.{Performs};
 ghost use Rattle.js_api.specs.Leading.{Makes};
 ghost use Rattle.js_base.specs.Subjects.{is_subject_text};
 ghost use Rattle.js_model.specs.Proper.{if_given};
-ghost use Rattle.desk_calls.specs.Grounds.{Outside};
+ghost use Rattle.desk_ground.specs.Grounds.{Outside};
 
-use crate::account::show_account;
-use crate::asking::{delete_stream, show_stream};
-use crate::changing::update_stream;
-use crate::creating::create_stream;
-use crate::ground::Ground;
-use crate::listing::{list_names, list_streams};
+use desk_ground::Ground;
+use desk_streams::{
+    create_stream, delete_stream, list_names, list_streams, show_account, show_stream,
+    update_stream,
+};
 use js_api::{ApiRequest, DeskFault};
 use js_base::{Blob, Moment};
 

@@ -12,7 +12,7 @@ use Rattle.js_model.specs.Refusals.{first_refusal, other_config, subjects_overla
 use Rattle.js_model.specs.Catalog as catalog
 use Rattle.js_model.specs.Catalog.{Catalog, Place, catalog_call, telling, IsCatalogCall, place_named, is_used, free_place, edited, taken_by, added, added_at, add_checks, overlaps, overlaps_other, is_there}
 use Rattle.js_model.specs.Cataloging.{HasPlace}
-use Rattle.desk_calls.specs.Grounds.{Knows, IsKnown}
+use Rattle.desk_ground.specs.Grounds.{Knows, IsKnown}
 use Rattle.js_desk.proofs.Edits.{edited_there}
 use Rattle.js_desk.proofs.Found.{found, found_within, length-with_place}
 

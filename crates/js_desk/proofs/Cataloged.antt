@@ -12,8 +12,8 @@ use Rattle.js_model.specs.Catalog as catalog
 use Rattle.js_model.specs.Catalog.{Catalog, Place, Used, IsCatalogCall, catalog_call, telling, edited, on_used, changing, keeping, freed, stopping, overlaps_other}
 use Rattle.js_model.specs.Cataloging.{HasPlace, MayChange, add_told, change_told}
 use Rattle.place_engine.specs.InMemory.{Contents}
-use Rattle.desk_calls.specs.Grounds as phases
-use Rattle.desk_calls.specs.Grounds.{IsBetween, IsKnown, IsTold, Knows, MayStop}
+use Rattle.desk_ground.specs.Grounds as phases
+use Rattle.desk_ground.specs.Grounds.{IsBetween, IsKnown, IsTold, Knows, MayStop}
 use Rattle.js_desk.specs.declared.turn.Turn.{Turn}
 use Rattle.js_desk.specs.declared.turn.Turn.TheVariants as turns
 use Rattle.js_desk.specs.Grounds.{IsGrounded, after_change, is_between, phase_of, told_incarnation}

@@ -5,7 +5,7 @@ use Rattle.std.specs.Option.{IsSomeAnd}
 use Rattle.std.proofs.lemmas.Option.{slice_get_within}
 use Rattle.js_model.specs.declared.desk.PlaceAt.{PlaceAt}
 use Rattle.js_model.specs.Catalog.{Catalog, Place, Used, first_place, if_used, with_place}
-use Rattle.desk_calls.specs.Grounds.{Knows, IsKnown}
+use Rattle.desk_ground.specs.Grounds.{Knows, IsKnown}
 use Rattle.js_desk.specs.declared.turn.Turn.TheVariants.{Outside}
 use Rattle.js_desk.specs.Grounds.{AreSingle, HasOneList}
 

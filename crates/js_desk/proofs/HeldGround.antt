@@ -23,9 +23,9 @@ use Rattle.js_api.specs.Holding.{Holds}
 use Rattle.js_api.specs.Leading.{Leads, Makes}
 use Rattle.js_api.specs.Worlds.{Scene, SoloStep}
 use Rattle.desk_answers.specs.Became.{is_dropped}
-use Rattle.desk_calls.specs.Grounds as phases
-use Rattle.desk_calls.specs.Grounds.{IsKnown, Knows, Phase}
-use Rattle.desk_calls.specs.Outcomes.{IsThere, MayHold, phase_after}
+use Rattle.desk_ground.specs.Grounds as phases
+use Rattle.desk_ground.specs.Grounds.{IsKnown, Knows, Phase}
+use Rattle.desk_ground.specs.Outcomes.{IsThere, MayHold, phase_after}
 use Rattle.desk_hold.specs.OnePlace.{HoldsOn, on}
 use Rattle.js_desk.specs.declared.turn.Turn.{Turn}
 use Rattle.js_desk.specs.declared.turn.Turn.TheVariants as turns

@@ -10,8 +10,8 @@ use Rattle.js_api.specs.Entries.{Looked, Turned, Resumed}
 use Rattle.js_api.specs.Leading.{Makes}
 use Rattle.js_api.specs.Stages.{LooksUp}
 use Rattle.js_api.specs.Worlds.{place_or}
-use Rattle.desk_calls.specs.Grounds as phases
-use Rattle.desk_calls.specs.Grounds.{Phase}
+use Rattle.desk_ground.specs.Grounds as phases
+use Rattle.desk_ground.specs.Grounds.{Phase}
 use Rattle.js_desk.specs.declared.turn.Turn.{Turn}
 use Rattle.js_desk.specs.declared.turn.Turn.TheVariants as turns
 use Rattle.js_desk.specs.Grounds.{AreSingle, IsGrounded, SoloMade, phase_of, standing}

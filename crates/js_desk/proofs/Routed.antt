@@ -20,9 +20,9 @@ use Rattle.js_api.specs.Entries.{DeskEntry, Routed}
 use Rattle.js_api.specs.Leading.{Makes}
 use Rattle.js_api.specs.Publishing.{Offers}
 use Rattle.js_api.specs.Stages.{SendsOne}
-use Rattle.desk_calls.specs.Callers.{client_of}
-use Rattle.desk_calls.specs.declared.caller.Caller.{Caller}
-use Rattle.desk_calls.specs.Grounds.{Setting}
+use Rattle.desk_ground.specs.Callers.{client_of}
+use Rattle.desk_ground.specs.declared.caller.Caller.{Caller}
+use Rattle.desk_ground.specs.Grounds.{Setting}
 use Rattle.js_desk.specs.declared.turn.Turn.{Turn}
 use Rattle.js_desk.specs.Faults.{desk_answer, desk_fault, sent}
 use Rattle.js_desk.specs.Grounds.{SoloMade, setting_of, standing}

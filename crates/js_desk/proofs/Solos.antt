@@ -2,9 +2,9 @@
 use Rattle.std.proofs.Common.{◌≡◌, ◌≤◌, ℕ, List, length, sym, ap, subst, ◌∙◌}
 use Rattle.js_api.specs.Entries.{DeskEntry}
 use Rattle.js_api.specs.Leading.{Makes}
-use Rattle.desk_calls.specs.declared.caller.Caller.{Caller}
+use Rattle.desk_ground.specs.declared.caller.Caller.{Caller}
 use Rattle.js_model.specs.Router.{is_open}
-use Rattle.desk_calls.specs.Grounds.{Outside, Setting}
+use Rattle.desk_ground.specs.Grounds.{Outside, Setting}
 use Rattle.js_desk.specs.Grounds.{SoloMade, Standing, setting_of}
 use Rattle.js_desk.specs.Solo.{DeskMade, IsConsistent, solo}
 

@@ -13,8 +13,8 @@ use Rattle.js_api.specs.declared.outcome.Became.TheVariants.{Made, Unsaid, Ticke
 use Rattle.js_api.specs.Entries.{DeskEntry}
 use Rattle.js_api.specs.Leading.{Leads}
 use Rattle.js_api.specs.Worlds.{Scene, SoloStep}
-use Rattle.desk_calls.specs.Grounds.{Phase, Setting}
-use Rattle.desk_calls.specs.Grounds as phases
+use Rattle.desk_ground.specs.Grounds.{Phase, Setting}
+use Rattle.desk_ground.specs.Grounds as phases
 use Rattle.js_desk.specs.declared.turn.Turn.{Turn}
 use Rattle.js_desk.specs.declared.turn.Turn.TheVariants as turns
 

@@ -6,9 +6,9 @@ use Rattle.js_api.specs.Clients.{Client}
 use Rattle.js_api.specs.Entries.{DeskEntry}
 use Rattle.js_api.specs.Leading.{Leads}
 use Rattle.js_api.specs.Worlds.{Scene, SoloStep}
-use Rattle.desk_calls.specs.Callers.{client_of}
-use Rattle.desk_calls.specs.Grounds.{Outside}
-use Rattle.desk_calls.specs.declared.caller.Caller.{Caller}
+use Rattle.desk_ground.specs.Callers.{client_of}
+use Rattle.desk_ground.specs.Grounds.{Outside}
+use Rattle.desk_ground.specs.declared.caller.Caller.{Caller}
 use Rattle.js_desk.specs.Grounds.{Standing}
 
 -- what it stands on, its volumes, and the client of its session

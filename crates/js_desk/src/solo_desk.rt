@@ -15,9 +15,10 @@ use crate::faults::{Closed, HubFault};
 use crate::solo_ground::SoloGround;
 use crate::volumes::{give_back, open_places};
 use catalog::Catalog;
-use desk_calls::{
-    Caller, Ground, close, collect, make_stream, options, publish, settle, sub, tick, unsub,
-};
+use desk_calls::publish;
+use desk_ground::{Caller, Ground};
+use desk_messaging::{close, collect, options, settle, sub, tick, unsub};
+use desk_streams::make_stream;
 use js_api::{Desk, DeskFault};
 use js_base::{ApiError, Moment, Name, Out};
 use js_model::{Collected, Taken};

@@ -9,13 +9,13 @@ ghost use Rattle.js_model.specs.Routing.{waiting_for};
 ghost use Rattle.std.proofs.Common.{refl, ◌∙◌};
 ghost use Rattle.js_desk.specs.Dropping.{is_drop};
 ghost use Rattle.js_desk.specs.Grounds.{AreFresh, SoloMade, is_held, place_in, setting_of, volumes};
-ghost use Rattle.desk_calls.specs.Grounds.{Outside};
+ghost use Rattle.desk_ground.specs.Grounds.{Outside};
 ghost use Rattle.desk_answers.specs.Became.{is_dropped};
 
 use crate::faults::{desk_answer, sent};
 use crate::turn::Turn;
 use catalog::Catalog;
-use desk_calls::{Caller, Ground};
+use desk_ground::{Caller, Ground};
 use desk_hold::hold_on;
 use js_api::{Became, DeskFault, Outcome};
 use js_base::{Blob, Moment, Name, Out};

@@ -1,7 +1,9 @@
--- What a seat opened stays open and its own, as long as other seats make the calls.
-use Rattle.std.proofs.Common.{◌≡◌, ◌==◌, ◌+◌, ℕ, true, not, ◌||◌, List, [], ◌∷◌, sym, ap, ◌∙◌, subst, ◌⊎◌, inl, inr, arith}
+-- What a seat opened stays open and its own, and nothing else becomes its own, as long as other seats make the calls.
+use Rattle.std.proofs.Common.{◌≡◌, ◌==◌, ◌+◌, ℕ, Bool, true, false, not, cond, ◌||◌, ◌&&◌, List, [], ◌∷◌, refl, sym, ap, ◌∙◌, subst, ◌⊎◌, inl, inr, arith}
+use Rattle.std.specs.Prelude.{filter}
 use Rattle.std.specs.List.{list_any}
 use Rattle.std.proofs.lemmas.Bool.{true≢false, and_parts, or_cases, or_left, or_right, eqb-true, ne_eqb}
+use Rattle.std.proofs.Math.Bool.{or-false}
 use Rattle.std.proofs.lemmas.List.Folds.{list_any-append}
 use Rattle.std.proofs.lemmas.Map.Views.{any-filter_same}
 use Rattle.js_base.specs.Bytes.{has}
@@ -74,43 +76,80 @@ stands_open s seat n h k =
 
 -- ---- a call of another seat
 
--- a session is left in the openers if another one is closed
-others_stay : (seat m n : ℕ) (openers : Openers) → (m ≡ n → ⊥) → has_opened openers seat n ≡ true
-    → has_opened (without_session m openers) seat n ≡ true
-others_stay seat m n openers other h = any-filter_same (is_opener seat n) (λ o. not (o.session == m)) true at_another openers ∙ h
+-- what no item passes, none that is left passes
+none_filtered : {X : Type 0} (test keep : X → Bool) (xs : List X) → list_any test xs ≡ false → list_any test (filter keep xs) ≡ false
+none_filtered test keep [] h = refl
+none_filtered test keep (x ∷ xs) h = go (keep x) (or_none (test x) (list_any test xs) h) (none_filtered test keep xs)
+  where
+    or_none : (a b : Bool) → (a || b) ≡ false → (a ≡ false) × (b ≡ false)
+    or_none true b e = absurd (true≢false e)
+    or_none false b e = (refl, e)
+
+    go : (kept : Bool) → (test x ≡ false) × (list_any test xs ≡ false) → (list_any test xs ≡ false → list_any test (filter keep xs) ≡ false)
+        → list_any test (cond kept (x ∷ filter keep xs) (filter keep xs)) ≡ false
+    go true k later = ap (λ b. b || list_any test (filter keep xs)) k.0 ∙ later k.1
+    go false k later = later k.1
+
+-- a session is as it was in the openers if another one is closed
+others_stay : (seat m n : ℕ) (openers : Openers) → (m ≡ n → ⊥) → has_opened (without_session m openers) seat n ≡ has_opened openers seat n
+others_stay seat m n openers other = any-filter_same (is_opener seat n) (λ o. not (o.session == m)) true at_another openers
   where
     at_another : (o : Opener) → is_opener seat n o ≡ true → not (o.session == m) ≡ true
     at_another o k = ap not (ne_eqb o.session m (λ e. other (sym e ∙ opener_session seat n o k)))
 
-call_leaves : (s : SharedRouter) (by seat n : ℕ) (call : RouteCall) (told : RouteTold) → AreOpeners s → MayName s.openers by (named call)
-    → (by ≡ seat → ⊥) → has_opened s.openers seat n ≡ true
-    → has_opened (openers_after by call told s.openers) seat n ≡ true
-call_leaves s by seat n router.Open told h may other own = list_any-append (is_opener seat n) s.openers (new_openers by told) ∙ or_left _ _ own
-call_leaves s by seat n (router.Close m) told h may other own =
-    others_stay seat m n s.openers (λ e. other (opener_is s by seat n h (subst (λ (k : ℕ). has_opened s.openers by k ≡ true) e may) own)) own
-call_leaves s by seat n (router.Options m echo headers) told h may other own = own
-call_leaves s by seat n (router.Sub m pattern queue sid) told h may other own = own
-call_leaves s by seat n (router.Unsub m sid max) told h may other own = own
-call_leaves s by seat n (router.Publish out from) told h may other own = own
-call_leaves s by seat n (router.Interest subject queue) told h may other own = own
-call_leaves s by seat n (router.Collect m max) told h may other own = own
+module _ (s : SharedRouter) (by seat n : ℕ) (h : AreOpeners s) (other : by ≡ seat → ⊥) where
+  -- what others open is not the seat's
+  none_new : (told : RouteTold) → has_opened (new_openers by told) seat n ≡ false
+  none_new router.Done = refl
+  none_new (router.Opened m) = go (m == n) (by == seat) (ne_eqb by seat other)
+    where
+      go : (a b : Bool) → b ≡ false → ((a && b) || false) ≡ false
+      go true b e = ap (λ c. c || false) e
+      go false b e = refl
+  none_new (router.Taken count) = refl
+  none_new (router.Listens heard) = refl
+  none_new (router.Frames list more) = refl
+  none_new (router.Slow length) = refl
+  none_new (router.NoSession latest) = refl
+  none_new router.TooManySubs = refl
+  none_new router.Worn = refl
+  none_new router.NoMemory = refl
+
+  -- nobody but the opener closes a session
+  close_leaves : (m : ℕ) → has_opened s.openers by m ≡ true → (own : Bool) → has_opened s.openers seat n ≡ own
+      → has_opened (without_session m s.openers) seat n ≡ own
+  close_leaves m may true e =
+      others_stay seat m n s.openers (λ k. other (opener_is s by seat n h (subst (λ (i : ℕ). has_opened s.openers by i ≡ true) k may) e)) ∙ e
+  close_leaves m may false e = none_filtered (is_opener seat n) (λ o. not (o.session == m)) s.openers e
+
+  call_leaves : (call : RouteCall) (told : RouteTold) → MayName s.openers by (named call)
+      → has_opened (openers_after by call told s.openers) seat n ≡ has_opened s.openers seat n
+  call_leaves router.Open told may =
+      list_any-append (is_opener seat n) s.openers (new_openers by told) ∙ ap (λ b. has_opened s.openers seat n || b) (none_new told) ∙ or-false (has_opened s.openers seat n)
+  call_leaves (router.Close m) told may = close_leaves m may (has_opened s.openers seat n) refl
+  call_leaves (router.Options m echo headers) told may = refl
+  call_leaves (router.Sub m pattern queue sid) told may = refl
+  call_leaves (router.Unsub m sid max) told may = refl
+  call_leaves (router.Publish out from) told may = refl
+  call_leaves (router.Interest subject queue) told may = refl
+  call_leaves (router.Collect m max) told may = refl
 
 -- ---- runs
 
-stays_own : (seats : List ℕ) (seat n : ℕ) (old new : SharedRouter) (entries : List RouteEntry) → AreOpeners old → SeatRun old entries new
-    → has seats seat ≡ true → Lacks (is_by seats) entries
-    → has_opened old.openers seat n ≡ true → has_opened new.openers seat n ≡ true
-stays_own seats seat n old new [] h k among foreign own = subst (λ (s : SharedRouter). has_opened s.openers seat n ≡ true) k own
-stays_own seats seat n old new (entry ∷ entries) h k among foreign own =
-    stays_own seats seat n k.0 new entries (step_keeps old k.0 entry h k.1) k.2 among (lacks-tail foreign)
-    (ap (λ (os : Openers). has_opened os seat n) k.1.after ∙ call_leaves old entry.seat seat n entry.call entry.told h k.1.may other own)
+same_own : (seats : List ℕ) (seat n : ℕ) (old new : SharedRouter) (entries : List RouteEntry) → AreOpeners old → SeatRun old entries new
+    → has seats seat ≡ true → Lacks (is_by seats) entries → has_opened new.openers seat n ≡ has_opened old.openers seat n
+same_own seats seat n old new [] h k among foreign = ap (λ (s : SharedRouter). has_opened s.openers seat n) (sym k)
+same_own seats seat n old new (entry ∷ entries) h k among foreign =
+    same_own seats seat n k.0 new entries (step_keeps old k.0 entry h k.1) k.2 among (lacks-tail foreign)
+    ∙ ap (λ (os : Openers). has_opened os seat n) k.1.after
+    ∙ call_leaves old entry.seat seat n h other entry.call entry.told k.1.may
   where
     other : entry.seat ≡ seat → ⊥
     other e = true≢false (sym among ∙ ap (has seats) (sym e) ∙ lacks-head foreign)
 
 pub stays : (seats : List ℕ) (seat n : ℕ) (old new : SharedRouter) (entries : List RouteEntry) → AreOpeners old → SeatRun old entries new
     → has seats seat ≡ true → Lacks (is_by seats) entries
-    → has_opened old.openers seat n ≡ true → IsOwn seat n new
-stays seats seat n old new entries h k among foreign own =
-    let left = stays_own seats seat n old new entries h k among foreign own in
-    record { session_open = stands_open new seat n (run_keeps old new entries h k) left; own = left }
+    → (has_opened new.openers seat n ≡ has_opened old.openers seat n) × (has_opened old.openers seat n ≡ true → IsOwn seat n new)
+stays seats seat n old new entries h k among foreign =
+    let same = same_own seats seat n old new entries h k among foreign in
+    (same, λ own. record { session_open = stands_open new seat n (run_keeps old new entries h k) (same ∙ own); own = same ∙ own })

@@ -86,6 +86,11 @@ openers_after seat (Publish out from) told openers = openers
 openers_after seat (Interest subject queue) told openers = openers
 openers_after seat (Collect n max) told openers = openers
 
+-- the openers after these entries
+abbrev pub openers_by : Openers → List RouteEntry → Openers
+openers_by openers [] = openers
+openers_by openers (entry ∷ entries) = openers_by (openers_after entry.seat entry.call entry.told openers) entries
+
 -- the router's own step, by a seat that may make it
 pub record SeatStep (old : SharedRouter) (entry : RouteEntry) (new : SharedRouter) : Type 0 where
   pub route : IsRoute old.router entry.call entry.told new.router

@@ -1,6 +1,6 @@
 //! What holds of each run of a router that many seats share, by the definitions alone.
 
-ghost use Rattle.seat_laws.specs.Laws.{LawRoutes, LawOpening, LawOpeners, LawStays, LawAnswered, LawJoined, LawCut};
+ghost use Rattle.seat_laws.specs.Laws.{LawRoutes, LawOpening, LawOpeners, LawOpened, LawStays, LawAnswered, LawJoined, LawCut};
 
 /// The entries of a run of many seats are a run of the router.
 pub fn law_routes()
@@ -8,14 +8,15 @@ pub fn law_routes()
 {}
 
 /// The openers are just those of the open sessions, each session once: so it is of the empty router, and of each state that a run
-/// reaches from such a state.
+/// reaches from such a state. Which they are after a run, its entries alone decide.
 pub fn law_openers()
     ensures opening { LawOpening }
     ensures law { LawOpeners }
+    ensures opened { LawOpened }
 {}
 
-/// After a run from a state whose openers are just those of the open sessions, and none of whose entries is by one of some seats, each
-/// session that one of them had opened is still open, and is still its own.
+/// After a run from a state whose openers are just those of the open sessions, and none of whose entries is by one of some seats, one of them has
+/// opened just the sessions that it had opened before, and these are still open.
 pub fn law_stays()
     ensures law { LawStays }
 {}

@@ -2,16 +2,17 @@
 use Rattle.std.proofs.Common.{◌≡◌, ◌+◌, ℕ, List, [], ◌∷◌, Option, None, Some, Result, Ok, Err, inl, inr, arith, refl, sym, ◌∙◌, subst, option_map}
 use Rattle.std.specs.Prelude.{IfSome, ◌↔◌}
 use Rattle.js_base.specs.Bytes.{Bytes}
-use Rattle.js_base.specs.Causes.{HasCause, Rose, raised}
+use Rattle.js_base.specs.Causes.{HasCause, Rose}
 use Rattle.js_base.specs.declared.out.ApiError.{ApiError}
 use Rattle.js_model.specs.PlaceStates.{PlaceIn}
 use Rattle.link_edge.specs.Told.{grown}
-use Rattle.link_edge.specs.Failings.{no_failings}
+use Rattle.link_edge.specs.Failings.{HasNoFailings, no_failings}
 use Rattle.link_edge.specs.Reports.{Report, HasOut, IsFresh}
 use Rattle.link_edge.specs.declared.answers.Answer.{Answer}
 use Rattle.link_edge.specs.declared.answers.Accepted.{Accepted}
 use Rattle.link_edge.specs.declared.answers.Accepted.TheVariants as accepted
 use Rattle.link_edge.specs.declared.failings.Failings.{Failings}
+use Rattle.link_edge.specs.declared.failings.Starved.{Starved}
 use Rattle.js_api.specs.declared.fault.DeskFault.{DeskFault}
 use Rattle.js_api.specs.Worlds.{Scene}
 use Rattle.js_desk.specs.GivingBack.{Closes}
@@ -28,7 +29,7 @@ use Rattle.server.specs.declared.words.NamedStream.{NamedStream}
 use Rattle.server.specs.declared.words.Command.{Command}
 use Rattle.server.specs.declared.words.Command.TheVariants.{Pipe}
 use Rattle.server.specs.Outside.{DoorTold, SinkTold, Outside}
-use Rattle.server.specs.Accepting.{IsAccepted, IsQuiet}
+use Rattle.server.specs.Accepting.{IsAccepted, IsQuiet, NoneStarves, OneStarves}
 use Rattle.server.specs.Running.{IsUnserved, WasClosed, HasFailed, WasQuiet, HasStarved, WasUnasked, IsGivenBack, Waits, Unmakes, Attends, Unmade, Awaited, IsUnmade, PipeEnds, Unopened, Attended, CommandEnds, opened_of, pipe_limits, status_of}
 use Rattle.server.proofs.Arriving.{told_whole}
 
@@ -126,7 +127,7 @@ none_told (Told answer) ended failings h = cc
 none_told (Within turn begun calls) ended failings h = failed_by ended failings h
 none_told (Waiting moment) ended failings h = failed_by ended failings h
 
-failed_whole : (last : Last) (ended : Ended) (old new : Option Failings) → old ≡ option_map (λ _. no_failings) old → FailsAt last ended old new
+failed_whole : (last : Last) (ended : Ended) (old new : Option Failings) → HasNoFailings old → FailsAt last ended old new
     → IfSome new (λ failings. FailsAt last ended (Some no_failings) (Some failings))
 failed_whole last ended old None fresh h = tt
 failed_whole last ended None (Some failings) fresh h = absurd (none_told last ended failings h)
@@ -149,7 +150,7 @@ given_back limits desk new ended status a0 a1 g0 g1 n0 n1 f0 f1 gave b0 b1 c0 c1
     led = s.led.0;
     answered = told_whole a0 a1 (answers_of s.journal) fresh.silent s.answered;
     given = told_whole g0 g1 s.bytes fresh.unwritten s.given;
-    failings = failed_whole s.journal.last ended n0 n1 fresh.unfailing s.failings;
+    failings = failed_whole s.journal.last ended n0 n1 fresh.unfailing (s.failings fresh.unfailing);
     moments = s.moments;
     status_is = e;
     cause = λ three. subst (λ (n : ℕ). Rose n f1) fresh.unfailed (cause.failed (ended_by_link ended (sym e ∙ three)));
@@ -159,13 +160,13 @@ given_back limits desk new ended status a0 a1 g0 g1 n0 n1 f0 f1 gave b0 b1 c0 c1
 -- ---- the door
 
 -- a link came, was served and came back
-pub linked : (scene after : Scene) (status : ℕ) (a0 a1 a2 : Option (List Accepted)) (g0 g1 g2 : Option ℕ) (b0 b1 b2 : Option (List Report)) (n0 n1 n2 : Option ℕ) (f0 f2 : ℕ) (c0 c1 : Option (List ℕ)) (limits : Limits)
-    → limits ≡ pipe_limits → IsAccepted a0 a1 (accepted.Got ∷ []) → a2 ≡ a1 → g1 ≡ option_map (λ n. n + 1) g0 → g2 ≡ g1 → b1 ≡ b0 → n1 ≡ n0 → n2 ≡ n1
+pub linked : (scene after : Scene) (status : ℕ) (a0 a1 a2 : Option (List Accepted)) (g0 g1 g2 : Option ℕ) (b0 b1 b2 : Option (List Report)) (n0 n1 n2 : Option Starved) (f0 f2 : ℕ) (c0 c1 : Option (List ℕ)) (limits : Limits)
+    → limits ≡ pipe_limits → IsAccepted a0 a1 (accepted.Got ∷ []) → a2 ≡ a1 → g1 ≡ option_map (λ n. n + 1) g0 → g2 ≡ g1 → b1 ≡ b0 → NoneStarves n0 n1 → n2 ≡ n1
     → IsGivenBack limits scene after status g1 b1 b2 c0 c1
     → Waits scene after status (record { answered = a0; gave = g0; back = b0; starved = n0; faults = f0 }) (record { answered = a2; gave = g2; back = b2; starved = n2; faults = f2 }) c0 c1
 linked scene after status a0 a1 a2 g0 g1 g2 b0 b1 b2 n0 n1 n2 f0 f2 c0 c1 limits l came a gave g b n m given = inr (record {
   accepts = record { quiets = came.quiets; few = came.few; answered = a ∙ came.answered };
-  starved = m ∙ n;
+  starved = λ none. m ∙ n none;
   gave = g ∙ gave;
   given_back = subst (λ (most : Limits). IsGivenBack most scene after status g2 b0 b2 c0 c1) l
       (subst (λ (back : Option (List Report)). IsGivenBack limits scene after status g2 back b2 c0 c1) b
@@ -173,20 +174,20 @@ linked scene after status a0 a1 a2 g0 g1 g2 b0 b1 b2 n0 n1 n2 f0 f2 c0 c1 limits
 })
 
 -- no link came
-module _ (scene : Scene) (a0 a1 : Option (List Accepted)) (g0 g1 : Option ℕ) (b0 b1 : Option (List Report)) (n0 n1 : Option ℕ) (f0 f1 : ℕ) (c : Option (List ℕ)) (gave : g1 ≡ g0) (back : b1 ≡ b0) where
+module _ (scene : Scene) (a0 a1 : Option (List Accepted)) (g0 g1 : Option ℕ) (b0 b1 : Option (List Report)) (n0 n1 : Option Starved) (f0 f1 : ℕ) (c : Option (List ℕ)) (gave : g1 ≡ g0) (back : b1 ≡ b0) where
   abbrev Unlinked : ℕ → Type 0
   Unlinked status = Waits scene scene status (record { answered = a0; gave = g0; back = b0; starved = n0; faults = f0 }) (record { answered = a1; gave = g1; back = b1; starved = n1; faults = f1 }) c c
 
-  pub was_closed : n1 ≡ n0 → IsAccepted a0 a1 (accepted.Closed ∷ []) → Unlinked 0
+  pub was_closed : NoneStarves n0 n1 → IsAccepted a0 a1 (accepted.Closed ∷ []) → Unlinked 0
   was_closed n a = inl (record { gave = gave; back = back; idle = refl; unread = refl; unserved = WasClosed refl a n })
 
-  pub has_failed : n1 ≡ n0 → Rose f0 f1 → IsAccepted a0 a1 (accepted.Failed ∷ []) → Unlinked 8
+  pub has_failed : NoneStarves n0 n1 → Rose f0 f1 → IsAccepted a0 a1 (accepted.Failed ∷ []) → Unlinked 8
   has_failed n r a = inl (record { gave = gave; back = back; idle = refl; unread = refl; unserved = HasFailed refl r a n })
 
-  pub was_quiet : n1 ≡ n0 → IsQuiet a0 a1 → Unlinked 6
+  pub was_quiet : NoneStarves n0 n1 → IsQuiet a0 a1 → Unlinked 6
   was_quiet n a = inl (record { gave = gave; back = back; idle = refl; unread = refl; unserved = WasQuiet refl a n })
 
-  pub has_starved : n1 ≡ option_map raised n0 → IsAccepted a0 a1 [] → Unlinked 7
+  pub has_starved : OneStarves n0 n1 → IsAccepted a0 a1 [] → Unlinked 7
   has_starved n a = inl (record { gave = gave; back = back; idle = refl; unread = refl; unserved = HasStarved refl a n })
 
   pub was_unasked : n1 ≡ n0 → a1 ≡ a0 → Unlinked 7

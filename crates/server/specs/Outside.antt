@@ -5,13 +5,15 @@ use Rattle.link_edge.specs.Told.{grown}
 use Rattle.js_base.specs.Causes.{Rose}
 use Rattle.link_edge.specs.Reports.{Report}
 use Rattle.link_edge.specs.declared.answers.Accepted.{Accepted}
+use Rattle.link_edge.specs.declared.failings.Starved.{Starved}
 
--- what a door tells: what it answered, how many links it gave out, what came back, how often an accept found no memory, and how often it failed
+-- what a door tells: what it answered, how many links it gave out, what came back, what it counts of accepts that found no memory, and how often
+-- it failed
 pub record DoorTold : Type 0 where
   pub answered : Option (List Accepted)
   pub gave : Option ℕ
   pub back : Option (List Report)
-  pub starved : Option ℕ
+  pub starved : Option Starved
   pub faults : ℕ
 
 -- what a sink tells: what was printed to it, and how often it failed

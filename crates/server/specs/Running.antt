@@ -2,7 +2,7 @@
 use Rattle.std.specs.Prelude.{◌≡◌, ℕ, ◌+◌, Bool, true, false, ◌&&◌, ◌==◌, ◌⊎◌, List, [], ◌∷◌, length, replicate, Option, Some, None, IfSome, codes, option_map, Result, Ok, Err, if◌then◌else◌}
 use mathlib.Core.Logic.{inl, inr}
 use Rattle.js_base.specs.Bytes.{Bytes}
-use Rattle.js_base.specs.Causes.{Rose, raised}
+use Rattle.js_base.specs.Causes.{Rose}
 use Rattle.js_base.specs.declared.out.ApiError.{ApiError}
 use Rattle.js_model.specs.PlaceStates.{PlaceIn, vacant_place}
 use Rattle.link_edge.specs.Told.{grown}
@@ -27,7 +27,7 @@ use Rattle.server.specs.declared.words.NamedStream.{NamedStream}
 use Rattle.server.specs.declared.words.Command.{Command}
 use Rattle.server.specs.declared.words.Command.TheVariants.{Pipe}
 use Rattle.server.specs.Outside.{DoorTold, SinkTold, Outside, Prints, number_line}
-use Rattle.server.specs.Accepting.{IsAccepted, IsQuiet}
+use Rattle.server.specs.Accepting.{IsAccepted, IsQuiet, NoneStarves, OneStarves}
 use Rattle.server.specs.Preparing.{Prepares}
 
 -- a gigabyte of input, and a million takes in a row that are quiet
@@ -46,8 +46,8 @@ status_of ends.NoMemory = 7
 -- ---- the session
 
 -- A link with this report was served over a desk in this scene: it was given the bytes of a talk over just what it answered and the moments that
--- the clock told, and the talk's entries led the desk on. The status tells how the talk ended. One give failed at most, one call of the link
--- found no memory at most, and then the talk ended so.
+-- the clock told, and the talk's entries led the desk on. The status tells how the talk ended. One give failed at most, or one call of the link
+-- found no memory at most; then the talk ended so, and no call of the link came after that one.
 pub record IsServed (limits : Limits) (scene after : Scene) (status : ℕ) (report : Report) (clock_old clock_new : Option (List ℕ)) : Type 0 where
   pub journal : Journal
   pub bytes : Bytes
@@ -69,13 +69,13 @@ pub record IsGivenBack (limits : Limits) (scene after : Scene) (status : ℕ) (g
 
 -- ---- the door
 
--- why no link was served: the door was closed, it failed, it was quiet a million times, an accept found no memory, or memory ran out before the
--- door was asked
+-- why no link was served: the door was closed, it failed, it was quiet a million times, the last accept found no memory, or memory ran out before
+-- the door was asked
 pub data IsUnserved (status : ℕ) (old new : DoorTold) : Type 0 where
-  WasClosed : status ≡ 0 → IsAccepted old.answered new.answered (accepted.Closed ∷ []) → new.starved ≡ old.starved → IsUnserved status old new
-  HasFailed : status ≡ 8 → Rose old.faults new.faults → IsAccepted old.answered new.answered (accepted.Failed ∷ []) → new.starved ≡ old.starved → IsUnserved status old new
-  WasQuiet : status ≡ 6 → IsQuiet old.answered new.answered → new.starved ≡ old.starved → IsUnserved status old new
-  HasStarved : status ≡ 7 → IsAccepted old.answered new.answered [] → new.starved ≡ option_map raised old.starved → IsUnserved status old new
+  WasClosed : status ≡ 0 → IsAccepted old.answered new.answered (accepted.Closed ∷ []) → NoneStarves old.starved new.starved → IsUnserved status old new
+  HasFailed : status ≡ 8 → Rose old.faults new.faults → IsAccepted old.answered new.answered (accepted.Failed ∷ []) → NoneStarves old.starved new.starved → IsUnserved status old new
+  WasQuiet : status ≡ 6 → IsQuiet old.answered new.answered → NoneStarves old.starved new.starved → IsUnserved status old new
+  HasStarved : status ≡ 7 → IsAccepted old.answered new.answered [] → OneStarves old.starved new.starved → IsUnserved status old new
   WasUnasked : status ≡ 7 → new.answered ≡ old.answered → new.starved ≡ old.starved → IsUnserved status old new
 
 -- no link was given out, the desk is as it was, and the clock was not read
@@ -89,7 +89,7 @@ pub record NoLink (scene after : Scene) (status : ℕ) (old new : DoorTold) (clo
 -- a link was given out at the first answer that was not quiet, and it was served over a desk in this scene
 pub record IsLinkServed (scene after : Scene) (status : ℕ) (old new : DoorTold) (clock_old clock_new : Option (List ℕ)) : Type 0 where
   pub accepts : IsAccepted old.answered new.answered (accepted.Got ∷ [])
-  pub starved : new.starved ≡ old.starved
+  pub starved : NoneStarves old.starved new.starved
   pub gave : new.gave ≡ option_map (λ n. n + 1) old.gave
   pub given_back : IsGivenBack pipe_limits scene after status new.gave old.back new.back clock_old clock_new
 

@@ -3,10 +3,9 @@
 ghost use Rattle.std.specs.Prelude.{◌≡◌, ◌≤◌, ◌<◌, ◌^◌, false, true, IfOk};
 ghost use Rattle.js_base.specs.Causes.{HasCause};
 ghost use Rattle.link_edge.specs.Accepts.{IfGot, gave_after};
-ghost use Rattle.link_edge.specs.Failings.{after_accept};
 ghost use Rattle.link_edge.specs.Reports.{IsFresh};
 ghost use Rattle.session.specs.Host.{is_plain};
-ghost use Rattle.server.specs.Accepting.{Arrives};
+ghost use Rattle.server.specs.Accepting.{Arrives, Starves};
 ghost use Rattle.server.specs.Running.{pipe_limits, status_of, IsGivenBack, Waits};
 
 use js_base::{Blob, NoMemory};
@@ -48,7 +47,7 @@ fn accept<R: Door>(door: &mut R) -> Accept<R::Link>
     ensures arrives { Arrives result (R.answered door.old) (R.answered door.new) }
     ensures gave { R.gave door.new ≡ gave_after (R.gave door.old) result }
     ensures back { R.back door.new ≡ R.back door.old }
-    ensures starved { R.starved door.new ≡ after_accept result (R.starved door.old) }
+    ensures starved { Starves result (R.starved door.old) (R.starved door.new) }
     ensures fresh { IfGot result (λ link. IsFresh (R.Link.answered link) (R.Link.given link) (R.Link.failings link) (R.Link.faults link)) }
     ensures cause { HasCause (R.faults door.old) (R.faults door.new) (result ≡ Accept.Failed) }
 {

@@ -1,9 +1,8 @@
 use Rattle.std.proofs.Common.{refl}
 use Rattle.js_api.specs.Answering.{Took}
 use Rattle.js_api.specs.Calls.{Publishes}
-use Rattle.desk_calls.specs.Callers.{client_of}
-use Rattle.desk_calls.proofs.Stages.{if_not, if_so, nothing, opposite_false, opposite_true}
-use Rattle.desk_calls.proofs.Publishes.{answered}
+use Rattle.desk_ground.specs.Callers.{client_of}
+use Rattle.desk_ground.proofs.Stages.{answered, if_not, if_so, nothing, opposite_false, opposite_true}
 use Rattle.desk_calls.proofs.publishing.publish.Goals as goal
 
 pub returns-then-not-caller-clause-made : goal.returns-then-not-caller-clause-made

@@ -1,8 +1,8 @@
 use Rattle.std.proofs.Common.{sym, ◌∙◌}
 use Rattle.js_api.specs.Api.{PublishesToApi}
 use Rattle.js_api.specs.Publishing.{PublishesPlain, PublishesToNobody}
-use Rattle.desk_calls.specs.Callers.{client_of}
-use Rattle.desk_calls.proofs.Stages.{if_not, if_so}
+use Rattle.desk_ground.specs.Callers.{client_of}
+use Rattle.desk_ground.proofs.Stages.{if_not, if_so}
 use Rattle.desk_calls.proofs.publishing.publish_open.Goals as goal
 
 pub returns-then-is_api-clause-made : goal.returns-then-is_api-clause-made

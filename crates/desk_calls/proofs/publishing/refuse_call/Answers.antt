@@ -1,7 +1,7 @@
 use Rattle.std.proofs.Common.{Err}
 use Rattle.js_api.specs.Api.{CarriesOut, TakesByApi}
-use Rattle.desk_calls.specs.Callers.{client_of}
-use Rattle.desk_calls.proofs.Stages.{goes_on, stops_by}
+use Rattle.desk_ground.specs.Callers.{client_of}
+use Rattle.desk_ground.proofs.Stages.{goes_on, stops_by}
 use Rattle.desk_calls.proofs.publishing.refuse_call.Goals as goal
 
 pub returns-in_err-taken-clause-made : goal.returns-in_err-taken-clause-made

@@ -1,5 +1,5 @@
 use Rattle.std.proofs.Common.{refl}
-use Rattle.desk_calls.proofs.Stages.{if_not, if_so, nothing}
+use Rattle.desk_ground.proofs.Stages.{if_not, if_so, nothing}
 use Rattle.desk_calls.proofs.publishing.taken_by_api.Goals as goal
 
 pub returns-then-taken-clause-made : goal.returns-then-taken-clause-made

@@ -1,4 +1,4 @@
-use Rattle.std.proofs.Common.{◌≤◌, ◌+◌, ◌∙◌, ap, sym, length, take, drop, arith, refl}
+use Rattle.std.proofs.Common.{◌≤◌, ◌+◌, ap, sym, length, take, drop, arith}
 use Rattle.std.proofs.lemmas.List.{take-append-le, length-take-le}
 use Rattle.session.proofs.Turned.{turned_heard, turned_cut, turned_quiet, turned_closed, turned_failed, turned_starved}
 use Rattle.session.proofs.Failed.{call_passes, call_starves, none_after, fails_after, fails_in_after}

@@ -1,0 +1,5 @@
+pub mod Stages
+mod Outs
+pub mod Shorts
+pub mod OneStream
+mod Texts

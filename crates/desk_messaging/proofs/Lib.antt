@@ -1,0 +1,2 @@
+mod Published
+mod Publishes

@@ -1,0 +1,5 @@
+mod Asked
+mod Cataloging
+mod Defaults
+mod Refused
+mod Walks

@@ -1,0 +1,4 @@
+pub use Rattle.stream_config.specs.Defaults
+pub mod MakingAt
+pub mod Refusing
+pub mod Walking

@@ -1,0 +1,19 @@
+//! The calls of the JetStream API on streams and on the account, and the making of the stream that the command line names.
+#![tactic(auto)]
+
+mod account;
+mod asking;
+mod changing;
+mod creating;
+mod freeing;
+mod listing;
+mod making;
+mod refusing;
+mod walking;
+
+pub use account::show_account;
+pub use asking::{delete_stream, show_stream};
+pub use changing::update_stream;
+pub use creating::create_stream;
+pub use listing::{list_names, list_streams};
+pub use making::make_stream;

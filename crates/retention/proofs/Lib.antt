@@ -1,0 +1,5 @@
+pub mod Splitting
+pub mod Keeping
+pub mod Dropping
+pub mod Following
+pub mod Walking
