@@ -1,5 +1,5 @@
 -- One hold on a place: what was asked of it at a moment is made there, deliveries follow, and all that these send is routed.
-use Rattle.std.specs.Prelude.{◌≡◌, ◌⊎◌, ◌≤◌, ◌+◌, ◌-◌, ◌^◌, ℕ, Bool, true, false, List, [], ◌∷◌, ◌++◌, length, filter, map, sum_by, MatchOption, Option, Some, None, if◌then◌else◌}
+use Rattle.std.specs.Prelude.{◌≡◌, ◌≢◌, ◌⊎◌, ◌≤◌, ◌+◌, ◌-◌, ◌^◌, ℕ, Bool, true, false, List, [], ◌∷◌, ◌++◌, length, filter, map, sum_by, MatchOption, Option, Some, None, if◌then◌else◌}
 use Rattle.js_base.specs.Bytes.{Bytes, is_empty}
 use Rattle.js_base.specs.declared.out.Out.{Out}
 use Rattle.js_model.specs.declared.stream.State.{State}
