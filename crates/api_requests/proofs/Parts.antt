@@ -1,5 +1,5 @@
 -- What is read of the parts of calls is valid.
-use Rattle.std.proofs.Common.{◌≡◌, ℕ, nat_lt, ◌^◌, ℤ, pos, negsuc, [], ◌∷◌, Bool, true, false, length, Option, Some, None, Result, Ok, Err, codes, refl, sym, ap, subst, if◌then◌else◌}
+use Rattle.std.proofs.Common.{◌≡◌, ℕ, nat_lt, [], ◌∷◌, Bool, true, false, length, Option, Some, None, Result, Ok, Err, codes, refl, sym, ap, subst, if◌then◌else◌}
 use Rattle.std.specs.Prelude.{unwrap_or}
 use Rattle.serde_json.specs.Data.{Members}
 use Rattle.js_base.specs.Bytes.{Bytes}

@@ -1,5 +1,5 @@
 -- Refusals whose texts are ASCII.
-use Rattle.std.proofs.Common.{◌≡◌, ℕ, nat_lt, ◌++◌, Bool, true, false, Result, Ok, Err, codes, subst, if◌then◌else◌}
+use Rattle.std.proofs.Common.{◌≡◌, nat_lt, Bool, true, false, Result, Ok, Err, subst, if◌then◌else◌}
 use Rattle.std.specs.List.{list_all}
 use Rattle.js_base.specs.Bytes.{Bytes}
 use Rattle.js_base.specs.declared.out.ApiError.{ApiError}

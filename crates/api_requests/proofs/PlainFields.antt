@@ -1,5 +1,5 @@
 -- The texts of the refusals of one field are ASCII, if its name is.
-use Rattle.std.proofs.Common.{◌≡◌, ℕ, nat_lt, ◌^◌, ℤ, pos, negsuc, Bool, true, Option, Some, None, Result, Ok, Err}
+use Rattle.std.proofs.Common.{◌≡◌, nat_lt, ◌^◌, ℤ, pos, negsuc, Bool, true, Option, Some, None, Result, Ok, Err}
 use Rattle.serde_json.specs.Data.{Members}
 use Rattle.js_base.specs.Bytes.{Bytes}
 use Rattle.js_base.specs.Subjects.{is_pattern_text, is_subject_text}

@@ -8,7 +8,7 @@ use Rattle.js_json.specs.declared.fault.JsonFault.{JsonFault}
 use Rattle.js_json.specs.Fields.{number_in as integer_in}
 use Rattle.js_model.specs.Configs.{is_number}
 use Rattle.js_model.specs.Proper.{if_given}
-use Rattle.api_requests.specs.Fields.{small_number, number_told, number_in, unless_0, positive_in, text_in, only, pattern_in, subject_in}
+use Rattle.api_requests.specs.Fields.{number_told, number_in, unless_0, positive_in, text_in, only, pattern_in, subject_in}
 use Rattle.api_requests.proofs.Steps.{after}
 
 -- ---- numbers

@@ -1,5 +1,5 @@
 -- Worked examples of the calls on stored messages.
-use Rattle.std.specs.Prelude.{◌≡◌, List, [], ◌∷◌, Option, Some, None, Result, Ok, Err, codes, refl}
+use Rattle.std.specs.Prelude.{◌≡◌, [], Option, Some, None, Result, Ok, Err, codes, refl}
 use Rattle.std.specs.Str.{is_utf8, chars}
 use lib.Utf8.{encode}
 use Rattle.serde_json.proofs.OnLiterals.{serde_json_on_literals}
@@ -14,7 +14,7 @@ use Rattle.api_requests.specs.declared.request.ApiRequest.TheVariants as request
 use Rattle.api_requests.specs.Fields.{number_in, positive_in, text_in, pattern_in, subject_in}
 use Rattle.api_requests.specs.Bodies.{object_in, stream_name}
 use Rattle.api_requests.specs.Messages.{purge_in, message_in, sequence_in}
-use Rattle.api_requests.specs.Requests.{general_request, stream_request, request_of}
+use Rattle.api_requests.specs.Requests.{stream_request, request_of}
 
 -- ---- purges
 

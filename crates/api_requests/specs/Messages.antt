@@ -1,6 +1,6 @@
 -- What is read of the bodies of the calls on stored messages, by the JetStream API reference: a purge, and reading and deleting one message. The fields
 -- are looked at in ascending order of their names; a rule between two stands at the one that its refusal names.
-use Rattle.std.specs.Prelude.{ℕ, Bool, ◌&&◌, [], codes, Option, Some, None, unwrap_or, is_some, Result, Ok, Err, if◌then◌else◌}
+use Rattle.std.specs.Prelude.{ℕ, ◌&&◌, [], codes, Option, Some, None, unwrap_or, is_some, Result, Ok, Err, if◌then◌else◌}
 use Rattle.serde_json.specs.Data.{Members}
 use Rattle.js_base.specs.Bytes.{Bytes}
 use Rattle.js_base.specs.declared.out.ApiError.{ApiError}

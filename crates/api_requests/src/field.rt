@@ -25,16 +25,17 @@ pub(crate) fn number_in(alloc: Global, fields: &Fields, name: &str) -> Result<Op
         Ok(None) => Ok(None),
         Ok(Some(number)) if 0 <= number && number < NUMBERS_END => Ok(Some(number as u64)),
         Err(JsonFault::NoMemory) => Err(ApiFault::NoMemory),
-        _ => Err(ApiFault::Refused(invalid_value(
-            alloc,
-            name.as_bytes(),
-        )?)),
+        _ => Err(ApiFault::Refused(invalid_value(alloc, name.as_bytes())?)),
     }
 }
 
 /// The same, and 0 counts as absent.
 #[tactic(auto, unfolding(crate::specs::Fields::positive_in))]
-pub(crate) fn positive_in(alloc: Global, fields: &Fields, name: &str) -> Result<Option<u64>, ApiFault>
+pub(crate) fn positive_in(
+    alloc: Global,
+    fields: &Fields,
+    name: &str,
+) -> Result<Option<u64>, ApiFault>
     ensures reading { Reads result (positive_in name.now (members fields.now)) }
 {
     match number_in(alloc, fields, name)? {
@@ -59,10 +60,7 @@ fn text_in(alloc: Global, fields: &Fields, name: &str) -> Result<Option<Blob>, A
         Ok(Some(text)) => Ok(unless_empty(text)),
         Ok(None) => Ok(None),
         Err(JsonFault::NoMemory) => Err(ApiFault::NoMemory),
-        Err(_) => Err(ApiFault::Refused(invalid_value(
-            alloc,
-            name.as_bytes(),
-        )?)),
+        Err(_) => Err(ApiFault::Refused(invalid_value(alloc, name.as_bytes())?)),
     }
 }
 
@@ -72,16 +70,17 @@ fn only_pattern(alloc: Global, name: &str, text: Blob) -> Result<Option<Blob>, A
 {
     match check_pattern(text.as_slice()) {
         Ok(()) => Ok(Some(text)),
-        Err(_) => Err(ApiFault::Refused(invalid_value(
-            alloc,
-            name.as_bytes(),
-        )?)),
+        Err(_) => Err(ApiFault::Refused(invalid_value(alloc, name.as_bytes())?)),
     }
 }
 
 /// The pattern in the field, if the text is not empty.
 #[tactic(auto, unfolding(crate::specs::Fields::pattern_in))]
-pub(crate) fn pattern_in(alloc: Global, fields: &Fields, name: &str) -> Result<Option<Blob>, ApiFault>
+pub(crate) fn pattern_in(
+    alloc: Global,
+    fields: &Fields,
+    name: &str,
+) -> Result<Option<Blob>, ApiFault>
     ensures reading { Reads result (pattern_in name.now (members fields.now)) }
 {
     match text_in(alloc, fields, name)? {
@@ -96,16 +95,17 @@ fn only_subject(alloc: Global, name: &str, text: Blob) -> Result<Option<Blob>, A
 {
     match check_subject(text.as_slice()) {
         Ok(()) => Ok(Some(text)),
-        Err(_) => Err(ApiFault::Refused(invalid_value(
-            alloc,
-            name.as_bytes(),
-        )?)),
+        Err(_) => Err(ApiFault::Refused(invalid_value(alloc, name.as_bytes())?)),
     }
 }
 
 /// The subject without wildcards in the field, if the text is not empty.
 #[tactic(auto, unfolding(crate::specs::Fields::subject_in))]
-pub(crate) fn subject_in(alloc: Global, fields: &Fields, name: &str) -> Result<Option<Blob>, ApiFault>
+pub(crate) fn subject_in(
+    alloc: Global,
+    fields: &Fields,
+    name: &str,
+) -> Result<Option<Blob>, ApiFault>
     ensures reading { Reads result (subject_in name.now (members fields.now)) }
 {
     match text_in(alloc, fields, name)? {
@@ -119,10 +119,7 @@ pub(crate) fn nothing_in(alloc: Global, fields: &Fields, name: &str) -> Result<(
     ensures reading { Reads result (nothing_in name.now (members fields.now)) }
 {
     if fields.given(name) {
-        Err(ApiFault::Refused(not_supported(
-            alloc,
-            name.as_bytes(),
-        )?))
+        Err(ApiFault::Refused(not_supported(alloc, name.as_bytes())?))
     } else {
         Ok(())
     }
