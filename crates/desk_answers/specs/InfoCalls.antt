@@ -1,4 +1,4 @@
--- Calls of the JetStream API that a stream answers by its information.
+-- Calls of the JetStream API that a stream answers by its information, and those that it answers by their success alone.
 use Rattle.js_model.specs.declared.reply.StreamInfo.{StreamInfo}
 use Rattle.api_calls.specs.declared.call.ApiCall.{ApiCall}
 use Rattle.api_calls.specs.declared.call.ApiCall.TheVariants as calls
@@ -6,6 +6,8 @@ use Rattle.api_replies.specs.declared.reply.ApiReply.{ApiReply}
 use Rattle.api_replies.specs.declared.reply.ApiReply.TheVariants as replies
 use Rattle.desk_answers.specs.declared.answering.InfoCall.{InfoCall}
 use Rattle.desk_answers.specs.declared.answering.InfoCall.TheVariants.{Create, Update, Info}
+use Rattle.desk_answers.specs.declared.answering.DoneCall.{DoneCall}
+use Rattle.desk_answers.specs.declared.answering.DoneCall.TheVariants.{Delete, MsgDelete}
 
 abbrev pub call_of : InfoCall → ApiCall
 call_of Create = calls.StreamCreate
@@ -16,3 +18,11 @@ abbrev pub answer_by : InfoCall → StreamInfo → ApiReply
 answer_by Create = replies.StreamCreate
 answer_by Update = replies.StreamUpdate
 answer_by Info = replies.StreamInfo
+
+abbrev pub done_call_of : DoneCall → ApiCall
+done_call_of Delete = calls.StreamDelete
+done_call_of MsgDelete = calls.StreamMsgDelete
+
+abbrev pub success_of : DoneCall → ApiReply
+success_of Delete = replies.StreamDelete
+success_of MsgDelete = replies.StreamMsgDelete

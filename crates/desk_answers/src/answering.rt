@@ -7,16 +7,16 @@ ghost use Rattle.api_calls.specs.Names.{name_of};
 ghost use Rattle.api_replies.specs.Printed.{InfoIsText, IsText};
 ghost use Rattle.api_replies.specs.Replies.{reply_text};
 ghost use Rattle.api_replies.specs.declared.reply.ApiReply.TheVariants as replies;
-ghost use Rattle.js_api.specs.Outputs.{answer_of, api_reply, dropped, informed, text_for};
+ghost use Rattle.js_api.specs.Outputs.{answer_of, api_reply, finished, informed, purged, read, text_for};
 ghost use Rattle.js_model.specs.Proper.{reply_of};
 ghost use Rattle.place_engine.specs.Shown.{IsShown};
-ghost use Rattle.desk_answers.specs.InfoCalls.{answer_by, call_of};
+ghost use Rattle.desk_answers.specs.InfoCalls.{answer_by, call_of, done_call_of, success_of};
 
 use crate::copying::copy_info;
 use crate::replying::message_to;
 use js_api::{ApiCall, ApiReply, publish_text, reply_text};
 use js_base::{ApiError, Blob, NoMemory, Out};
-use js_model::{Publish, Reply, StreamInfo, What};
+use js_model::{Publish, Reply, StreamInfo, What, copy_message};
 use std::alloc::Global;
 
 /// The refusal of this call.
@@ -90,21 +90,97 @@ fn informed(alloc: Global, call: InfoCall, reply: &Reply) -> Result<Option<ApiRe
     }
 }
 
-/// How the dropping of a stream is answered.
-fn deleted(alloc: Global, reply: &Reply) -> Result<Option<ApiReply>, NoMemory>
+/// A call that a stream answers by its success.
+#[derive(Clone, Copy)]
+enum DoneCall {
+    Delete,
+    MsgDelete,
+}
+
+impl DoneCall {
+    /// The call of the API.
+    fn call(self) -> ApiCall
+        ensures value { result ≡ done_call_of self }
+    {
+        match self {
+            DoneCall::Delete => ApiCall::StreamDelete,
+            DoneCall::MsgDelete => ApiCall::StreamMsgDelete,
+        }
+    }
+
+    /// The answer that tells the success.
+    fn answer(self) -> ApiReply
+        ensures value { result ≡ success_of self }
+        ensures texts { IsText result }
+    {
+        match self {
+            DoneCall::Delete => ApiReply::StreamDelete,
+            DoneCall::MsgDelete => ApiReply::StreamMsgDelete,
+        }
+    }
+}
+
+/// How such a call is answered.
+fn finished(alloc: Global, call: DoneCall, reply: &Reply) -> Result<Option<ApiReply>, NoMemory>
     requires shown { IsShown reply.now }
-    ensures value { IfOk result (λ told. told ≡ dropped reply.now) }
+    ensures value { IfOk result (λ told. told ≡ finished (success_of call) (name_of (done_call_of call)) reply.now) }
     ensures texts { IfOk result (λ told. IfSome told IsText) }
 {
     match reply {
-        Reply::Done => Ok(Some(ApiReply::StreamDelete)),
-        Reply::Refused(refusal) => Ok(Some(refused(alloc, ApiCall::StreamDelete, refusal)?)),
+        Reply::Done => Ok(Some(call.answer())),
+        Reply::Refused(refusal) => Ok(Some(refused(alloc, call.call(), refusal)?)),
         Reply::Info(_)
         | Reply::Published(_)
         | Reply::Duplicate(_)
         | Reply::Purged(_)
         | Reply::ConsumerInfo(_)
         | Reply::Message(_)
+        | Reply::Names { .. }
+        | Reply::Infos { .. }
+        | Reply::Confirmed
+        | Reply::Silent
+        | Reply::Nobody => Ok(None),
+    }
+}
+
+/// How a purge is answered.
+fn purged(alloc: Global, reply: &Reply) -> Result<Option<ApiReply>, NoMemory>
+    requires shown { IsShown reply.now }
+    ensures value { IfOk result (λ told. told ≡ purged reply.now) }
+    ensures texts { IfOk result (λ told. IfSome told IsText) }
+{
+    match reply {
+        Reply::Purged(count) => Ok(Some(ApiReply::StreamPurge { purged: *count })),
+        Reply::Refused(refusal) => Ok(Some(refused(alloc, ApiCall::StreamPurge, refusal)?)),
+        Reply::Info(_)
+        | Reply::Done
+        | Reply::Published(_)
+        | Reply::Duplicate(_)
+        | Reply::ConsumerInfo(_)
+        | Reply::Message(_)
+        | Reply::Names { .. }
+        | Reply::Infos { .. }
+        | Reply::Confirmed
+        | Reply::Silent
+        | Reply::Nobody => Ok(None),
+    }
+}
+
+/// How the reading of a message is answered.
+fn read(alloc: Global, reply: &Reply) -> Result<Option<ApiReply>, NoMemory>
+    requires shown { IsShown reply.now }
+    ensures value { IfOk result (λ told. told ≡ read reply.now) }
+    ensures texts { IfOk result (λ told. IfSome told IsText) }
+{
+    match reply {
+        Reply::Message(message) => Ok(Some(ApiReply::StreamMsgGet(copy_message(message)?))),
+        Reply::Refused(refusal) => Ok(Some(refused(alloc, ApiCall::StreamMsgGet, refusal)?)),
+        Reply::Info(_)
+        | Reply::Done
+        | Reply::Published(_)
+        | Reply::Duplicate(_)
+        | Reply::Purged(_)
+        | Reply::ConsumerInfo(_)
         | Reply::Names { .. }
         | Reply::Infos { .. }
         | Reply::Confirmed
@@ -122,17 +198,17 @@ fn api_reply(alloc: Global, what: &What, reply: &Reply) -> Result<Option<ApiRepl
     match what {
         What::Make { .. } => informed(alloc, InfoCall::Create, reply),
         What::Change { .. } => informed(alloc, InfoCall::Update, reply),
-        What::Drop { .. } => deleted(alloc, reply),
+        What::Drop { .. } => finished(alloc, DoneCall::Delete, reply),
+        What::Purge { .. } => purged(alloc, reply),
+        What::Delete { .. } => finished(alloc, DoneCall::MsgDelete, reply),
         What::StreamInfo { .. } => informed(alloc, InfoCall::Info, reply),
+        What::MessageGet { .. } => read(alloc, reply),
         What::Publish(_)
-        | What::Purge { .. }
-        | What::Delete { .. }
         | What::MakeConsumer { .. }
         | What::DropConsumer { .. }
         | What::Ack { .. }
         | What::Pull { .. }
         | What::Tick
-        | What::MessageGet { .. }
         | What::ConsumerInfo { .. }
         | What::ConsumerNames { .. }
         | What::ConsumerList { .. } => Ok(None),

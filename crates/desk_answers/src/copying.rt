@@ -3,7 +3,7 @@
 ghost use Rattle.std.specs.Prelude.{◌≡◌, IfOk};
 
 use js_base::{Blob, NoMemory};
-use js_model::{StreamInfo, copy_stream_config};
+use js_model::{GetBy, StreamInfo, copy_stream_config};
 use std::alloc::Global;
 
 /// A copy of a stream's information. Its texts are shared.
@@ -28,4 +28,14 @@ pub fn copy_reply(to: &Option<Blob>) -> Result<Option<Blob>, NoMemory>
     ensures copy { IfOk result (λ copy. copy ≡ to.now) }
 {
     Ok(to.clone()?)
+}
+
+/// A copy of which message is read. Its text is shared.
+pub fn copy_by(by: &GetBy) -> Result<GetBy, NoMemory>
+    ensures copy { IfOk result (λ copy. copy ≡ by.now) }
+{
+    match by {
+        GetBy::Seq(seq) => Ok(GetBy::Seq(*seq)),
+        GetBy::LastBySubject(subject) => Ok(GetBy::LastBySubject(subject.clone()?)),
+    }
 }

@@ -12,7 +12,7 @@ mod untaken;
 
 pub use account::account_reply;
 pub use answering::answer_of;
-pub use copying::copy_reply;
+pub use copying::{copy_by, copy_reply};
 pub use paging::{list_reply, names_reply};
 pub use replying::{answer_outs, publish_refusal};
 pub use untaken::{NOBODY, untaken_outs};

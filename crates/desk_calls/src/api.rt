@@ -10,13 +10,13 @@ ghost use Rattle.desk_ground.specs.Grounds.{Outside};
 
 use desk_ground::Ground;
 use desk_streams::{
-    create_stream, delete_stream, list_names, list_streams, show_account, show_stream,
-    update_stream,
+    create_stream, delete_stream, erase_message, list_names, list_streams, purge_stream,
+    read_message, show_account, show_stream, update_stream,
 };
 use js_api::{ApiRequest, DeskFault};
 use js_base::{Blob, Moment};
 
-/// Carries out the call, answers it to the reply subject, and tells whether somebody took it. Calls of other forms are not read yet.
+/// Carries out the call, answers it to the reply subject, and tells whether somebody took it. Calls on consumers are not read yet.
 pub fn carry_out<G: Ground>(
     ground: &mut G,
     request: ApiRequest,
@@ -46,10 +46,17 @@ pub fn carry_out<G: Ground>(
         ApiRequest::StreamList { offset, subject } => {
             list_streams(ground, offset, &subject, to, now)
         }
-        ApiRequest::StreamPurge { .. }
-        | ApiRequest::StreamMsgGet { .. }
-        | ApiRequest::StreamMsgDelete { .. }
-        | ApiRequest::ConsumerCreate { .. }
+        ApiRequest::StreamPurge {
+            stream,
+            filter,
+            seq,
+            keep,
+        } => purge_stream(ground, &stream, &filter, seq, keep, to, now),
+        ApiRequest::StreamMsgGet { stream, by } => read_message(ground, &stream, &by, to, now),
+        ApiRequest::StreamMsgDelete { stream, seq } => {
+            erase_message(ground, &stream, seq, to, now)
+        }
+        ApiRequest::ConsumerCreate { .. }
         | ApiRequest::ConsumerDurableCreate { .. }
         | ApiRequest::ConsumerInfo { .. }
         | ApiRequest::ConsumerDelete { .. }

@@ -396,7 +396,7 @@ module _ {R : Type 0} (routes : R → RouteCall → RouteTold → R → Type 0) 
       held_same (quietly (Stopped stream)) old new r s h.same sends (held_stopped stream count old r name h.stopped)
   failed (places.Gone kept) stream old new outs r s name h sends = held_same (quietly Gone) old new r s h.same sends (held_gone old r h.going h.other)
   failed (places.Worn refused) stream old new outs r s name h sends =
-      withheld refused (faults.Worn (2 ^ 62 - 1)) old new outs r s h.withholds sends (inr (sym h.last, refl))
+      withheld refused (faults.Worn (2 ^ 62 - 1)) old new outs r s h.withholds sends (inr ((sym h.last, refl), inl refl))
 
   -- it failed
   pub held_failed : (outcome : Outcome) (fault : PlaceFault) (stream : Bytes) (old new : PlaceIn) (outs : List Out) (r s : R) → outcome ≡ failed_by fault stream → stream ≡ stream_name old.state

@@ -2,12 +2,13 @@
 use Rattle.std.proofs.Common.{◌≡◌, ◌∷◌, Bool, true, false, ◌&&◌, ◌||◌, [], Option, None, Some, refl, sym, subst, IsTrue}
 use Rattle.std.specs.Prelude.{IfSome, nat_eq, codes}
 use Rattle.std.specs.List.{starts_with}
-use Rattle.std.proofs.lemmas.Bool.{le-leb, and_from}
+use Rattle.std.proofs.lemmas.Bool.{le-leb, and_from, and_parts}
 use Rattle.js_base.specs.Bytes.{Bytes, is_empty}
 use Rattle.js_base.specs.Headers.{is_block}
 use Rattle.js_base.specs.Subjects.{is_subject_text, is_pattern_text}
 use Rattle.js_base.specs.declared.out.Out.{Out}
 use Rattle.js_model.specs.Proper.{if_given}
+use Rattle.publish_wants.proofs.Numbers.{proper as proper_wants}
 use Rattle.js_api.specs.Publishing.{IsMessage, is_headers, published}
 use Rattle.desk_answers.specs.Asking.{MayAsk}
 use Rattle.desk_messaging.specs.Plain.{IsPlain}
@@ -33,8 +34,9 @@ may_publish message m plain =
     (plain_of (is_subject_text message.to) (starts_with nat_eq message.to (codes "$JS.API.")) (is_pattern_text message.to) m.to_text plain.api)
     in
     let block : (is_empty message.headers || is_block message.headers) ≡ true = block_of message.headers m.block in
+    let numbers = and_parts _ _ (proper_wants message.headers) in
     record {
       reply = given message.reply m.reply_text;
-      proper = and_from _ _ (and_from _ _ (and_from _ _ (and_from _ _ subject block) (le-leb _ _ m.small)) refl) refl;
-      built = record { bad = refl; id = refl; stream = refl; last = refl; subject_last = refl; last_id = refl };
+      proper = and_from _ _ (and_from _ _ (and_from _ _ (and_from _ _ subject block) (le-leb _ _ m.small)) numbers.0) numbers.1;
+      built = tt;
     }

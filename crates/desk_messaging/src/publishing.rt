@@ -1,6 +1,8 @@
 //! What becomes of a client's message to a subject of none of the server's own calls.
 
-ghost use Rattle.std.specs.Prelude.{◌≡◌, IfOk, IfSome, None, true};
+ghost use Rattle.std.specs.Prelude.{◌≡◌, ◌||◌, IfOk, IfSome, IsTrue, None, true};
+ghost use Rattle.js_base.specs.Bytes.{is_empty};
+ghost use Rattle.js_base.specs.Headers.{is_block};
 ghost use Rattle.js_api.specs.Holding.{Holds};
 ghost use Rattle.js_api.specs.Leading.{Makes};
 ghost use Rattle.js_api.specs.Publishing.{IsMessage, IsReached, PublishesPlain, Stores, published};
@@ -13,13 +15,16 @@ ghost use Rattle.desk_messaging.specs.Plain.{IsPlain};
 use crate::telling::{refuse_publish, tell_untaken};
 use desk_ground::{Caller, Ground, Reason, let_go, unmade};
 use js_api::{Became, DeskFault, Outcome};
-use js_base::{Blob, Moment, NoMemory, Out};
-use js_model::{PlaceAt, Publish, Taken, Wants, What};
+use js_base::{Moment, NoMemory, Out};
+use js_model::{PlaceAt, Publish, Taken, What};
+use publish_wants::read_wants;
+use std::alloc::Global;
 
 // ---- the stream of the subject
 
 /// What a published message asks of its stream.
-fn published(message: &Out) -> Result<What, NoMemory>
+fn published(alloc: Global, message: &Out) -> Result<What, NoMemory>
+    requires block { IsTrue (is_empty message.now.headers || is_block message.now.headers) }
     ensures what { IfOk result (λ what. what ≡ published message.now) }
 {
     Ok(What::Publish(Publish {
@@ -27,14 +32,7 @@ fn published(message: &Out) -> Result<What, NoMemory>
         subject: message.subject.clone()?,
         headers: message.headers.clone()?,
         payload: message.payload.clone()?,
-        wants: Wants {
-            bad: None,
-            id: Blob::empty(),
-            stream: None,
-            last: None,
-            subject_last: None,
-            last_id: None,
-        },
+        wants: read_wants(alloc, message.headers.as_slice())?,
     }))
 }
 
@@ -49,7 +47,7 @@ fn ask_store<G: Ground>(ground: &mut G, at: PlaceAt, message: &Out, now: Moment)
     ensures setting { G.setting ground.new ≡ G.setting ground.old }
     ensures phase { G.phase ground.new ≡ G.phase ground.old }
 {
-    match published(message) {
+    match published(ground.alloc(), message) {
         Ok(what) => ground.hold(at, what, now),
         Err(_) => unmade(),
     }

@@ -1,5 +1,6 @@
 mod Asked
 mod Cataloging
 mod Defaults
+mod Questions
 mod Refused
 mod Walks

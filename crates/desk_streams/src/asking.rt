@@ -1,66 +1,142 @@
-//! The calls that show or delete one stream.
+//! The calls that ask one stream, and change nothing of the catalog: they show it, purge it, and read or delete one of its messages.
 
-ghost use Rattle.std.specs.Prelude.{◌≡◌, ◌<◌, ◌^◌, IfSome, IsTrue, true, if◌then◌else◌};
+ghost use Rattle.std.specs.Prelude.{◌≡◌, IfOk, IfSome, IsTrue};
 ghost use Rattle.api_calls.specs.Names.{name_of};
-ghost use Rattle.api_calls.specs.declared.call.ApiCall.TheVariants as calls;
+ghost use Rattle.api_requests.specs.Read.{IsPurge, is_by};
 ghost use Rattle.js_base.specs.Subjects.{is_subject_text};
+ghost use Rattle.js_model.specs.Configs.{is_number};
 ghost use Rattle.js_model.specs.Proper.{if_given};
-ghost use Rattle.js_model.specs.declared.event.What.TheVariants as whats;
 ghost use Rattle.js_api.specs.Holding.{Holds};
 ghost use Rattle.js_api.specs.Leading.{Makes};
-ghost use Rattle.js_api.specs.OneStream.{IsAbsent, IsDeleting, IsOnStream, IsShowing, free_if_dropped, unchanged};
-ghost use Rattle.desk_ground.specs.Grounds.{IsWithin, Knows, Outside, Owing, Within};
+ghost use Rattle.js_api.specs.OneStream.{IsAbsent, IsAsking, IsErasing, IsOnStream, IsPurging, IsReading, IsShowing, unchanged};
+ghost use Rattle.desk_answers.specs.Asking.{MayAsk};
+ghost use Rattle.desk_answers.specs.Became.{IsExplained};
+ghost use Rattle.desk_ground.specs.Grounds.{IsWithin, Outside};
 ghost use Rattle.desk_ground.specs.Named.{GoesOnNamed};
-ghost use Rattle.desk_answers.specs.Became.{IsExplained, is_dropped};
+ghost use Rattle.desk_streams.specs.Asking.{call_of, what_of};
 
-use crate::freeing::free_if_dropped;
-use desk_answers::copy_reply;
+use desk_answers::{copy_by, copy_reply};
 use desk_ground::{Ground, Reason, end_call, let_go, refuse_for, unmade};
 use js_api::{ApiCall, DeskFault, Outcome};
-use js_base::{Blob, Moment, Name};
-use js_model::{PlaceAt, What};
+use js_base::{Blob, Moment, Name, NoMemory};
+use js_model::{GetBy, PlaceAt, What};
 
-// ---- STREAM.INFO
+/// What a stream is asked.
+#[derive(Clone, Copy)]
+enum Asking<'a> {
+    Info,
+    Purge {
+        filter: &'a Blob,
+        below: Option<u64>,
+        keep: Option<u64>,
+    },
+    Get(&'a GetBy),
+    Delete(u64),
+}
 
-/// Asks a stream for its information.
-fn ask_info<G: Ground>(ground: &mut G, at: PlaceAt, to: &Option<Blob>, now: Moment) -> Outcome
+impl Asking<'_> {
+    /// The call of the API.
+    fn call(self) -> ApiCall
+        ensures value { result ≡ call_of self.entry }
+    {
+        match self {
+            Asking::Info => ApiCall::StreamInfo,
+            Asking::Purge { .. } => ApiCall::StreamPurge,
+            Asking::Get(_) => ApiCall::StreamMsgGet,
+            Asking::Delete(_) => ApiCall::StreamMsgDelete,
+        }
+    }
+
+    /// What its place is asked, to be answered to this subject.
+    fn what(self, to: &Option<Blob>) -> Result<What, NoMemory>
+        ensures what { IfOk result (λ what. what ≡ what_of self.entry to.now) }
+    {
+        let reply = copy_reply(to)?;
+        match self {
+            Asking::Info => Ok(What::StreamInfo { reply }),
+            Asking::Purge {
+                filter,
+                below,
+                keep,
+            } => Ok(What::Purge {
+                reply,
+                filter: filter.clone()?,
+                below,
+                keep,
+            }),
+            Asking::Get(by) => Ok(What::MessageGet {
+                reply,
+                by: copy_by(by)?,
+            }),
+            Asking::Delete(seq) => Ok(What::Delete { reply, seq }),
+        }
+    }
+}
+
+/// Asks the stream of a place.
+fn ask_at<G: Ground>(
+    ground: &mut G,
+    at: PlaceAt,
+    asking: Asking<'_>,
+    to: &Option<Blob>,
+    now: Moment,
+) -> Outcome
     requires within { IsWithin (G.setting ground.old) at }
-    requires to { IsTrue (if_given is_subject_text to.now) }
-    ensures made { Makes G.made (Holds at (whats.StreamInfo to.now) now result) ground.old ground.new }
+    requires asked { MayAsk (what_of asking to.now) }
+    ensures made { Makes G.made (Holds at (what_of asking.entry to.now) now result) ground.old ground.new }
     ensures explained { IsExplained result.fault result.became }
     ensures setting { G.setting ground.new ≡ G.setting ground.old }
     ensures phase { G.phase ground.new ≡ G.phase ground.old }
 {
-    match copy_reply(to) {
-        Ok(reply) => ground.hold(at, What::StreamInfo { reply }, now),
+    match asking.what(to) {
+        Ok(what) => ground.hold(at, what, now),
         Err(_) => unmade(),
     }
 }
 
-/// Shows the stream that was looked up, if it is there.
-fn show_found<G: Ground>(
+/// Asks the stream that was looked up, if it is there.
+fn ask_found<G: Ground>(
     ground: &mut G,
     found: Option<PlaceAt>,
+    asking: Asking<'_>,
     to: &Option<Blob>,
     now: Moment,
 ) -> Result<bool, DeskFault>
     requires within { IfSome found (IsWithin (G.setting ground.old)) }
-    requires to { IsTrue (if_given is_subject_text to.now) }
+    requires asked { MayAsk (what_of asking to.now) }
     ensures made { Makes G.made
-        (GoesOnNamed (IsAbsent (name_of calls.StreamInfo) to.now)
-        (λ at. IsOnStream (name_of calls.StreamInfo) at (whats.StreamInfo to.now) now unchanged) found result) ground.old ground.new }
+        (GoesOnNamed (IsAbsent (name_of (call_of asking.entry)) to.now)
+        (λ at. IsOnStream (name_of (call_of asking.entry)) at (what_of asking.entry to.now) now unchanged) found result) ground.old ground.new }
     ensures setting { G.setting ground.new ≡ G.setting ground.old }
     ensures phase { G.phase ground.new ≡ G.phase ground.old }
 {
     match found {
         Some(at) => {
-            let outcome = ask_info(ground, at, to, now);
-            let result = end_call(ground, ApiCall::StreamInfo, to, &outcome);
+            let outcome = ask_at(ground, at, asking, to, now);
+            let result = end_call(ground, asking.call(), to, &outcome);
             let_go(outcome);
             result
         }
-        None => refuse_for(ground, ApiCall::StreamInfo, to, Reason::NoStream),
+        None => refuse_for(ground, asking.call(), to, Reason::NoStream),
     }
+}
+
+/// Asks the stream of this name.
+fn ask_stream<G: Ground>(
+    ground: &mut G,
+    stream: &Name,
+    asking: Asking<'_>,
+    to: &Option<Blob>,
+    now: Moment,
+) -> Result<bool, DeskFault>
+    requires outside { G.phase ground.old ≡ Outside }
+    requires asked { MayAsk (what_of asking to.now) }
+    ensures made { Makes G.made (IsAsking (name_of (call_of asking.entry)) stream.now (what_of asking.entry to.now) now result) ground.old ground.new }
+    ensures setting { G.setting ground.new ≡ G.setting ground.old }
+    ensures phase { G.phase ground.new ≡ Outside }
+{
+    let found = ground.by_name(stream)?;
+    ask_found(ground, found, asking, to, now)
 }
 
 /// Shows the stream of this name.
@@ -76,90 +152,67 @@ pub fn show_stream<G: Ground>(
     ensures setting { G.setting ground.new ≡ G.setting ground.old }
     ensures phase { G.phase ground.new ≡ Outside }
 {
-    let found = ground.by_name(stream)?;
-    show_found(ground, found, to, now)
+    ask_stream(ground, stream, Asking::Info, to, now)
 }
 
-// ---- STREAM.DELETE
-
-/// Asks a stream to end.
-fn ask_drop<G: Ground>(ground: &mut G, at: PlaceAt, to: &Option<Blob>, now: Moment) -> Outcome
-    requires within { IsWithin (G.setting ground.old) at }
-    requires to { IsTrue (if_given is_subject_text to.now) }
-    requires turn { G.phase ground.old ≡ Within }
-    ensures made { Makes G.made (Holds at (whats.Drop to.now) now result) ground.old ground.new }
-    ensures explained { IsExplained result.fault result.became }
-    ensures number { is_dropped result.became ≡ true → at.incarnation < 2 ^ 62 }
-    ensures kept { G.kept ground.new ≡ G.kept ground.old }
-    ensures setting { G.setting ground.new ≡ G.setting ground.old }
-    ensures phase { G.phase ground.new ≡ (if is_dropped result.became then Owing at.place else Within) }
-{
-    match copy_reply(to) {
-        Ok(reply) => ground.hold(at, What::Drop { reply }, now),
-        Err(_) => unmade(),
-    }
-}
-
-/// Drops the stream of a place, and frees the place if it is gone then.
-fn drop_at<G: Ground>(
-    ground: &mut G,
-    at: PlaceAt,
-    to: &Option<Blob>,
-    now: Moment,
-) -> Result<bool, DeskFault>
-    requires within { IsWithin (G.setting ground.old) at }
-    requires to { IsTrue (if_given is_subject_text to.now) }
-    requires turn { G.phase ground.old ≡ Within }
-    requires known { Knows (G.kept ground.old) at }
-    ensures made { Makes G.made (IsOnStream (name_of calls.StreamDelete) at (whats.Drop to.now) now (free_if_dropped at) result) ground.old ground.new }
-    ensures setting { G.setting ground.new ≡ G.setting ground.old }
-    ensures phase { G.phase ground.new ≡ Within }
-{
-    let outcome = ask_drop(ground, at, to, now);
-    free_if_dropped(ground, at, &outcome.became);
-    let result = end_call(ground, ApiCall::StreamDelete, to, &outcome);
-    let_go(outcome);
-    result
-}
-
-/// Drops the stream that was looked up, if it is there.
-fn drop_found<G: Ground>(
-    ground: &mut G,
-    found: Option<PlaceAt>,
-    to: &Option<Blob>,
-    now: Moment,
-) -> Result<bool, DeskFault>
-    requires within { IfSome found (IsWithin (G.setting ground.old)) }
-    requires to { IsTrue (if_given is_subject_text to.now) }
-    requires turn { G.phase ground.old ≡ Within }
-    requires known { IfSome found (Knows (G.kept ground.old)) }
-    ensures made { Makes G.made
-        (GoesOnNamed (IsAbsent (name_of calls.StreamDelete) to.now)
-        (λ at. IsOnStream (name_of calls.StreamDelete) at (whats.Drop to.now) now (free_if_dropped at)) found result) ground.old ground.new }
-    ensures setting { G.setting ground.new ≡ G.setting ground.old }
-    ensures phase { G.phase ground.new ≡ Within }
-{
-    match found {
-        Some(at) => drop_at(ground, at, to, now),
-        None => refuse_for(ground, ApiCall::StreamDelete, to, Reason::NoStream),
-    }
-}
-
-/// Deletes the stream of this name.
-pub fn delete_stream<G: Ground>(
+/// Purges the stream of this name: of the messages that the filter matches, those below a sequence and all but a number of the last ones go. An
+/// empty filter matches all.
+pub fn purge_stream<G: Ground>(
     ground: &mut G,
     stream: &Name,
+    filter: &Blob,
+    below: Option<u64>,
+    keep: Option<u64>,
     to: &Option<Blob>,
     now: Moment,
 ) -> Result<bool, DeskFault>
     requires outside { G.phase ground.old ≡ Outside }
     requires to { IsTrue (if_given is_subject_text to.now) }
-    ensures made { Makes G.made (IsDeleting stream.now to.now now result) ground.old ground.new }
+    requires purge { IsPurge filter.now below keep }
+    ensures made { Makes G.made (IsPurging stream.now filter.now below keep to.now now result) ground.old ground.new }
     ensures setting { G.setting ground.new ≡ G.setting ground.old }
     ensures phase { G.phase ground.new ≡ Outside }
 {
-    let found = ground.begin(stream)?;
-    let result = drop_found(ground, found, to, now);
-    ground.end();
-    result
+    let asking = Asking::Purge {
+        filter,
+        below,
+        keep,
+    };
+    ask_stream(ground, stream, asking, to, now)
+}
+
+/// Reads a message of the stream of this name.
+pub fn read_message<G: Ground>(
+    ground: &mut G,
+    stream: &Name,
+    by: &GetBy,
+    to: &Option<Blob>,
+    now: Moment,
+) -> Result<bool, DeskFault>
+    requires outside { G.phase ground.old ≡ Outside }
+    requires to { IsTrue (if_given is_subject_text to.now) }
+    requires by { IsTrue (is_by by.now) }
+    ensures made { Makes G.made (IsReading stream.now by.now to.now now result) ground.old ground.new }
+    ensures setting { G.setting ground.new ≡ G.setting ground.old }
+    ensures phase { G.phase ground.new ≡ Outside }
+{
+    ask_stream(ground, stream, Asking::Get(by), to, now)
+}
+
+/// Deletes a message of the stream of this name.
+pub fn erase_message<G: Ground>(
+    ground: &mut G,
+    stream: &Name,
+    seq: u64,
+    to: &Option<Blob>,
+    now: Moment,
+) -> Result<bool, DeskFault>
+    requires outside { G.phase ground.old ≡ Outside }
+    requires to { IsTrue (if_given is_subject_text to.now) }
+    requires seq { IsTrue (is_number seq) }
+    ensures made { Makes G.made (IsErasing stream.now seq to.now now result) ground.old ground.new }
+    ensures setting { G.setting ground.new ≡ G.setting ground.old }
+    ensures phase { G.phase ground.new ≡ Outside }
+{
+    ask_stream(ground, stream, Asking::Delete(seq), to, now)
 }

@@ -5,6 +5,7 @@ mod account;
 mod asking;
 mod changing;
 mod creating;
+mod deleting;
 mod freeing;
 mod listing;
 mod making;
@@ -12,8 +13,9 @@ mod refusing;
 mod walking;
 
 pub use account::show_account;
-pub use asking::{delete_stream, show_stream};
+pub use asking::{erase_message, purge_stream, read_message, show_stream};
 pub use changing::update_stream;
 pub use creating::create_stream;
+pub use deleting::delete_stream;
 pub use listing::{list_names, list_streams};
 pub use making::make_stream;

@@ -15,7 +15,7 @@ use Rattle.js_api.specs.Clients.{Client}
 use Rattle.js_api.specs.Entries.{DeskEntry}
 use Rattle.js_api.specs.Stages.{Then, Gives, Reads}
 use Rattle.js_api.specs.Publishing.{taken_by, PublishesToNobody}
-use Rattle.js_api.specs.OneStream.{Answers, refusal, IsCreating, IsUpdating, IsShowing, IsDeleting}
+use Rattle.js_api.specs.OneStream.{Answers, refusal, IsCreating, IsUpdating, IsShowing, IsDeleting, IsPurging, IsReading, IsErasing}
 use Rattle.js_api.specs.AllStreams.{IsOverAll, account, names, informations}
 
 -- The call was carried out so, and gives whether somebody took it. Calls of the forms that are not read yet are not carried out.
@@ -25,11 +25,11 @@ Performs (requests.StreamCreate stream config) to now result entries = IsCreatin
 Performs (requests.StreamUpdate stream config) to now result entries = IsUpdating stream config to now result entries
 Performs (requests.StreamInfo stream) to now result entries = IsShowing stream to now result entries
 Performs (requests.StreamDelete stream) to now result entries = IsDeleting stream to now result entries
-Performs (requests.StreamPurge stream pattern below keep) to now result entries = ⊥
+Performs (requests.StreamPurge stream pattern below keep) to now result entries = IsPurging stream pattern below keep to now result entries
 Performs (requests.StreamNames offset pattern) to now result entries = IsOverAll (name_of calls.StreamNames) to now (names to offset pattern) result entries
 Performs (requests.StreamList offset pattern) to now result entries = IsOverAll (name_of calls.StreamList) to now (informations to offset pattern) result entries
-Performs (requests.StreamMsgGet stream by) to now result entries = ⊥
-Performs (requests.StreamMsgDelete stream seq) to now result entries = ⊥
+Performs (requests.StreamMsgGet stream by) to now result entries = IsReading stream by to now result entries
+Performs (requests.StreamMsgDelete stream seq) to now result entries = IsErasing stream seq to now result entries
 Performs (requests.ConsumerCreate stream consumer config update) to now result entries = ⊥
 Performs (requests.ConsumerDurableCreate stream consumer config update) to now result entries = ⊥
 Performs (requests.ConsumerInfo stream consumer) to now result entries = ⊥

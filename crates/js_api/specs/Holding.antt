@@ -1,5 +1,5 @@
 -- One hold on a place: what was asked of it at a moment is made there, deliveries follow, and all that these send is routed.
-use Rattle.std.specs.Prelude.{◌≡◌, ◌⊎◌, ◌≤◌, ◌+◌, ◌-◌, ◌^◌, ℕ, Bool, true, false, List, [], ◌∷◌, ◌++◌, length, filter, map, sum_by, MatchOption, Option, Some, None, if◌then◌else◌}
+use Rattle.std.specs.Prelude.{◌≡◌, ◌≢◌, ◌⊎◌, ◌≤◌, ◌+◌, ◌-◌, ◌^◌, ℕ, Bool, true, false, List, [], ◌∷◌, ◌++◌, length, filter, map, sum_by, MatchOption, Option, Some, None, if◌then◌else◌}
 use Rattle.js_base.specs.Bytes.{Bytes, is_empty}
 use Rattle.js_base.specs.declared.out.Out.{Out}
 use Rattle.js_model.specs.declared.stream.State.{State}
@@ -35,12 +35,12 @@ event_at at what = record { incarnation = at.incarnation; what = what }
 abbrev pub step : ℕ → PlaceAt → What → ℕ → Reply → List Out → Bool → List PlaceEntry
 step seat at what now reply outs unsaid = Step seat (event_at at what) now reply outs unsaid ∷ []
 
--- what was asked was made one after the other, by the same seat at the moment
+-- what was asked was made one after the other, by the same seat at the moment, and answered
 abbrev pub AreSteps : ℕ → PlaceAt → ℕ → List What → List PlaceEntry → Type 0
 AreSteps seat at now [] steps = steps ≡ []
 AreSteps seat at now (what ∷ whats) steps =
-    (reply : Reply) × (outs : List Out) × (unsaid : Bool) × (more : List PlaceEntry)
-    × (steps ≡ step seat at what now reply outs unsaid ++ more) × AreSteps seat at now whats more
+    (reply : Reply) × (outs : List Out) × (more : List PlaceEntry)
+    × (steps ≡ step seat at what now reply outs false ++ more) × AreSteps seat at now whats more
 
 -- ---- who listens
 
@@ -76,7 +76,7 @@ AreDeliveries seat at now listening fault [] = Unit {0}
 AreDeliveries seat at now listening fault (Deliver by moment heard d outs ∷ more) =
     (by ≡ seat) × (moment ≡ now) × (heard ≡ listening) × AreDeliveries seat at now listening fault more
 AreDeliveries seat at now listening fault (Step by event moment reply outs unsaid ∷ more) =
-    (by ≡ seat) × (event ≡ event_at at LetPass) × (moment ≡ now) × (fault ≡ Some faults.NoMemory) × (more ≡ [])
+    (by ≡ seat) × (event.what ≡ LetPass) × (moment ≡ now) × (fault ≡ Some faults.NoMemory) × (more ≡ [])
 AreDeliveries seat at now listening fault (Broken by moment (DeliverOf heard d) ∷ more) = (by ≡ seat) × (moment ≡ now) × (heard ≡ listening) × (more ≡ [])
 AreDeliveries seat at now listening fault (Broken by moment (StepOf event) ∷ more) = ⊥
 
@@ -133,7 +133,8 @@ abbrev pub Explains : Option DeskFault → Bool → Hold → Type 0
 Explains None unsaid hold = (unsaid ≡ false) × (hold.sending ≡ Sent)
 Explains (Some faults.NoMemory) unsaid hold = Unit {0}
 Explains (Some faults.TooManySubs) unsaid hold = ⊥
-Explains (Some (faults.Worn number)) unsaid hold = (hold.sending ≡ Unsent number) ⊎ IsLastGeneration number hold.volume_after
+Explains (Some (faults.Worn number)) unsaid hold =
+    (hold.sending ≡ Unsent number) ⊎ (IsLastGeneration number hold.volume_after × ((unsaid ≡ true) ⊎ (hold.deliveries ≢ [])))
 Explains (Some (faults.NoSession latest)) unsaid hold = ⊥
 
 -- the call goes on, and a consumer is ready only if the hold was full

@@ -4,6 +4,7 @@ use Rattle.js_base.specs.Bytes.{Bytes}
 use Rattle.js_base.specs.declared.out.Out.{Out}
 use Rattle.js_base.specs.declared.out.ApiError.{ApiError}
 use Rattle.js_model.specs.declared.stream_config.StreamConfig.{StreamConfig}
+use Rattle.js_model.specs.declared.event.GetBy.{GetBy}
 use Rattle.js_model.specs.declared.event.What.{What}
 use Rattle.js_model.specs.declared.event.What.TheVariants as whats
 use Rattle.js_model.specs.declared.reply.Reply.{Reply}
@@ -214,14 +215,29 @@ abbrev pub IsUpdating : Bytes → StreamConfig → Option Bytes → ℕ → Resu
 IsUpdating stream config to now result entries =
     IsNamed stream (IsAbsent (name_of calls.StreamUpdate) to) (IsChanging config to now) result entries
 
--- ---- showing and deleting a stream
+-- ---- what a stream is asked
+
+-- the stream is asked so, and its place answers
+abbrev pub IsAsking : Bytes → Bytes → What → ℕ → Result Bool DeskFault → List DeskEntry → Type 0
+IsAsking name stream what now result entries =
+    IsNamed stream (IsAbsent name (reply_of what)) (λ at. IsOnStream name at what now unchanged) result entries
 
 abbrev pub IsShowing : Bytes → Option Bytes → ℕ → Result Bool DeskFault → List DeskEntry → Type 0
-IsShowing stream to now result entries =
-    IsNamed stream (IsAbsent (name_of calls.StreamInfo) to)
-    (λ at. IsOnStream (name_of calls.StreamInfo) at (whats.StreamInfo to) now unchanged) result entries
+IsShowing stream to now result entries = IsAsking (name_of calls.StreamInfo) stream (whats.StreamInfo to) now result entries
 
 abbrev pub IsDeleting : Bytes → Option Bytes → ℕ → Result Bool DeskFault → List DeskEntry → Type 0
 IsDeleting stream to now result entries =
     IsNamed stream (IsAbsent (name_of calls.StreamDelete) to)
     (λ at. IsOnStream (name_of calls.StreamDelete) at (whats.Drop to) now (free_if_dropped at)) result entries
+
+-- ---- its messages
+
+abbrev pub IsPurging : Bytes → Bytes → Option ℕ → Option ℕ → Option Bytes → ℕ → Result Bool DeskFault → List DeskEntry → Type 0
+IsPurging stream pattern below keep to now result entries =
+    IsAsking (name_of calls.StreamPurge) stream (whats.Purge to pattern below keep) now result entries
+
+abbrev pub IsReading : Bytes → GetBy → Option Bytes → ℕ → Result Bool DeskFault → List DeskEntry → Type 0
+IsReading stream by to now result entries = IsAsking (name_of calls.StreamMsgGet) stream (whats.MessageGet to by) now result entries
+
+abbrev pub IsErasing : Bytes → ℕ → Option Bytes → ℕ → Result Bool DeskFault → List DeskEntry → Type 0
+IsErasing stream seq to now result entries = IsAsking (name_of calls.StreamMsgDelete) stream (whats.Delete to seq) now result entries

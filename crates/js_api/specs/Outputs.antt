@@ -47,36 +47,69 @@ informed shown name told.Silent = None
 informed shown name told.Nobody = None
 informed shown name (told.Refused e) = Some (replies.Refused name e)
 
-abbrev pub dropped : Reply → Option ApiReply
-dropped (told.Info info) = None
-dropped told.Done = Some replies.StreamDelete
-dropped (told.Published seq) = None
-dropped (told.Duplicate seq) = None
-dropped (told.Purged purged) = None
-dropped (told.ConsumerInfo info) = None
-dropped (told.Message message) = None
-dropped (told.Names total list) = None
-dropped (told.Infos total list) = None
-dropped told.Confirmed = None
-dropped told.Silent = None
-dropped told.Nobody = None
-dropped (told.Refused e) = Some (replies.Refused (name_of calls.StreamDelete) e)
+-- one that a stream answered by its success, or refused under this name
+abbrev pub finished : ApiReply → Bytes → Reply → Option ApiReply
+finished shown name (told.Info info) = None
+finished shown name told.Done = Some shown
+finished shown name (told.Published seq) = None
+finished shown name (told.Duplicate seq) = None
+finished shown name (told.Purged purged) = None
+finished shown name (told.ConsumerInfo info) = None
+finished shown name (told.Message message) = None
+finished shown name (told.Names total list) = None
+finished shown name (told.Infos total list) = None
+finished shown name told.Confirmed = None
+finished shown name told.Silent = None
+finished shown name told.Nobody = None
+finished shown name (told.Refused e) = Some (replies.Refused name e)
+
+-- a purge, which tells how many messages it took
+abbrev pub purged : Reply → Option ApiReply
+purged (told.Info info) = None
+purged told.Done = None
+purged (told.Published seq) = None
+purged (told.Duplicate seq) = None
+purged (told.Purged count) = Some (replies.StreamPurge count)
+purged (told.ConsumerInfo info) = None
+purged (told.Message message) = None
+purged (told.Names total list) = None
+purged (told.Infos total list) = None
+purged told.Confirmed = None
+purged told.Silent = None
+purged told.Nobody = None
+purged (told.Refused e) = Some (replies.Refused (name_of calls.StreamPurge) e)
+
+-- the reading of a message
+abbrev pub read : Reply → Option ApiReply
+read (told.Info info) = None
+read told.Done = None
+read (told.Published seq) = None
+read (told.Duplicate seq) = None
+read (told.Purged purged) = None
+read (told.ConsumerInfo info) = None
+read (told.Message message) = Some (replies.StreamMsgGet message)
+read (told.Names total list) = None
+read (told.Infos total list) = None
+read told.Confirmed = None
+read told.Silent = None
+read told.Nobody = None
+read (told.Refused e) = Some (replies.Refused (name_of calls.StreamMsgGet) e)
 
 -- how a stream answers a call of the API
 abbrev pub api_reply : What → Reply → Option ApiReply
 api_reply (whats.Make to config) reply = informed replies.StreamCreate (name_of calls.StreamCreate) reply
 api_reply (whats.Change to config) reply = informed replies.StreamUpdate (name_of calls.StreamUpdate) reply
-api_reply (whats.Drop to) reply = dropped reply
+api_reply (whats.Drop to) reply = finished replies.StreamDelete (name_of calls.StreamDelete) reply
 api_reply (whats.Publish publish) reply = None
-api_reply (whats.Purge to filter below keep) reply = None
-api_reply (whats.Delete to seq) reply = None
+api_reply (whats.Purge to filter below keep) reply = purged reply
+api_reply (whats.Delete to seq) reply = finished replies.StreamMsgDelete (name_of calls.StreamMsgDelete) reply
 api_reply (whats.MakeConsumer to name config update) reply = None
 api_reply (whats.DropConsumer to name) reply = None
 api_reply (whats.Ack to ack) reply = None
 api_reply (whats.Pull to consumer ask) reply = None
 api_reply whats.Tick reply = None
 api_reply (whats.StreamInfo to) reply = informed replies.StreamInfo (name_of calls.StreamInfo) reply
-api_reply (whats.MessageGet to by) reply = None
+api_reply (whats.MessageGet to by) reply = read reply
 api_reply (whats.ConsumerInfo to name) reply = None
 api_reply (whats.ConsumerNames to offset) reply = None
 api_reply (whats.ConsumerList to offset) reply = None

@@ -8,13 +8,13 @@ use Rattle.js_base.specs.declared.out.Out.{Out}
 use Rattle.js_base.specs.declared.out.ApiError.{ApiError}
 use Rattle.js_model.specs.declared.event.What.{What}
 use Rattle.js_model.specs.declared.event.What.TheVariants as whats
-use Rattle.js_model.specs.declared.event.Wants.{Wants}
 use Rattle.js_model.specs.declared.reply.Reply.TheVariants.{Refused}
 use Rattle.js_model.specs.declared.desk.Taken.{Taken}
 use Rattle.js_model.specs.declared.desk.PlaceAt.{PlaceAt}
 use Rattle.js_model.specs.Refusals.{store_fault, stream_stopped}
 use Rattle.js_model.specs.Router as router
 use Rattle.js_model.specs.Catalog.{Find}
+use Rattle.publish_wants.specs.Wants.{wants_of}
 use Rattle.js_api.specs.declared.fault.DeskFault.{DeskFault}
 use Rattle.js_api.specs.declared.fault.DeskFault.TheVariants as faults
 use Rattle.js_api.specs.declared.outcome.Became.{Became}
@@ -29,14 +29,10 @@ use Rattle.js_api.specs.Outputs.{sent_text}
 
 -- ---- the message
 
--- a message that asks nothing of its stream
-abbrev pub wants_nothing : Wants
-wants_nothing = record { bad = None; id = []; stream = None; last = None; subject_last = None; last_id = None }
-
 -- what a published message asks of its stream
 abbrev pub published : Out → What
 published message =
-    whats.Publish (record { reply = message.reply; subject = message.subject; headers = message.headers; payload = message.payload; wants = wants_nothing })
+    whats.Publish (record { reply = message.reply; subject = message.subject; headers = message.headers; payload = message.payload; wants = wants_of message.headers })
 
 -- no block, or one that is a header block
 abbrev pub is_headers : Bytes → Bool

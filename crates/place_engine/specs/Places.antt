@@ -6,23 +6,22 @@ use Rattle.js_model.specs.declared.stream.State.TheVariants.{Vacant, Live}
 use Rattle.js_model.specs.declared.event.What.{What}
 use Rattle.js_model.specs.declared.event.What.TheVariants as whats
 use Rattle.js_model.specs.Served.{IsServed}
-use Rattle.place_engine.specs.PlainPublishes.{IsPlainPublish}
 
--- what a place is asked so far: to make, change, drop and show a stream of default limits, to store a message and to let time pass
+-- what a place is asked so far: all but what is asked of consumers
 abbrev pub IsBuilt : What → Type 0
 IsBuilt (whats.Make reply config) = IsServed config
 IsBuilt (whats.Change reply config) = IsServed config
 IsBuilt (whats.Drop reply) = Unit {0}
-IsBuilt (whats.Publish publish) = IsPlainPublish publish
-IsBuilt (whats.Purge reply filter below keep) = ⊥
-IsBuilt (whats.Delete reply seq) = ⊥
+IsBuilt (whats.Publish publish) = Unit {0}
+IsBuilt (whats.Purge reply filter below keep) = Unit {0}
+IsBuilt (whats.Delete reply seq) = Unit {0}
 IsBuilt (whats.MakeConsumer reply name config update) = ⊥
 IsBuilt (whats.DropConsumer reply name) = ⊥
 IsBuilt (whats.Ack reply ack) = ⊥
 IsBuilt (whats.Pull reply consumer ask) = ⊥
 IsBuilt whats.Tick = Unit {0}
 IsBuilt (whats.StreamInfo reply) = Unit {0}
-IsBuilt (whats.MessageGet reply by) = ⊥
+IsBuilt (whats.MessageGet reply by) = Unit {0}
 IsBuilt (whats.ConsumerInfo reply name) = ⊥
 IsBuilt (whats.ConsumerNames reply offset) = ⊥
 IsBuilt (whats.ConsumerList reply offset) = ⊥

@@ -11,7 +11,7 @@ pub record IsSoundInfo (info : StreamInfo) : Type 0 where
   pub bytes : info.bytes < 2 ^ 57
   pub consumers : info.consumers < 2 ^ 57
 
--- The text of a refusal is UTF-8. Of consumers and of stored messages no reply tells so far
+-- The text of a refusal and the subject of a message are UTF-8. Of consumers no reply tells so far
 abbrev pub IsShown : Reply → Type 0
 IsShown (replies.Info info) = IsSoundInfo info
 IsShown replies.Done = Unit {0}
@@ -19,7 +19,7 @@ IsShown (replies.Published seq) = Unit {0}
 IsShown (replies.Duplicate seq) = Unit {0}
 IsShown (replies.Purged purged) = Unit {0}
 IsShown (replies.ConsumerInfo info) = Unit {0}
-IsShown (replies.Message message) = Unit {0}
+IsShown (replies.Message message) = IsUtf8 message.subject
 IsShown (replies.Names total list) = Unit {0}
 IsShown (replies.Infos total list) = Unit {0}
 IsShown replies.Confirmed = Unit {0}

@@ -6,7 +6,7 @@ use Rattle.js_api.specs.OneStream.{IsAbsent, IsOnStream, free_if_dropped}
 use Rattle.js_api.specs.Stages.{LooksUp}
 use Rattle.desk_ground.proofs.Stages.{stops_by}
 use Rattle.desk_ground.proofs.OneStream.{named_within}
-use Rattle.desk_streams.proofs.asking.delete_stream.Goals as goal
+use Rattle.desk_streams.proofs.deleting.delete_stream.Goals as goal
 
 pub returns-in_err-found-clause-made : goal.returns-in_err-found-clause-made
 returns-in_err-found-clause-made g c = stops_by g.G.Ground.made (LooksUp (catalog.ByName c.args.stream.now)) _ c.begin.result _ _ _ _ c.in_err-found.was c.from_residual.ensures.1 c.begin.ensures.made

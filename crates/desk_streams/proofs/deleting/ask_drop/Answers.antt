@@ -1,6 +1,6 @@
 use Rattle.std.proofs.Common.{refl}
 use Rattle.desk_ground.proofs.OneStream.{unmade_here}
-use Rattle.desk_streams.proofs.asking.ask_info.Goals as goal
+use Rattle.desk_streams.proofs.deleting.ask_drop.Goals as goal
 
 pub returns-in-Ok-clause-made : goal.returns-in-Ok-clause-made
 returns-in-Ok-clause-made g c = rw c.in-Ok.ensures.copy at c.hold.ensures.made

@@ -1,0 +1,22 @@
+-- What a stream is asked that leaves the catalog as it is, and by which call of the API.
+use Rattle.std.specs.Prelude.{Option}
+use Rattle.js_base.specs.Bytes.{Bytes}
+use Rattle.js_model.specs.declared.event.What.{What}
+use Rattle.js_model.specs.declared.event.What.TheVariants as whats
+use Rattle.api_calls.specs.declared.call.ApiCall.{ApiCall}
+use Rattle.api_calls.specs.declared.call.ApiCall.TheVariants as calls
+use Rattle.desk_streams.specs.declared.asking.Asking.{Asking}
+use Rattle.desk_streams.specs.declared.asking.Asking.TheVariants.{Info, Purge, Get, Delete}
+
+abbrev pub call_of : Asking → ApiCall
+call_of Info = calls.StreamInfo
+call_of (Purge filter below keep) = calls.StreamPurge
+call_of (Get by) = calls.StreamMsgGet
+call_of (Delete seq) = calls.StreamMsgDelete
+
+-- what its place is asked, to be answered to this subject
+abbrev pub what_of : Asking → Option Bytes → What
+what_of Info to = whats.StreamInfo to
+what_of (Purge filter below keep) to = whats.Purge to filter.now below keep
+what_of (Get by) to = whats.MessageGet to by.now
+what_of (Delete seq) to = whats.Delete to seq
