@@ -1,0 +1,180 @@
+//! A duplicate window.
+
+ghost use Rattle.std.specs.Prelude.{◌≡◌, ◌<◌, ◌≤◌, ◌↔◌, ◌^◌, [], ◌∷◌, ◌++◌, length, drop, option_map, nat_lt, None, OnOk, OnErr};
+ghost use Rattle.std.specs.Bool.{OnTrue, OnFalse};
+ghost use Rattle.std.specs.List.{last_or};
+ghost use Rattle.std.specs.Option.{option_copied};
+ghost use Rattle.js_base.specs.Moments.{plus};
+ghost use Rattle.dedup_window.specs.Window.{id_of, seq_of, remembered, IsLatest};
+
+use crate::fault::WindowFault;
+use crate::known::{Added, KnownIds};
+use js_base::{Blob, Moment, NoMemory};
+use js_model::Id;
+use std::alloc::Global;
+use std::collections::VecDeque;
+use std::marker::Model;
+
+/// How many ids a window may have.
+const MAX_IDS: usize = 1 << 20;
+
+/// The message ids of a stream, each with the sequence and the moment at which it was added, and for how many nanoseconds an id counts from then
+/// on. What each call costs grows with the logarithm of the number of ids; `expire` costs what it removes.
+#[derive(Drop)]
+pub struct DedupWindow {
+    window: u64,
+    /// In the order of their adding.
+    ids: VecDeque<Id>,
+    /// The same by their texts.
+    known: KnownIds,
+}
+
+impl Model for DedupWindow {
+    ghost use Rattle.dedup_window.specs.Window.{Window};
+    ghost use Rattle.dedup_window.specs.Mirrors.{Mirrors};
+
+    ghost Value = { Window };
+
+    ghost view = { λ w. record { window = w.window; ids = w.ids.items } };
+
+    ghost invariant = { λ w. Mirrors w.ids.items w.known };
+}
+
+impl DedupWindow {
+    /// A window without ids, in which an id counts for this many nanoseconds. It takes no memory.
+    pub fn new(alloc: Global, window: u64) -> DedupWindow
+        ensures value { result ≡ record { window = window; ids = [] } }
+    {
+        DedupWindow {
+            window,
+            ids: VecDeque::new(alloc),
+            known: KnownIds::new(alloc),
+        }
+    }
+
+    /// From now on an id counts for this many nanoseconds. The ids stay, also those that do not count any more.
+    pub fn set_window(&mut self, window: u64)
+        ensures value { self.new ≡ record self.old { window = window } }
+    {
+        self.window = window;
+    }
+
+    /// For how many nanoseconds an id counts.
+    pub fn window(&self) -> u64
+        ensures value { result ≡ self.now.window }
+    {
+        self.window
+    }
+
+    /// How many ids there are, at most 2^20.
+    pub fn len(&self) -> u64
+        ensures value { result ≡ length self.now.ids }
+        ensures bound { result ≤ 2 ^ 20 }
+    {
+        self.ids.len() as u64
+    }
+
+    /// The sequence of the id that has this text, whether or not it still counts.
+    pub fn seq_of(&self, id: &[u8]) -> Option<u64>
+        ensures value { result ≡ seq_of self.now.ids id.now }
+    {
+        let added = self.known.get(id)?;
+        Some(added.seq)
+    }
+
+    /// The sequence of the id that has this text and still counts at the moment.
+    pub fn seen(&self, id: &[u8], now: Moment) -> Option<u64>
+        ensures value { result ≡ seq_of (remembered self.now now) id.now }
+    {
+        let added = self.known.get(id)?;
+        if counts(added.at, self.window, now) {
+            Some(added.seq)
+        } else {
+            None
+        }
+    }
+
+    /// The id that was added last of those that are there.
+    pub fn last(&self) -> Option<&Blob>
+        ensures value { option_copied result ≡ option_map (λ i. i.id) (last_or None self.now.ids) }
+    {
+        match self.ids.back() {
+            Some(last) => Some(&last.id),
+            None => None,
+        }
+    }
+
+    /// Adds an id of which none has the text, at a moment that is no earlier than theirs. With 2^20 ids it is `Full`. An `Err` changes nothing.
+    pub fn add(&mut self, id: &Blob, seq: u64, at: Moment) -> Result<(), WindowFault>
+        requires absent { id_of self.old.ids id.now ≡ None }
+        requires latest { IsLatest at self.old.ids }
+        ensures ok { OnOk result (self.new ≡ record self.old { ids = self.old.ids ++ record { id = id.now; seq = seq; at = at } ∷ [] }) }
+        ensures err { OnErr result (self.new ≡ self.old) }
+        ensures full { (result ≡ Err WindowFault.Full) ↔ (length self.old.ids ≡ 2 ^ 20) }
+    {
+        if self.ids.len() == MAX_IDS {
+            return Err(WindowFault::Full);
+        }
+        match self.put(id, seq, at) {
+            Ok(()) => Ok(()),
+            Err(_) => Err(WindowFault::NoMemory),
+        }
+    }
+
+    /// Adds an id, for which there is room.
+    fn put(&mut self, id: &Blob, seq: u64, at: Moment) -> Result<(), NoMemory>
+        requires absent { id_of self.old.ids id.now ≡ None }
+        requires latest { IsLatest at self.old.ids }
+        requires room { length self.old.ids < 2 ^ 20 }
+        ensures ok { OnOk result (self.new ≡ record self.old { ids = self.old.ids ++ record { id = id.now; seq = seq; at = at } ∷ [] }) }
+        ensures err { OnErr result (self.new ≡ self.old) }
+    {
+        let shared = id.clone()?;
+        self.ids.reserve(1)?;
+        self.known.put(id.as_slice(), Added { seq, at })?;
+        self.ids.push_back_reserved(Id {
+            id: shared,
+            seq,
+            at,
+        });
+        Ok(())
+    }
+
+    /// Lets the ids go that do not count any more. It takes no memory, and costs what it removes.
+    pub fn expire(&mut self, now: Moment)
+        ensures left { self.new ≡ record self.old { ids = remembered self.old now } }
+    {
+        while self.is_oldest_over(now) {
+            self.drop_oldest();
+        }
+    }
+
+    /// Whether the oldest id does not count any more. If it does, so do all others.
+    fn is_oldest_over(&self, now: Moment) -> bool
+        ensures some { OnTrue result (0 < length self.now.ids) }
+        ensures over { OnTrue result (remembered (record self.now { ids = drop 1 self.now.ids }) now ≡ remembered self.now now) }
+        ensures all { OnFalse result (remembered self.now now ≡ self.now.ids) }
+    {
+        match self.ids.front() {
+            Some(oldest) => !counts(oldest.at, self.window, now),
+            None => false,
+        }
+    }
+
+    /// Lets the oldest id go.
+    fn drop_oldest(&mut self)
+        ensures left { self.new ≡ record self.old { ids = drop 1 self.old.ids } }
+    {
+        let Some(oldest) = self.ids.pop_front() else {
+            return;
+        };
+        self.known.remove(oldest.id.as_slice());
+    }
+}
+
+/// Whether an id that was added at a moment, and counts for this many nanoseconds, still counts at another.
+fn counts(at: Moment, window: u64, now: Moment) -> bool
+    ensures value { result ≡ nat_lt now (plus at window) }
+{
+    now.as_nanos() < at.plus(window).as_nanos()
+}

@@ -1,0 +1,6 @@
+-- The first of a list of numbers.
+use Rattle.std.specs.Prelude.{ℕ, List, [], ◌∷◌, Option, Some, None}
+
+abbrev pub first_number : List ℕ → Option ℕ
+first_number [] = None
+first_number (n ∷ _) = Some n
