@@ -9,7 +9,7 @@ Subjects = List (Bytes × List ℕ)
 -- the sequences of a subject, none if it is not there
 abbrev pub seqs_of : Subjects → Bytes → List ℕ
 seqs_of [] subject = []
-seqs_of (entry ∷ others) subject = if same entry.0 subject then entry.1 else seqs_of others subject
+seqs_of (entry ∷ others) subject = if same subject entry.0 then entry.1 else seqs_of others subject
 
 -- the sequence is greater than all of these
 abbrev pub IsAbove : ℕ → List ℕ → Type 0

@@ -1,12 +1,12 @@
 -- How the sequences of each subject are kept: in a map from the subject to the set of its sequences.
-use Rattle.std.specs.Prelude.{ℕ, ◌<◌, length, map, Option, Some, None}
+use Rattle.std.specs.Prelude.{◌≡◌, ℕ, ◌<◌, false, length, map, Option, Some, None}
 use Rattle.std.specs.Ordering.{nat_cmp}
 use Rattle.std.specs.Cmp.Lexicographic.{slice_cmp}
 use Rattle.std.specs.declared.alloc.Global.{Global}
 use Rattle.std.specs.declared.vec.Vec.{Vec}
 use Rattle.std.specs.BTreeMap.{BTreeMap, get_by}
 use Rattle.std.specs.BTreeSet.{BTreeSet, IsOrdered}
-use Rattle.js_base.specs.Bytes.{Bytes}
+use Rattle.js_base.specs.Bytes.{Bytes, same}
 use Rattle.subject_counts.specs.Sequences.{Subjects}
 
 abbrev pub SubjectMap : Type 0
@@ -32,3 +32,7 @@ IsFilledAt (Some set) = IsFilledSet set
 -- each set that is kept has sequences
 pub record IsFilled (subjects : SubjectMap) : Type 0 where
   pub at : (subject : Bytes) → IsFilledAt (set_at subjects subject)
+
+-- each one but that of this subject has
+pub record IsFilledBut (subjects : SubjectMap) (subject : Bytes) : Type 0 where
+  pub at : (t : Bytes) → same t subject ≡ false → IsFilledAt (set_at subjects t)

@@ -15,6 +15,7 @@ pub(crate) fn push_seq(set: &mut BTreeSet<u64>, seq: u64) -> Result<(), NoMemory
     requires above { IsAbove seq set.old.keys }
     ensures ok { OnOk result (set.new.keys ≡ set.old.keys ++ seq ∷ []) }
     ensures err { OnErr result (IsUnchanged set.old set.new) }
+    ensures ordered { IsOrdered nat_cmp set.new }
 {
     set.insert(seq)?;
     Ok(())
@@ -25,6 +26,7 @@ pub(crate) fn drop_seq(set: &mut BTreeSet<u64>, seq: u64) -> bool
     requires ordered { IsOrdered nat_cmp set.old }
     ensures left { set.new.keys ≡ filter (λ n. not (n == seq)) set.old.keys }
     ensures bare { result ≡ (length set.new.keys == 0) }
+    ensures ordered { IsOrdered nat_cmp set.new }
 {
     set.remove(&seq);
     set.is_empty()

@@ -1,8 +1,9 @@
 //! The sequences under each subject.
 
-ghost use Rattle.std.specs.Prelude.{◌≡◌, None, OnOk, OnErr};
+ghost use Rattle.std.specs.Prelude.{◌≡◌, [], None, OnOk, OnErr};
+ghost use Rattle.std.specs.Bool.{OnFalse, OnTrue};
 ghost use Rattle.subject_counts.specs.Sequences.{seqs_of, AddsSeq, DropsSeq, IsAbove, KeepsSeqs};
-ghost use Rattle.subject_counts.specs.SubjectMaps.{IsFilled, set_at, shown};
+ghost use Rattle.subject_counts.specs.SubjectMaps.{IsFilled, IsFilledBut, set_at, shown};
 
 use crate::sequence_set::{drop_seq, push_seq};
 use js_base::NoMemory;
@@ -58,11 +59,21 @@ pub(crate) fn take_seq(subjects: &mut SubjectMap, subject: &[u8], seq: u64)
     ensures dropped { DropsSeq (shown subjects.old) (shown subjects.new) subject.now seq }
     ensures filled { IsFilled subjects.new }
 {
-    let is_bare = match subjects.get_mut(subject) {
+    if drop_under(subjects, subject, seq) {
+        subjects.remove(subject);
+    }
+}
+
+/// Drops a sequence from under a subject, and tells whether the subject is there with none left.
+fn drop_under(subjects: &mut SubjectMap, subject: &[u8], seq: u64) -> bool
+    requires filled { IsFilled subjects.old }
+    ensures dropped { DropsSeq (shown subjects.old) (shown subjects.new) subject.now seq }
+    ensures bare { OnTrue result (seqs_of (shown subjects.new) subject.now ≡ []) }
+    ensures others { IsFilledBut subjects.new subject.now }
+    ensures filled { OnFalse result (IsFilled subjects.new) }
+{
+    match subjects.get_mut(subject) {
         Some(set) => drop_seq(set, seq),
         None => false,
-    };
-    if is_bare {
-        subjects.remove(subject);
     }
 }

@@ -1,0 +1,82 @@
+-- What the limits keep of the messages of a stream without consumers.
+use Rattle.std.proofs.Common.{◌≡◌, ℕ, ◌<◌, ◌≤◌, Bool, true, false, ◌||◌, cond, List, [], ◌∷◌, ◌++◌, Option, Some, None, length, map, refl, sym, ap, ◌∙◌, subst, arith}
+use Rattle.std.specs.Prelude.{nat_lt, find, sum_by}
+use Rattle.std.specs.List.{AllByRecursion}
+use Rattle.std.proofs.lemmas.Bool.{true≢false, ltb-false, or_parts}
+use borrow.Author.Tests.{ltb-true}
+use Rattle.js_base.specs.Bytes.{last_of}
+use Rattle.js_model.specs.declared.stream.Message.{Message}
+use Rattle.js_model.specs.declared.stream.Stream.{Stream}
+use Rattle.js_model.specs.declared.consumer.Consumer.{Consumer}
+use Rattle.js_model.specs.Streams.{only, confined, seqs, size, over_limit}
+use Rattle.js_model.specs.Trim.{newest_at, fitting_at, max_messages, trim}
+use Rattle.retention.proofs.Keeping.{is_crowded, newest_at_few, newest_at_rest, newest_at-without, last_of_few, last_of-without, fitting_at_few, fitting_at-without}
+use Rattle.retention.proofs.Splitting.{IsSplit}
+
+-- ---- a list
+
+module _ (per_subject : Option ℕ) (most : ℕ) (bytes : Option ℕ) where
+  -- what all limits keep of it
+  abbrev pub limits_keep : List Message → List Message
+  limits_keep ms = fitting_at bytes (last_of most (newest_at per_subject ms))
+
+  -- too many messages, or too many bytes
+  abbrev pub is_large : List Message → Bool
+  is_large ms = nat_lt most (length ms) || over_limit (sum_by size ms) bytes
+
+  pub limits_keep_few : (ms : List Message) → find (is_crowded per_subject ms) ms ≡ None → is_large ms ≡ false → limits_keep ms ≡ ms
+  limits_keep_few ms e f =
+      let few = or_parts (nat_lt most (length ms)) (over_limit (sum_by size ms) bytes) f in
+      ap (λ l. fitting_at bytes (last_of most l)) (newest_at_few per_subject ms e)
+      ∙ ap (fitting_at bytes) (last_of_few most ms (ltb-false most (length ms) few.0))
+      ∙ fitting_at_few bytes ms few.1
+
+  -- without the first message of a subject that has too many
+  pub limits_keep-without : (ms front back : List Message) (m : Message) → IsSplit (is_crowded per_subject ms) ms front m back → limits_keep (front ++ back) ≡ limits_keep ms
+  limits_keep-without ms front back m h =
+      ap (λ l. fitting_at bytes (last_of most l))
+      (newest_at-without per_subject front back m
+          (subst (λ all. AllByRecursion (λ y. is_crowded per_subject all y ≡ false) front) h.whole h.before)
+          (subst (λ all. is_crowded per_subject all m ≡ true) h.whole h.passes))
+      ∙ ap limits_keep (sym h.whole)
+
+  -- without the first message of a list that is too large
+  pub limits_keep-rest : (m : Message) (back : List Message) → find (is_crowded per_subject (m ∷ back)) (m ∷ back) ≡ None → is_large (m ∷ back) ≡ true → limits_keep back ≡ limits_keep (m ∷ back)
+  limits_keep-rest m back e large =
+      ap (λ l. fitting_at bytes (last_of most l)) (newest_at_rest per_subject m back e)
+      ∙ go (nat_lt most (length (m ∷ back))) refl large
+      ∙ sym (ap (λ l. fitting_at bytes (last_of most l)) (newest_at_few per_subject (m ∷ back) e))
+    where
+      go : (b : Bool) → nat_lt most (length (m ∷ back)) ≡ b → (b || over_limit (sum_by size (m ∷ back)) bytes) ≡ true → fitting_at bytes (last_of most back) ≡ fitting_at bytes (last_of most (m ∷ back))
+      go true l f = ap (fitting_at bytes) (last_of-without most m back (ltb-true most (length (m ∷ back)) l))
+      go false l f =
+          let few : length (m ∷ back) ≤ most = ltb-false most (length (m ∷ back)) l in
+          ap (fitting_at bytes) (last_of_few most back (omega arith))
+          ∙ fitting_at-without bytes m back f
+          ∙ sym (ap (fitting_at bytes) (last_of_few most (m ∷ back) few))
+
+-- ---- a stream
+
+-- the stream with these messages
+abbrev pub holding : Stream → List Message → Stream
+holding s ms = record s { messages = ms }
+
+pub only-holding : (s : Stream) (ms : List Message) → s.consumers ≡ [] → only s ms ≡ holding s ms
+only-holding s ms e =
+    ap (λ (cs : List Consumer). record s { messages = ms; consumers = map (confined (seqs ms)) cs }) e
+    ∙ ap (λ (cs : List Consumer). record s { messages = ms; consumers = cs }) (sym e)
+
+pub trim-holding : (s : Stream) → s.consumers ≡ [] → trim s ≡ holding s (limits_keep s.config.max_msgs_per_subject (max_messages s) s.config.max_bytes s.messages)
+unfolding trim
+trim-holding s e =
+    ap (λ (cs : List Consumer). record s { messages = third; consumers = map (confined (seqs third)) (map (confined (seqs second)) (map (confined (seqs first)) cs)) }) e
+    ∙ ap (λ (cs : List Consumer). record s { messages = third; consumers = cs }) (sym e)
+  where
+    first : List Message
+    first = newest_at s.config.max_msgs_per_subject s.messages
+
+    second : List Message
+    second = last_of (max_messages s) first
+
+    third : List Message
+    third = fitting_at s.config.max_bytes second

@@ -1,0 +1,4 @@
+pub mod Splitting
+pub mod Keeping
+pub mod Dropping
+pub mod Following

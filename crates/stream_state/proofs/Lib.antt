@@ -1,0 +1,12 @@
+pub mod Lists
+pub mod Finding
+pub mod Indexing
+pub mod Sounding
+pub mod Young
+pub mod Limiting
+pub mod Pushing
+pub mod Selections
+pub mod Purges
+pub mod Loops
+pub mod Taken
+pub mod Gathering

@@ -1,0 +1,114 @@
+//! Messages that are removed on request.
+
+ghost use Rattle.std.specs.Prelude.{◌≡◌, ◌==◌, ◌&&◌, ◌^◌, ◌<◌, nat_le, not, filter, find, length, map, option_map, take, IfOk};
+ghost use Rattle.js_base.specs.Bytes.{has};
+ghost use Rattle.js_model.specs.Events.{is_below, purge_list};
+ghost use Rattle.js_model.specs.Streams.{seqs};
+ghost use Rattle.stream_state.specs.Selecting.{named, next_named};
+ghost use Rattle.stream_state.specs.Stored.{IsSound, without_all};
+
+use crate::selector::Selector;
+use crate::stored::StoredStream;
+use js_base::NoMemory;
+use std::alloc::Global;
+
+/// The sequences of the messages that a purge names, by JetStream's stream purge: those that the filter matches, below a sequence, and all
+/// but a given number of the last ones. It goes through the messages for a filter with wildcards alone.
+pub(crate) fn purge_seqs(
+    alloc: Global,
+    stream: &StoredStream,
+    pattern: &[u8],
+    below: Option<u64>,
+    keep: Option<u64>,
+) -> Result<Vec<u64>, NoMemory>
+    requires sound { IsSound stream.now }
+    ensures value { IfOk result (λ gone. gone.items ≡ seqs (purge_list stream.now pattern.now below keep)) }
+{
+    let selector = Selector::of(pattern);
+    let most = match keep {
+        Some(keep) => count_named(alloc, stream, selector, below)?.saturating_sub(keep),
+        None => u64::MAX,
+    };
+    first_named(alloc, stream, selector, below, most)
+}
+
+/// How many of the selected messages are below a sequence.
+fn count_named(
+    alloc: Global,
+    stream: &StoredStream,
+    selector: Selector<'_>,
+    below: Option<u64>,
+) -> Result<u64, NoMemory>
+    requires sound { IsSound stream.now }
+    ensures value { IfOk result (λ count. count ≡ length (named selector.entry below stream.now.messages)) }
+{
+    if below.is_none() {
+        if let Some(count) = selector.count(stream) {
+            return Ok(count);
+        }
+    }
+    let all = first_named(alloc, stream, selector, below, u64::MAX)?;
+    Ok(all.len() as u64)
+}
+
+/// The sequences of the first of the selected messages below a sequence, at most so many.
+fn first_named(
+    alloc: Global,
+    stream: &StoredStream,
+    selector: Selector<'_>,
+    below: Option<u64>,
+    most: u64,
+) -> Result<Vec<u64>, NoMemory>
+    requires sound { IsSound stream.now }
+    ensures value { IfOk result (λ gone. gone.items ≡ take most (seqs (named selector.entry below stream.now.messages))) }
+{
+    let mut gone = Vec::new(alloc);
+    let mut from = 0;
+    while (gone.len() as u64) < most {
+        let Some(seq) = next_named(stream, selector, below, from) else {
+            return Ok(gone);
+        };
+        gone.push(seq)?;
+        from = seq + 1;
+    }
+    Ok(gone)
+}
+
+/// The sequence of the first one from another sequence on.
+fn next_named(
+    stream: &StoredStream,
+    selector: Selector<'_>,
+    below: Option<u64>,
+    from: u64,
+) -> Option<u64>
+    requires sound { IsSound stream.now }
+    ensures value { result ≡ next_named selector.entry below stream.now.messages from }
+{
+    let seq = selector.next(stream, from)?;
+    if is_below(below, seq) {
+        Some(seq)
+    } else {
+        None
+    }
+}
+
+/// Whether a sequence is below the limit, if there is one.
+fn is_below(limit: Option<u64>, seq: u64) -> bool
+    ensures value { result ≡ is_below limit seq }
+{
+    match limit {
+        Some(limit) => seq < limit,
+        None => true,
+    }
+}
+
+/// Takes the messages of these sequences out. It takes no memory.
+pub(crate) fn remove_all(stream: &mut StoredStream, gone: &[u64])
+    requires sound { IsSound stream.old }
+    ensures left { stream.new ≡ without_all gone.now stream.old }
+    ensures sound { IsSound stream.new }
+{
+    for seq in gone {
+        stream.remove(*seq);
+    }
+}

@@ -1,0 +1,225 @@
+//! A stream whose limits hold.
+
+ghost use Rattle.std.specs.Prelude.{◌≡◌, ◌+◌, ◌^◌, ◌<◌, [], None, is_some, length, max, true, IfOk, IfSome, IsTrue, IsUtf8, OnOk, OnErr};
+ghost use Rattle.std.specs.List.{last_or};
+ghost use Rattle.std.specs.Option.{option_copied, option_to_list};
+ghost use Rattle.js_model.specs.declared.reply.Verdict.TheVariants.{Take};
+ghost use Rattle.js_model.specs.Advance.{advance};
+ghost use Rattle.js_model.specs.Configs.{is_stream_config};
+ghost use Rattle.js_model.specs.Consumers.{empty_stream};
+ghost use Rattle.js_model.specs.Counts.{first_message};
+ghost use Rattle.js_model.specs.Events.{message_at, purge_list, with_message, without_messages};
+ghost use Rattle.js_model.specs.Proper.{is_proper_publish};
+ghost use Rattle.js_model.specs.Trim.{trim};
+ghost use Rattle.js_model.specs.Verdict.{last_on, verdict};
+
+use crate::ageing::drop_old;
+use crate::purging::{purge_seqs, remove_all};
+use crate::stored::StoredStream;
+use crate::trimming::{trim, trim_on};
+use crate::verdicts::verdict;
+use js_base::{Moment, NoMemory};
+use js_model::{Message, Publish, StreamConfig, Verdict};
+use std::alloc::Global;
+use std::marker::Model;
+use stream_view::{Counts, Head, View};
+
+/// A stream without consumers, as its limits keep it.
+#[derive(Drop)]
+pub struct StreamState {
+    alloc: Global,
+    stream: StoredStream,
+}
+
+impl Model for StreamState {
+    ghost use Rattle.js_model.specs.declared.stream.Stream.{Stream};
+    ghost use Rattle.stream_state.specs.Settled.{IsSettled};
+
+    ghost Value = { Stream };
+
+    ghost view = { λ state. state.stream };
+
+    ghost invariant = { λ state. IsSettled state.stream };
+}
+
+impl StreamState {
+    /// A stream without messages. It takes no memory.
+    pub fn make(alloc: Global, incarnation: u64, config: StreamConfig, now: Moment) -> StreamState
+        requires valid { IsTrue (is_stream_config config) }
+        requires incarnation { incarnation < 2 ^ 62 }
+        ensures value { result ≡ empty_stream incarnation config now }
+        ensures settled { trim result ≡ result }
+    {
+        StreamState {
+            alloc,
+            stream: StoredStream::make(alloc, incarnation, config, now),
+        }
+    }
+
+    /// The number of the stream among those of its place, below 2^62. There are no consumers.
+    pub fn incarnation(&self) -> u64
+        ensures value { result ≡ self.now.incarnation }
+        ensures bound { result < 2 ^ 62 }
+        ensures config { IsTrue (is_stream_config self.now.config) }
+        ensures alone { self.now.consumers ≡ [] }
+        ensures settled { trim self.now ≡ self.now }
+    {
+        self.stream.incarnation()
+    }
+
+    /// The moment at which it was made.
+    pub fn made(&self) -> Moment
+        ensures value { result ≡ self.now.made }
+    {
+        self.stream.made()
+    }
+
+    /// The message of a sequence.
+    pub fn get(&self, seq: u64) -> Option<&Message>
+        ensures value { option_copied result ≡ message_at self.now seq }
+        ensures utf8 { IfSome result (λ message. IsUtf8 message.now.subject) }
+    {
+        self.stream.get(seq)
+    }
+
+    /// The first message.
+    pub fn first(&self) -> Option<&Message>
+        ensures value { option_copied result ≡ first_message self.now.messages }
+    {
+        self.stream.first()
+    }
+
+    /// The last message.
+    pub fn last_message(&self) -> Option<&Message>
+        ensures value { option_copied result ≡ last_or None self.now.messages }
+    {
+        self.stream.messages().by_sequence().last()
+    }
+
+    /// The last stored message of a subject.
+    pub fn last_on(&self, subject: &[u8]) -> Option<&Message>
+        ensures value { option_copied result ≡ last_on self.now subject.now }
+        ensures utf8 { IfSome result (λ message. IsUtf8 message.now.subject) }
+    {
+        self.stream.last_on(subject)
+    }
+
+    /// What the stream answers a publish, by JetStream's publish headers, duplicate window and discard policy. `room` is whether the store has
+    /// a block for the message. It does not go through the messages.
+    pub fn verdict(&self, publish: &Publish, room: bool) -> Result<Verdict, NoMemory>
+        ensures value { IfOk result (λ said. said ≡ verdict self.now publish.now room) }
+    {
+        verdict(self.alloc, &self.stream, publish, room)
+    }
+
+    /// Stores the message of a publish that is to be taken, remembers its id, and lets the messages go that the limits drop. Gives the message's
+    /// sequence. An `Err` changes nothing.
+    pub fn publish(&mut self, publish: &Publish) -> Result<u64, NoMemory>
+        requires taken { verdict self.old publish.now true ≡ Take }
+        requires proper { IsTrue (is_proper_publish publish.now) }
+        ensures ok { OnOk result (self.new ≡ trim (with_message self.old publish.now)) }
+        ensures settled { trim self.new ≡ self.new }
+        ensures seq { IfOk result (λ seq. seq ≡ self.old.last + 1) }
+        ensures err { OnErr result (self.new ≡ self.old) }
+    {
+        self.stream.store(publish)?;
+        trim_on(&mut self.stream, publish.subject.as_slice());
+        Ok(self.stream.last())
+    }
+
+    /// Removes the messages that a purge names, by JetStream's stream purge: those that the filter matches, below a sequence, and all but a given
+    /// number of the last ones. Gives how many they are. It goes through the messages for a filter with wildcards, and through those that are
+    /// kept below a sequence. An `Err` changes nothing.
+    pub fn purge(
+        &mut self,
+        pattern: &[u8],
+        below: Option<u64>,
+        keep: Option<u64>,
+    ) -> Result<u64, NoMemory>
+        ensures count { IfOk result (λ count. count ≡ length (purge_list self.old pattern.now below keep)) }
+        ensures ok { OnOk result (self.new ≡ without_messages self.old (purge_list self.old pattern.now below keep)) }
+        ensures settled { trim self.new ≡ self.new }
+        ensures err { OnErr result (self.new ≡ self.old) }
+    {
+        let gone = purge_seqs(self.alloc, &self.stream, pattern, below, keep)?;
+        remove_all(&mut self.stream, gone.as_slice());
+        Ok(gone.len() as u64)
+    }
+
+    /// Removes the message of a sequence, and tells whether there was one. It takes no memory.
+    pub fn delete(&mut self, seq: u64) -> bool
+        ensures there { result ≡ is_some (message_at self.old seq) }
+        ensures left { self.new ≡ without_messages self.old (option_to_list (message_at self.old seq)) }
+        ensures settled { trim self.new ≡ self.new }
+    {
+        self.stream.remove(seq)
+    }
+
+    /// Replaces the configuration, and lets the messages go that the new limits drop. It takes no memory.
+    pub fn change(&mut self, config: StreamConfig)
+        requires valid { IsTrue (is_stream_config config) }
+        ensures value { self.new ≡ trim (record self.old { config = config }) }
+        ensures settled { trim self.new ≡ self.new }
+    {
+        self.stream.set_config(config);
+        trim(&mut self.stream);
+    }
+
+    /// Lets time pass until a moment, or until its own if that is later: messages and ids go that are too old. It takes no memory, and costs
+    /// what it removes.
+    pub fn advance(&mut self, now: Moment)
+        ensures value { self.new ≡ advance self.old now }
+        ensures settled { trim self.new ≡ self.new }
+    {
+        let now = later(self.stream.moment(), now);
+        drop_old(&mut self.stream, now);
+        self.stream.pass_time(now);
+    }
+}
+
+impl View for StreamState {
+    ghost stream = { λ s. s };
+
+    fn config(&self) -> &StreamConfig {
+        self.stream.config()
+    }
+
+    fn moment(&self) -> Moment {
+        self.stream.moment()
+    }
+
+    fn last(&self) -> u64 {
+        self.stream.last()
+    }
+
+    fn count(&self) -> u64 {
+        self.stream.count()
+    }
+
+    fn bytes(&self) -> u64 {
+        self.stream.bytes()
+    }
+
+    fn at_or_after(&self, seq: u64) -> Option<Head<'_>> {
+        self.stream.at_or_after(seq)
+    }
+
+    fn at_or_before(&self, seq: u64) -> Option<Head<'_>> {
+        self.stream.at_or_before(seq)
+    }
+
+    fn of(&self, subject: &[u8]) -> Option<Counts> {
+        self.stream.of(subject)
+    }
+}
+
+/// The later of two moments.
+fn later(one: Moment, other: Moment) -> Moment
+    ensures value { result ≡ max one other }
+{
+    if one.as_nanos() < other.as_nanos() {
+        other
+    } else {
+        one
+    }
+}

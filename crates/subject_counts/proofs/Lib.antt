@@ -1,0 +1,3 @@
+pub mod SequenceSets
+pub mod Replacing
+pub mod Changes
