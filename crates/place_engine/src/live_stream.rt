@@ -1,6 +1,6 @@
 //! The stream of a place in memory.
 
-ghost use Rattle.std.specs.Prelude.{◌≡◌, ◌≢◌, ◌^◌, ◌<◌, ◌==◌, Option, false, true, if◌then◌else◌, IfOk, IfSome, OnErr, IsTrue, IsUtf8};
+ghost use Rattle.std.specs.Prelude.{◌≡◌, ◌≢◌, ◌^◌, ◌<◌, ◌==◌, [], Option, false, true, if◌then◌else◌, IfOk, IfSome, OnOk, OnErr, IsTrue, IsUtf8};
 ghost use Rattle.std.specs.List.{list_any};
 ghost use Rattle.std.specs.Option.{option_copied};
 ghost use Rattle.js_base.specs.Bytes.{Bytes};
@@ -64,7 +64,6 @@ impl LiveStream {
         requires valid { IsTrue (is_stream_config config.now) }
         requires incarnation { incarnation < 2 ^ 62 }
         ensures made { IfOk result (λ stream. stream ≡ empty_stream incarnation config.now now) }
-        ensures settled { IfOk result (λ stream. settled stream ≡ stream) }
     {
         let config = copy_stream_config(alloc, config)?;
         Ok(LiveStream {
@@ -73,10 +72,11 @@ impl LiveStream {
         })
     }
 
-    /// The number of the stream among those of its place.
+    /// The number of the stream among those of its place. There are no consumers.
     pub fn incarnation(&self) -> u64
         ensures value { result ≡ self.now.incarnation }
         ensures bound { result < 2 ^ 62 }
+        ensures alone { self.now.consumers ≡ [] }
     {
         self.state.incarnation()
     }
@@ -96,9 +96,10 @@ impl LiveStream {
         self.state.config().subjects.as_slice()
     }
 
-    /// Its information.
+    /// Its information, which limits and retention leave as it is.
     pub fn info(&self) -> Result<StreamInfo, NoMemory>
         ensures value { IfOk result (λ info. info ≡ stream_info self.now) }
+        ensures settled { OnOk result (settled self.now ≡ self.now) }
         ensures shown { IfOk result IsSoundInfo }
     {
         let config = copy_stream_config(self.alloc, self.state.config())?;
@@ -189,22 +190,11 @@ impl LiveStream {
         ensures shown { IfOk result IsShown }
         ensures err { OnErr result (self.new ≡ self.old) }
     {
-        match self.verdict(publish)? {
+        match verdict(&self.state, publish)? {
             Verdict::Take => Ok(Reply::Published(self.state.publish(publish)?)),
             Verdict::Duplicate(seq) => Ok(Reply::Duplicate(seq)),
             Verdict::Refused(refusal) => Ok(Reply::Refused(refusal)),
         }
-    }
-
-    /// What it answers a publish. Its store has a block for each message.
-    fn verdict(&self, publish: &Publish) -> Result<Verdict, NoMemory>
-        requires told { IfSome publish.now.wants.bad IsUtf8 }
-        ensures value { IfOk result (λ said. said ≡ verdict self.now publish.now true) }
-        ensures shown { IfOk result IsShownVerdict }
-    {
-        // that its sequences are below 2^62 is what the proof takes from this call
-        let _ = self.state.last();
-        self.state.verdict(publish, true)
     }
 
     /// Removes the messages that a purge names, and tells how many they were.
@@ -247,9 +237,10 @@ impl LiveStream {
         ensures answers { (subject : Option Bytes) → IfOk result (λ reply. StreamAnswers self.now (whats.MessageGet subject by.now) reply (Live self.now)) }
         ensures shown { IfOk result IsShown }
     {
+        let alloc = self.alloc;
         match self.message(by) {
             Some(message) => Ok(Reply::Message(copy_message(message)?)),
-            None => Ok(Reply::Refused(no_message(self.alloc)?)),
+            None => Ok(Reply::Refused(no_message(alloc)?)),
         }
     }
 
@@ -295,4 +286,15 @@ impl LiveStream {
             None => self.state.last() + 1,
         }
     }
+}
+
+/// What a stream answers a publish, if its store has a block for each message.
+fn verdict(state: &StreamState, publish: &Publish) -> Result<Verdict, NoMemory>
+    requires told { IfSome publish.now.wants.bad IsUtf8 }
+    ensures value { IfOk result (λ said. said ≡ verdict state.now publish.now true) }
+    ensures shown { IfOk result IsShownVerdict }
+{
+    // that the sequences are below 2^62 is what the proof takes from this call
+    let _ = state.last();
+    state.verdict(publish, true)
 }
