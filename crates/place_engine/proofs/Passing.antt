@@ -1,5 +1,5 @@
 -- What passing time comes to for a stream without consumers.
-use Rattle.std.proofs.Common.{◌≡◌, ◌∙◌, ℕ, ◌==◌, max, nat_lt, Bool, true, false, cond, if◌then◌else◌, List, [], ◌∷◌, ◌++◌, map, filter, refl, sym, ap, subst}
+use Rattle.std.proofs.Common.{◌≡◌, ◌∙◌, ℕ, ◌==◌, max, nat_lt, Bool, true, false, cond, if◌then◌else◌, List, [], ◌∷◌, map, filter, refl, sym, ap, subst}
 use Rattle.std.proofs.Math.Nat.{max-eq_left, le-max_right}
 use Rattle.js_base.specs.declared.out.Out.{Out}
 use Rattle.js_base.specs.Moments.{plus}

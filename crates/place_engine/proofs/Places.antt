@@ -1,5 +1,5 @@
 -- What a place answers.
-use Rattle.std.proofs.Common.{◌≡◌, ◌≢◌, ℕ, ◌+◌, ◌^◌, true, List, [], ◌++◌, append-nil, Bool, if◌then◌else◌, Option, ap, subst, sym, ◌∙◌, refl}
+use Rattle.std.proofs.Common.{◌≡◌, ◌≢◌, ℕ, ◌+◌, ◌^◌, true, List, [], append-nil, Bool, if◌then◌else◌, Option, ap, subst, sym, ◌∙◌, refl}
 use Rattle.std.proofs.lemmas.Bool.{eq-eqb, ne_eqb}
 use Rattle.js_base.specs.Bytes.{Bytes}
 use Rattle.js_base.specs.declared.out.Out.{Out}
@@ -16,9 +16,9 @@ use Rattle.js_model.specs.Advance.{advance, advance_outs}
 use Rattle.js_model.specs.Refusals.{numbers_used_up, no_stream}
 use Rattle.js_model.specs.Consumers.{empty_stream}
 use Rattle.js_model.specs.Counts.{stream_info}
-use Rattle.js_model.specs.Events.{answered, kept_incarnation, completed, vacantly, stream_answer, stream_told, farewells, settled}
+use Rattle.js_model.specs.Events.{answered, kept_incarnation, completed, vacantly, stream_answer, stream_told, settled}
 use Rattle.js_model.specs.StateMoments.{state_at}
-use Rattle.place_engine.specs.Answers.{StreamAnswers, AnswersThen, PlaceAnswers}
+use Rattle.place_engine.specs.Answers.{AnswersThen, PlaceAnswers}
 use Rattle.place_engine.specs.Places.{IsVacant}
 
 -- ---- no stream

@@ -1,5 +1,5 @@
 -- What limits and retention keep of a stream without consumers whose retention is `limits`.
-use Rattle.std.proofs.Common.{◌≡◌, ◌∙◌, Bool, true, List, [], ◌∷◌, IsTrue, filter, refl, sym, ap, subst, cond}
+use Rattle.std.proofs.Common.{◌≡◌, ◌∙◌, true, List, [], ◌∷◌, IsTrue, filter, refl, sym, ap, subst}
 use Rattle.js_model.specs.declared.stream_config.Retention.{Retention}
 use Rattle.js_model.specs.declared.stream_config.Retention.TheVariants.{Limits}
 use Rattle.js_model.specs.declared.stream_config.StreamConfig.{StreamConfig}

@@ -1,5 +1,5 @@
 -- What replies show, and that no consumer is ready if there are none.
-use Rattle.std.proofs.Common.{◌≡◌, ℕ, List, [], false, IsUtf8, refl, sym, ap, subst}
+use Rattle.std.proofs.Common.{◌≡◌, ℕ, List, false, IsUtf8, refl, sym, ap, subst}
 use Rattle.std.specs.Str.{is_utf8, chars}
 use Rattle.std.specs.List.{list_any}
 use lib.Utf8.{encode}

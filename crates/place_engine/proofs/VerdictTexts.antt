@@ -1,5 +1,5 @@
 -- The texts of the refusals of a publish are UTF-8.
-use Rattle.std.proofs.Common.{◌≡◌, ◌∙◌, ℕ, ◌+◌, ◌^◌, ◌<◌, ◌≤◌, ◌++◌, Bool, true, false, List, [], ◌∷◌, filter, Option, Some, None, IfSome, IsUtf8, cond, refl, sym, ap, subst, arith}
+use Rattle.std.proofs.Common.{◌≡◌, ℕ, ◌+◌, ◌^◌, ◌<◌, ◌≤◌, Bool, true, false, List, [], ◌∷◌, filter, Option, Some, None, IfSome, IsUtf8, cond, refl, subst, arith}
 use Rattle.std.specs.Prelude.{codes, decimal, unwrap_or}
 use Rattle.std.specs.List.{last_or}
 use Rattle.std.specs.Str.{is_utf8, chars}
@@ -12,8 +12,6 @@ use Rattle.js_model.specs.declared.stream.Id.{Id}
 use Rattle.js_model.specs.declared.stream.Message.{Message}
 use Rattle.js_model.specs.declared.stream.Stream.{Stream}
 use Rattle.js_model.specs.declared.event.Publish.{Publish}
-use Rattle.js_model.specs.declared.reply.Verdict.{Verdict}
-use Rattle.js_model.specs.declared.reply.Verdict.TheVariants.{Refused as RefusedBy}
 use Rattle.js_model.specs.Lists.{Between}
 use Rattle.js_model.specs.Refusals.{Check, first_refusal, message_too_large, bad_header_number, id_too_long, wrong_stream, wrong_last, wrong_last_id, max_messages_exceeded, max_bytes_exceeded, window_full, numbers_used_up, no_free_block}
 use Rattle.js_model.specs.Verdict.{verdict, first_of_all, known, early_checks, late_checks, last_on, last_seq_on}

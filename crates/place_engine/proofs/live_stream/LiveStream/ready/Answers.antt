@@ -1,4 +1,3 @@
-use Rattle.std.proofs.Common.{refl}
 use Rattle.place_engine.proofs.Shown.{none_ready}
 use Rattle.place_engine.proofs.live_stream.LiveStream.ready.Goals as goal
 
