@@ -18,14 +18,20 @@ use Rattle.dedup_window.specs.Mirrors.{AreApart, added_of}
 passing_all : {X : Type 0} (t : X → Bool) (xs : List X) → All (λ x. t x ≡ true) xs → filter t xs ≡ xs
 passing_all t [] h = refl
 passing_all t (x ∷ xs) h =
-    ap (λ b. cond b (x ∷ filter t xs) (filter t xs)) (All-head (λ y. t y ≡ true) x xs h) ∙ ap (λ ys. x ∷ ys) (passing_all t xs (All-tail (λ y. t y ≡ true) x xs h))
+    ap (λ b. cond b (x ∷ filter t xs) (filter t xs)) (All-head (λ y. t y ≡ true) x xs h)
+    ∙ ap (λ ys. x ∷ ys) (passing_all t xs (All-tail (λ y. t y ≡ true) x xs h))
+
+abbrev is_counted : Window → ℕ → Id → Bool
+is_counted w now i = nat_lt now (plus i.at w.window)
 
 -- if the oldest id counts, so do all
-pub all_remembered : (w : Window) (now : ℕ) (i : Id) → i ≡ get_or w.ids 0 i → nat_lt now (plus i.at w.window) ≡ true → IsNonDecreasingBy (λ j. j.at) w.ids → remembered w now ≡ w.ids
+pub all_remembered : (w : Window) (now : ℕ) (i : Id) → i ≡ get_or w.ids 0 i → is_counted w now i ≡ true → IsNonDecreasingBy (λ j. j.at) w.ids
+    → remembered w now ≡ w.ids
 all_remembered w now i is counts up =
-    passing_all _ w.ids (All-from_get_or (λ j. nat_lt now (plus j.at w.window) ≡ true) w.ids i
-    (λ k within. let first : i.at ≡ (get_or w.ids 0 i).at = ap (λ (j : Id). j.at) is in
-    lt-ltb now (plus (get_or w.ids k i).at w.window) (omega (arith, ltb-true now (plus i.at w.window) counts, first, up 0 k i (omega arith) within))))
+    let first : i.at ≡ (get_or w.ids 0 i).at = ap (λ (j : Id). j.at) is in
+    let below = ltb-true now (plus i.at w.window) counts in
+    passing_all (is_counted w now) w.ids (All-from_get_or (λ j. is_counted w now j ≡ true) w.ids i
+    (λ k within. lt-ltb now (plus (get_or w.ids k i).at w.window) (omega (arith, below, first, up 0 k i (omega arith) within))))
 
 -- ---- the last one
 
@@ -42,19 +48,20 @@ last_is (y ∷ more) k x is at =
 -- ---- those of a text
 
 -- the one that was found, if it passes
-abbrev pub kept_if : (Id → Bool) → Option Id → Option Id
+abbrev kept_if : (Id → Bool) → Option Id → Option Id
 kept_if p None = None
 kept_if p (Some i) = cond (p i) (Some i) None
 
 -- of ids that are apart, the one of a text is found among those that pass exactly if it passes
-pub id_of-filter : (p : Id → Bool) (ids : List Id) (text : Bytes) → AreApart ids → id_of (filter p ids) text ≡ kept_if p (id_of ids text)
+id_of-filter : (p : Id → Bool) (ids : List Id) (text : Bytes) → AreApart ids → id_of (filter p ids) text ≡ kept_if p (id_of ids text)
 id_of-filter p [] text apart = refl
 id_of-filter p (i ∷ ids) text apart = go (id_of-filter p ids text apart.1) (same i.id text) (p i) refl refl
   where
     go : id_of (filter p ids) text ≡ kept_if p (id_of ids text) → (b q : Bool) → same i.id text ≡ b → p i ≡ q
         → id_of (cond q (i ∷ filter p ids) (filter p ids)) text ≡ kept_if p (cond b (Some i) (id_of ids text))
     go rest true true e f = ap (λ c. cond c (Some i) (id_of (filter p ids) text)) e ∙ sym (ap (λ c. cond c (Some i) None) f)
-    go rest true false e f = rest ∙ ap (kept_if p) (ap (id_of ids) (sym (same_is i.id text e)) ∙ apart.0) ∙ sym (ap (λ c. cond c (Some i) None) f)
+    go rest true false e f =
+        rest ∙ ap (kept_if p) (ap (id_of ids) (sym (same_is i.id text e)) ∙ apart.0) ∙ sym (ap (λ c. cond c (Some i) None) f)
     go rest false true e f = ap (λ c. cond c (Some i) (id_of (filter p ids) text)) e ∙ rest
     go rest false false e f = rest
 
@@ -63,13 +70,14 @@ abbrev pub seen_of : Window → ℕ → Option Added → Option ℕ
 seen_of w now None = None
 seen_of w now (Some a) = cond (nat_lt now (plus a.at w.window)) (Some a.seq) None
 
-pub seen_is : (w : Window) (now : ℕ) (text : Bytes) → AreApart w.ids → seq_of (remembered w now) text ≡ seen_of w now (option_map added_of (id_of w.ids text))
-seen_is w now text apart = ap (option_map (λ i. i.seq)) (id_of-filter (λ i. nat_lt now (plus i.at w.window)) w.ids text apart) ∙ go (id_of w.ids text)
+pub seen_is : (w : Window) (now : ℕ) (text : Bytes) → AreApart w.ids
+    → seq_of (remembered w now) text ≡ seen_of w now (option_map added_of (id_of w.ids text))
+seen_is w now text apart = ap (option_map (λ i. i.seq)) (id_of-filter (is_counted w now) w.ids text apart) ∙ go (id_of w.ids text)
   where
-    counted : (i : Id) (b : Bool) → option_map (λ (j : Id). j.seq) (cond b (Some i) None) ≡ cond b (Some i.seq) None
-    counted i true = refl
-    counted i false = refl
+    seq : (i : Id) (b : Bool) → option_map (λ (j : Id). j.seq) (cond b (Some i) None) ≡ cond b (Some i.seq) None
+    seq i true = refl
+    seq i false = refl
 
-    go : (o : Option Id) → option_map (λ i. i.seq) (kept_if (λ i. nat_lt now (plus i.at w.window)) o) ≡ seen_of w now (option_map added_of o)
+    go : (o : Option Id) → option_map (λ i. i.seq) (kept_if (is_counted w now) o) ≡ seen_of w now (option_map added_of o)
     go None = refl
-    go (Some i) = counted i (nat_lt now (plus i.at w.window))
+    go (Some i) = seq i (is_counted w now i)

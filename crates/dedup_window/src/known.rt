@@ -15,7 +15,7 @@ pub(crate) struct Added {
     pub(crate) at: Moment,
 }
 
-/// How each id was added, in an ordered map.
+/// How each id was added, in an ordered map. Its keys are copies of the texts, since a slice finds no `Blob` in it.
 #[derive(Drop)]
 pub(crate) struct KnownIds {
     alloc: Global,

@@ -19,13 +19,13 @@ use std::marker::Model;
 const MAX_IDS: usize = 1 << 20;
 
 /// The message ids of a stream, each with the sequence and the moment at which it was added, and for how many nanoseconds an id counts from then
-/// on. What each call costs grows with the logarithm of the number of ids; `expire` costs what it removes.
+/// on. The cost of a call grows with the logarithm of the number of ids.
 #[derive(Drop)]
 pub struct DedupWindow {
     window: u64,
     /// In the order of their adding.
     ids: VecDeque<Id>,
-    /// The same by their texts.
+    /// The same, by their texts.
     known: KnownIds,
 }
 
@@ -98,13 +98,12 @@ impl DedupWindow {
     pub fn last(&self) -> Option<&Blob>
         ensures value { option_copied result ≡ option_map (λ i. i.id) (last_or None self.now.ids) }
     {
-        match self.ids.back() {
-            Some(last) => Some(&last.id),
-            None => None,
-        }
+        let last = self.ids.back()?;
+        Some(&last.id)
     }
 
-    /// Adds an id of which none has the text, at a moment that is no earlier than theirs. With 2^20 ids it is `Full`. An `Err` changes nothing.
+    /// Adds an id whose text no other has, at a moment no earlier than any of theirs. It is `Full` exactly with 2^20 ids, and else `NoMemory` if an
+    /// allocation is refused; either changes nothing.
     pub fn add(&mut self, id: &Blob, seq: u64, at: Moment) -> Result<(), WindowFault>
         requires absent { id_of self.old.ids id.now ≡ None }
         requires latest { IsLatest at self.old.ids }
@@ -115,10 +114,7 @@ impl DedupWindow {
         if self.ids.len() == MAX_IDS {
             return Err(WindowFault::Full);
         }
-        match self.put(id, seq, at) {
-            Ok(()) => Ok(()),
-            Err(_) => Err(WindowFault::NoMemory),
-        }
+        self.put(id, seq, at).map_err(|_| WindowFault::NoMemory)
     }
 
     /// Adds an id, for which there is room.
@@ -140,19 +136,19 @@ impl DedupWindow {
         Ok(())
     }
 
-    /// Lets the ids go that do not count any more. It takes no memory, and costs what it removes.
+    /// Lets go of the ids that do not count any more at the moment. It takes no memory, and its cost grows with the number of these.
     pub fn expire(&mut self, now: Moment)
         ensures left { self.new ≡ record self.old { ids = remembered self.old now } }
     {
-        while self.is_oldest_over(now) {
+        while self.is_oldest_expired(now) {
             self.drop_oldest();
         }
     }
 
-    /// Whether the oldest id does not count any more. If it does, so do all others.
-    fn is_oldest_over(&self, now: Moment) -> bool
+    /// Whether the oldest id does not count any more. If it still does, so do all others.
+    fn is_oldest_expired(&self, now: Moment) -> bool
         ensures some { OnTrue result (0 < length self.now.ids) }
-        ensures over { OnTrue result (remembered (record self.now { ids = drop 1 self.now.ids }) now ≡ remembered self.now now) }
+        ensures rest { OnTrue result (remembered (record self.now { ids = drop 1 self.now.ids }) now ≡ remembered self.now now) }
         ensures all { OnFalse result (remembered self.now now ≡ self.now.ids) }
     {
         match self.ids.front() {

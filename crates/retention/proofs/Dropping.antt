@@ -1,8 +1,8 @@
 -- What the limits keep of the messages of a stream without consumers.
-use Rattle.std.proofs.Common.{◌≡◌, ℕ, ◌<◌, ◌≤◌, Bool, true, false, ◌||◌, cond, List, [], ◌∷◌, ◌++◌, Option, Some, None, length, map, refl, sym, ap, ◌∙◌, subst, arith}
+use Rattle.std.proofs.Common.{◌≡◌, ℕ, ◌≤◌, Bool, true, false, ◌||◌, List, [], ◌∷◌, ◌++◌, Option, None, length, map, refl, sym, ap, ◌∙◌, subst, arith}
 use Rattle.std.specs.Prelude.{nat_lt, find, sum_by}
 use Rattle.std.specs.List.{AllByRecursion}
-use Rattle.std.proofs.lemmas.Bool.{true≢false, ltb-false, or_parts}
+use Rattle.std.proofs.lemmas.Bool.{ltb-false, or_parts}
 use borrow.Author.Tests.{ltb-true}
 use Rattle.js_base.specs.Bytes.{last_of}
 use Rattle.js_model.specs.declared.stream.Message.{Message}
@@ -36,8 +36,8 @@ module _ (per_subject : Option ℕ) (most : ℕ) (bytes : Option ℕ) where
   limits_keep-without ms front back m h =
       ap (λ l. fitting_at bytes (last_of most l))
       (newest_at-without per_subject front back m
-          (subst (λ all. AllByRecursion (λ y. is_crowded per_subject all y ≡ false) front) h.whole h.before)
-          (subst (λ all. is_crowded per_subject all m ≡ true) h.whole h.passes))
+      (subst (λ all. AllByRecursion (λ y. is_crowded per_subject all y ≡ false) front) h.whole h.before)
+      (subst (λ all. is_crowded per_subject all m ≡ true) h.whole h.passes))
       ∙ ap limits_keep (sym h.whole)
 
   -- without the first message of a list that is too large

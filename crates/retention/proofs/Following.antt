@@ -1,23 +1,22 @@
 -- The laws of what goes next: without it the limits keep the same, and if nothing goes, all.
-use Rattle.std.proofs.Common.{◌≡◌, ℕ, suc, zero, ◌+◌, ◌<◌, ◌≤◌, Bool, true, false, ◌||◌, cond, List, [], ◌∷◌, ◌++◌, Option, Some, None, length, map, refl, sym, ap, ◌∙◌, subst, arith, length-append}
-use Rattle.std.specs.Prelude.{◌==◌, not, nat_lt, filter, find, sum_by, option_map}
+use Rattle.std.proofs.Common.{◌≡◌, ℕ, suc, zero, ◌+◌, ◌≤◌, Bool, true, false, ◌||◌, cond, List, [], ◌∷◌, ◌++◌, Option, Some, None, length, refl, sym, ap, ◌∙◌, subst, arith}
+use Rattle.std.specs.Prelude.{◌==◌, not, filter, find, option_map}
 use Rattle.std.specs.Option.{option_or}
 use Rattle.std.proofs.lemmas.Bool.{true≢false, le-ltb}
 use Rattle.js_base.specs.Bytes.{has}
 use Rattle.js_model.specs.declared.stream.Message.{Message}
 use Rattle.js_model.specs.declared.stream.Stream.{Stream}
-use Rattle.js_model.specs.declared.consumer.Consumer.{Consumer}
 use Rattle.js_model.specs.Counts.{first_message}
 use Rattle.js_model.specs.Events.{message_at, without_messages}
-use Rattle.js_model.specs.Lists.{Between, IsPart, none, keep, skip}
-use Rattle.js_model.specs.Streams.{confined, seqs, size, over_limit}
+use Rattle.js_model.specs.Lists.{Between, IsPart, keep, skip}
+use Rattle.js_model.specs.Streams.{seqs, over_limit}
 use Rattle.js_model.specs.Trim.{max_messages, trim}
 use Rattle.js_model.proofs.Parts.{all_part, part_between, trim_part}
 use Rattle.retention.specs.Laws.{IsLone, LawTrimmed, LawWithin, LawWithout}
-use Rattle.retention.specs.Over.{is_over, next_over, over_stream, over_subject}
+use Rattle.retention.specs.Over.{is_over, next_over, over_subject}
 use Rattle.retention.proofs.Dropping.{holding, is_large, limits_keep, limits_keep_few, limits_keep-rest, limits_keep-without, only-holding, trim-holding}
 use Rattle.retention.proofs.Keeping.{is_crowded}
-use Rattle.retention.proofs.Splitting.{IsSplit, found_by_seq, split_at_found, without_it}
+use Rattle.retention.proofs.Splitting.{found_by_seq, split_at_found, without_it}
 
 -- what the limits keep of these messages
 abbrev kept_of : Stream → List Message → List Message
@@ -45,26 +44,35 @@ none_large s = ap (λ b. b || over_limit 0 s.config.max_bytes) (le-ltb (max_mess
 next_of_large : (s : Stream) (ms : List Message) → s.messages ≡ ms → over_subject s ≡ None → is_over s ≡ true → NextIs s (option_map (λ m. m.seq) (first_message ms))
 next_of_large s [] e f large =
     absurd (true≢false (sym large ∙ ap (is_large s.config.max_msgs_per_subject (max_messages s) s.config.max_bytes) e ∙ none_large s))
-next_of_large s (m ∷ back) e f large = ([], m, back, record {
-  whole = e;
-  seq = refl;
-  same = limits_keep-rest s.config.max_msgs_per_subject (max_messages s) s.config.max_bytes m back
-      (subst (λ ms. find (is_crowded s.config.max_msgs_per_subject ms) ms ≡ None) e f)
-      (subst (λ ms. is_large s.config.max_msgs_per_subject (max_messages s) s.config.max_bytes ms ≡ true) e large)
-      ∙ ap (kept_of s) (sym e);
-})
+next_of_large s (m ∷ back) e f large = (
+  [],
+  m,
+  back,
+  record {
+    whole = e;
+    seq = refl;
+    same = limits_keep-rest s.config.max_msgs_per_subject (max_messages s) s.config.max_bytes m back
+        (subst (λ ms. find (is_crowded s.config.max_msgs_per_subject ms) ms ≡ None) e f)
+        (subst (λ ms. is_large s.config.max_msgs_per_subject (max_messages s) s.config.max_bytes ms ≡ true) e large)
+        ∙ ap (kept_of s) (sym e);
+  },
+)
 
 next_is : (s : Stream) → NextIs s (next_over s)
 next_is s = go (over_subject s) refl (is_over s) refl
   where
     go : (o : Option Message) → over_subject s ≡ o → (b : Bool) → is_over s ≡ b → NextIs s (option_map (λ m. m.seq) (option_or o (cond b (first_message s.messages) None)))
     go (Some m) e b f =
-        let w = split_at_found (is_crowded s.config.max_msgs_per_subject s.messages) m s.messages e in
-        (w.0, m, w.1, record {
-          whole = w.2.whole;
-          seq = refl;
-          same = limits_keep-without s.config.max_msgs_per_subject (max_messages s) s.config.max_bytes s.messages w.0 w.1 m w.2;
-        })
+        let w = split_at_found (is_crowded s.config.max_msgs_per_subject s.messages) m s.messages e in (
+          w.0,
+          m,
+          w.1,
+          record {
+            whole = w.2.whole;
+            seq = refl;
+            same = limits_keep-without s.config.max_msgs_per_subject (max_messages s) s.config.max_bytes s.messages w.0 w.1 m w.2;
+          },
+        )
     go None e true f = next_of_large s s.messages refl e f
     go None e false f = (e, f)
 

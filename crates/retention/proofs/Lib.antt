@@ -2,3 +2,4 @@ pub mod Splitting
 pub mod Keeping
 pub mod Dropping
 pub mod Following
+pub mod Walking

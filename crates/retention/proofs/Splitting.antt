@@ -1,8 +1,8 @@
 -- What stands before and after a message in an ascending list, and the list without it.
-use Rattle.std.proofs.Common.{◌≡◌, ℕ, ◌+◌, ◌<◌, ◌≤◌, Bool, true, false, ◌||◌, cond, not, List, [], ◌∷◌, ◌++◌, Option, Some, None, refl, sym, ap, ◌∙◌, subst, arith}
+use Rattle.std.proofs.Common.{◌≡◌, ℕ, ◌+◌, ◌<◌, ◌≤◌, Bool, true, false, ◌||◌, cond, not, List, [], ◌∷◌, ◌++◌, Some, refl, ap, ◌∙◌, subst, arith}
 use Rattle.std.specs.Prelude.{◌==◌, filter, find}
 use Rattle.std.specs.List.{AllByRecursion}
-use Rattle.std.proofs.lemmas.Bool.{true≢false, ne_eqb, eq-eqb}
+use Rattle.std.proofs.lemmas.Bool.{ne_eqb, eq-eqb}
 use Rattle.std.proofs.lemmas.List.Elements.{filter-append}
 use Rattle.js_base.specs.Bytes.{has}
 use Rattle.js_model.specs.declared.stream.Message.{Message}
@@ -46,7 +46,7 @@ before_it low high (x ∷ front) back m h =
     let below : x.seq + 1 ≤ m.seq = after.0 in
     (omega arith, before_it (x.seq + 1) high front back m h.1)
 
-all_after : (low high n : ℕ) (back : List Message) → Ascending low high back → n < low → AllByRecursion (λ x. n < x.seq) back
+pub all_after : (low high n : ℕ) (back : List Message) → Ascending low high back → n < low → AllByRecursion (λ x. n < x.seq) back
 all_after low high n [] h l = tt
 all_after low high n (x ∷ back) h l = let q : low ≤ x.seq = h.0 in (omega arith, all_after (x.seq + 1) high n back h.1 (omega arith))
 

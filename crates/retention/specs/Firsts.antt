@@ -1,4 +1,4 @@
--- The first of a list of numbers.
+-- The first of a list of numbers, if there is one.
 use Rattle.std.specs.Prelude.{ℕ, List, [], ◌∷◌, Option, Some, None}
 
 abbrev pub first_number : List ℕ → Option ℕ

@@ -4,7 +4,7 @@ use Rattle.std.specs.Prelude.{All, IfSome, IsUtf8, count_by, filter, find, optio
 use Rattle.std.specs.List.{last_or}
 use Rattle.std.specs.Option.{option_copied}
 use Rattle.std.proofs.lemmas.Str.{IsUtf8-from_is_utf8}
-use Rattle.std.proofs.lemmas.Bool.{eqb-true, eq-eqb, leb-true, ne_eqb}
+use Rattle.std.proofs.lemmas.Bool.{eqb-true, eq-eqb, leb-true, leb-false, ne_eqb}
 use Rattle.std.proofs.lemmas.List.{length-map}
 use Rattle.std.proofs.lemmas.List.Sums.{length-filter}
 use Rattle.js_base.specs.Bytes.{Bytes, same}
@@ -15,11 +15,12 @@ use Rattle.js_model.specs.Events.{message_at}
 use Rattle.js_model.specs.Lists.{Between}
 use Rattle.js_model.specs.Streams.{seqs}
 use Rattle.js_model.specs.Verdict.{last_on}
-use Rattle.js_model.proofs.Members.{IsIn, here, there, in_filter, in_bounds, all_in, found_in}
+use Rattle.js_model.proofs.Members.{IsIn, here, there, in_cons, in_filter, in_bounds, all_in, found_in}
 use Rattle.js_model.proofs.Named.{none_some, some_is}
 use Rattle.js_model.proofs.Parts.{filter_part, part_between}
 use Rattle.stream_view.specs.declared.counts.Counts.{Counts}
 use Rattle.stream_view.specs.Counting.{counts_of, last_from, seqs_on}
+use Rattle.stream_state.specs.Selecting.{next_passing}
 use Rattle.stream_state.specs.Stored.{IsSound, IsText, without}
 
 abbrev Ascending : ℕ → ℕ → List Message → Type 0
@@ -131,13 +132,16 @@ first_counted s subject c sound e = go (filter (λ m. same m.subject subject) s.
           first = ap (λ n. find (λ x. x.seq == n) s.messages) (sym is) ∙ found ∙ sym (find_first (λ x. same x.subject subject) s.messages ms m k);
         }
 
--- of a subject that is not counted none is found
-pub none_on : (s : Stream) (subject : Bytes) → counts_of (seqs_on s subject) ≡ None → find (λ m. same m.subject subject) s.messages ≡ None
-none_on s subject e = find_nothing (λ m. same m.subject subject) s.messages (go (filter (λ m. same m.subject subject) s.messages) e)
+-- of a subject that is not counted there is none
+pub nothing_on : (s : Stream) (subject : Bytes) → counts_of (seqs_on s subject) ≡ None → filter (λ m. same m.subject subject) s.messages ≡ []
+nothing_on s subject e = go (filter (λ m. same m.subject subject) s.messages) e
   where
     go : (ms : List Message) → counts_of (seqs ms) ≡ None → ms ≡ []
     go [] k = refl
     go (m ∷ ms) k = absurd cc
+
+pub none_on : (s : Stream) (subject : Bytes) → counts_of (seqs_on s subject) ≡ None → find (λ m. same m.subject subject) s.messages ≡ None
+none_on s subject e = find_nothing (λ m. same m.subject subject) s.messages (nothing_on s subject e)
 
 -- ---- what is found has what all have
 
@@ -174,3 +178,35 @@ found_within s p m sound e =
 
 pub found_from : (ms : List Message) (from : ℕ) (m : Message) → Some m ≡ find (λ x. nat_le from x.seq) ms → from ≤ m.seq
 found_from ms from m e = leb-true from m.seq (found_in (λ x. nat_le from x.seq) m ms (sym e)).1
+
+pub next_within : (s : Stream) (t : Message → Bool) (from n : ℕ) → IsSound s → Some n ≡ next_passing t s.messages from → n ≤ s.last
+next_within s t from n sound e = go (find (λ m. nat_le from m.seq && t m) s.messages) refl e
+  where
+    go : (o : Option Message) → find (λ m. nat_le from m.seq && t m) s.messages ≡ o → Some n ≡ option_map (λ m. m.seq) o → n ≤ s.last
+    go None f k = absurd cc
+    go (Some m) f k = let is : n ≡ m.seq = cc in let most : m.seq ≤ s.last = found_within s (λ m. nat_le from m.seq && t m) m sound (sym f) in omega arith
+
+-- ---- before the first that is found
+
+-- a message before the first that passes does not pass
+pub fails_before : (p : Message → Bool) (low high : ℕ) (m x : Message) (ms : List Message) → Between (λ y. y.seq) low high ms → find p ms ≡ Some m → IsIn x ms → x.seq < m.seq → p x ≡ false
+fails_before p low high m x [] h found k l = elim k [ ]
+fails_before p low high m x (y ∷ ms) h found k l = go (p y) refl found (in_cons k) (λ f i. fails_before p (y.seq + 1) high m x ms h.1 f i l)
+  where
+    go : (b : Bool) → p y ≡ b → cond b (Some y) (find p ms) ≡ Some m → (y ≡ x) ⊎ IsIn x ms → (find p ms ≡ Some m → IsIn x ms → p x ≡ false) → p x ≡ false
+    go true e f (inl is) rest = let one : x.seq ≡ m.seq = ap (λ (z : Message). z.seq) (sym is ∙ some_is f) in absurd (omega arith)
+    go true e f (inr i) rest =
+        let one : y.seq ≡ m.seq = ap (λ (z : Message). z.seq) (some_is f) in
+        let after : y.seq + 1 ≤ x.seq = (in_bounds (λ (z : Message). z.seq) (y.seq + 1) high x ms h.1 i).0 in
+        absurd (omega arith)
+    go false e f (inl is) rest = ap p (sym is) ∙ e
+    go false e f (inr i) rest = rest f i
+
+-- if none below a sequence passes, the search may begin there
+pub find_from : (t : Message → Bool) (from : ℕ) (ms : List Message) → ((x : Message) → IsIn x ms → x.seq < from → t x ≡ false) → find (λ x. nat_le from x.seq && t x) ms ≡ find t ms
+find_from t from [] h = refl
+find_from t from (x ∷ ms) h = ap (λ b. cond b (Some x) (find (λ y. nat_le from y.seq && t y) ms)) (head (nat_le from x.seq) refl) ∙ ap (λ (o : Option Message). cond (t x) (Some x) o) (find_from t from ms (λ y i l. h y (there i) l))
+  where
+    head : (b : Bool) → nat_le from x.seq ≡ b → (b && t x) ≡ t x
+    head true e = refl
+    head false e = sym (h x here (leb-false from x.seq e))

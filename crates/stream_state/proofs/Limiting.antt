@@ -1,6 +1,6 @@
 -- Limits that hold go on holding when messages go, and messages that go one by one leave what the limits keep.
 use Rattle.std.proofs.Common.{◌≡◌, ℕ, ◌+◌, ◌<◌, ◌≤◌, ◌==◌, ◌||◌, ◌⊎◌, inl, inr, Bool, true, false, cond, not, List, [], ◌∷◌, Option, Some, None, length, refl, sym, ap, ◌∙◌, arith, subst}
-use Rattle.std.specs.Prelude.{filter, find, nat_lt, count_by, sum_by, option_map, IsSome}
+use Rattle.std.specs.Prelude.{filter, find, nat_lt, count_by, is_some, sum_by, option_map, IsSome}
 use Rattle.std.specs.Option.{option_or}
 use Rattle.std.proofs.lemmas.Bool.{ltb-true, ltb-false, lt-ltb, le-ltb, or_parts, or_from, eqb-true}
 use Rattle.std.proofs.lemmas.List.Elements.{filter_agree}
@@ -20,7 +20,10 @@ use Rattle.js_model.proofs.Named.{same_is}
 use Rattle.js_model.proofs.Parts.{filter_part, part-length, part-sum}
 use Rattle.retention.specs.Over.{is_over_on, is_over, over_subject, over_stream, next_over, IsOverOnlyOn}
 use Rattle.retention.specs.Laws.{IsLone, LawWithin, LawWithout}
+use Rattle.stream_view.specs.declared.counts.Counts.{Counts}
+use Rattle.stream_view.specs.Counting.{counts_of, seqs_on}
 use Rattle.stream_state.specs.Stored.{IsSound, without}
+use Rattle.stream_state.proofs.Finding.{first_counted, nothing_on}
 use Rattle.stream_state.proofs.Lists.{eq_flip, or_false}
 use Rattle.stream_state.proofs.Sounding.{only_alone}
 
@@ -114,9 +117,9 @@ next_none s h k = ap (λ (o : Option Message). option_map (λ m. m.seq) (option_
 pub empty_within : (incarnation : ℕ) (config : StreamConfig) (now : ℕ) → next_over (empty_stream incarnation config now) ≡ None
 empty_within incarnation config now = next_none (empty_stream incarnation config now) refl (none_over (empty_stream incarnation config now) refl)
 
--- no subject is over, also one without messages
-pub subjects_within : (s : Stream) → next_over s ≡ None → (t : Bytes) → is_over_on s t ≡ false
-subjects_within s h t = go (is_over_on s t) refl
+-- if no message is of a subject that is over, no subject is, also one without messages
+pub no_subject : (s : Stream) → over_subject s ≡ None → (t : Bytes) → is_over_on s t ≡ false
+no_subject s h t = go (is_over_on s t) refl
   where
     go : (b : Bool) → is_over_on s t ≡ b → b ≡ false
     go false e = refl
@@ -133,7 +136,32 @@ subjects_within s h t = go (is_over_on s t) refl
             counted [] f' = let z : count_by (λ m. same m.subject t) s.messages ≡ 0 = sym (length-filter (λ m. same m.subject t) s.messages) ∙ ap length f' in absurd (omega (arith, many))
             counted (m ∷ ms) f' =
                 let member = in_filter (λ x. same x.subject t) m s.messages (subst (λ (xs : List Message). IsIn m xs) (sym f') here) in
-                sym e ∙ ap (is_over_on s) (sym (same_is m.subject t member.1)) ∙ none_found (λ x. is_over_on s x.subject) s.messages (no_subject_over s h) m member.0
+                sym e ∙ ap (is_over_on s) (sym (same_is m.subject t member.1)) ∙ none_found (λ x. is_over_on s x.subject) s.messages h m member.0
+
+pub subjects_within : (s : Stream) → next_over s ≡ None → (t : Bytes) → is_over_on s t ≡ false
+subjects_within s h = no_subject s (no_subject_over s h)
+
+pub unlimited : (s : Stream) → is_some s.config.max_msgs_per_subject ≡ false → (t : Bytes) → is_over_on s t ≡ false
+unlimited s h t = go s.config.max_msgs_per_subject h
+  where
+    go : (o : Option ℕ) → is_some o ≡ false → over_limit (count_by (λ m. same m.subject t) s.messages) o ≡ false
+    go None k = refl
+    go (Some n) k = absurd cc
+
+-- a subject of which some are counted is over, or is not
+pub counted_over : (s : Stream) (t : Bytes) (n : ℕ) (c : Counts) → IsSound s → s.config.max_msgs_per_subject ≡ Some n → counts_of (seqs_on s t) ≡ Some c → nat_lt n c.count ≡ is_over_on s t
+counted_over s t n c sound limit e =
+    ap (nat_lt n) (sym (first_counted s t c sound e).count) ∙ sym (ap (over_limit (count_by (λ m. same m.subject t) s.messages)) limit)
+
+pub none_counted_over : (s : Stream) (t : Bytes) → counts_of (seqs_on s t) ≡ None → false ≡ is_over_on s t
+none_counted_over s t e = go s.config.max_msgs_per_subject
+  where
+    none : count_by (λ m. same m.subject t) s.messages ≡ 0
+    none = sym (length-filter (λ m. same m.subject t) s.messages) ∙ ap length (nothing_on s t e)
+
+    go : (o : Option ℕ) → false ≡ over_limit (count_by (λ m. same m.subject t) s.messages) o
+    go None = refl
+    go (Some n) = sym (le-ltb n (count_by (λ m. same m.subject t) s.messages) (omega (arith, none)))
 
 module _ (s : Stream) {ms : List Message} (part : IsPart ms s.messages) where
   pub within_less : next_over s ≡ None → next_over (record s { messages = ms }) ≡ None

@@ -1,11 +1,11 @@
 -- What a purge names, and what is left without it.
 use Rattle.std.proofs.Common.{◌≡◌, ℕ, ◌+◌, ◌-◌, ◌^◌, ◌<◌, ◌≤◌, ◌==◌, ◌&&◌, ◌||◌, Bool, true, false, cond, not, List, [], ◌∷◌, ◌++◌, Option, Some, None, zero, suc, length, take, map, refl, sym, ap, ◌∙◌, arith, subst}
-use Rattle.std.specs.Prelude.{filter, find, nat_le, nat_lt, option_map}
+use Rattle.std.specs.Prelude.{filter, find, is_some, nat_le, option_map}
 use Rattle.std.specs.Option.{option_to_list}
 use Rattle.std.proofs.lemmas.Bool.{and_parts, leb-true, ltb-false, le-ltb, le-leb}
 use Rattle.std.proofs.lemmas.Bool.Decides.{nat_tests}
 use Rattle.std.proofs.lemmas.List.Elements.{filter_agree}
-use Rattle.std.proofs.lemmas.List.{length-append}
+use Rattle.std.proofs.lemmas.List.{length-map}
 use Rattle.js_base.specs.Bytes.{Bytes, has}
 use Rattle.js_model.specs.declared.stream.Message.{Message}
 use Rattle.js_model.specs.declared.stream.Stream.{Stream}
@@ -13,12 +13,13 @@ use Rattle.js_model.specs.Events.{is_below, all_but_last, message_at, purge_list
 use Rattle.js_model.specs.Lists.{Between, IsPart}
 use Rattle.js_model.specs.Streams.{passes_filter, seqs}
 use Rattle.js_model.proofs.Members.{in_bounds, found_in}
-use Rattle.stream_state.specs.Selecting.{is_named, named, selects, next_passing, next_selected, next_named}
+use Rattle.stream_state.specs.Selecting.{is_named, named, selects, selected, next_passing, next_selected, next_named}
 use Rattle.stream_state.specs.declared.selector.Selector.{Selector}
 use Rattle.stream_state.specs.Stored.{without, without_all}
-use Rattle.js_model.proofs.Parts.{filter_part}
+use Rattle.js_model.proofs.Parts.{filter_part, part-length}
 use Rattle.stream_state.proofs.Indexing.{none_less}
 use Rattle.stream_state.proofs.Limiting.{without_is}
+use Rattle.stream_state.proofs.Lists.{and_true}
 use Rattle.stream_state.proofs.Sounding.{only_alone}
 
 abbrev Ascending : ℕ → ℕ → List Message → Type 0
@@ -127,13 +128,25 @@ module _ (s : Stream) (pattern : Bytes) (below : Option ℕ) (selector : Selecto
   named_list : named selector below s.messages ≡ purge_list s pattern below None
   named_list = filter_agree (is_named selector below) (λ m. passes_filter pattern m.subject && is_below below m.seq) (λ m. ap (λ b. b && is_below below m.seq) (selected m.subject)) s.messages
 
-  pub purged_all : (most : ℕ) → length (named selector below s.messages) ≤ most → take most (seqs (named selector below s.messages)) ≡ seqs (purge_list s pattern below None)
-  purged_all most h = sym (map-take (λ (m : Message). m.seq) most (named selector below s.messages)) ∙ ap seqs (take_long most (named selector below s.messages) h ∙ named_list)
+  -- the first of them, as many as are not kept
+  pub purged : (keep : Option ℕ) (count : ℕ) → take count (named selector below s.messages) ≡ all_but_last keep (named selector below s.messages) → take count (seqs (named selector below s.messages)) ≡ seqs (purge_list s pattern below keep)
+  purged keep count h =
+      sym (map-take (λ (m : Message). m.seq) count (named selector below s.messages)) ∙ ap seqs (h ∙ ap (all_but_last keep) named_list)
 
-  pub purged_but : (keep : ℕ) → take (length (named selector below s.messages) - keep) (seqs (named selector below s.messages)) ≡ seqs (purge_list s pattern below (Some keep))
-  purged_but keep =
-      sym (map-take (λ (m : Message). m.seq) (length (named selector below s.messages) - keep) (named selector below s.messages))
-      ∙ ap (λ (ms : List Message). seqs (take (length ms - keep) ms)) named_list
+pub named_few : (selector : Selector) (below : Option ℕ) (ms : List Message) → length ms < 2 ^ 32 → length (named selector below ms) < 2 ^ 32
+named_few selector below ms h = omega (arith, part-length (filter_part (is_named selector below) ms), h)
+
+pub take_all : (selector : Selector) (below : Option ℕ) (most : ℕ) (ms : List Message) → length ms < 2 ^ 32 → 2 ^ 32 ≤ most → take most (named selector below ms) ≡ named selector below ms
+take_all selector below most ms h l = take_long most (named selector below ms) (omega (arith, named_few selector below ms h))
+
+pub count_all : (selector : Selector) (below : Option ℕ) (most : ℕ) (ms : List Message) → length ms < 2 ^ 32 → 2 ^ 32 ≤ most → length (take most (seqs (named selector below ms))) ≡ length (named selector below ms)
+count_all selector below most ms h l =
+    ap length (sym (map-take (λ (m : Message). m.seq) most (named selector below ms)) ∙ ap seqs (take_all selector below most ms h l)) ∙ length-map (named selector below ms) (λ (m : Message). m.seq)
+
+-- without a limit, all that are selected
+pub named_selected : (selector : Selector) (below : Option ℕ) (ms : List Message) → is_some below ≡ false → length (named selector below ms) ≡ length (selected selector ms)
+named_selected selector None ms h = ap length (filter_agree (is_named selector None) (λ m. selects selector m.subject) (λ m. sym (and_true (selects selector m.subject))) ms)
+named_selected selector (Some n) ms h = absurd cc
 
 -- ---- what is left
 

@@ -199,11 +199,11 @@ module _ (s : Stream) (subject : Bytes) where
   by_limit o = cond (reaches (count subject s.messages) o) (find (on subject) s.messages) None
 
   pub none_pushed : find (on subject) s.messages ≡ None → pushed_out s subject ≡ None
-  none_pushed e = ap (λ (o : Option Message). cond (reaches (count subject s.messages) s.config.max_msgs_per_subject) o None) e ∙ go (reaches (count subject s.messages) s.config.max_msgs_per_subject)
+  none_pushed e = go (reaches (count subject s.messages) s.config.max_msgs_per_subject) (find (on subject) s.messages) e
     where
-      go : (b : Bool) → cond b None None ≡ None {T = Message}
-      go true = refl
-      go false = refl
+      go : (b : Bool) (o : Option Message) → o ≡ None → cond b o None ≡ None
+      go true o h = h
+      go false o h = refl
 
   module _ (c : Counts) (n : ℕ) (counted : IsCounted s subject c) (limit : s.config.max_msgs_per_subject ≡ Some n) where
     at_limit : pushed_out s subject ≡ cond (nat_le n c.count) (find (on subject) s.messages) None

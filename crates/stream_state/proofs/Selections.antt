@@ -17,6 +17,7 @@ use Rattle.js_model.specs.Streams.{passes_filter, seqs}
 use Rattle.js_model.proofs.Members.{in_bounds, found_in}
 use Rattle.stream_state.specs.Indexed.{on_subject}
 use Rattle.stream_state.specs.Selecting.{next_passing}
+use Rattle.stream_state.proofs.Lists.{and_true}
 
 abbrev Ascending : ℕ → ℕ → List Message → Type 0
 Ascending low high ms = Between (λ m. m.seq) low high ms
@@ -75,10 +76,6 @@ find_agree : (p q : Message → Bool) → ((m : Message) → p m ≡ q m) → (m
 find_agree p q h [] = refl
 find_agree p q h (m ∷ ms) = ap (λ b. cond b (Some m) (find p ms)) (h m) ∙ ap (λ (o : Option Message). cond (q m) (Some m) o) (find_agree p q h ms)
 
-and_true : (b : Bool) → b ≡ (b && true)
-and_true true = refl
-and_true false = refl
-
 and_false : (b : Bool) → (b && false) ≡ false
 and_false true = refl
 and_false false = refl
@@ -126,7 +123,7 @@ from_low t from low high (m ∷ ms) l h =
     ∙ ap (λ (xs : List Message). cond (t m) (m ∷ xs) xs) (from_low t from (m.seq + 1) high ms (omega arith) h.1)
 
 -- what passes from a sequence on: the first, and those after it
-rest_first : (t : Message → Bool) (from low high : ℕ) (m : Message) (ms : List Message) → Ascending low high ms → find (λ x. nat_le from x.seq && t x) ms ≡ Some m
+pub rest_first : (t : Message → Bool) (from low high : ℕ) (m : Message) (ms : List Message) → Ascending low high ms → find (λ x. nat_le from x.seq && t x) ms ≡ Some m
     → filter (λ x. nat_le from x.seq && t x) ms ≡ m ∷ filter (λ x. nat_le (m.seq + 1) x.seq && t x) ms
 rest_first t from low high m [] h k = absurd cc
 rest_first t from low high m (x ∷ ms) h k = go (nat_le from x.seq && t x) refl k (λ e. rest_first t from (x.seq + 1) high m ms h.1 e)

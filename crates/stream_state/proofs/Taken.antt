@@ -13,7 +13,7 @@ use Rattle.js_model.specs.Events.{with_message}
 use Rattle.js_model.specs.Refusals.{Check, first_refusal}
 use Rattle.js_model.specs.Streams.{over_limit}
 use Rattle.js_model.specs.Trim.{max_messages, trim}
-use Rattle.js_model.specs.Verdict.{known, late_checks, first_of_all, verdict, message_of}
+use Rattle.js_model.specs.Verdict.{known, early_checks, late_checks, first_of_all, verdict, message_of}
 use Rattle.retention.specs.Over.{is_over_on, next_over, IsOverOnlyOn}
 use Rattle.stream_state.specs.Stored.{IsSound}
 use Rattle.stream_state.proofs.Limiting.{not_over, subjects_within}
@@ -27,12 +27,18 @@ all_none None (Some i) late h = absurd cc
 all_none None None (Some e) h = absurd cc
 all_none None None None h = (refl, refl)
 
-passed : (check : Check) (checks : List Check) → first_refusal (check ∷ checks) ≡ None → (check.0 ≡ false) × (first_refusal checks ≡ None)
-passed check checks h = go check.0 h
+-- no check fails
+abbrev ArePassed : List Check → Type 0
+ArePassed [] = Unit {0}
+ArePassed (check ∷ checks) = (check.0 ≡ false) × ArePassed checks
+
+all_passed : (checks : List Check) → first_refusal checks ≡ None → ArePassed checks
+all_passed [] h = tt
+all_passed (check ∷ checks) h = go check.0 h (all_passed checks)
   where
-    go : (b : Bool) → cond b (Some check.1) (first_refusal checks) ≡ None → (b ≡ false) × (first_refusal checks ≡ None)
-    go true k = absurd cc
-    go false k = (refl, k)
+    go : (b : Bool) → cond b (Some check.1) (first_refusal checks) ≡ None → (first_refusal checks ≡ None → ArePassed checks) → (b ≡ false) × ArePassed checks
+    go true k rest = absurd cc
+    go false k rest = (refl, rest k)
 
 pub record IsTaken (s : Stream) (p : Publish) : Type 0 where
   pub new_id : known s p.wants.id ≡ None
@@ -42,18 +48,12 @@ pub record IsTaken (s : Stream) (p : Publish) : Type 0 where
 pub taken : (s : Stream) (p : Publish) (room : Bool) → verdict s p room ≡ Take → IsTaken s p
 unfolding verdict
 taken s p room h =
-    let none = all_none _ (known s p.wants.id) (first_refusal (late_checks s p room)) h in
-    let last = passed _ _ none.1 in
-    let subject = passed _ _ last.1 in
-    let id = passed _ _ subject.1 in
-    let count = passed _ _ id.1 in
-    let bytes = passed _ _ count.1 in
-    let window = passed _ _ bytes.1 in
-    let numbers = passed _ _ window.1 in
+    let none = all_none (first_refusal (early_checks s p)) (known s p.wants.id) (first_refusal (late_checks s p room)) h in
+    let room_left = (all_passed (late_checks s p room) none.1).1.1.1.1.1 in
     record {
       new_id = none.0;
-      window = λ e. leb-false (2 ^ 20) (length s.ids) (sym (ap (λ b. not b && nat_le (2 ^ 20) (length s.ids)) e) ∙ window.0);
-      numbers = numbers.0;
+      window = λ e. leb-false (2 ^ 20) (length s.ids) (sym (ap (λ b. not b && nat_le (2 ^ 20) (length s.ids)) e) ∙ room_left.0);
+      numbers = room_left.1.0;
     }
 
 pub next_number : (s : Stream) (p : Publish) → IsSound s → IsTaken s p → s.last + 1 < 2 ^ 62

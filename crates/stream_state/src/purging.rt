@@ -1,8 +1,8 @@
 //! Messages that are removed on request.
 
-ghost use Rattle.std.specs.Prelude.{◌≡◌, ◌==◌, ◌&&◌, ◌^◌, ◌<◌, nat_le, not, filter, find, length, map, option_map, take, IfOk};
+ghost use Rattle.std.specs.Prelude.{◌≡◌, ◌==◌, ◌&&◌, ◌^◌, ◌<◌, nat_le, not, filter, find, length, map, option_map, take, IfOk, Some};
 ghost use Rattle.js_base.specs.Bytes.{has};
-ghost use Rattle.js_model.specs.Events.{is_below, purge_list};
+ghost use Rattle.js_model.specs.Events.{all_but_last, is_below, purge_list};
 ghost use Rattle.js_model.specs.Streams.{seqs};
 ghost use Rattle.stream_state.specs.Selecting.{named, next_named};
 ghost use Rattle.stream_state.specs.Stored.{IsSound, without_all};
@@ -25,11 +25,40 @@ pub(crate) fn purge_seqs(
     ensures value { IfOk result (λ gone. gone.items ≡ seqs (purge_list stream.now pattern.now below keep)) }
 {
     let selector = Selector::of(pattern);
-    let most = match keep {
-        Some(keep) => count_named(alloc, stream, selector, below)?.saturating_sub(keep),
-        None => u64::MAX,
-    };
-    first_named(alloc, stream, selector, below, most)
+    let count = count_purged(alloc, stream, selector, below, keep)?;
+    first_named(alloc, stream, selector, below, count)
+}
+
+/// How many of them go at most, if a number of the last ones is kept.
+fn count_purged(
+    alloc: Global,
+    stream: &StoredStream,
+    selector: Selector<'_>,
+    below: Option<u64>,
+    keep: Option<u64>,
+) -> Result<u64, NoMemory>
+    requires sound { IsSound stream.now }
+    ensures value { IfOk result (λ count. take count (named selector.entry below stream.now.messages) ≡ all_but_last keep (named selector.entry below stream.now.messages)) }
+{
+    match keep {
+        Some(keep) => count_unkept(alloc, stream, selector, below, keep),
+        None => Ok(u64::MAX),
+    }
+}
+
+/// How many of them go, if this many of the last ones are kept.
+fn count_unkept(
+    alloc: Global,
+    stream: &StoredStream,
+    selector: Selector<'_>,
+    below: Option<u64>,
+    keep: u64,
+) -> Result<u64, NoMemory>
+    requires sound { IsSound stream.now }
+    ensures value { IfOk result (λ count. take count (named selector.entry below stream.now.messages) ≡ all_but_last (Some keep) (named selector.entry below stream.now.messages)) }
+{
+    let count = count_named(alloc, stream, selector, below)?;
+    Ok(count.saturating_sub(keep))
 }
 
 /// How many of the selected messages are below a sequence.
@@ -48,7 +77,7 @@ fn count_named(
         }
     }
     let all = first_named(alloc, stream, selector, below, u64::MAX)?;
-    Ok(all.len() as u64)
+    Ok(all.as_slice().len() as u64)
 }
 
 /// The sequences of the first of the selected messages below a sequence, at most so many.

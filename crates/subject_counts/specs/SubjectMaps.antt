@@ -1,4 +1,4 @@
--- How the sequences of each subject are kept: in a map from the subject to the set of its sequences.
+-- How the sequences of each subject are kept, this server's own: in a map from the subject to the set of its sequences.
 use Rattle.std.specs.Prelude.{◌≡◌, ℕ, ◌<◌, false, length, map, Option, Some, None}
 use Rattle.std.specs.Ordering.{nat_cmp}
 use Rattle.std.specs.Cmp.Lexicographic.{slice_cmp}

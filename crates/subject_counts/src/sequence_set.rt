@@ -1,6 +1,6 @@
 //! The sequences of one subject.
 
-ghost use Rattle.std.specs.Prelude.{◌≡◌, [], ◌∷◌, ◌++◌, filter, find, nat_le, not, ◌==◌, length, nat_lt, OnOk, OnErr};
+ghost use Rattle.std.specs.Prelude.{◌≡◌, [], ◌∷◌, ◌++◌, filter, find, nat_le, not, ◌==◌, length, OnOk, OnErr};
 ghost use Rattle.std.specs.Ordering.{nat_cmp};
 ghost use Rattle.std.specs.BTreeSet.{IsOrdered, IsUnchanged};
 ghost use Rattle.stream_view.specs.Counting.{counts_of};

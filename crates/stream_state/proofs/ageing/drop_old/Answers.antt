@@ -13,7 +13,7 @@ pub loop-seq-smaller : goal.loop-seq-smaller
 loop-seq-smaller c = OnTrue_at (c.remove.ensures.there ∙ c.in-Some.ensures.there) c.remove.ensures.fewer
 
 pub returns-clause-left : goal.returns-clause-left
-returns-clause-left c = ages_all c.args.now _ c.loop-seq.stream c.loop-seq.invariant c.in-None.ensures.none
+returns-clause-left c = ages_all c.args.now _ c.loop-seq.stream c.loop-seq.invariant c.in_default.ensures.none
 
 pub returns-clause-sound : goal.returns-clause-sound
 returns-clause-sound c = c.loop-seq.invariant.sound

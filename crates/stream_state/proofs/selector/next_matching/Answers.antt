@@ -1,4 +1,4 @@
-use Rattle.std.proofs.Common.{◌≡◌, ◌≤◌, true, false, ap, sym, ◌∙◌, arith}
+use Rattle.std.proofs.Common.{◌≡◌, ◌+◌, ◌≤◌, true, false, ap, sym, ◌∙◌, arith}
 use Rattle.js_base.specs.Bytes.{Bytes}
 use Rattle.js_base.specs.Subjects.{tokens, matches}
 use Rattle.js_model.specs.declared.stream.Message.{Message}
@@ -35,4 +35,4 @@ pub returns : goal.returns
 returns c =
     let s = c.args.stream.now in
     let t = λ (m : Message). matches (tokens c.args.pattern.now) (tokens m.subject) in
-    record { value = none_seq t c.loop-message.from s.messages c.in-None.ensures.value ∙ c.loop-message.invariant }
+    record { value = none_seq t c.loop-message.from s.messages c.in_default.ensures.value ∙ c.loop-message.invariant }

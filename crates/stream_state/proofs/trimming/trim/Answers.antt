@@ -1,20 +1,8 @@
-use Rattle.std.proofs.Common.{sym, ◌∙◌}
-use Rattle.std.proofs.lemmas.Bool.{OnTrue_at}
-use Rattle.retention.proofs.Following.{law_within, law_without}
-use Rattle.stream_state.proofs.Loops.{trims_none, trims_more, trims_all, over_found}
+use Rattle.std.proofs.Common.{◌∙◌}
 use Rattle.stream_state.proofs.trimming.trim.Goals as goal
 
-pub loop-seq-init : goal.loop-seq-init
-loop-seq-init c = trims_none c.args.stream.now c.requires.sound
-
-pub loop-seq-preserved : goal.loop-seq-preserved
-loop-seq-preserved c = trims_more law_without c.in-Some.seq _ c.loop-seq.stream c.remove.new.self c.loop-seq.invariant (sym c.in-Some.ensures.value) c.remove.ensures.left c.remove.ensures.sound
-
-pub loop-seq-smaller : goal.loop-seq-smaller
-loop-seq-smaller c = OnTrue_at (c.remove.ensures.there ∙ over_found law_without c.in-Some.seq c.loop-seq.stream c.loop-seq.invariant.sound (sym c.in-Some.ensures.value)) c.remove.ensures.fewer
+pub trim_on-requires : goal.trim_on-requires
+trim_on-requires c = record { sound = c.trim_subjects.ensures.sound; others = record { others = λ t e. c.trim_subjects.ensures.within t } }
 
 pub returns-clause-left : goal.returns-clause-left
-returns-clause-left c = trims_all law_within _ c.loop-seq.stream c.loop-seq.invariant (sym c.in-None.ensures.value)
-
-pub returns-clause-sound : goal.returns-clause-sound
-returns-clause-sound c = c.loop-seq.invariant.sound
+returns-clause-left c = c.trim_on.ensures.left ∙ c.trim_subjects.ensures.same

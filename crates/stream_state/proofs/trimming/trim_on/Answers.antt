@@ -17,7 +17,7 @@ pub loop-seq-smaller : goal.loop-seq-smaller
 loop-seq-smaller c = OnTrue_at (c.remove.ensures.there ∙ over_found law_without c.in-Some.seq c.loop-seq.stream c.loop-seq.invariant.0.sound (sym c.in-Some.ensures.value)) c.remove.ensures.fewer
 
 pub returns-clause-left : goal.returns-clause-left
-returns-clause-left c = trims_all law_within _ c.loop-seq.stream c.loop-seq.invariant.0 (sym c.in-None.ensures.value)
+returns-clause-left c = trims_all law_within _ c.loop-seq.stream c.loop-seq.invariant.0 (sym c.in_default.ensures.value)
 
 pub returns-clause-sound : goal.returns-clause-sound
 returns-clause-sound c = c.loop-seq.invariant.0.sound

@@ -37,3 +37,7 @@ pub returns-clause-seq : goal.returns-clause-seq
 returns-clause-seq c =
     rw (← c.self.view_is)
     (c.last.ensures.value ∙ ap (λ (s : Stream). s.last) (c.trim_on.ensures.left ∙ ap trim c.in_ok-store.ensures.ok) ∙ trimmed_last c.self.inside.stream c.args.publish.now)
+
+pub returns-in_err-store-clause-settled : goal.returns-in_err-store-clause-settled
+returns-in_err-store-clause-settled c =
+    rw c.in_err-store.ensures.err (law_within c.self.inside.stream (lone c.self.inside.stream c.self.invariant.sound) c.self.invariant.within)
