@@ -1,14 +1,12 @@
 -- What is read of the parts of calls is valid.
-use Rattle.std.proofs.Common.{◌≡◌, ℕ, nat_lt, ◌^◌, ℤ, pos, negsuc, [], ◌∷◌, Bool, true, false, length, Option, Some, None, Result, Ok, Err, codes, refl, sym, ap, subst, if◌then◌else◌}
+use Rattle.std.proofs.Common.{◌≡◌, ℕ, nat_lt, [], ◌∷◌, Bool, true, false, length, Option, Some, None, Result, Ok, Err, codes, refl, sym, ap, subst, if◌then◌else◌}
+use Rattle.std.specs.Prelude.{unwrap_or}
 use Rattle.serde_json.specs.Data.{Members}
 use Rattle.js_base.specs.Bytes.{Bytes}
 use Rattle.js_base.specs.Names.{name_of, unless_bad, first_bad}
-use Rattle.js_base.specs.Subjects.{is_pattern_text}
 use Rattle.js_base.specs.declared.name.NameFault.{NameFault}
 use Rattle.js_base.specs.declared.name.NameFault.TheVariants.{TooLong}
 use Rattle.js_base.specs.declared.out.ApiError.{ApiError}
-use Rattle.js_json.specs.declared.fault.JsonFault.{JsonFault}
-use Rattle.js_json.specs.Fields.{number_in, text_in}
 use Rattle.js_model.specs.Configs.{is_number}
 use Rattle.js_model.specs.Proper.{if_given}
 use Rattle.js_model.specs.declared.stream_config.StreamConfig.{StreamConfig}
@@ -17,13 +15,11 @@ use Rattle.js_model.proofs.NameTexts.{name_utf8}
 use Rattle.stream_config.proofs.Named.{read_name}
 use Rattle.stream_config.proofs.Parts.{printable}
 use Rattle.stream_config.proofs.Valid.{read_valid, read_served}
-use Rattle.api_requests.specs.Bodies.{◌>>=◌, or_no_name, stream_name, offset_in, offset_told, small_offset, subject_in, subject_told, pattern_told, fields_of, listing_of, setup_of}
+use Rattle.api_requests.specs.Fields.{number_in, pattern_in}
+use Rattle.api_requests.specs.Bodies.{or_no_name, stream_name, fields_of, listing_of, setup_of}
 use Rattle.api_requests.specs.Read.{IsStream, IsSetup, IsListing}
-
--- one reading after the other
-pub after : {A B : Type 0} (P : Type 0) (a : Result A ApiError) (next : A → Result B ApiError) (b : B) → (a >>= next) ≡ Ok b → ((x : A) → a ≡ Ok x → next x ≡ Ok b → P) → P
-after P (Ok x) next b e go = go x refl e
-after P (Err refusal) next b e go = absurd (cc)
+use Rattle.api_requests.proofs.Steps.{after}
+use Rattle.api_requests.proofs.ReadFields.{number_is, pattern_is}
 
 -- ---- names
 
@@ -84,49 +80,17 @@ setup_is token body setup e =
 
 -- ---- lists
 
-small_by : (n offset : ℕ) (small : Bool) (refusal : ApiError) → nat_lt n (2 ^ 62) ≡ small → ◌≡◌ {A = Result ℕ ApiError} (if small then Ok n else Err refusal) (Ok offset) → is_number offset ≡ true
-small_by n offset true refusal is e = let same : n ≡ offset = cc in subst (λ (m : ℕ). is_number m ≡ true) same is
-small_by n offset false refusal is e = absurd (cc)
-
-small : (z : ℤ) (offset : ℕ) → small_offset z ≡ Ok offset → is_number offset ≡ true
-small (pos n) offset e = small_by n offset _ _ refl e
-small (negsuc n) offset e = absurd (cc)
-
-offset_by : (read : Result (Option ℤ) JsonFault) (offset : ℕ) → offset_told read ≡ Ok offset → is_number offset ≡ true
-offset_by (Ok None) offset e = let same : 0 ≡ offset = cc in subst (λ (m : ℕ). is_number m ≡ true) same refl
-offset_by (Ok (Some z)) offset e = small z offset e
-offset_by (Err fault) offset e = absurd (cc)
-
-offset_is : (fields : Members) (offset : ℕ) → offset_in fields ≡ Ok offset → is_number offset ≡ true
-unfolding offset_in
-offset_is fields offset e = offset_by (number_in (codes "offset") fields) offset e
-
-given_by : (text : Bytes) (subject : Option Bytes) (is : Bool) (refusal : ApiError) → is_pattern_text text ≡ is → ◌≡◌ {A = Result (Option Bytes) ApiError} (if is then Ok (Some text) else Err refusal) (Ok subject)
-    → if_given is_pattern_text subject ≡ true
-given_by text subject true refusal is e =
-    let same : ◌≡◌ {A = Option Bytes} (Some text) subject = cc in
-    subst (λ (s : Option Bytes). if_given is_pattern_text s ≡ true) same is
-given_by text subject false refusal is e = absurd (cc)
-
-given : (text : Bytes) (subject : Option Bytes) → pattern_told text ≡ Ok subject → if_given is_pattern_text subject ≡ true
-given [] subject e = let same : ◌≡◌ {A = Option Bytes} None subject = cc in subst (λ (s : Option Bytes). if_given is_pattern_text s ≡ true) same refl
-given (byte ∷ more) subject e = given_by (byte ∷ more) subject _ _ refl e
-
-subject_by : (read : Result (Option Bytes) JsonFault) (subject : Option Bytes) → subject_told read ≡ Ok subject → if_given is_pattern_text subject ≡ true
-subject_by (Ok None) subject e = let same : ◌≡◌ {A = Option Bytes} None subject = cc in subst (λ (s : Option Bytes). if_given is_pattern_text s ≡ true) same refl
-subject_by (Ok (Some text)) subject e = given text subject e
-subject_by (Err fault) subject e = absurd (cc)
-
-subject_is : (fields : Members) (subject : Option Bytes) → subject_in fields ≡ Ok subject → if_given is_pattern_text subject ≡ true
-unfolding subject_in
-subject_is fields subject e = subject_by (text_in (codes "subject") fields) subject e
+offset_is : (offset : Option ℕ) → if_given is_number offset ≡ true → is_number (unwrap_or offset 0) ≡ true
+offset_is None h = refl
+offset_is (Some n) h = h
 
 pub listing_is : (body : Bytes) (listing : ℕ × Option Bytes) → listing_of body ≡ Ok listing → IsListing listing.0 listing.1
 unfolding listing_of
 listing_is body listing e =
     after _ (fields_of body) _ listing e
-    (λ fields _ placed. after _ (offset_in fields) _ listing placed
-    (λ offset is_offset matched. after _ (subject_in fields) _ listing matched
+    (λ fields _ placed. after _ (number_in (codes "offset") fields) _ listing placed
+    (λ offset is_offset matched. after _ (pattern_in (codes "subject") fields) _ listing matched
     (λ subject is_subject made.
-    let same : ◌≡◌ {A = ℕ × Option Bytes} (offset, subject) listing = cc in
-    subst (λ (l : ℕ × Option Bytes). IsListing l.0 l.1) same (record { number = offset_is fields offset is_offset; pattern = subject_is fields subject is_subject }))))
+    let same : ◌≡◌ {A = ℕ × Option Bytes} (unwrap_or offset 0, subject) listing = cc in
+    subst (λ (l : ℕ × Option Bytes). IsListing l.0 l.1) same
+    (record { number = offset_is offset (number_is _ fields offset is_offset); pattern = pattern_is _ fields subject is_subject }))))

@@ -1,5 +1,5 @@
 -- The texts of refusals are ASCII.
-use Rattle.std.proofs.Common.{◌≡◌, ℕ, zero, suc, ◌<◌, nat_lt, ◌^◌, ℤ, pos, negsuc, List, [], ◌∷◌, ◌++◌, Bool, true, false, Option, Some, None, Result, Ok, Err, IsUtf8, codes, slice_index, refl, subst, if◌then◌else◌, arith}
+use Rattle.std.proofs.Common.{◌≡◌, ℕ, zero, suc, ◌<◌, nat_lt, List, [], ◌∷◌, ◌++◌, Bool, true, false, Option, Some, None, Result, Ok, Err, IsUtf8, codes, slice_index, refl, subst, arith}
 use Rattle.std.specs.List.{list_all}
 use Rattle.std.proofs.lemmas.Bool.{and_parts}
 use Rattle.std.proofs.lemmas.Bool.Decides.{nat_tests}
@@ -7,12 +7,10 @@ use Rattle.std.proofs.lemmas.Str.{IsUtf8-from_ascii}
 use Rattle.serde_json.specs.Data.{Members}
 use Rattle.js_base.specs.Bytes.{Bytes}
 use Rattle.js_base.specs.Names.{name_of}
-use Rattle.js_base.specs.Subjects.{is_pattern_text}
 use Rattle.js_base.specs.declared.name.NameFault.{NameFault}
 use Rattle.js_base.specs.declared.out.ApiError.{ApiError}
 use Rattle.js_json.specs.declared.fault.JsonFault.{JsonFault}
 use Rattle.js_json.specs.Objects.{object_of}
-use Rattle.js_json.specs.Fields.{number_in, text_in}
 use Rattle.js_model.specs.Refusals.{Check, first_refusal, name_mismatch}
 use Rattle.js_model.specs.declared.stream_config.StreamConfig.{StreamConfig}
 use Rattle.stream_config.specs.Table.{Line, table}
@@ -22,14 +20,13 @@ use Rattle.api_requests.specs.declared.call.GeneralCall.TheVariants as general
 use Rattle.api_requests.specs.declared.call.StreamCall.{StreamCall}
 use Rattle.api_requests.specs.declared.call.StreamCall.TheVariants as stream
 use Rattle.api_requests.specs.Calls.{general_call, stream_call}
-use Rattle.api_requests.specs.Bodies.{◌>>=◌, or_braces, or_invalid_json, fields_of, or_no_name, stream_name, offset_told, offset_in, pattern_told, subject_told, subject_in, listing_of, setup_of}
+use Rattle.api_requests.specs.Fields.{number_in, pattern_in}
+use Rattle.api_requests.specs.Bodies.{or_braces, or_invalid_json, object_in, fields_of, or_no_name, stream_name, listing_of, setup_of}
+use Rattle.api_requests.specs.Messages.{purge_in, message_in, sequence_in}
 use Rattle.api_requests.specs.Requests.{general_request, stream_request, or_on_stream, request_of}
-
-abbrev is_ascii : Bytes → Bool
-is_ascii text = list_all (λ byte. nat_lt byte 128) text
-
-record Plain (refusal : ApiError) : Type 0 where
-  ascii : is_ascii refusal.text ≡ true
+use Rattle.api_requests.proofs.Plain.{is_ascii, Plain, told, one_of}
+use Rattle.api_requests.proofs.PlainFields.{number_plain, pattern_plain}
+use Rattle.api_requests.proofs.PlainMessages.{purge_plain, message_plain, sequence_plain}
 
 small : (byte : ℕ) → nat_lt byte 128 ≡ true → byte < 128
 small byte h = grind (arith, nat_tests)
@@ -39,25 +36,18 @@ ascii_at [] i h = omega arith
 ascii_at (byte ∷ more) zero h = small byte (and_parts (nat_lt byte 128) (is_ascii more) h).0
 ascii_at (byte ∷ more) (suc i) h = ascii_at more i (and_parts (nat_lt byte 128) (is_ascii more) h).1
 
--- the refusal that was told is a plain one
-told : {X : Type 0} (made refusal : ApiError) → ◌≡◌ {A = Result X ApiError} (Err made) (Err refusal) → Plain made → Plain refusal
-told made refusal e plain = let same : made ≡ refusal = cc in subst (λ (r : ApiError). Plain r) same plain
-
--- of one reading after the other, the first that refuses
-one_of : {A B : Type 0} (a : Result A ApiError) (next : A → Result B ApiError) (refusal : ApiError) → (a >>= next) ≡ Err refusal
-    → (a ≡ Err refusal → Plain refusal) → ((x : A) → next x ≡ Err refusal → Plain refusal) → Plain refusal
-one_of (Ok x) next refusal e first next_one = next_one x e
-one_of (Err r) next refusal e first next_one = first cc
-
 -- ---- the parts of calls
 
 fields_by : (read : Result Members JsonFault) (refusal : ApiError) → or_invalid_json read ≡ Err refusal → Plain refusal
 fields_by (Ok fields) refusal e = absurd (cc)
 fields_by (Err fault) refusal e = told _ refusal e (record { ascii = refl })
 
+object_plain : (body : Bytes) (refusal : ApiError) → object_in body ≡ Err refusal → Plain refusal
+unfolding object_in
+object_plain body refusal e = fields_by (object_of body) refusal e
+
 fields_plain : (body : Bytes) (refusal : ApiError) → fields_of body ≡ Err refusal → Plain refusal
-unfolding fields_of
-fields_plain body refusal e = fields_by (object_of (or_braces body)) refusal e
+fields_plain body refusal e = object_plain (or_braces body) refusal e
 
 name_by : (read : Result Bytes NameFault) (refusal : ApiError) → or_no_name read ≡ Err refusal → Plain refusal
 name_by (Ok name) refusal e = absurd (cc)
@@ -67,40 +57,12 @@ name_plain : (token : Bytes) (refusal : ApiError) → stream_name token ≡ Err 
 unfolding stream_name
 name_plain token refusal e = name_by (name_of token) refusal e
 
--- a choice of a value or a refusal
-chosen : {X : Type 0} (good : Bool) (x : X) (made refusal : ApiError) → ◌≡◌ {A = Result X ApiError} (if good then Ok x else Err made) (Err refusal) → Plain made → Plain refusal
-chosen true x made refusal e plain = absurd (cc)
-chosen false x made refusal e plain = told made refusal e plain
-
-offset_by : (read : Result (Option ℤ) JsonFault) (refusal : ApiError) → offset_told read ≡ Err refusal → Plain refusal
-offset_by (Ok None) refusal e = absurd (cc)
-offset_by (Ok (Some (pos n))) refusal e = chosen (nat_lt n (2 ^ 62)) n _ refusal e (record { ascii = refl })
-offset_by (Ok (Some (negsuc n))) refusal e = told _ refusal e (record { ascii = refl })
-offset_by (Err fault) refusal e = told _ refusal e (record { ascii = refl })
-
-offset_plain : (fields : Members) (refusal : ApiError) → offset_in fields ≡ Err refusal → Plain refusal
-unfolding offset_in
-offset_plain fields refusal e = offset_by (number_in (codes "offset") fields) refusal e
-
-pattern_plain : (text : Bytes) (refusal : ApiError) → pattern_told text ≡ Err refusal → Plain refusal
-pattern_plain [] refusal e = absurd (cc)
-pattern_plain (byte ∷ more) refusal e = chosen (is_pattern_text (byte ∷ more)) (Some (byte ∷ more)) _ refusal e (record { ascii = refl })
-
-subject_by : (read : Result (Option Bytes) JsonFault) (refusal : ApiError) → subject_told read ≡ Err refusal → Plain refusal
-subject_by (Ok None) refusal e = absurd (cc)
-subject_by (Ok (Some text)) refusal e = pattern_plain text refusal e
-subject_by (Err fault) refusal e = told _ refusal e (record { ascii = refl })
-
-subject_plain : (fields : Members) (refusal : ApiError) → subject_in fields ≡ Err refusal → Plain refusal
-unfolding subject_in
-subject_plain fields refusal e = subject_by (text_in (codes "subject") fields) refusal e
-
 listing_plain : (body : Bytes) (refusal : ApiError) → listing_of body ≡ Err refusal → Plain refusal
 unfolding listing_of
 listing_plain body refusal e =
     one_of (fields_of body) _ refusal e (fields_plain body refusal)
-    (λ fields placed. one_of (offset_in fields) _ refusal placed (offset_plain fields refusal)
-    (λ offset matched. one_of (subject_in fields) _ refusal matched (subject_plain fields refusal) (λ subject made. absurd (cc))))
+    (λ fields placed. one_of (number_in (codes "offset") fields) _ refusal placed (number_plain _ fields refusal refl)
+    (λ offset matched. one_of (pattern_in (codes "subject") fields) _ refusal matched (pattern_plain _ fields refusal refl) (λ subject made. absurd (cc))))
 
 -- ---- configurations
 
@@ -164,6 +126,18 @@ on_stream_plain stream.Info token body refusal e =
     one_of (fields_of body) _ refusal e (fields_plain body refusal)
     (λ fields named. one_of (stream_name token) _ refusal named (name_plain token refusal) (λ name made. absurd (cc)))
 on_stream_plain stream.Delete token body refusal e = one_of (stream_name token) _ refusal e (name_plain token refusal) (λ name made. absurd (cc))
+on_stream_plain stream.Purge token body refusal e =
+    one_of (fields_of body) _ refusal e (fields_plain body refusal)
+    (λ fields named. one_of (stream_name token) _ refusal named (name_plain token refusal)
+    (λ name read. one_of (purge_in fields) _ refusal read (purge_plain fields refusal) (λ purge made. absurd (cc))))
+on_stream_plain stream.MsgGet token body refusal e =
+    one_of (object_in body) _ refusal e (object_plain body refusal)
+    (λ fields named. one_of (stream_name token) _ refusal named (name_plain token refusal)
+    (λ name read. one_of (message_in fields) _ refusal read (message_plain fields refusal) (λ by made. absurd (cc))))
+on_stream_plain stream.MsgDelete token body refusal e =
+    one_of (object_in body) _ refusal e (object_plain body refusal)
+    (λ fields named. one_of (stream_name token) _ refusal named (name_plain token refusal)
+    (λ name read. one_of (sequence_in fields) _ refusal read (sequence_plain fields refusal) (λ seq made. absurd (cc))))
 
 some_is : {X : Type 0} (x y : X) → Some x ≡ Some y → x ≡ y
 some_is x y e = cc

@@ -27,10 +27,21 @@ token_behind words subject =
 abbrev pub called : StreamCall → Bytes → Option (StreamCall × Bytes)
 called call subject = option_map (λ token. (call, token)) (token_behind (stream_words call) subject)
 
--- a call on one stream
-abbrev pub stream_call : Bytes → Option (StreamCall × Bytes)
-stream_call subject =
+-- a call on a stream as a whole
+abbrev pub setup_call : Bytes → Option (StreamCall × Bytes)
+setup_call subject =
     option_or (called stream.Create subject)
     (option_or (called stream.Update subject)
     (option_or (called stream.Info subject)
     (called stream.Delete subject)))
+
+-- a call on the messages of a stream
+abbrev pub message_call : Bytes → Option (StreamCall × Bytes)
+message_call subject =
+    option_or (called stream.Purge subject)
+    (option_or (called stream.MsgGet subject)
+    (called stream.MsgDelete subject))
+
+-- a call on one stream
+abbrev pub stream_call : Bytes → Option (StreamCall × Bytes)
+stream_call subject = option_or (setup_call subject) (message_call subject)

@@ -2,7 +2,10 @@ pub mod Answers
 pub mod Words
 pub mod Calls
 pub mod Names
+pub mod Steps
+pub mod Fields
 pub mod Bodies
+pub mod Messages
 pub mod Seen
 pub mod Requests
 pub mod Laws

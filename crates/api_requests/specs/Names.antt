@@ -20,6 +20,9 @@ api_on_stream stream.Create = calls.StreamCreate
 api_on_stream stream.Update = calls.StreamUpdate
 api_on_stream stream.Info = calls.StreamInfo
 api_on_stream stream.Delete = calls.StreamDelete
+api_on_stream stream.Purge = calls.StreamPurge
+api_on_stream stream.MsgGet = calls.StreamMsgGet
+api_on_stream stream.MsgDelete = calls.StreamMsgDelete
 
 abbrev pub name_on_stream : Option (StreamCall × Bytes) → Bytes
 name_on_stream None = []

@@ -1,10 +1,12 @@
 -- Requests as they are read, which the parts behind may rest on: names and configurations that are valid, numbers below 2 ^ 62, patterns, and
--- texts in UTF-8. Requests of other forms are not read yet.
-use Rattle.std.specs.Prelude.{◌≡◌, ℕ, Option, IsTrue, IsUtf8}
-use Rattle.js_base.specs.Bytes.{Bytes}
-use Rattle.js_base.specs.Subjects.{is_pattern_text}
+-- texts in UTF-8. Calls on consumers are not read yet.
+use Rattle.std.specs.Prelude.{◌≡◌, ℕ, Bool, ◌||◌, Option, IsTrue, IsUtf8}
+use Rattle.js_base.specs.Bytes.{Bytes, is_empty}
+use Rattle.js_base.specs.Subjects.{is_pattern_text, is_subject_text}
 use Rattle.js_model.specs.Configs.{is_name, is_number, is_stream_config}
 use Rattle.js_model.specs.Proper.{if_given}
+use Rattle.js_model.specs.declared.event.GetBy.{GetBy}
+use Rattle.js_model.specs.declared.event.GetBy.TheVariants.{Seq, LastBySubject}
 use Rattle.js_model.specs.declared.stream_config.StreamConfig.{StreamConfig}
 use Rattle.js_model.specs.Served.{IsServed}
 use Rattle.stream_config.specs.Printing.{IsPrinted}
@@ -31,6 +33,17 @@ pub record IsListing (offset : ℕ) (subject : Option Bytes) : Type 0 where
   pub number : IsTrue (is_number offset)
   pub pattern : IsTrue (if_given is_pattern_text subject)
 
+-- which messages are purged
+pub record IsPurge (pattern : Bytes) (seq keep : Option ℕ) : Type 0 where
+  pub matched : IsTrue (is_empty pattern || is_pattern_text pattern)
+  pub below : IsTrue (if_given is_number seq)
+  pub last : IsTrue (if_given is_number keep)
+
+-- which message is asked for
+abbrev pub is_by : GetBy → Bool
+is_by (Seq n) = is_number n
+is_by (LastBySubject subject) = is_subject_text subject
+
 abbrev pub IsRead : ApiRequest → Type 0
 IsRead requests.AccountInfo = Unit {0}
 IsRead (requests.StreamCreate stream config) = IsSetup stream config
@@ -39,9 +52,9 @@ IsRead (requests.StreamInfo stream) = IsStream stream
 IsRead (requests.StreamDelete stream) = IsStream stream
 IsRead (requests.StreamNames offset subject) = IsListing offset subject
 IsRead (requests.StreamList offset subject) = IsListing offset subject
-IsRead (requests.StreamPurge stream pattern seq keep) = ⊥
-IsRead (requests.StreamMsgGet stream by) = ⊥
-IsRead (requests.StreamMsgDelete stream seq) = ⊥
+IsRead (requests.StreamPurge stream pattern seq keep) = IsStream stream × IsPurge pattern seq keep
+IsRead (requests.StreamMsgGet stream by) = IsStream stream × IsTrue (is_by by)
+IsRead (requests.StreamMsgDelete stream seq) = IsStream stream × IsTrue (is_number seq)
 IsRead (requests.ConsumerCreate stream consumer config update) = ⊥
 IsRead (requests.ConsumerDurableCreate stream consumer config update) = ⊥
 IsRead (requests.ConsumerInfo stream consumer) = ⊥

@@ -10,7 +10,9 @@ use Rattle.api_requests.specs.declared.call.StreamCall.TheVariants as stream
 use Rattle.api_requests.specs.declared.request.ApiRequest.{ApiRequest}
 use Rattle.api_requests.specs.declared.request.ApiRequest.TheVariants as requests
 use Rattle.api_requests.specs.Calls.{general_call, stream_call}
-use Rattle.api_requests.specs.Bodies.{◌>>=◌, fields_of, stream_name, listing_of, setup_of}
+use Rattle.api_requests.specs.Steps.{◌>>=◌}
+use Rattle.api_requests.specs.Bodies.{object_in, fields_of, stream_name, listing_of, setup_of}
+use Rattle.api_requests.specs.Messages.{purge_in, message_in, sequence_in}
 
 -- the body of a question for the account is not looked at
 unfoldable pub general_request : GeneralCall → Bytes → Result ApiRequest ApiError
@@ -23,7 +25,7 @@ general_request general.StreamList body = do
   Ok (requests.StreamList listing.0 listing.1)
 
 -- The body of a creation or a change is the configuration, also an empty one; that of a question is an object without fields of its own; and that of a
--- deletion is not looked at.
+-- deletion is not looked at. A purge may have an empty body, and the calls on one message, which need a field, may not.
 unfoldable pub stream_request : StreamCall → Bytes → Bytes → Result ApiRequest ApiError
 stream_request stream.Create token body = do
   setup ← setup_of token body
@@ -38,6 +40,21 @@ stream_request stream.Info token body = do
 stream_request stream.Delete token body = do
   name ← stream_name token
   Ok (requests.StreamDelete name)
+stream_request stream.Purge token body = do
+  fields ← fields_of body
+  name ← stream_name token
+  purge ← purge_in fields
+  Ok (requests.StreamPurge name purge.filter purge.seq purge.keep)
+stream_request stream.MsgGet token body = do
+  fields ← object_in body
+  name ← stream_name token
+  by ← message_in fields
+  Ok (requests.StreamMsgGet name by)
+stream_request stream.MsgDelete token body = do
+  fields ← object_in body
+  name ← stream_name token
+  seq ← sequence_in fields
+  Ok (requests.StreamMsgDelete name seq)
 
 abbrev pub or_on_stream : Option GeneralCall → Option (StreamCall × Bytes) → Bytes → Option (Result ApiRequest ApiError)
 or_on_stream (Some call) on_stream body = Some (general_request call body)

@@ -2,7 +2,7 @@
 
 ghost use Rattle.std.specs.Prelude.{◌≡◌, option_map};
 ghost use Rattle.api_requests.specs.Words.{general_words, stream_words};
-ghost use Rattle.api_requests.specs.Calls.{general_call, token_behind, called, stream_call};
+ghost use Rattle.api_requests.specs.Calls.{general_call, token_behind, called, setup_call, message_call, stream_call};
 ghost use Rattle.api_requests.specs.Names.{api_general, api_on_stream};
 
 use api_calls::ApiCall;
@@ -22,6 +22,9 @@ pub(crate) enum StreamCall {
     Update,
     Info,
     Delete,
+    Purge,
+    MsgGet,
+    MsgDelete,
 }
 
 impl GeneralCall {
@@ -58,6 +61,9 @@ impl StreamCall {
             StreamCall::Update => b"$JS.API.STREAM.UPDATE.",
             StreamCall::Info => b"$JS.API.STREAM.INFO.",
             StreamCall::Delete => b"$JS.API.STREAM.DELETE.",
+            StreamCall::Purge => b"$JS.API.STREAM.PURGE.",
+            StreamCall::MsgGet => b"$JS.API.STREAM.MSG.GET.",
+            StreamCall::MsgDelete => b"$JS.API.STREAM.MSG.DELETE.",
         }
     }
 
@@ -70,6 +76,9 @@ impl StreamCall {
             StreamCall::Update => ApiCall::StreamUpdate,
             StreamCall::Info => ApiCall::StreamInfo,
             StreamCall::Delete => ApiCall::StreamDelete,
+            StreamCall::Purge => ApiCall::StreamPurge,
+            StreamCall::MsgGet => ApiCall::StreamMsgGet,
+            StreamCall::MsgDelete => ApiCall::StreamMsgDelete,
         }
     }
 }
@@ -114,12 +123,28 @@ fn called(call: StreamCall, subject: &[u8]) -> Option<(StreamCall, &[u8])>
     }
 }
 
-/// The call on one stream that the subject is, and the token that stands in it for the stream.
-pub(crate) fn stream_call(subject: &[u8]) -> Option<(StreamCall, &[u8])>
-    ensures value { option_map (λ x. (x.0, x.1.now)) result ≡ stream_call subject.now }
+/// The call on a stream as a whole that the subject is, and its token.
+fn setup_call(subject: &[u8]) -> Option<(StreamCall, &[u8])>
+    ensures value { option_map (λ x. (x.0, x.1.now)) result ≡ setup_call subject.now }
 {
     called(StreamCall::Create, subject)
         .or(called(StreamCall::Update, subject))
         .or(called(StreamCall::Info, subject))
         .or(called(StreamCall::Delete, subject))
+}
+
+/// The call on a stream's messages that the subject is, and its token.
+fn message_call(subject: &[u8]) -> Option<(StreamCall, &[u8])>
+    ensures value { option_map (λ x. (x.0, x.1.now)) result ≡ message_call subject.now }
+{
+    called(StreamCall::Purge, subject)
+        .or(called(StreamCall::MsgGet, subject))
+        .or(called(StreamCall::MsgDelete, subject))
+}
+
+/// The call on one stream that the subject is, and the token that stands in it for the stream.
+pub(crate) fn stream_call(subject: &[u8]) -> Option<(StreamCall, &[u8])>
+    ensures value { option_map (λ x. (x.0, x.1.now)) result ≡ stream_call subject.now }
+{
+    setup_call(subject).or(message_call(subject))
 }

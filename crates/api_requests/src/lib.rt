@@ -3,8 +3,10 @@
 
 mod call;
 mod fault;
+mod field;
 pub mod laws;
 mod listing;
+mod messages;
 mod name;
 mod reading;
 mod request;

@@ -4,10 +4,12 @@ ghost use Rattle.std.specs.Prelude.{◌≡◌, IfOk, IfErr, IfSome};
 ghost use Rattle.api_requests.specs.Answers.{Reads, ReadsCall};
 ghost use Rattle.api_requests.specs.Read.{IsRead, IsShown};
 ghost use Rattle.api_requests.specs.Requests.{general_request, stream_request, request_of};
+ghost use Rattle.api_requests.specs.declared.call.StreamCall.TheVariants as stream;
 
 use crate::call::{GeneralCall, StreamCall, general_call, stream_call};
 use crate::fault::ApiFault;
-use crate::listing::{fields_of, listing_of, setup_of, stream_name};
+use crate::listing::{fields_of, listing_of, object_in, setup_of, stream_name};
+use crate::messages::{Purge, message_in, purge_in, sequence_in};
 use crate::request::ApiRequest;
 use std::alloc::Global;
 
@@ -27,6 +29,44 @@ fn read_general(alloc: Global, call: GeneralCall, body: &[u8]) -> Result<ApiRequ
             Ok(ApiRequest::StreamList { offset, subject })
         }
     }
+}
+
+/// A purge of a stream.
+#[tactic(auto, unfolding(crate::specs::Requests::stream_request))]
+fn read_purge(alloc: Global, token: &[u8], body: &[u8]) -> Result<ApiRequest, ApiFault>
+    ensures reading { Reads result (stream_request stream.Purge token.now body.now) }
+{
+    let fields = fields_of(alloc, body)?;
+    let stream = stream_name(alloc, token)?;
+    let Purge { filter, seq, keep } = purge_in(alloc, &fields)?;
+    Ok(ApiRequest::StreamPurge {
+        stream,
+        filter,
+        seq,
+        keep,
+    })
+}
+
+/// A question for one message.
+#[tactic(auto, unfolding(crate::specs::Requests::stream_request))]
+fn read_message_get(alloc: Global, token: &[u8], body: &[u8]) -> Result<ApiRequest, ApiFault>
+    ensures reading { Reads result (stream_request stream.MsgGet token.now body.now) }
+{
+    let fields = object_in(alloc, body)?;
+    let stream = stream_name(alloc, token)?;
+    let by = message_in(alloc, &fields)?;
+    Ok(ApiRequest::StreamMsgGet { stream, by })
+}
+
+/// A deletion of one message.
+#[tactic(auto, unfolding(crate::specs::Requests::stream_request))]
+fn read_message_delete(alloc: Global, token: &[u8], body: &[u8]) -> Result<ApiRequest, ApiFault>
+    ensures reading { Reads result (stream_request stream.MsgDelete token.now body.now) }
+{
+    let fields = object_in(alloc, body)?;
+    let stream = stream_name(alloc, token)?;
+    let seq = sequence_in(alloc, &fields)?;
+    Ok(ApiRequest::StreamMsgDelete { stream, seq })
 }
 
 /// A call on one stream.
@@ -57,15 +97,23 @@ fn read_on_stream(
             let stream = stream_name(alloc, token)?;
             Ok(ApiRequest::StreamDelete { stream })
         }
+        StreamCall::Purge => read_purge(alloc, token, body),
+        StreamCall::MsgGet => read_message_get(alloc, token, body),
+        StreamCall::MsgDelete => read_message_delete(alloc, token, body),
     }
 }
 
 /// The call that a subject and a body are, and `None` exactly if the subject is no call. The subjects are `$JS.API.` and one of `INFO`,
-/// `STREAM.NAMES`, `STREAM.LIST`, and `STREAM.CREATE.<stream>`, `STREAM.UPDATE.<stream>`, `STREAM.INFO.<stream>` and `STREAM.DELETE.<stream>`.
+/// `STREAM.NAMES`, `STREAM.LIST`, and, with the name of a stream behind, one of `STREAM.CREATE`, `STREAM.UPDATE`, `STREAM.INFO`,
+/// `STREAM.DELETE`, `STREAM.PURGE`, `STREAM.MSG.GET` and `STREAM.MSG.DELETE`.
 ///
 /// If several things are wrong, the first of these is the refusal: 10025, the body is no JSON object; 20001 of `name`, the stream's token is no
-/// name; 20001 of a field, or in a configuration 20002, in the order of the keys; 20022, another name in a configuration. An empty body is an
-/// object without fields, and those of `INFO` and `STREAM.DELETE` are not looked at. `NoMemory` may come for each call.
+/// name; 20001 of a field, or 20002 if the server leaves it out, in the order of the keys; 20022, another name in a configuration. An empty body is
+/// an object without fields, but for `STREAM.MSG.GET` and `STREAM.MSG.DELETE`, which need a field; the bodies of `INFO` and `STREAM.DELETE` are not
+/// looked at. `NoMemory` may come for each call.
+///
+/// In a purge a `seq` or `keep` of 0 counts as absent, and both of them are 20001 of `keep`. A message is asked for by just one of `seq`, which may
+/// be 0, and `last_by_subj`, or else 20001 of `seq`; it is deleted by `seq`. An empty `filter`, `subject` or `last_by_subj` counts as absent.
 ///
 /// What is read is valid: names, configurations, numbers and patterns are such, and the texts that replies show are UTF-8, as that of a refusal.
 #[tactic(auto, unfolding(crate::specs::Requests::request_of))]

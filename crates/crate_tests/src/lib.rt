@@ -17,4 +17,6 @@ mod replies;
 #[cfg(test)]
 mod router;
 #[cfg(test)]
+mod wants;
+#[cfg(test)]
 mod words;

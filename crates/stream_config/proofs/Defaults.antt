@@ -1,5 +1,5 @@
 -- One subject alone asks for the default configuration.
-use Rattle.std.proofs.Common.{◌≡◌, true, List, [], ◌∷◌, IsTrue, None, Ok, codes, refl}
+use Rattle.std.proofs.Common.{◌≡◌, true, [], ◌∷◌, IsTrue, None, Ok, codes, refl}
 use Rattle.std.specs.List.{list_all}
 use Rattle.serde_json.specs.Data.{Members, array, no_members, member}
 use Rattle.std.proofs.lemmas.Bool.{and_from}

@@ -1,12 +1,12 @@
 -- A name is a text that may be the subject of a stream.
-use Rattle.std.proofs.Common.{◌≡◌, ℕ, zero, suc, ◌<◌, Bool, true, false, ◌&&◌, ◌||◌, not, ◌==◌, [], ◌∷◌, Option, Some, None, Ok, Err, nat_lt, nat_le, length, is_none, codes, slice_index, IsUtf8, refl, sym, ◌∙◌, if◌then◌else◌, arith}
+use Rattle.std.proofs.Common.{◌≡◌, ℕ, ◌<◌, Bool, true, false, ◌&&◌, ◌||◌, not, ◌==◌, [], ◌∷◌, Option, Some, None, Ok, Err, nat_lt, nat_le, length, is_none, codes, refl, sym, ◌∙◌, if◌then◌else◌, arith}
 use Rattle.std.specs.List.{list_all}
 use Rattle.std.proofs.lemmas.Bool.{and_parts, and_from}
 use Rattle.std.proofs.lemmas.Bool.Decides.{nat_tests}
 use Rattle.std.proofs.lemmas.List.Splits.{slice_split_none}
 use Rattle.std.proofs.lemmas.List.Sums.{AllPass-from_list_all}
-use Rattle.std.proofs.lemmas.Str.{IsUtf8-from_ascii, is_utf8-from_IsUtf8}
-use Rattle.js_base.specs.Bytes.{Bytes, has, is_empty, same}
+use Rattle.std.proofs.lemmas.Str.{is_utf8-from_IsUtf8}
+use Rattle.js_base.specs.Bytes.{Bytes, is_empty, same}
 use Rattle.js_base.specs.Names.{name_of, unless_bad, first_bad, is_name_byte}
 use Rattle.js_base.specs.Subjects.{tokens, meets, star, rest, is_token_byte, is_spelled, is_pattern_text}
 use Rattle.js_base.specs.declared.name.NameFault.TheVariants.{TooLong}

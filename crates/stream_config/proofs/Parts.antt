@@ -8,7 +8,7 @@ use Rattle.std.proofs.lemmas.Str.{IsUtf8-from_is_utf8}
 use Rattle.js_base.specs.Bytes.{Bytes, is_empty}
 use Rattle.js_base.specs.Subjects.{tokens, meets, is_pattern, is_pattern_text, is_spelled, is_token_byte}
 use Rattle.js_model.specs.Configs.{is_description, is_stream_subject, is_stream_config}
-use Rattle.js_model.proofs.ConfigParts.{ConfigParts, config_parts}
+use Rattle.js_model.proofs.ConfigParts.{config_parts}
 use Rattle.js_model.specs.declared.stream_config.StreamConfig.{StreamConfig}
 use Rattle.stream_config.specs.Printing.{IsPrinted}
 use Rattle.js_model.proofs.NameTexts.{name_utf8}

@@ -1,5 +1,5 @@
 -- What is printed of a configuration is read as the same.
-use Rattle.std.proofs.Common.{◌≡◌, ℕ, ◌^◌, ◌-◌, pos, List, [], ◌∷◌, true, false, not, nat_lt, nat_le, length, drop, IsTrue, Option, Some, None, Ok, codes, refl, sym, subst, arith}
+use Rattle.std.proofs.Common.{◌≡◌, ℕ, zero, suc, ◌^◌, ◌-◌, pos, List, [], ◌∷◌, true, false, ◌&&◌, ◌||◌, ◌==◌, not, nat_lt, nat_le, length, drop, IsTrue, Option, Some, None, Ok, codes, refl, sym, subst, if◌then◌else◌, arith}
 use Rattle.std.specs.List.{list_all}
 use Rattle.std.proofs.lemmas.Bool.{and_parts, and_from}
 use Rattle.std.proofs.lemmas.Bool.Decides.{nat_tests}
@@ -15,17 +15,18 @@ use Rattle.js_model.specs.Refusals.{first_refusal, name_mismatch}
 use Rattle.js_model.specs.declared.stream_config.Retention.{Retention}
 use Rattle.js_model.specs.declared.stream_config.Retention.TheVariants.{Limits}
 use Rattle.js_model.specs.declared.stream_config.Discard.{Discard}
-use Rattle.js_model.specs.declared.stream_config.Discard.TheVariants.{Old}
+use Rattle.js_model.specs.declared.stream_config.Discard.TheVariants.{Old, New as DiscardNew}
 use Rattle.js_model.specs.declared.stream_config.StreamConfig.{StreamConfig}
-use Rattle.stream_config.specs.declared.rule.TextRule.TheVariants.{Description}
-use Rattle.stream_config.specs.declared.rule.NumberRule.TheVariants.{Limit, Window}
+use Rattle.stream_config.specs.declared.rule.TextRule.TheVariants.{Description, Discard as Discarding}
+use Rattle.stream_config.specs.declared.rule.NumberRule.TheVariants.{Window}
 use Rattle.stream_config.specs.declared.table.Served.TheVariants.{Now}
-use Rattle.stream_config.specs.Standings.{text_standing, number_standing, subjects_standing, are_subjects, is_subject}
-use Rattle.stream_config.specs.Table.{table}
-use Rattle.stream_config.specs.Reading.{found, judged, is_refused, is_other, names_another, natural_or_0, limit_of, reading, standing, config_in, subjects_or}
-use Rattle.stream_config.specs.Printing.{printed}
+use Rattle.stream_config.specs.Standings.{limit_standing, nanos_standing, text_standing, number_standing, subjects_standing, are_subjects, is_subject}
+use Rattle.stream_config.specs.Table.{table, most}
+use Rattle.stream_config.specs.Reading.{found, judged, is_refused, is_other, names_another, natural_or_0, limit_of, discard_of, window_of, reading, standing, config_in, subjects_or}
+use Rattle.stream_config.specs.Printing.{discard_text, printed}
 use Rattle.js_model.specs.Served.{IsServed}
-use Rattle.stream_config.proofs.Numbers.{nanos_is, limit_is, limit_kept, window_kept}
+use Rattle.stream_config.proofs.Numbers.{some, nanos_is, limit_is, limit_kept, window_kept}
+use Rattle.stream_config.proofs.Limits.{LimitParts, limit_parts}
 use Rattle.stream_config.proofs.Passing.{Passing, none_refused, passing_from}
 use Rattle.stream_config.proofs.Refusing.{read_whole}
 use Rattle.js_model.proofs.ConfigParts.{ConfigParts, config_parts}
@@ -40,57 +41,55 @@ texts_back (text ∷ more) = rw (texts_back more) refl
 below : (n : ℕ) → is_number n ≡ true → nat_le n (2 ^ 62 - 1) ≡ true
 below n h = grind (arith, nat_tests)
 
-window_stands : (window : ℕ) → nat_lt 0 window ≡ true → is_number window ≡ true → is_refused Now (number_standing Window 0 (pos window)) ≡ false
-window_stands window some number = rw (nanos_is window some, below window number) refl
+discard_stands : (policy : Discard) → is_refused Now (text_standing Discarding (discard_text policy)) ≡ false
+discard_stands Old = refl
+discard_stands DiscardNew = refl
 
-limit_stands : (age : ℕ) (most : Option ℕ) → is_limit 256 most ≡ true → is_refused Now (judged (number_standing (Limit 256) age) (taken as_whole (codes "max_consumers") (unless_null (limit most)))) ≡ false
-limit_stands age None h = refl
-limit_stands age (Some n) h = let parts = and_parts (nat_lt 0 n) (nat_le n 256) h in rw (limit_is 256 n parts.0, parts.1) refl
+discard_back : (policy : Discard) → discard_of (discard_text policy) ≡ policy
+discard_back Old = refl
+discard_back DiscardNew = refl
 
-limit_back : (most : Option ℕ) → is_limit 256 most ≡ true → limit_of (natural_or_0 (found (taken as_whole (codes "max_consumers") (unless_null (limit most))))) ≡ most
-limit_back None h = refl
-limit_back (Some n) h = limit_kept n (and_parts (nat_lt 0 n) (nat_le n 256) h).0
+age_stands : (age : ℕ) → is_number age ≡ true → is_refused Now (nanos_standing (pos age)) ≡ false
+age_stands zero h = refl
+age_stands (suc n) h = rw (nanos_is (suc n) (some n), below (suc n) h) refl
+
+-- an age that is shown is that of the stream
+age_shown : (age : ℕ) → is_number age ≡ true → (if nat_lt age (2 ^ 62) then age else 0) ≡ age
+age_shown age h = rw h refl
+
+not_above : (age window : ℕ) → ((age == 0) || nat_le window age) ≡ true → (nat_lt 0 age && nat_lt age window) ≡ false
+not_above age window h = grind (arith, nat_tests)
+
+window_fits : (age window : ℕ) → nat_lt 0 window ≡ true → is_number window ≡ true → ((age == 0) || nat_le window age) ≡ true
+    → is_refused Now (number_standing Window age (pos window)) ≡ false
+window_fits age window some number within = rw (not_above age window within, nanos_is window some, below window number) refl
+
+window_stands : (age window : ℕ) → nat_lt 0 window ≡ true → is_number window ≡ true → is_number age ≡ true → ((age == 0) || nat_le window age) ≡ true
+    → is_refused Now (number_standing Window (if nat_lt age (2 ^ 62) then age else 0) (pos window)) ≡ false
+window_stands age window some number small within =
+    subst (λ (n : ℕ). is_refused Now (number_standing Window n (pos window)) ≡ false) (sym (age_shown age small)) (window_fits age window some number within)
+
+limit_stands : (name : Bytes) (greatest : ℕ) (most : Option ℕ) → is_limit greatest most ≡ true
+    → is_refused Now (judged (limit_standing greatest) (taken as_whole name (unless_null (limit most)))) ≡ false
+limit_stands name greatest None h = refl
+limit_stands name greatest (Some n) h = let parts = and_parts (nat_lt 0 n) (nat_le n greatest) h in rw (limit_is greatest n parts.0, parts.1) refl
+
+-- the limit that is read of what is printed of one
+abbrev read_limit : Bytes → Option ℕ → Option ℕ
+read_limit name most = limit_of (natural_or_0 (found (taken as_whole name (unless_null (limit most)))))
+
+limit_back : (name : Bytes) (greatest : ℕ) (most : Option ℕ) → is_limit greatest most ≡ true → read_limit name most ≡ most
+limit_back name greatest None h = refl
+limit_back name greatest (Some n) h = limit_kept n (and_parts (nat_lt 0 n) (nat_le n greatest) h).0
 
 -- ---- a configuration that is served
 
-abbrev served_config : Bytes → ℕ → Option ℕ → Bytes → List Bytes → StreamConfig
-served_config description window max_consumers name subjects = record {
-  description = description;
-  discard = Old;
-  duplicate_window = window;
-  max_age = 0;
-  max_bytes = None;
-  max_consumers = max_consumers;
-  max_msg_size = None;
-  max_msgs = None;
-  max_msgs_per_subject = None;
-  name = name;
-  retention = Limits;
-  subjects = subjects;
-}
+-- this one, with another description and with the retention that is served
+abbrev with_limits : Bytes → StreamConfig → StreamConfig
+with_limits description c = record c { description = description; retention = Limits }
 
-is_served_config : (description : Bytes) (discard : Discard) (window age : ℕ) (bytes consumers size msgs for_each : Option ℕ) (name : Bytes) (retention : Retention) (subjects : List Bytes)
-    → discard ≡ Old → age ≡ 0 → bytes ≡ None → size ≡ None → msgs ≡ None → for_each ≡ None → retention ≡ Limits
-    → served_config description window consumers name subjects ≡ record {
-      description = description;
-      discard = discard;
-      duplicate_window = window;
-      max_age = age;
-      max_bytes = bytes;
-      max_consumers = consumers;
-      max_msg_size = size;
-      max_msgs = msgs;
-      max_msgs_per_subject = for_each;
-      name = name;
-      retention = retention;
-      subjects = subjects;
-    }
-is_served_config description discard window age bytes consumers size msgs for_each name retention subjects e₁ e₂ e₃ e₄ e₅ e₆ e₇ = rw (e₁, e₂, e₃, e₄, e₅, e₆, e₇) refl
-
-served_is : (c : StreamConfig) → IsServed c → served_config c.description c.duplicate_window c.max_consumers c.name c.subjects ≡ c
-served_is c s =
-    is_served_config c.description c.discard c.duplicate_window c.max_age c.max_bytes c.max_consumers c.max_msg_size c.max_msgs c.max_msgs_per_subject c.name c.retention c.subjects
-    s.discard s.max_age s.max_bytes s.max_msg_size s.max_msgs s.max_msgs_per_subject s.retention
+retention_is : (c : StreamConfig) (policy : Retention) → policy ≡ c.retention → record c { retention = policy } ≡ c
+retention_is c policy e = rw e refl
 
 -- ---- none of its fields is refused
 
@@ -106,30 +105,62 @@ pub subjects_stand : (subjects : List Bytes) → not (is_empty subjects) ≡ tru
     → is_refused Now (judged subjects_standing (taken as_texts (codes "subjects") (Some (array (texts subjects))))) ≡ false
 subjects_stand subjects filled few each = rw (texts_back subjects) (stand subjects filled few each)
 
-passing : (description : Bytes) (window : ℕ) (consumers : Option ℕ) (name : Bytes) (subjects : List Bytes)
-    → ConfigParts (served_config description window consumers name subjects)
-    → Passing (printed (served_config description window consumers name subjects)) table
+passing : (description : Bytes) (c : StreamConfig) → is_description description ≡ true → ConfigParts c → LimitParts c → Passing (printed (with_limits description c)) table
 unfolding printed standing table flag_in number_in text_in texts_in part_in is_numeral is_given
-passing [] window consumers name subjects p =
-    let fields = printed (served_config [] window consumers name subjects) in
-    passing_from fields 10 table refl (
-      window_stands window p.some p.window,
-      passing_from fields 3 (drop 11 table) refl (
-        limit_stands 0 consumers p.consumers,
-        passing_from fields 15 (drop 15 table) refl
-            (subjects_stand subjects p.filled p.few p.subjects, (refl, tt)),
+passing [] c described p l =
+    let fields = printed (with_limits [] c) in
+    passing_from fields 8 table refl (
+      discard_stands c.discard,
+      passing_from fields 1 (drop 9 table) refl (
+        window_stands c.max_age c.duplicate_window p.some p.window l.age l.within,
+        passing_from fields 1 (drop 11 table) refl (
+          age_stands c.max_age l.age,
+          (
+            limit_stands _ most c.max_bytes l.bytes,
+            (
+              limit_stands _ 256 c.max_consumers p.consumers,
+              (
+                limit_stands _ most c.max_msg_size l.size,
+                (
+                  limit_stands _ most c.max_msgs l.msgs,
+                  (
+                    limit_stands _ most c.max_msgs_per_subject l.for_each,
+                    passing_from fields 12 (drop 18 table) refl (subjects_stand c.subjects p.filled p.few p.subjects, (refl, tt)),
+                  ),
+                ),
+              ),
+            ),
+          ),
+        ),
       ),
     )
-passing (byte ∷ bytes) window consumers name subjects p =
-    let fields = printed (served_config (byte ∷ bytes) window consumers name subjects) in
+passing (byte ∷ bytes) c described p l =
+    let fields = printed (with_limits (byte ∷ bytes) c) in
     passing_from fields 7 table refl (
-      described_stands (byte ∷ bytes) p.description,
-      passing_from fields 2 (drop 8 table) refl (
-        window_stands window p.some p.window,
-        passing_from fields 3 (drop 11 table) refl (
-          limit_stands 0 consumers p.consumers,
-          passing_from fields 15 (drop 15 table) refl
-              (subjects_stand subjects p.filled p.few p.subjects, (refl, tt)),
+      described_stands (byte ∷ bytes) described,
+      (
+        discard_stands c.discard,
+        passing_from fields 1 (drop 9 table) refl (
+          window_stands c.max_age c.duplicate_window p.some p.window l.age l.within,
+          passing_from fields 1 (drop 11 table) refl (
+            age_stands c.max_age l.age,
+            (
+              limit_stands _ most c.max_bytes l.bytes,
+              (
+                limit_stands _ 256 c.max_consumers p.consumers,
+                (
+                  limit_stands _ most c.max_msg_size l.size,
+                  (
+                    limit_stands _ most c.max_msgs l.msgs,
+                    (
+                      limit_stands _ most c.max_msgs_per_subject l.for_each,
+                      passing_from fields 12 (drop 18 table) refl (subjects_stand c.subjects p.filled p.few p.subjects, (refl, tt)),
+                    ),
+                  ),
+                ),
+              ),
+            ),
+          ),
         ),
       ),
     )
@@ -137,44 +168,82 @@ passing (byte ∷ bytes) window consumers name subjects p =
 named : (name : Bytes) → first_refusal ((is_other name (Some name), name_mismatch) ∷ []) ≡ None
 named name = rw (same_self name) refl
 
-same_name : (description : Bytes) (window : ℕ) (consumers : Option ℕ) (name : Bytes) (subjects : List Bytes)
-    → first_refusal ((names_another name (printed (served_config description window consumers name subjects)), name_mismatch) ∷ []) ≡ None
+same_name : (description : Bytes) (c : StreamConfig) → first_refusal ((names_another c.name (printed (with_limits description c)), name_mismatch) ∷ []) ≡ None
 unfolding printed text_in
-same_name [] window consumers name subjects = named name
-same_name (byte ∷ bytes) window consumers name subjects = named name
+same_name [] c = named c.name
+same_name (byte ∷ bytes) c = named c.name
 
 -- ---- and it is what they say
 
-pub subjects_back : (name : Bytes) (subjects : List Bytes) → not (is_empty subjects) ≡ true → subjects_or name (found (taken as_texts (codes "subjects") (Some (array (texts subjects))))) ≡ subjects
-subjects_back name subjects filled = rw (texts_back subjects) (some subjects filled)
+-- the subjects that are read of what is printed of some
+abbrev read_subjects : Bytes → List Bytes → List Bytes
+read_subjects name subjects = subjects_or name (found (taken as_texts (codes "subjects") (Some (array (texts subjects)))))
+
+pub subjects_back : (name : Bytes) (subjects : List Bytes) → not (is_empty subjects) ≡ true → read_subjects name subjects ≡ subjects
+subjects_back name subjects filled = rw (texts_back subjects) (some_are subjects filled)
   where
-    some : (subjects : List Bytes) → not (is_empty subjects) ≡ true → subjects_or name (Some subjects) ≡ subjects
-    some [] filled = absurd (cc)
-    some (subject ∷ more) filled = refl
+    some_are : (subjects : List Bytes) → not (is_empty subjects) ≡ true → subjects_or name (Some subjects) ≡ subjects
+    some_are [] filled = absurd (cc)
+    some_are (subject ∷ more) filled = refl
 
-served_same : (description : Bytes) (window other : ℕ) (consumers others : Option ℕ) (name : Bytes) (subjects read : List Bytes) → other ≡ window → others ≡ consumers → read ≡ subjects
-    → served_config description window consumers name subjects ≡ served_config description other others name read
-served_same description window other consumers others name subjects read e₁ e₂ e₃ = rw (e₁, e₂, e₃) refl
+-- each of these values is that of the configuration
+record AreBack (c : StreamConfig) (policy : Discard) (window : ℕ) (bytes consumers size msgs for_each : Option ℕ) (subjects : List Bytes) : Type 0 where
+  policy_is : policy ≡ c.discard
+  window_is : window ≡ c.duplicate_window
+  bytes_are : bytes ≡ c.max_bytes
+  consumers_are : consumers ≡ c.max_consumers
+  size_is : size ≡ c.max_msg_size
+  msgs_are : msgs ≡ c.max_msgs
+  for_each_is : for_each ≡ c.max_msgs_per_subject
+  subjects_are : subjects ≡ c.subjects
 
-config_back : (description : Bytes) (window : ℕ) (consumers : Option ℕ) (name : Bytes) (subjects : List Bytes)
-    → ConfigParts (served_config description window consumers name subjects)
-    → served_config description window consumers name subjects ≡ config_in name (printed (served_config description window consumers name subjects))
+all_back : (description : Bytes) (c : StreamConfig) (policy : Discard) (window : ℕ) (bytes consumers size msgs for_each : Option ℕ) (subjects : List Bytes)
+    → AreBack c policy window bytes consumers size msgs for_each subjects
+    → with_limits description c ≡ record {
+      description = description;
+      discard = policy;
+      duplicate_window = window;
+      max_age = c.max_age;
+      max_bytes = bytes;
+      max_consumers = consumers;
+      max_msg_size = size;
+      max_msgs = msgs;
+      max_msgs_per_subject = for_each;
+      name = c.name;
+      retention = Limits;
+      subjects = subjects;
+    }
+all_back description c policy window bytes consumers size msgs for_each subjects b =
+    rw (b.policy_is, b.window_is, b.bytes_are, b.consumers_are, b.size_is, b.msgs_are, b.for_each_is, b.subjects_are) refl
+
+parts_back : (c : StreamConfig) → ConfigParts c → LimitParts c
+    → AreBack c (discard_of (discard_text c.discard)) (window_of c.max_age c.duplicate_window) (read_limit (codes "max_bytes") c.max_bytes)
+    (read_limit (codes "max_consumers") c.max_consumers) (read_limit (codes "max_msg_size") c.max_msg_size) (read_limit (codes "max_msgs") c.max_msgs)
+    (read_limit (codes "max_msgs_per_subject") c.max_msgs_per_subject) (read_subjects c.name c.subjects)
+parts_back c p l = record {
+  policy_is = discard_back c.discard;
+  window_is = window_kept c.max_age c.duplicate_window p.some;
+  bytes_are = limit_back (codes "max_bytes") most c.max_bytes l.bytes;
+  consumers_are = limit_back (codes "max_consumers") 256 c.max_consumers p.consumers;
+  size_is = limit_back (codes "max_msg_size") most c.max_msg_size l.size;
+  msgs_are = limit_back (codes "max_msgs") most c.max_msgs l.msgs;
+  for_each_is = limit_back (codes "max_msgs_per_subject") most c.max_msgs_per_subject l.for_each;
+  subjects_are = subjects_back c.name c.subjects p.filled;
+}
+
+config_back : (description : Bytes) (c : StreamConfig) → ConfigParts c → LimitParts c → with_limits description c ≡ config_in c.name (printed (with_limits description c))
 unfolding printed config_in number_in text_in texts_in
-config_back [] window consumers name subjects p =
-    served_same [] window _ consumers _ name subjects _ (window_kept 0 window p.some) (limit_back consumers p.consumers) (subjects_back name subjects p.filled)
-config_back (byte ∷ bytes) window consumers name subjects p =
-    served_same (byte ∷ bytes) window _ consumers _ name subjects _ (window_kept 0 window p.some) (limit_back consumers p.consumers) (subjects_back name subjects p.filled)
+config_back [] c p l = all_back [] c _ _ _ _ _ _ _ _ (parts_back c p l)
+config_back (byte ∷ bytes) c p l = all_back (byte ∷ bytes) c _ _ _ _ _ _ _ _ (parts_back c p l)
 
-read_back : (description : Bytes) (window : ℕ) (consumers : Option ℕ) (name : Bytes) (subjects : List Bytes)
-    → ConfigParts (served_config description window consumers name subjects)
-    → reading name (printed (served_config description window consumers name subjects)) ≡ Ok (served_config description window consumers name subjects)
-read_back description window consumers name subjects p =
-    let config = served_config description window consumers name subjects in
-    read_whole name (printed config) config (none_refused (printed config) table (passing description window consumers name subjects p)) (same_name description window consumers name subjects)
-    (config_back description window consumers name subjects p)
+read_back : (description : Bytes) (c : StreamConfig) → is_description description ≡ true → ConfigParts c → LimitParts c
+    → reading c.name (printed (with_limits description c)) ≡ Ok (with_limits description c)
+read_back description c described p l =
+    let config = with_limits description c in
+    read_whole c.name (printed config) config (none_refused (printed config) table (passing description c described p l)) (same_name description c) (config_back description c p l)
 
 pub printed_read : (c : StreamConfig) → IsTrue (is_stream_config c) → IsServed c → reading c.name (printed c) ≡ Ok c
 printed_read c is served =
-    let same = served_is c served in
-    let p : ConfigParts (served_config c.description c.duplicate_window c.max_consumers c.name c.subjects) = subst ConfigParts (sym same) (config_parts c is) in
-    subst (λ (config : StreamConfig). reading c.name (printed config) ≡ Ok config) same (read_back c.description c.duplicate_window c.max_consumers c.name c.subjects p)
+    let p = config_parts c is in
+    subst (λ (config : StreamConfig). reading c.name (printed config) ≡ Ok config) (retention_is c Limits (sym served.retention))
+    (read_back c.description c p.description p (limit_parts c is))

@@ -13,15 +13,14 @@ use Rattle.js_json.specs.declared.fault.JsonFault.{JsonFault}
 use Rattle.js_json.specs.Fields.{number_in, text_in, texts_in}
 use Rattle.js_model.specs.Configs.{is_name, is_limit, is_number, is_description, is_stream_subject, is_stream_config}
 use Rattle.js_model.specs.declared.stream_config.Retention.TheVariants.{Limits}
-use Rattle.js_model.specs.declared.stream_config.Discard.TheVariants.{Old}
 use Rattle.js_model.specs.declared.stream_config.StreamConfig.{StreamConfig}
 use Rattle.stream_config.specs.declared.rule.Standing.TheVariants.{Usual, Other, Invalid}
-use Rattle.stream_config.specs.declared.rule.TextRule.TheVariants.{Description, Retention, Discard}
+use Rattle.stream_config.specs.declared.rule.TextRule.TheVariants.{Description, Retention}
 use Rattle.stream_config.specs.declared.rule.NumberRule.TheVariants.{Limit, Nanos, Window}
-use Rattle.stream_config.specs.declared.table.Served.TheVariants.{Now, Later}
+use Rattle.stream_config.specs.declared.table.Served.TheVariants.{Now}
 use Rattle.stream_config.specs.Standings.{text_standing, number_standing, nanos_standing, subjects_standing, is_subject, are_subjects}
 use Rattle.stream_config.specs.Table.{Line, table, most}
-use Rattle.stream_config.specs.Reading.{check, judged, standing, found, natural_or_0, natural_in, age_in, limit_of, discard_of, retention_of, window_of, usual_window, subjects_or, config_in, reading}
+use Rattle.stream_config.specs.Reading.{check, judged, standing, found, natural_or_0, natural_in, age_in, limit_of, retention_of, window_of, usual_window, subjects_or, config_in, reading}
 use Rattle.js_model.specs.Served.{IsServed}
 use Rattle.stream_config.proofs.Named.{name_subject, read_name}
 use Rattle.stream_config.proofs.Numbers.{some, nanos_is, limit_is, limit_kept, window_kept}
@@ -38,19 +37,6 @@ described (Ok (Some text)) h = by (is_description text) refl h
     by true e h = e
     by false e h = absurd (cc)
 described (Err fault) h = absurd (cc)
-
-old_is : (text : Bytes) → same text (codes "old") ≡ true → discard_of text ≡ Old
-old_is text h = rw (same_is text (codes "old") h) refl
-
-discarded : (read : Result (Option Bytes) JsonFault) → judged (text_standing Discard) read ≡ Usual → discard_of (unwrap_or (found read) []) ≡ Old
-discarded (Ok None) h = refl
-discarded (Ok (Some text)) h = by (same text (codes "old")) (same text (codes "new")) refl h
-  where
-    by : (old new : Bool) → same text (codes "old") ≡ old → (if old then Usual else if new then Other else Invalid) ≡ Usual → discard_of text ≡ Old
-    by true new e h = old_is text e
-    by false true e h = absurd (cc)
-    by false false e h = absurd (cc)
-discarded (Err fault) h = absurd (cc)
 
 limits_is : (text : Bytes) → same text (codes "limits") ≡ true → retention_of text ≡ Limits
 limits_is text h = rw (same_is text (codes "limits") h) refl
@@ -84,17 +70,6 @@ aged age (Ok (Some (pos n))) h = nanos_below n h
 aged age (Ok (Some (negsuc n))) h = refl
 aged age (Err fault) h = absurd (cc)
 
-ageless : (age : ℕ) (read : Result (Option ℤ) JsonFault) → judged (number_standing Nanos age) read ≡ Usual → natural_or_0 (found read) ≡ 0
-ageless age (Ok None) h = refl
-ageless age (Ok (Some (pos zero))) h = refl
-ageless age (Ok (Some (pos (suc n)))) h = by (nat_le (suc n) (2 ^ 62 - 1)) (sym (nanos_is (suc n) (some n)) ∙ h)
-  where
-    by : (small : Bool) → (if small then Other else Invalid) ≡ Usual → suc n ≡ 0
-    by true h = absurd (cc)
-    by false h = absurd (cc)
-ageless age (Ok (Some (negsuc n))) h = refl
-ageless age (Err fault) h = absurd (cc)
-
 limited : (greatest age : ℕ) (read : Result (Option ℤ) JsonFault) → fits (judged (number_standing (Limit greatest) age) read) ≡ true → is_limit greatest (limit_of (natural_or_0 (found read))) ≡ true
 limited greatest age (Ok None) h = refl
 limited greatest age (Ok (Some (pos zero))) h = refl
@@ -105,17 +80,6 @@ limited greatest age (Ok (Some (pos (suc n)))) h = by (nat_le (suc n) greatest) 
     by false e h = absurd (cc)
 limited greatest age (Ok (Some (negsuc n))) h = refl
 limited greatest age (Err fault) h = absurd (cc)
-
-limitless : (greatest age : ℕ) (read : Result (Option ℤ) JsonFault) → judged (number_standing (Limit greatest) age) read ≡ Usual → limit_of (natural_or_0 (found read)) ≡ None
-limitless greatest age (Ok None) h = refl
-limitless greatest age (Ok (Some (pos zero))) h = refl
-limitless greatest age (Ok (Some (pos (suc n)))) h = by (nat_le (suc n) greatest) (sym (limit_is greatest (suc n) (some n)) ∙ h)
-  where
-    by : (small : Bool) → (if small then Other else Invalid) ≡ Usual → limit_of (suc n) ≡ None
-    by true h = absurd (cc)
-    by false h = absurd (cc)
-limitless greatest age (Ok (Some (negsuc n))) h = refl
-limitless greatest age (Err fault) h = absurd (cc)
 
 record IsWindow (age window : ℕ) : Type 0 where
   number : is_number window ≡ true
@@ -180,17 +144,17 @@ passes_at fields (suc k) (row ∷ rows) passes = passes_at fields k rows passes.
 valid : (name : Bytes) (fields : Members) → is_name name ≡ true → Passing fields table → is_stream_config (config_in name fields) ≡ true
 unfolding config_in standing table
 valid name fields is passes =
-    let age : is_number (natural_in (codes "max_age") fields) ≡ true = aged (age_in fields) (number_in (codes "max_age") fields) (passes_now Later _ (passes_at fields 12 table passes)) in
+    let age : is_number (natural_in (codes "max_age") fields) ≡ true = aged (age_in fields) (number_in (codes "max_age") fields) (passes_now Now _ (passes_at fields 12 table passes)) in
     let subjects : AreSubjects (subjects_or name (found (texts_in (codes "subjects") fields))) = subjected name (texts_in (codes "subjects") fields) is (passes_now Now _ (passes_at fields 30 table passes)) in
     let max_age = natural_in (codes "max_age") fields in
     let fits_window : fits (judged (number_standing Window max_age) (number_in (codes "duplicate_window") fields)) ≡ true =
     subst (λ (age : ℕ). fits (judged (number_standing Window age) (number_in (codes "duplicate_window") fields)) ≡ true) (same_age max_age age) (passes_now Now _ (passes_at fields 10 table passes)) in
     let window : IsWindow max_age (window_of max_age (natural_in (codes "duplicate_window") fields)) = windowed max_age (number_in (codes "duplicate_window") fields) age fits_window in
     let described_is = described (text_in (codes "description") fields) (passes_now Now _ (passes_at fields 7 table passes)) in
-    let msgs = limited most (age_in fields) (number_in (codes "max_msgs") fields) (passes_now Later _ (passes_at fields 16 table passes)) in
-    let bytes = limited most (age_in fields) (number_in (codes "max_bytes") fields) (passes_now Later _ (passes_at fields 13 table passes)) in
-    let for_each = limited most (age_in fields) (number_in (codes "max_msgs_per_subject") fields) (passes_now Later _ (passes_at fields 17 table passes)) in
-    let size = limited most (age_in fields) (number_in (codes "max_msg_size") fields) (passes_now Later _ (passes_at fields 15 table passes)) in
+    let msgs = limited most (age_in fields) (number_in (codes "max_msgs") fields) (passes_now Now _ (passes_at fields 16 table passes)) in
+    let bytes = limited most (age_in fields) (number_in (codes "max_bytes") fields) (passes_now Now _ (passes_at fields 13 table passes)) in
+    let for_each = limited most (age_in fields) (number_in (codes "max_msgs_per_subject") fields) (passes_now Now _ (passes_at fields 17 table passes)) in
+    let size = limited most (age_in fields) (number_in (codes "max_msg_size") fields) (passes_now Now _ (passes_at fields 15 table passes)) in
     let consumers = limited 256 (age_in fields) (number_in (codes "max_consumers") fields) (passes_now Now _ (passes_at fields 14 table passes)) in
     and_from _ _ (and_from _ _ (and_from _ _ (and_from _ _ (and_from _ _ (and_from _ _ (and_from _ _ (and_from _ _ (and_from _ _ (and_from _ _ (and_from _ _ (and_from _ _ (and_from _ _
     is described_is) subjects.filled) subjects.few) subjects.each) msgs) bytes) for_each) size) consumers) age) window.number) window.some) window.within
@@ -198,12 +162,6 @@ valid name fields is passes =
 served : (name : Bytes) (fields : Members) → Passing fields table → IsServed (config_in name fields)
 unfolding config_in standing table
 served name fields passes = record {
-  discard = discarded (text_in (codes "discard") fields) (passes_later _ (passes_at fields 8 table passes));
-  max_age = ageless (age_in fields) (number_in (codes "max_age") fields) (passes_later _ (passes_at fields 12 table passes));
-  max_bytes = limitless most (age_in fields) (number_in (codes "max_bytes") fields) (passes_later _ (passes_at fields 13 table passes));
-  max_msg_size = limitless most (age_in fields) (number_in (codes "max_msg_size") fields) (passes_later _ (passes_at fields 15 table passes));
-  max_msgs = limitless most (age_in fields) (number_in (codes "max_msgs") fields) (passes_later _ (passes_at fields 16 table passes));
-  max_msgs_per_subject = limitless most (age_in fields) (number_in (codes "max_msgs_per_subject") fields) (passes_later _ (passes_at fields 17 table passes));
   retention = retained (text_in (codes "retention") fields) (passes_later _ (passes_at fields 25 table passes));
 }
 

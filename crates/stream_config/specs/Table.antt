@@ -39,16 +39,16 @@ table =
     ∷ served (codes "deny_delete") Flag
     ∷ served (codes "deny_purge") Flag
     ∷ served (codes "description") (Text Description)
-    ∷ later (codes "discard") (Text Discard)
+    ∷ served (codes "discard") (Text Discard)
     ∷ served (codes "discard_new_per_subject") Flag
     ∷ served (codes "duplicate_window") (Number Window)
     ∷ served (codes "first_seq") (Count 0)
-    ∷ later (codes "max_age") (Number Nanos)
-    ∷ later (codes "max_bytes") (Number (Limit most))
+    ∷ served (codes "max_age") (Number Nanos)
+    ∷ served (codes "max_bytes") (Number (Limit most))
     ∷ served (codes "max_consumers") (Number (Limit 256))
-    ∷ later (codes "max_msg_size") (Number (Limit most))
-    ∷ later (codes "max_msgs") (Number (Limit most))
-    ∷ later (codes "max_msgs_per_subject") (Number (Limit most))
+    ∷ served (codes "max_msg_size") (Number (Limit most))
+    ∷ served (codes "max_msgs") (Number (Limit most))
+    ∷ served (codes "max_msgs_per_subject") (Number (Limit most))
     ∷ served (codes "mirror") Nothing
     ∷ served (codes "mirror_direct") Flag
     ∷ served (codes "name") (Text Name)

@@ -128,7 +128,7 @@ fn config(alloc: Global, fields: &Fields, name: &Name) -> Result<StreamConfig, N
 ///
 /// The fields are looked at in ascending order of their names. The first that has a wrong type or is out of its range is refused with 20001, and
 /// one that asks for what the server leaves out with 20002. Another name than the stream's is refused with 20022, after all of them.
-/// What is read is a valid configuration and can be printed; in it the fields that are not served yet have their usual values.
+/// What is read is a valid configuration and can be printed. Its retention is `limits`, since the other policies are not served yet.
 #[tactic(auto, using(crate::proofs::Refusing::refused_field, crate::proofs::Refusing::refused_name, crate::proofs::Refusing::read_whole))]
 pub fn read(alloc: Global, fields: &Fields, name: &Name) -> Result<StreamConfig, ConfigFault>
     ensures reading { ReadsConfig result (reading name.now (members fields.now)) }
