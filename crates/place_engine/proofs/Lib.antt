@@ -1,6 +1,7 @@
-pub mod PlainStreams
+pub mod Settled
+pub mod Passing
+pub mod Answering
+pub mod VerdictTexts
 pub mod Places
-pub mod Sizes
 pub mod Shown
 pub mod Steps
-pub mod Literals

@@ -1,5 +1,5 @@
 -- What replies show, and that no consumer is ready if there are none.
-use Rattle.std.proofs.Common.{◌≡◌, ℕ, List, [], false, IsUtf8, refl, sym, ap, subst, ◌∙◌}
+use Rattle.std.proofs.Common.{◌≡◌, ℕ, List, false, IsUtf8, refl, sym, ap, subst}
 use Rattle.std.specs.Str.{is_utf8, chars}
 use Rattle.std.specs.List.{list_any}
 use lib.Utf8.{encode}
@@ -10,11 +10,11 @@ use Rattle.js_model.specs.declared.stream.Stream.{Stream}
 use Rattle.js_model.specs.declared.consumer.Consumer.{Consumer}
 use Rattle.js_model.specs.Advance.{advance}
 use Rattle.js_model.specs.Ready.{is_ready}
-use Rattle.js_model.specs.Refusals.{no_stream, other_config, numbers_used_up}
+use Rattle.js_model.specs.Refusals.{no_stream, no_message, other_config, numbers_used_up}
 use Rattle.js_model.proofs.ConfigParts.{config_parts}
 use Rattle.js_model.proofs.NameTexts.{name_utf8}
-use Rattle.place_engine.specs.PlainStreams.{IsPlainStream}
-use Rattle.place_engine.proofs.PlainStreams.{advance-plain}
+use Rattle.place_engine.specs.LiveStreams.{IsLiveStream}
+use Rattle.place_engine.proofs.Passing.{advance-consumers}
 
 -- ---- texts of refusals
 
@@ -30,14 +30,17 @@ pub numbers_used_up_utf8 : (e : ApiError) → e ≡ numbers_used_up → IsUtf8 e
 unfolding is_utf8 chars encode
 numbers_used_up_utf8 e is = subst (λ (x : ApiError). IsUtf8 x.text) (sym is) (IsUtf8-from_is_utf8 numbers_used_up.text refl)
 
+pub no_message_utf8 : (e : ApiError) → e ≡ no_message → IsUtf8 e.text
+unfolding is_utf8 chars encode
+no_message_utf8 e is = subst (λ (x : ApiError). IsUtf8 x.text) (sym is) (IsUtf8-from_is_utf8 no_message.text refl)
+
 -- ---- names
 
-pub name_shown : (s : Stream) → IsPlainStream s → IsUtf8 s.config.name
-name_shown s plain = name_utf8 s.config.name (config_parts s.config plain.valid).name
+pub name_shown : (s : Stream) → IsLiveStream s → IsUtf8 s.config.name
+name_shown s live = name_utf8 s.config.name (config_parts s.config live.valid).name
 
 -- ---- readiness
 
-pub none_ready : (s : Stream) (now : ℕ) (listening : List Bytes) → IsPlainStream s → false ≡ list_any (is_ready (advance s now) listening) (advance s now).consumers
-none_ready s now listening plain =
-    let none : (advance s now).consumers ≡ [] = ap (λ (x : Stream). x.consumers) (advance-plain s now plain.config plain.consumers plain.ids) ∙ plain.consumers in
-    sym (ap (λ (consumers : List Consumer). list_any (is_ready (advance s now) listening) consumers) none)
+pub none_ready : (s : Stream) (now : ℕ) (listening : List Bytes) → IsLiveStream s → false ≡ list_any (is_ready (advance s now) listening) (advance s now).consumers
+none_ready s now listening live =
+    sym (ap (λ (consumers : List Consumer). list_any (is_ready (advance s now) listening) consumers) (advance-consumers s now live.alone))

@@ -1,13 +1,15 @@
 -- A place in memory: what is seen of it, and why a call fails there.
 use Rattle.std.specs.Prelude.{◌≡◌, ◌≢◌, true}
 use Rattle.js_model.specs.declared.stream.State.{State}
+use Rattle.js_model.specs.declared.stream.State.TheVariants.{Vacant, Live}
 use Rattle.js_model.specs.declared.event.Event.{Event}
 use Rattle.js_model.specs.declared.event.What.TheVariants.{Tick}
 use Rattle.js_model.specs.Events.{kept_incarnation}
 use Rattle.js_model.specs.Lasting.{lasting}
 use Rattle.js_model.specs.PlaceStates.{in_memory}
 use Rattle.place_engine.specs.Stepping.{Image, Seen}
-use Rattle.place_engine.specs.declared.faults.Left.TheVariants.{Nothing}
+use Rattle.place_engine.specs.declared.faults.Left.{Left}
+use Rattle.place_engine.specs.declared.faults.Left.TheVariants.{Nothing, Ticked}
 use Rattle.place_engine.specs.declared.faults.PlaceFault.{PlaceFault}
 use Rattle.place_engine.specs.declared.faults.PlaceFault.TheVariants.{NoMemory, StoreFault, Stopped, Gone, Worn}
 
@@ -24,10 +26,15 @@ seen_of state = record { place = in_memory state; base = lasting state; room = �
 abbrev pub holds_nothing : Image → State → Type 0
 holds_nothing image state = ⊥
 
--- It is gone exactly if the event is for another incarnation. Memory is asked for only if it is for this one and no tick, and nothing is left if
--- there is none. In memory no store fails, stops a place or wears out.
+-- what a call leaves of the place if it finds no memory: time has passed if there is a stream
+abbrev pub left_of : State → Left
+left_of (Vacant last) = Nothing
+left_of (Live stream) = Ticked
+
+-- It is gone exactly if the event is for another incarnation. Memory is asked for only if it is for this one and no tick. In memory no store fails,
+-- stops a place or wears out.
 abbrev pub HasCause : State → Event → PlaceFault → Type 0
-HasCause old event (NoMemory left) = (event.incarnation ≡ kept_incarnation old) × (event.what ≢ Tick) × (left ≡ Nothing)
+HasCause old event (NoMemory left) = (event.incarnation ≡ kept_incarnation old) × (event.what ≢ Tick) × (left ≡ left_of old)
 HasCause old event StoreFault = ⊥
 HasCause old event (Stopped count) = ⊥
 HasCause old event (Gone kept) = (event.incarnation ≢ kept_incarnation old) × (kept ≡ kept_incarnation old)

@@ -1,6 +1,4 @@
-pub mod PlainPublishes
-pub mod PlainStreams
-pub mod Stored
+pub mod LiveStreams
 pub mod Answers
 pub mod Standing
 pub mod Held

@@ -1,6 +1,8 @@
 -- What replies show, on which those who print them rest.
 use Rattle.std.specs.Prelude.{◌^◌, ◌<◌, IsTrue, IsUtf8}
 use Rattle.js_model.specs.Configs.{is_stream_config}
+use Rattle.js_model.specs.declared.reply.Verdict.{Verdict}
+use Rattle.js_model.specs.declared.reply.Verdict.TheVariants as verdicts
 use Rattle.js_model.specs.declared.reply.Reply.{Reply}
 use Rattle.js_model.specs.declared.reply.Reply.TheVariants as replies
 use Rattle.js_model.specs.declared.reply.StreamInfo.{StreamInfo}
@@ -26,3 +28,9 @@ IsShown replies.Confirmed = Unit {0}
 IsShown replies.Silent = Unit {0}
 IsShown replies.Nobody = Unit {0}
 IsShown (replies.Refused e) = IsUtf8 e.text
+
+-- the text of a refusal is UTF-8
+abbrev pub IsShownVerdict : Verdict → Type 0
+IsShownVerdict verdicts.Take = Unit {0}
+IsShownVerdict (verdicts.Duplicate seq) = Unit {0}
+IsShownVerdict (verdicts.Refused e) = IsUtf8 e.text

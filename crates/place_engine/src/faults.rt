@@ -30,7 +30,7 @@ pub enum Left {
     },
 }
 
-/// Why an event was not made, or not answered. A place in memory answers `NoMemory(Left::Nothing)` or `Gone`.
+/// Why an event was not made, or not answered. A place in memory answers `Gone`, or `NoMemory` with `Left::Nothing` or `Left::Ticked`.
 #[derive(Clone, Copy, Debug, PartialEq, Eq, Error)]
 pub enum PlaceFault {
     #[error("out of memory")]

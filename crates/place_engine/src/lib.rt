@@ -2,12 +2,11 @@
 #![tactic(auto)]
 
 mod faults;
+mod live_stream;
 mod memory_place;
 mod place;
-mod plain_stream;
 mod sameness;
 mod slot;
-mod stored;
 
 pub use faults::{Left, OpenFault, PlaceFault};
 pub use memory_place::MemoryPlace;

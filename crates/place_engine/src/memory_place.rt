@@ -12,7 +12,7 @@ ghost use Rattle.place_engine.specs.Shown.{IsShown};
 ghost use Rattle.place_engine.specs.Standing.{StandsAt};
 ghost use Rattle.place_engine.specs.Stepping.{Steps};
 
-use crate::faults::{Left, OpenFault, PlaceFault};
+use crate::faults::{OpenFault, PlaceFault};
 use crate::place::Place;
 use crate::slot::Slot;
 use js_base::{Blob, Moment, NoMemory, Outs};
@@ -82,8 +82,8 @@ impl<V> Place for MemoryPlace<V> {
         self.slot.ready(now, listening)
     }
 
-    /// An `Err` leaves the place as it was, and is `NoMemory(Left::Nothing)` or `Gone`. A tick takes no memory; a second one at the same moment
-    /// changes nothing.
+    /// An `Err` is `Gone` or `NoMemory`, and the latter leaves `Left::Ticked` if there is a stream and else `Left::Nothing`. A tick takes no memory;
+    /// a second one at the same moment changes nothing.
     fn step(&mut self, event: &Event, now: Moment, outs: &mut Outs) -> Result<Reply, PlaceFault>
         requires built { IsBuilt event.now.what }
         requires proper { IsTrue (is_proper event.now) }
@@ -97,9 +97,10 @@ impl<V> Place for MemoryPlace<V> {
         if event.incarnation != kept {
             return Err(PlaceFault::Gone(kept));
         }
+        let left = self.slot.left();
         match self.slot.answer(&event.what, now) {
             Ok(reply) => Ok(reply),
-            Err(NoMemory) => Err(PlaceFault::NoMemory(Left::Nothing)),
+            Err(NoMemory) => Err(PlaceFault::NoMemory(left)),
         }
     }
 

@@ -63,9 +63,9 @@ pub trait Place {
     /// Makes an event at a moment, answers it, and adds what it sends to the outputs. What each fault leaves of the place and of the outputs is
     /// said at [`PlaceFault`]; if a place is stopped, the event's incarnation is not looked at.
     ///
-    /// Not every event can be made yet: streams have the default limits and no consumers, and publishes no headers that ask something of the
-    /// stream. What a reply shows can be printed: the configuration of an information is valid, and the text of a refusal is UTF-8; and the
-    /// numbers of an information are so small that those of 32 streams can be added.
+    /// Not every event can be made yet: streams have the retention `limits` and no consumers. If a publish has a header with a bad number, the
+    /// header's name is UTF-8. What a reply shows can be printed: the configuration of an information is valid, and the text of a refusal and the
+    /// subject of a message are UTF-8; and the numbers of an information are so small that those of 32 streams can be added.
     fn step(&mut self, event: &Event, now: Moment, outs: &mut Outs) -> Result<Reply, PlaceFault>
         requires built { IsBuilt event.now.what }
         requires proper { IsTrue (is_proper event.now) }

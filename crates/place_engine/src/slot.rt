@@ -4,30 +4,35 @@ ghost use Rattle.std.specs.Prelude.{◌≡◌, ◌≢◌, ◌≤◌, ◌<◌, �
 ghost use Rattle.std.specs.Option.{option_copied};
 ghost use Rattle.js_base.specs.Bytes.{Bytes};
 ghost use Rattle.js_model.specs.declared.stream.State.TheVariants.{Vacant};
-ghost use Rattle.js_model.specs.Events.{kept_incarnation};
 ghost use Rattle.js_model.specs.Configs.{is_stream_config};
-ghost use Rattle.js_model.specs.Proper.{is_proper_what, is_proper_publish};
+ghost use Rattle.js_model.specs.Events.{kept_incarnation};
+ghost use Rattle.js_model.specs.Proper.{is_proper_what};
 ghost use Rattle.js_model.specs.Ready.{some_ready};
-ghost use Rattle.place_engine.specs.Answers.{PlaceAnswers};
-ghost use Rattle.place_engine.specs.Places.{IsBuilt, IsVacant, name_in, subjects_in};
 ghost use Rattle.js_model.specs.Served.{IsServed};
-ghost use Rattle.place_engine.specs.PlainPublishes.{IsPlainPublish};
+ghost use Rattle.js_model.specs.StateMoments.{state_at};
+ghost use Rattle.place_engine.specs.Answers.{AnswersThen, PlaceAnswers};
+ghost use Rattle.place_engine.specs.InMemory.{left_of};
+ghost use Rattle.place_engine.specs.Places.{IsBuilt, IsVacant, name_in, subjects_in};
 ghost use Rattle.place_engine.specs.Provisional.{IsSilent};
 ghost use Rattle.place_engine.specs.Shown.{IsShown};
 ghost use Rattle.place_engine.specs.Standing.{StandsAt};
 
-use crate::plain_stream::{NUMBERS_END, PlainStream};
+use crate::faults::Left;
+use crate::live_stream::LiveStream;
 use js_base::{Blob, Moment, NoMemory};
 use js_model::refusals::{no_stream, numbers_used_up};
-use js_model::{Listening, Publish, Reply, StreamConfig, What};
+use js_model::{Listening, Reply, StreamConfig, What};
 use std::alloc::Global;
 use std::marker::Model;
+
+/// Incarnations are below it.
+const NUMBERS_END: u64 = 1 << 62;
 
 /// Nothing, with the incarnation of the last stream, or a stream.
 #[derive(Drop)]
 pub enum Held {
     Nothing(u64),
-    Stream(PlainStream),
+    Stream(LiveStream),
 }
 
 /// Room for one stream.
@@ -108,8 +113,18 @@ impl Slot {
         }
     }
 
-    /// Does what is asked at a moment, and answers it. An `Err` changes nothing. A tick takes no memory, and a second one at the same moment
-    /// changes nothing.
+    /// What a call leaves that finds no memory: time has passed if there is a stream.
+    pub fn left(&self) -> Left
+        ensures value { result ≡ left_of self.now }
+    {
+        match &self.held {
+            Held::Nothing(_) => Left::Nothing,
+            Held::Stream(_) => Left::Ticked,
+        }
+    }
+
+    /// Lets time pass until a moment, does what is asked, and answers it. An `Err` leaves what a tick leaves. A tick takes no memory, and a second
+    /// one at the same moment changes nothing.
     pub fn answer(&mut self, what: &What, now: Moment) -> Result<Reply, NoMemory>
         requires built { IsBuilt what.now }
         requires proper { IsTrue (is_proper_what what.now) }
@@ -117,101 +132,18 @@ impl Slot {
         ensures shown { IfOk result IsShown }
         ensures stands { OnOk result (what.now ≡ What.Tick → StandsAt self.new now) }
         ensures takes_none { OnErr result (what.now ≢ What.Tick) }
-        ensures err { OnErr result (self.new ≡ self.old) }
+        ensures err { OnErr result (PlaceAnswers self.old What.Tick now Reply.Silent self.new) }
     {
+        self.tick(now);
         match what {
-            What::Make { reply: _, config } => self.make(config, now),
-            What::Change { reply: _, config } => self.change(config, now),
-            What::Drop { reply: _ } => self.drop_stream(),
-            What::Publish(publish) => self.publish(publish, now),
-            What::Tick => {
-                self.tick(now);
-                Ok(Reply::Silent)
-            }
-            What::StreamInfo { reply: _ } => self.show(now),
-            _ => unreachable!(),
+            What::Tick => Ok(Reply::Silent),
+            _ => self.answer_then(what, now),
         }
     }
 
-    /// Makes the stream.
-    fn make(&mut self, config: &StreamConfig, now: Moment) -> Result<Reply, NoMemory>
-        requires plain { IsServed config.now }
-        requires valid { IsTrue (is_stream_config config.now) }
-        ensures answers { (subject : Option Bytes) → IfOk result (λ reply. PlaceAnswers self.old (What.Make subject config.now) now reply self.new) }
-        ensures shown { IfOk result IsShown }
-        ensures err { OnErr result (self.new ≡ self.old) }
-    {
-        match &mut self.held {
-            Held::Nothing(_) => self.make_new(config, now),
-            Held::Stream(stream) => stream.make_again(config, now),
-        }
-    }
-
-    /// Makes a stream if there is none.
-    fn make_new(&mut self, config: &StreamConfig, now: Moment) -> Result<Reply, NoMemory>
-        requires vacant { IsVacant self.old }
-        requires plain { IsServed config.now }
-        requires valid { IsTrue (is_stream_config config.now) }
-        ensures answers { (subject : Option Bytes) → IfOk result (λ reply. PlaceAnswers self.old (What.Make subject config.now) now reply self.new) }
-        ensures shown { IfOk result IsShown }
-        ensures err { OnErr result (self.new ≡ self.old) }
-    {
-        let incarnation = self.incarnation();
-        if incarnation == NUMBERS_END {
-            return Ok(Reply::Refused(numbers_used_up(self.alloc)?));
-        }
-        let stream = PlainStream::make(self.alloc, incarnation, config, now)?;
-        let info = stream.info()?;
-        self.held = Held::Stream(stream);
-        Ok(Reply::Info(info))
-    }
-
-    /// Replaces the configuration of the stream.
-    fn change(&mut self, config: &StreamConfig, now: Moment) -> Result<Reply, NoMemory>
-        requires plain { IsServed config.now }
-        requires valid { IsTrue (is_stream_config config.now) }
-        ensures answers { (subject : Option Bytes) → IfOk result (λ reply. PlaceAnswers self.old (What.Change subject config.now) now reply self.new) }
-        ensures shown { IfOk result IsShown }
-        ensures err { OnErr result (self.new ≡ self.old) }
-    {
-        match &mut self.held {
-            Held::Nothing(_) => Ok(Reply::Refused(no_stream(self.alloc)?)),
-            Held::Stream(stream) => stream.change(config, now),
-        }
-    }
-
-    /// Drops the stream with its messages. The next one will have the next incarnation.
-    fn drop_stream(&mut self) -> Result<Reply, NoMemory>
-        ensures answers { (subject : Option Bytes) (now : ℕ) → IfOk result (λ reply. PlaceAnswers self.old (What.Drop subject) now reply self.new) }
-        ensures shown { IfOk result IsShown }
-        ensures err { OnErr result (self.new ≡ self.old) }
-    {
-        match &self.held {
-            Held::Nothing(_) => Ok(Reply::Refused(no_stream(self.alloc)?)),
-            Held::Stream(stream) => {
-                let last = stream.dropped();
-                self.held = Held::Nothing(last);
-                Ok(Reply::Done)
-            }
-        }
-    }
-
-    /// Stores a message in the stream.
-    fn publish(&mut self, publish: &Publish, now: Moment) -> Result<Reply, NoMemory>
-        requires plain { IsPlainPublish publish.now }
-        requires proper { IsTrue (is_proper_publish publish.now) }
-        ensures answers { IfOk result (λ reply. PlaceAnswers self.old (What.Publish publish.now) now reply self.new) }
-        ensures shown { IfOk result IsShown }
-        ensures err { OnErr result (self.new ≡ self.old) }
-    {
-        match &mut self.held {
-            Held::Nothing(_) => Ok(Reply::Refused(no_stream(self.alloc)?)),
-            Held::Stream(stream) => stream.publish(publish, now),
-        }
-    }
-
-    /// Lets time pass for the stream. A second time at the same moment nothing changes.
+    /// Lets time pass until a moment. A second time at the same moment nothing changes.
     fn tick(&mut self, now: Moment)
+        ensures passed { self.new ≡ state_at self.old now }
         ensures answers { PlaceAnswers self.old What.Tick now Reply.Silent self.new }
         ensures stands { StandsAt self.new now }
     {
@@ -221,15 +153,72 @@ impl Slot {
         }
     }
 
-    /// Shows the stream's information.
-    fn show(&mut self, now: Moment) -> Result<Reply, NoMemory>
-        ensures answers { (subject : Option Bytes) → IfOk result (λ reply. PlaceAnswers self.old (What.StreamInfo subject) now reply self.new) }
+    /// Does what is asked at a moment to which time has come, and answers it. An `Err` changes nothing.
+    fn answer_then(&mut self, what: &What, now: Moment) -> Result<Reply, NoMemory>
+        requires built { IsBuilt what.now }
+        requires proper { IsTrue (is_proper_what what.now) }
+        requires more { what.now ≢ What.Tick }
+        ensures answers { IfOk result (λ reply. AnswersThen self.old what.now now reply self.new) }
         ensures shown { IfOk result IsShown }
         ensures err { OnErr result (self.new ≡ self.old) }
     {
-        match &mut self.held {
-            Held::Nothing(_) => Ok(Reply::Refused(no_stream(self.alloc)?)),
-            Held::Stream(stream) => stream.show(now),
+        match what {
+            What::Drop { reply: _ } => self.drop_stream(),
+            _ => match &mut self.held {
+                Held::Nothing(_) => self.answer_vacant(what, now),
+                Held::Stream(stream) => stream.answer(what),
+            },
         }
+    }
+
+    /// Drops the stream with its messages. The next one will have the next incarnation.
+    fn drop_stream(&mut self) -> Result<Reply, NoMemory>
+        ensures answers { (subject : Option Bytes) (now : ℕ) → IfOk result (λ reply. AnswersThen self.old (What.Drop subject) now reply self.new) }
+        ensures shown { IfOk result IsShown }
+        ensures err { OnErr result (self.new ≡ self.old) }
+    {
+        match &self.held {
+            Held::Nothing(_) => Ok(Reply::Refused(no_stream(self.alloc)?)),
+            Held::Stream(stream) => {
+                let last = stream.incarnation();
+                self.held = Held::Nothing(last);
+                Ok(Reply::Done)
+            }
+        }
+    }
+
+    /// Makes a stream if there is none. Whatever else is asked is refused.
+    fn answer_vacant(&mut self, what: &What, now: Moment) -> Result<Reply, NoMemory>
+        requires vacant { IsVacant self.old }
+        requires built { IsBuilt what.now }
+        requires proper { IsTrue (is_proper_what what.now) }
+        requires more { what.now ≢ What.Tick }
+        ensures answers { IfOk result (λ reply. AnswersThen self.old what.now now reply self.new) }
+        ensures shown { IfOk result IsShown }
+        ensures err { OnErr result (self.new ≡ self.old) }
+    {
+        match what {
+            What::Make { reply: _, config } => self.make(config, now),
+            _ => Ok(Reply::Refused(no_stream(self.alloc)?)),
+        }
+    }
+
+    /// Makes a stream if there is none.
+    fn make(&mut self, config: &StreamConfig, now: Moment) -> Result<Reply, NoMemory>
+        requires vacant { IsVacant self.old }
+        requires served { IsServed config.now }
+        requires valid { IsTrue (is_stream_config config.now) }
+        ensures answers { (subject : Option Bytes) → IfOk result (λ reply. AnswersThen self.old (What.Make subject config.now) now reply self.new) }
+        ensures shown { IfOk result IsShown }
+        ensures err { OnErr result (self.new ≡ self.old) }
+    {
+        let incarnation = self.incarnation();
+        if incarnation == NUMBERS_END {
+            return Ok(Reply::Refused(numbers_used_up(self.alloc)?));
+        }
+        let stream = LiveStream::make(self.alloc, incarnation, config, now)?;
+        let info = stream.info()?;
+        self.held = Held::Stream(stream);
+        Ok(Reply::Info(info))
     }
 }

@@ -1,7 +1,4 @@
-use Rattle.js_model.specs.declared.stream.State.TheVariants.{Vacant}
-use Rattle.js_model.specs.declared.event.What.TheVariants.{Drop}
-use Rattle.js_model.specs.declared.reply.Reply.TheVariants.{Done}
-use Rattle.place_engine.proofs.Places.{drops_nothing, there}
+use Rattle.place_engine.proofs.Places.{drops_nothing, drops}
 use Rattle.place_engine.proofs.Shown.{no_stream_utf8}
 use Rattle.place_engine.proofs.slot.Slot.drop_stream.Goals as goal
 
@@ -13,7 +10,7 @@ returns-in_ok-no_stream-in-Nothing-clause-answers c = λ subject. λ now.
 pub returns-in-Stream-clause-answers : goal.returns-in-Stream-clause-answers
 returns-in-Stream-clause-answers c = λ subject. λ now.
     rw (← c.self.view_is, c.in-Stream.is)
-    (there c.in-Stream.stream (Drop subject) now Done (Vacant c.dropped-last.result) (c.dropped-last.ensures.answers subject now))
+    (drops c.in-Stream.stream subject now c.incarnation-last.result c.incarnation-last.ensures.alone c.incarnation-last.ensures.value)
 
 pub returns-in_ok-no_stream-in-Nothing-clause-shown :
     goal.returns-in_ok-no_stream-in-Nothing-clause-shown

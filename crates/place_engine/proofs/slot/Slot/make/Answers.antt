@@ -1,14 +1,18 @@
-use Rattle.std.proofs.lemmas.Result.{IfOk-weaker}
-use Rattle.js_model.specs.declared.stream.State.TheVariants.{Live}
-use Rattle.js_model.specs.declared.event.What.TheVariants.{Make}
-use Rattle.place_engine.proofs.Places.{there}
+use Rattle.place_engine.proofs.Places.{makes, makes_none}
+use Rattle.place_engine.proofs.Shown.{numbers_used_up_utf8}
 use Rattle.place_engine.proofs.slot.Slot.make.Goals as goal
 
-pub returns-in-Stream-clause-answers : goal.returns-in-Stream-clause-answers
-returns-in-Stream-clause-answers c = λ subject.
-    rw (← c.self.view_is, c.in-Stream.is)
-    (IfOk-weaker c.make_again.result _ _
-    (λ reply answers. there c.in-Stream.stream (Make subject c.args.config.now) c.args.now reply (Live c.make_again.new.self) answers) (c.make_again.ensures.answers subject))
+pub returns-then-incarnation-eq-NUMBERS_END-clause-answers :
+    goal.returns-then-incarnation-eq-NUMBERS_END-clause-answers
+returns-then-incarnation-eq-NUMBERS_END-clause-answers c = λ subject.
+    rw c.in_ok-numbers_used_up.ensures.value
+    (makes_none c.args.self.now subject c.args.config.now c.args.now c.requires.vacant (rw c.incarnation-incarnation.ensures.value at c.if-incarnation-eq-NUMBERS_END.true))
 
-pub returns-in-Nothing-clause-answers : goal.returns-in-Nothing-clause-answers
-returns-in-Nothing-clause-answers c = λ subject. rw (← c.self.view_is) (c.make_new.ensures.answers subject)
+pub returns-clause-answers : goal.returns-clause-answers
+returns-clause-answers c = λ subject.
+    rw (c.in_ok-info.ensures.value, c.in_ok-stream.ensures.made, c.incarnation-incarnation.ensures.value)
+    (makes c.args.self.now subject c.args.config.now c.args.now c.requires.vacant (rw c.incarnation-incarnation.ensures.value at c.if-incarnation-eq-NUMBERS_END.false)
+    (rw (c.in_ok-stream.ensures.made, c.incarnation-incarnation.ensures.value) at c.in_ok-info.ensures.settled))
+
+pub returns-then-incarnation-eq-NUMBERS_END-clause-shown : goal.returns-then-incarnation-eq-NUMBERS_END-clause-shown
+returns-then-incarnation-eq-NUMBERS_END-clause-shown c = numbers_used_up_utf8 _ c.in_ok-numbers_used_up.ensures.value
