@@ -48,11 +48,12 @@ state_of old e now reply outs new h = ap (λ (a : Answer). a.state) h.answers
 reply_of : (old : State) (e : Event) (now : ℕ) (reply : Reply) (outs : List Out) (new : State) (h : IsEvent old e now reply outs new) → (answered old e now h.room).reply ≡ reply
 reply_of old e now reply outs new h = ap (λ (a : Answer). a.reply) h.answers
 
-tick_keeps : (count : ℕ) (old : State) (seat : ℕ) (at : PlaceAt) (now : ℕ) (reply : Reply) (outs : List Out) (unsaid : Bool) (new : State)
-    → RunFrom count old (Step seat (event_at at whats.Tick) now reply outs unsaid ∷ []) new → kept_incarnation new ≡ kept_incarnation old
-tick_keeps count old seat at now reply outs unsaid new h =
-    let e = event_is count old seat (event_at at whats.Tick) now reply outs unsaid new h in
-    sym (ap kept_incarnation (state_of old (event_at at whats.Tick) now reply outs new e)) ∙ event_keeps old (event_at at whats.Tick) now e.room tt refl
+-- time that passes keeps it
+tick_keeps : (count : ℕ) (old : State) (seat : ℕ) (e : Event) (now : ℕ) (reply : Reply) (outs : List Out) (unsaid : Bool) (new : State) → e.what ≡ whats.Tick
+    → RunFrom count old (Step seat e now reply outs unsaid ∷ []) new → kept_incarnation new ≡ kept_incarnation old
+tick_keeps count old seat e now reply outs unsaid new tick h =
+    let made = event_is count old seat e now reply outs unsaid new h in
+    sym (ap kept_incarnation (state_of old e now reply outs new made)) ∙ event_keeps old e now made.room (subst IsBuilt (sym tick) tt) (ap is_drop tick)
 
 -- deliveries keep it
 deliveries_keep : (seat : ℕ) (at : PlaceAt) (now : ℕ) (listening : List Bytes) (fault : Option DeskFault) (entries : List PlaceEntry) (count : ℕ) (old new : State)
@@ -61,9 +62,7 @@ deliveries_keep seat at now listening fault [] count old new d h = ap kept_incar
 deliveries_keep seat at now listening fault (Deliver by moment heard delivery outs ∷ more) count old new d h =
     deliveries_keep seat at now listening fault more (count + length (new_messages old h.0)) h.0 new d.3 h.2 ∙ delivery_keeps old moment heard delivery outs h.0 h.1.delivered
 deliveries_keep seat at now listening fault (Step by event moment reply outs unsaid ∷ more) count old new d h =
-    tick_keeps count old by at moment reply outs unsaid new
-    (subst (λ (e : Event). RunFrom count old (Step by e moment reply outs unsaid ∷ []) new) d.1
-    (subst (λ (es : List PlaceEntry). RunFrom count old (Step by event moment reply outs unsaid ∷ es) new) d.4 h))
+    tick_keeps count old by event moment reply outs unsaid new d.1 (subst (λ (es : List PlaceEntry). RunFrom count old (Step by event moment reply outs unsaid ∷ es) new) d.4 h)
 deliveries_keep seat at now listening fault (Broken by moment (DeliverOf heard delivery) ∷ []) count old new d h = delivery_keeps old moment heard delivery h.0 new h.1.delivered
 deliveries_keep seat at now listening fault (Broken by moment (DeliverOf heard delivery) ∷ next ∷ more) count old new d h = absurd h
 deliveries_keep seat at now listening fault (Broken by moment (StepOf event) ∷ more) count old new d h = absurd d

@@ -1,10 +1,11 @@
 -- An event keeps the incarnation of its place, unless it drops the stream; and so does a delivery.
-use Rattle.std.proofs.Common.{◌≡◌, ◌+◌, ◌^◌, ℕ, Bool, true, false, List, [], ◌∷◌, refl, ap, ◌∙◌, if◌then◌else◌}
+use Rattle.std.proofs.Common.{◌≡◌, ◌+◌, ◌^◌, ℕ, Bool, true, false, List, [], ◌∷◌, Option, Some, None, refl, ap, ◌∙◌, if◌then◌else◌}
 use Rattle.std.specs.Prelude.{◌==◌}
 use Rattle.js_base.specs.Bytes.{Bytes}
 use Rattle.js_model.specs.declared.stream.State.{State}
 use Rattle.js_model.specs.declared.stream.State.TheVariants.{Vacant, Live}
 use Rattle.js_model.specs.declared.stream.Stream.{Stream}
+use Rattle.js_model.specs.declared.stream.Message.{Message}
 use Rattle.js_model.specs.declared.event.Event.{Event}
 use Rattle.js_model.specs.declared.event.Publish.{Publish}
 use Rattle.js_model.specs.declared.event.What.{What}
@@ -18,7 +19,7 @@ use Rattle.js_base.specs.declared.out.Out.{Out}
 use Rattle.js_model.specs.Advance.{advance}
 use Rattle.js_model.specs.Configs.{same_stream_config, same_retention}
 use Rattle.js_model.specs.Deliver.{IsDelivered}
-use Rattle.js_model.specs.Events.{answered, is_refused, kept_incarnation, published, settled_state, stream_answer, stream_told, refused, vacant_answer, vacantly, with_id}
+use Rattle.js_model.specs.Events.{answered, deleted, is_refused, kept_incarnation, message_at, message_by, message_told, published, settled_state, stream_answer, stream_told, refused, vacant_answer, vacantly, with_id}
 use Rattle.js_model.specs.Consumers.{empty_stream}
 use Rattle.js_model.specs.Refusals.{other_config, retention_cannot_change, numbers_used_up}
 use Rattle.js_model.specs.Retention.{kept}
@@ -51,21 +52,29 @@ published_keeps s p Take = with_id_keeps _ p.wants.id
 published_keeps s p (TakenBefore n) = refl
 published_keeps s p (RefusedBy e) = refl
 
+deleted_keeps : (s : Stream) (found : Option Message) → kept_incarnation (deleted s found).state ≡ s.incarnation
+deleted_keeps s None = refl
+deleted_keeps s (Some m) = refl
+
+told_keeps : (s : Stream) (found : Option Message) → kept_incarnation (message_told s found).state ≡ s.incarnation
+told_keeps s None = refl
+told_keeps s (Some m) = refl
+
 stream_keeps : (s : Stream) (what : What) (room : Bool) → IsBuilt what → is_drop what ≡ false → kept_incarnation (stream_answer s what room).state ≡ s.incarnation
 stream_keeps s (whats.Make reply config) room b d = either_keeps (same_stream_config config s.config) s.incarnation (stream_told s) (refused other_config s) refl refl
 stream_keeps s (whats.Change reply config) room b d =
     either_keeps (same_retention config.retention s.config.retention) s.incarnation (stream_told (record s { config = config })) (refused retention_cannot_change s) refl refl
 stream_keeps s (whats.Drop reply) room b d = absurd (cc)
 stream_keeps s (whats.Publish p) room b d = published_keeps s p (verdict s p room)
-stream_keeps s (whats.Purge reply filter below keep) room b d = absurd b
-stream_keeps s (whats.Delete reply seq) room b d = absurd b
+stream_keeps s (whats.Purge reply filter below keep) room b d = refl
+stream_keeps s (whats.Delete reply seq) room b d = deleted_keeps s (message_at s seq)
 stream_keeps s (whats.MakeConsumer reply name config update) room b d = absurd b
 stream_keeps s (whats.DropConsumer reply name) room b d = absurd b
 stream_keeps s (whats.Ack reply ack) room b d = absurd b
 stream_keeps s (whats.Pull reply consumer ask) room b d = absurd b
 stream_keeps s whats.Tick room b d = refl
 stream_keeps s (whats.StreamInfo reply) room b d = refl
-stream_keeps s (whats.MessageGet reply by) room b d = absurd b
+stream_keeps s (whats.MessageGet reply by) room b d = told_keeps s (message_by s by)
 stream_keeps s (whats.ConsumerInfo reply name) room b d = absurd b
 stream_keeps s (whats.ConsumerNames reply offset) room b d = absurd b
 stream_keeps s (whats.ConsumerList reply offset) room b d = absurd b
