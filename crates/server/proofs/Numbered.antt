@@ -11,6 +11,7 @@ use Rattle.js_model.specs.declared.event.What.{What}
 use Rattle.js_model.specs.declared.event.What.TheVariants as whats
 use Rattle.js_model.specs.declared.desk.PlaceAt.{PlaceAt}
 use Rattle.js_model.specs.declared.desk.Taken.{Taken}
+use Rattle.js_model.specs.Proper.{reply_of}
 use Rattle.js_model.specs.Catalog as catalog
 use Rattle.js_model.specs.Router as router
 use Rattle.api_calls.specs.declared.call.ApiCall.TheVariants as calls
@@ -109,7 +110,7 @@ explained None unsaid hold h fit = tt
 explained (Some faults.NoMemory) unsaid hold h fit = tt
 explained (Some faults.TooManySubs) unsaid hold h fit = tt
 explained (Some (faults.Worn number)) unsaid hold (inl h) fit = fit.sent number h
-explained (Some (faults.Worn number)) unsaid hold (inr h) fit = no_last number hold.volume_after h fit.generation
+explained (Some (faults.Worn number)) unsaid hold (inr h) fit = no_last number hold.volume_after h.0 fit.generation
 explained (Some (faults.NoSession latest)) unsaid hold h fit = tt
 
 none_numbered : (fault : Option DeskFault) → fault ≡ None → IfSome fault IsNumbered
@@ -231,6 +232,10 @@ over_all_keeps name to now answering result entries h fit =
 absent_keeps : (name : Bytes) (to : Option Bytes) → Keeps (one.IsAbsent name to)
 absent_keeps name to = answers_keeps _
 
+asking_keeps : (name stream : Bytes) (what : What) (now : ℕ) → Keeps (one.IsAsking name stream what now)
+asking_keeps name stream what now =
+    named_keeps stream (one.IsAbsent name (reply_of what)) (λ at. one.IsOnStream name at what now one.unchanged) (absent_keeps name (reply_of what)) (λ at. on_stream_keeps name at what now one.unchanged)
+
 performs_keeps : (request : ApiRequest) (to : Option Bytes) (now : ℕ) → Keeps (api.Performs request to now)
 performs_keeps requests.AccountInfo to now = over_all_keeps _ to now _
 performs_keeps (requests.StreamCreate stream config) to now =
@@ -238,17 +243,15 @@ performs_keeps (requests.StreamCreate stream config) to now =
     (adding_keeps stream config (one.GoesOnAdded config to now) (added_keeps config to now)) (λ at. on_stream_keeps _ at _ now one.unchanged)
 performs_keeps (requests.StreamUpdate stream config) to now =
     named_keeps stream (one.IsAbsent (name_of calls.StreamUpdate) to) (one.IsChanging config to now) (absent_keeps (name_of calls.StreamUpdate) to) (changing_keeps config to now)
-performs_keeps (requests.StreamInfo stream) to now =
-    named_keeps stream (one.IsAbsent (name_of calls.StreamInfo) to) (λ at. one.IsOnStream (name_of calls.StreamInfo) at (whats.StreamInfo to) now one.unchanged)
-    (absent_keeps (name_of calls.StreamInfo) to) (λ at. on_stream_keeps _ at _ now one.unchanged)
+performs_keeps (requests.StreamInfo stream) to now = asking_keeps (name_of calls.StreamInfo) stream (whats.StreamInfo to) now
 performs_keeps (requests.StreamDelete stream) to now =
     named_keeps stream (one.IsAbsent (name_of calls.StreamDelete) to) (λ at. one.IsOnStream (name_of calls.StreamDelete) at (whats.Drop to) now (one.free_if_dropped at))
     (absent_keeps (name_of calls.StreamDelete) to) (λ at. on_stream_keeps _ at _ now (one.free_if_dropped at))
-performs_keeps (requests.StreamPurge stream pattern below keep) to now = λ result entries h fit. absurd h
+performs_keeps (requests.StreamPurge stream pattern below keep) to now = asking_keeps (name_of calls.StreamPurge) stream (whats.Purge to pattern below keep) now
 performs_keeps (requests.StreamNames offset pattern) to now = over_all_keeps _ to now _
 performs_keeps (requests.StreamList offset pattern) to now = over_all_keeps _ to now _
-performs_keeps (requests.StreamMsgGet stream by) to now = λ result entries h fit. absurd h
-performs_keeps (requests.StreamMsgDelete stream seq) to now = λ result entries h fit. absurd h
+performs_keeps (requests.StreamMsgGet stream by) to now = asking_keeps (name_of calls.StreamMsgGet) stream (whats.MessageGet to by) now
+performs_keeps (requests.StreamMsgDelete stream seq) to now = asking_keeps (name_of calls.StreamMsgDelete) stream (whats.Delete to seq) now
 performs_keeps (requests.ConsumerCreate stream consumer config update) to now = λ result entries h fit. absurd h
 performs_keeps (requests.ConsumerDurableCreate stream consumer config update) to now = λ result entries h fit. absurd h
 performs_keeps (requests.ConsumerInfo stream consumer) to now = λ result entries h fit. absurd h
