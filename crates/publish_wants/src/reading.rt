@@ -1,6 +1,6 @@
 //! The publish headers are read.
 
-ghost use Rattle.std.specs.Prelude.{◌≡◌, ◌||◌, [], IfOk, IsTrue, option_map};
+ghost use Rattle.std.specs.Prelude.{◌≡◌, ◌||◌, [], IfOk, IfSome, IsTrue, IsUtf8, option_map};
 ghost use Rattle.js_base.specs.Bytes.{is_empty};
 ghost use Rattle.js_base.specs.Headers.{is_block};
 ghost use Rattle.publish_wants.specs.Wants.{text_in, number_in, or_none, first_wrong, wants_of, is_proper_wants};
@@ -112,13 +112,14 @@ fn no_wants() -> Wants
 }
 
 /// What a publish with this header block asks of its stream, by the first field of each name; an empty value is none. The sequences are below 2^62:
-/// of `Nats-Expected-Last-Sequence` and `Nats-Expected-Last-Subject-Sequence`, the first whose value is no such decimal is told as `bad`. An
+/// of `Nats-Expected-Last-Sequence` and `Nats-Expected-Last-Subject-Sequence`, the first whose value is no such decimal is told as `bad`, by its name. An
 /// empty block, that is, none, asks nothing.
-#[tactic(auto, using(crate::proofs::Numbers::proper))]
+#[tactic(auto, using(crate::proofs::Numbers::proper, crate::proofs::Told::told))]
 pub fn read_wants(alloc: Global, block: &[u8]) -> Result<Wants, NoMemory>
     requires block { IsTrue (is_empty block.now || is_block block.now) }
     ensures wants { IfOk result (λ wants. wants ≡ wants_of block.now) }
     ensures proper { IfOk result (λ wants. IsTrue (is_proper_wants wants)) }
+    ensures told { IfOk result (λ wants. IfSome wants.bad IsUtf8) }
 {
     if block.is_empty() {
         return Ok(no_wants());
