@@ -1,0 +1,4 @@
+pub mod Around
+pub mod Ranges
+pub mod Kept
+pub mod Changed

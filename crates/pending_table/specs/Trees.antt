@@ -1,5 +1,5 @@
 -- A search tree of entries, seen as their list.
-use Rattle.std.specs.Prelude.{ℕ, ◌<◌, List, [], ◌∷◌, ◌++◌, All, ⊤}
+use Rattle.std.specs.Prelude.{◌≡◌, ℕ, ◌<◌, ◌==◌, false, List, [], ◌∷◌, ◌++◌, ⊤}
 use Rattle.std.specs.List.{AllByRecursion}
 use Rattle.js_model.specs.declared.consumer.Pending.{Pending}
 use Rattle.pending_table.specs.declared.tree.Tree.{Tree, Empty, Fork'}
@@ -39,3 +39,18 @@ without_top (Fork' p left entry right bounds height) = entries left ++ entries r
 abbrev pub AreTopsBounded : Tree → Type 0
 AreTopsBounded Empty = ⊤
 AreTopsBounded (Fork' p left entry right bounds height) = IsBounded left × IsBounded right
+
+-- an entry with lesser sequences on its left and greater ones on its right
+pub record AreSides (left : List Pending) (e : Pending) (right : List Pending) : Type 0 where
+  pub below : AllByRecursion (λ p. p.seq < e.seq) left
+  pub above : AllByRecursion (λ p. e.seq < p.seq) right
+
+-- so it is at each fork
+abbrev pub IsOrdered : Tree → Type 0
+IsOrdered Empty = ⊤
+IsOrdered (Fork' p left entry right bounds height) = AreSides (entries left) entry (entries right) × IsOrdered left × IsOrdered right
+
+-- no entry has this sequence
+abbrev pub Lacks : ℕ → Tree → Type 0
+Lacks seq Empty = ⊤
+Lacks seq (Fork' p left entry right bounds height) = ((entry.seq == seq) ≡ false) × Lacks seq left × Lacks seq right

@@ -6,7 +6,7 @@ ghost use Rattle.std.specs.Option.{option_map, option_to_list};
 ghost use Rattle.js_model.specs.Deliver.{with_pending};
 ghost use Rattle.js_model.specs.declared.consumer.Pending.{Pending};
 ghost use Rattle.pending_table.specs.Asked.{passes, IsWithin};
-ghost use Rattle.pending_table.specs.Trees.{entries, listed, without_top, AreSidesBounded, AreTopsBounded, IsAscending, IsBounded, IsBoundedFork};
+ghost use Rattle.pending_table.specs.Trees.{entries, listed, without_top, AreSidesBounded, AreTopsBounded, IsBounded, IsBoundedFork, IsOrdered, Lacks};
 
 use crate::asked::Asked;
 use crate::bounds::Bounds;
@@ -37,7 +37,7 @@ pub(crate) struct Fork {
 impl Tree {
     /// The entry of the sequence.
     pub(crate) fn get(&self, seq: u64) -> Option<Pending>
-        requires ascending { IsAscending (entries self.now) }
+        requires ordered { IsOrdered self.now }
         ensures value { result ≡ find (λ p. p.seq == seq) (entries self.now) }
     {
         let Tree::Fork(fork) = self else {
@@ -54,7 +54,7 @@ impl Tree {
 
     /// The least sequence that is at least this one.
     pub(crate) fn at_or_after(&self, seq: u64) -> Option<u64>
-        requires ascending { IsAscending (entries self.now) }
+        requires ordered { IsOrdered self.now }
         ensures value { result ≡ option_map (λ p. p.seq) (find (λ p. nat_le seq p.seq) (entries self.now)) }
     {
         let Tree::Fork(fork) = self else {
@@ -92,8 +92,8 @@ impl Tree {
     /// Puts a leaf at its place. It takes no memory.
     pub(crate) fn insert(&mut self, leaf: Box<Fork>)
         requires bounded { IsBounded self.old }
-        requires ascending { IsAscending (entries self.old) }
-        requires absent { find (λ p. p.seq == leaf.value.entry.seq) (entries self.old) ≡ None }
+        requires ordered { IsOrdered self.old }
+        requires absent { Lacks leaf.value.entry.seq self.old }
         requires leaf { (listed leaf.value ≡ leaf.value.entry ∷ []) × IsBoundedFork leaf.value }
         ensures entries { entries self.new ≡ with_pending (entries self.old) leaf.value.entry }
         ensures bounded { IsBounded self.new }
@@ -114,7 +114,7 @@ impl Tree {
     /// Puts another entry in the place of that of its sequence, if there is one. It takes no memory.
     pub(crate) fn replace(&mut self, entry: Pending)
         requires bounded { IsBounded self.old }
-        requires ascending { IsAscending (entries self.old) }
+        requires ordered { IsOrdered self.old }
         ensures entries { entries self.new ≡ map (λ p. if p.seq == entry.seq then entry else p) (entries self.old) }
         ensures bounded { IsBounded self.new }
     {
@@ -134,7 +134,7 @@ impl Tree {
     /// Takes the entry of the sequence out, if there is one. It takes no memory.
     pub(crate) fn remove(&mut self, seq: u64)
         requires bounded { IsBounded self.old }
-        requires ascending { IsAscending (entries self.old) }
+        requires ordered { IsOrdered self.old }
         ensures left { entries self.new ≡ filter (λ p. not (p.seq == seq)) (entries self.old) }
         ensures bounded { IsBounded self.new }
     {
@@ -177,19 +177,17 @@ impl Tree {
         ensures bounded { IsBounded self.new }
         ensures none { result ≡ None → entries self.new ≡ [] }
     {
-        let Tree::Fork(fork) = self else {
+        let Tree::Fork(mut fork) = mem::replace(self, Tree::Empty) else {
             return None;
         };
         match fork.left.pop_first() {
             Some(first) => {
-                self.balance();
+                *self = Tree::Fork(balanced(fork));
                 Some(first)
             }
             None => {
-                let first = fork.entry;
-                let right = mem::replace(&mut fork.right, Tree::Empty);
-                *self = right;
-                Some(first)
+                *self = mem::replace(&mut fork.right, Tree::Empty);
+                Some(fork.entry)
             }
         }
     }
