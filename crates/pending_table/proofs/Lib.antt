@@ -2,3 +2,4 @@ pub mod Around
 pub mod Ranges
 pub mod Kept
 pub mod Changed
+pub mod Tables
