@@ -209,3 +209,44 @@ past_range low high (p ∷ ps) q h found past = go (λ k. past_range low high ps
         let at : p.seq ≡ q.seq = ap (λ (x : Pending). x.seq) same in
         ap (λ b. cond b (Some p) (find (is_in low high) ps)) (above_high p.seq high (omega (arith, at, past))) ∙ find_none (is_in low high) ps (beyond same)
     go more false k = more k
+
+abbrev seq_of : Option Pending → Option ℕ
+seq_of o = option_map (λ p. p.seq) o
+
+module _ (low high : ℕ) (ps : List Pending) where
+  pub range_first : (n : ℕ) (o : Option Pending) → find (λ p. nat_le low p.seq) ps ≡ o → Some n ≡ seq_of o → n ≤ high → Some n ≡ seq_of (find (is_in low high) ps)
+  range_first n None f h upto = absurd cc
+  range_first n (Some q) f h upto =
+      let same : n ≡ q.seq = cc h in
+      h ∙ ap seq_of (sym (first_of_range low high ps q f (omega (arith, upto, same))))
+
+  pub range_past : IsAscending ps → (n : ℕ) (o : Option Pending) → find (λ p. nat_le low p.seq) ps ≡ o → Some n ≡ seq_of o → high < n → None ≡ seq_of (find (is_in low high) ps)
+  range_past ascending n None f h past = absurd cc
+  range_past ascending n (Some q) f h past =
+      let same : n ≡ q.seq = cc h in
+      ap seq_of (sym (past_range low high ps q ascending f (omega (arith, past, same))))
+
+  pub range_empty : (o : Option Pending) → find (λ p. nat_le low p.seq) ps ≡ o → None ≡ seq_of o → None ≡ seq_of (find (is_in low high) ps)
+  range_empty None f h = ap seq_of (sym (none_of_range low high ps f))
+  range_empty (Some q) f h = absurd cc
+
+-- what an answer without a sequence says, and one with it
+pub not_found : (test : Pending → Bool) (ps : List Pending) (o : Option Pending) → find test ps ≡ o → None ≡ seq_of o → find test ps ≡ None
+not_found test ps None f h = f
+not_found test ps (Some q) f h = absurd cc
+
+-- the first that passes goes by its sequence
+pub taken_first : (test : Pending → Bool) (ps : List Pending) → IsAscending ps → (n : ℕ) (o : Option Pending) → find test ps ≡ o → Some n ≡ seq_of o → filter (λ p. not (p.seq == n)) ps ≡ without_first test ps
+taken_first test ps ascending n None f h = absurd cc
+taken_first test ps ascending n (Some q) f h =
+    let same : n ≡ q.seq = cc h in
+    ap (λ (m : ℕ). filter (λ p. not (p.seq == m)) ps) same ∙ first_removed test q ps ascending f
+
+-- one of the range goes, and the others that are to go are as before
+pub range_step : (low high : ℕ) (ps : List Pending) (n : ℕ) (o : Option Pending) → find (is_in low high) ps ≡ o → Some n ≡ seq_of o
+    → (filter (λ p. not (is_in low high p)) (filter (λ p. not (p.seq == n)) ps) ≡ filter (λ p. not (is_in low high p)) ps) × (length (filter (λ p. not (p.seq == n)) ps) < length ps)
+range_step low high ps n None f h = absurd cc
+range_step low high ps n (Some q) f h =
+    let same : n ≡ q.seq = cc h in
+    (range_later low high n ps (ap (λ m. nat_le low m && nat_le m high) same ∙ found_test (is_in low high) ps q f),
+     subst (λ (m : ℕ). length (filter (λ p. not (p.seq == m)) ps) < length ps) (sym same) (shorter (is_in low high) q ps f))
