@@ -136,7 +136,7 @@ range_later low high seq (p ∷ ps) h = go (p.seq == seq) refl (range_later low 
 pub range_done : (low high : ℕ) (ps : List Pending) → find (is_in low high) ps ≡ None → filter (λ p. not (is_in low high p)) ps ≡ ps
 range_done low high ps h = filter_same (is_in low high) ps (none_found (is_in low high) ps h)
 
-shorter_or_same : (test : Pending → Bool) (ps : List Pending) → length (filter test ps) ≤ length ps
+pub shorter_or_same : (test : Pending → Bool) (ps : List Pending) → length (filter test ps) ≤ length ps
 shorter_or_same test [] = omega arith
 shorter_or_same test (p ∷ ps) = go (test p) (shorter_or_same test ps)
   where

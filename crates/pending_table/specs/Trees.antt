@@ -30,11 +30,6 @@ abbrev pub IsAscending : List Pending → Type 0
 IsAscending [] = ⊤
 IsAscending (p ∷ ps) = AllByRecursion (λ q. p.seq < q.seq) ps × IsAscending ps
 
--- the entries but that at the top
-abbrev pub without_top : Tree → List Pending
-without_top Empty = []
-without_top (Fork' p left entry right bounds height) = entries left ++ entries right
-
 -- what is below the top is bounded
 abbrev pub AreTopsBounded : Tree → Type 0
 AreTopsBounded Empty = ⊤

@@ -6,7 +6,7 @@ ghost use Rattle.std.specs.Option.{option_map, option_to_list};
 ghost use Rattle.js_model.specs.Deliver.{with_pending};
 ghost use Rattle.js_model.specs.declared.consumer.Pending.{Pending};
 ghost use Rattle.pending_table.specs.Asked.{passes, IsWithin};
-ghost use Rattle.pending_table.specs.Trees.{entries, listed, without_top, AreSidesBounded, AreTopsBounded, IsBounded, IsBoundedFork, IsOrdered, Lacks};
+ghost use Rattle.pending_table.specs.Trees.{entries, listed, AreSidesBounded, AreTopsBounded, IsBounded, IsBoundedFork, IsOrdered, Lacks};
 
 use crate::asked::Asked;
 use crate::bounds::Bounds;
@@ -138,35 +138,17 @@ impl Tree {
         ensures left { entries self.new ≡ filter (λ p. not (p.seq == seq)) (entries self.old) }
         ensures bounded { IsBounded self.new }
     {
-        let Tree::Fork(fork) = self else {
+        let Tree::Fork(mut fork) = mem::replace(self, Tree::Empty) else {
             return;
         };
         if seq < fork.entry.seq {
             fork.left.remove(seq);
+            *self = Tree::Fork(balanced(fork));
         } else if fork.entry.seq < seq {
             fork.right.remove(seq);
+            *self = Tree::Fork(balanced(fork));
         } else {
-            self.remove_top();
-            return;
-        }
-        self.balance();
-    }
-
-    /// Takes the entry at the top out.
-    fn remove_top(&mut self)
-        requires bounded { IsBounded self.old }
-        ensures left { entries self.new ≡ without_top self.old }
-        ensures bounded { IsBounded self.new }
-    {
-        let Tree::Fork(mut fork) = mem::replace(self, Tree::Empty) else {
-            return;
-        };
-        match fork.right.pop_first() {
-            Some(next) => {
-                fork.entry = next;
-                *self = Tree::Fork(balanced(fork));
-            }
-            None => *self = mem::replace(&mut fork.left, Tree::Empty),
+            *self = without_entry(fork);
         }
     }
 
@@ -267,6 +249,21 @@ fn balanced(mut top: Box<Fork>) -> Box<Fork>
     } else {
         top.update();
         top
+    }
+}
+
+/// What is left without the entry of the fork.
+fn without_entry(mut fork: Box<Fork>) -> Tree
+    requires sides { AreSidesBounded fork.value }
+    ensures left { entries result ≡ entries fork.value.left ++ entries fork.value.right }
+    ensures bounded { IsBounded result }
+{
+    match fork.right.pop_first() {
+        Some(next) => {
+            fork.entry = next;
+            Tree::Fork(balanced(fork))
+        }
+        None => mem::replace(&mut fork.left, Tree::Empty),
     }
 }
 
