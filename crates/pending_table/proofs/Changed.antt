@@ -250,3 +250,13 @@ range_step low high ps n (Some q) f h =
     let same : n ≡ q.seq = cc h in
     (range_later low high n ps (ap (λ m. nat_le low m && nat_le m high) same ∙ found_test (is_in low high) ps q f),
      subst (λ (m : ℕ). length (filter (λ p. not (p.seq == m)) ps) < length ps) (sym same) (shorter (is_in low high) q ps f))
+
+from_zero : (n : ℕ) → nat_le 0 n ≡ true
+from_zero n = grind (arith, nat_tests)
+
+-- the range from 0 on
+pub range_upto : (high : ℕ) (ps : List Pending) → filter (λ p. not (is_in 0 high p)) ps ≡ filter (λ p. not (nat_le p.seq high)) ps
+range_upto high [] = refl
+range_upto high (p ∷ ps) =
+    ap (λ b. cond (not (b && nat_le p.seq high)) (p ∷ filter (λ p. not (is_in 0 high p)) ps) (filter (λ p. not (is_in 0 high p)) ps)) (from_zero p.seq)
+    ∙ ap (λ qs. cond (not (nat_le p.seq high)) (p ∷ qs) qs) (range_upto high ps)
