@@ -1,9 +1,9 @@
 -- What stands on the sides of an entry in an ascending list, and what a call for one sequence finds and changes there.
-use Rattle.std.proofs.Common.{◌≡◌, ℕ, ◌<◌, ◌==◌, Bool, true, false, cond, not, List, [], ◌∷◌, ◌++◌, Option, Some, None, map, refl, sym, ap, ◌∙◌, subst, arith}
+use Rattle.std.proofs.Common.{◌≡◌, ℕ, ◌<◌, ◌==◌, Bool, true, false, cond, not, List, [], ◌∷◌, ◌++◌, Option, Some, None, map, refl, sym, ap, ◌∙◌, arith}
 use Rattle.std.specs.Prelude.{filter, find, nat_lt}
 use Rattle.std.specs.List.{AllByRecursion}
 use Rattle.std.specs.Option.{option_or}
-use Rattle.std.proofs.lemmas.Bool.{ne_eqb, eq-eqb, eqb-false, lt-ltb, le-ltb}
+use Rattle.std.proofs.lemmas.Bool.{ne_eqb, eq-eqb, lt-ltb, le-ltb}
 use Rattle.std.proofs.lemmas.List.{map-append}
 use Rattle.std.proofs.lemmas.List.Elements.{filter-append}
 use Rattle.std.proofs.lemmas.List.Folds.{find-append}
@@ -44,10 +44,11 @@ ascending_right (p ∷ left) right h = ascending_right left right h.1
 
 pub ordered : (t : Tree) → IsAscending (entries t) → IsOrdered t
 ordered Empty h = tt
-ordered (Fork' p left e right bounds height) h =
-    (around (entries left) e (entries right) h,
-     ordered left (ascending_left (entries left) (e ∷ entries right) h),
-     ordered right (right_of (ascending_right (entries left) (e ∷ entries right) h)))
+ordered (Fork' p left e right bounds height) h = (
+  around (entries left) e (entries right) h,
+  ordered left (ascending_left (entries left) (e ∷ entries right) h),
+  ordered right (right_of (ascending_right (entries left) (e ∷ entries right) h)),
+)
   where
     right_of : IsAscending (e ∷ entries right) → IsAscending (entries right)
     right_of k = k.1
@@ -91,9 +92,10 @@ module _ (left : List Pending) (e : Pending) (right : List Pending) (sides : Are
   apart_left h = lesser_apart seq left (all_map (λ p. p.seq < e.seq) (λ p. p.seq < seq) (λ p k. omega (arith, h, k)) left sides.below)
 
   pub apart_both : e.seq ≡ seq → AllByRecursion (λ p. (p.seq == seq) ≡ false) left × AllByRecursion (λ p. (p.seq == seq) ≡ false) right
-  apart_both h =
-      (lesser_apart seq left (all_map (λ p. p.seq < e.seq) (λ p. p.seq < seq) (λ p k. omega (arith, h, k)) left sides.below),
-       greater_apart seq right (all_map (λ p. e.seq < p.seq) (λ p. seq < p.seq) (λ p k. omega (arith, h, k)) right sides.above))
+  apart_both h = (
+    lesser_apart seq left (all_map (λ p. p.seq < e.seq) (λ p. p.seq < seq) (λ p k. omega (arith, h, k)) left sides.below),
+    greater_apart seq right (all_map (λ p. e.seq < p.seq) (λ p. seq < p.seq) (λ p k. omega (arith, h, k)) right sides.above),
+  )
 
   pub get_left : seq < e.seq → find (λ p. p.seq == seq) (left ++ e ∷ right) ≡ find (λ p. p.seq == seq) left
   get_left h = find_left (λ p. p.seq == seq) left (e ∷ right) (apart_right h)

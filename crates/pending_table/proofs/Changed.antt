@@ -1,5 +1,5 @@
 -- The changes of the table's calls, by those of one entry.
-use Rattle.std.proofs.Common.{◌≡◌, ℕ, ◌+◌, ◌<◌, ◌≤◌, ◌==◌, ◌&&◌, Bool, true, false, cond, not, List, [], ◌∷◌, Option, Some, None, map, length, refl, sym, ap, ◌∙◌, subst, arith}
+use Rattle.std.proofs.Common.{◌≡◌, ℕ, ◌<◌, ◌≤◌, ◌==◌, ◌&&◌, Bool, true, false, cond, not, List, [], ◌∷◌, Option, Some, None, map, length, refl, sym, ap, ◌∙◌, subst, arith}
 use Rattle.std.specs.Prelude.{filter, find, nat_le, nat_lt}
 use Rattle.std.specs.List.{AllByRecursion, list_any}
 use Rattle.std.specs.Option.{option_map}
@@ -9,7 +9,7 @@ use Rattle.js_model.specs.declared.consumer.Pending.{Pending}
 use Rattle.js_model.specs.Acknowledge.{moved}
 use Rattle.js_model.specs.Deliver.{with_pending, without_first}
 use Rattle.pending_table.specs.Trees.{IsAscending}
-use Rattle.pending_table.proofs.Around.{all_map, find_none, greater_apart, map_same, filter_same, replaced}
+use Rattle.pending_table.proofs.Around.{all_map, find_none, map_same, filter_same, replaced}
 use Rattle.pending_table.proofs.Kept.{found_test, found_all, later_apart}
 
 -- ---- what is there
@@ -79,7 +79,7 @@ moved_replaced seq due e (p ∷ ps) h found = go (moved_replaced seq due e ps h.
         ap (λ b. cond b new p ∷ map (replaced new) ps) (same_test ∙ w)
         ∙ ap (λ (q : Pending). record q { due = due } ∷ map (replaced new) ps) (sym same)
         ∙ ap (λ qs. record p { due = due } ∷ qs)
-            (map_same new ps (later_apart p ps e.seq (at ∙ sym seq_is) h.0) ∙ sym (moved_none seq due ps (later_apart p ps seq at h.0)))
+        (map_same new ps (later_apart p ps e.seq (at ∙ sym seq_is) h.0) ∙ sym (moved_none seq due ps (later_apart p ps seq at h.0)))
     go more false w k =
         ap (λ b. cond b new p ∷ map (replaced new) ps) (same_test ∙ w) ∙ ap (λ qs. p ∷ qs) (more k)
 
@@ -247,9 +247,10 @@ pub range_step : (low high : ℕ) (ps : List Pending) (n : ℕ) (o : Option Pend
     → (filter (λ p. not (is_in low high p)) (filter (λ p. not (p.seq == n)) ps) ≡ filter (λ p. not (is_in low high p)) ps) × (length (filter (λ p. not (p.seq == n)) ps) < length ps)
 range_step low high ps n None f h = absurd cc
 range_step low high ps n (Some q) f h =
-    let same : n ≡ q.seq = cc h in
-    (range_later low high n ps (ap (λ m. nat_le low m && nat_le m high) same ∙ found_test (is_in low high) ps q f),
-     subst (λ (m : ℕ). length (filter (λ p. not (p.seq == m)) ps) < length ps) (sym same) (shorter (is_in low high) q ps f))
+    let same : n ≡ q.seq = cc h in (
+      range_later low high n ps (ap (λ m. nat_le low m && nat_le m high) same ∙ found_test (is_in low high) ps q f),
+      subst (λ (m : ℕ). length (filter (λ p. not (p.seq == m)) ps) < length ps) (sym same) (shorter (is_in low high) q ps f),
+    )
 
 from_zero : (n : ℕ) → nat_le 0 n ≡ true
 from_zero n = grind (arith, nat_tests)

@@ -1,5 +1,5 @@
 -- The entries of a table, this server's own: in a search tree, with how many there are and how many were delivered again.
-use Rattle.std.specs.Prelude.{◌≡◌, ℕ, ◌<◌, ◌^◌, nat_lt, Bool, List, length}
+use Rattle.std.specs.Prelude.{◌≡◌, ℕ, ◌<◌, ◌^◌, nat_lt, Bool, length}
 use Rattle.std.specs.List.{count_by}
 use Rattle.js_model.specs.declared.consumer.Pending.{Pending}
 use Rattle.pending_table.specs.declared.tree.Tree.{Tree}

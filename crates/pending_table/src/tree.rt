@@ -229,7 +229,11 @@ impl Fork {
         ensures bounded { IsBoundedFork self.new }
     {
         self.bounds = self.right.widen(self.left.widen(Bounds::of(&self.entry)));
-        self.height = self.left.height().max(self.right.height()).saturating_add(1);
+        self.height = self
+            .left
+            .height()
+            .max(self.right.height())
+            .saturating_add(1);
     }
 }
 

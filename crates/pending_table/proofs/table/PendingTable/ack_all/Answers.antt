@@ -1,6 +1,5 @@
-use Rattle.std.proofs.Common.{◌≡◌, ◌≤◌, length, not, sym, ap, ◌∙◌, arith}
+use Rattle.std.proofs.Common.{◌≡◌, length, not, ap, ◌∙◌, arith}
 use Rattle.std.specs.Prelude.{nat_le, filter}
-use Rattle.pending_table.specs.Trees.{entries}
 use Rattle.pending_table.proofs.Changed.{range_upto, shorter_or_same}
 use Rattle.pending_table.proofs.table.PendingTable.ack_all.Goals as goal
 

@@ -1,4 +1,4 @@
-use Rattle.std.proofs.Common.{◌≡◌, ◌<◌, length, refl, sym, ap, ◌∙◌}
+use Rattle.std.proofs.Common.{refl, sym, ◌∙◌}
 use Rattle.pending_table.proofs.Changed.{is_in, not_found, range_done, range_step}
 use Rattle.pending_table.proofs.table.PendingTable.forget.Goals as goal
 

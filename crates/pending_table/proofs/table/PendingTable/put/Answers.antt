@@ -1,4 +1,4 @@
-use Rattle.std.proofs.Common.{◌≡◌, ◌≤◌, ◌+◌, ◌-◌, ◌<◌, ◌^◌, length, sym, ap, ◌∙◌, arith}
+use Rattle.std.proofs.Common.{◌≡◌, ◌≤◌, ◌+◌, ◌-◌, ◌<◌, ◌^◌, length, sym, ◌∙◌, arith}
 use Rattle.js_model.specs.declared.consumer.Pending.{Pending}
 use Rattle.pending_table.specs.Trees.{entries}
 use Rattle.pending_table.proofs.Around.{ordered, lacks}
@@ -42,8 +42,8 @@ invariant_of-self-in-None c =
     let e : Pending = record { seq = c.args.seq; count = c.args.count; due = c.args.due } in
     let room : length (entries i.tree) + 1 < 2 ^ 32 = rw c.self.view_is c.requires.room in
     rw c.again_of-in-None.ensures.value
-      (put_table i.tree c.insert.new.self i.len i.again c.self.invariant c.insert.ensures.bounded e (sym c.get.ensures.value ∙ c.in-None.is) room
-        (rw c.in_ok-leaf-in-None.ensures.leaf.0 at c.insert.ensures.entries))
+    (put_table i.tree c.insert.new.self i.len i.again c.self.invariant c.insert.ensures.bounded e (sym c.get.ensures.value ∙ c.in-None.is) room
+    (rw c.in_ok-leaf-in-None.ensures.leaf.0 at c.insert.ensures.entries))
 
 pub returns-in-Some-clause-ok : goal.returns-in-Some-clause-ok
 returns-in-Some-clause-ok c =

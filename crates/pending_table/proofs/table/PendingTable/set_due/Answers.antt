@@ -32,4 +32,4 @@ returns-clause-is c = rw (← c.self.view_is) (sym (any_found (λ p. p.seq == c.
 pub returns-clause-value : goal.returns-clause-value
 returns-clause-value c =
     rw (← c.self.view_is)
-      (c.replace.ensures.entries ∙ moved_replaced c.args.seq c.args.due c.in-Some.entry (entries c.self.inside.tree) c.self.invariant.ascending (sym c.get.ensures.value ∙ c.in-Some.is))
+    (c.replace.ensures.entries ∙ moved_replaced c.args.seq c.args.due c.in-Some.entry (entries c.self.inside.tree) c.self.invariant.ascending (sym c.get.ensures.value ∙ c.in-Some.is))

@@ -33,10 +33,10 @@ returns-then-passes t c =
     record {
       value = rw (c.in-Fork.is, c.deref-then-passes.ensures)
           (ap seq_of
-            (sym
-              (find-append test (entries f.left) (f.entry ∷ entries f.right)
-              ∙ found_later _ _ (sym c.in_default-first.is ∙ rw c.deref-2.ensures at c.first.ensures.value)
-              ∙ ap (λ b. cond b (Some f.entry) (find test (entries f.right))) (sym (rw c.deref-3.ensures at c.if-passes.ensures.value)))));
+          (sym
+          (find-append test (entries f.left) (f.entry ∷ entries f.right)
+          ∙ found_later _ _ (sym c.in_default-first.is ∙ rw c.deref-2.ensures at c.first.ensures.value)
+          ∙ ap (λ b. cond b (Some f.entry) (find test (entries f.right))) (sym (rw c.deref-3.ensures at c.if-passes.ensures.value)))));
     }
 
 pub returns : goal.returns
@@ -47,8 +47,8 @@ returns t c =
       value = rw c.in-Fork.is
           (rw c.deref-4.ensures at c.first-2.ensures.value
           ∙ ap seq_of
-            (sym
-              (find-append test (entries f.left) (f.entry ∷ entries f.right)
-              ∙ found_later _ _ (sym c.in_default-first.is ∙ rw c.deref-2.ensures at c.first.ensures.value)
-              ∙ ap (λ b. cond b (Some f.entry) (find test (entries f.right))) (sym (rw c.deref-3.ensures at c.if-passes.ensures.value)))));
+          (sym
+          (find-append test (entries f.left) (f.entry ∷ entries f.right)
+          ∙ found_later _ _ (sym c.in_default-first.is ∙ rw c.deref-2.ensures at c.first.ensures.value)
+          ∙ ap (λ b. cond b (Some f.entry) (find test (entries f.right))) (sym (rw c.deref-3.ensures at c.if-passes.ensures.value)))));
     }

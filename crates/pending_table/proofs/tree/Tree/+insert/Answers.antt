@@ -1,4 +1,4 @@
-use Rattle.std.proofs.Common.{◌≡◌, ◌∷◌, ◌++◌, ◌<◌, ap, sym, ◌∙◌, arith}
+use Rattle.std.proofs.Common.{◌∷◌, ◌++◌, ◌<◌, ap, sym, ◌∙◌, arith}
 use Rattle.std.proofs.lemmas.Bool.{eqb-false}
 use Rattle.pending_table.specs.Trees.{entries}
 use Rattle.pending_table.proofs.Around.{put_left, put_right}
@@ -19,6 +19,6 @@ returns-after-deref-clause-entries t c =
           let other = eqb-false f.entry.seq new.seq (rw c.in-Fork.is at c.requires.absent).0 in
           let more : f.entry.seq < new.seq = omega (arith, not_less, other) in
           rw (c.balance.ensures.entries, w.self-is, w.deref_mut-else-deref.ensures.value, c.in-Fork.is)
-            (ap (λ ps. entries f.left ++ f.entry ∷ ps) (rw w.deref_mut-else-deref.ensures.value at w.insert-else-deref.ensures.entries)
-            ∙ sym (put_right (entries f.left) f.entry new (entries f.right) sides.below more))
+          (ap (λ ps. entries f.left ++ f.entry ∷ ps) (rw w.deref_mut-else-deref.ensures.value at w.insert-else-deref.ensures.entries)
+          ∙ sym (put_right (entries f.left) f.entry new (entries f.right) sides.below more))
     ]

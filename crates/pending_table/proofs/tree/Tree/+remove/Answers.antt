@@ -9,9 +9,9 @@ returns-then-seq-deref-clause-left t c =
     let is = sym c.replace.ensures.value ∙ c.in-Fork.is in
     let sides = (rw is at c.requires.ordered).0 in
     rw is
-      (rw c.deref_mut.ensures.value at c.balanced.ensures.entries
-      ∙ ap (λ ps. ps ++ f.entry ∷ entries f.right) (rw c.deref_mut.ensures.value at c.remove.ensures.left)
-      ∙ sym (removed_left (entries f.left) f.entry (entries f.right) sides c.args.seq (rw c.deref.ensures at c.if-seq-deref.true)))
+    (rw c.deref_mut.ensures.value at c.balanced.ensures.entries
+    ∙ ap (λ ps. ps ++ f.entry ∷ entries f.right) (rw c.deref_mut.ensures.value at c.remove.ensures.left)
+    ∙ sym (removed_left (entries f.left) f.entry (entries f.right) sides c.args.seq (rw c.deref.ensures at c.if-seq-deref.true)))
 
 pub returns-then-deref-seq-clause-left : goal.returns-then-deref-seq-clause-left
 returns-then-deref-seq-clause-left t c =
@@ -19,9 +19,9 @@ returns-then-deref-seq-clause-left t c =
     let is = sym c.replace.ensures.value ∙ c.in-Fork.is in
     let sides = (rw is at c.requires.ordered).0 in
     rw is
-      (rw c.deref_mut-then-deref-seq.ensures.value at c.balanced-then-deref-seq.ensures.entries
-      ∙ ap (λ ps. entries f.left ++ f.entry ∷ ps) (rw c.deref_mut-then-deref-seq.ensures.value at c.remove-then-deref-seq.ensures.left)
-      ∙ sym (removed_right (entries f.left) f.entry (entries f.right) sides c.args.seq (rw c.deref-else-seq-deref.ensures at c.if-deref-seq.true)))
+    (rw c.deref_mut-then-deref-seq.ensures.value at c.balanced-then-deref-seq.ensures.entries
+    ∙ ap (λ ps. entries f.left ++ f.entry ∷ ps) (rw c.deref_mut-then-deref-seq.ensures.value at c.remove-then-deref-seq.ensures.left)
+    ∙ sym (removed_right (entries f.left) f.entry (entries f.right) sides c.args.seq (rw c.deref-else-seq-deref.ensures at c.if-deref-seq.true)))
 
 pub returns-else-deref-seq-clause-left : goal.returns-else-deref-seq-clause-left
 returns-else-deref-seq-clause-left t c =

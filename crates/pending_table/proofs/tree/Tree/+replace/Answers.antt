@@ -20,5 +20,5 @@ returns-clause-entries t c =
           let not_more = rw w.deref-else-entry-deref.ensures at w.if-deref-entry.false in
           let same : f.entry.seq ≡ c.args.entry.seq = omega (arith, not_less, not_more) in
           rw (c.update.ensures.left, c.update.ensures.entry, c.update.ensures.right, c.deref_mut-2.ensures.value, w.fork-is, w.deref_mut-else-deref-entry.ensures.value, c.in-Fork.is)
-            (sym (replaced_here _ f.entry _ sides c.args.entry same))
+          (sym (replaced_here _ f.entry _ sides c.args.entry same))
     ]
