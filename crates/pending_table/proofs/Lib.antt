@@ -1,0 +1,5 @@
+pub mod Around
+pub mod Ranges
+pub mod Kept
+pub mod Changed
+pub mod Tables

@@ -1,0 +1,24 @@
+-- Which entries are asked for, by the redelivery and max_deliver of JetStream's consumers, and what lets a search pass over many at once.
+use Rattle.std.specs.Prelude.{◌≡◌, ℕ, ◌≤◌, nat_le, Bool, ◌&&◌, ◌==◌}
+use Rattle.js_model.specs.declared.consumer.Pending.{Pending}
+use Rattle.pending_table.specs.declared.asked.Asked.{Asked}
+use Rattle.pending_table.specs.declared.asked.Asked.TheVariants.{Due, Spent}
+use Rattle.pending_table.specs.declared.bounds.Bounds.{Bounds}
+
+-- due at the moment
+abbrev pub is_due : ℕ → Pending → Bool
+is_due now p = nat_le p.due now
+
+-- due at the moment, and delivered as often as it may be
+abbrev pub is_spent : ℕ → ℕ → Pending → Bool
+is_spent now max p = nat_le p.due now && p.count == max
+
+abbrev pub passes : Asked → Pending → Bool
+passes (Due now) p = is_due now p
+passes (Spent now max) p = is_spent now max p
+
+-- the entry is not due before the bound, its count is at most the greatest, and if it is the greatest, the entry is not due before that one's bound
+pub record IsWithin (b : Bounds) (p : Pending) : Type 0 where
+  pub due : b.due ≤ p.due
+  pub count : p.count ≤ b.count
+  pub spent : p.count ≡ b.count → b.spent ≤ p.due

@@ -1,0 +1,9 @@
+//! The deliveries of a consumer that wait for their acknowledgement.
+#![tactic(auto)]
+
+mod asked;
+mod bounds;
+mod table;
+mod tree;
+
+pub use table::PendingTable;

@@ -1,0 +1,183 @@
+//! The table of the deliveries that wait.
+
+ghost use Rattle.std.specs.Prelude.{◌≡◌, ◌==◌, ◌+◌, ◌^◌, ◌<◌, ◌&&◌, [], filter, find, length, map, nat_le, nat_lt, not, if◌then◌else◌, OnOk, OnErr};
+ghost use Rattle.std.specs.List.{count_by, list_any};
+ghost use Rattle.std.specs.Option.{option_map};
+ghost use Rattle.js_model.specs.Acknowledge.{moved};
+ghost use Rattle.js_model.specs.Deliver.{with_pending, without_first};
+ghost use Rattle.pending_table.specs.Asked.{is_due, is_spent};
+ghost use Rattle.pending_table.specs.Table.{is_again};
+
+use crate::asked::Asked;
+use crate::tree::{Fork, Tree};
+use js_base::{Moment, NoMemory};
+use js_model::Pending;
+use std::alloc::Global;
+use std::marker::Model;
+
+/// Fewer than 2^32 deliveries in the order of their sequences. The cost of a call grows with the logarithm of their number, if no other is said.
+#[derive(Drop)]
+pub struct PendingTable {
+    alloc: Global,
+    tree: Tree,
+    len: u64,
+    /// How many were delivered more than once.
+    again: u64,
+}
+
+impl Model for PendingTable {
+    ghost use Rattle.std.specs.Prelude.{List};
+    ghost use Rattle.js_model.specs.declared.consumer.Pending.{Pending};
+    ghost use Rattle.pending_table.specs.Trees.{entries};
+    ghost use Rattle.pending_table.specs.Table.{IsTable};
+
+    ghost Value = { List Pending };
+
+    ghost view = { λ table. entries table.tree };
+
+    ghost invariant = { λ table. IsTable table.tree table.len table.again };
+}
+
+impl PendingTable {
+    /// No entries. It takes no memory.
+    pub fn new(alloc: Global) -> PendingTable
+        ensures empty { result ≡ [] }
+    {
+        PendingTable {
+            alloc,
+            tree: Tree::Empty,
+            len: 0,
+            again: 0,
+        }
+    }
+
+    /// How many entries there are, fewer than 2^32.
+    pub fn len(&self) -> u64
+        ensures value { result ≡ length self.now }
+        ensures bound { result < 2 ^ 32 }
+    {
+        self.len
+    }
+
+    /// The least sequence.
+    pub fn first(&self) -> Option<u64>
+        ensures value { result ≡ option_map (λ p. p.seq) (find (λ p. nat_le 0 p.seq) self.now) }
+    {
+        self.tree.at_or_after(0)
+    }
+
+    /// How many entries have a count above 1.
+    pub fn again(&self) -> u64
+        ensures value { result ≡ count_by is_again self.now }
+    {
+        self.again
+    }
+
+    /// How often the message of the sequence was delivered, and when it is due again.
+    pub fn get(&self, seq: u64) -> Option<(u64, Moment)>
+        ensures value { result ≡ option_map (λ p. (p.count, p.due)) (find (λ p. p.seq == seq) self.now) }
+    {
+        let entry = self.tree.get(seq)?;
+        Some((entry.count, entry.due))
+    }
+
+    /// Sets the entry of the sequence, or replaces it. An `Err` changes nothing.
+    pub fn put(&mut self, seq: u64, count: u64, due: Moment) -> Result<(), NoMemory>
+        requires room { length self.old + 1 < 2 ^ 32 }
+        ensures ok { OnOk result (self.new ≡ with_pending self.old (record { seq = seq; count = count; due = due })) }
+        ensures err { OnErr result (self.new ≡ self.old) }
+    {
+        let entry = Pending { seq, count, due };
+        match self.tree.get(seq) {
+            Some(old) => {
+                self.again = self.again - again_of(old.count) + again_of(count);
+                self.tree.replace(entry);
+            }
+            None => {
+                let leaf = Fork::leaf(self.alloc, entry)?;
+                self.tree.insert(leaf);
+                self.len += 1;
+                self.again += again_of(count);
+            }
+        }
+        Ok(())
+    }
+
+    /// Takes the entry of the sequence out, and tells whether there was one. It takes no memory.
+    pub fn ack(&mut self, seq: u64) -> bool
+        ensures was { result ≡ list_any (λ p. p.seq == seq) self.old }
+        ensures left { self.new ≡ filter (λ p. not (p.seq == seq)) self.old }
+    {
+        let Some(entry) = self.tree.get(seq) else {
+            return false;
+        };
+        self.tree.remove(seq);
+        self.len -= 1;
+        self.again -= again_of(entry.count);
+        true
+    }
+
+    /// Takes out all entries up to the sequence, and tells how many these were. It takes no memory, and its cost grows with their number.
+    pub fn ack_all(&mut self, seq: u64) -> u64
+        ensures count { result + length self.new ≡ length self.old }
+        ensures left { self.new ≡ filter (λ p. not (nat_le p.seq seq)) self.old }
+    {
+        let before = self.len;
+        self.forget(0, seq);
+        before - self.len
+    }
+
+    /// Takes out all entries from the one sequence up to the other. It takes no memory, and its cost grows with their number.
+    pub fn forget(&mut self, low: u64, high: u64)
+        ensures left { self.new ≡ filter (λ p. not (nat_le low p.seq && nat_le p.seq high)) self.old }
+    {
+        while let Some(seq) = self.first_in(low, high) {
+            self.ack(seq);
+        }
+    }
+
+    /// The least sequence from the one up to the other.
+    fn first_in(&self, low: u64, high: u64) -> Option<u64>
+        ensures value { result ≡ option_map (λ p. p.seq) (find (λ p. nat_le low p.seq && nat_le p.seq high) self.now) }
+    {
+        let seq = self.tree.at_or_after(low)?;
+        if seq <= high { Some(seq) } else { None }
+    }
+
+    /// Makes the entry of the sequence due at the moment, and tells whether there is one. It takes no memory.
+    pub fn set_due(&mut self, seq: u64, due: Moment) -> bool
+        ensures is { result ≡ list_any (λ p. p.seq == seq) self.old }
+        ensures value { self.new ≡ map (moved seq due) self.old }
+    {
+        let Some(entry) = self.tree.get(seq) else {
+            return false;
+        };
+        self.tree.replace(Pending { due, ..entry });
+        true
+    }
+
+    /// The least sequence whose entry is due at the moment.
+    pub fn due(&self, now: Moment) -> Option<u64>
+        ensures value { result ≡ option_map (λ p. p.seq) (find (is_due now) self.now) }
+    {
+        self.tree.first(&Asked::Due(now))
+    }
+
+    /// Takes out the entry with the least sequence that is due at the moment and has this count, and tells the sequence. It takes no memory. Its
+    /// cost is as said if no count is greater; else it grows with the number of entries whose count is.
+    pub fn take_spent(&mut self, now: Moment, max: u64) -> Option<u64>
+        ensures value { result ≡ option_map (λ p. p.seq) (find (is_spent now max) self.old) }
+        ensures left { self.new ≡ without_first (is_spent now max) self.old }
+    {
+        let seq = self.tree.first(&Asked::Spent(now, max))?;
+        self.ack(seq);
+        Some(seq)
+    }
+}
+
+/// 1 for an entry with this count that was delivered more than once, else 0.
+fn again_of(count: u64) -> u64
+    ensures value { result ≡ (if nat_lt 1 count then 1 else 0) }
+{
+    if 1 < count { 1 } else { 0 }
+}
