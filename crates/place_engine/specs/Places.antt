@@ -1,5 +1,5 @@
 -- What may be asked of a place, and what is told of its stream.
-use Rattle.std.specs.Prelude.{List, [], Option, None, Some}
+use Rattle.std.specs.Prelude.{List, [], Option, None, Some, IfSome, IsUtf8}
 use Rattle.js_base.specs.Bytes.{Bytes}
 use Rattle.js_model.specs.declared.stream.State.{State}
 use Rattle.js_model.specs.declared.stream.State.TheVariants.{Vacant, Live}
@@ -7,12 +7,12 @@ use Rattle.js_model.specs.declared.event.What.{What}
 use Rattle.js_model.specs.declared.event.What.TheVariants as whats
 use Rattle.js_model.specs.Served.{IsServed}
 
--- what a place is asked so far: all but what is asked of consumers
+-- What a place is asked so far: all but what is asked of consumers. The name of a header with a bad number is UTF-8, since it is told
 abbrev pub IsBuilt : What → Type 0
 IsBuilt (whats.Make reply config) = IsServed config
 IsBuilt (whats.Change reply config) = IsServed config
 IsBuilt (whats.Drop reply) = Unit {0}
-IsBuilt (whats.Publish publish) = Unit {0}
+IsBuilt (whats.Publish publish) = IfSome publish.wants.bad IsUtf8
 IsBuilt (whats.Purge reply filter below keep) = Unit {0}
 IsBuilt (whats.Delete reply seq) = Unit {0}
 IsBuilt (whats.MakeConsumer reply name config update) = ⊥
