@@ -9,6 +9,7 @@ use Rattle.js_base.specs.Subjects.{is_subject_text, is_pattern_text}
 use Rattle.js_base.specs.declared.out.Out.{Out}
 use Rattle.js_model.specs.Proper.{if_given}
 use Rattle.publish_wants.proofs.Numbers.{proper as proper_wants}
+use Rattle.publish_wants.proofs.Told.{told}
 use Rattle.js_api.specs.Publishing.{IsMessage, is_headers, published}
 use Rattle.desk_answers.specs.Asking.{MayAsk}
 use Rattle.desk_messaging.specs.Plain.{IsPlain}
@@ -38,5 +39,5 @@ may_publish message m plain =
     record {
       reply = given message.reply m.reply_text;
       proper = and_from _ _ (and_from _ _ (and_from _ _ (and_from _ _ subject block) (le-leb _ _ m.small)) numbers.0) numbers.1;
-      built = tt;
+      built = told message.headers;
     }
