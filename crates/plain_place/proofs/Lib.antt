@@ -1,6 +1,0 @@
-pub mod PlainPages
-pub mod PlainLoops
-pub mod PlainPlaces
-pub mod PlainEndings
-pub mod PlainDeliveries
-pub mod PlainRanges

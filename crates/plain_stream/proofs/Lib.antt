@@ -1,2 +1,0 @@
-pub mod PlainLists
-pub mod PlainLimits
