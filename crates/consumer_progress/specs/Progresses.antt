@@ -1,5 +1,5 @@
 -- What lasts of a consumer's deliveries, by JetStream's consumers: their start, redelivery, acknowledgement and max_deliver.
-use Rattle.std.specs.Prelude.{ℕ, ◌+◌, ◌<◌, ◌≤◌, ◌^◌, Bool, ◌||◌, List, All, length, map}
+use Rattle.std.specs.Prelude.{ℕ, ◌+◌, ◌<◌, ◌≤◌, ◌^◌, Bool, ◌||◌, List, [], ◌∷◌, All, Option, Some, None, length, map}
 use Rattle.js_base.specs.Bytes.{has}
 use Rattle.js_model.specs.declared.consumer.Pending.{Pending}
 use Rattle.js_model.specs.declared.consumer.Consumer.{Consumer}
@@ -21,6 +21,11 @@ with_progress c p = record c { picks = p.picks; cursor = p.cursor; dseq = p.dseq
 
 abbrev pub seqs_of : List Pending → List ℕ
 seqs_of ps = map (λ p. p.seq) ps
+
+-- the first of an ascending list is its least
+abbrev pub first_of : List ℕ → Option ℕ
+first_of [] = None
+first_of (n ∷ ns) = Some n
 
 -- the sequence is still to be delivered by itself, waits for its acknowledgement or is given up
 abbrev pub is_held : Progress → ℕ → Bool

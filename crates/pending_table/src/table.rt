@@ -196,7 +196,7 @@ impl PendingTable {
     /// memory, and costs what `take_spent` does.
     pub fn move_spent(&mut self, now: Moment, max: u64, into: &mut PendingTable) -> bool
         requires apart { Apart (map (λ p. p.seq) self.old) (map (λ p. p.seq) into.old) }
-        requires room { length into.old + 1 < 2 ^ 32 }
+        requires room { length self.old + length into.old < 2 ^ 32 }
         ensures is { result ≡ list_any (is_spent now max) self.old }
         ensures left { self.new ≡ without_first (is_spent now max) self.old }
         ensures moved { into.new ≡ with_found into.old (find (is_spent now max) self.old) }
