@@ -1,15 +1,14 @@
 -- The least delivery: it is there, and what ends before it.
 use Rattle.std.proofs.Common.{◌≡◌, ℕ, ◌+◌, ◌<◌, ◌≤◌, ◌==◌, ◌||◌, Bool, true, false, cond, not, min, List, [], ◌∷◌, Option, Some, None, refl, sym, ap, ◌∙◌, arith}
-use Rattle.std.specs.Prelude.{filter, nat_le, nat_lt, length}
+use Rattle.std.specs.Prelude.{filter, nat_le, length}
 use Rattle.std.proofs.lemmas.Bool.{eq-eqb, eqb-false, lt-ltb, ne_eqb, or_left, or_right}
 use Rattle.std.proofs.lemmas.Bool.Decides.{nat_tests}
 use Rattle.js_base.specs.Bytes.{has}
 use Rattle.js_model.specs.declared.consumer.Pending.{Pending}
-use Rattle.js_model.specs.Lists.{Between, IsPart, none, skip}
-use Rattle.js_model.proofs.Parts.{all_part}
+use Rattle.js_model.specs.Lists.{Between}
 use Rattle.consumer_progress.specs.Progresses.{first_of, seqs_of, IsProgress, Progress}
 use Rattle.consumer_progress.specs.Ending.{ended, is_delivered, least_delivered, lesser}
-use Rattle.consumer_progress.specs.GivingUp.{rest_of}
+use Rattle.consumer_progress.specs.GivingUp.{rest_of, without_overflow}
 
 -- the sequence, if there is one, comes after this one
 abbrev pub IsAfter : ℕ → Option ℕ → Type 0
@@ -76,3 +75,8 @@ first_dropped n low high [] h f = absurd cc
 first_dropped n low high (m ∷ ns) h f =
     let same : n ≡ m = cc f in
     ap (λ b. cond (not b) (m ∷ filter (λ m. not (m == n)) ns) (filter (λ m. not (m == n)) ns)) (eq-eqb m n (sym same)) ∙ not_later n (m + 1) high ns h.1 (omega (arith, same))
+
+pub dropped_overflow : (n : ℕ) (p : Progress) → IsProgress p → 65536 < length p.given_up → Some n ≡ first_of p.given_up → record p { given_up = filter (λ m. not (m == n)) p.given_up } ≡ without_overflow p
+dropped_overflow n p k h f =
+    ap (λ (ns : List ℕ). record p { given_up = ns })
+    (first_dropped n 0 p.cursor p.given_up k.given_up f ∙ sym (ap (λ b. cond b (rest_of p.given_up) p.given_up) (lt-ltb 65536 (length p.given_up) h)))

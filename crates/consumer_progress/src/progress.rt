@@ -10,7 +10,9 @@ ghost use Rattle.consumer_progress.specs.Sending.{after_sent, count_in};
 ghost use Rattle.consumer_progress.specs.Ending.{ended, is_delivered, least_delivered, with_due, without, EndsOneUpTo};
 ghost use Rattle.consumer_progress.specs.GivingUp.{is_due, overflow_of, with_given_up, without_overflow, IsUnspent};
 
-use crate::tables::{count_in, drop_seq, first_seq, has_seq, lesser, put_delivery, table_of, table_with};
+use crate::tables::{
+    count_in, drop_seq, first_seq, has_seq, lesser, put_delivery, table_of, table_with,
+};
 use js_base::{Moment, NoMemory};
 use js_model::Consumer;
 use pending_table::PendingTable;
@@ -39,11 +41,7 @@ impl Model for ConsumerProgress {
 
 impl ConsumerProgress {
     /// Nothing was delivered: the picks, and all from the cursor on, are still to be.
-    pub fn start(
-        alloc: Global,
-        picks: &[u64],
-        cursor: u64,
-    ) -> Result<ConsumerProgress, NoMemory>
+    pub fn start(alloc: Global, picks: &[u64], cursor: u64) -> Result<ConsumerProgress, NoMemory>
         requires ascend { Between (λ n. n) 0 cursor picks.now }
         requires few { length picks.now < 2 ^ 32 }
         ensures value { IfOk result (λ p. p ≡ record { picks = picks.now; cursor = cursor; dseq = 0; pending = []; given_up = [] }) }
@@ -109,9 +107,7 @@ impl ConsumerProgress {
     pub fn is_held(&self, seq: u64) -> bool
         ensures value { result ≡ is_held self.now seq }
     {
-        has_seq(&self.picks, seq)
-            || has_seq(&self.pending, seq)
-            || has_seq(&self.given_up, seq)
+        has_seq(&self.picks, seq) || has_seq(&self.pending, seq) || has_seq(&self.given_up, seq)
     }
 
     /// How many deliveries wait for their acknowledgement.

@@ -17,5 +17,5 @@ invariant_of-self-2 c =
     let i = c.self.inside in
     let fresh = rw (← c.self.view_is) at c.requires.not_given_up in
     let few : length (pending_after c.args.seq c.args.due i.pending) + length (seqs_of i.given_up) < 2 ^ 32 =
-        omega (arith, length-map i.given_up (λ (p : Pending). p.seq), ap length c.in_ok-put_delivery.ensures.ok, c.in_ok-put_delivery.ensures.few, c.len.ensures.value) in
-    rw (c.in_ok-put_delivery.ensures.ok, c.drop_seq.ensures.seqs) (sent_progress c.args.seq c.args.due _ fresh few c.self.invariant)
+    omega (arith, length-map i.given_up (λ (p : Pending). p.seq), ap length c.in_ok-put_delivery.ensures.ok, c.in_ok-put_delivery.ensures.few, c.len.ensures.value) in
+    rw (c.in_ok-put_delivery.ensures.ok, c.drop_seq.ensures.seqs, c.max-self-inside.ensures) (sent_progress c.args.seq c.args.due _ fresh few c.self.invariant)
