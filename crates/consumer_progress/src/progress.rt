@@ -33,13 +33,13 @@ pub struct ConsumerProgress {
 }
 
 impl Model for ConsumerProgress {
-    ghost use Rattle.consumer_progress.specs.Progresses.{seqs_of, IsProgress, Progress};
+    ghost use Rattle.consumer_progress.specs.Progresses.{shown, IsProgress, Progress};
 
     ghost Value = { Progress };
 
-    ghost view = { λ p. record { picks = seqs_of p.picks; cursor = p.cursor; dseq = p.dseq; pending = p.pending; given_up = seqs_of p.given_up } };
+    ghost view = { λ p. shown p.picks p.cursor p.dseq p.pending p.given_up };
 
-    ghost invariant = { λ p. IsProgress (record { picks = seqs_of p.picks; cursor = p.cursor; dseq = p.dseq; pending = p.pending; given_up = seqs_of p.given_up }) };
+    ghost invariant = { λ p. IsProgress (shown p.picks p.cursor p.dseq p.pending p.given_up) };
 }
 
 impl ConsumerProgress {
