@@ -1,5 +1,5 @@
 -- A table that is filled with entries in the order of their sequences.
-use Rattle.std.proofs.Common.{◌≡◌, ℕ, zero, suc, ◌+◌, ◌<◌, ◌≤◌, ◌==◌, ◌||◌, Bool, true, false, cond, List, [], ◌∷◌, ◌++◌, length, take, map, refl, sym, ap, ◌∙◌, subst, arith, ◌⊎◌, inl, inr, append_assoc}
+use Rattle.std.proofs.Common.{◌≡◌, ℕ, zero, suc, ◌+◌, ◌<◌, ◌≤◌, ◌==◌, Bool, true, false, cond, List, [], ◌∷◌, ◌++◌, length, take, map, refl, sym, ap, ◌∙◌, subst, arith, ◌⊎◌, inl, inr, append_assoc}
 use Rattle.std.specs.Prelude.{fold, nat_lt}
 use Rattle.std.proofs.lemmas.Bool.{eqb-true, lt-ltb, or_cases, or_left, or_right, true≢false, eq-eqb}
 use Rattle.js_base.specs.Bytes.{has}

@@ -1,21 +1,21 @@
 -- What is due, and a progress as spent deliveries are given up, one by one.
-use Rattle.std.proofs.Common.{◌≡◌, ℕ, ◌+◌, ◌<◌, ◌≤◌, ◌==◌, ◌&&◌, ◌||◌, ◌^◌, Bool, true, false, cond, not, List, [], ◌∷◌, length, map, refl, sym, ap, ◌∙◌, subst, arith, ◌⊎◌, inl, inr}
+use Rattle.std.proofs.Common.{◌≡◌, ℕ, ◌+◌, ◌<◌, ◌≤◌, ◌==◌, ◌&&◌, ◌||◌, Bool, true, false, cond, not, List, [], ◌∷◌, length, refl, sym, ap, ◌∙◌, subst, arith, ◌⊎◌, inl, inr}
 use Rattle.std.specs.Prelude.{filter, find, fold, nat_le, nat_lt, All, Option, Some, None}
 use Rattle.std.specs.List.{list_any}
-use Rattle.std.proofs.lemmas.Bool.{eq-eqb, eqb-false, eqb-true, false_from_ne_true, ltb-false, ltb-true, ne_eqb, or_cases, or_from, or_left, or_parts, or_right, true≢false}
+use Rattle.std.proofs.lemmas.Bool.{eq-eqb, eqb-false, false_from_ne_true, ltb-false, ltb-true, ne_eqb, or_from, or_left, or_parts, or_right, true≢false}
 use Rattle.std.proofs.lemmas.List.Elements.{All-cons, All-head, All-nil, All-tail}
 use Rattle.js_base.specs.Bytes.{has}
 use Rattle.js_model.specs.declared.consumer.Pending.{Pending}
 use Rattle.js_model.specs.Advance.{placed}
 use Rattle.js_model.specs.Deliver.{with_pending, without_first}
-use Rattle.js_model.specs.Lists.{Apart, Between, IsPart, keep, skip, none}
+use Rattle.js_model.specs.Lists.{Between, IsPart, keep, skip, none}
 use Rattle.js_model.specs.Streams.{below_limit}
 use Rattle.js_model.proofs.Lacking.{apart-parts, has-part, has-placed}
 use Rattle.js_model.proofs.Members.{found_in, in_bounds, IsIn, here, there}
 use Rattle.js_model.proofs.Parts.{all_part, part_between, part_map}
 use Rattle.pending_table.specs.Asked.{with_found}
 use Rattle.consumer_progress.specs.Progresses.{seqs_of, IsProgress, Progress}
-use Rattle.consumer_progress.specs.GivingUp.{is_due, is_spent, with_given_up, IsUnspent}
+use Rattle.consumer_progress.specs.GivingUp.{is_due, is_spent, with_given_up}
 use Rattle.consumer_progress.proofs.Seqs.{seqs_placed}
 
 -- ---- what is due

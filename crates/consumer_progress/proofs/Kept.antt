@@ -1,9 +1,7 @@
 -- A progress stays one where sequences leave it or are due at another moment, and as it starts.
-use Rattle.std.proofs.Common.{◌≡◌, ℕ, ◌+◌, ◌<◌, ◌≤◌, ◌==◌, ◌^◌, Bool, true, false, cond, not, List, [], ◌∷◌, length, map, refl, sym, ap, ◌∙◌, subst, arith}
+use Rattle.std.proofs.Common.{◌≡◌, ℕ, ◌+◌, ◌<◌, ◌≤◌, ◌==◌, ◌^◌, Bool, true, false, cond, not, List, [], ◌∷◌, length, map, refl, sym, subst, arith}
 use Rattle.std.specs.Prelude.{filter, All}
 use Rattle.std.proofs.lemmas.List.Elements.{All-filter, All-map, All-nil, All-weaker}
-use Rattle.std.proofs.lemmas.Bool.{true≢false}
-use Rattle.js_base.specs.Bytes.{has}
 use Rattle.js_model.specs.declared.consumer.Pending.{Pending}
 use Rattle.js_model.specs.Acknowledge.{moved}
 use Rattle.js_model.specs.Lists.{Apart, Between, IsPart}

@@ -1,9 +1,9 @@
 -- The least delivery: it is there, and what ends before it.
-use Rattle.std.proofs.Common.{◌≡◌, ℕ, ◌+◌, ◌<◌, ◌≤◌, ◌==◌, ◌||◌, Bool, true, false, cond, not, min, List, [], ◌∷◌, Option, Some, None, refl, sym, ap, ◌∙◌, arith}
+use Rattle.std.proofs.Common.{◌≡◌, ℕ, ◌+◌, ◌<◌, ◌≤◌, ◌-◌, ◌==◌, ◌||◌, Bool, true, false, cond, not, min, drop, suc, List, [], ◌∷◌, Option, Some, None, refl, sym, ap, ◌∙◌, arith}
 use Rattle.std.specs.Prelude.{filter, nat_le, length}
 use Rattle.std.proofs.lemmas.Bool.{eq-eqb, eqb-false, lt-ltb, ne_eqb, or_left, or_right}
 use Rattle.std.proofs.lemmas.Bool.Decides.{nat_tests}
-use Rattle.js_base.specs.Bytes.{has}
+use Rattle.js_base.specs.Bytes.{has, last_of}
 use Rattle.js_model.specs.declared.consumer.Pending.{Pending}
 use Rattle.js_model.specs.Lists.{Between}
 use Rattle.consumer_progress.specs.Progresses.{first_of, seqs_of, IsProgress, Progress}
@@ -75,6 +75,17 @@ first_dropped n low high [] h f = absurd cc
 first_dropped n low high (m ∷ ns) h f =
     let same : n ≡ m = cc f in
     ap (λ b. cond (not b) (m ∷ filter (λ m. not (m == n)) ns) (filter (λ m. not (m == n)) ns)) (eq-eqb m n (sym same)) ∙ not_later n (m + 1) high ns h.1 (omega (arith, same))
+
+pub last_same : (ns : List ℕ) → length ns ≤ 65536 → last_of 65536 ns ≡ ns
+last_same ns h = ap (λ (k : ℕ). drop k ns) (let none : length ns - 65536 ≡ 0 = omega (arith, h) in none)
+
+pub last_rest : (ns : List ℕ) → 65536 < length ns → last_of 65536 (rest_of ns) ≡ last_of 65536 ns
+last_rest [] h = absurd (omega (arith, h))
+last_rest (n ∷ ns) h = sym (ap (λ (k : ℕ). drop k (n ∷ ns)) (let more : suc (length ns) - 65536 ≡ suc (length ns - 65536) = omega (arith, h) in more))
+
+pub none_first : (ns : List ℕ) → None ≡ first_of ns → last_of 65536 ns ≡ ns
+none_first [] h = refl
+none_first (n ∷ ns) h = absurd cc
 
 pub dropped_overflow : (n : ℕ) (p : Progress) → IsProgress p → 65536 < length p.given_up → Some n ≡ first_of p.given_up → record p { given_up = filter (λ m. not (m == n)) p.given_up } ≡ without_overflow p
 dropped_overflow n p k h f =

@@ -1,5 +1,5 @@
--- Which deliveries are made again and which are given up, by JetStream's max_deliver. That the greatest 65,536 given up are kept is this server's own.
-use Rattle.std.specs.Prelude.{◌≡◌, ℕ, nat_le, nat_lt, Bool, true, ◌&&◌, not, if◌then◌else◌, List, [], ◌∷◌, All, filter, fold, length, map, Option, Some, None}
+-- Which deliveries are made again and which are given up, by JetStream's max_deliver. How many that are given up are kept is this server's own.
+use Rattle.std.specs.Prelude.{◌≡◌, ℕ, nat_le, nat_lt, Bool, true, ◌&&◌, not, if◌then◌else◌, List, [], ◌∷◌, All, filter, fold, length, Option, None}
 use Rattle.js_model.specs.declared.consumer.Pending.{Pending}
 use Rattle.js_model.specs.Streams.{below_limit, at_limit}
 use Rattle.js_model.specs.Advance.{placed}

@@ -22,6 +22,10 @@ with_progress c p = record c { picks = p.picks; cursor = p.cursor; dseq = p.dseq
 abbrev pub seqs_of : List Pending → List ℕ
 seqs_of ps = map (λ p. p.seq) ps
 
+-- what the tables of a consumer show
+abbrev pub shown : (picks : List Pending) (cursor dseq : ℕ) (pending given_up : List Pending) → Progress
+shown picks cursor dseq pending given_up = record { picks = seqs_of picks; cursor = cursor; dseq = dseq; pending = pending; given_up = seqs_of given_up }
+
 -- the first of an ascending list is its least
 abbrev pub first_of : List ℕ → Option ℕ
 first_of [] = None

@@ -1,8 +1,8 @@
 //! The progress of a consumer.
 
-ghost use Rattle.std.specs.Prelude.{◌≡◌, ℕ, ◌+◌, ◌-◌, ◌<◌, ◌^◌, ◌==◌, [], false, true, filter, find, length, nat_lt, IfOk, OnOk, OnErr};
+ghost use Rattle.std.specs.Prelude.{◌≡◌, ℕ, ◌+◌, ◌-◌, ◌<◌, ◌^◌, ◌==◌, [], None, false, true, filter, find, length, nat_lt, IfOk, OnOk, OnErr};
 ghost use Rattle.std.specs.Option.{option_map};
-ghost use Rattle.js_base.specs.Bytes.{has};
+ghost use Rattle.js_base.specs.Bytes.{has, last_of};
 ghost use Rattle.js_model.specs.Counts.{least};
 ghost use Rattle.js_model.specs.Lists.{Between};
 ghost use Rattle.consumer_progress.specs.Progresses.{first_of, progress_of, is_held, seqs_of, IsProgress};
@@ -19,6 +19,9 @@ use pending_table::PendingTable;
 use std::alloc::Global;
 use std::marker::Model;
 
+/// How many sequences that are given up are kept.
+const MOST_GIVEN_UP: u64 = 65_536;
+
 /// What of a consumer's deliveries lasts. The cost of a call grows with the logarithm of how many sequences there are, if no other is said.
 #[derive(Drop)]
 pub struct ConsumerProgress {
@@ -30,13 +33,13 @@ pub struct ConsumerProgress {
 }
 
 impl Model for ConsumerProgress {
-    ghost use Rattle.consumer_progress.specs.Progresses.{seqs_of, IsProgress, Progress};
+    ghost use Rattle.consumer_progress.specs.Progresses.{shown, IsProgress, Progress};
 
     ghost Value = { Progress };
 
-    ghost view = { λ p. record { picks = seqs_of p.picks; cursor = p.cursor; dseq = p.dseq; pending = p.pending; given_up = seqs_of p.given_up } };
+    ghost view = { λ p. shown p.picks p.cursor p.dseq p.pending p.given_up };
 
-    ghost invariant = { λ p. IsProgress (record { picks = seqs_of p.picks; cursor = p.cursor; dseq = p.dseq; pending = p.pending; given_up = seqs_of p.given_up }) };
+    ghost invariant = { λ p. IsProgress (shown p.picks p.cursor p.dseq p.pending p.given_up) };
 }
 
 impl ConsumerProgress {
@@ -202,13 +205,13 @@ impl ConsumerProgress {
         self.pending.set_due(seq, due);
     }
 
-    /// Forgets the sequence, whose message is gone. It takes no memory.
-    pub fn forget(&mut self, seq: u64)
-        ensures value { self.new ≡ without seq self.old }
+    /// Forgets a sequence whose message is gone. It takes no memory.
+    pub fn forget(&mut self, gone: u64)
+        ensures value { self.new ≡ without gone self.old }
     {
-        drop_seq(&mut self.picks, seq);
-        drop_seq(&mut self.pending, seq);
-        drop_seq(&mut self.given_up, seq);
+        drop_seq(&mut self.picks, gone);
+        drop_seq(&mut self.pending, gone);
+        drop_seq(&mut self.given_up, gone);
     }
 
     /// Gives up all deliveries that are due at the moment and were made as often as they may be. It takes no memory, and its cost grows with their
@@ -235,8 +238,10 @@ impl ConsumerProgress {
     pub fn overflow(&mut self) -> Option<u64>
         ensures value { result ≡ overflow_of self.old }
         ensures left { self.new ≡ without_overflow self.old }
+        ensures greatest { last_of 65536 self.new.given_up ≡ last_of 65536 self.old.given_up }
+        ensures all { result ≡ None → last_of 65536 self.new.given_up ≡ self.new.given_up }
     {
-        if self.given_up.len() <= 65_536 {
+        if self.given_up.len() <= MOST_GIVEN_UP {
             return None;
         }
         let least = first_seq(&self.given_up)?;

@@ -83,8 +83,8 @@ pub(crate) fn count_in(table: &PendingTable, seq: u64) -> u64
     }
 }
 
-/// Notes a delivery that waits until the moment, or one that does not wait. An `Err` changes nothing; it comes if memory runs out, or if with one entry
-/// more there would be 2^32 here and elsewhere.
+/// Notes a delivery that waits until the moment, or one that does not wait. An `Err` changes nothing; it comes if memory runs out, or if with one
+/// entry more there would be 2^32 here and elsewhere.
 pub(crate) fn put_delivery(
     table: &mut PendingTable,
     elsewhere: u64,

@@ -1,4 +1,4 @@
-use Rattle.std.proofs.Common.{◌≡◌, ◌≤◌, ◌+◌, length, ap, arith}
+use Rattle.std.proofs.Common.{◌+◌, length, ap, arith}
 use Rattle.consumer_progress.proofs.Filling.{one_longer}
 use Rattle.consumer_progress.proofs.tables.put_delivery.Goals as goal
 

@@ -1,6 +1,4 @@
-use Rattle.std.proofs.Common.{length, sym, ap, ◌∙◌, subst, arith}
-use Rattle.js_model.specs.Lists.{Ascends}
-use Rattle.consumer_progress.specs.Progresses.{seqs_of}
+use Rattle.std.proofs.Common.{length, ap, arith}
 use Rattle.consumer_progress.proofs.Filling.{plain, filled_seqs, filled_length}
 use Rattle.consumer_progress.proofs.tables.table_of.Goals as goal
 

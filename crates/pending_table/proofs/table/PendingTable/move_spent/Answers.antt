@@ -1,5 +1,4 @@
-use Rattle.std.proofs.Common.{◌≡◌, Some, None, sym, ap, ◌∙◌, arith}
-use Rattle.std.specs.Prelude.{find}
+use Rattle.std.proofs.Common.{sym, ap, ◌∙◌, arith}
 use Rattle.pending_table.specs.Asked.{is_spent, with_found}
 use Rattle.pending_table.proofs.Changed.{any_found, any_none, none_found}
 use Rattle.pending_table.proofs.Moved.{apart_found, found_length}
