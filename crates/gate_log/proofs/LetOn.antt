@@ -1,0 +1,8 @@
+-- Faults that are handed on.
+use Rattle.std.proofs.Common.{◌≡◌, sym, subst, Result, Ok, Err, IfErr, IsErrAnd}
+use Rattle.gate_log.specs.declared.fault.LogFault.{LogFault}
+
+-- what a `?` hands on is the fault
+pub handed_on : {T : Type 0} (P : LogFault → Type 0) (cause : LogFault) (result : Result T LogFault) → IsErrAnd result (λ e. e ≡ cause) → P cause → IfErr result P
+handed_on P cause (Ok value) is h = absurd is
+handed_on P cause (Err e) is h = subst P (sym is) h
