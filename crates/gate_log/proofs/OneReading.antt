@@ -14,10 +14,10 @@ use Rattle.gate_log.proofs.Spelling as spelling
 use Rattle.gate_log.proofs.Spelling.{length-be4, length-head, length-open_batch}
 use Rattle.gate_log.proofs.Heads.{number_here}
 
-same_number : (m n : ℕ) → m < 2 ^ 32 → n < 2 ^ 32 → to_be_bytes w32 m ≡ to_be_bytes w32 n → m ≡ n
+pub same_number : (m n : ℕ) → m < 2 ^ 32 → n < 2 ^ 32 → to_be_bytes w32 m ≡ to_be_bytes w32 n → m ≡ n
 same_number m n small less e = sym (from_be_bytes-to_be_bytes_4 m small) ∙ ap (λ (l : Bytes). from_be_bytes w32 l) e ∙ from_be_bytes-to_be_bytes_4 n less
 
-front_of : (x y more others : Bytes) (n : ℕ) → length x ≡ n → length y ≡ n → x ++ more ≡ y ++ others → x ≡ y
+pub front_of : (x y more others : Bytes) (n : ℕ) → length x ≡ n → length y ≡ n → x ++ more ≡ y ++ others → x ≡ y
 front_of x y more others n one other e = sym (take_at x more n one) ∙ ap (λ (l : Bytes). take n l) e ∙ take_at y others n other
 
 back_of : (x y more others : Bytes) (n : ℕ) → length x ≡ n → length y ≡ n → x ++ more ≡ y ++ others → more ≡ others
@@ -186,7 +186,7 @@ one_list bytes (Some g) (Some h) (b ∷ bs) [] one other = absurd other
 one_list bytes (Some g) (Some h) (b ∷ bs) (c ∷ cs) one other = logs_list bytes g h (b ∷ bs) (c ∷ cs) one other
 
 -- a long file that is read is a log
-long_log : (bytes : Bytes) (g : Option ℕ) (bs : List Bytes) → 17 < length bytes → HasOpen bytes g bs → (generation : ℕ) × IsLog generation bs bytes
+pub long_log : (bytes : Bytes) (g : Option ℕ) (bs : List Bytes) → 17 < length bytes → HasOpen bytes g bs → (generation : ℕ) × IsLog generation bs bytes
 long_log bytes None [] long (inl short) = absurd (omega arith)
 long_log bytes None [] long (inr log) = log
 long_log bytes None (b ∷ bs) long open_ = absurd open_
