@@ -1,10 +1,12 @@
 -- What is known of a log that is opened.
-use Rattle.std.proofs.Common.{◌≡◌, ◌≢◌, ◌⊎◌, inl, inr, ℕ, ◌+◌, ◌<◌, ◌≤◌, ◌^◌, List, [], ◌∷◌, ◌++◌, Option, None, Some, IfSome, length, take, drop, refl, sym, ◌∙◌, ap, subst, arith}
+use Rattle.std.proofs.Common.{◌≡◌, ◌≢◌, ◌⊎◌, inl, inr, ℕ, ◌+◌, ◌<◌, ◌≤◌, ◌^◌, List, [], ◌∷◌, ◌++◌, Option, None, Some, IfSome, length, take, drop, refl, sym, ◌∙◌, ap, subst, arith, length-append}
 use Rattle.std.specs.Prelude.{if◌then◌else◌, ◌==◌}
 use Rattle.std.proofs.lemmas.Bool.{cases_eq}
 use Rattle.std.proofs.lemmas.Bool.Decides.{nat_tests}
 use Rattle.vol_disk.specs.Disk.{Disk}
+use Rattle.std.proofs.lemmas.List.{drop_all, append-nil}
 use Rattle.vol_disk.specs.Images.{IsDurable}
+use Rattle.vol_disk.specs.Steps.{written}
 use Rattle.js_base.specs.Bytes.{Bytes}
 use Rattle.gate_log.specs.Head.{head}
 use Rattle.gate_log.specs.Batches.{open_batches, end_of}
@@ -16,7 +18,7 @@ use Rattle.gate_log.specs.Opening.{IsOpenFault, IsHeadRead, IsHeadFault, IsHeadF
 use Rattle.gate_log.specs.Walking.{IsNextGate, IsCutGate, IsWalked, AreEnds, IsWalkFault}
 use Rattle.gate_log.specs.declared.fault.LogFault.{LogFault}
 use Rattle.gate_log.specs.declared.fault.LogFault.TheVariants.{Fault, Full, NoMemory, Damaged, UnknownVersion}
-use Rattle.gate_log.proofs.Spelling.{spelled, end_of-some}
+use Rattle.gate_log.proofs.Spelling.{spelled, end_of-some, length-head}
 use Rattle.gate_log.proofs.Heads.{no_mark, unknown_version, bad_generation}
 
 -- ---- faults
@@ -117,3 +119,18 @@ settled_walk file g first last disk log read ends durable is = subst (λ (l : Lo
     here batches one two log_is (inr some) = subst (λ (h : Option ℕ). IsSettled (known file first last h) batches disk) (sym (some_at some)) (settled_log (known file first last (Some g)) g batches disk refl one two durable log_is)
     here [] one two log_is (inl none) = subst (λ (h : Option ℕ). IsSettled (known file first last h) [] disk) (sym (none_at none)) (record { read = subst (λ (o : Option ℕ). HasOpen (disk.seen file) o []) (sym (no_generation (known file first last None) none)) (inr (g, log_is)); head = tt; first_end = one; end = two; durable = durable })
     here (b ∷ batches) one two log_is (inl none) = absurd (omega (arith, none, two, end_of-some b batches))
+
+-- a log that is written over a short file
+pub started_log : (g : ℕ) (bytes old new : Bytes) → g < 2 ^ 62 → bytes ≡ head g ++ 0 ∷ [] → length old ≤ 17 → new ≡ written 0 bytes old → IsLog g [] new
+started_log g bytes old new below is short holds =
+    let none : drop (0 + length bytes) old ≡ [] = drop_all (0 + length bytes) old (omega (arith, ap length is, length-append (head g) (0 ∷ []), length-head g)) in
+    record {
+      gate = 0;
+      rest = [];
+      spells = record {
+        bytes_are = holds ∙ ap (λ (l : Bytes). bytes ++ l) none ∙ append-nil bytes ∙ is;
+        below = below;
+        lengths = tt;
+      };
+      closed = omega arith;
+    }
