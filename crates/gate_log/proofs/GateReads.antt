@@ -3,8 +3,8 @@ use Rattle.std.proofs.Common.{◌≡◌, ◌≢◌, ◌⊎◌, inl, inr, ℕ, �
 use Rattle.std.specs.Int.{w32, to_be_bytes}
 use Rattle.std.proofs.lemmas.List.{take_at, drop_at, drop-drop, append-nil}
 use Rattle.vol_disk.specs.Disk.{Disk}
+use Rattle.vol_disk.specs.Does.{Rests}
 use Rattle.vol_disk.specs.Moments.{Quiet}
-use Rattle.vol_disk.proofs.Moments.{quiet_durable}
 use Rattle.js_base.specs.Bytes.{Bytes}
 use Rattle.gate_log.specs.Head.{head}
 use Rattle.gate_log.specs.Batches.{open_batch, open_batches, end_of, HaveLengths}
@@ -15,15 +15,30 @@ use Rattle.gate_log.specs.Reading.{IsGate, IsSomeGate, IsFirstOf, IsReadAt}
 use Rattle.gate_log.proofs.Spelling.{length-be4, length-open_batch, open_batches-cut, lengths-cut, end_of-push, end_of-front, size, rest_is}
 use Rattle.gate_log.proofs.OneReading.{same_number, front_of}
 
--- calls that write nothing leave a log settled
-pub settled_quiet : (log : LogState) (batches : List Bytes) (old new : Disk) → Quiet old new → IsSettled log batches old → IsSettled log batches new
-settled_quiet log batches old new still settled = record {
-  read = subst (λ (l : Bytes). HasOpen l (generation_of log) batches) (sym (still.seen log.file)) settled.read;
-  head = subst (λ (l : Bytes). IfSome log.head (λ generation. IsLog generation batches l)) (sym (still.seen log.file)) settled.head;
+-- calls that leave the file of a log alone leave the log settled
+pub settled_rests : (log : LogState) (batches : List Bytes) (old new : Disk) → Rests log.file old new → IsSettled log batches old → IsSettled log batches new
+settled_rests log batches old new rests settled = record {
+  read = subst (λ (l : Bytes). HasOpen l (generation_of log) batches) (sym rests.seen) settled.read;
+  head = subst (λ (l : Bytes). IfSome log.head (λ generation. IsLog generation batches l)) (sym rests.seen) settled.head;
   first_end = settled.first_end;
   end = settled.end;
-  durable = quiet_durable old new log.file still settled.durable;
+  durable = λ bytes left. settled.durable bytes (rests.leaves bytes left) ∙ sym rests.seen;
 }
+
+-- and so do calls that write nothing
+pub settled_quiet : (log : LogState) (batches : List Bytes) (old new : Disk) → Quiet old new → IsSettled log batches old → IsSettled log batches new
+settled_quiet log batches old new still = settled_rests log batches old new (record { seen = still.seen log.file; leaves = still.leaves log.file })
+
+-- the gate after a batch that was read
+pub next_gate : (log : LogState) (front rest : List Bytes) (at next : ℕ) (records : Bytes) (old new : Disk) → IsGate log front rest at old → Quiet old new → IsFirstOf (Some (records, next)) front rest →
+    (more : List Bytes) × IsGate log (front ++ records ∷ []) more next new
+next_gate log front rest at next records old new gate still found = (
+  found.0,
+  record {
+    settled = settled_quiet log ((front ++ records ∷ []) ++ found.0) old new still (subst (λ (l : List Bytes). IsSettled log l old) (ap (λ (l : List Bytes). front ++ l) found.1 ∙ sym (append_assoc front (records ∷ []) found.0)) gate.settled);
+    here = found.2;
+  },
+)
 
 -- a batch and its length stand behind this gate, and one gate more behind them
 pub record IsThere (bytes : Bytes) (at : ℕ) (records : Bytes) : Type 0 where

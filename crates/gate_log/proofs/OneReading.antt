@@ -8,7 +8,7 @@ use Rattle.js_base.specs.Numbers.{number_at}
 use Rattle.gate_log.specs.Head.{mark, version, head}
 use Rattle.gate_log.specs.Batches.{open_batch, open_batches, end_of, HaveLengths}
 use Rattle.gate_log.specs.LogFile.{Spells, IsLog, HasOpen}
-use Rattle.gate_log.specs.Faults.{HasNoMark, HasUnknownVersion, HasBadGeneration, PassesEnd, HasCutBatch, IsDamagedAt, IsOfUnknownVersion}
+use Rattle.gate_log.specs.Faults.{HasNoMark, HasUnknownVersion, HasBadGeneration, IsHeadDamagedAt, PassesEnd, HasCutBatch, IsDamagedAt, IsOfUnknownVersion}
 use Rattle.gate_log.specs.Laws.{LawReading}
 use Rattle.gate_log.proofs.Spelling as spelling
 use Rattle.gate_log.proofs.Spelling.{length-be4, length-head, length-open_batch}
@@ -193,10 +193,10 @@ long_log bytes None (b ∷ bs) long open_ = absurd open_
 long_log bytes (Some g) [] long open_ = absurd open_
 long_log bytes (Some g) (b ∷ bs) long open_ = (g, open_)
 
-log_whole : (bytes : Bytes) (g : ℕ) (bs : List Bytes) (at : ℕ) → IsLog g bs bytes → ((at ≡ 0) × HasNoMark bytes) ⊎ ((at ≡ 8) × HasBadGeneration bytes) ⊎ HasCutBatch bytes at → ⊥
-log_whole bytes g bs at log (inl bad) = no_bad_mark bytes g bs log.gate log.rest log.spells bad.1
-log_whole bytes g bs at log (inr (inl bad)) = no_bad_generation bytes g bs log.gate log.rest log.spells bad.1
-log_whole bytes g bs at log (inr (inr cut)) =
+log_whole : (bytes : Bytes) (g : ℕ) (bs : List Bytes) (at : ℕ) → IsLog g bs bytes → IsHeadDamagedAt bytes at ⊎ HasCutBatch bytes at → ⊥
+log_whole bytes g bs at log (inl (inl bad)) = no_bad_mark bytes g bs log.gate log.rest log.spells bad.1
+log_whole bytes g bs at log (inl (inr bad)) = no_bad_generation bytes g bs log.gate log.rest log.spells bad.1
+log_whole bytes g bs at log (inr cut) =
     not_cut bs cut.batches log.gate log.rest cut.rest log.spells.lengths cut.spells.lengths (one_tail bytes g cut.generation bs cut.batches log.gate 1 log.rest cut.rest log.spells cut.spells) log.closed cut.passes
 
 pub whole : (bytes : Bytes) (g : Option ℕ) (bs : List Bytes) (at : ℕ) → HasOpen bytes g bs → ¬ IsDamagedAt bytes at
@@ -209,29 +209,29 @@ known bytes g bs n open_ bad =
     let log = long_log bytes g bs bad.long open_ in
     no_bad_version bytes log.0 bs log.1.gate log.1.rest log.1.spells n bad.version
 
-damage_at : (bytes : Bytes) (at other : ℕ) → ((at ≡ 0) × HasNoMark bytes) ⊎ ((at ≡ 8) × HasBadGeneration bytes) ⊎ HasCutBatch bytes at →
-    ((other ≡ 0) × HasNoMark bytes) ⊎ ((other ≡ 8) × HasBadGeneration bytes) ⊎ HasCutBatch bytes other → at ≡ other
-damage_at bytes at other (inl one) (inl two) = one.0 ∙ sym two.0
-damage_at bytes at other (inl one) (inr (inl two)) = absurd (one.1 two.1.marked)
-damage_at bytes at other (inl one) (inr (inr two)) = absurd (no_bad_mark bytes two.generation two.batches 1 two.rest two.spells one.1)
-damage_at bytes at other (inr (inl one)) (inl two) = absurd (two.1 one.1.marked)
-damage_at bytes at other (inr (inl one)) (inr (inl two)) = one.0 ∙ sym two.0
-damage_at bytes at other (inr (inl one)) (inr (inr two)) = absurd (no_bad_generation bytes two.generation two.batches 1 two.rest two.spells one.1)
-damage_at bytes at other (inr (inr one)) (inl two) = absurd (no_bad_mark bytes one.generation one.batches 1 one.rest one.spells two.1)
-damage_at bytes at other (inr (inr one)) (inr (inl two)) = absurd (no_bad_generation bytes one.generation one.batches 1 one.rest one.spells two.1)
-damage_at bytes at other (inr (inr one)) (inr (inr two)) =
+damage_at : (bytes : Bytes) (at other : ℕ) → IsHeadDamagedAt bytes at ⊎ HasCutBatch bytes at →
+    IsHeadDamagedAt bytes other ⊎ HasCutBatch bytes other → at ≡ other
+damage_at bytes at other (inl (inl one)) (inl (inl two)) = one.0 ∙ sym two.0
+damage_at bytes at other (inl (inl one)) (inl (inr two)) = absurd (one.1 two.1.marked)
+damage_at bytes at other (inl (inl one)) (inr two) = absurd (no_bad_mark bytes two.generation two.batches 1 two.rest two.spells one.1)
+damage_at bytes at other (inl (inr one)) (inl (inl two)) = absurd (two.1 one.1.marked)
+damage_at bytes at other (inl (inr one)) (inl (inr two)) = one.0 ∙ sym two.0
+damage_at bytes at other (inl (inr one)) (inr two) = absurd (no_bad_generation bytes two.generation two.batches 1 two.rest two.spells one.1)
+damage_at bytes at other (inr one) (inl (inl two)) = absurd (no_bad_mark bytes one.generation one.batches 1 one.rest one.spells two.1)
+damage_at bytes at other (inr one) (inl (inr two)) = absurd (no_bad_generation bytes one.generation one.batches 1 one.rest one.spells two.1)
+damage_at bytes at other (inr one) (inr two) =
     one.here ∙ ap end_of (same_cut one.batches two.batches one.rest two.rest one.spells.lengths two.spells.lengths (one_tail bytes one.generation two.generation one.batches two.batches 1 1 one.rest two.rest one.spells two.spells) one.passes two.passes) ∙ sym two.here
 
 pub one_offset : (bytes : Bytes) (at other : ℕ) → IsDamagedAt bytes at → IsDamagedAt bytes other → at ≡ other
 one_offset bytes at other one two = damage_at bytes at other one.damage two.damage
 
-damage_known : (bytes : Bytes) (at n : ℕ) → ((at ≡ 0) × HasNoMark bytes) ⊎ ((at ≡ 8) × HasBadGeneration bytes) ⊎ HasCutBatch bytes at → HasUnknownVersion bytes n → ⊥
-damage_known bytes at n (inl one) bad = one.1 bad.marked
-damage_known bytes at n (inr (inl one)) bad = bad.unknown (some_same (sym bad.is ∙ one.1.known))
+damage_known : (bytes : Bytes) (at n : ℕ) → IsHeadDamagedAt bytes at ⊎ HasCutBatch bytes at → HasUnknownVersion bytes n → ⊥
+damage_known bytes at n (inl (inl one)) bad = one.1 bad.marked
+damage_known bytes at n (inl (inr one)) bad = bad.unknown (some_same (sym bad.is ∙ one.1.known))
   where
     some_same : {m k : ℕ} → Some m ≡ Some k → m ≡ k
     some_same e = cc
-damage_known bytes at n (inr (inr one)) bad = no_bad_version bytes one.generation one.batches 1 one.rest one.spells n bad
+damage_known bytes at n (inr one) bad = no_bad_version bytes one.generation one.batches 1 one.rest one.spells n bad
 
 pub one_fault : (bytes : Bytes) (at n : ℕ) → IsDamagedAt bytes at → ¬ IsOfUnknownVersion bytes n
 one_fault bytes at n damaged bad = damage_known bytes at n damaged.damage bad.version

@@ -36,8 +36,8 @@ pub open_head_fault : (bytes mid : Bytes) (cause : LogFault) → mid ≡ bytes �
 open_head_fault bytes mid Fault same long h = tt
 open_head_fault bytes mid Full same long h = h
 open_head_fault bytes mid NoMemory same long h = h
-open_head_fault bytes mid (Damaged at) same long (inl h) = record { long = long; damage = inl (h.0, subst HasNoMark same h.1) }
-open_head_fault bytes mid (Damaged at) same long (inr h) = record { long = long; damage = inr (inl (h.0, subst HasBadGeneration same h.1)) }
+open_head_fault bytes mid (Damaged at) same long (inl h) = record { long = long; damage = inl (inl (h.0, subst HasNoMark same h.1)) }
+open_head_fault bytes mid (Damaged at) same long (inr h) = record { long = long; damage = inl (inr (h.0, subst HasBadGeneration same h.1)) }
 open_head_fault bytes mid (UnknownVersion n) same long h = record { long = long; version = subst (λ (l : Bytes). HasUnknownVersion l n) same h }
 
 -- a gate that is cut after some batches
@@ -57,7 +57,7 @@ open_walk_fault bytes mid last g Full same alike long read h = h
 open_walk_fault bytes mid last g NoMemory same alike long read h = h
 open_walk_fault bytes mid last g (Damaged at) same alike long read h = record {
   long = long;
-  damage = inr (inr (cut_batch bytes g at h.0 (subst (λ (l : Bytes). IsHeadRead l g) same read) (subst (λ (l : Bytes). IsWalked l h.0 at) alike h.1) (subst (λ (l : Bytes). IsCutGate l at) alike h.2)));
+  damage = inr (cut_batch bytes g at h.0 (subst (λ (l : Bytes). IsHeadRead l g) same read) (subst (λ (l : Bytes). IsWalked l h.0 at) alike h.1) (subst (λ (l : Bytes). IsCutGate l at) alike h.2));
 }
 open_walk_fault bytes mid last g (UnknownVersion n) same alike long read h = absurd h
 

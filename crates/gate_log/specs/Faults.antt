@@ -25,6 +25,10 @@ pub record HasBadGeneration (bytes : Bytes) : Type 0 where
   pub is : number_at w64 bytes 8 ≡ Some generation
   pub too_great : 2 ^ 62 ≤ generation
 
+-- the head is damaged, at this offset
+abbrev pub IsHeadDamagedAt : Bytes → ℕ → Type 0
+IsHeadDamagedAt bytes at = ((at ≡ 0) × HasNoMark bytes) ⊎ ((at ≡ 8) × HasBadGeneration bytes)
+
 -- Behind an open gate stand fewer bytes than the length, the records and the next gate have. Of a length that is itself cut short, these
 -- are more bytes than there are in any case.
 abbrev pub PassesEnd : Bytes → Type 0
@@ -42,7 +46,7 @@ pub record HasCutBatch (bytes : Bytes) (at : ℕ) : Type 0 where
 -- the file is longer than 17 bytes, and its first fault is damage at this offset
 pub record IsDamagedAt (bytes : Bytes) (at : ℕ) : Type 0 where
   pub long : 17 < length bytes
-  pub damage : ((at ≡ 0) × HasNoMark bytes) ⊎ ((at ≡ 8) × HasBadGeneration bytes) ⊎ HasCutBatch bytes at
+  pub damage : IsHeadDamagedAt bytes at ⊎ HasCutBatch bytes at
 
 -- the file is longer than 17 bytes, and its first fault is this version
 pub record IsOfUnknownVersion (bytes : Bytes) (n : ℕ) : Type 0 where

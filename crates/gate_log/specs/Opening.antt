@@ -1,8 +1,8 @@
 -- What is read of a log file as it is opened, and why it is not.
-use Rattle.std.specs.Prelude.{◌≡◌, ◌⊎◌, ℕ, ◌<◌, ◌^◌, take}
+use Rattle.std.specs.Prelude.{◌≡◌, ℕ, ◌<◌, ◌^◌, take}
 use Rattle.js_base.specs.Bytes.{Bytes}
 use Rattle.gate_log.specs.Head.{head}
-use Rattle.gate_log.specs.Faults.{HasNoMark, HasUnknownVersion, HasBadGeneration, IsDamagedAt, IsOfUnknownVersion}
+use Rattle.gate_log.specs.Faults.{HasUnknownVersion, IsHeadDamagedAt, IsDamagedAt, IsOfUnknownVersion}
 use Rattle.gate_log.specs.declared.fault.LogFault.{LogFault}
 use Rattle.gate_log.specs.declared.fault.LogFault.TheVariants.{Fault, Full, NoMemory, Damaged, UnknownVersion}
 
@@ -23,8 +23,16 @@ abbrev pub IsHeadFault : Bytes → LogFault → Type 0
 IsHeadFault bytes Fault = ⊥
 IsHeadFault bytes Full = ⊥
 IsHeadFault bytes NoMemory = ⊥
-IsHeadFault bytes (Damaged at) = ((at ≡ 0) × HasNoMark bytes) ⊎ ((at ≡ 8) × HasBadGeneration bytes)
+IsHeadFault bytes (Damaged at) = IsHeadDamagedAt bytes at
 IsHeadFault bytes (UnknownVersion n) = HasUnknownVersion bytes n
+
+-- the volume failed, or the head has this fault
+abbrev pub IsHeadFaultOf : Bytes → LogFault → Type 0
+IsHeadFaultOf bytes Fault = Unit {0}
+IsHeadFaultOf bytes Full = ⊥
+IsHeadFaultOf bytes NoMemory = ⊥
+IsHeadFaultOf bytes (Damaged at) = IsHeadDamagedAt bytes at
+IsHeadFaultOf bytes (UnknownVersion n) = HasUnknownVersion bytes n
 
 -- the volume failed, or memory ran out
 abbrev pub IsOutside : LogFault → Type 0
@@ -33,11 +41,3 @@ IsOutside Full = ⊥
 IsOutside NoMemory = Unit {0}
 IsOutside (Damaged at) = ⊥
 IsOutside (UnknownVersion n) = ⊥
-
--- the volume failed, or the head has this fault
-abbrev pub IsHeadFaultOf : Bytes → LogFault → Type 0
-IsHeadFaultOf bytes Fault = Unit {0}
-IsHeadFaultOf bytes Full = ⊥
-IsHeadFaultOf bytes NoMemory = ⊥
-IsHeadFaultOf bytes (Damaged at) = ((at ≡ 0) × HasNoMark bytes) ⊎ ((at ≡ 8) × HasBadGeneration bytes)
-IsHeadFaultOf bytes (UnknownVersion n) = HasUnknownVersion bytes n
