@@ -1,11 +1,11 @@
 -- What an append makes of its disk, write by write.
-use Rattle.std.proofs.Common.{◌≡◌, ◌≢◌, ◌⊎◌, inl, inr, ℕ, ◌+◌, ◌<◌, ◌≤◌, ◌^◌, List, [], ◌∷◌, ◌++◌, Option, None, Some, IfSome, IsSome, length, take, drop, refl, sym, ◌∙◌, ap, subst, arith}
+use Rattle.std.proofs.Common.{◌≡◌, inl, ℕ, ◌+◌, ◌<◌, ◌≤◌, ◌^◌, List, [], ◌∷◌, ◌++◌, Option, None, Some, IfSome, IsSome, length, drop, refl, sym, ◌∙◌, ap, subst, arith}
 use Rattle.std.proofs.lemmas.Bool.{false≢true}
 use Rattle.vol_disk.specs.Disk.{Disk, Files}
 use Rattle.vol_disk.specs.Images.{IsDurable}
 use Rattle.vol_disk.specs.Steps.{written, Torn}
 use Rattle.vol_disk.specs.Clock.{IsClocked}
-use Rattle.vol_disk.specs.Moments.{LeavesOnly, Elsewhere}
+use Rattle.vol_disk.specs.Moments.{Elsewhere}
 use Rattle.vol_disk.specs.Synced.{DoesSynced}
 use Rattle.vol_disk.proofs.Moments.{started, joined, widened, rests_on}
 use Rattle.js_base.specs.Bytes.{Bytes}
@@ -13,8 +13,8 @@ use Rattle.gate_log.specs.Batches.{end_of}
 use Rattle.gate_log.specs.LogFile.{Spells, IsLog}
 use Rattle.gate_log.specs.LogState.{LogState, with_batch}
 use Rattle.gate_log.specs.Settled.{IsSettled}
-use Rattle.gate_log.specs.Staging.{behind_gate, IsStaged, StagesTo}
-use Rattle.gate_log.specs.Appending.{IsWithOrWithout, Appends, AppendsTo, IsAppended}
+use Rattle.gate_log.specs.Staging.{behind_gate, StagesTo}
+use Rattle.gate_log.specs.Appending.{IsWithOrWithout, AppendsTo, IsAppended}
 use Rattle.gate_log.proofs.Spelling.{size, end_of-push}
 use Rattle.gate_log.proofs.Crash.{torn_behind, written_behind, torn_gate, written_gate}
 use Rattle.gate_log.proofs.Walks.{first_more}
@@ -53,8 +53,8 @@ module _ (log : LogState) (records : Bytes) (old : Disk) (clocked : IsClocked ol
     elsewhere = does.elsewhere;
     any_moment = widened old mid (HasBatches log batches records old) _ does.any_moment (λ image left. (
       of_head log.head (λ g. IsWithOrWithout g batches records (image log.file)) (λ g head_is. inl (
-        kept (image log.file) g (at_head log.head (λ generation. IsLog generation batches (old.seen log.file)) g head_is settled.head)
-        (subst (λ k. Torn k n (old.seen log.file) (image log.file)) (is ∙ ap (λ (e : ℕ). e + 1) settled.end) left.0))),
+          kept (image log.file) g (at_head log.head (λ generation. IsLog generation batches (old.seen log.file)) g head_is settled.head)
+          (subst (λ k. Torn k n (old.seen log.file) (image log.file)) (is ∙ ap (λ (e : ℕ). e + 1) settled.end) left.0))),
       left.1,
     ));
   }

@@ -1,5 +1,5 @@
 -- What a crash leaves of a log in each of the two writes of an append.
-use Rattle.std.proofs.Common.{◌≡◌, ◌≢◌, ◌⊎◌, inl, inr, ℕ, ◌+◌, ◌<◌, ◌≤◌, ◌^◌, List, [], ◌∷◌, ◌++◌, length, take, drop, get_or, refl, sym, ◌∙◌, ap, subst, arith, append_assoc, length-append, take-append-drop}
+use Rattle.std.proofs.Common.{◌≡◌, inl, inr, ℕ, ◌+◌, ◌<◌, ◌^◌, List, [], ◌∷◌, ◌++◌, length, drop, get_or, sym, ◌∙◌, ap, subst, arith, append_assoc, take-append-drop}
 use Rattle.std.specs.Int.{w32, to_be_bytes}
 use Rattle.std.proofs.lemmas.Bool.{cases_eq}
 use Rattle.std.proofs.lemmas.List.{drop_more}
@@ -10,7 +10,7 @@ use Rattle.gate_log.specs.Batches.{open_batches, end_of}
 use Rattle.gate_log.specs.LogFile.{Spells, IsLog}
 use Rattle.gate_log.specs.Staging.{behind_gate}
 use Rattle.gate_log.specs.Appending.{IsWithOrWithout}
-use Rattle.gate_log.proofs.Spelling.{front, split, size, front_is, gate_is, rest_is, open_batches-push, lengths-push}
+use Rattle.gate_log.proofs.Spelling.{front, size, front_is, gate_is, rest_is, open_batches-push, lengths-push}
 
 -- with the gate open, what stands behind it is one batch more
 opened : (bytes : Bytes) (g : ℕ) (batches : List Bytes) (records tail : Bytes) → length records < 2 ^ 32 → Spells bytes g batches 1 (behind_gate records ++ tail) →

@@ -1,14 +1,13 @@
 -- What a crash leaves of a file while way is made for a new log.
-use Rattle.std.proofs.Common.{◌≡◌, ◌≢◌, ◌⊎◌, inl, inr, ℕ, ◌+◌, ◌<◌, ◌≤◌, List, [], ◌∷◌, ◌++◌, length, take, drop, get_or, refl, sym, ◌∙◌, ap, subst, arith, append_assoc, length-append, length-take, length-drop, take-append-drop}
+use Rattle.std.proofs.Common.{◌≡◌, ◌≢◌, ◌⊎◌, inl, inr, ℕ, ◌<◌, ◌≤◌, [], ◌∷◌, ◌++◌, length, take, drop, get_or, sym, ◌∙◌, ap, subst, arith, append_assoc, length-append, length-take, length-drop, take-append-drop}
 use Rattle.std.proofs.lemmas.Bool.{cases_eq}
 use Rattle.std.proofs.lemmas.List.{drop_more, take_at, drop_at, get_or-drop, get_or-take, take-take}
 use Rattle.vol_disk.specs.Disk.{Disk, Files}
 use Rattle.vol_disk.specs.Images.{IsDurable, IsImage}
 use Rattle.vol_disk.specs.Steps.{written, Torn, CutTo}
-use Rattle.vol_disk.specs.Clock.{IsClocked}
-use Rattle.vol_disk.specs.Moments.{LeavesOnly, Elsewhere, Quiet}
+use Rattle.vol_disk.specs.Moments.{Elsewhere, Quiet}
 use Rattle.vol_disk.specs.Synced.{DoesSynced}
-use Rattle.vol_disk.proofs.Moments.{started, joined, widened, rests_on}
+use Rattle.vol_disk.proofs.Moments.{joined, widened, rests_on}
 use Rattle.js_base.specs.Bytes.{Bytes}
 use Rattle.gate_log.specs.Starting.{IsEmptied, Starts, IsShut}
 use Rattle.gate_log.proofs.Spelling.{spelled, head_is}
@@ -21,12 +20,15 @@ pub emptied_shut : (old new : Bytes) → 17 < length old → IsShut old new → 
 emptied_shut old new long shut g batches open_ =
     let log = long_log old g batches long open_ in
     let first = shut.head ∙ head_is old log.0 batches log.1.gate log.1.rest log.1.spells in
-    inr (log.0, record {
-      gate = get_or new 16 0;
-      rest = drop 17 new;
-      spells = spelled new log.0 [] (get_or new 16 0) (drop 17 new) first log.1.spells.below tt (drop_more new 16 0 (omega (arith, shut.long)));
-      closed = shut.closed;
-    })
+    inr (
+      log.0,
+      record {
+        gate = get_or new 16 0;
+        rest = drop 17 new;
+        spells = spelled new log.0 [] (get_or new 16 0) (drop 17 new) first log.1.spells.below tt (drop_more new 16 0 (omega (arith, shut.long)));
+        closed = shut.closed;
+      },
+    )
 
 -- a write of the first gate leaves the file as it was, or closed
 pub torn_gate : (old c : Bytes) → 17 < length old → get_or old 16 0 ≡ 1 → Torn 16 1 old c → (c ≡ old) ⊎ IsShut old c

@@ -1,5 +1,5 @@
 -- What is read at a gate of a log.
-use Rattle.std.proofs.Common.{◌≡◌, ◌≢◌, ◌⊎◌, inl, inr, ℕ, ◌+◌, ◌<◌, ◌≤◌, ◌^◌, List, [], ◌∷◌, ◌++◌, Option, None, Some, IfSome, length, take, drop, refl, sym, ◌∙◌, ap, subst, arith, append_assoc, length-append}
+use Rattle.std.proofs.Common.{◌≡◌, ◌≢◌, ℕ, ◌+◌, ◌<◌, ◌≤◌, ◌^◌, List, [], ◌∷◌, ◌++◌, Option, None, Some, IfSome, length, take, drop, refl, sym, ◌∙◌, ap, subst, arith, append_assoc, length-append}
 use Rattle.std.specs.Int.{w32, to_be_bytes}
 use Rattle.std.proofs.lemmas.List.{take_at, drop_at, drop-drop, append-nil}
 use Rattle.vol_disk.specs.Disk.{Disk}
@@ -11,8 +11,8 @@ use Rattle.gate_log.specs.Batches.{open_batch, open_batches, end_of, HaveLengths
 use Rattle.gate_log.specs.LogFile.{Spells, IsLog, HasOpen}
 use Rattle.gate_log.specs.LogState.{LogState, generation_of}
 use Rattle.gate_log.specs.Settled.{IsSettled}
-use Rattle.gate_log.specs.Reading.{IsGate, IsSomeGate, IsFirstOf, IsReadAt}
-use Rattle.gate_log.proofs.Spelling.{length-be4, length-open_batch, open_batches-cut, lengths-cut, end_of-push, end_of-front, size, rest_is}
+use Rattle.gate_log.specs.Reading.{IsGate, IsFirstOf}
+use Rattle.gate_log.proofs.Spelling.{length-be4, length-open_batch, open_batches-cut, lengths-cut, end_of-push, size, rest_is}
 use Rattle.gate_log.proofs.OneReading.{same_number, front_of}
 
 -- calls that leave the file of a log alone leave the log settled

@@ -10,12 +10,12 @@ use Rattle.vol_disk.specs.Steps.{written}
 use Rattle.js_base.specs.Bytes.{Bytes}
 use Rattle.gate_log.specs.Head.{head}
 use Rattle.gate_log.specs.Batches.{open_batches, end_of}
-use Rattle.gate_log.specs.LogFile.{Spells, IsLog, HasOpen}
-use Rattle.gate_log.specs.Faults.{HasNoMark, HasUnknownVersion, HasBadGeneration, HasCutBatch, IsDamagedAt, IsOfUnknownVersion}
+use Rattle.gate_log.specs.LogFile.{IsLog, HasOpen}
+use Rattle.gate_log.specs.Faults.{HasNoMark, HasUnknownVersion, HasBadGeneration, HasCutBatch}
 use Rattle.gate_log.specs.LogState.{LogState, generation_of, new_log}
 use Rattle.gate_log.specs.Settled.{IsSettled}
 use Rattle.gate_log.specs.Opening.{IsOpenFault, IsHeadRead, IsHeadFault, IsHeadFaultOf}
-use Rattle.gate_log.specs.Walking.{IsNextGate, IsCutGate, IsWalked, AreEnds, IsWalkFault}
+use Rattle.gate_log.specs.Walking.{IsCutGate, IsWalked, AreEnds, IsWalkFault}
 use Rattle.gate_log.specs.declared.fault.LogFault.{LogFault}
 use Rattle.gate_log.specs.declared.fault.LogFault.TheVariants.{Fault, Full, NoMemory, Damaged, UnknownVersion}
 use Rattle.gate_log.proofs.Spelling.{spelled, end_of-some, length-head}

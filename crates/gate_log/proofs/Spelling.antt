@@ -1,7 +1,7 @@
 -- Parts of a log file by their offsets.
-use Rattle.std.proofs.Common.{◌≡◌, ◌≢◌, ◌⊎◌, inl, inr, ℕ, zero, suc, ◌+◌, ◌<◌, ◌≤◌, ◌^◌, List, [], ◌∷◌, ◌++◌, length, take, drop, get_or, refl, sym, ◌∙◌, ap, subst, arith, append_assoc, length-append, length-take, length-drop, take-append-drop}
+use Rattle.std.proofs.Common.{◌≡◌, ℕ, ◌+◌, ◌<◌, ◌≤◌, ◌^◌, List, [], ◌∷◌, ◌++◌, length, take, drop, refl, sym, ◌∙◌, ap, arith, append_assoc, length-append, take-append-drop}
 use Rattle.std.specs.Int.{w32, to_be_bytes}
-use Rattle.std.proofs.lemmas.List.{take_at, drop_at, drop_more, append-nil}
+use Rattle.std.proofs.lemmas.List.{take_at, drop_at, append-nil}
 use Rattle.js_base.specs.Bytes.{Bytes}
 use Rattle.gate_log.specs.Head.{head}
 use Rattle.gate_log.specs.Batches.{open_batch, open_batches, end_of, HaveLengths}

@@ -1,5 +1,5 @@
 -- What an append leaves.
-use Rattle.std.specs.Prelude.{◌≡◌, ◌≢◌, ◌⊎◌, ℕ, List, [], ◌∷◌, ◌++◌, IfSome}
+use Rattle.std.specs.Prelude.{◌≢◌, ◌⊎◌, ℕ, List, [], ◌∷◌, ◌++◌, IfSome}
 use Rattle.vol_disk.specs.Disk.{Disk}
 use Rattle.vol_disk.specs.Does.{Rests}
 use Rattle.vol_disk.specs.Moments.{LeavesOnly, Elsewhere}

@@ -1,5 +1,5 @@
 -- What is known of a log that was opened or started.
-use Rattle.std.specs.Prelude.{◌≡◌, ℕ, ◌+◌, ◌==◌, Option, Some, None, if◌then◌else◌}
+use Rattle.std.specs.Prelude.{ℕ, ◌+◌, ◌==◌, Option, None, if◌then◌else◌}
 
 pub record LogState : Type 0 where
   -- its file

@@ -1,5 +1,5 @@
 -- A log, its file, and what a crash leaves of it.
-use Rattle.std.specs.Prelude.{◌≡◌, ℕ, List, take, IfSome}
+use Rattle.std.specs.Prelude.{◌≡◌, List, take, IfSome}
 use Rattle.vol_disk.specs.Disk.{Disk}
 use Rattle.vol_disk.specs.Images.{IsDurable}
 use Rattle.js_base.specs.Bytes.{Bytes}

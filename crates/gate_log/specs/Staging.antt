@@ -1,10 +1,10 @@
 -- A batch that stands behind its closed gate.
-use Rattle.std.specs.Prelude.{◌≡◌, ℕ, List, [], ◌∷◌, ◌++◌, length, IfSome}
+use Rattle.std.specs.Prelude.{ℕ, List, [], ◌∷◌, ◌++◌, length, IfSome}
 use Rattle.std.specs.Int.{w32, to_be_bytes}
 use Rattle.vol_disk.specs.Disk.{Disk}
 use Rattle.vol_disk.specs.Images.{IsDurable}
 use Rattle.js_base.specs.Bytes.{Bytes}
-use Rattle.gate_log.specs.LogFile.{Spells, IsLog}
+use Rattle.gate_log.specs.LogFile.{Spells}
 use Rattle.gate_log.specs.LogState.{LogState}
 use Rattle.gate_log.specs.Settled.{IsSettled}
 

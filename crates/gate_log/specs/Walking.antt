@@ -1,5 +1,5 @@
 -- How a log file is read from gate to gate.
-use Rattle.std.specs.Prelude.{◌≡◌, ◌≢◌, ℕ, ◌+◌, ◌<◌, ◌^◌, List, [], ◌∷◌, ◌++◌, length, take, drop, Option, Some, None}
+use Rattle.std.specs.Prelude.{◌≡◌, ◌≢◌, ℕ, ◌+◌, ◌<◌, ◌^◌, List, ◌∷◌, ◌++◌, length, take, drop, Option, Some, None}
 use Rattle.js_base.specs.Bytes.{Bytes}
 use Rattle.gate_log.specs.Batches.{open_batch, open_batches, end_of, HaveLengths}
 use Rattle.gate_log.specs.Faults.{PassesEnd}

@@ -1,4 +1,4 @@
-use Rattle.std.proofs.Common.{◌≡◌, ◌≤◌, ◌<◌, ap, sym, subst, arith}
+use Rattle.std.proofs.Common.{◌<◌, ap, sym, subst, arith}
 use Rattle.vol_disk.proofs.Moments.{quiet_then}
 use Rattle.gate_log.specs.Walking.{IsWalkFault}
 use Rattle.gate_log.specs.declared.ends.Ends.{Ends}

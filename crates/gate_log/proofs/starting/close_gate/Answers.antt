@@ -1,4 +1,4 @@
-use Rattle.std.proofs.Common.{◌≡◌, ◌∷◌, [], List, ℕ, sym, subst}
+use Rattle.std.proofs.Common.{◌≡◌, ◌∷◌, [], subst}
 use Rattle.vol_disk.specs.Steps.{written, Torn}
 use Rattle.js_base.specs.Bytes.{Bytes}
 use Rattle.gate_log.proofs.LetOn.{at_ok}

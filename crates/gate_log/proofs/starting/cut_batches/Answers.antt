@@ -1,6 +1,5 @@
-use Rattle.std.proofs.Common.{◌≡◌, ◌≤◌, inr, length, take, ap, arith, length-take}
+use Rattle.std.proofs.Common.{inr}
 use Rattle.vol_disk.specs.Steps.{CutTo}
-use Rattle.js_base.specs.Bytes.{Bytes}
 use Rattle.gate_log.proofs.LetOn.{at_ok}
 use Rattle.gate_log.proofs.Emptying.{cut_shut, cut_short, starts_then}
 use Rattle.gate_log.proofs.starting.cut_batches.Goals as goal

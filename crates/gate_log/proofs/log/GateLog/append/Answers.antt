@@ -1,9 +1,8 @@
-use Rattle.std.proofs.Common.{◌≡◌, ◌∙◌, ◌+◌, ◌<◌, ◌≤◌, ◌^◌, [], ◌∷◌, length, sym, ap, subst, arith}
+use Rattle.std.proofs.Common.{◌≡◌, ◌∙◌, ◌<◌, ◌≤◌, ◌^◌, [], ◌∷◌, length, sym, ap, subst, arith}
 use Rattle.vol_disk.specs.Images.{IsDurable}
 use Rattle.vol_disk.specs.Steps.{written, Torn}
 use Rattle.vol_disk.specs.Synced.{DoesSynced}
 use Rattle.gate_log.specs.LogState.{LogState, with_batch}
-use Rattle.gate_log.specs.Appending.{AppendsTo}
 use Rattle.gate_log.specs.declared.ends.Ends.{Ends}
 use Rattle.gate_log.proofs.Appendings.{gate_inside, opening, done}
 use Rattle.gate_log.proofs.log.GateLog.append.Goals as goal

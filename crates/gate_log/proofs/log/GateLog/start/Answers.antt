@@ -1,7 +1,5 @@
-use Rattle.std.proofs.Common.{◌≡◌, ◌∙◌, ◌++◌, ◌∷◌, [], Some, inr, length, refl, sym, ap, subst}
+use Rattle.std.proofs.Common.{◌≡◌, ◌∙◌, [], Some, inr, length, refl, sym, ap, subst}
 use Rattle.vol_disk.specs.Steps.{Torn}
-use Rattle.js_base.specs.Bytes.{Bytes}
-use Rattle.gate_log.specs.Head.{head}
 use Rattle.gate_log.specs.LogState.{LogState, new_log}
 use Rattle.gate_log.specs.Settled.{IsSettled}
 use Rattle.gate_log.proofs.Emptying.{torn_short, starts_then}
