@@ -1,0 +1,6 @@
+//! What stands in the histories that callers share: entries, opening states, which lists of entries are lawful, and what one caller has seen of them.
+#![tactic(auto)]
+
+mod words;
+
+pub use words::{Past, Start};
