@@ -1,5 +1,5 @@
 -- Lists of entries and of numbers.
-use Rattle.std.proofs.Common.{◌≡◌, ◌≢◌, ◌⊎◌, ℕ, zero, suc, ◌+◌, ◌<◌, ◌≤◌, List, [], ◌∷◌, ◌++◌, Bool, true, false, cond, ◌||◌, eqb, true≢false, refl, sym, ap, ◌∙◌, subst, inl, inr, ⊎_elim, arith, clamps, append-nil, eq-eqb, eqb-true}
+use Rattle.std.proofs.Common.{◌≡◌, ◌≢◌, ◌⊎◌, ℕ, zero, suc, ◌+◌, ◌<◌, ◌≤◌, List, [], ◌∷◌, ◌++◌, Bool, true, false, cond, ◌||◌, eqb, true≢false, refl, sym, ap, ◌∙◌, subst, inl, inr, ⊎_elim, arith, append-nil, eq-eqb, eqb-true}
 use Rattle.std.specs.Prelude.{max, ◌==◌}
 use mathlib.Core.Logic.{dite}
 use native.Mathlib.Decide.{ℕ_discrete}
@@ -39,7 +39,7 @@ or-right true b e = refl
 or-right false b e = e
 
 pub max-le : (a b n : ℕ) → a ≤ n → b ≤ n → max a b ≤ n
-max-le a b n f g = omega (arith, clamps)
+max-le a b n f g = omega arith
 
 -- ---- entries of others
 
@@ -126,6 +126,9 @@ below-less (suc n) k h = ⊎_elim (λ e. let same : n ≡ k = eqb-true n k e in 
 pub only_one : (n k : ℕ) → has (n ∷ []) k ≡ true → k ≡ n
 only_one n k h = ⊎_elim (λ e. sym (eqb-true n k e)) (λ f. absurd (true≢false (sym f))) (or-true (eqb n k) false h)
 
+pub one_numbered : (n : ℕ) → has (n ∷ []) n ≡ true
+one_numbered n = or-left (eqb n n) false (eq-eqb n n refl)
+
 pub numbered-append : (ns ms : List ℕ) → has ns (first_of ns) ≡ true → has (ns ++ ms) (first_of (ns ++ ms)) ≡ true
 numbered-append [] ms h = absurd (true≢false (sym h))
 numbered-append (n ∷ ns) ms h = or-left (eqb n n) (has (ns ++ ms) n) (eq-eqb n n refl)
@@ -163,3 +166,8 @@ longer_of (x ∷ xs) [] a b e = inl record { more = x ∷ xs; picked = refl; beg
 longer_of (x ∷ xs) (y ∷ ys) a b e =
     let same : x ≡ y = ap (head_of x) e in
     ⊎_elim (λ l. inl (one_more x xs ys a b y (sym same) l)) (λ r. inr (other_more x xs ys a b y same r)) (longer_of xs ys a b (ap tail_of e))
+
+-- ---- a turn's own entries
+
+pub own-left : (ns : List ℕ) (front es : List Entry) → AreBy (first_of ns) es → has ns (first_of ns) ≡ true → own ns (front ++ es) ≡ own ns front ++ es
+own-left ns front es by h = own-append ns front es ∙ ap (λ (l : List Entry). own ns front ++ l) (own-by ns (first_of ns) es by h)

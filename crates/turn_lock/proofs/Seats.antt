@@ -2,13 +2,16 @@
 use Rattle.std.proofs.Common.{◌≡◌, ◌⊎◌, append-nil, ℕ, zero, suc, ◌+◌, ◌<◌, ◌≤◌, List, [], ◌∷◌, ◌++◌, length, length-append, arith, Bool, true, false, true≢false, refl, sym, ap, ◌∙◌, subst, Option, Some, None}
 use Rattle.std.specs.Prelude.{max}
 use Rattle.atomic_table.specs.Table.{Me, rest}
+use Rattle.atomic_table.specs.Seated.{TableId}
 use Rattle.js_base.specs.Bytes.{has}
 use Rattle.histories.specs.Entries.{Entry, Opening}
-use Rattle.histories.specs.Fronts.{Begins, Grows}
-use Rattle.turn_lock.specs.Views.{View, Stage, Idle, Drawn, Inside, Met, Spent, view, at_stage, met, note, first_of}
+use Rattle.histories.specs.Fronts.{Begins, Grows, OneBegins}
+use Rattle.turn_lock.specs.Views.{View, Stage, Idle, Drawn, Inside, Met, Spent, view, at_stage, with_ticket, met, note, first_of}
 use Rattle.turn_lock.specs.declared.kept.Kept.{Kept}
-use Rattle.turn_lock.specs.Ruled.{IsNumbered, Meeting}
-use Rattle.turn_lock.specs.Seats.{view_of, IsIdle, IsInside}
+use Rattle.turn_lock.specs.Ruled.{last_ticket, IsNumbered, Meeting}
+use Rattle.turn_lock.specs.Seats.{shown, view_of, IsIdle, IsInside}
+use Rattle.turn_lock.specs.Calls.{Comes, HasMet, IsJoined}
+use Rattle.turn_lock.proofs.Lists.{numbered-append}
 use Rattle.turn_lock.specs.Steps.{Enters, Taken}
 
 -- ---- the views of a seat
@@ -96,3 +99,53 @@ puts legal v c k m h e = record {
   inside = ap (λ x. x.0.stage) e ∙ h.inside;
   carried = ap (λ x. x.1) e ∙ ap (λ l. (0, Some k) ∷ rest l) h.empty;
 }
+
+-- ---- what the calls come to
+
+-- a seat that drew a ticket and came in
+pub comes_of : {S : Type 0} (stands : Opening → List Entry → S → Type 0) (lock lock' : TableId) (v u w : View) (t : ℕ) (x : S) → lock' ≡ lock → u ≡ with_ticket v t → v.drawn ≤ t → t < last_ticket → Taken S stands u w x
+    → Comes stands (shown lock v) (shown lock' w) x
+comes_of stands lock lock' v u w t x same is few low k = let drawn : w.drawn ≡ suc t = k.drawn ∙ ap (λ (z : View). z.drawn) is in record {
+  lock = same;
+  opening = k.opening ∙ ap (λ (z : View). z.opening) is;
+  numbers = k.numbers ∙ ap (λ (z : View). z.numbers) is;
+  grows = subst (λ (z : View). Grows z.numbers z.front w.front) is k.grows;
+  stands_for = subst (λ (o : Opening). stands o w.front x) (sym k.opening) k.stands_for;
+  ticket = omega arith;
+  low = omega arith;
+}
+
+pub joined_of : (lock lock' : TableId) (r j v w : View) (other : TableId) → lock' ≡ lock → r ≡ at_stage j Idle → j ≡ met v w → Meeting j.front v.front v.numbers w.front w.numbers
+    → IsJoined (shown lock v) (shown other w) (shown lock' r)
+joined_of lock lock' r j v w other same is both m = let all = is ∙ ap (λ (z : View). at_stage z Idle) both in let fronts : j.front ≡ r.front = sym (ap (λ (z : View). z.front) is) in record {
+  lock = same;
+  opening = ap (λ (z : View). z.opening) all;
+  numbers = ap (λ (z : View). z.numbers) all;
+  apart = m.two;
+  drawn = ap (λ (z : View). z.drawn) all;
+  first = subst (Grows v.numbers v.front) fronts m.first;
+  second = subst (Grows w.numbers w.front) fronts m.second;
+  one_begins = m.one_begins;
+}
+
+-- w is the copy of u
+pub met_of : (lock lock' : TableId) (r j v w u : View) (other : TableId) → lock' ≡ lock → r ≡ at_stage j Idle → j ≡ met v w → w ≡ note u → Meeting j.front v.front v.numbers w.front w.numbers
+    → HasMet (shown lock v) (shown other u) (shown lock' r)
+met_of lock lock' r j v w u other same is both copied m =
+    let all = is ∙ (ap (λ (z : View). at_stage z Idle) both ∙ ap (λ (z : View). at_stage (met v z) Idle) copied) in let fronts : j.front ≡ r.front = sym (ap (λ (z : View). z.front) is) in
+    let seen : w.front ≡ u.front = ap (λ (z : View). z.front) copied in
+    let second : Grows w.numbers u.front r.front = subst (λ (z : List Entry × List Entry). Grows w.numbers z.0 z.1) (λ i. (seen i, fronts i)) m.second in record {
+      lock = same;
+      opening = ap (λ (z : View). z.opening) all;
+      numbers = ap (λ (z : View). z.numbers) all ∙ append-nil v.numbers;
+      drawn = ap (λ (z : View). z.drawn) all;
+      grows = subst (Grows v.numbers v.front) fronts m.first;
+      begins = record { later = second.later; behind = second.behind };
+      one_begins = subst (OneBegins v.front) seen m.one_begins;
+    }
+
+-- a seat that was compared with another is idle again
+pub idle_met : (legal : Opening → List Entry → Type 0) (vs : List View) (r j v w : View) → vs ≡ r ∷ [] → r ≡ at_stage j Idle → j ≡ met v w → IsNumbered v → legal j.opening j.front → IsIdle legal vs
+idle_met legal vs r j v w one is both numbered lawful =
+    let all = is ∙ ap (λ (z : View). at_stage z Idle) both in
+    idle_of legal vs (at_stage j Idle) (one ∙ ap (λ (z : View). z ∷ []) is) refl (subst (λ (l : List ℕ). has l (first_of l) ≡ true) (ap (λ (z : View). z.numbers) (sym both)) (numbered-append v.numbers w.numbers numbered)) lawful

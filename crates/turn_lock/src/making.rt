@@ -93,7 +93,7 @@ impl<S, P: Standing<S>> Turns<S, P> {
     /// Hands out a seat with the greatest number that is left, while another one is left.
     fn deal(&self, first: &mut atomic_table::Seat<Option<Kept<S>>, Sight>) -> Seat<P>
         requires own { first.old.table_id ≡ self.now.lock }
-        requires opening { first.old.me.0.opening ≡ self.now.opening }
+        requires lawful { P.lawful first.old.me.0.opening [] }
         requires left { (n : ℕ) × (first.old.me ≡ (opened first.old.me.0.opening (suc (suc n)), [])) }
         ensures table { first.new.table_id ≡ first.old.table_id }
         ensures first { first.new.me ≡ (kept_back first.old.me.0, []) }
