@@ -18,7 +18,8 @@ use Rattle.turn_lock.specs.Views.{View, Stage, Idle, Drawn, Inside, Met, Spent, 
 use Rattle.turn_lock.specs.declared.kept.Kept.{Kept}
 use Rattle.turn_lock.specs.Ruled.{last_ticket, AreMade, Meeting, IsSound, IsNumbered, Doing, UnlessSpent, Knows, Lies, IsRuled}
 use Rattle.turn_lock.specs.Steps.{saw, drew, Enters, looked, left, compared}
-use Rattle.turn_lock.proofs.Lists.{foreign-append, foreign-cut, foreign-by, made-append, made-cut, made-by, own-all, has-append, or-true, foreign-both, Longer, longer_of, below-has, later_none, made-front, if_not, foreign-parts, below-less, only_one, max-le}
+use Rattle.histories.proofs.Own.{foreign-append, foreign-cut, foreign-by}
+use Rattle.turn_lock.proofs.Lists.{made-append, made-cut, made-by, own-all, has-append, or-true, foreign-both, Longer, longer_of, below-has, later_none, made-front, if_not, foreign-parts, below-less, only_one, max-le}
 
 seats_stay : (K : ℕ → View → Type 0) (vs : List View) (me : ℕ) (w : View) → K me w → ((j : ℕ) (d : View) → j ≢ me → get_elem? vs j ≡ opt.some d → K j d)
     → (j : ℕ) (d : View) → get_elem? (set vs me w) j ≡ opt.some d → K j d

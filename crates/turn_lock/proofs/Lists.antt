@@ -3,7 +3,6 @@ use Rattle.std.proofs.Common.{◌≡◌, ◌≢◌, ◌⊎◌, ℕ, zero, suc, �
 use Rattle.std.specs.Prelude.{max, ◌==◌}
 use mathlib.Core.Logic.{dite}
 use native.Mathlib.Decide.{ℕ_discrete}
-use Rattle.std.proofs.lemmas.List.Elements.{filter-append}
 use Rattle.std.proofs.lemmas.List.Folds.{list_any-append}
 use Rattle.js_base.specs.Bytes.{has}
 use Rattle.histories.specs.Entries.{Entry, seat_of, AreBy}
@@ -41,20 +40,7 @@ or-right false b e = e
 pub max-le : (a b n : ℕ) → a ≤ n → b ≤ n → max a b ≤ n
 max-le a b n f g = omega arith
 
--- ---- entries of others
-
-pub foreign-append : (ns : List ℕ) (a b : List Entry) → AreForeign ns a → AreForeign ns b → AreForeign ns (a ++ b)
-foreign-append ns [] b f g = g
-foreign-append ns (e ∷ es) b f g = (f.0, foreign-append ns es b f.1 g)
-
-pub foreign-cut : (ns : List ℕ) (a b : List Entry) → AreForeign ns (a ++ b) → AreForeign ns a × AreForeign ns b
-foreign-cut ns [] b f = (tt, f)
-foreign-cut ns (e ∷ es) b f = let r = foreign-cut ns es b f.1 in ((f.0, r.0), r.1)
-
--- the entries of a seat with another number
-pub foreign-by : (ns : List ℕ) (n : ℕ) (es : List Entry) → AreBy n es → has ns n ≡ false → AreForeign ns es
-foreign-by ns n [] b f = tt
-foreign-by ns n (e ∷ es) b f = (ap (has ns) b.0 ∙ f, foreign-by ns n es b.1 f)
+-- ---- entries of seats that were made
 
 pub made-append : (k : ℕ) (a b : List Entry) → AreMade k a → AreMade k b → AreMade k (a ++ b)
 made-append k [] b f g = g
@@ -73,21 +59,6 @@ made-by k n [] b h = tt
 made-by k n (e ∷ es) b h = (subst (λ (m : ℕ). m < k) (sym b.0) h, made-by k n es b.1 h)
 
 -- ---- a seat's own entries
-
-pub own-append : (ns : List ℕ) (a b : List Entry) → own ns (a ++ b) ≡ own ns a ++ own ns b
-own-append ns a b = filter-append (is_by ns) a b
-
-pub own-foreign : (ns : List ℕ) (a : List Entry) → AreForeign ns a → own ns a ≡ []
-own-foreign ns [] f = refl
-own-foreign ns (e ∷ es) f = ap (λ (b : Bool). cond b (e ∷ own ns es) (own ns es)) f.0 ∙ own-foreign ns es f.1
-
-pub own-by : (ns : List ℕ) (n : ℕ) (es : List Entry) → AreBy n es → has ns n ≡ true → own ns es ≡ es
-own-by ns n [] b h = refl
-own-by ns n (e ∷ es) b h = ap (λ (t : Bool). cond t (e ∷ own ns es) (own ns es)) (ap (has ns) b.0 ∙ h) ∙ ap (λ (xs : List Entry). e ∷ xs) (own-by ns n es b.1 h)
-
--- what was not seen has no entry of one's own
-pub own-behind : (ns : List ℕ) (front later : List Entry) → AreForeign ns later → own ns (front ++ later) ≡ own ns front
-own-behind ns front later f = own-append ns front later ∙ (ap (λ (xs : List Entry). own ns front ++ xs) (own-foreign ns later f) ∙ append-nil (own ns front))
 
 -- where each number is among these, all entries are own
 pub own-all : (ns : List ℕ) (k : ℕ) (l : List Entry) → ((n : ℕ) → n < k → has ns n ≡ true) → AreMade k l → own ns l ≡ l
@@ -166,8 +137,3 @@ longer_of (x ∷ xs) [] a b e = inl record { more = x ∷ xs; picked = refl; beg
 longer_of (x ∷ xs) (y ∷ ys) a b e =
     let same : x ≡ y = ap (head_of x) e in
     ⊎_elim (λ l. inl (one_more x xs ys a b y (sym same) l)) (λ r. inr (other_more x xs ys a b y same r)) (longer_of xs ys a b (ap tail_of e))
-
--- ---- a turn's own entries
-
-pub own-left : (ns : List ℕ) (front es : List Entry) → AreBy (first_of ns) es → has ns (first_of ns) ≡ true → own ns (front ++ es) ≡ own ns front ++ es
-own-left ns front es by h = own-append ns front es ∙ ap (λ (l : List Entry). own ns front ++ l) (own-by ns (first_of ns) es by h)

@@ -1,7 +1,5 @@
 //! Tests of a lock whose turns go by tickets: two threads that count, two seats that meet, and two that become one.
 #![tactic(auto)]
 
-mod counter;
-mod counting;
 #[cfg(test)]
 mod tests;

@@ -1,4 +1,4 @@
-use crate::counting::{count_both, join_two, meet_and_look};
+use turn_counter::{count_both, join_two, meet_and_look};
 use std::test::*;
 
 #[test]

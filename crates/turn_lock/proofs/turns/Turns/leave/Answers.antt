@@ -8,7 +8,7 @@ use Rattle.turn_lock.specs.Calls.{added}
 use Rattle.histories.specs.Fronts.{own}
 use Rattle.histories.specs.Entries.{Entry}
 use Rattle.turn_lock.proofs.Seats.{puts, idle_of}
-use Rattle.turn_lock.proofs.Lists.{own-left}
+use Rattle.histories.proofs.Own.{own-left}
 use Rattle.turn_lock.proofs.Keeps.{leaves}
 use Rattle.turn_lock.proofs.turns.Turns.leave.Goals as goal
 
@@ -65,4 +65,4 @@ returns-clause-own g c =
     let views = c.into_badge.ensures.2 ∙ ap (λ (v : View). v ∷ []) is in
     let by = subst (λ (z : SeatView). AreBy (first_of z.numbers) c.args.entries.value) (sym c.seat.view_is) c.requires.by in
     ap (λ (vs : List View). own (view_of vs).numbers (view_of vs).front) views
-    ∙ (own-left s.me.0.numbers s.me.0.front c.args.entries.value by c.seat.invariant.numbered ∙ ap (λ (z : SeatView). own z.numbers z.front ++ c.args.entries.value) c.seat.view_is)
+    ∙ (own-left s.me.0.numbers (first_of s.me.0.numbers) s.me.0.front c.args.entries.value by c.seat.invariant.numbered ∙ ap (λ (z : SeatView). own z.numbers z.front ++ c.args.entries.value) c.seat.view_is)

@@ -1,8 +1,8 @@
 //! A counter behind a lock.
 
-ghost use Rattle.std.specs.Prelude.{◌≡◌, ◌≤◌, ⊤, true, [], ◌∷◌, length, IfSome};
+ghost use Rattle.std.specs.Prelude.{◌≡◌, ◌≤◌, ⊤, [], ◌∷◌, length, IfSome};
 ghost use Rattle.histories.specs.Entries.{OfRouter};
-ghost use Rattle.turn_tests.specs.Counting.{counting_by, CountsOn};
+ghost use Rattle.turn_counter.specs.Counting.{counting_by, HasCounted};
 
 use histories::Past;
 use std::sync::Wait;
@@ -10,12 +10,12 @@ use turn_lock::{Entries, Lawful, Noted, Notes, Seat, Standing, Turns};
 
 /// A counter, which stands for every list of its length.
 #[derive(Drop)]
-pub(crate) struct Counter {
-    pub(crate) count: u64,
+pub struct Counter {
+    pub count: u64,
 }
 
 /// How a counter stands for histories.
-pub(crate) struct Counts;
+pub struct Counts;
 
 impl Lawful for Counts {
     ghost lawful = { λ opening entries. ⊤ };
@@ -44,15 +44,13 @@ impl Notes<(), Past> for Nothing {
 }
 
 /// Counts one on, in a turn; false where no ticket is left or the count is at its end.
-pub(crate) fn count_on<R: Wait>(
+pub fn count_on<R: Wait>(
     rt: &R,
     turns: &Turns<Counter, Counts>,
     seat: Seat<Counts>,
 ) -> (Seat<Counts>, bool)
     requires own { seat.lock ≡ turns.now.lock }
-    ensures lock { result.0.lock ≡ seat.lock }
-    ensures numbers { result.0.numbers ≡ seat.numbers }
-    ensures counted { result.1 ≡ true → CountsOn 1 seat result.0 }
+    ensures counted { HasCounted 1 seat result.0 result.1 }
 {
     let mut held = match turns.enter(rt, seat) {
         Ok(held) => held,
@@ -67,16 +65,14 @@ pub(crate) fn count_on<R: Wait>(
 }
 
 /// Counts on so many times, in a turn each; false where one of them could not.
-pub(crate) fn count_times<R: Wait>(
+pub fn count_times<R: Wait>(
     rt: &R,
     turns: &Turns<Counter, Counts>,
     seat: Seat<Counts>,
     times: u32,
 ) -> (Seat<Counts>, bool)
     requires own { seat.lock ≡ turns.now.lock }
-    ensures lock { result.0.lock ≡ seat.lock }
-    ensures numbers { result.0.numbers ≡ seat.numbers }
-    ensures counted { result.1 ≡ true → CountsOn times seat result.0 }
+    ensures counted { HasCounted times seat result.0 result.1 }
 {
     let mut seat = seat;
     for _ in 0..times {
@@ -90,7 +86,7 @@ pub(crate) fn count_times<R: Wait>(
 }
 
 /// The count, as a turn finds it; `None` where no ticket is left.
-pub(crate) fn look<R: Wait>(
+pub fn look<R: Wait>(
     rt: &R,
     turns: &Turns<Counter, Counts>,
     seat: Seat<Counts>,
