@@ -1,1 +1,2 @@
 pub mod Own
+mod Rows

@@ -3,9 +3,9 @@ use Rattle.std.specs.Prelude.{◌≡◌, ℕ, List}
 use Rattle.std.specs.List.{AllByRecursion}
 use Rattle.js_model.specs.declared.stream.State.{State}
 use Rattle.js_model.specs.declared.entry.PlaceEntry.{PlaceEntry}
-use Rattle.js_model.specs.declared.entry.PlaceEntry.TheVariants.{Step, Deliver, Broken}
 use Rattle.js_model.specs.Router.{RouteEntry}
 use Rattle.js_model.specs.Catalog.{Catalog, CatEntry}
+use Rattle.model_laws.specs.Legal as places
 
 -- one entry of a history
 pub data Entry : Type 0 where
@@ -20,13 +20,8 @@ pub data Opening : Type 0 where
   OfCatalog : (catalog : Catalog) → Opening
 
 -- the seat whose turn it was
-abbrev pub place_seat : PlaceEntry → ℕ
-place_seat (Step seat event moment reply outs unsaid) = seat
-place_seat (Deliver seat moment listening delivery outs) = seat
-place_seat (Broken seat moment call) = seat
-
 abbrev pub seat_of : Entry → ℕ
-seat_of (AtPlace step) = place_seat step
+seat_of (AtPlace step) = places.seat_of step
 seat_of (AtRouter call) = call.seat
 seat_of (AtCatalog call) = call.seat
 

@@ -1,8 +1,8 @@
 -- What one seat has seen of a history, this server's own: a front, which is a beginning of it, and the seat's own entries there.
-use Rattle.std.specs.Prelude.{◌≡◌, ◌⊎◌, ℕ, Bool, true, false, List, [], ◌∷◌, ◌++◌, filter}
+use Rattle.std.specs.Prelude.{◌≡◌, ◌⊎◌, ℕ, Bool, false, List, ◌++◌, filter}
 use Rattle.std.specs.List.{AllByRecursion}
 use Rattle.js_base.specs.Bytes.{has}
-use Rattle.histories.specs.Entries.{Entry, Opening, seat_of}
+use Rattle.histories.specs.Entries.{Entry, seat_of}
 
 -- ---- a seat's own entries
 
@@ -34,10 +34,3 @@ pub record Grows (numbers : List ℕ) (old new : List Entry) : Type 0 where
 -- of two fronts one is a beginning of the other
 abbrev pub OneBegins : List Entry → List Entry → Type 0
 OneBegins xs ys = Begins xs ys ⊎ Begins ys xs
-
--- ---- what holds of every seat
-
--- the front is lawful from the opening state, and these are the seat's own entries in it
-pub record IsLegal (legal : Opening → List Entry → Type 0) (opening : Opening) (numbers : List ℕ) (front mine : List Entry) : Type 0 where
-  pub lawful : legal opening front
-  pub owned : mine ≡ own numbers front

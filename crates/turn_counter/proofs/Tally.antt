@@ -65,9 +65,6 @@ all_left s count whole is = is ∙ ap length (sym whole)
 
 -- ---- counting on
 
-no_more : {A : Type 0} (counted : Bool) → counted ≡ false → counted ≡ true → A
-no_more counted no yes = absurd (true≢false (sym yes ∙ no))
-
 -- a seat that came in and left with one entry
 pub counts_on : (seat held new : SeatView) (entry : Entry) → held.lock ≡ seat.lock → held.numbers ≡ seat.numbers → Grows seat.numbers seat.front held.front → new ≡ added held (entry ∷ [])
     → own new.numbers new.front ≡ own held.numbers held.front ++ entry ∷ [] → HasCounted 1 seat new true
@@ -79,10 +76,6 @@ counts_on seat held new entry lock numbers grows is mine =
       numbers = ap (λ (s : SeatView). s.numbers) is ∙ numbers;
       more = λ _. omega arith;
     }
-
--- a seat that could not count
-pub counts_not : (times : ℕ) (old new : SeatView) (counted : Bool) → new.lock ≡ old.lock → new.numbers ≡ old.numbers → counted ≡ false → HasCounted times old new counted
-counts_not times old new counted lock numbers no = record { lock = lock; numbers = numbers; more = λ yes. no_more counted no yes }
 
 pub counts_none : (seat : SeatView) → HasCounted 0 seat seat true
 counts_none seat = record { lock = refl; numbers = refl; more = λ _. omega arith }

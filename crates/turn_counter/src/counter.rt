@@ -101,8 +101,6 @@ pub fn look<R: Wait>(
         Err((_, seat)) => return (seat, None),
     };
     let count = held.value.count;
-    (
-        turns.leave(held, Entries::of::<(), Nothing>(&())),
-        Some(count),
-    )
+    let entries = Entries::of::<(), Nothing>(&());
+    (turns.leave(held, entries), Some(count))
 }

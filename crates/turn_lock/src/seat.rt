@@ -1,7 +1,9 @@
 //! A caller's place at a lock.
 
 ghost use Rattle.std.specs.Prelude.{◌≡◌};
-ghost use Rattle.histories.specs.Fronts.{IsLegal, own};
+ghost use Rattle.model_laws.specs.Legal.{IsLegal};
+ghost use Rattle.histories.specs.Entries.{seat_of};
+ghost use Rattle.histories.specs.Fronts.{own};
 ghost use Rattle.turn_lock.specs.Calls.{number_of};
 
 use crate::sight::Sight;
@@ -29,7 +31,7 @@ impl<P: Lawful> Model for Seat<P> {
 impl<P: Lawful> Seat<P> {
     /// What a seat has seen is a lawful beginning of the history, and its own entries there are those with its numbers.
     pub fn law_legal(&self)
-        ensures legal { IsLegal P.lawful self.now.opening self.now.numbers self.now.front (own self.now.numbers self.now.front) }
+        ensures legal { IsLegal (P.lawful self.now.opening) seat_of self.now.numbers self.now.front (own self.now.numbers self.now.front) }
     {
         let _ = &self.badge;
     }
