@@ -11,9 +11,9 @@ use Rattle.route_index.specs.declared.beneath.Piece.TheVariants.{Token, Text}
 use Rattle.route_index.specs.Ids.{Ids, is_under}
 use Rattle.route_index.specs.Searching.{AreDotless}
 
--- the one text is above the other, byte by byte
-abbrev pub is_above : Bytes → Bytes → Bool
-is_above a b = is_gt (slice_cmp nat_cmp a b)
+-- the one text comes after the other, byte by byte
+abbrev pub is_after : Bytes → Bytes → Bool
+is_after a b = is_gt (slice_cmp nat_cmp a b)
 
 -- ---- pieces
 
@@ -27,10 +27,10 @@ abbrev pub ArePieces : Piece → List Bytes → Type 0
 ArePieces Token parts = AreDotless parts
 ArePieces Text parts = Unit {0}
 
--- the end is above the text, and each text between them has the same piece
+-- the end comes after the text, and each text between them has the same piece
 pub record EndsPiece (piece : Piece) (text part end : Bytes) : Type 0 where
-  pub above : is_above end text ≡ true
-  pub between : (other : Bytes) → is_above text other ≡ false → is_above end other ≡ true → IsPiece piece other part
+  pub after : is_after end text ≡ true
+  pub between : (other : Bytes) → is_after text other ≡ false → is_after end other ≡ true → IsPiece piece other part
 
 -- the piece of the text is one of these
 abbrev pub HasPiece : Piece → Bytes → List Bytes → Type 0
@@ -46,12 +46,12 @@ pub record Covers (piece : Piece) (ids : Ids) (path : Bytes) (parts : List Bytes
 abbrev pub IsBeneath : Bytes → Bytes → Type 0
 IsBeneath path from = (text : Bytes) × (from ≡ path ++ text)
 
--- the path and the text are a pattern, which is not below `from`, and the first such
+-- the path and the text are a pattern, which does not come before `from`, and the first such
 pub record IsFirstFrom (ids : Ids) (path from text : Bytes) : Type 0 where
   pub there : IsSome (get (slice_cmp nat_cmp) ids (path ++ text))
-  pub from : is_above from (path ++ text) ≡ false
-  pub least : (other : Bytes) (id : ℕ) → is_under ids (path ++ other) id ≡ true → is_above from (path ++ other) ≡ false → is_above text other ≡ false
+  pub reached : is_after from (path ++ text) ≡ false
+  pub least : (other : Bytes) (id : ℕ) → is_under ids (path ++ other) id ≡ true → is_after from (path ++ other) ≡ false → is_after text other ≡ false
 
--- each pattern with a number that begins with the path is below `from`
+-- each pattern with a number that begins with the path comes before `from`
 pub record HasNoneFrom (ids : Ids) (path from : Bytes) : Type 0 where
-  pub at : (other : Bytes) (id : ℕ) → is_under ids (path ++ other) id ≡ true → is_above from (path ++ other) ≡ true
+  pub at : (other : Bytes) (id : ℕ) → is_under ids (path ++ other) id ≡ true → is_after from (path ++ other) ≡ true

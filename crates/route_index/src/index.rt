@@ -127,7 +127,7 @@ impl RouteIndex {
             alloc: self.alloc,
             seek,
         };
-        search(query, &mut path, tokens.as_slice(), &mut found)?;
+        search(&query, &mut path, tokens.as_slice(), &mut found)?;
         Ok(found)
     }
 }

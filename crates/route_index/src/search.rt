@@ -40,9 +40,9 @@ fn take_under(
 }
 
 /// Adds the numbers under all patterns that begin with the path, and leaves the path.
-fn take_all(query: Query<'_>, path: &mut Pattern, found: &mut Vec<u64>) -> Result<(), NoMemory>
+fn take_all(query: &Query<'_>, path: &mut Pattern, found: &mut Vec<u64>) -> Result<(), NoMemory>
     ensures path { OnOk result (path.new ≡ path.old) }
-    ensures found { OnOk result (AddsAll query.ids.now path.old found.old.items found.new.items) }
+    ensures found { OnOk result (AddsAll query.now.ids.now path.old found.old.items found.new.items) }
 {
     let texts = pieces_beneath(query.ids, query.alloc, path, Piece::Text)?;
     for text in texts.as_slice() {
@@ -54,7 +54,7 @@ fn take_all(query: Query<'_>, path: &mut Pattern, found: &mut Vec<u64>) -> Resul
 /// Goes down by a token: adds the numbers under the patterns that the path, the token and patterns for the other tokens make.
 #[cycle(search)]
 fn go_down(
-    query: Query<'_>,
+    query: &Query<'_>,
     path: &mut Pattern,
     token: &[u8],
     others: &[&[u8]],
@@ -63,7 +63,7 @@ fn go_down(
     requires token { IsDotless token.now }
     requires others { AreDotless (map (λ part. part.now) others.now) }
     ensures path { OnOk result (path.new ≡ path.old) }
-    ensures found { OnOk result (AddsBelow query.seek query.ids.now path.old token.now (map (λ part. part.now) others.now) found.old.items found.new.items) }
+    ensures found { OnOk result (AddsBelow query.now.seek query.now.ids.now path.old token.now (map (λ part. part.now) others.now) found.old.items found.new.items) }
 {
     if others.is_empty() {
         return take_under(query.ids, path, token, found);
@@ -81,14 +81,14 @@ fn go_down(
 /// Goes down by each token that follows the path in a pattern.
 #[cycle(search)]
 fn go_down_each(
-    query: Query<'_>,
+    query: &Query<'_>,
     path: &mut Pattern,
     others: &[&[u8]],
     found: &mut Vec<u64>,
 ) -> Result<(), NoMemory>
     requires others { AreDotless (map (λ part. part.now) others.now) }
     ensures path { OnOk result (path.new ≡ path.old) }
-    ensures found { OnOk result (AddsEach query.seek query.ids.now path.old (map (λ part. part.now) others.now) found.old.items found.new.items) }
+    ensures found { OnOk result (AddsEach query.now.seek query.now.ids.now path.old (map (λ part. part.now) others.now) found.old.items found.new.items) }
 {
     let tokens = pieces_beneath(query.ids, query.alloc, path, Piece::Token)?;
     for token in tokens.as_slice() {
@@ -100,14 +100,14 @@ fn go_down_each(
 /// Adds the numbers under the patterns that the path and patterns for these tokens make.
 #[cycle(search)]
 pub(crate) fn search(
-    query: Query<'_>,
+    query: &Query<'_>,
     path: &mut Pattern,
     tokens: &[&[u8]],
     found: &mut Vec<u64>,
 ) -> Result<(), NoMemory>
     requires { AreDotless (map (λ part. part.now) tokens.now) }
     ensures path { OnOk result (path.new ≡ path.old) }
-    ensures found { OnOk result (AddsFitting query.seek query.ids.now path.old (map (λ part. part.now) tokens.now) found.old.items found.new.items) }
+    ensures found { OnOk result (AddsFitting query.now.seek query.now.ids.now path.old (map (λ part. part.now) tokens.now) found.old.items found.new.items) }
 {
     let Some((token, others)) = tokens.split_first() else {
         return Ok(());
