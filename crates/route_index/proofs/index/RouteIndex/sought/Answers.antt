@@ -4,7 +4,7 @@ use Rattle.std.proofs.lemmas.List.Filters.{dedup_is}
 use Rattle.std.proofs.lemmas.List.Sorted.{list_any-IsPermutation}
 use Rattle.std.proofs.lemmas.Map.Keys.{IsStrictlyIncreasing-dedup, sorted_from_strictly_increasing}
 use Rattle.route_index.proofs.Rising.{same_rising, dedup_has}
-use Rattle.route_index.proofs.index.RouteIndex.matching.Goals as goal
+use Rattle.route_index.proofs.index.RouteIndex.sought.Goals as goal
 
 pub returns : goal.returns
 returns c =
