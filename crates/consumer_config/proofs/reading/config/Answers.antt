@@ -1,0 +1,15 @@
+use Rattle.std.proofs.Common.{◌≡◌, refl, arith}
+use Rattle.std.proofs.lemmas.Grind.{common_steps}
+use Rattle.consumer_config.specs.Reading.{config_in}
+use Rattle.consumer_config.proofs.reading.config.Goals as goal
+
+pub returns : goal.returns
+unfolding config_in
+returns c =
+    let named : c.in_ok-clone.field-0 ≡ c.args.name.now = grind (arith, common_steps) in
+    record {
+      value = rw (
+        c.in_ok-ack_policy_in.ensures.value,
+        named,
+      ) refl;
+    }
