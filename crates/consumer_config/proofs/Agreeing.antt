@@ -1,15 +1,17 @@
 -- Two objects whose fields are the same are read as the same configuration.
-use Rattle.std.proofs.Common.{◌≡◌, List, [], ◌∷◌, ◌++◌, false, Option, Some, None, codes, refl, ap}
+use Rattle.std.proofs.Common.{◌≡◌, List, [], ◌∷◌, ◌++◌, Bool, false, Option, Some, None, codes, refl, ap}
 use Rattle.std.specs.Prelude.{option_and_then, option_map, unwrap_or}
 use Rattle.serde_json.specs.Data.{Data, null, boolean, number, string, array, object, Members}
 use Rattle.serde_json.specs.Find.{get_member}
 use Rattle.js_base.specs.Bytes.{Bytes}
 use Rattle.js_json.specs.Fields.{field, unless_null, is_some_number, flag_in, number_in, text_in, time_in, is_number as is_numeral, is_given}
 use Rattle.js_json.specs.Kinds.{is_something}
+use Rattle.js_model.specs.Refusals.{Check, first_refusal}
+use Rattle.js_model.specs.declared.consumer_config.ConsumerConfig.{ConsumerConfig}
 use Rattle.consumer_config.specs.declared.rule.Rule.{Rule}
 use Rattle.consumer_config.specs.declared.rule.Rule.TheVariants.{Flag, Text, Number, Count, Nothing, Group, Heartbeat, StartSequence, StartTime}
 use Rattle.consumer_config.specs.Table.{Line, table}
-use Rattle.consumer_config.specs.Reading.{standing, judgement, check, checks, start_checks, name_checks, config_in, reading}
+use Rattle.consumer_config.specs.Reading.{standing, judgement, check, checks, start_checks, name_checks, config_in, config_unless, reading}
 
 -- each field of the one is that of the other
 abbrev pub Agrees : Members → Members → Type 0
@@ -17,22 +19,22 @@ Agrees a b = (name : Bytes) → field name a ≡ field name b
 
 -- ---- what a field is asked
 
-not_null : {P : Data → _} (value : Option Data) → P null ≡ false → unwrap_or (option_map P value) false ≡ unwrap_or (option_map P (option_and_then unless_null value)) false
-not_null None h = refl
-not_null (Some null) h = h
-not_null (Some (boolean b)) h = refl
-not_null (Some (number n)) h = refl
-not_null (Some (string text)) h = refl
-not_null (Some (array items)) h = refl
-not_null (Some (object members)) h = refl
+not_null : (P : Data → Bool) (value : Option Data) → P null ≡ false → unwrap_or (option_map P value) false ≡ unwrap_or (option_map P (option_and_then unless_null value)) false
+not_null P None h = refl
+not_null P (Some null) h = h
+not_null P (Some (boolean b)) h = refl
+not_null P (Some (number n)) h = refl
+not_null P (Some (string text)) h = refl
+not_null P (Some (array items)) h = refl
+not_null P (Some (object _)) h = refl
 
 given_by : (name : Bytes) (a : Members) → is_given name a ≡ unwrap_or (option_map is_something (field name a)) false
 unfolding is_given
-given_by name a = not_null (get_member name a) refl
+given_by name a = not_null is_something (get_member name a) refl
 
 numeral_by : (name : Bytes) (a : Members) → is_numeral name a ≡ unwrap_or (option_map is_some_number (field name a)) false
 unfolding is_numeral
-numeral_by name a = not_null (get_member name a) refl
+numeral_by name a = not_null is_some_number (get_member name a) refl
 
 -- ---- standings and refusals
 
@@ -79,6 +81,12 @@ config_same name a b same =
       same (codes "opt_start_time"),
     ) refl
 
+whole_same : (cs ds ss ts ns ms : List Check) (c d : ConsumerConfig) → cs ≡ ds → ss ≡ ts → ns ≡ ms → c ≡ d
+    → config_unless (first_refusal (cs ++ (ss ++ ns))) c ≡ config_unless (first_refusal (ds ++ (ts ++ ms))) d
+whole_same cs ds ss ts ns ms c d fields starts names is = rw (fields, starts, names, is) refl
+
 pub reading_same : (name : Bytes) (a b : Members) → Agrees a b → reading name a ≡ reading name b
 unfolding reading
-reading_same name a b same = rw (checks_same table a b same, starts_same a b same, names_same name a b same, config_same name a b same) refl
+reading_same name a b same =
+    whole_same (checks a table) (checks b table) (start_checks a) (start_checks b) (name_checks name a) (name_checks name b) (config_in name a) (config_in name b)
+    (checks_same table a b same) (starts_same a b same) (names_same name a b same) (config_same name a b same)

@@ -2,7 +2,7 @@
 use Rattle.std.proofs.Common.{◌≡◌, ℕ, zero, suc, ◌-◌, ◌^◌, ℤ, pos, negsuc, Bool, true, false, ◌&&◌, ◌||◌, not, ◌==◌, [], Option, Some, None, Result, Ok, Err, nat_lt, nat_le, is_none, codes, refl, sym, ◌∙◌, ap, subst, if◌then◌else◌, arith}
 use Rattle.std.specs.Prelude.{unwrap_or}
 use Rattle.std.specs.Str.{is_utf8, chars}
-use Rattle.std.proofs.lemmas.Bool.{and_parts, and_from}
+use Rattle.std.proofs.lemmas.Bool.{and_parts, and_from, true≢false}
 use Rattle.std.proofs.lemmas.Bool.Decides.{nat_tests}
 use Rattle.js_base.specs.Bytes.{Bytes, is_empty, same}
 use Rattle.js_base.specs.Subjects.{is_pattern_text}
@@ -55,33 +55,42 @@ grouped lacks (Err fault) h = absurd (cc)
 
 -- ---- numbers
 
+pub suc_not_0 : (n : ℕ) → (suc n == 0) ≡ false
+suc_not_0 n = grind (arith, nat_tests)
+
 abbrev count : Result (Option ℤ) JsonFault → ℕ
 count read = natural_or_0 (found read)
+
+from_0 : (n : ℕ) → nat_le 0 n ≡ true
+from_0 n = grind (arith, nat_tests)
 
 -- a number from the one to the other, if it is not below 0
 up_to : (low : ℤ) (high n : ℕ) → is_refused (number_standing low (pos high) (pos n)) ≡ false → nat_le n high ≡ true
 up_to low high n h = (and_parts _ _ (is_allowed (within low (pos high) (pos n)) h)).1
 
 pub counted : (low : ℤ) (high : ℕ) (read : Result (Option ℤ) JsonFault) → is_refused (judged (number_standing low (pos high)) read) ≡ false → nat_le (count read) high ≡ true
-counted low high (Ok None) h = refl
+counted low high (Ok None) h = from_0 high
 counted low high (Ok (Some (pos n))) h = up_to low high n h
-counted low high (Ok (Some (negsuc n))) h = refl
+counted low high (Ok (Some (negsuc n))) h = from_0 high
 counted low high (Err fault) h = absurd (cc)
 
 pub small : (n : ℕ) → nat_le n most ≡ true → is_number n ≡ true
 small n h = grind (arith, nat_tests)
 
+over_0 : (n : ℕ) → nat_lt 0 (suc n) ≡ true
+over_0 n = grind (arith, nat_tests)
+
 pub usual : (low n : ℕ) → nat_lt 0 low ≡ true → nat_lt 0 (or_usual low n) ≡ true
 usual low zero h = h
-usual low (suc n) h = grind (arith, nat_tests)
+usual low (suc n) h = rw (suc_not_0 n) (over_0 n)
 
 pub usual_within : (low high n : ℕ) → nat_le low high ≡ true → nat_le n high ≡ true → nat_le (or_usual low n) high ≡ true
 usual_within low high zero h small = h
-usual_within low high (suc n) h small = small
+usual_within low high (suc n) h small = rw (suc_not_0 n) small
 
 pub limited : (high n : ℕ) → nat_le n high ≡ true → is_limit high (limit_of n) ≡ true
 limited high zero h = refl
-limited high (suc n) h = let some : nat_lt 0 (suc n) ≡ true = grind (arith, nat_tests) in and_from _ _ some h
+limited high (suc n) h = rw (suc_not_0 n) (and_from _ _ (over_0 n) h)
 
 pub pended : (read : Result (Option ℤ) JsonFault) → is_refused (judged (number_standing (negsuc 0) (pos 65536)) read) ≡ false → is_limit 65536 (pending_of (found read)) ≡ true
 pended (Ok None) h = refl
@@ -96,8 +105,8 @@ pub record IsHeartbeat (lacks : Bool) (n : ℕ) : Type 0 where
 
 needs : (lacks : Bool) (n : ℕ) → not (lacks && nat_lt 0 n) ≡ true → ((n == 0) || not lacks) ≡ true
 needs lacks zero h = refl
-needs true (suc n) h = let some : nat_lt 0 (suc n) ≡ true = grind (arith, nat_tests) in absurd (cc)
-needs false (suc n) h = refl
+needs true (suc n) h = absurd (true≢false (sym h ∙ ap not (over_0 n)))
+needs false (suc n) h = rw (suc_not_0 n) refl
 
 pub beaten : (lacks : Bool) (read : Result (Option ℤ) JsonFault) → is_refused (judged (heartbeat_standing lacks) read) ≡ false → IsHeartbeat lacks (count read)
 beaten lacks (Ok None) h = record { number = refl; directed = refl }
@@ -115,10 +124,10 @@ both_false false b h e = absurd (cc)
 
 pub start_seq : (starts : Bool) (read : Result (Option ℤ) JsonFault) → is_refused (if starts then judged (number_standing (pos 0) (pos most)) read else Held) ≡ false
     → starts && (count read == 0) ≡ false → starts ≡ true → (nat_lt 0 (count read) && is_number (count read)) ≡ true
-start_seq true read h some e = let over : nat_lt 0 (count read) ≡ true = over_0 (count read) some in and_from _ _ over (small (count read) (counted (pos 0) most read h))
+start_seq true read h some e = let over : nat_lt 0 (count read) ≡ true = above (count read) some in and_from _ _ over (small (count read) (counted (pos 0) most read h))
   where
-    over_0 : (n : ℕ) → (n == 0) ≡ false → nat_lt 0 n ≡ true
-    over_0 n h = grind (arith, nat_tests)
+    above : (n : ℕ) → (n == 0) ≡ false → nat_lt 0 n ≡ true
+    above n h = grind (arith, nat_tests)
 start_seq false read h some e = absurd (cc)
 
 pub start_time : (starts : Bool) (at : Option ℕ) → ((n : ℕ) → at ≡ Some n → is_number n ≡ true) → starts && is_none at ≡ false → starts ≡ true → is_start (from_time at) ≡ true

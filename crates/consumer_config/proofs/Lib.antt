@@ -8,3 +8,4 @@ pub mod Agreeing
 pub mod Printings
 pub mod Shown
 pub mod Printed
+mod RowsOfConfigs

@@ -2,7 +2,7 @@
 use Rattle.std.proofs.Common.{◌≡◌, ℕ, zero, suc, ◌^◌, ◌-◌, ◌<◌, ℤ, pos, negsuc, List, [], ◌∷◌, Bool, true, false, ◌&&◌, ◌||◌, ◌==◌, not, nat_lt, nat_le, length, drop, IsTrue, Option, Some, None, Result, Ok, Err, codes, refl, sym, ap, ◌∙◌, subst, if◌then◌else◌, is_none, arith}
 use Rattle.std.specs.Prelude.{unwrap_or, option_and_then}
 use Rattle.std.specs.Str.{is_utf8}
-use Rattle.std.proofs.lemmas.Bool.{and_parts, and_from}
+use Rattle.std.proofs.lemmas.Bool.{and_parts, and_from, true≢false}
 use Rattle.std.proofs.lemmas.Bool.Decides.{nat_tests}
 use Rattle.serde_json.specs.Data.{Data, Members}
 use Rattle.serde_json.specs.Find.{as_str}
@@ -29,6 +29,7 @@ use Rattle.consumer_config.specs.Standings.{most, within, number_standing, text_
 use Rattle.consumer_config.specs.Table.{table}
 use Rattle.consumer_config.specs.Reading.{found, is_unsaid, is_other, judged, time_standing, is_refused, natural_or_0, or_usual, usual_ack_wait, pending_of, limit_of, ack_policy_of, deliver_policy_of, start_checks, name_checks, reading, standing, config_in}
 use Rattle.consumer_config.specs.Printing.{ack_policy_text, deliver_policy_text, text_shown, number_shown, sequence_shown, time_shown, entries, object_with, printed}
+use Rattle.consumer_config.proofs.Fields.{suc_not_0}
 use Rattle.consumer_config.proofs.Refusing.{read_whole}
 use Rattle.consumer_config.proofs.Passing.{Passing, none_refused, passing_from}
 use Rattle.consumer_config.proofs.Parts.{ConfigParts, config_parts}
@@ -72,7 +73,7 @@ number_read name n = taken as_whole name (unless_null (or_null (number_shown n))
 
 number_back : (name : Bytes) (n : ℕ) → natural_or_0 (found (number_read name n)) ≡ n
 number_back name zero = refl
-number_back name (suc n) = refl
+number_back name (suc n) = rw (suc_not_0 n) refl
 
 from_0 : (n : ℕ) → nat_le 0 n ≡ true
 from_0 n = grind (arith, nat_tests)
@@ -89,18 +90,18 @@ usual_back usual n h = rw (not_0 n h) refl
 counted : (high n : ℕ) → nat_le n high ≡ true → is_refused (number_standing (pos 0) (pos high) (pos n)) ≡ false
 counted high n h = rw (from_0 n, h) refl
 
+-- above 0 it is given if the rule between the two is kept
+needed : (n : ℕ) (lacks : Bool) → ((suc n == 0) || not lacks) ≡ true → lacks ≡ false
+needed n true h = absurd (true≢false (sym h ∙ ap (λ (b : Bool). b || false) (suc_not_0 n)))
+needed n false h = refl
+
+beats_at : (n : ℕ) (lacks : Bool) → is_number (suc n) ≡ true → lacks ≡ false → is_refused (heartbeat_standing lacks (pos (suc n))) ≡ false
+beats_at n lacks number given = rw (given, from_0 (suc n), below (suc n) number) refl
+
 beats : (name other subject : Bytes) (n : ℕ) → is_number n ≡ true → ((n == 0) || not (is_empty subject)) ≡ true
     → is_refused (judged (heartbeat_standing (is_unsaid (text_read other subject))) (number_read name n)) ≡ false
-beats name other subject zero number directed = rw (unsaid_is other subject) (none (is_empty subject))
-  where
-    none : (lacks : Bool) → is_refused (heartbeat_standing lacks (pos 0)) ≡ false
-    none true = refl
-    none false = refl
-beats name other subject (suc n) number directed = rw (unsaid_is other subject) (by (is_empty subject) directed)
-  where
-    by : (lacks : Bool) → not lacks ≡ true → is_refused (heartbeat_standing lacks (pos (suc n))) ≡ false
-    by true h = absurd (cc)
-    by false h = rw (from_0 (suc n), below (suc n) number) refl
+beats name other subject zero number needs = refl
+beats name other subject (suc n) number needs = rw (suc_not_0 n) (beats_at n (is_unsaid (text_read other subject)) number (unsaid_is other subject ∙ needed n (is_empty subject) needs))
 
 abbrev limit_read : Bytes → Option ℕ → Result (Option ℤ) JsonFault
 limit_read name most = taken as_whole name (unless_null (limit most))
@@ -247,17 +248,13 @@ starts : (c : ConsumerConfig) → ConfigParts c → first_refusal (start_checks 
 unfolding number_in text_in time_in
 starts c p = rw (has_sequence c.deliver_policy p.start, has_time c.deliver_policy p.start) refl
 
-not_other : (name : Bytes) → is_other name name ≡ false
-not_other [] = refl
-not_other (byte ∷ more) = rw (same_self (byte ∷ more)) refl
-
 filled : (name : Bytes) → not (is_empty name) ≡ true → is_empty name ≡ false
 filled [] h = absurd (cc)
 filled (byte ∷ more) h = refl
 
 named : (c : ConsumerConfig) → ConfigParts c → first_refusal (name_checks c.name (shown c)) ≡ None
 unfolding text_in
-named c p = rw (filled c.name (name_parts c.name p.name).filled, not_other c.name) refl
+named c p = rw (filled c.name (name_parts c.name p.name).filled, same_self c.name) refl
 
 -- ---- and it is what they say
 

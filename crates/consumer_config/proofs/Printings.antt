@@ -1,6 +1,6 @@
 -- The fields of a printed configuration, put in one after the other.
-use Rattle.std.proofs.Common.{◌≡◌, ℕ, zero, suc, Bool, true, false, ◌&&◌, List, [], ◌∷◌, ◌++◌, Option, Some, None, take, codes, refl, ap, sym, ◌∙◌}
-use Rattle.std.specs.Ordering.{Ordering, Less, Equal, Greater, nat_cmp, match_ordering}
+use Rattle.std.proofs.Common.{◌≡◌, ℕ, zero, suc, Bool, true, false, ◌&&◌, List, [], ◌∷◌, ◌++◌, Option, Some, None, Ordering, Less, Equal, Greater, nat_cmp, take, codes, refl, ap, sym, ◌∙◌}
+use Rattle.std.specs.Ordering.{match_ordering}
 use Rattle.std.specs.Cmp.Lexicographic.{slice_cmp}
 use Rattle.std.proofs.lemmas.Bool.{and_parts}
 use Rattle.serde_json.specs.Data.{Data, Members, no_members, member, string, put}
@@ -9,6 +9,7 @@ use Rattle.js_json.specs.Building.{count, limit, text_unless_empty, count_unless
 use Rattle.js_model.specs.declared.consumer_config.DeliverPolicy.{DeliverPolicy}
 use Rattle.js_model.specs.declared.consumer_config.DeliverPolicy.TheVariants as delivers
 use Rattle.js_model.specs.declared.consumer_config.ConsumerConfig.{ConsumerConfig}
+use Rattle.consumer_config.proofs.Fields.{suc_not_0}
 use Rattle.consumer_config.specs.Printing.{ack_policy_text, deliver_policy_text, text_shown, number_shown, sequence_shown, time_shown, with_start, entries, object_with, printed}
 
 -- whether the key is behind all of these
@@ -49,7 +50,7 @@ text_last key (byte ∷ more) es h = put_last key (string (byte ∷ more)) es h
 
 number_last : (key : Bytes) (n : ℕ) (es : List (Bytes × Option Data)) → is_last key es ≡ true → count_unless_0 key n (object_with es) ≡ object_with (with_entry key (number_shown n) es)
 number_last key zero es h = none_last key es
-number_last key (suc n) es h = put_last key (count (suc n)) es h
+number_last key (suc n) es h = rw (suc_not_0 n) (put_last key (count (suc n)) es h)
 
 abbrev with_starts : DeliverPolicy → List (Bytes × Option Data) → List (Bytes × Option Data)
 with_starts policy es = with_entry (codes "opt_start_time") (time_shown policy) (with_entry (codes "opt_start_seq") (sequence_shown policy) es)
@@ -88,21 +89,30 @@ filled c =
     (put (codes "ack_wait") (count c.ack_wait)
     (put (codes "ack_policy") (string (ack_policy_text c.ack_policy)) no_members))))))))))))))
 
+-- ---- one step after the other
+
+put_step : (key : Bytes) (value : Data) (es : List (Bytes × Option Data)) (made : Members) → is_last key es ≡ true → made ≡ object_with es → put key value made ≡ object_with (with_entry key (Some value) es)
+put_step key value es made h e = ap (put key value) e ∙ put_last key value es h
+
+text_step : (key text : Bytes) (es : List (Bytes × Option Data)) (made : Members) → is_last key es ≡ true → made ≡ object_with es → text_unless_empty key text made ≡ object_with (with_entry key (text_shown text) es)
+text_step key text es made h e = ap (text_unless_empty key text) e ∙ text_last key text es h
+
+number_step : (key : Bytes) (n : ℕ) (es : List (Bytes × Option Data)) (made : Members) → is_last key es ≡ true → made ≡ object_with es → count_unless_0 key n made ≡ object_with (with_entry key (number_shown n) es)
+number_step key n es made h e = ap (count_unless_0 key n) e ∙ number_last key n es h
+
 pub put_in_order : (c : ConsumerConfig) → filled c ≡ printed c
 unfolding printed
 put_in_order c =
-    rw (
-      text_last (codes "deliver_group") c.deliver_group (take 2 (entries c)) refl,
-      put_last (codes "deliver_policy") (string (deliver_policy_text c.deliver_policy)) (take 3 (entries c)) refl,
-      text_last (codes "deliver_subject") c.deliver_subject (take 4 (entries c)) refl,
-      text_last (codes "description") c.description (take 5 (entries c)) refl,
-      put_last (codes "durable_name") (string c.name) (take 6 (entries c)) refl,
-      text_last (codes "filter_subject") c.filter_subject (take 7 (entries c)) refl,
-      number_last (codes "idle_heartbeat") c.idle_heartbeat (take 8 (entries c)) refl,
-      put_last (codes "max_ack_pending") (limit c.max_ack_pending) (take 9 (entries c)) refl,
-      put_last (codes "max_deliver") (limit c.max_deliver) (take 10 (entries c)) refl,
-      put_last (codes "max_waiting") (count c.max_waiting) (take 11 (entries c)) refl,
-      put_last (codes "name") (string c.name) (take 12 (entries c)) refl,
-      start_last c.deliver_policy (take 13 (entries c)) refl refl,
-      put_last (codes "replay_policy") (string (codes "instant")) (take 15 (entries c)) refl,
-    ) refl
+    put_step (codes "replay_policy") (string (codes "instant")) (take 15 (entries c)) _ refl
+    (ap (with_start c.deliver_policy)
+    (put_step (codes "name") (string c.name) (take 12 (entries c)) _ refl
+    (put_step (codes "max_waiting") (count c.max_waiting) (take 11 (entries c)) _ refl
+    (put_step (codes "max_deliver") (limit c.max_deliver) (take 10 (entries c)) _ refl
+    (put_step (codes "max_ack_pending") (limit c.max_ack_pending) (take 9 (entries c)) _ refl
+    (number_step (codes "idle_heartbeat") c.idle_heartbeat (take 8 (entries c)) _ refl
+    (text_step (codes "filter_subject") c.filter_subject (take 7 (entries c)) _ refl
+    (put_step (codes "durable_name") (string c.name) (take 6 (entries c)) _ refl
+    (text_step (codes "description") c.description (take 5 (entries c)) _ refl
+    (text_step (codes "deliver_subject") c.deliver_subject (take 4 (entries c)) _ refl
+    (put_step (codes "deliver_policy") (string (deliver_policy_text c.deliver_policy)) (take 3 (entries c)) _ refl
+    (text_step (codes "deliver_group") c.deliver_group (take 2 (entries c)) _ refl refl))))))))))) ∙ start_last c.deliver_policy (take 13 (entries c)) refl refl)

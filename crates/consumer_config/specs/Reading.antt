@@ -122,16 +122,19 @@ start_checks fields =
 abbrev pub is_other : Bytes → Bytes → Bool
 is_other name text = not (is_empty text) && not (same text name)
 
+abbrev pub names_another : Bytes → Members → Bool
+names_another name fields = is_other name (word_in (codes "durable_name") fields) || is_other name (word_in (codes "name") fields)
+
 -- there is a durable name, and no name is another one
 abbrev pub name_checks : Bytes → Members → List Check
 name_checks name fields =
     (is_empty (word_in (codes "durable_name") fields), durable_name_required)
-    ∷ (is_other name (word_in (codes "durable_name") fields) || is_other name (word_in (codes "name") fields), name_mismatch)
+    ∷ (names_another name fields, name_mismatch)
     ∷ []
 
 -- the first refusal: of the fields, then of what is missing, and then of the names
 abbrev pub refusal_in : Bytes → Members → Option ApiError
-refusal_in name fields = first_refusal (checks fields table ++ start_checks fields ++ name_checks name fields)
+refusal_in name fields = first_refusal (checks fields table ++ (start_checks fields ++ name_checks name fields))
 
 -- ---- the values
 

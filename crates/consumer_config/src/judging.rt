@@ -7,7 +7,7 @@ ghost use Rattle.js_model.specs.Refusals.{first_refusal};
 ghost use Rattle.consumer_config.specs.declared.rule.Standing.TheVariants.{Held, LeftOut};
 ghost use Rattle.consumer_config.specs.Standings.{most, flag_standing, number_standing, text_standing, group_standing, heartbeat_standing};
 ghost use Rattle.consumer_config.specs.Table.{line, table};
-ghost use Rattle.consumer_config.specs.Reading.{judged, counted, time_standing, standing, starts, lacks_subject, judgement, checks, start_checks, name_checks, is_other};
+ghost use Rattle.consumer_config.specs.Reading.{judged, counted, word_in, time_standing, standing, starts, lacks_subject, judgement, checks, start_checks, name_checks, is_other, names_another};
 ghost use Rattle.consumer_config.specs.Answers.{Passes};
 
 use crate::fault::ConfigFault;
@@ -206,6 +206,23 @@ fn is_other(name: &[u8], text: &[u8]) -> bool
     !text.is_empty() && text != name
 }
 
+/// Whether the field holds another name than the consumer's.
+fn holds_another(fields: &Fields, field: &str, name: &[u8]) -> Result<bool, NoMemory>
+    ensures value { IfOk result (λ other. other ≡ is_other name.now (word_in field.now (members fields.now))) }
+{
+    let text = word(fields, field)?;
+    Ok(is_other(name, text.as_slice()))
+}
+
+/// Whether a name is given that is another one than the consumer's.
+fn names_another(fields: &Fields, name: &[u8]) -> Result<bool, NoMemory>
+    ensures value { IfOk result (λ other. other ≡ names_another name.now (members fields.now)) }
+{
+    let durable = holds_another(fields, "durable_name", name)?;
+    let short = holds_another(fields, "name", name)?;
+    Ok(durable || short)
+}
+
 /// Refuses a configuration without a durable name, or with another name than the consumer's.
 pub(crate) fn check_names(alloc: Global, fields: &Fields, name: &[u8]) -> Result<(), ConfigFault>
     ensures passes { Passes result (first_refusal (name_checks name.now (members fields.now))) }
@@ -214,8 +231,7 @@ pub(crate) fn check_names(alloc: Global, fields: &Fields, name: &[u8]) -> Result
     if durable.is_empty() {
         return Err(ConfigFault::Refused(durable_name_required(alloc)?));
     }
-    let short = word(fields, "name")?;
-    if is_other(name, durable.as_slice()) || is_other(name, short.as_slice()) {
+    if names_another(fields, name)? {
         return Err(ConfigFault::Refused(name_mismatch(alloc)?));
     }
     Ok(())

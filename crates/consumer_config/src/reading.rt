@@ -1,8 +1,9 @@
 //! Configurations as they are read.
 
-ghost use Rattle.std.specs.Prelude.{◌≡◌, IfOk, IsTrue, codes};
+ghost use Rattle.std.specs.Prelude.{◌≡◌, Some, IfOk, IsTrue, codes};
 ghost use Rattle.js_json.specs.Members.{members};
 ghost use Rattle.js_json.specs.Fields.{number_in};
+ghost use Rattle.js_json.specs.Kinds.{FitsWord};
 ghost use Rattle.js_model.specs.Configs.{is_consumer_config};
 ghost use Rattle.consumer_config.specs.Reading.{or_usual, usual_ack_wait, pending_of, limit_of, ack_policy_of, from_time, deliver_policy_of, deliver_policy_in, found, word_in, config_in, reading};
 ghost use Rattle.consumer_config.specs.Answers.{ReadsConfig};
@@ -32,13 +33,24 @@ fn or_usual(usual: u64, number: u64) -> u64
     if number == 0 { usual } else { number }
 }
 
-/// How many deliveries may wait: below 0 the consumer has no limit of its own.
+/// How many deliveries may wait by this number: below 0 the consumer has no limit of its own.
+fn pending(number: i128) -> Option<u64>
+    requires range { FitsWord number }
+    ensures value { result ≡ pending_of (Some number) }
+{
+    if number < 0 {
+        None
+    } else {
+        Some(or_usual(USUAL_PENDING, u64::try_from(number).unwrap_or(0)))
+    }
+}
+
+/// How many deliveries may wait.
 fn pending_in(fields: &Fields) -> Option<u64>
     ensures value { result ≡ pending_of (found (number_in (codes "max_ack_pending") (members fields.now))) }
 {
     match fields.number("max_ack_pending") {
-        Ok(Some(number)) if number < 0 => None,
-        Ok(Some(number)) => Some(or_usual(USUAL_PENDING, u64::try_from(number).unwrap_or(0))),
+        Ok(Some(number)) => pending(number),
         _ => Some(USUAL_PENDING),
     }
 }

@@ -23,5 +23,13 @@ returns c = record {
     c.in_ok-number.ensures.ok,
     c.in_ok-text.ensures.ok,
     c.new-made.ensures.empty,
+    c.as_slice-6.ensures,
+    c.as_slice-5.ensures,
+    c.as_slice-4.ensures,
+    c.as_slice-3.ensures,
+    c.as_slice-2.ensures,
+    c.deliver_policy_text.ensures.value,
+    c.as_slice.ensures,
+    c.ack_policy_text.ensures.value,
   ) (ap object (put_in_order c.args.config.now));
 }

@@ -10,6 +10,19 @@ returns c =
     record {
       value = rw (
         c.in_ok-ack_policy_in.ensures.value,
+        c.or_usual.ensures.value,
+        c.natural.ensures.value,
+        c.in_ok-word.ensures.value,
+        c.in_ok-deliver_policy_in.ensures.value,
+        c.in_ok-word-2.ensures.value,
+        c.in_ok-word-3.ensures.value,
+        c.in_ok-word-4.ensures.value,
+        c.natural-2.ensures.value,
+        c.pending_in.ensures.value,
+        c.limit.ensures.value,
+        c.natural-3.ensures.value,
+        c.or_usual-2.ensures.value,
+        c.natural-4.ensures.value,
         named,
       ) refl;
     }
