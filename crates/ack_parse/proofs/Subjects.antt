@@ -1,8 +1,10 @@
 -- A subject is read as a delivery exactly if it spells it.
-use Rattle.std.proofs.Common.{◌≡◌, ℕ, Bool, true, false, ◌&&◌, List, [], ◌∷◌, Option, Some, None, Result, Ok, Err, nat_lt, length, codes, refl, sym, ap, ◌∙◌, subst, if◌then◌else◌}
+use Rattle.std.proofs.Common.{◌≡◌, ℕ, Bool, true, false, ◌&&◌, List, [], ◌∷◌, Option, Some, None, Result, Ok, Err, nat_lt, ◌^◌, length, codes, refl, sym, ap, ◌∙◌, subst, if◌then◌else◌}
 use Rattle.std.specs.Prelude.{◌↔◌, IsOk}
 use Rattle.js_base.specs.Bytes.{Bytes, same}
-use Rattle.js_base.specs.Decimal.{number_of}
+use Rattle.js_base.specs.Decimal.{number_of, small_or, value_of, first_bad as no_digit}
+use Rattle.js_base.specs.declared.decimal.DecFault.TheVariants.{TooBig}
+use Rattle.js_model.specs.Configs.{is_number}
 use Rattle.js_base.specs.Names.{name_of, unless_bad, first_bad}
 use Rattle.js_base.specs.declared.name.NameFault.TheVariants.{TooLong}
 use Rattle.js_base.specs.Subjects.{tokens}
@@ -37,7 +39,7 @@ number_back place (Ok m) n h = cc
 number_back place (Err fault) n h = absurd (cc)
 
 is_ok : {A E : Type 0} (r : Result A E) (a : A) → r ≡ Ok a → IsOk r
-is_ok (Ok b) a h = tt
+is_ok (Ok b) a h = refl
 is_ok (Err e) a h = absurd (cc)
 
 -- ---- names
@@ -90,7 +92,7 @@ are stream consumer count sequence consumer_sequence time pending d h =
 
 number_read : (place : ℕ) (r : Result ℕ DecFault) → IsOk r → (n : ℕ) × (number_or place r ≡ Ok n)
 number_read place (Ok n) h = (n, refl)
-number_read place (Err fault) h = absurd (h)
+number_read place (Err fault) h = absurd (cc)
 
 they_are : (d : Delivered) (count sequence consumer_sequence time pending : Bytes) → Are d.stream d.consumer count sequence consumer_sequence time pending d
     → delivered_of d.stream d.consumer count sequence consumer_sequence time pending ≡ Ok d
@@ -166,6 +168,23 @@ from_grammar subject d s =
       pending_is = s.pending_is;
     } in
     rw (s.spelled) (they_are d s.count s.sequence s.consumer_sequence s.time s.pending a)
+
+-- what is read of a subject has names and a number that are valid
+pub delivered_is : (subject : Bytes) (d : Delivered) → subject_of subject ≡ Ok d → SpellsSubject subject d
+unfolding subject_of
+delivered_is subject d h = to_grammar subject d (tokens subject) refl h
+
+small_number : (bad : Option ℕ) (value n : ℕ) → small_or bad value ≡ Ok n → is_number n ≡ true
+small_number (Some at) value n h = absurd (cc)
+small_number None value n h = by (nat_lt value (2 ^ 62)) refl h
+  where
+    by : (small : Bool) → nat_lt value (2 ^ 62) ≡ small → (if small then Ok value else Err TooBig) ≡ Ok n → is_number n ≡ true
+    by true e h = let same : value ≡ n = cc in subst (λ (m : ℕ). nat_lt m (2 ^ 62) ≡ true) same e
+    by false e h = absurd (cc)
+
+pub small : (text : Bytes) (n : ℕ) → number_of text ≡ Ok n → is_number n ≡ true
+small [] n h = absurd (cc)
+small (byte ∷ more) n h = small_number (no_digit (byte ∷ more)) (value_of (byte ∷ more)) n h
 
 pub law_subject : LawSubject
 unfolding subject_of

@@ -1,6 +1,6 @@
 -- The subjects to which deliveries are acknowledged, by JetStream's acknowledgements:
 -- `$JS.ACK.<stream>.<consumer>.<delivered>.<stream sequence>.<consumer sequence>.<time>.<pending>`.
-use Rattle.std.specs.Prelude.{ℕ, ◌&&◌, List, [], ◌∷◌, codes, Result, Ok, Err, if◌then◌else◌}
+use Rattle.std.specs.Prelude.{ℕ, Bool, ◌&&◌, List, [], ◌∷◌, codes, Result, Ok, Err, if◌then◌else◌}
 use Rattle.js_base.specs.Bytes.{Bytes, same}
 use Rattle.js_base.specs.Decimal.{number_of}
 use Rattle.js_base.specs.Names.{name_of}
@@ -40,10 +40,13 @@ delivered_of stream consumer count sequence consumer_sequence time pending = do
   _ ← number_at 8 pending
   Ok (record { stream = stream; consumer = consumer; seq = seq })
 
+abbrev pub is_ack : Bytes → Bytes → Bool
+is_ack first second = same first (codes "$JS") && same second (codes "ACK")
+
 -- nine tokens, of which the first two are `$JS` and `ACK`
 abbrev pub read_tokens : List Bytes → Result Delivered AckFault
-read_tokens (js ∷ ack ∷ stream ∷ consumer ∷ count ∷ sequence ∷ consumer_sequence ∷ time ∷ pending ∷ []) =
-    if same js (codes "$JS") && same ack (codes "ACK") then delivered_of stream consumer count sequence consumer_sequence time pending else Err NotAck
+read_tokens (first ∷ second ∷ stream ∷ consumer ∷ count ∷ sequence ∷ consumer_sequence ∷ time ∷ pending ∷ []) =
+    if is_ack first second then delivered_of stream consumer count sequence consumer_sequence time pending else Err NotAck
 read_tokens _ = Err NotAck
 
 -- what is acknowledged at the subject

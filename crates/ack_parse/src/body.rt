@@ -1,7 +1,9 @@
 //! The bodies of acknowledgements.
 
-ghost use Rattle.std.specs.Prelude.{◌≡◌, option_map, IfOk};
+ghost use Rattle.std.specs.Prelude.{◌≡◌, option_map, IfOk, IfSome, IsTrue};
 ghost use Rattle.js_json.specs.Members.{members};
+ghost use Rattle.js_model.specs.Configs.{is_number};
+ghost use Rattle.js_model.specs.Proper.{is_proper_kind};
 ghost use Rattle.ack_parse.specs.Bodies.{behind, plain_kind, delay_of, nak_kind, next_kind, kind_of};
 
 use crate::ask::{just_one, natural_in, object_in, read_ask};
@@ -23,6 +25,7 @@ fn behind<'a>(words: &[u8], body: &'a [u8]) -> Option<&'a [u8]>
 /// What a body says without a number: done, in progress, or never again, for which a reason may stand there.
 fn plain_kind(body: &[u8]) -> Option<AckKind>
     ensures value { result ≡ plain_kind body.now }
+    ensures proper { IfSome result (λ kind. IsTrue (is_proper_kind kind)) }
 {
     if body.is_empty() || body == b"+ACK".as_slice() {
         Some(AckKind::Ack)
@@ -39,6 +42,7 @@ fn plain_kind(body: &[u8]) -> Option<AckKind>
 #[tactic(auto, unfolding(crate::specs::Bodies::delay_of))]
 fn delay_of(alloc: Global, text: &[u8]) -> Result<Option<u64>, NoMemory>
     ensures value { IfOk result (λ delay. delay ≡ delay_of text.now) }
+    ensures small { IfOk result (λ delay. IfSome delay (λ n. IsTrue (is_number n))) }
 {
     match object_in(alloc, text)? {
         Some(fields) => Ok(natural_in(&fields, "delay")),
@@ -49,6 +53,7 @@ fn delay_of(alloc: Global, text: &[u8]) -> Result<Option<u64>, NoMemory>
 /// What a body says that asks for the message once more.
 fn nak_kind(alloc: Global, body: &[u8]) -> Result<Option<AckKind>, NoMemory>
     ensures value { IfOk result (λ kind. kind ≡ nak_kind body.now) }
+    ensures proper { IfOk result (λ kind. IfSome kind (λ kind. IsTrue (is_proper_kind kind))) }
 {
     if body == b"-NAK".as_slice() {
         return Ok(Some(AckKind::Nak(0)));
@@ -62,6 +67,7 @@ fn nak_kind(alloc: Global, body: &[u8]) -> Result<Option<AckKind>, NoMemory>
 /// What a body says that asks for further messages.
 fn next_kind(alloc: Global, body: &[u8]) -> Result<Option<AckKind>, NoMemory>
     ensures value { IfOk result (λ kind. kind ≡ next_kind body.now) }
+    ensures proper { IfOk result (λ kind. IfSome kind (λ kind. IsTrue (is_proper_kind kind))) }
 {
     if body == b"+NXT".as_slice() {
         return Ok(Some(AckKind::Next(just_one())));
@@ -76,6 +82,7 @@ fn next_kind(alloc: Global, body: &[u8]) -> Result<Option<AckKind>, NoMemory>
 #[tactic(auto, unfolding(crate::specs::Bodies::kind_of))]
 pub(crate) fn kind_of(alloc: Global, body: &[u8]) -> Result<Option<AckKind>, NoMemory>
     ensures value { IfOk result (λ kind. kind ≡ kind_of body.now) }
+    ensures proper { IfOk result (λ kind. IfSome kind (λ kind. IsTrue (is_proper_kind kind))) }
 {
     if let Some(kind) = plain_kind(body) {
         return Ok(Some(kind));

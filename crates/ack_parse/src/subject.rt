@@ -3,7 +3,7 @@
 ghost use Rattle.std.specs.Prelude.{◌≡◌, map, IfOk};
 ghost use Rattle.js_base.specs.Subjects.{tokens};
 ghost use Rattle.ack_parse.specs.Answers.{Reads, Named};
-ghost use Rattle.ack_parse.specs.Subjects.{name_at, number_at, delivered_of, read_tokens, subject_of};
+ghost use Rattle.ack_parse.specs.Subjects.{name_at, number_at, is_ack, delivered_of, read_tokens, subject_of};
 
 use crate::fault::AckFault;
 use js_base::{Blob, Name, NameFault, NoMemory, read_decimal};
@@ -34,7 +34,7 @@ fn name_at(alloc: Global, place: usize, token: &[u8]) -> Result<Blob, AckFault>
     ensures reading { Reads result (name_at place token.now) }
 {
     match Name::read(alloc, token) {
-        Ok(name) => Ok(name.as_blob().clone()?),
+        Ok(name) => name.as_blob().clone().map_err(|_| AckFault::NoMemory),
         Err(NameFault::NoMemory) => Err(AckFault::NoMemory),
         Err(_) => Err(AckFault::BadToken(place)),
     }
@@ -49,7 +49,7 @@ fn number_at(place: usize, token: &[u8]) -> Result<u64, AckFault>
 
 /// What is acknowledged, by the seven tokens behind the first two. Four of the numbers are read alone.
 #[tactic(auto, unfolding(crate::specs::Subjects::delivered_of))]
-fn delivered(alloc: Global, tokens: &Tokens) -> Result<Delivered, AckFault>
+fn read_delivered(alloc: Global, tokens: &Tokens) -> Result<Delivered, AckFault>
     ensures reading { Reads result (delivered_of tokens.now.stream.now tokens.now.consumer.now tokens.now.count.now tokens.now.sequence.now tokens.now.consumer_sequence.now tokens.now.time.now tokens.now.pending.now) }
 {
     let stream = name_at(alloc, 2, tokens.stream)?;
@@ -73,26 +73,33 @@ fn tokens_of(alloc: Global, subject: &[u8]) -> Result<Vec<&[u8]>, AllocError>
     subject.split(|byte| *byte == b'.').collect(alloc)
 }
 
+/// Whether the first two tokens are right.
+fn is_ack(first: &[u8], second: &[u8]) -> bool
+    ensures value { result ≡ is_ack first.now second.now }
+{
+    first == b"$JS".as_slice() && second == b"ACK".as_slice()
+}
+
 /// The tokens of a subject to which deliveries are acknowledged.
+#[tactic(auto, using(crate::proofs::Tokens::nine, crate::proofs::Tokens::other_words, crate::proofs::Tokens::other_length))]
 fn named<'a>(tokens: &[&'a [u8]]) -> Option<Tokens<'a>>
     ensures named { Named result (map (λ token. token.now) tokens.now) }
 {
-    match tokens {
-        [js, ack, stream, consumer, count, sequence, consumer_sequence, time, pending]
-            if *js == b"$JS".as_slice() && *ack == b"ACK".as_slice() =>
-        {
-            Some(Tokens {
-                stream: *stream,
-                consumer: *consumer,
-                count: *count,
-                sequence: *sequence,
-                consumer_sequence: *consumer_sequence,
-                time: *time,
-                pending: *pending,
-            })
-        }
-        _ => None,
+    if tokens.len() != 9 {
+        return None;
     }
+    if !is_ack(tokens[0], tokens[1]) {
+        return None;
+    }
+    Some(Tokens {
+        stream: tokens[2],
+        consumer: tokens[3],
+        count: tokens[4],
+        sequence: tokens[5],
+        consumer_sequence: tokens[6],
+        time: tokens[7],
+        pending: tokens[8],
+    })
 }
 
 /// What is acknowledged at the subject.
@@ -104,7 +111,7 @@ pub(crate) fn delivered_at(alloc: Global, subject: &[u8]) -> Result<Delivered, A
         return Err(AckFault::NoMemory);
     };
     match named(tokens.as_slice()) {
-        Some(tokens) => delivered(alloc, &tokens),
+        Some(tokens) => read_delivered(alloc, &tokens),
         None => Err(AckFault::NotAck),
     }
 }
