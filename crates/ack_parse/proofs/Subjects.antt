@@ -1,6 +1,6 @@
 -- A subject is read as a delivery exactly if it spells it.
 use Rattle.std.proofs.Common.{◌≡◌, ℕ, Bool, true, false, ◌&&◌, List, [], ◌∷◌, Option, Some, None, Result, Ok, Err, nat_lt, ◌^◌, length, codes, refl, sym, ap, ◌∙◌, subst, if◌then◌else◌}
-use Rattle.std.specs.Prelude.{◌↔◌, IsOk}
+use Rattle.std.specs.Prelude.{IsOk}
 use Rattle.js_base.specs.Bytes.{Bytes, same}
 use Rattle.js_base.specs.Decimal.{number_of, small_or, value_of, first_bad as no_digit}
 use Rattle.js_base.specs.declared.decimal.DecFault.TheVariants.{TooBig}
@@ -10,7 +10,7 @@ use Rattle.js_base.specs.declared.name.NameFault.TheVariants.{TooLong}
 use Rattle.js_base.specs.Subjects.{tokens}
 use Rattle.js_base.specs.declared.decimal.DecFault.{DecFault}
 use Rattle.js_base.specs.declared.name.NameFault.{NameFault}
-use Rattle.js_base.proofs.Meeting.{same_is, same_self}
+use Rattle.js_base.proofs.Meeting.{same_is}
 use Rattle.ack_parse.specs.Steps.{◌>>=◌}
 use Rattle.ack_parse.specs.Subjects.{name_or, number_or, name_at, number_at, delivered_of, read_tokens, subject_of}
 use Rattle.ack_parse.specs.Grammar.{SpellsSubject}

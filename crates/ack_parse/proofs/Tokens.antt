@@ -1,5 +1,5 @@
 -- The tokens of a subject in a slice: nine of which the first two are right, or not.
-use Rattle.std.proofs.Common.{◌≡◌, ◌≢◌, ℕ, Bool, true, false, List, [], ◌∷◌, map, length, slice_index_or, Bor, Ok, Err, codes, refl, ap, ◌∙◌, if◌then◌else◌, arith}
+use Rattle.std.proofs.Common.{◌≡◌, ◌≢◌, Bool, true, false, List, [], ◌∷◌, map, length, slice_index_or, Bor, Err, refl, ◌∙◌, if◌then◌else◌, arith}
 use Rattle.js_base.specs.Bytes.{Bytes}
 use Rattle.ack_parse.specs.Subjects.{is_ack, delivered_of, read_tokens}
 use Rattle.ack_parse.specs.declared.fault.AckFault.TheVariants.{NotAck}
@@ -23,9 +23,9 @@ other_length (_ ∷ _ ∷ _ ∷ _ ∷ _ ∷ _ ∷ _ ∷ _ ∷ _ ∷ _ ∷ more) 
 -- nine tokens are read by the words that the first two should be
 by_words : (d : Bor Bytes) (xs : List (Bor Bytes)) → length xs ≡ 9
     → read_tokens (texts xs) ≡ (
-      if is_ack (slice_index_or xs 0 d).now (slice_index_or xs 1 d).now
-      then delivered_of (slice_index_or xs 2 d).now (slice_index_or xs 3 d).now (slice_index_or xs 4 d).now (slice_index_or xs 5 d).now (slice_index_or xs 6 d).now (slice_index_or xs 7 d).now (slice_index_or xs 8 d).now
-      else Err NotAck
+    if is_ack (slice_index_or xs 0 d).now (slice_index_or xs 1 d).now
+    then delivered_of (slice_index_or xs 2 d).now (slice_index_or xs 3 d).now (slice_index_or xs 4 d).now (slice_index_or xs 5 d).now (slice_index_or xs 6 d).now (slice_index_or xs 7 d).now (slice_index_or xs 8 d).now
+    else Err NotAck
     )
 by_words d [] h = absurd (omega arith)
 by_words d (_ ∷ []) h = absurd (omega arith)

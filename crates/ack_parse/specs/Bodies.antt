@@ -1,5 +1,5 @@
 -- What the body of an acknowledgement says, by JetStream's acknowledgement bodies.
-use Rattle.std.specs.Prelude.{ℕ, nat_eq, ◌||◌, Bool, drop, length, codes, Option, Some, None, option_map, option_and_then, if◌then◌else◌}
+use Rattle.std.specs.Prelude.{ℕ, nat_eq, ◌||◌, drop, length, codes, Option, Some, None, option_map, option_and_then, if◌then◌else◌}
 use Rattle.std.specs.List.{starts_with}
 use Rattle.std.specs.Option.{option_or}
 use Rattle.js_base.specs.Bytes.{Bytes, is_empty, same}

@@ -1,7 +1,6 @@
 -- The laws of acknowledgements: what is read is what the grammar says, and the subject that a delivery has is read as that delivery's.
-use Rattle.std.specs.Prelude.{◌≡◌, ◌↔◌, ◌^◌, ◌<◌, ℕ, ◌++◌, codes, decimal, Some, Ok}
+use Rattle.std.specs.Prelude.{◌≡◌, ◌↔◌, Some, Ok}
 use Rattle.js_base.specs.Bytes.{Bytes}
-use Rattle.js_base.specs.Names.{name_of}
 use Rattle.js_model.specs.declared.ack.AckKind.{AckKind}
 use Rattle.ack_parse.specs.Bodies.{kind_of}
 use Rattle.ack_parse.specs.Grammar.{SpellsSubject, Says}

@@ -8,7 +8,6 @@ use Rattle.ack_parse.specs.Subjects.{subject_of}
 use Rattle.ack_parse.specs.Bodies.{kind_of}
 use Rattle.ack_parse.specs.declared.fault.AckFault.{AckFault}
 use Rattle.ack_parse.specs.declared.fault.AckFault.TheVariants.{BadBody}
-use Rattle.ack_parse.specs.declared.subject.Delivered.{Delivered}
 
 abbrev pub or_bad_body : Option AckKind → Result AckKind AckFault
 or_bad_body None = Err BadBody

@@ -1,4 +1,4 @@
-use Rattle.std.proofs.Common.{◌≡◌, rules}
+use Rattle.std.proofs.Common.{rules}
 use Rattle.ack_parse.proofs.Subjects.{delivered_is, small}
 use Rattle.ack_parse.proofs.reading.read_ack.Goals as goal
 
