@@ -1,5 +1,5 @@
 -- Two objects whose fields are the same are read as the same configuration.
-use Rattle.std.proofs.Common.{◌≡◌, List, [], ◌∷◌, ◌++◌, Bool, false, Option, Some, None, codes, refl, ap}
+use Rattle.std.proofs.Common.{◌≡◌, List, [], ◌∷◌, ◌++◌, Bool, false, Option, Some, None, codes, refl}
 use Rattle.std.specs.Prelude.{option_and_then, option_map, unwrap_or}
 use Rattle.serde_json.specs.Data.{Data, null, boolean, number, string, array, object, Members}
 use Rattle.serde_json.specs.Find.{get_member}
@@ -11,7 +11,7 @@ use Rattle.js_model.specs.declared.consumer_config.ConsumerConfig.{ConsumerConfi
 use Rattle.consumer_config.specs.declared.rule.Rule.{Rule}
 use Rattle.consumer_config.specs.declared.rule.Rule.TheVariants.{Flag, Text, Number, Count, Nothing, Group, Heartbeat, StartSequence, StartTime}
 use Rattle.consumer_config.specs.Table.{Line, table}
-use Rattle.consumer_config.specs.Reading.{standing, judgement, check, checks, start_checks, name_checks, config_in, config_unless, reading}
+use Rattle.consumer_config.specs.Reading.{standing, checks, start_checks, name_checks, config_in, config_unless, reading}
 
 -- each field of the one is that of the other
 abbrev pub Agrees : Members → Members → Type 0

@@ -1,5 +1,5 @@
 -- What is read of a field that is not refused.
-use Rattle.std.proofs.Common.{◌≡◌, ℕ, zero, suc, ◌-◌, ◌^◌, ℤ, pos, negsuc, Bool, true, false, ◌&&◌, ◌||◌, not, ◌==◌, [], Option, Some, None, Result, Ok, Err, nat_lt, nat_le, is_none, codes, refl, sym, ◌∙◌, ap, subst, if◌then◌else◌, arith}
+use Rattle.std.proofs.Common.{◌≡◌, ℕ, zero, suc, ℤ, pos, negsuc, Bool, true, false, ◌&&◌, ◌||◌, not, ◌==◌, [], Option, Some, None, Result, Ok, Err, nat_lt, nat_le, is_none, codes, refl, sym, ◌∙◌, ap, if◌then◌else◌, arith}
 use Rattle.std.specs.Prelude.{unwrap_or}
 use Rattle.std.specs.Str.{is_utf8, chars}
 use Rattle.std.proofs.lemmas.Bool.{and_parts, and_from, true≢false}
@@ -12,7 +12,7 @@ use Rattle.js_model.specs.declared.consumer_config.DeliverPolicy.TheVariants as 
 use Rattle.consumer_config.specs.declared.rule.Standing.TheVariants.{Held}
 use Rattle.consumer_config.specs.declared.rule.TextRule.TheVariants as texts
 use Rattle.consumer_config.specs.Standings.{most, allowed, within, text_standing, number_standing, group_standing, heartbeat_standing}
-use Rattle.consumer_config.specs.Reading.{found, natural_or_0, is_unsaid, judged, is_refused, or_usual, usual_ack_wait, pending_of, limit_of, from_time, deliver_policy_of}
+use Rattle.consumer_config.specs.Reading.{found, natural_or_0, is_unsaid, judged, is_refused, or_usual, pending_of, limit_of, from_time, deliver_policy_of}
 
 is_allowed : (may : Bool) → is_refused (allowed may) ≡ false → may ≡ true
 is_allowed true h = refl

@@ -1,5 +1,5 @@
 -- The parts of a consumer's configuration, and that each can be printed.
-use Rattle.std.proofs.Common.{◌≡◌, ◌-◌, ◌^◌, Bool, true, false, ◌&&◌, ◌||◌, ◌==◌, not, [], ◌∷◌, nat_lt, nat_le, length, IsUtf8, IsTrue, codes, refl}
+use Rattle.std.proofs.Common.{◌≡◌, ◌-◌, ◌^◌, true, ◌&&◌, ◌||◌, ◌==◌, not, [], ◌∷◌, nat_lt, nat_le, length, IsUtf8, IsTrue, refl}
 use Rattle.std.specs.List.{list_all}
 use Rattle.std.specs.Str.{is_utf8, chars}
 use Rattle.std.proofs.lemmas.Bool.{and_parts}
@@ -7,7 +7,7 @@ use Rattle.std.proofs.lemmas.Str.{IsUtf8-from_is_utf8}
 use Rattle.js_base.specs.Bytes.{Bytes, is_empty}
 use Rattle.js_base.specs.ServerSubjects.{is_own}
 use Rattle.js_base.specs.Subjects.{tokens, is_pattern, is_plain, is_pattern_text, is_subject_text, is_spelled, is_token_byte}
-use Rattle.js_model.specs.Configs.{is_name, is_limit, is_number, is_description, is_start, is_queue_byte, is_queue_name, is_deliver_subject, is_consumer_config}
+use Rattle.js_model.specs.Configs.{is_name, is_limit, is_number, is_description, is_start, is_queue_name, is_deliver_subject, is_consumer_config}
 use Rattle.js_model.specs.declared.consumer_config.ConsumerConfig.{ConsumerConfig}
 use Rattle.js_model.proofs.NameTexts.{name_utf8}
 use Rattle.consumer_config.specs.Printing.{IsPrinted}

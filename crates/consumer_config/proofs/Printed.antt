@@ -1,21 +1,19 @@
 -- What is printed of a configuration is read as the same.
-use Rattle.std.proofs.Common.{◌≡◌, ℕ, zero, suc, ◌^◌, ◌-◌, ◌<◌, ℤ, pos, negsuc, List, [], ◌∷◌, Bool, true, false, ◌&&◌, ◌||◌, ◌==◌, not, nat_lt, nat_le, length, drop, IsTrue, Option, Some, None, Result, Ok, Err, codes, refl, sym, ap, ◌∙◌, subst, if◌then◌else◌, is_none, arith}
-use Rattle.std.specs.Prelude.{unwrap_or, option_and_then}
-use Rattle.std.specs.Str.{is_utf8}
-use Rattle.std.proofs.lemmas.Bool.{and_parts, and_from, true≢false}
+use Rattle.std.proofs.Common.{◌≡◌, ℕ, zero, suc, ◌^◌, ◌<◌, ℤ, pos, negsuc, [], ◌∷◌, Bool, true, false, ◌&&◌, ◌||◌, ◌==◌, not, nat_lt, nat_le, drop, IsTrue, Option, Some, None, Result, Ok, codes, refl, sym, ap, ◌∙◌, if◌then◌else◌, is_none, arith}
+use Rattle.std.specs.Prelude.{unwrap_or}
+use Rattle.std.proofs.lemmas.Bool.{and_parts, true≢false}
 use Rattle.std.proofs.lemmas.Bool.Decides.{nat_tests}
-use Rattle.serde_json.specs.Data.{Data, Members}
+use Rattle.serde_json.specs.Data.{Members}
 use Rattle.serde_json.specs.Find.{as_str}
 use Rattle.js_base.specs.Bytes.{Bytes, is_empty, same}
 use Rattle.js_base.specs.Subjects.{is_pattern_text}
 use Rattle.js_base.proofs.Meeting.{same_self}
-use Rattle.js_json.specs.Building.{count, limit}
+use Rattle.js_json.specs.Building.{limit}
 use Rattle.js_json.specs.Kinds.{as_whole, as_time}
-use Rattle.js_json.specs.Times.{time_text}
 use Rattle.js_json.specs.Fields.{taken, unless_null, flag_in, number_in, text_in, time_in, is_number as is_numeral, is_given}
 use Rattle.js_json.specs.declared.fault.JsonFault.{JsonFault}
 use Rattle.js_json.proofs.Written.{written_is_read}
-use Rattle.js_model.specs.Configs.{is_name, is_limit, is_number, is_description, is_start, is_queue_name, is_deliver_subject, is_consumer_config}
+use Rattle.js_model.specs.Configs.{is_limit, is_number, is_description, is_start, is_queue_name, is_deliver_subject, is_consumer_config}
 use Rattle.js_model.specs.Refusals.{first_refusal}
 use Rattle.js_model.specs.declared.consumer_config.AckPolicy.{AckPolicy}
 use Rattle.js_model.specs.declared.consumer_config.AckPolicy.TheVariants as acks
@@ -25,9 +23,9 @@ use Rattle.js_model.specs.declared.consumer_config.ConsumerConfig.{ConsumerConfi
 use Rattle.js_model.proofs.NameTexts.{name_parts}
 use Rattle.consumer_config.specs.declared.rule.Standing.TheVariants.{Held}
 use Rattle.consumer_config.specs.declared.rule.TextRule.TheVariants as texts
-use Rattle.consumer_config.specs.Standings.{most, within, number_standing, text_standing, group_standing, heartbeat_standing}
+use Rattle.consumer_config.specs.Standings.{most, number_standing, text_standing, group_standing, heartbeat_standing}
 use Rattle.consumer_config.specs.Table.{table}
-use Rattle.consumer_config.specs.Reading.{found, is_unsaid, is_other, judged, time_standing, is_refused, natural_or_0, or_usual, usual_ack_wait, pending_of, limit_of, ack_policy_of, deliver_policy_of, start_checks, name_checks, reading, standing, config_in}
+use Rattle.consumer_config.specs.Reading.{found, is_unsaid, judged, time_standing, is_refused, natural_or_0, or_usual, usual_ack_wait, pending_of, limit_of, ack_policy_of, deliver_policy_of, start_checks, name_checks, reading, standing, config_in}
 use Rattle.consumer_config.specs.Printing.{ack_policy_text, deliver_policy_text, text_shown, number_shown, sequence_shown, time_shown, entries, object_with, printed}
 use Rattle.consumer_config.proofs.Fields.{suc_not_0}
 use Rattle.consumer_config.proofs.Refusing.{read_whole}
@@ -205,8 +203,7 @@ shown c = with_nulls (entries c)
 passing : (c : ConsumerConfig) → ConfigParts c → Passing (shown c) table
 unfolding standing table flag_in number_in text_in time_in is_numeral is_given
 passing c p =
-    let fields = shown c in
-    (
+    let fields = shown c in (
       ack_stands c.ack_policy,
       (
         counted most c.ack_wait (below c.ack_wait p.wait),

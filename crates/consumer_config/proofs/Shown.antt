@@ -1,15 +1,15 @@
 -- The fields of a printed configuration: one that is not shown is read as one that is null.
-use Rattle.std.proofs.Common.{◌≡◌, Bool, true, false, ◌&&◌, not, List, [], ◌∷◌, Option, Some, None, Ordering, Less, Equal, Greater, nat_cmp, is_eq, codes, refl, ap, sym, subst, ◌∙◌}
-use Rattle.std.specs.Prelude.{option_and_then, unwrap_or}
+use Rattle.std.proofs.Common.{◌≡◌, Bool, true, false, ◌&&◌, List, [], ◌∷◌, Option, Some, None, Ordering, Less, Equal, Greater, nat_cmp, is_eq, refl, ap, sym, subst, ◌∙◌}
+use Rattle.std.specs.Prelude.{unwrap_or}
 use Rattle.std.specs.Ordering.{match_ordering}
 use Rattle.std.specs.Cmp.Lexicographic.{slice_cmp}
 use Rattle.std.proofs.lemmas.Bool.{and_parts}
 use Rattle.std.proofs.lemmas.Map.Text.{is_eq-slice_cmp}
 use Rattle.serde_json.specs.Data.{Data, null, Members, no_members, member}
 use Rattle.serde_json.specs.Find.{get_member}
-use Rattle.js_base.specs.Bytes.{Bytes, same}
+use Rattle.js_base.specs.Bytes.{Bytes}
 use Rattle.js_base.proofs.Meeting.{same_is}
-use Rattle.js_json.specs.Fields.{field, unless_null}
+use Rattle.js_json.specs.Fields.{field}
 use Rattle.consumer_config.specs.Printing.{object_with}
 use Rattle.consumer_config.proofs.Agreeing.{Agrees}
 

@@ -1,24 +1,21 @@
 -- What is read is a configuration.
-use Rattle.std.proofs.Common.{◌≡◌, ℕ, zero, suc, ◌-◌, ◌^◌, ◌<◌, pos, negsuc, Bool, true, false, ◌&&◌, ◌||◌, not, ◌==◌, List, [], ◌∷◌, Option, Some, None, Result, Ok, Err, nat_lt, nat_le, length, is_none, codes, IsTrue, refl, sym, ap, ◌∙◌, subst, if◌then◌else◌, arith}
-use Rattle.std.specs.Prelude.{option_and_then}
+use Rattle.std.proofs.Common.{◌≡◌, ℕ, zero, suc, ◌^◌, ◌<◌, pos, negsuc, Bool, true, false, ◌&&◌, ◌||◌, not, ◌==◌, List, [], ◌∷◌, Option, Some, None, Ok, Err, nat_lt, nat_le, length, is_none, codes, IsTrue, refl, sym, ap, ◌∙◌, subst, if◌then◌else◌, arith}
 use Rattle.std.proofs.lemmas.Bool.{and_from}
 use Rattle.std.proofs.lemmas.Bool.Decides.{nat_tests}
 use Rattle.serde_json.specs.Data.{Data, null, boolean, number, string, array, object, Members}
-use Rattle.js_base.specs.Bytes.{Bytes, is_empty, same}
+use Rattle.js_base.specs.Bytes.{Bytes, is_empty}
 use Rattle.js_base.specs.Names.{name_of, unless_bad, first_bad, is_name_byte}
 use Rattle.js_base.specs.declared.name.NameFault.TheVariants.{TooLong}
 use Rattle.js_base.proofs.Places.{none_fails}
-use Rattle.js_json.specs.declared.fault.JsonFault.{JsonFault}
 use Rattle.js_json.specs.Kinds.{as_time}
 use Rattle.js_json.specs.TimeReading.{time_at}
 use Rattle.js_json.specs.Fields.{field, taken, or_bad, number_in, text_in, time_in}
 use Rattle.js_json.proofs.Moments.{time_read}
 use Rattle.js_model.specs.Configs.{is_name, is_number, is_queue_name, is_start, is_consumer_config}
 use Rattle.js_model.specs.declared.consumer_config.ConsumerConfig.{ConsumerConfig}
-use Rattle.consumer_config.specs.Standings.{most, group_standing, heartbeat_standing}
+use Rattle.consumer_config.specs.Standings.{most}
 use Rattle.consumer_config.specs.Table.{Line, table}
-use Rattle.consumer_config.specs.Refusals.{start_missing}
-use Rattle.consumer_config.specs.Reading.{check, standing, found, starts, lacks_subject, word_in, natural_in, is_refused, judged, or_usual, usual_ack_wait, deliver_policy_in, config_in, reading}
+use Rattle.consumer_config.specs.Reading.{check, standing, found, starts, lacks_subject, word_in, natural_in, or_usual, usual_ack_wait, deliver_policy_in, config_in, reading}
 use Rattle.consumer_config.proofs.Passing.{Passing, both_pass, is_read}
 use Rattle.consumer_config.proofs.Fields.{described, filtered, directed, unsaid, grouped, counted, small, usual, usual_within, limited, pended, IsHeartbeat, beaten, start_seq, start_time, started}
 

@@ -1,5 +1,5 @@
 -- The fields of a consumer's configuration in ascending order of their names, by JetStream's consumer configuration, with what each may hold.
-use Rattle.std.specs.Prelude.{ℤ, pos, negsuc, List, [], ◌∷◌, codes}
+use Rattle.std.specs.Prelude.{pos, negsuc, List, [], ◌∷◌, codes}
 use Rattle.std.specs.Borrow.{Bor}
 use Rattle.js_base.specs.Bytes.{Bytes}
 use Rattle.consumer_config.specs.declared.rule.Rule.{Rule}

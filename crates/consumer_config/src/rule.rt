@@ -67,14 +67,22 @@ pub(crate) const MOST: i128 = (1 << 62) - 1;
 fn allowed(may: bool) -> Standing
     ensures value { result ≡ allowed may }
 {
-    if may { Standing::Held } else { Standing::Invalid }
+    if may {
+        Standing::Held
+    } else {
+        Standing::Invalid
+    }
 }
 
 /// The standing of a flag.
 pub(crate) fn flag_standing(flag: bool) -> Standing
     ensures value { result ≡ flag_standing flag }
 {
-    if flag { Standing::LeftOut } else { Standing::Held }
+    if flag {
+        Standing::LeftOut
+    } else {
+        Standing::Held
+    }
 }
 
 /// Whether the number is one from `low` to `high`.
