@@ -1,7 +1,7 @@
 -- What a call answered, and the reading that its definition gives: they are the same, unless memory ran out.
 use Rattle.std.specs.Prelude.{◌≡◌, List, Option, Some, None, Result, Ok, Err}
 use Rattle.js_base.specs.Bytes.{Bytes}
-use Rattle.ack_parse.specs.Subjects.{delivered_of, read_tokens}
+use Rattle.ack_parse.specs.Subjects.{delivered_by, read_tokens}
 use Rattle.ack_parse.specs.declared.fault.AckFault.{AckFault}
 use Rattle.ack_parse.specs.declared.fault.AckFault.TheVariants.{NotAck, BadToken, BadBody, NoMemory}
 use Rattle.ack_parse.specs.declared.subject.Tokens.{Tokens}
@@ -15,5 +15,5 @@ Reads (Err NoMemory) reading = Unit {0}
 
 -- the tokens are nine, of which the first two are right, or they are not
 abbrev pub Named : Option Tokens → List Bytes → Type 0
-Named (Some t) tokens = read_tokens tokens ≡ delivered_of t.stream.now t.consumer.now t.count.now t.sequence.now t.consumer_sequence.now t.time.now t.pending.now
+Named (Some t) tokens = read_tokens tokens ≡ delivered_by t
 Named None tokens = read_tokens tokens ≡ Err NotAck

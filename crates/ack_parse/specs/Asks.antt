@@ -1,5 +1,5 @@
--- The bodies of pull requests, by JetStream's consumer documentation: empty, a decimal, or a JSON object. A field that is null counts as absent, and one
--- that is not asked for is read past.
+-- The bodies of pull requests, by JetStream's consumer documentation: empty, a decimal, or a JSON object. A field that is null counts as absent, and
+-- one that is not asked for is read past.
 use Rattle.std.specs.Prelude.{ℕ, ◌==◌, ◌-◌, ◌^◌, nat_lt, nat_le, ℤ, pos, negsuc, Bool, false, [], ◌∷◌, codes, Option, Some, None, option_map, option_and_then, Result, Ok, Err, if◌then◌else◌}
 use Rattle.serde_json.specs.Data.{Members}
 use Rattle.js_base.specs.Bytes.{Bytes}

@@ -12,8 +12,8 @@ use Rattle.ack_parse.specs.declared.subject.Delivered.{Delivered}
 
 -- ---- subjects
 
--- The subject is one to which a delivery is acknowledged: `$JS`, `ACK`, the names of a stream and a consumer, and five decimals, of which the second is the
--- message's sequence.
+-- The subject is one to which a delivery is acknowledged: `$JS`, `ACK`, the names of a stream and a consumer, and five decimals, of which the second
+-- is the message's sequence.
 pub record SpellsSubject (subject : Bytes) (d : Delivered) : Type 0 where
   pub count : Bytes
   pub sequence : Bytes

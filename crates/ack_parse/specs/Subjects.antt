@@ -11,6 +11,7 @@ use Rattle.ack_parse.specs.Steps.{◌>>=◌}
 use Rattle.ack_parse.specs.declared.fault.AckFault.{AckFault}
 use Rattle.ack_parse.specs.declared.fault.AckFault.TheVariants.{NotAck, BadToken}
 use Rattle.ack_parse.specs.declared.subject.Delivered.{Delivered}
+use Rattle.ack_parse.specs.declared.subject.Tokens.{Tokens}
 
 abbrev pub name_or : ℕ → Result Bytes NameFault → Result Bytes AckFault
 name_or place (Ok name) = Ok name
@@ -39,6 +40,9 @@ delivered_of stream consumer count sequence consumer_sequence time pending = do
   _ ← number_at 7 time
   _ ← number_at 8 pending
   Ok (record { stream = stream; consumer = consumer; seq = seq })
+
+abbrev pub delivered_by : Tokens → Result Delivered AckFault
+delivered_by t = delivered_of t.stream.now t.consumer.now t.count.now t.sequence.now t.consumer_sequence.now t.time.now t.pending.now
 
 abbrev pub is_ack : Bytes → Bytes → Bool
 is_ack first second = same first (codes "$JS") && same second (codes "ACK")

@@ -1,10 +1,10 @@
 //! The bodies of pull requests.
 
-ghost use Rattle.std.specs.Prelude.{◌≡◌, ◌≤◌, option_map, option_and_then, Some, IfOk, IfSome, IsTrue};
+ghost use Rattle.std.specs.Prelude.{◌≡◌, ◌≤◌, option_map, option_and_then, IfOk, IfSome, IsTrue};
 ghost use Rattle.js_json.specs.Members.{members};
 ghost use Rattle.js_model.specs.Configs.{is_number};
 ghost use Rattle.js_model.specs.Proper.{is_proper_ask};
-ghost use Rattle.ack_parse.specs.Asks.{natural_in, truth_in, object_in, most_batch, batch_of, limit_of, just, ask_in, ask_by, ask_of};
+ghost use Rattle.ack_parse.specs.Asks.{natural_in, truth_in, object_in, most_batch, batch_of, limit_of, just, ask_in, ask_of};
 
 use js_base::{NoMemory, read_decimal};
 use js_json::{Fields, JsonFault, object};

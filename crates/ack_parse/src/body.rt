@@ -1,7 +1,6 @@
 //! The bodies of acknowledgements.
 
 ghost use Rattle.std.specs.Prelude.{◌≡◌, option_map, IfOk, IfSome, IsTrue};
-ghost use Rattle.js_json.specs.Members.{members};
 ghost use Rattle.js_model.specs.Configs.{is_number};
 ghost use Rattle.js_model.specs.Proper.{is_proper_kind};
 ghost use Rattle.ack_parse.specs.Bodies.{behind, plain_kind, delay_of, nak_kind, next_kind, kind_of};

@@ -15,9 +15,10 @@ use std::alloc::Global;
 
 /// The acknowledgement that a publish to the subject is.
 ///
-/// The subject is looked at first: `NotAck` if it has not nine tokens, of which the first two are `$JS` and `ACK`; then `BadToken` with the place of the
-/// first token that is wrong, where two names and five decimals should stand. A body of no form is `BadBody`. The body is empty, `+ACK`,
-/// `-NAK` with or without an object behind a space, `+WPI`, `+NXT` with or without a pull request behind a space, or `+TERM` with or without a reason behind one.
+/// The subject is looked at first: `NotAck` if it has not nine tokens, of which the first two are `$JS` and `ACK`; then `BadToken` with the place of
+/// the first token that is wrong, where two names and five decimals should stand. A body of no form is `BadBody`. The body is empty, `+ACK`,
+/// `-NAK` with or without an object behind a space, `+WPI`, `+NXT` with or without a pull request behind a space, or `+TERM` with or without a
+/// reason behind one.
 #[tactic(auto, unfolding(crate::specs::Reading::ack_of))]
 pub fn read_ack(alloc: Global, subject: &[u8], body: &[u8]) -> Result<Ack, AckFault>
     ensures reading { Reads result (ack_of subject.now body.now) }

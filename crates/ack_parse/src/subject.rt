@@ -3,7 +3,7 @@
 ghost use Rattle.std.specs.Prelude.{◌≡◌, map, IfOk};
 ghost use Rattle.js_base.specs.Subjects.{tokens};
 ghost use Rattle.ack_parse.specs.Answers.{Reads, Named};
-ghost use Rattle.ack_parse.specs.Subjects.{name_at, number_at, is_ack, delivered_of, read_tokens, subject_of};
+ghost use Rattle.ack_parse.specs.Subjects.{name_at, number_at, is_ack, delivered_by, subject_of};
 
 use crate::fault::AckFault;
 use js_base::{Blob, Name, NameFault, NoMemory, read_decimal};
@@ -50,7 +50,7 @@ fn number_at(place: usize, token: &[u8]) -> Result<u64, AckFault>
 /// What is acknowledged, by the seven tokens behind the first two. Four of the numbers are read alone.
 #[tactic(auto, unfolding(crate::specs::Subjects::delivered_of))]
 fn read_delivered(alloc: Global, tokens: &Tokens) -> Result<Delivered, AckFault>
-    ensures reading { Reads result (delivered_of tokens.now.stream.now tokens.now.consumer.now tokens.now.count.now tokens.now.sequence.now tokens.now.consumer_sequence.now tokens.now.time.now tokens.now.pending.now) }
+    ensures reading { Reads result (delivered_by tokens.now) }
 {
     let stream = name_at(alloc, 2, tokens.stream)?;
     let consumer = name_at(alloc, 3, tokens.consumer)?;

@@ -1,13 +1,14 @@
 //! Whether the fields of a consumer's configuration hold what they may hold.
 
-ghost use Rattle.std.specs.Prelude.{◌≡◌, [], ◌∷◌, map, codes, IfOk, pos, if◌then◌else◌};
+ghost use Rattle.std.specs.Prelude.{◌≡◌, [], ◌∷◌, map, IfOk, if◌then◌else◌};
 ghost use Rattle.js_json.specs.Members.{members};
-ghost use Rattle.js_json.specs.Fields.{flag_in, number_in, text_in, time_in, is_number, is_given};
+ghost use Rattle.js_json.specs.Fields.{flag_in, number_in, text_in, is_number, is_given};
 ghost use Rattle.js_model.specs.Refusals.{first_refusal};
 ghost use Rattle.consumer_config.specs.declared.rule.Standing.TheVariants.{Held, LeftOut};
-ghost use Rattle.consumer_config.specs.Standings.{most, flag_standing, number_standing, text_standing, group_standing, heartbeat_standing};
+ghost use Rattle.consumer_config.specs.declared.rule.Rule.TheVariants.{Group, Heartbeat, StartSequence, StartTime};
+ghost use Rattle.consumer_config.specs.Standings.{flag_standing, number_standing, text_standing};
 ghost use Rattle.consumer_config.specs.Table.{line, table};
-ghost use Rattle.consumer_config.specs.Reading.{judged, counted, word_in, time_standing, standing, starts, lacks_subject, judgement, checks, start_checks, name_checks, is_other, names_another};
+ghost use Rattle.consumer_config.specs.Reading.{judged, counted, word_in, standing, judgement, checks, start_checks, name_checks, is_other, names_another};
 ghost use Rattle.consumer_config.specs.Answers.{Passes};
 
 use crate::fault::ConfigFault;
@@ -81,8 +82,9 @@ fn given_field(fields: &Fields, name: &str) -> Standing
 }
 
 /// The standing of the queue name.
+#[tactic(auto, unfolding(crate::specs::Reading::standing))]
 fn group_field(fields: &Fields, name: &str) -> Result<Standing, NoMemory>
-    ensures value { IfOk result (λ is. is ≡ judged (group_standing (lacks_subject (members fields.now))) (text_in name.now (members fields.now))) }
+    ensures value { IfOk result (λ is. is ≡ standing Group name.now (members fields.now)) }
 {
     let lacks = lacks_subject(fields)?;
     match fields.text(name) {
@@ -94,8 +96,9 @@ fn group_field(fields: &Fields, name: &str) -> Result<Standing, NoMemory>
 }
 
 /// The standing of the heartbeat.
+#[tactic(auto, unfolding(crate::specs::Reading::standing))]
 fn heartbeat_field(fields: &Fields, name: &str) -> Result<Standing, NoMemory>
-    ensures value { IfOk result (λ is. is ≡ judged (heartbeat_standing (lacks_subject (members fields.now))) (number_in name.now (members fields.now))) }
+    ensures value { IfOk result (λ is. is ≡ standing Heartbeat name.now (members fields.now)) }
 {
     let lacks = lacks_subject(fields)?;
     match fields.number(name) {
@@ -106,8 +109,9 @@ fn heartbeat_field(fields: &Fields, name: &str) -> Result<Standing, NoMemory>
 }
 
 /// The standing of the sequence by which a consumer starts.
+#[tactic(auto, unfolding(crate::specs::Reading::standing))]
 fn sequence_field(fields: &Fields, name: &str) -> Result<Standing, NoMemory>
-    ensures value { IfOk result (λ is. is ≡ (if starts (codes "by_start_sequence") (members fields.now) then judged (number_standing (pos 0) (pos most)) (number_in name.now (members fields.now)) else Held)) }
+    ensures value { IfOk result (λ is. is ≡ standing StartSequence name.now (members fields.now)) }
 {
     if starts(b"by_start_sequence", fields)? {
         Ok(number_field(0, MOST, fields, name))
@@ -117,8 +121,9 @@ fn sequence_field(fields: &Fields, name: &str) -> Result<Standing, NoMemory>
 }
 
 /// The standing of the time by which a consumer starts.
+#[tactic(auto, unfolding(crate::specs::Reading::standing))]
 fn time_field(fields: &Fields, name: &str) -> Result<Standing, NoMemory>
-    ensures value { IfOk result (λ is. is ≡ (if starts (codes "by_start_time") (members fields.now) then judged time_standing (time_in name.now (members fields.now)) else Held)) }
+    ensures value { IfOk result (λ is. is ≡ standing StartTime name.now (members fields.now)) }
 {
     if starts(b"by_start_time", fields)? && fields.time(name).is_err() {
         Ok(Standing::Invalid)

@@ -5,7 +5,7 @@ ghost use Rattle.js_json.specs.Members.{members};
 ghost use Rattle.js_json.specs.Fields.{number_in};
 ghost use Rattle.js_json.specs.Kinds.{FitsWord};
 ghost use Rattle.js_model.specs.Configs.{is_consumer_config};
-ghost use Rattle.consumer_config.specs.Reading.{or_usual, usual_ack_wait, pending_of, limit_of, ack_policy_of, from_time, deliver_policy_of, deliver_policy_in, found, word_in, config_in, reading};
+ghost use Rattle.consumer_config.specs.Reading.{or_usual, pending_of, limit_of, ack_policy_of, from_time, deliver_policy_of, deliver_policy_in, found, word_in, config_in, reading};
 ghost use Rattle.consumer_config.specs.Answers.{ReadsConfig};
 ghost use Rattle.consumer_config.specs.Printing.{IsPrinted};
 
@@ -143,12 +143,13 @@ fn config(fields: &Fields, name: &Name) -> Result<ConsumerConfig, NoMemory>
     })
 }
 
-/// The configuration of the consumer with this name that the fields say. Null and absent fields have their defaults, and unknown ones are read past.
+/// The configuration of the consumer with this name that the fields say. Null and absent fields have their defaults, and unknown ones are read
+/// past.
 ///
 /// The fields are looked at in ascending order of their names. The first that has a wrong type or is out of its range is refused with 20001, and
-/// one that asks for what the server leaves out with 20002. A queue name and a heartbeat need a deliver subject: without one each is refused with 20001;
-/// a deliver subject that is itself wrong is refused in their place. After all fields, a policy of delivery without the sequence or the time that it needs
-/// is refused with 20003, a configuration without a durable name with 20005, and another name than the consumer's with 20022.
+/// one that asks for what the server leaves out with 20002. A queue name and a heartbeat need a deliver subject: without one each is refused with
+/// 20001; a deliver subject that is itself wrong is refused in their place. After all fields, a policy of delivery without the sequence or the time
+/// that it needs is refused with 20003, a configuration without a durable name with 20005, and another name than the consumer's with 20022.
 /// What is read is a valid configuration and can be printed.
 #[tactic(auto, using(crate::proofs::Refusing::refused_field, crate::proofs::Refusing::refused_start, crate::proofs::Refusing::refused_name, crate::proofs::Refusing::read_whole))]
 pub fn read(alloc: Global, fields: &Fields, name: &Name) -> Result<ConsumerConfig, ConfigFault>

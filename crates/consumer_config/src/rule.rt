@@ -1,9 +1,8 @@
 //! What the fields of a consumer's configuration may hold.
 
-ghost use Rattle.std.specs.Prelude.{◌≡◌, IsUtf8, drop};
+ghost use Rattle.std.specs.Prelude.{◌≡◌, IsUtf8};
 ghost use Rattle.std.specs.List.{list_all};
 ghost use Rattle.js_model.specs.Configs.{is_description, is_deliver_subject, is_queue_byte, is_queue_name};
-ghost use Rattle.js_base.specs.Subjects.{is_pattern_text};
 ghost use Rattle.consumer_config.specs.Standings.{allowed, flag_standing, within, number_standing, count_standing, heartbeat_standing, is_ack_policy, is_deliver_policy, replay_standing, text_standing, group_standing};
 
 use subject_match::{check_pattern, check_subject};
