@@ -5,7 +5,7 @@ use Rattle.vol_disk.specs.Disk.{Disk}
 use Rattle.vol_disk.specs.Laws.{clocked}
 use Rattle.vol_disk.specs.MemDisk.{disk_after}
 
-pub untold : Disk
+abbrev pub untold : Disk
 untold = disk_after [] []
 
 pub untold_clocked : IsClocked untold

@@ -1,6 +1,6 @@
 //! A volume over a folder.
 
-ghost use Rattle.std.specs.Prelude.{◌≡◌, ⊥, IsErr};
+ghost use Rattle.std.specs.Prelude.{◌≡◌, IsErr};
 ghost use Rattle.js_base.specs.Causes.{HasCause};
 
 use crate::failed::Failed;

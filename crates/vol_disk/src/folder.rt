@@ -121,7 +121,10 @@ impl Folder {
     fn find(&mut self, number: u32) -> io::Result<Option<&File>> {
         if !self.open.contains_key(&number) {
             let path = self.path_of(number)?;
-            let opened = OpenOptions::new().read(true).write(true).open(&self.rt, path.as_str());
+            let opened = OpenOptions::new()
+                .read(true)
+                .write(true)
+                .open(&self.rt, path.as_str());
             match opened {
                 Ok(file) => self.keep(number, file)?,
                 Err(error) if error.kind() == ErrorKind::NotFound => {}
