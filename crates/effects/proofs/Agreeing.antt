@@ -39,6 +39,6 @@ pub in_mapped : {X Y : Type 0} (f : X → Y) {x : X} {xs : List X} → IsIn x xs
 in_mapped f here = here
 in_mapped f (there i) = there (in_mapped f i)
 
-pub append_assoc : {X : Type 0} (xs ys zs : List X) → (xs ++ ys) ++ zs ≡ xs ++ ys ++ zs
+pub append_assoc : {X : Type 0} (xs ys zs : List X) → (xs ++ ys) ++ zs ≡ xs ++ (ys ++ zs)
 append_assoc [] ys zs = refl
 append_assoc (x ∷ xs) ys zs = ap (λ l. x ∷ l) (append_assoc xs ys zs)

@@ -84,7 +84,7 @@ module _ (leaves : ℕ → Bool) (n low high : ℕ) (ns : List ℕ) (lower : low
       wider : (r : Range) (rest : List Range) → rs ≡ r ∷ rest → r.low ≡ m → m ≤ r.high → Covers leaves low (n ∷ ns) (record { low = n; high = r.high } ∷ rest)
       wider r rest p f g = record {
         agrees = λ l h. cases l (or_cases (n == l) (has ns l) h);
-        below = λ l q. outside_first new rest l false (within_under n r.high l (omega arith)) ∙ (and_parts _ _ (sym (ap (λ (x : List Range). is_outside x l) p) ∙ k.below l (omega arith))).1;
+        below = λ l q. outside_first new rest l false (within_under n r.high l (omega arith)) ∙ (and_parts (not (is_within r.low r.high l)) (is_outside rest l) (sym (ap (λ (x : List Range). is_outside x l) p) ∙ k.below l (omega arith))).1;
         first = λ l ls q w. record { range = new; rest = rest; parts = refl; low = head_is q; high = let y : n ≡ l = head_is q in omega arith };
       }
         where

@@ -43,7 +43,7 @@ use Rattle.effects.proofs.Removing.{fold_append, leads_only, leads_both}
 
 -- ---- the moment and the ids
 
-lacking_in : {X : Type 0} (t : X → Bool) (xs : List X) → list_any t xs ≡ false → (x : X) → IsIn x xs → t x ≡ false
+pub lacking_in : {X : Type 0} (t : X → Bool) (xs : List X) → list_any t xs ≡ false → (x : X) → IsIn x xs → t x ≡ false
 lacking_in t [] h x i = elim i [ ]
 lacking_in t (y ∷ ys) h x here = (or_parts _ _ h).0
 lacking_in t (y ∷ ys) h x (there i) = lacking_in t ys (or_parts _ _ h).1 x i
@@ -58,11 +58,17 @@ told s moment = record s { moment = moment; ids = remembered s moment }
 leads_now : (s : Stream) (moment : ℕ) → s.moment ≤ moment → Leads (Live s) (now_effects s moment) (Live (told s moment))
 leads_now s moment le = go ((s.moment == moment) && not (has_spent_ids s moment)) refl
   where
+    with : ℕ → List Id → Option Durable
+    with m ids = Some (durable_of (Live (record s { moment = m; ids = ids })))
+
+    same_told : s.moment ≡ moment → remembered s moment ≡ s.ids → with s.moment s.ids ≡ with moment (remembered s moment)
+    same_told e f = ap (λ m. with m s.ids) e ∙ ap (with moment) (sym f)
+
     go : (b : Bool) → ((s.moment == moment) && not (has_spent_ids s moment)) ≡ b → fold_all (cond b [] (Now moment ∷ [])) (Some (durable_of (Live s))) ≡ Some (durable_of (Live (told s moment)))
     go true e =
         let parts = and_parts (s.moment == moment) (not (has_spent_ids s moment)) e in
         let ids : remembered s moment ≡ s.ids = filter_all _ s.ids (λ i k. not_false _ (lacking_in _ s.ids (not-true _ parts.1) i k)) in
-        rw (sym (eqb-true s.moment moment parts.0), ids) refl
+        same_told (eqb-true s.moment moment parts.0) ids
     go false e = ap (λ (b : Bool). cond b (Some (live s.incarnation (at_moment moment (body_of s)))) None) (le-leb s.moment moment le)
 
 -- ---- names
@@ -75,7 +81,7 @@ differ a b h = go (slice_cmp nat_cmp a b) refl h
     go Equal e w = absurd (true≢false (sym w))
     go Greater e w = absurd (true≢false (sym w))
 
-differ_back : (a b : Bytes) → is_before a b ≡ true → same b a ≡ false
+pub differ_back : (a b : Bytes) → is_before a b ≡ true → same b a ≡ false
 differ_back a b h = false_from_ne_true (same b a) (λ e. true≢false (sym (rw (same_is b a e) (same_self a)) ∙ differ a b h))
 
 found_after : (done : List Consumer) (c : Consumer) (rest : List Consumer) → ((d : Consumer) → IsIn d done → same d.name c.name ≡ false) → by_name (done ++ c ∷ rest) c.name ≡ Some c
@@ -151,9 +157,10 @@ fold_given_up moment i b done (c ∷ rest) h o f = go (list_any (is_spent moment
     -- from c's place on
     next : Rest → (x : Consumer) → x.name ≡ c.name → fold_all more (with (done ++ x ∷ map lasting_consumer rest)) ≡ with (done ++ x ∷ map (after moment) rest)
     next others x n =
-        ap (λ cs. fold_all more (with cs)) (sym (append_assoc done (x ∷ []) (map lasting_consumer rest)))
-        ∙ others (done ++ x ∷ []) (before_more done x c rest n h o.0)
-        ∙ ap with (append_assoc done (x ∷ []) (map (after moment) rest))
+        let lead : fold_all more (with (done ++ x ∷ map lasting_consumer rest)) ≡ fold_all more (with ((done ++ x ∷ []) ++ map lasting_consumer rest)) = ap (λ cs. fold_all more (with cs)) (sym (append_assoc done (x ∷ []) (map lasting_consumer rest))) in
+        let through : fold_all more (with ((done ++ x ∷ []) ++ map lasting_consumer rest)) ≡ with ((done ++ x ∷ []) ++ map (after moment) rest) = others (done ++ x ∷ []) (before_more done x c rest n h o.0) in
+        let back : with ((done ++ x ∷ []) ++ map (after moment) rest) ≡ with (done ++ x ∷ map (after moment) rest) = ap with (append_assoc done (x ∷ []) (map (after moment) rest)) in
+        lead ∙ through ∙ back
 
     apart_done : (d : Consumer) → IsIn d done → same d.name c.name ≡ false
     apart_done d i = differ d.name c.name (h d c i here)
@@ -193,9 +200,9 @@ few_confined ns (c ∷ cs) h d (there i) = few_confined ns cs (λ e j. h e (ther
 
 leads_at : (s : Stream) (moment : ℕ) → s.moment ≤ moment → IsSoundStream s → All IsBoundedConsumer s.consumers → Leads (Live s) (effects_at s moment) (Live (stream_at s moment))
 leads_at s moment le h b =
-    leads_both {old = Live s} {mid = Live (told s moment)} {new = Live (stream_at s moment)} (now_effects s moment) (removals [] s.messages (young s moment) ++ flat_map (given_up_effects moment) (aged s moment).consumers)
+    leads_both (Live s) (Live (told s moment)) (Live (stream_at s moment)) (now_effects s moment) (removals [] s.messages (young s moment) ++ flat_map (given_up_effects moment) (aged s moment).consumers)
     (leads_now s moment le)
-    (leads_both {old = Live (told s moment)} {mid = Live (aged s moment)} {new = Live (stream_at s moment)} (removals [] s.messages (young s moment)) (flat_map (given_up_effects moment) (aged s moment).consumers)
+    (leads_both (Live (told s moment)) (Live (aged s moment)) (Live (stream_at s moment)) (removals [] s.messages (young s moment)) (flat_map (given_up_effects moment) (aged s moment).consumers)
     (leads_only (told s moment) (young s moment) sound_told (young_part s moment))
     (leads_given_up (aged s moment) moment sound_aged.ordered (all_from_in IsFew (aged s moment).consumers (few_confined (seqs (young s moment)) s.consumers (λ c i. all_in IsBoundedConsumer s.consumers b i)))))
   where

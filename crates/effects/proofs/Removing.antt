@@ -164,14 +164,7 @@ fold_removals missing s messages h p =
 pub fold_settled : (missing : List ℕ) (s : Stream) → IsSoundStream s
     → fold_all (settle_effects missing (Live s)) (Some (live s.incarnation (keeping (is_there missing) (body_of s)))) ≡ Some (live s.incarnation (keeping (is_there missing) (body_of (settled s))))
 unfolding trim kept
-fold_settled missing s h =
-    fold_append first (second ++ third ++ fourth) start
-    ∙ ap (fold_all (second ++ third ++ fourth)) (fold_removals missing s _ h (newest_at_part s.config.max_msgs_per_subject s.messages))
-    ∙ fold_append second (third ++ fourth) _
-    ∙ ap (fold_all (third ++ fourth)) (fold_removals missing (trim_subjects s) _ sound_subjects (drop_part _ (trim_subjects s).messages))
-    ∙ fold_append third fourth _
-    ∙ ap (fold_all fourth) (fold_removals missing (trim_count (trim_subjects s)) _ sound_count (fitting_at_part s.config.max_bytes (trim_count (trim_subjects s)).messages))
-    ∙ fold_removals missing (trim s) _ sound_trim (filter_part _ (trim s).messages)
+fold_settled missing s h = to_first ∙ to_second ∙ to_third ∙ to_fourth
   where
     first : List Effect
     first = removals missing s.messages (trim_subjects s).messages
@@ -185,8 +178,8 @@ fold_settled missing s h =
     fourth : List Effect
     fourth = removals missing (trim s).messages (kept (trim s)).messages
 
-    start : Option Durable
-    start = Some (live s.incarnation (keeping (is_there missing) (body_of s)))
+    held : Stream → Option Durable
+    held t = Some (live s.incarnation (keeping (is_there missing) (body_of t)))
 
     sound_subjects : IsSoundStream (trim_subjects s)
     sound_subjects = sound_only s _ (newest_at_part s.config.max_msgs_per_subject s.messages) h
@@ -196,6 +189,22 @@ fold_settled missing s h =
 
     sound_trim : IsSoundStream (trim s)
     sound_trim = sound_only (trim_count (trim_subjects s)) _ (fitting_at_part s.config.max_bytes (trim_count (trim_subjects s)).messages) sound_count
+
+    to_first : fold_all (first ++ (second ++ (third ++ fourth))) (held s) ≡ fold_all (second ++ (third ++ fourth)) (held (trim_subjects s))
+    to_first = fold_append first (second ++ (third ++ fourth)) (held s) ∙ ap (fold_all (second ++ (third ++ fourth))) (fold_removals missing s (trim_subjects s).messages h (newest_at_part s.config.max_msgs_per_subject s.messages))
+
+    to_second : fold_all (second ++ (third ++ fourth)) (held (trim_subjects s)) ≡ fold_all (third ++ fourth) (held (trim_count (trim_subjects s)))
+    to_second =
+        fold_append second (third ++ fourth) (held (trim_subjects s))
+        ∙ ap (fold_all (third ++ fourth)) (fold_removals missing (trim_subjects s) (trim_count (trim_subjects s)).messages sound_subjects (drop_part _ (trim_subjects s).messages))
+
+    to_third : fold_all (third ++ fourth) (held (trim_count (trim_subjects s))) ≡ fold_all fourth (held (trim s))
+    to_third =
+        fold_append third fourth (held (trim_count (trim_subjects s)))
+        ∙ ap (fold_all fourth) (fold_removals missing (trim_count (trim_subjects s)) (trim s).messages sound_count (fitting_at_part s.config.max_bytes (trim_count (trim_subjects s)).messages))
+
+    to_fourth : fold_all fourth (held (trim s)) ≡ held (settled s)
+    to_fourth = fold_removals missing (trim s) (kept (trim s)).messages sound_trim (filter_part _ (trim s).messages)
 
 -- a volume that holds all
 pub whole : (b : Body) → keeping (is_there []) b ≡ b
@@ -208,11 +217,12 @@ leads_only s messages h p =
     ∙ ap (λ (b : Body). Some (live s.incarnation b)) (whole (body_of (only s messages)))
 
 pub leads_settled : (s : Stream) → IsSoundStream s → Leads (Live s) (settle_effects [] (Live s)) (Live (settled s))
+unfolding trim kept
 leads_settled s h =
     ap (λ (b : Body). fold_all (settle_effects [] (Live s)) (Some (live s.incarnation b))) (sym (whole (body_of s)))
     ∙ fold_settled [] s h
     ∙ ap (λ (b : Body). Some (live s.incarnation b)) (whole (body_of (settled s)))
 
 -- one list of records after another
-pub leads_both : {old mid new : State} (xs ys : List Effect) → Leads old xs mid → Leads mid ys new → Leads old (xs ++ ys) new
-leads_both {old} xs ys h k = fold_append xs ys (Some (durable_of old)) ∙ ap (fold_all ys) h ∙ k
+pub leads_both : (old mid new : State) (xs ys : List Effect) → Leads old xs mid → Leads mid ys new → Leads old (xs ++ ys) new
+leads_both old mid new xs ys h k = fold_append xs ys (Some (durable_of old)) ∙ ap (fold_all ys) h ∙ k

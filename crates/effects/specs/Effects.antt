@@ -165,9 +165,9 @@ abbrev pub settle_effects : List ℕ → State → List Effect
 settle_effects missing (Vacant i) = []
 settle_effects missing (Live s) =
     removals missing s.messages (trim_subjects s).messages
-    ++ removals missing (trim_subjects s).messages (trim_count (trim_subjects s)).messages
-    ++ removals missing (trim_count (trim_subjects s)).messages (trim s).messages
-    ++ removals missing (trim s).messages (kept (trim s)).messages
+    ++ (removals missing (trim_subjects s).messages (trim_count (trim_subjects s)).messages
+    ++ (removals missing (trim_count (trim_subjects s)).messages (trim s).messages
+    ++ removals missing (trim s).messages (kept (trim s)).messages))
 
 abbrev pub live_effects : Stream → What → Bool → List Effect
 live_effects s what room = own_effects s what room ++ settle_effects (skipped s what room) (stream_answer s what room).state
@@ -210,5 +210,5 @@ abbrev pub delivery_effects : State → ℕ → Delivery → State → List Effe
 delivery_effects (Vacant i) now d new = []
 delivery_effects (Live s) now d new =
     time_effects s now
-    ++ sent_effects (advance s now) d.what (by_name (advance s now).consumers d.consumer)
-    ++ removals [] (advance s now).messages (messages_of new)
+    ++ (sent_effects (advance s now) d.what (by_name (advance s now).consumers d.consumer)
+    ++ removals [] (advance s now).messages (messages_of new))

@@ -33,7 +33,7 @@ given_up_effects moment c = if list_any (is_spent moment c) c.pending then Given
 
 -- at a moment that is none of the past
 abbrev pub effects_at : Stream → ℕ → List Effect
-effects_at s moment = now_effects s moment ++ removals [] s.messages (young s moment) ++ flat_map (given_up_effects moment) (aged s moment).consumers
+effects_at s moment = now_effects s moment ++ (removals [] s.messages (young s moment) ++ flat_map (given_up_effects moment) (aged s moment).consumers)
 
 -- the moment, what is too old, and what each consumer gives up
 abbrev pub time_effects : Stream → ℕ → List Effect
