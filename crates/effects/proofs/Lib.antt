@@ -9,3 +9,4 @@ pub mod OwnConsumers
 pub mod OwnAcks
 pub mod Sending
 pub mod Leading
+mod RowsOfRecords
