@@ -1,37 +1,28 @@
 -- What the records of an event or a delivery make of what a volume holds is what the event or the delivery makes of it.
-use Rattle.std.proofs.Common.{◌≡◌, ℕ, ◌+◌, ◌^◌, Bool, true, false, cond, List, [], ◌∷◌, ◌++◌, refl, sym, ap, ◌∙◌, subst}
-use Rattle.std.specs.Prelude.{Option, Some, None, ◌==◌, All}
+use Rattle.std.proofs.Common.{◌≡◌, ℕ, ◌+◌, ◌^◌, Bool, true, false, cond, List, [], ◌∷◌, refl, sym, ap, ◌∙◌, subst}
+use Rattle.std.specs.Prelude.{Some, None, ◌==◌}
 use Rattle.std.proofs.lemmas.Bool.{eq-eqb, and_parts}
-use Rattle.js_base.specs.Bytes.{Bytes}
-use Rattle.js_base.specs.declared.out.Out.{Out}
 use Rattle.js_model.specs.Lists.{IsPart}
 use Rattle.js_model.specs.declared.stream_config.StreamConfig.{StreamConfig}
 use Rattle.js_model.specs.declared.stream.Message.{Message}
 use Rattle.js_model.specs.declared.stream.Stream.{Stream}
-use Rattle.js_model.specs.declared.stream.State.{State}
 use Rattle.js_model.specs.declared.stream.State.TheVariants.{Vacant, Live}
-use Rattle.js_model.specs.declared.event.Event.{Event}
 use Rattle.js_model.specs.declared.event.What.{What}
 use Rattle.js_model.specs.declared.event.What.TheVariants.{Make, Change, Drop as DropStream, Publish as PublishIt, Purge, Delete, MakeConsumer, DropConsumer, Ack as AckIt, Pull as PullIt, Tick, StreamInfo as AskStream, MessageGet, ConsumerInfo as AskConsumer, ConsumerNames, ConsumerList}
 use Rattle.js_model.specs.declared.reply.Answer.{Answer}
-use Rattle.js_model.specs.declared.reply.Reply.{Reply}
-use Rattle.js_model.specs.declared.entry.Delivery.{Delivery}
 use Rattle.js_model.specs.Advance.{advance}
 use Rattle.js_model.specs.Consumers.{empty_stream}
 use Rattle.js_model.specs.Trim.{trim}
 use Rattle.js_model.specs.Retention.{kept}
-use Rattle.js_model.specs.Events.{answered, settled, settled_state, stream_answer, vacant_answer, stream_told, vacantly, IsEvent}
+use Rattle.js_model.specs.Events.{answered, settled, settled_state, stream_answer, vacant_answer, stream_told, vacantly}
 use Rattle.js_model.specs.Refusals.{numbers_used_up}
 use Rattle.js_model.specs.declared.reply.Reply.TheVariants.{Refused}
 use Rattle.js_model.proofs.Parts.{filter_part, trim_part, part_trans}
-use Rattle.model_laws.specs.Bounds.{IsBounded, IsBoundedConsumer}
 use Rattle.model_laws.proofs.Whole.{IsSoundStream, join}
 use Rattle.model_laws.proofs.Sounding.{IsProperWhat}
 use Rattle.model_laws.proofs.SoundTime.{sound_time}
-use Rattle.effects.specs.declared.effect.Effect.{Effect}
 use Rattle.effects.specs.declared.effect.Effect.TheVariants.{MakeStream}
-use Rattle.effects.specs.Durables.{durable_of}
-use Rattle.effects.specs.Folding.{live, empty_body, fold_all}
+use Rattle.effects.specs.Folding.{live, empty_body}
 use Rattle.effects.specs.TimeEffects.{time_effects}
 use Rattle.effects.specs.Effects.{vacant_effects, live_effects, event_effects}
 use Rattle.effects.specs.Laws.{Leads, LawEvents, LawDeliveries}

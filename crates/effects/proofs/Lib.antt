@@ -9,4 +9,7 @@ pub mod OwnConsumers
 pub mod OwnAcks
 pub mod Sending
 pub mod Leading
-mod RowsOfRecords
+pub mod Falling
+pub mod Resting
+pub mod Unwritten
+pub mod RowsOfRecords

@@ -1,15 +1,14 @@
 -- What the records of an acknowledgement make of what a volume holds.
-use Rattle.std.proofs.Common.{◌≡◌, ℕ, ◌≤◌, Bool, true, false, ◌&&◌, ◌||◌, not, cond, List, [], ◌∷◌, ◌++◌, map, refl, sym, ap, ◌∙◌, subst, arith}
-use Rattle.std.specs.Prelude.{Option, Some, None, filter, nat_le, ◌==◌}
+use Rattle.std.proofs.Common.{◌≡◌, ℕ, ◌≤◌, Bool, true, false, ◌&&◌, ◌||◌, not, cond, List, [], ◌∷◌, ◌++◌, refl, sym, ap, ◌∙◌, arith}
+use Rattle.std.specs.Prelude.{Option, Some, None, nat_le, ◌==◌}
 use Rattle.std.specs.List.{list_any}
-use Rattle.std.proofs.lemmas.Bool.{true≢false, eqb-true, eqb-false, ne_eqb, eq-eqb, le-leb, lt-leb, leb-true, and_left, and_right, or_parts, or_left, or_right, not-false, and_parts}
+use Rattle.std.proofs.lemmas.Bool.{eqb-true, eqb-false, le-leb, lt-leb, leb-true, and_left, and_right, or_parts, not-false}
 use Rattle.std.proofs.lemmas.List.{map-id}
-use Rattle.js_base.specs.Bytes.{Bytes, has}
+use Rattle.js_base.specs.Bytes.{Bytes}
 use Rattle.js_base.specs.Moments.{plus}
 use Rattle.js_model.specs.Lists.{Between}
 use Rattle.js_model.specs.declared.stream.Stream.{Stream}
-use Rattle.js_model.specs.declared.stream.State.{State}
-use Rattle.js_model.specs.declared.stream.State.TheVariants.{Vacant, Live}
+use Rattle.js_model.specs.declared.stream.State.TheVariants.{Live}
 use Rattle.js_model.specs.declared.consumer_config.AckPolicy.{AckPolicy}
 use Rattle.js_model.specs.declared.consumer_config.AckPolicy.TheVariants.{None as NoAck, All as AckAll, Explicit}
 use Rattle.js_model.specs.declared.consumer.Pending.{Pending}
@@ -23,18 +22,16 @@ use Rattle.js_model.specs.Streams.{by_name, with_consumer, pending_seqs}
 use Rattle.js_model.specs.Lasting.{lasting_consumer}
 use Rattle.js_model.specs.Acknowledge.{acknowledged, ends, without, with_due, moved, is_no_delivery}
 use Rattle.js_model.specs.Events.{settled_state, quietly, ack_answer, ack_done, after_ack}
-use Rattle.js_model.proofs.Members.{IsIn, here, there}
+use Rattle.js_model.proofs.Members.{IsIn}
 use Rattle.js_model.proofs.Parts.{between_map}
 use Rattle.model_laws.proofs.Whole.{IsSoundStream, IsSoundConsumer}
 use Rattle.model_laws.proofs.ConsumerFacts.{after_ack-name}
 use Rattle.model_laws.proofs.Sounding.{IsProperWhat, sound_fact}
 use Rattle.model_laws.proofs.SoundAcks.{All-by_name}
 use Rattle.model_laws.proofs.SoundTime.{has_between}
-use Rattle.effects.specs.declared.effect.Effect.{Effect}
 use Rattle.effects.specs.declared.effect.Effect.TheVariants.{Acked, Due}
-use Rattle.effects.specs.Durables.{durable_of}
 use Rattle.effects.specs.Ranges.{is_within}
-use Rattle.effects.specs.Folding.{acked, due_at, fold_all}
+use Rattle.effects.specs.Folding.{acked, due_at}
 use Rattle.effects.specs.Effects.{first_ended, ends_some, ended_effects, changes_due, due_effects, acknowledged_effects, ack_effects, settle_effects}
 use Rattle.effects.specs.Laws.{Leads}
 use Rattle.effects.proofs.Agreeing.{filter_agree, filter_all, map_agree, in_mapped}
@@ -69,7 +66,7 @@ module _ (a : Stream) (name : Bytes) (c : Consumer) (h : IsSoundStream a) (found
   without_range ended low high r =
       rw (
         filter_agree (λ p. not (is_within low high p.seq)) (λ p. not (ended p.seq)) c.pending (λ p i. ap not (r.agrees p.seq (pending_one p i))),
-        filter_agree (λ n. not (is_within low high n)) (λ n. not (ended n)) c.given_up (λ n i. ap not (r.agrees n (at_least_one c.given_up own.given_up n i)))
+        filter_agree (λ n. not (is_within low high n)) (λ n. not (ended n)) c.given_up (λ n i. ap not (r.agrees n (at_least_one c.given_up own.given_up n i))),
       ) refl
 
   without_none : (ended : ℕ → Bool) → ends_some ended c ≡ false → lasting_consumer (without ended c) ≡ lasting_consumer c
@@ -77,7 +74,7 @@ module _ (a : Stream) (name : Bytes) (c : Consumer) (h : IsSoundStream a) (found
       let parts = or_parts (list_any ended (pending_seqs c)) (list_any ended c.given_up) e in
       rw (
         filter_all (λ p. not (ended p.seq)) c.pending (λ p i. ap not (lacking_in ended (pending_seqs c) parts.0 p.seq (in_mapped (λ p. p.seq) i))),
-        filter_all (λ n. not (ended n)) c.given_up (λ n i. ap not (lacking_in ended c.given_up parts.1 n i))
+        filter_all (λ n. not (ended n)) c.given_up (λ n i. ap not (lacking_in ended c.given_up parts.1 n i)),
       ) refl
 
   leads_ended : (ended : ℕ → Bool) (low high : ℕ) (new : Consumer) → Names ended low high → IsChanged c new (without ended c) → Leads (Live a) (ended_effects ended low high c) (Live (with_consumer a new))

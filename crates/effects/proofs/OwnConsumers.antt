@@ -5,7 +5,7 @@ use Rattle.js_base.specs.Bytes.{Bytes, same}
 use Rattle.js_base.specs.declared.out.ApiError.{ApiError}
 use Rattle.js_model.specs.declared.stream.Stream.{Stream}
 use Rattle.js_model.specs.declared.stream.State.{State}
-use Rattle.js_model.specs.declared.stream.State.TheVariants.{Vacant, Live}
+use Rattle.js_model.specs.declared.stream.State.TheVariants.{Live}
 use Rattle.js_model.specs.declared.consumer_config.ConsumerConfig.{ConsumerConfig}
 use Rattle.js_model.specs.declared.consumer.Consumer.{Consumer}
 use Rattle.js_model.specs.declared.ack.Ask.{Ask}
@@ -16,15 +16,13 @@ use Rattle.js_model.specs.Refusals.{first_refusal, consumer_exists}
 use Rattle.js_model.specs.Configs.{same_consumer_config}
 use Rattle.js_model.specs.Consumers.{is_before, new_consumer, with_new, making_checks, queue_checks}
 use Rattle.js_model.specs.Pulls.{pulled, pulled_unless, pull_refusal}
-use Rattle.js_model.specs.Events.{settled, settled_state, refused, told_of, consumer_told, consumer_made, consumer_asked, consumer_dropped, pull_answer}
+use Rattle.js_model.specs.Events.{settled, settled_state, refused, consumer_told, consumer_made, consumer_asked, consumer_dropped, pull_answer}
 use Rattle.js_model.proofs.Named.{by_name-map}
 use Rattle.model_laws.proofs.Whole.{IsSoundStream}
 use Rattle.model_laws.proofs.ConsumerFacts.{pulled-name}
 use Rattle.model_laws.proofs.Sounding.{IsProperWhat, sound_fact}
 use Rattle.model_laws.proofs.SoundParts.{map-filter}
-use Rattle.effects.specs.declared.durable.Body.{Body}
-use Rattle.effects.specs.declared.effect.Effect.{Effect}
-use Rattle.effects.specs.Durables.{body_of, durable_of}
+use Rattle.effects.specs.Durables.{body_of}
 use Rattle.effects.specs.Folding.{live, live_if, with_made, without_consumer}
 use Rattle.effects.specs.Effects.{made_effects, make_effects, drop_effects, settle_effects}
 use Rattle.effects.specs.Laws.{Leads}

@@ -7,8 +7,7 @@ use Rattle.std.proofs.lemmas.List.Elements.{filter-append}
 use Rattle.js_base.specs.Bytes.{Bytes, has}
 use Rattle.js_model.specs.declared.stream.Message.{Message}
 use Rattle.js_model.specs.declared.stream.Stream.{Stream}
-use Rattle.js_model.specs.declared.stream.State.{State}
-use Rattle.js_model.specs.declared.stream.State.TheVariants.{Vacant, Live}
+use Rattle.js_model.specs.declared.stream.State.TheVariants.{Live}
 use Rattle.js_model.specs.declared.consumer.Consumer.{Consumer}
 use Rattle.js_model.specs.declared.event.Publish.{Publish}
 use Rattle.js_model.specs.declared.event.What.TheVariants.{Publish as PublishIt}
@@ -29,13 +28,12 @@ use Rattle.model_laws.proofs.SoundStored.{sound_stored}
 use Rattle.std.specs.Prelude.{⊤}
 use Rattle.effects.specs.declared.durable.Body.{Body}
 use Rattle.effects.specs.declared.durable.Durable.{Durable}
-use Rattle.effects.specs.declared.effect.Effect.{Effect}
 use Rattle.effects.specs.declared.effect.Effect.TheVariants.{PutHere, Skip}
 use Rattle.effects.specs.Durables.{body_of, durable_of}
 use Rattle.effects.specs.Folding.{live, put, numbered, holding, keeping, fold_all}
 use Rattle.effects.specs.Effects.{is_skipped, publish_effects, published_skipped, settle_effects}
 use Rattle.effects.specs.Laws.{Leads}
-use Rattle.effects.proofs.Removing.{AgreeOn, is_there, keeping_all, keeping_agree, fold_settled, leads_settled}
+use Rattle.effects.proofs.Removing.{is_there, keeping_all, keeping_agree, fold_settled, leads_settled}
 use Rattle.effects.proofs.Replacing.{then_settled}
 use Rattle.effects.proofs.OwnStreams.{LeadsOn}
 

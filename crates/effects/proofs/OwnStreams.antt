@@ -1,12 +1,12 @@
 -- What the records of an event that is none of a consumer's make of what a volume holds, but for a publish.
-use Rattle.std.proofs.Common.{◌≡◌, ℕ, Bool, true, false, ◌&&◌, not, cond, List, [], ◌∷◌, ◌++◌, refl, sym, ap, ◌∙◌}
+use Rattle.std.proofs.Common.{◌≡◌, ℕ, Bool, true, false, ◌&&◌, not, cond, List, [], ◌∷◌, ◌++◌, refl, ap}
 use Rattle.std.specs.Prelude.{Option, Some, None}
 use Rattle.js_base.specs.Bytes.{Bytes}
 use Rattle.js_model.specs.declared.stream_config.StreamConfig.{StreamConfig}
 use Rattle.js_model.specs.declared.stream.Message.{Message}
 use Rattle.js_model.specs.declared.stream.Stream.{Stream}
 use Rattle.js_model.specs.declared.stream.State.{State}
-use Rattle.js_model.specs.declared.stream.State.TheVariants.{Vacant, Live}
+use Rattle.js_model.specs.declared.stream.State.TheVariants.{Live}
 use Rattle.js_model.specs.declared.consumer.Consumer.{Consumer}
 use Rattle.js_model.specs.declared.event.GetBy.{GetBy}
 use Rattle.js_model.specs.declared.event.What.{What}
@@ -19,7 +19,6 @@ use Rattle.model_laws.proofs.Whole.{IsSoundStream}
 use Rattle.model_laws.proofs.Sounding.{IsProperWhat, sound_fact}
 use Rattle.model_laws.proofs.SoundParts.{sound_only}
 use Rattle.model_laws.proofs.Changed.{stream_config_decides}
-use Rattle.effects.specs.declared.effect.Effect.{Effect}
 use Rattle.effects.specs.declared.effect.Effect.TheVariants.{ChangeStream}
 use Rattle.effects.specs.Effects.{purge_effects, delete_effects, settle_effects, live_effects}
 use Rattle.effects.specs.Laws.{Leads}
@@ -68,7 +67,7 @@ leads_delete a reply n room h = go (message_at a n)
 
 -- ---- readings
 
-message_state : (a : Stream) (m : Option Message) → (message_told a m).state ≡ Live a
+pub message_state : (a : Stream) (m : Option Message) → (message_told a m).state ≡ Live a
 message_state a None = refl
 message_state a (Some m) = refl
 

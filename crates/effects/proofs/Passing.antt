@@ -1,6 +1,6 @@
 -- What the records of passing time make of what a volume holds.
-use Rattle.std.proofs.Common.{◌≡◌, ℕ, ◌+◌, ◌≤◌, Bool, true, false, ◌&&◌, not, cond, List, [], ◌∷◌, ◌++◌, map, length, max, refl, sym, ap, ◌∙◌, subst, arith, ◌⊎◌, inl, inr}
-use Rattle.std.specs.Prelude.{Option, Some, None, filter, nat_lt, nat_le, ◌==◌, All, fold}
+use Rattle.std.proofs.Common.{◌≡◌, ℕ, ◌≤◌, Bool, true, false, ◌&&◌, not, cond, List, [], ◌∷◌, ◌++◌, map, length, max, refl, sym, ap, ◌∙◌, subst, arith, ◌⊎◌, inl, inr}
+use Rattle.std.specs.Prelude.{Option, Some, None, filter, ◌==◌, All}
 use Rattle.std.specs.List.{list_any, flat_map}
 use Rattle.std.specs.declared.cmp.Ordering.{Ordering}
 use Rattle.std.specs.declared.cmp.Ordering.TheVariants.{Less, Equal, Greater}
@@ -9,18 +9,15 @@ use Rattle.std.specs.Cmp.Lexicographic.{slice_cmp}
 use Rattle.std.proofs.lemmas.Map.Text.{is_eq-slice_cmp}
 use Rattle.std.proofs.lemmas.Bool.{true≢false, eqb-true, le-leb, and_parts, not-true, or_parts, false_from_ne_true}
 use Rattle.std.proofs.lemmas.List.{map-id}
-use Rattle.js_base.specs.Bytes.{Bytes, same, last_of}
-use Rattle.js_base.specs.Moments.{plus}
+use Rattle.js_base.specs.Bytes.{Bytes, same}
 use Rattle.js_model.specs.declared.stream.Id.{Id}
 use Rattle.js_model.specs.declared.stream.Stream.{Stream}
-use Rattle.js_model.specs.declared.stream.State.{State}
-use Rattle.js_model.specs.declared.stream.State.TheVariants.{Vacant, Live}
-use Rattle.js_model.specs.declared.consumer.Pending.{Pending}
+use Rattle.js_model.specs.declared.stream.State.TheVariants.{Live}
 use Rattle.js_model.specs.declared.consumer.Consumer.{Consumer}
 use Rattle.js_model.specs.Streams.{only, seqs, confined, by_name, in_place_of}
 use Rattle.js_model.specs.Consumers.{is_before}
 use Rattle.js_model.specs.Lasting.{lasting_consumer}
-use Rattle.js_model.specs.Advance.{advance, stream_at, aged, young, remembered, consumer_at, is_spent, all_given_up, placed}
+use Rattle.js_model.specs.Advance.{advance, stream_at, aged, young, remembered, consumer_at, is_spent}
 use Rattle.js_model.proofs.Members.{IsIn, here, there, in_append, all_in}
 use Rattle.js_model.proofs.Named.{same_is, same_self, placed_same, placed_other}
 use Rattle.js_model.proofs.Parts.{filter_part, young_part, part-length}
@@ -35,11 +32,11 @@ use Rattle.effects.specs.declared.durable.Durable.{Durable}
 use Rattle.effects.specs.declared.effect.Effect.{Effect}
 use Rattle.effects.specs.declared.effect.Effect.TheVariants.{GivenUp, Now}
 use Rattle.effects.specs.Durables.{body_of, durable_of}
-use Rattle.effects.specs.Folding.{live, live_if, replaced, given_up_by, with_given_up, at_moment, fold_all, then_fold}
+use Rattle.effects.specs.Folding.{live, live_if, replaced, given_up_by, at_moment, fold_all}
 use Rattle.effects.specs.TimeEffects.{removals, has_spent_ids, now_effects, given_up_effects, effects_at, time_effects}
 use Rattle.effects.specs.Laws.{Leads}
-use Rattle.effects.proofs.Agreeing.{filter_all, map_agree, map_twice, append_assoc, in_mapped}
-use Rattle.effects.proofs.Removing.{fold_append, leads_only, leads_both}
+use Rattle.effects.proofs.Agreeing.{filter_all, map_agree, map_twice, append_assoc}
+use Rattle.effects.proofs.Removing.{leads_only, leads_both}
 
 -- ---- the moment and the ids
 
@@ -52,7 +49,7 @@ not_false : (b : Bool) → not b ≡ false → b ≡ true
 not_false true h = refl
 not_false false h = absurd (true≢false h)
 
-abbrev told : Stream → ℕ → Stream
+abbrev pub told : Stream → ℕ → Stream
 told s moment = record s { moment = moment; ids = remembered s moment }
 
 leads_now : (s : Stream) (moment : ℕ) → s.moment ≤ moment → Leads (Live s) (now_effects s moment) (Live (told s moment))
@@ -111,7 +108,7 @@ unspent moment c e few =
     rw (
       filter_none (is_spent moment c) c.pending e,
       filter_all (λ p. not (is_spent moment c p)) c.pending (λ p i. ap not (lacking_in (is_spent moment c) c.pending e p i)),
-      last_of_few 65536 c.given_up few
+      last_of_few 65536 c.given_up few,
     ) refl
 
 abbrev after : ℕ → Consumer → Consumer

@@ -1,18 +1,17 @@
 -- What the removals of messages make of what a volume holds.
-use Rattle.std.proofs.Common.{◌≡◌, ℕ, ◌+◌, ◌≤◌, ◌<◌, Bool, true, false, ◌&&◌, ◌||◌, not, cond, List, [], ◌∷◌, ◌++◌, map, refl, sym, ap, ◌∙◌, subst, arith}
-use Rattle.std.specs.Prelude.{Option, Some, None, filter, All, ◌==◌}
-use Rattle.std.proofs.lemmas.Bool.{true≢false, false_from_ne_true, eq-eqb, ne_eqb, or_left, or_right, and_right}
+use Rattle.std.proofs.Common.{◌≡◌, ℕ, ◌+◌, ◌≤◌, ◌<◌, Bool, true, false, ◌&&◌, ◌||◌, not, cond, List, [], ◌∷◌, ◌++◌, map, refl, sym, ap, ◌∙◌, arith}
+use Rattle.std.specs.Prelude.{Option, Some, filter, ◌==◌}
+use Rattle.std.proofs.lemmas.Bool.{false_from_ne_true, eq-eqb, ne_eqb, or_left, or_right, and_right}
 use Rattle.std.proofs.lemmas.List.{map-id}
 use Rattle.js_base.specs.Bytes.{has}
 use Rattle.js_model.specs.Lists.{Between, IsPart, keep, none, skip}
 use Rattle.js_model.specs.declared.stream.Message.{Message}
 use Rattle.js_model.specs.declared.stream.Stream.{Stream}
 use Rattle.js_model.specs.declared.stream.State.{State}
-use Rattle.js_model.specs.declared.stream.State.TheVariants.{Vacant, Live}
-use Rattle.js_model.specs.declared.consumer.Pending.{Pending}
+use Rattle.js_model.specs.declared.stream.State.TheVariants.{Live}
 use Rattle.js_model.specs.declared.consumer.Consumer.{Consumer}
 use Rattle.js_model.specs.Streams.{only, seqs, confined, pending_seqs}
-use Rattle.js_model.specs.Lasting.{lasting, lasting_consumer}
+use Rattle.js_model.specs.Lasting.{lasting_consumer}
 use Rattle.js_model.specs.Trim.{trim, trim_subjects, trim_count}
 use Rattle.js_model.specs.Retention.{kept}
 use Rattle.js_model.specs.Events.{settled}
@@ -72,7 +71,7 @@ holding_agree t u messages last c h a =
     rw (
       filter_agree t u c.picks (λ n i. a n (h.picks_stored.stored n (in_has n c.picks i))),
       filter_agree (λ p. t p.seq) (λ p. u p.seq) c.pending (λ p i. a p.seq (h.pending_stored.stored p.seq (in_has p.seq (pending_seqs c) (in_mapped (λ p. p.seq) i)))),
-      filter_agree t u c.given_up (λ n i. a n (h.given_up_stored.stored n (in_has n c.given_up i)))
+      filter_agree t u c.given_up (λ n i. a n (h.given_up_stored.stored n (in_has n c.given_up i))),
     ) refl
 
 -- what outlives a crash of a sound stream has its entries stored
@@ -81,7 +80,7 @@ keeping_agree t u s h a =
     let k = (sound_lasting (Live s) (split (Live s) h)).stored.consumers in
     rw (
       filter_agree (λ m. t m.seq) (λ m. u m.seq) s.messages (λ m i. a m.seq (in_has m.seq (seqs s.messages) (in_mapped (λ m. m.seq) i))),
-      map_agree (holding t) (holding u) (map lasting_consumer s.consumers) (λ c i. holding_agree t u s.messages s.last c (all_in (IsWellStoredConsumer s.messages s.last) (map lasting_consumer s.consumers) k i) a)
+      map_agree (holding t) (holding u) (map lasting_consumer s.consumers) (λ c i. holding_agree t u s.messages s.last c (all_in (IsWellStoredConsumer s.messages s.last) (map lasting_consumer s.consumers) k i) a),
     ) refl
 
 -- ---- a part of the messages
@@ -105,7 +104,7 @@ only_body s messages h p =
     rw (
       part_filter 1 (s.last + 1) p h.messages,
       map_twice (confined (seqs messages)) lasting_consumer s.consumers,
-      map_twice lasting_consumer (holding (has (seqs messages))) s.consumers
+      map_twice lasting_consumer (holding (has (seqs messages))) s.consumers,
     ) refl
 
 -- ---- removals
@@ -125,10 +124,10 @@ pub fold_removals : (missing : List ℕ) (s : Stream) (messages : List Message) 
 fold_removals missing s messages h p =
     fold_removes s.incarnation rs (keeping (is_there missing) (body_of s))
     ∙ ap (λ (b : Body). Some (live s.incarnation b))
-        (keeping_twice (is_there missing) (is_outside rs) (body_of s)
-        ∙ keeping_agree (λ n. is_there missing n && is_outside rs n) (λ n. has (seqs messages) n && is_there missing n) s h agree
-        ∙ sym (keeping_twice (has (seqs messages)) (is_there missing) (body_of s))
-        ∙ ap (keeping (is_there missing)) (sym (only_body s messages h p)))
+    (keeping_twice (is_there missing) (is_outside rs) (body_of s)
+    ∙ keeping_agree (λ n. is_there missing n && is_outside rs n) (λ n. has (seqs messages) n && is_there missing n) s h agree
+    ∙ sym (keeping_twice (has (seqs messages)) (is_there missing) (body_of s))
+    ∙ ap (keeping (is_there missing)) (sym (only_body s messages h p)))
   where
     leaves : ℕ → Bool
     leaves n = not (has (seqs messages) n)

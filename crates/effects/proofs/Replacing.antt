@@ -1,11 +1,11 @@
 -- What a record of one consumer makes of what a volume holds.
-use Rattle.std.proofs.Common.{◌≡◌, ℕ, Bool, true, false, cond, List, [], ◌∷◌, ◌++◌, map, refl, sym, ap, ◌∙◌, subst, ◌⊎◌, inl, inr}
-use Rattle.std.specs.Prelude.{Option, Some, None, All, option_map}
+use Rattle.std.proofs.Common.{◌≡◌, Bool, true, false, cond, List, [], ◌∷◌, ◌++◌, map, refl, sym, ap, ◌∙◌, subst, ◌⊎◌, inl, inr}
+use Rattle.std.specs.Prelude.{Option, Some, option_map}
 use Rattle.std.proofs.lemmas.Bool.{true≢false}
 use Rattle.js_base.specs.Bytes.{Bytes, same}
 use Rattle.js_model.specs.declared.stream.Stream.{Stream}
 use Rattle.js_model.specs.declared.stream.State.{State}
-use Rattle.js_model.specs.declared.stream.State.TheVariants.{Vacant, Live}
+use Rattle.js_model.specs.declared.stream.State.TheVariants.{Live}
 use Rattle.js_model.specs.declared.consumer.Consumer.{Consumer}
 use Rattle.js_model.specs.Streams.{by_name, in_place_of, with_consumer}
 use Rattle.js_model.specs.Consumers.{is_before}
@@ -13,11 +13,9 @@ use Rattle.js_model.specs.Lasting.{lasting_consumer}
 use Rattle.js_model.specs.Events.{settled, settled_state}
 use Rattle.js_model.specs.declared.reply.Answer.{Answer}
 use Rattle.js_model.proofs.Members.{IsIn, all_in, in_cons}
-use Rattle.js_model.proofs.Named.{KeepsNames, by_name-map, found_named, same_is, same_self, some_is, none_some}
+use Rattle.js_model.proofs.Named.{KeepsNames, by_name-map, found_named, same_is, some_is, none_some}
 use Rattle.model_laws.specs.Sound.{AreOrdered}
 use Rattle.model_laws.proofs.Whole.{IsSoundStream}
-use Rattle.effects.specs.declared.durable.Body.{Body}
-use Rattle.effects.specs.declared.durable.Durable.{Durable}
 use Rattle.effects.specs.declared.effect.Effect.{Effect}
 use Rattle.effects.specs.Durables.{body_of, durable_of}
 use Rattle.effects.specs.Folding.{live, live_if, replaced}
@@ -73,7 +71,7 @@ leads_step a name c new step e f =
     ∙ ap (λ (cs : List Consumer). Some (live a.incarnation (record (body_of a) { consumers = cs }))) (replaced_lasting new a.consumers)
 
 -- in order, a name has one consumer
-one_named : (cs : List Consumer) (name : Bytes) (c d : Consumer) → AreOrdered cs → by_name cs name ≡ Some c → IsIn d cs → same d.name name ≡ true → d ≡ c
+pub one_named : (cs : List Consumer) (name : Bytes) (c d : Consumer) → AreOrdered cs → by_name cs name ≡ Some c → IsIn d cs → same d.name name ≡ true → d ≡ c
 one_named [] name c d o e i s = absurd (none_some e)
 one_named (x ∷ xs) name c d o e i s = go (same x.name name) refl e (in_cons i) (λ k j. one_named xs name c d o.1 k j s)
   where

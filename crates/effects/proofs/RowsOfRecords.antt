@@ -1,16 +1,14 @@
 -- Worked rows of the records that events and deliveries write, and of records that do not fit.
-use Rattle.std.specs.Prelude.{ℕ, ◌+◌, ◌≡◌, List, [], ◌∷◌, Option, Some, None, codes, refl}
-use Rattle.std.specs.Fmt.{digits}
-use Rattle.std.proofs.Common.{lit<}
+use Rattle.std.specs.Prelude.{ℕ, ◌+◌, ◌≡◌, true, List, [], ◌∷◌, Some, None, codes, refl}
 use Rattle.js_base.specs.Bytes.{Bytes}
 use Rattle.js_model.specs.declared.stream_config.Retention.TheVariants.{Interest, WorkQueue}
 use Rattle.js_model.specs.declared.consumer_config.AckPolicy.TheVariants.{None as NoAck, All as AckAll}
 use Rattle.js_model.specs.declared.consumer_config.ConsumerConfig.{ConsumerConfig}
 use Rattle.js_model.specs.declared.stream_config.StreamConfig.{StreamConfig}
 use Rattle.js_model.specs.declared.stream.State.{State}
-use Rattle.js_model.specs.declared.stream.State.TheVariants.{Vacant, Live}
+use Rattle.js_model.specs.declared.stream.State.TheVariants.{Vacant}
 use Rattle.js_model.specs.declared.ack.AckKind.TheVariants.{Ack as Acknowledge, Nak, Next, Term}
-use Rattle.js_model.specs.declared.entry.Delivered.TheVariants.{Sent, Emptied}
+use Rattle.js_model.specs.declared.entry.Delivered.TheVariants.{Sent}
 use Rattle.js_model.specs.declared.event.What.{What}
 use Rattle.js_model.specs.declared.event.What.TheVariants.{Change, Drop as DropStream, Purge, Delete, DropConsumer, Tick}
 use Rattle.js_model.specs.Advance.{advance, advance_outs}
@@ -206,6 +204,7 @@ stream_needed : fold (vacant 0) (Now t0) ≡ None
 stream_needed = refl
 
 none_may_be_there : fold held (MakeStream 2 t0 orders) ≡ None
+unfolding answered advance advance_outs kept trim verdict
 none_may_be_there = refl
 
 next_needed : fold held (Skip 5 t0 []) ≡ None

@@ -1,6 +1,6 @@
 -- What the records of a delivery make of what a volume holds.
-use Rattle.std.proofs.Common.{◌≡◌, ℕ, ◌+◌, Bool, true, false, not, cond, List, [], ◌∷◌, ◌++◌, max, refl, sym, ap, ◌∙◌, subst}
-use Rattle.std.specs.Prelude.{Option, Some, None, filter, ◌==◌, All}
+use Rattle.std.proofs.Common.{◌≡◌, ℕ, ◌+◌, Bool, cond, List, [], ◌++◌, refl, sym, ap, ◌∙◌, subst}
+use Rattle.std.specs.Prelude.{Option, Some, None, All}
 use Rattle.std.proofs.lemmas.Bool.{eq-eqb}
 use Rattle.js_base.specs.Bytes.{Bytes}
 use Rattle.js_base.specs.Moments.{plus}
@@ -8,7 +8,7 @@ use Rattle.js_base.specs.declared.out.Out.{Out}
 use Rattle.js_model.specs.declared.stream.Message.{Message}
 use Rattle.js_model.specs.declared.stream.Stream.{Stream}
 use Rattle.js_model.specs.declared.stream.State.{State}
-use Rattle.js_model.specs.declared.stream.State.TheVariants.{Vacant, Live}
+use Rattle.js_model.specs.declared.stream.State.TheVariants.{Live}
 use Rattle.js_model.specs.declared.consumer.Pending.{Pending}
 use Rattle.js_model.specs.declared.consumer.Consumer.{Consumer}
 use Rattle.js_model.specs.declared.entry.Delivered.{Delivered}
@@ -18,18 +18,16 @@ use Rattle.js_model.specs.Streams.{by_name, with_consumer}
 use Rattle.js_model.specs.Lasting.{lasting_consumer}
 use Rattle.js_model.specs.Advance.{advance}
 use Rattle.js_model.specs.Retention.{kept}
-use Rattle.js_model.specs.Deliver.{count_of, sent_to, Delivers, IsDelivery, IsDelivered}
+use Rattle.js_model.specs.Deliver.{count_of, sent_to, Delivers, IsDelivery}
 use Rattle.js_model.specs.Runs.{messages_of}
 use Rattle.js_model.proofs.Parts.{filter_part}
 use Rattle.model_laws.specs.Bounds.{IsBoundedConsumer}
-use Rattle.model_laws.proofs.Whole.{IsSoundStream, IsSoundConsumer}
+use Rattle.model_laws.proofs.Whole.{IsSoundStream}
 use Rattle.model_laws.proofs.ConsumerFacts.{after_name}
 use Rattle.model_laws.proofs.Sounding.{sound_found}
 use Rattle.model_laws.proofs.SoundAcks.{sound_with}
 use Rattle.model_laws.proofs.SoundSent.{delivered_sound}
 use Rattle.model_laws.proofs.SoundTime.{sound_time}
-use Rattle.effects.specs.declared.effect.Effect.{Effect}
-use Rattle.effects.specs.Durables.{durable_of}
 use Rattle.effects.specs.Folding.{delivered, delivered_to}
 use Rattle.effects.specs.TimeEffects.{removals, time_effects}
 use Rattle.effects.specs.Effects.{sent_effects, delivery_effects}

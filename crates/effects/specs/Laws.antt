@@ -1,5 +1,5 @@
 -- What the records of an event and of a delivery make of what a volume held before.
-use Rattle.std.specs.Prelude.{◌≡◌, ℕ, List, Some}
+use Rattle.std.specs.Prelude.{◌≡◌, ℕ, List, [], Some, ◌↔◌}
 use Rattle.js_base.specs.Bytes.{Bytes}
 use Rattle.js_base.specs.declared.out.Out.{Out}
 use Rattle.js_model.specs.declared.stream.State.{State}
@@ -7,6 +7,7 @@ use Rattle.js_model.specs.declared.event.Event.{Event}
 use Rattle.js_model.specs.declared.reply.Reply.{Reply}
 use Rattle.js_model.specs.declared.entry.Delivery.{Delivery}
 use Rattle.js_model.specs.Deliver.{IsDelivered}
+use Rattle.js_model.specs.Lasting.{lasting}
 use Rattle.js_model.specs.Runs.{IsStep}
 use Rattle.model_laws.specs.Sound.{IsSound}
 use Rattle.model_laws.specs.Bounds.{IsBounded}
@@ -26,3 +27,13 @@ LawEvents = (count : ℕ) (old new : State) (e : Event) (now : ℕ) (reply : Rep
 abbrev pub LawDeliveries : Type 0
 LawDeliveries = (old new : State) (now : ℕ) (listening : List Bytes) (d : Delivery) (outs : List Out) → IsDelivered old now listening d outs new
     → IsSound old → IsBounded old → Leads old (delivery_effects old now d new) new
+
+-- an event has no record if and only if nothing of what outlives a crash changes
+abbrev pub LawNoRecords : Type 0
+LawNoRecords = (count : ℕ) (old new : State) (e : Event) (now : ℕ) (reply : Reply) (outs : List Out) (x : IsStep count old e now reply outs new)
+    → IsSound old → IsBounded old → (event_effects old e.what now x.event.room ≡ []) ↔ (lasting old ≡ lasting new)
+
+-- and so it is of a delivery
+abbrev pub LawNoRecordsSent : Type 0
+LawNoRecordsSent = (old new : State) (now : ℕ) (listening : List Bytes) (d : Delivery) (outs : List Out) → IsDelivered old now listening d outs new
+    → IsSound old → IsBounded old → (delivery_effects old now d new ≡ []) ↔ (lasting old ≡ lasting new)
