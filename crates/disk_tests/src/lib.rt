@@ -3,12 +3,10 @@
 #![tactic(auto)]
 
 #[cfg(test)]
-<<<<<<< HEAD
 mod damaged_logs;
 #[cfg(test)]
-mod stopped_appends;
-=======
 mod folder;
 #[cfg(test)]
+mod stopped_appends;
+#[cfg(test)]
 mod volumes;
->>>>>>> fb06b1e48aa6d7303bd04f79382c17af18299075
