@@ -2,9 +2,11 @@
 #![tactic(auto)]
 
 use js_base::read_decimal;
-use std::env;
-use std::io;
+use std::alloc::Global;
 use std::process::ExitCode;
+use std::sync::Wait;
+use std::thread::Threads;
+use std::{env, io};
 use turn_counter::{count_alone, count_both, count_four};
 
 /// How many threads count, and how many times each.
@@ -26,18 +28,21 @@ fn measurement_of(rt: &HostRuntime) -> Option<Measurement> {
 }
 
 /// The count, or `None` for another number of threads or where it could not count.
-fn count(rt: &HostRuntime, measurement: Measurement) -> Option<u64> {
+fn count<R: Threads + Wait + Sync>(rt: &R, alloc: Global, measurement: Measurement) -> Option<u64> {
     let Measurement { threads, times } = measurement;
     match threads {
-        1 => count_alone(rt, rt.alloc(), times),
-        2 => count_both(rt, rt.alloc(), times),
-        4 => count_four(rt, rt.alloc(), times),
+        1 => count_alone(rt, alloc, times),
+        2 => count_both(rt, alloc, times),
+        4 => count_four(rt, alloc, times),
         _ => None,
     }
 }
 
 fn main(rt: HostRuntime) -> io::Result<ExitCode> {
-    let counted = measurement_of(&rt).and_then(|measurement| count(&rt, measurement));
+    let counted = match measurement_of(&rt) {
+        Some(measurement) => count(&rt, rt.alloc(), measurement),
+        None => None,
+    };
     match counted {
         Some(turns) => {
             println!(rt; "turns={turns}")?;

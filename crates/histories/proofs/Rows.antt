@@ -1,12 +1,11 @@
 -- Worked rows of histories, of a seat's own entries and of fronts that grow.
-use Rattle.std.proofs.Common.{◌≡◌, ℕ, zero, suc, List, [], ◌∷◌, length, refl, ap, inl, arith}
+use Rattle.std.proofs.Common.{◌≡◌, ℕ, zero, suc, [], ◌∷◌, length, refl, ap, inl, arith}
 use Rattle.std.specs.Prelude.{None, codes}
 use Rattle.js_model.specs.declared.stream.State.TheVariants.{Vacant}
-use Rattle.js_model.specs.Router.{Open, Close, Opened, Done, RouteEntry, RouteCall, RouteTold, route, empty_router, opened}
+use Rattle.js_model.specs.Router.{Open, Opened, RouteCall, RouteTold, route, empty_router, opened}
 use Rattle.js_model.specs.Catalog.{Catalog, ByName, At, catalog_call, new_place}
-use Rattle.seat_laws.specs.Seats.{SharedRouter}
-use Rattle.histories.specs.Entries.{Entry, AtPlace, AtRouter, AtCatalog, OfPlace, OfRouter, OfCatalog, AreBy}
-use Rattle.histories.specs.Lawful.{IsPlaceHistory, IsRouterHistory, IsCatalogHistory, new_router}
+use Rattle.histories.specs.Entries.{Entry, AtRouter, AtCatalog, OfPlace, OfRouter, OfCatalog, AreBy}
+use Rattle.histories.specs.Lawful.{IsPlaceHistory, IsRouterHistory, IsCatalogHistory}
 use Rattle.histories.specs.Fronts.{own, Grows}
 use Rattle.histories.proofs.Own.{own-grows}
 

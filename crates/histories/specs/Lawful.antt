@@ -1,5 +1,5 @@
 -- When a plain state stands for a history, and which histories are lawful, this server's own: the entries of one kind are a run of its machine.
-use Rattle.std.specs.Prelude.{◌≡◌, ℕ, List, [], map}
+use Rattle.std.specs.Prelude.{◌≡◌, List, [], map}
 use Rattle.js_model.specs.declared.stream.State.{State}
 use Rattle.js_model.specs.declared.entry.PlaceEntry.{PlaceEntry}
 use Rattle.js_model.specs.Runs.{Run}

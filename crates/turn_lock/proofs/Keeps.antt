@@ -1,6 +1,5 @@
 -- Each step keeps the rule.
-use Rattle.std.proofs.Common.{◌≡◌, ◌≢◌, ◌⊎◌, ℕ, zero, suc, ◌+◌, ◌%◌, ◌<◌, ◌≤◌, List, [], ◌∷◌, ◌++◌, length, get_or, set, Bool, true, false, eqb, true≢false, refl, sym, ap, ◌∙◌, subst, inl, inr, ⊎_elim, arith, append_assoc, append-nil, eq-eqb, ne_eqb, length-set, length-append, get_or-set_other, get_or-set_same, Option, Some, None}
-use Rattle.std.specs.Prelude.{max}
+use Rattle.std.proofs.Common.{◌≡◌, ◌≢◌, ℕ, zero, suc, ◌+◌, ◌%◌, ◌<◌, ◌≤◌, List, [], ◌∷◌, ◌++◌, length, get_or, set, Bool, true, false, eqb, true≢false, refl, sym, ap, ◌∙◌, subst, inl, inr, ⊎_elim, arith, append_assoc, append-nil, eq-eqb, ne_eqb, length-set, length-append, get_or-set_other, get_or-set_same, Option, Some}
 use mathlib.Core.Logic.{dite}
 use mathlib.Core.Option as opt
 use mathlib.Core.Option.{some-injective, some-ne-none}
@@ -13,7 +12,7 @@ use Rattle.atomic_table.proofs.Lists.{at_set, set_here, set_else, at_longer, at_
 use Rattle.js_base.specs.Bytes.{has}
 use Rattle.js_model.specs.Lists.{Apart}
 use Rattle.histories.specs.Entries.{Entry, Opening, AreBy}
-use Rattle.histories.specs.Fronts.{own, AreForeign, Grows, OneBegins}
+use Rattle.histories.specs.Fronts.{own, AreForeign}
 use Rattle.turn_lock.specs.Views.{View, Stage, Idle, Drawn, Inside, Met, Spent, view, at_stage, counted, with_ticket, opened, kept_back, dealt, note, left_with, longer, met, spent, first_of, rest_of, below}
 use Rattle.turn_lock.specs.declared.kept.Kept.{Kept}
 use Rattle.turn_lock.specs.Ruled.{last_ticket, AreMade, Meeting, IsSound, IsNumbered, Doing, UnlessSpent, Knows, Lies, IsRuled}

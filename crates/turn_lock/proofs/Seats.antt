@@ -1,12 +1,11 @@
 -- What a seat that is idle and one that is inside have for a view, and what the steps of a call come to.
-use Rattle.std.proofs.Common.{◌≡◌, ◌⊎◌, append-nil, ℕ, zero, suc, ◌+◌, ◌<◌, ◌≤◌, List, [], ◌∷◌, ◌++◌, length, length-append, arith, Bool, true, false, true≢false, refl, sym, ap, ◌∙◌, subst, Option, Some, None}
-use Rattle.std.specs.Prelude.{max}
+use Rattle.std.proofs.Common.{◌≡◌, append-nil, ℕ, zero, suc, ◌<◌, ◌≤◌, List, [], ◌∷◌, ◌++◌, length, length-append, arith, true, refl, sym, ap, ◌∙◌, subst, Option, Some, None}
 use Rattle.atomic_table.specs.Table.{Me, rest}
 use Rattle.atomic_table.specs.Seated.{TableId}
 use Rattle.js_base.specs.Bytes.{has}
 use Rattle.histories.specs.Entries.{Entry, Opening}
-use Rattle.histories.specs.Fronts.{Begins, Grows, OneBegins}
-use Rattle.turn_lock.specs.Views.{View, Stage, Idle, Drawn, Inside, Met, Spent, view, at_stage, with_ticket, met, note, first_of}
+use Rattle.histories.specs.Fronts.{Grows, OneBegins}
+use Rattle.turn_lock.specs.Views.{View, Idle, Inside, at_stage, with_ticket, met, note, first_of}
 use Rattle.turn_lock.specs.declared.kept.Kept.{Kept}
 use Rattle.turn_lock.specs.Ruled.{last_ticket, IsNumbered, Meeting}
 use Rattle.turn_lock.specs.Seats.{shown, view_of, IsIdle, IsInside}

@@ -1,5 +1,5 @@
 -- The rule of a lock's two words, its slot and its seats, this server's own. Word 0 is the next ticket, word 1 the ticket that is served.
-use Rattle.std.specs.Prelude.{◌≡◌, ◌⊎◌, ⊤, ℕ, suc, ◌+◌, ◌<◌, ◌≤◌, ◌^◌, List, [], ◌∷◌, ◌++◌, length, slice_index, Bool, true, Option, Some, None}
+use Rattle.std.specs.Prelude.{◌≡◌, ◌⊎◌, ⊤, ℕ, suc, ◌<◌, ◌≤◌, List, ◌++◌, length, slice_index, true, Option, Some}
 use mathlib.Core.Option as opt
 use lib.ListN.{get_elem?}
 use Rattle.std.specs.List.{AllByRecursion}

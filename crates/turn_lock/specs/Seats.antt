@@ -1,9 +1,9 @@
 -- What a lock, a seat and a held value show, and what holds of each of them, this server's own.
-use Rattle.std.specs.Prelude.{◌≡◌, ℕ, suc, ◌-◌, ◌<◌, ◌≤◌, List, [], ◌∷◌, ◌++◌, true, Option, None}
+use Rattle.std.specs.Prelude.{◌≡◌, ℕ, ◌<◌, List, [], ◌∷◌, Option, None}
 use Rattle.atomic_table.specs.Table.{Me}
 use Rattle.atomic_table.specs.Seated.{TableId}
 use Rattle.histories.specs.Entries.{Entry, Opening}
-use Rattle.turn_lock.specs.Views.{View, Stage, Idle, Inside, spent, first_of}
+use Rattle.turn_lock.specs.Views.{View, Idle, Inside, spent}
 use Rattle.turn_lock.specs.Ruled.{IsNumbered}
 
 -- ---- what is shown

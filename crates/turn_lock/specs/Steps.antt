@@ -1,9 +1,9 @@
 -- What each kind of step tells its caller, this server's own.
 use Rattle.std.specs.Prelude.{◌≡◌, ◌≢◌, ℕ, ◌≤◌, List, [], ◌∷◌, ◌++◌, Option, Some}
 use Rattle.atomic_table.specs.Table.{Me, Step}
-use Rattle.histories.specs.Entries.{Entry, Opening, AreBy}
+use Rattle.histories.specs.Entries.{Entry, Opening}
 use Rattle.histories.specs.Fronts.{Grows}
-use Rattle.turn_lock.specs.Views.{View, Idle, Drawn, Inside, Met, view, at_stage, counted, with_ticket, left_with, first_of}
+use Rattle.turn_lock.specs.Views.{View, Idle, Drawn, Inside, Met, view, at_stage, counted, with_ticket, left_with}
 use Rattle.turn_lock.specs.Ruled.{last_ticket, Meeting}
 use Rattle.turn_lock.specs.declared.kept.Kept.{Kept}
 

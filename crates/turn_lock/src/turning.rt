@@ -43,10 +43,10 @@ impl<S, P: Standing<S>> Turns<S, P> {
             if ticket >= LAST_TICKET {
                 return Err(ticket);
             }
-            let found =
-                self.table
-                    .shared
-                    .compare_exchange::<Draw>(seat, TICKET, ticket, ticket + 1);
+            let found = self
+                .table
+                .shared
+                .compare_exchange::<Draw>(seat, TICKET, ticket, ticket + 1);
             if found == ticket {
                 return Ok(ticket);
             }

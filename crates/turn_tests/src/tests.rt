@@ -1,5 +1,5 @@
-use turn_counter::{count_both, join_two, meet_and_look};
 use std::test::*;
+use turn_counter::{count_both, join_two, meet_and_look};
 
 #[test]
 fn two_threads_count_a_thousand_each(rt: HostRuntime) -> Result<(), Fail> {

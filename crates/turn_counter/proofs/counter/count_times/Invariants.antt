@@ -1,4 +1,4 @@
-use Rattle.std.proofs.Common.{◌≡◌, true}
+use Rattle.std.proofs.Common.{true}
 use Rattle.turn_counter.specs.Counting.{HasCounted}
 use Rattle.turn_counter.proofs.counter.count_times.Given as goal
 

@@ -1,4 +1,4 @@
-use Rattle.std.proofs.Common.{◌≡◌, ◌∙◌}
+use Rattle.std.proofs.Common.{◌∙◌}
 use Rattle.turn_counter.proofs.Tally.{joined_count, all_left}
 use Rattle.turn_counter.proofs.counting.end_pair.Goals as goal
 

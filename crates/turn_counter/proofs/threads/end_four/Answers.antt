@@ -1,4 +1,4 @@
-use Rattle.std.proofs.Common.{◌≡◌, ◌+◌, ◌∙◌, arith}
+use Rattle.std.proofs.Common.{◌≡◌, arith}
 use Rattle.turn_counter.specs.Counting.{left_by}
 use Rattle.turn_counter.proofs.Tally.{joined_count, all_left}
 use Rattle.turn_counter.proofs.threads.end_four.Goals as goal

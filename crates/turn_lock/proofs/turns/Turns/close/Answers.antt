@@ -1,4 +1,4 @@
-use Rattle.std.proofs.Common.{rules, ◌≡◌, ◌∷◌, [], true, ℕ, List, Some, None, Option, refl, sym, ap, ◌∙◌, subst}
+use Rattle.std.proofs.Common.{◌≡◌, ℕ, List, Some, None, sym, ap, ◌∙◌, subst}
 use mathlib.Core.Option as opt
 use mathlib.Core.Option.{some-injective}
 use Rattle.histories.specs.Fronts.{own}

@@ -1,4 +1,4 @@
-use Rattle.std.proofs.Common.{rules, ◌≡◌, ◌∷◌, [], true, ℕ, List, refl, sym, ap, ◌∙◌, subst, Some}
+use Rattle.std.proofs.Common.{rules, ◌∷◌, sym, ap, ◌∙◌, subst, Some}
 use Rattle.atomic_table.specs.Table.{rest}
 use Rattle.turn_lock.specs.Views.{View}
 use Rattle.turn_lock.specs.Ruled.{IsNumbered}

@@ -1,6 +1,6 @@
-use Rattle.std.proofs.Common.{rules, ◌≡◌, ◌∷◌, [], ℕ, suc, List, refl, sym, ap, ◌∙◌, subst}
+use Rattle.std.proofs.Common.{rules, ◌≡◌, ◌∷◌, [], suc, List, refl, sym, ap, ◌∙◌, subst}
 use Rattle.histories.specs.Entries.{Entry}
-use Rattle.turn_lock.specs.Views.{View, opened, dealt, first_of}
+use Rattle.turn_lock.specs.Views.{View, dealt, first_of}
 use Rattle.turn_lock.proofs.Lists.{one_numbered}
 use Rattle.turn_lock.proofs.Seats.{idle_of}
 use Rattle.turn_lock.proofs.Keeps.{deals}

@@ -1,5 +1,5 @@
-use Rattle.std.proofs.Common.{rules, ◌≤◌, ◌<◌, ◌≡◌, ℕ, refl, sym, ap, ◌∙◌, subst, arith}
-use Rattle.turn_lock.specs.Views.{View, Idle, with_ticket, counted}
+use Rattle.std.proofs.Common.{rules, ◌≤◌, ◌≡◌, ℕ, refl, sym, ap, ◌∙◌, subst, arith}
+use Rattle.turn_lock.specs.Views.{View, with_ticket, counted}
 use Rattle.turn_lock.specs.Ruled.{IsNumbered}
 use Rattle.turn_lock.proofs.Keeps.{sees, draws}
 use Rattle.turn_lock.proofs.turns.Turns.draw.Goals as goal

@@ -1,5 +1,5 @@
-use Rattle.std.proofs.Common.{rules, ◌≡◌, ◌∷◌, ◌++◌, [], true, ℕ, List, refl, sym, ap, ◌∙◌, subst}
-use Rattle.turn_lock.proofs.Seats.{idle_at, idle_of}
+use Rattle.std.proofs.Common.{ap, ◌∙◌}
+use Rattle.turn_lock.proofs.Seats.{idle_at}
 use Rattle.turn_lock.proofs.turns.Turns.enter.Goals as goal
 
 pub draw-requires : goal.draw-requires

@@ -1,5 +1,5 @@
-use Rattle.std.proofs.Common.{rules, ◌≡◌, ◌∷◌, [], true, ℕ, List, refl, sym, ap, ◌∙◌, subst}
-use Rattle.turn_lock.specs.Views.{View, Idle, at_stage}
+use Rattle.std.proofs.Common.{rules, ◌≡◌, List, sym, ap, ◌∙◌, subst}
+use Rattle.turn_lock.specs.Views.{View}
 use Rattle.turn_lock.specs.Calls.{IsJoined}
 use Rattle.turn_lock.specs.Seats.{SeatView, shown, view_of}
 use Rattle.turn_lock.proofs.Seats.{idle_at, idle_met, joined_of}
@@ -9,9 +9,13 @@ use Rattle.turn_lock.proofs.turns.Turns.join.Goals as goal
 pub join_seat-requires : goal.join_seat-requires
 join_seat-requires g c =
     let a = c.into_seat-one.ensures in let b = c.into_seat.ensures in
-    let v = idle_at _ _ c.into_seat-one.result.me.0 a.2 c.seat.invariant in let w = idle_at _ _ c.into_seat.result.me.0 b.2 c.other.invariant in
-    (a.0 ∙ (ap (λ z. z.lock) c.seat.view_is ∙ (c.requires.own.0 ∙ ap (λ z. z.lock) (sym c.self.view_is))), b.0 ∙ (ap (λ z. z.lock) c.other.view_is ∙ (c.requires.own.1 ∙ ap (λ z. z.lock) (sym c.self.view_is))),
-      b.3, search rules, joins _ _ _ _ (g.met.P.Standing.all_lawful _) _ _ _ _ v.idle w.idle)
+    let v = idle_at _ _ c.into_seat-one.result.me.0 a.2 c.seat.invariant in let w = idle_at _ _ c.into_seat.result.me.0 b.2 c.other.invariant in (
+      a.0 ∙ (ap (λ z. z.lock) c.seat.view_is ∙ (c.requires.own.0 ∙ ap (λ z. z.lock) (sym c.self.view_is))),
+      b.0 ∙ (ap (λ z. z.lock) c.other.view_is ∙ (c.requires.own.1 ∙ ap (λ z. z.lock) (sym c.self.view_is))),
+      b.3,
+      search rules,
+      joins _ _ _ _ (g.met.P.Standing.all_lawful _) _ _ _ _ v.idle w.idle,
+    )
 
 pub load-requires : goal.load-requires
 load-requires g c = let e = c.join_seat.ensures in let a = c.into_seat-one.ensures in
@@ -34,5 +38,7 @@ returns g c = let e = c.join_seat.ensures in let l = c.load.ensures.2 _ _ _ _ (a
     let mine : shown t v ≡ c.args.seat = ap (λ (vs : List View). shown t (view_of vs)) (sym a.2) ∙ c.seat.view_is in
     let theirs : shown u w ≡ c.args.other = ap (λ (vs : List View). shown u (view_of vs)) (sym b.2) ∙ c.other.view_is in
     let new : shown n c.load.new.seat.me.0 ≡ shown n (view_of c.into_badge.result.views) = ap (λ (vs : List View). shown n (view_of vs)) (sym r.2) in
-    record { joined = subst (λ (z : SeatView × SeatView × SeatView). IsJoined z.0 z.1 z.2) (λ i. (mine i, theirs i, new i))
-        (joined_of t n c.load.new.seat.me.0 c.join_seat.new.seat.me.0 v w u (r.0 ∙ (c.load.ensures.0 ∙ (e.0 ∙ a.0))) (ap (λ m. m.0) l.0) (ap (λ m. m.0) e.2) l.1) }
+    record {
+      joined = subst (λ (z : SeatView × SeatView × SeatView). IsJoined z.0 z.1 z.2) (λ i. (mine i, theirs i, new i))
+          (joined_of t n c.load.new.seat.me.0 c.join_seat.new.seat.me.0 v w u (r.0 ∙ (c.load.ensures.0 ∙ (e.0 ∙ a.0))) (ap (λ m. m.0) l.0) (ap (λ m. m.0) e.2) l.1);
+    }

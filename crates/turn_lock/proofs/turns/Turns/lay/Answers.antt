@@ -1,4 +1,4 @@
-use Rattle.std.proofs.Common.{rules, ◌≡◌, ◌∷◌, [], Some, List, Option, refl, sym, ap, ◌∙◌, subst}
+use Rattle.std.proofs.Common.{rules, ◌≡◌, ◌∷◌, [], Some, List, Option, sym, subst}
 use Rattle.atomic_table.specs.Table.{opening}
 use Rattle.histories.specs.Entries.{Opening}
 use Rattle.turn_lock.specs.declared.kept.Kept.{Kept}

@@ -1,4 +1,4 @@
-use Rattle.std.proofs.Common.{rules, ◌≡◌, ◌∷◌, ◌++◌, [], true, ℕ, List, Some, None, refl, sym, ap, ◌∙◌, subst}
+use Rattle.std.proofs.Common.{rules, ◌∷◌, ◌++◌, [], List, None, refl, sym, ap, ◌∙◌, subst}
 use Rattle.atomic_table.specs.Table.{rest}
 use Rattle.histories.specs.Entries.{AreBy}
 use Rattle.turn_lock.specs.declared.kept.Kept.{Kept}
@@ -6,7 +6,6 @@ use Rattle.turn_lock.specs.Views.{View, left_with, first_of}
 use Rattle.turn_lock.specs.Seats.{SeatView, shown, view_of}
 use Rattle.turn_lock.specs.Calls.{added}
 use Rattle.histories.specs.Fronts.{own}
-use Rattle.histories.specs.Entries.{Entry}
 use Rattle.turn_lock.proofs.Seats.{puts, idle_of}
 use Rattle.histories.proofs.Own.{own-left}
 use Rattle.turn_lock.proofs.Keeps.{leaves}
@@ -44,7 +43,7 @@ invariant_of-result g c =
     let p = puts _ s.me.0 s.me.1 k c.exchange-found.new.seat.me c.seat.invariant e.3 in let l = c.fetch_add.ensures.2 k p.carried in
     let is = ap (λ m. m.0) l.0 ∙ ap (λ (v : View). left_with v c.args.entries.value) p.same in
     idle_of _ _ (left_with s.me.0 c.args.entries.value) (c.into_badge.ensures.2 ∙ ap (λ (v : View). v ∷ []) is) refl c.seat.invariant.numbered
-        (subst (λ (v : View). g.P.Lawful.lawful v.opening (v.front ++ c.args.entries.value)) p.same l.1)
+    (subst (λ (v : View). g.P.Lawful.lawful v.opening (v.front ++ c.args.entries.value)) p.same l.1)
 
 pub returns-clause-added : goal.returns-clause-added
 returns-clause-added g c =

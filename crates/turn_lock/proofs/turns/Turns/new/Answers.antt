@@ -1,6 +1,6 @@
-use Rattle.std.proofs.Common.{le_trans, rules, ◌≡◌, ◌<◌, ◌≤◌, ◌+◌, ◌-◌, ◌∷◌, ◌++◌, [], ℕ, suc, zero, List, length, length-append, append_assoc, refl, sym, ap, ◌∙◌, subst, arith}
+use Rattle.std.proofs.Common.{le_trans, ◌≡◌, ◌-◌, ◌∷◌, ◌++◌, [], ℕ, suc, List, length, length-append, append_assoc, sym, ap, ◌∙◌, arith}
 use Rattle.histories.specs.Entries.{Opening}
-use Rattle.turn_lock.specs.Views.{View, opened, kept_back}
+use Rattle.turn_lock.specs.Views.{opened, kept_back}
 use Rattle.turn_lock.specs.Calls.{new_seat, new_seats}
 use Rattle.turn_lock.proofs.turns.Turns.new.Goals as goal
 
@@ -17,7 +17,7 @@ loop-preserved g c =
     let op : c.loop.first.me.0.opening ≡ o = ap (λ m. m.0.opening) i.2 in
     let was = ap (λ m. m.0) i.2 ∙ ap (λ (k : ℕ). opened o (suc k)) same in
     let seat : c.deal-seat.result ≡ new_seat lock o (suc n) =
-        c.deal-seat.ensures.dealt (suc n) (i.2 ∙ (λ j. (opened (sym op j) (suc (same j)), []))) ∙ (λ j. new_seat (i.1 j) (op j) (suc n)) in
+    c.deal-seat.ensures.dealt (suc n) (i.2 ∙ (λ j. (opened (sym op j) (suc (same j)), []))) ∙ (λ j. new_seat (i.1 j) (op j) (suc n)) in
     let row = c.loop.row.items in let rest : List _ = new_seats lock o (suc n) in
     let long = length-append row (c.deal-seat.result ∷ []) in let count = i.4 in let items = c.add.ensures.items in let longer = ap length items in (
       n,

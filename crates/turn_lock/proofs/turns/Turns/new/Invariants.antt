@@ -1,4 +1,4 @@
-use Rattle.std.proofs.Common.{◌≡◌, ◌≤◌, ◌<◌, ◌+◌, ◌++◌, ℕ, suc, [], vec_len, vec_capacity, length}
+use Rattle.std.proofs.Common.{◌≡◌, ◌≤◌, ◌+◌, ◌++◌, ℕ, suc, [], vec_capacity, length}
 use Rattle.turn_lock.specs.Views.{opened}
 use Rattle.turn_lock.specs.Calls.{new_seats}
 use Rattle.turn_lock.proofs.turns.Turns.new.Given as goal
