@@ -1,23 +1,17 @@
 -- The index follows the lists of the places.
-use Rattle.std.proofs.Common.{◌≡◌, ◌≢◌, ℕ, zero, suc, ◌+◌, ◌*◌, ◌%◌, ◌^◌, ◌<◌, ◌≤◌, ◌==◌, ◌||◌, ◌⊎◌, not, Bool, true, false, cond, List, [], ◌∷◌, ◌++◌, length, map, filter, get_or, Option, None, Some, refl, sym, ap, subst, ◌∙◌, inl, inr, arith, eq-eqb}
-use Rattle.std.specs.Prelude.{option_map}
-use Rattle.std.specs.List.{list_any}
+use Rattle.std.proofs.Common.{◌≡◌, ◌≢◌, ℕ, zero, suc, ◌+◌, ◌*◌, ◌%◌, ◌^◌, ◌<◌, ◌≤◌, ◌==◌, ◌||◌, ◌⊎◌, not, Bool, true, false, cond, List, [], ◌∷◌, ◌++◌, length, filter, get_or, Some, refl, sym, ap, subst, ◌∙◌, inl, inr, arith, eq-eqb}
 use Rattle.std.proofs.Math.ListN.{set}
 use Rattle.std.proofs.lemmas.Bool.{ne_eqb, eqb-true}
 use Rattle.std.proofs.lemmas.Bool.Decides.{eqb_tells}
 use Rattle.std.proofs.lemmas.List.Elements.{filter-append}
-use Rattle.std.proofs.lemmas.List.Folds.{list_any-append}
 use Rattle.js_base.specs.Bytes.{Bytes, has}
-use Rattle.js_base.specs.Subjects.{tokens, matches}
 use Rattle.route_index.specs.declared.sub.Sub.{Sub}
-use Rattle.route_index.specs.Subs.{IsAbove, id_of, is_match, matching_ids}
-use Rattle.js_model.specs.Catalog.{if_used, takes_subject, first_place, place_for, list_or_none}
+use Rattle.route_index.specs.Subs.{IsAbove}
 use Rattle.catalog.specs.declared.listing.Listing.{Listing}
 use Rattle.catalog.specs.declared.entry.Listed.{Listed}
-use Rattle.catalog.specs.declared.entry.Stream.{Stream}
 use Rattle.catalog.specs.declared.entry.Entry.{Entry}
 use Rattle.catalog.specs.Numbers.{numbers, numbered, is_of, subs_of_place, without_numbers, IsEarlier, IsPut}
-use Rattle.catalog.specs.Entries.{used_of, place_of, subjects_of, lists_of, lists_at, lists_of_used, second_list, subs_of_lists, without_lists, HaveRoom, LeavesList}
+use Rattle.catalog.specs.Entries.{lists_of, lists_at, subs_of_lists, without_lists, HaveRoom, LeavesList}
 use Rattle.catalog.specs.Holding.{ArePlaced, ListsPlaces}
 use Rattle.catalog.proofs.Numbering.{AreOutside, after_outside, before_outside, inside, outside_stays, inside_goes, without_append, above_put}
 

@@ -2,7 +2,7 @@
 use Rattle.std.proofs.Common.{◌≡◌, ◌⊎◌, inl, inr, ℕ, ◌||◌, ◌&&◌, Bool, true, false, List, [], ◌∷◌, ◌++◌, refl, sym, ap, ◌∙◌, append_assoc}
 use Rattle.std.proofs.lemmas.Bool.{and_parts, and_from, true≢false}
 use Rattle.js_base.specs.Bytes.{Bytes, is_empty, same, has}
-use Rattle.js_base.specs.Subjects.{tokens, matches, meets, star, rest}
+use Rattle.js_base.specs.Subjects.{tokens, meets, star, rest}
 use Rattle.js_base.proofs.Meeting.{same_is, same_self}
 use Rattle.route_index.specs.Ids.{Ids, is_under}
 use Rattle.route_index.specs.declared.seek.Seek.{Seek}

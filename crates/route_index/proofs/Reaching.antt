@@ -1,5 +1,5 @@
 -- The first text beneath a path from one on, what was seen of the texts before it, and how many are left.
-use Rattle.std.proofs.Common.{◌≡◌, ℕ, ◌+◌, ◌<◌, ◌≤◌, ◌==◌, ◌&&◌, ◌||◌, not, Bool, true, false, cond, List, [], ◌∷◌, ◌++◌, length, take, drop, map, filter, Option, Some, None, Bor, refl, sym, ap, subst, ◌∙◌, arith, append_assoc}
+use Rattle.std.proofs.Common.{◌≡◌, ℕ, ◌+◌, ◌<◌, ◌≤◌, ◌==◌, ◌&&◌, ◌||◌, not, Bool, true, false, cond, List, [], ◌∷◌, ◌++◌, length, take, drop, filter, Option, Some, None, Bor, refl, sym, ap, subst, ◌∙◌, arith, append_assoc}
 use Rattle.std.specs.Prelude.{nat_eq, IsSome, IfSome, MatchOption, slice_get}
 use Rattle.std.specs.List.{list_any}
 use Rattle.std.specs.Ordering.{nat_cmp}
@@ -10,7 +10,6 @@ use Rattle.std.specs.BTreeMap.{get, is_at}
 use Rattle.std.specs.BTreeMap.Range.{IsInRange, IsLeBy, IsRangeOf, IsEntryInRange}
 use Rattle.std.specs.BTreeSet.{BTreeSet}
 use Rattle.std.proofs.lemmas.Bool.{true≢false, eqb-true, and_parts}
-use Rattle.std.proofs.lemmas.List.Folds.{list_any-append}
 use Rattle.std.proofs.lemmas.Map.Text.{is_eq-slice_cmp}
 use Rattle.js_base.specs.Bytes.{Bytes, same}
 use Rattle.js_base.proofs.Meeting.{same_is, same_self}
@@ -240,8 +239,11 @@ module _ (piece : Piece) (ids : Ids) (path : Bytes) where
       let P : Bytes → Type 0 = λ t. AreListed piece ids path t refs' in
       let Seen : List Bytes → Type 0 = λ ts. IsSeen piece ids path (path ++ (part.now ++ past ∷ [])) ts in
       let parts : texts refs' ≡ texts refs ++ part.now ∷ [] = ap texts e ∙ texts_more refs in
-      subst P (sym f) (((part.now ++ past ∷ []), refl), subst Seen (sym parts) (seen_more piece ids path from text part.now past (texts refs) first ends listed.1),
-      subst (ArePieces piece) (sym parts) (pieces_more piece text part.now (texts refs) is listed.2))
+      subst P (sym f) (
+        ((part.now ++ past ∷ []), refl),
+        subst Seen (sym parts) (seen_more piece ids path from text part.now past (texts refs) first ends listed.1),
+        subst (ArePieces piece) (sym parts) (pieces_more piece text part.now (texts refs) is listed.2),
+      )
     where
       texts_more : (rs : List (Bor Bytes)) → texts (rs ++ part ∷ []) ≡ texts rs ++ part.now ∷ []
       texts_more [] = refl

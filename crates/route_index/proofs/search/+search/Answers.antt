@@ -29,15 +29,17 @@ search-returns-in_default-clause-found t c =
     searches_none c.args.query.now.seek c.args.query.now.ids.now c.args.path.now c.args.tokens.now (nil_from_length _ c.in_default.ensures.cases) c.args.found.now.items
 
 pub go_down_each-go_down-requires : goal.go_down_each-go_down-requires
-go_down_each-go_down-requires t c =
-    (search arith,
-    (dotless_at c.as_slice-token-items.result.now c.loop-token.token-index _ c.loop-token-test.true c.in_ok-tokens.tokens.items c.as_slice-token-items.ensures.value c.in_ok-tokens.ensures.pieces, c.requires.others))
+go_down_each-go_down-requires t c = (
+  search arith,
+  (dotless_at c.as_slice-token-items.result.now c.loop-token.token-index _ c.loop-token-test.true c.in_ok-tokens.tokens.items c.as_slice-token-items.ensures.value c.in_ok-tokens.ensures.pieces, c.requires.others),
+)
 
 pub go_down_each-loop-token-preserved : goal.go_down_each-loop-token-preserved
-go_down_each-loop-token-preserved t c =
-    (c.in_ok-go_down.ensures.path ∙ c.loop-token.invariant.0,
-    among_next c.as_slice-token-items.result.now c.loop-token.token-index _ c.loop-token-test.true c.args.query.now.seek c.args.query.now.ids.now c.loop-token.path c.go_down.new.path (texts c.args.others.now)
-    c.args.found.now.items c.loop-token.found.items c.go_down.new.found.items c.in_ok-go_down.ensures.path c.loop-token.invariant.1 c.in_ok-go_down.ensures.found)
+go_down_each-loop-token-preserved t c = (
+  c.in_ok-go_down.ensures.path ∙ c.loop-token.invariant.0,
+  among_next c.as_slice-token-items.result.now c.loop-token.token-index _ c.loop-token-test.true c.args.query.now.seek c.args.query.now.ids.now c.loop-token.path c.go_down.new.path (texts c.args.others.now)
+      c.args.found.now.items c.loop-token.found.items c.go_down.new.found.items c.in_ok-go_down.ensures.path c.loop-token.invariant.1 c.in_ok-go_down.ensures.found,
+)
 
 pub go_down_each-returns-clause-found : goal.go_down_each-returns-clause-found
 go_down_each-returns-clause-found t c =
