@@ -69,7 +69,10 @@ fn faults_of_subjects_tell_their_tokens(rt: HostRuntime) {
         ("$JS.API.S.W.1.1.1.1.1", AckFault::NotAck),
         ("$JS.ACK..W.1.1.1.1.1", AckFault::BadToken(2)),
         ("$JS.ACK.S.*.x.1.1.1.1", AckFault::BadToken(3)),
-        ("$JS.ACK.S.W.1.1.1.4611686018427387904.x", AckFault::BadToken(7)),
+        (
+            "$JS.ACK.S.W.1.1.1.4611686018427387904.x",
+            AckFault::BadToken(7),
+        ),
     ] {
         let told = read_ack(rt.alloc(), subject.as_bytes(), b"no body");
         assert_eq!(rt; told, Err(fault), "{subject:?}");
@@ -86,9 +89,13 @@ fn pull_requests_are_read(rt: HostRuntime) -> Result<(), Fail> {
         max_bytes: Some(2),
         heartbeat: 3,
     };
-    let body = b"{\"batch\":2147483647,\"expires\":1,\"idle_heartbeat\":3,\"max_bytes\":2,\"no_wait\":true}";
+    let body =
+        b"{\"batch\":2147483647,\"expires\":1,\"idle_heartbeat\":3,\"max_bytes\":2,\"no_wait\":true}";
     assert_eq!(rt; read_ask(alloc, body)?, Some(ask));
-    assert_eq!(rt; read_ask(alloc, b"{\"batch\":0,\"max_bytes\":0}")?, Some(just(1)));
+    assert_eq!(rt;
+        read_ask(alloc, b"{\"batch\":0,\"max_bytes\":0}")?,
+        Some(just(1))
+    );
     assert_eq!(rt; read_ask(alloc, b"0")?, Some(just(1)));
     assert_eq!(rt; read_ask(alloc, b"2147483648")?, None);
     assert_eq!(rt; read_ask(alloc, b"{\"no_wait\":1}")?, None);

@@ -65,8 +65,16 @@ fn refusal(rt: &impl Abort, alloc: Global, body: &str) -> (u32, Blob) {
 #[test]
 fn first_refusal_is_told(rt: HostRuntime) {
     for (body, number, text) in [
-        ("{\"ack_wait\":-1,\"backoff\":[1]}", 20001, "invalid value: ack_wait"),
-        ("{\"backoff\":[1],\"max_deliver\":-2}", 20002, "not supported: backoff"),
+        (
+            "{\"ack_wait\":-1,\"backoff\":[1]}",
+            20001,
+            "invalid value: ack_wait",
+        ),
+        (
+            "{\"backoff\":[1],\"max_deliver\":-2}",
+            20002,
+            "not supported: backoff",
+        ),
         (
             "{\"deliver_policy\":\"by_start_sequence\"}",
             20003,
