@@ -3,11 +3,7 @@
 #![tactic(auto)]
 
 #[cfg(test)]
-mod acks;
-#[cfg(test)]
 mod blocks;
-#[cfg(test)]
-mod consumers;
 #[cfg(test)]
 mod edge;
 #[cfg(test)]
