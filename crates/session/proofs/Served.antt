@@ -1,6 +1,7 @@
 -- Laws of a whole session: its opening, its turns, and its close.
 use Rattle.std.proofs.Common.{◌≡◌, ℕ, Bool, true, List, [], ◌∷◌, ◌++◌, Option, Result, Ok, Err, refl, sym, subst, append_assoc, inl, inr}
 use Rattle.std.specs.List.{flat_map}
+use Rattle.std.proofs.lemmas.Bool.{false≢true}
 use Rattle.std.proofs.lemmas.List.{append-nil}
 use Rattle.js_base.specs.Bytes.{Bytes}
 use Rattle.link_edge.proofs.Told.{grown-nil}
@@ -38,8 +39,8 @@ closing_told n (router.Listens heard) answer m s = absurd s
 closing_told n (router.Frames list more) answer m s = subst IsClosing (sym s) tt
 closing_told n (router.Slow length) answer m s = subst IsClosing (sym s) tt
 closing_told n (router.NoSession latest) answer m s = absurd s
-closing_told n router.TooManySubs answer m s = absurd m
-closing_told n router.Worn answer m s = absurd m
+closing_told n router.TooManySubs answer m s = absurd (false≢true m)
+closing_told n router.Worn answer m s = absurd (false≢true m)
 closing_told n router.NoMemory answer m s = cc
 
 closing : (n : ℕ) (answer : Result DeskAnswer DeskFault) (entries : List DeskEntry) → Routes (router.Close n) answer entries → IsClosing answer
