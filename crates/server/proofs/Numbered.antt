@@ -1,5 +1,6 @@
 -- Laws of desk calls whose entries are fit: none answers that numbers are used up.
 use Rattle.std.proofs.Common.{◌≡◌, ◌-◌, ◌^◌, ◌<◌, ℕ, Bool, true, false, List, [], ◌∷◌, ◌++◌, Option, Some, None, Result, Ok, Err, inl, inr, refl, sym, subst, arith}
+use Rattle.std.proofs.lemmas.Bool.{false≢true}
 use Rattle.std.specs.Prelude.{IfSome, MatchOption, MatchBool}
 use Rattle.js_base.specs.Bytes.{Bytes}
 use Rattle.js_base.specs.ServerSubjects.{is_api, is_acknowledgement}
@@ -371,13 +372,13 @@ said_keeps call (router.Slow length) result not may h = subst NoWorn (sym h) tt
 said_keeps call (router.NoSession latest) result not may h = absurd h
 said_keeps call router.TooManySubs result not may h = subst NoWorn (sym h) tt
 said_keeps router.Open router.Worn result not may h = absurd (not refl)
-said_keeps (router.Close n) router.Worn result not may h = absurd may
-said_keeps (router.Options n echo headers) router.Worn result not may h = absurd may
-said_keeps (router.Sub n pattern queue sid) router.Worn result not may h = absurd may
-said_keeps (router.Unsub n sid max) router.Worn result not may h = absurd may
-said_keeps (router.Publish out from) router.Worn result not may h = absurd may
-said_keeps (router.Interest subject group) router.Worn result not may h = absurd may
-said_keeps (router.Collect n max) router.Worn result not may h = absurd may
+said_keeps (router.Close n) router.Worn result not may h = absurd (false≢true may)
+said_keeps (router.Options n echo headers) router.Worn result not may h = absurd (false≢true may)
+said_keeps (router.Sub n pattern queue sid) router.Worn result not may h = absurd (false≢true may)
+said_keeps (router.Unsub n sid max) router.Worn result not may h = absurd (false≢true may)
+said_keeps (router.Publish out from) router.Worn result not may h = absurd (false≢true may)
+said_keeps (router.Interest subject group) router.Worn result not may h = absurd (false≢true may)
+said_keeps (router.Collect n max) router.Worn result not may h = absurd (false≢true may)
 said_keeps call router.NoMemory result not may h = subst NoWorn (sym h) tt
 
 routes_keeps : (call : router.RouteCall) → (call ≡ router.Open → ⊥) → Keeps (does.Routes call)
