@@ -530,14 +530,14 @@ module _ (legal : Opening → List Entry → Type 0) (o : Opening) (seats : ℕ)
         one (suc j) v e = absurd (some-ne-none v (sym e))
 
     pub closes : (id : ℕ) (v : View) (words : List ℕ) (slots : List (Option (Kept S))) → v.stage ≡ Idle → 0 < seats → ((n : ℕ) → n < seats → has v.numbers n ≡ true) → Final (Seen Rule id v) words slots
-        → (k : Kept S) × (get_elem? slots 0 ≡ opt.some (Some k)) × stands v.opening v.front k.value × (own v.numbers v.front ≡ v.front)
+        → (k : Kept S) × (get_elem? slots 0 ≡ opt.some (Some k)) × stands v.opening v.front k.value × (own v.numbers v.front ≡ v.front) × (v.opening ≡ o)
     closes id v words slots idle some_seat all final =
         let s = final.0 in let r = final.1.0 in let at = final.1.1 in let serving : ℕ = get_or s.words 1 0 in
         let mine = known r.history r.drew r.owner serving id v Idle idle (r.each_seat id v at) in
         let none_later : mine.0.later ≡ [] = later_none v.numbers seats mine.0.later all mine.0.foreign (made-cut seats v.front mine.0.later (subst (AreMade seats) mine.0.behind r.made)) in
         let whole : r.history ≡ v.front = mine.0.behind ∙ (ap (λ (l : List Entry). v.front ++ l) none_later ∙ append-nil v.front) in
         ⊎_elim
-        (λ home. (home.0, final.4 0 (Some home.0) home.1, subst (λ (z : Opening × List Entry). stands z.0 z.1 home.0.value) (λ i. (sym mine.0.opening i, whole i)) home.2, own-all v.numbers seats v.front all (made-front seats v.front mine.0.later (subst (AreMade seats) mine.0.behind r.made))))
+        (λ home. (home.0, final.4 0 (Some home.0) home.1, subst (λ (z : Opening × List Entry). stands z.0 z.1 home.0.value) (λ i. (sym mine.0.opening i, whole i)) home.2, own-all v.numbers seats v.front all (made-front seats v.front mine.0.later (subst (AreMade seats) mine.0.behind r.made)), mine.0.opening))
         (λ out. let by = out.1 in let u = out.2 in
         let k = known r.history r.drew r.owner serving by u (Inside serving) out.4 (r.each_seat by u out.3) in
         let theirs = k.0.owns (first_of u.numbers) k.1.2 in

@@ -11,10 +11,11 @@ use crate::turns::Turns;
 
 impl<S, P: Standing<S>> Turns<S, P> {
     /// The value, once every seat that the lock was given is joined into this one. What this seat has seen is then the whole history, for which the
-    /// value stands, and every entry of it is its own.
+    /// value stands, and every entry of it is its own. It takes no memory.
     pub fn close(self, seat: Seat<P>) -> S
         requires own { seat.lock ≡ self.lock }
         requires all { HasAll self.seats seat.numbers }
+        ensures opening { seat.opening ≡ self.opening }
         ensures stands { P.stands seat.opening seat.front result }
         ensures whole { own seat.numbers seat.front ≡ seat.front }
     {

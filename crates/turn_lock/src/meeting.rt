@@ -12,7 +12,8 @@ use atomic_table::Badge;
 use std::mem;
 
 impl<S, P: Standing<S>> Turns<S, P> {
-    /// The seat, whose front now begins with the other's too. Of the two fronts one began with the other. The other seat stays as it is.
+    /// The seat, whose front now begins with the other's too. Of the two fronts one began with the other. The other seat stays as it
+    /// is. It takes no memory.
     pub fn meet(&self, seat: Seat<P>, other: &mut Seat<P>) -> Seat<P>
         requires own { (seat.lock ≡ self.now.lock) × (other.old.lock ≡ self.now.lock) }
         ensures other { other.new ≡ other.old }
@@ -32,7 +33,7 @@ impl<S, P: Standing<S>> Turns<S, P> {
         }
     }
 
-    /// One seat of two. Its front begins with both fronts, and the entries of both are its own.
+    /// One seat of two. Its front begins with both fronts, and the entries of both are its own. It takes no memory.
     pub fn join(&self, seat: Seat<P>, other: Seat<P>) -> Seat<P>
         requires own { (seat.lock ≡ self.now.lock) × (other.lock ≡ self.now.lock) }
         ensures joined { IsJoined seat other result }

@@ -97,7 +97,8 @@ impl<S, P: Standing<S>> Turns<S, P> {
     }
 
     /// Waits for a turn of this seat. The value stands for a history that begins with all that the seat had seen, and what came in between is
-    /// by others. A thread that waits looks at the lock for a moment and then sleeps until a turn ends.
+    /// by others. A thread that waits looks at the lock for a moment and then sleeps until a turn ends. It may never return: that depends on those that
+    /// have a turn. It takes no memory.
     ///
     /// `TurnFault::Worn` comes exactly where all 2^62 tickets are drawn, and then always. The seat comes back and knows it.
     pub fn enter<R: Wait>(&self, rt: &R, seat: Seat<P>) -> Result<Held<S, P>, (TurnFault, Seat<P>)>
@@ -131,7 +132,7 @@ impl<S, P: Standing<S>> Turns<S, P> {
     }
 
     /// Ends the turn, and gives the value back with the entries of the turn, each with the seat's number. The value has to stand for the
-    /// history that the seat has seen and these entries, which is then what the seat has seen.
+    /// history that the seat has seen and these entries, which is then what the seat has seen. It takes no memory.
     pub fn leave(&self, held: Held<S, P>, entries: Entries) -> Seat<P>
         requires own { held.seat.lock ≡ self.now.lock }
         requires by { AreBy (number_of held.seat) entries.value }

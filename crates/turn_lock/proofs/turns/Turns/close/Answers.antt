@@ -41,3 +41,14 @@ returns-clause-whole g c =
     let t = c.seat.inside.badge.table_id in
     let mine : shown t v ≡ c.args.seat = ap (λ (vs : List View). shown t (view_of vs)) (sym a.2) ∙ c.seat.view_is in
     subst (λ (z : SeatView). own z.numbers z.front ≡ z.front) mine k.3
+
+pub returns-clause-opening : goal.returns-clause-opening
+returns-clause-opening g c =
+    let a = c.into_seat.ensures in let v = c.into_seat.result.me.0 in let h = idle_at _ _ v a.2 c.seat.invariant in
+    let numbers : c.args.seat.numbers ≡ v.numbers = ap (λ z. z.numbers) (sym c.seat.view_is) ∙ ap (λ (vs : List View). (view_of vs).numbers) a.2 in
+    let seats = ap (λ z. z.seats) (sym c.self.view_is) in
+    let all = subst (λ (z : ℕ × List ℕ). HasAll z.0 z.1) (λ i. (seats i, numbers i)) c.requires.all in
+    let k = closes _ _ _ _ (g.met.P.Standing.all_lawful _) _ v _ _ h.idle c.self.invariant.some all c.close_with-closed.ensures.values.2 in
+    let t = c.seat.inside.badge.table_id in
+    let mine : shown t v ≡ c.args.seat = ap (λ (vs : List View). shown t (view_of vs)) (sym a.2) ∙ c.seat.view_is in
+    sym (ap (λ (z : SeatView). z.opening) mine) ∙ k.4 ∙ ap (λ z. z.opening) c.self.view_is
