@@ -25,9 +25,12 @@ def publish_with_id(number, reply=b""):
     return b"HPUB orders.a %s %d %d\r\n%s%s\r\n" % (reply, len(block), len(block) + len(PAYLOAD), block, PAYLOAD)
 
 
-def acknowledgement(seq, duplicate=False):
-    body = b'{%s"seq":%d,"stream":"ORDERS"}' % (b'"duplicate":true,' if duplicate else b"", seq)
+def answer(body):
     return b"MSG _I.1 1 %d\r\n%s\r\n" % (len(body), body)
+
+
+def acknowledgement(seq, duplicate=False):
+    return answer(b'{%s"seq":%d,"stream":"ORDERS"}' % (b'"duplicate":true,' if duplicate else b"", seq))
 
 
 def acknowledgements(first, count):

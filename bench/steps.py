@@ -59,6 +59,11 @@ def instructions(program, script):
     return int(re.search(rb"I\s+refs:\s+([0-9,]+)", run.stderr)[1].replace(b",", b""))
 
 
+def factor(costs):
+    """The greatest cost by the least."""
+    return f"{max(costs) / min(costs):.2f}"
+
+
 def line(name, cells):
     print(f"{name:>14}" + "".join(f" {cell:>18}" for cell in cells), flush=True)
 
@@ -77,7 +82,7 @@ def table(program, name, counts, columns, most):
             before, script, is_right, parts = make(count, most)
             rows[-1].append(min(work(program, before, script, is_right)[0] for _ in range(RUNS)) / parts)
         line(f"{count:,}", [f"{cost:,.0f}" for cost in rows[-1]])
-    line("factor", [f"{max(costs) / min(costs):.2f}" for costs in zip(*rows)])
+    line("factor", [factor(costs) for costs in zip(*rows)])
     if shutil.which("valgrind"):
         for count in (counts[0], counts[-1]):
             line(f"instr., {count:,}", [f"{counted(program, make, count, most):,.0f}" for make in columns.values()])
