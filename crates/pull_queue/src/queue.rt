@@ -11,12 +11,12 @@ use crate::fault::PullFault;
 use crate::front::Front;
 use crate::moments::{beat_all, earlier, is_over, is_reached, next_of, next_of_all};
 use crate::status::{put_beats, put_timeouts};
-use js_base::{List, Moment, NoMemory, Out, Outs};
+use consumer_texts::append;
+use js_base::{Moment, NoMemory, Out, Outs};
 use js_model::Pull;
 use std::alloc::Global;
 use std::collections::VecDeque;
 use std::marker::Model;
-use std::mem;
 
 /// The pulls of a consumer that wait for messages, in the order of their asking, and how many of them may.
 #[derive(Drop)]
@@ -40,7 +40,7 @@ impl Model for PullQueue {
 }
 
 impl PullQueue {
-    /// A queue in which no pull waits, and in which so many may. It takes no memory.
+    /// An empty queue for at most `max_waiting` pulls. It takes no memory.
     pub fn new(alloc: Global, max_waiting: u64) -> PullQueue
         ensures value { result ≡ record { max_waiting = max_waiting; pulls = [] } }
     {
@@ -102,8 +102,8 @@ impl PullQueue {
         }
     }
 
-    /// Adds a pull behind all others. It is `Full` exactly if as many wait as may, and else `NoMemory` if an allocation is refused; either changes
-    /// nothing.
+    /// Adds a pull behind all others. The fault is `Full` exactly if `max_waiting` pulls wait already, and else `NoMemory` if an allocation is refused;
+    /// either changes nothing.
     pub fn ask(&mut self, pull: Pull) -> Result<(), PullFault>
         ensures ok { OnOk result (self.new ≡ record self.old { pulls = self.old.pulls ++ pull ∷ [] }) }
         ensures err { OnErr result (self.new ≡ self.old) }
@@ -215,16 +215,4 @@ fn serve(pull: &mut Pull, size: u64, now: Moment)
     pull.batch = pull.batch.saturating_sub(1);
     pull.bytes = pull.bytes.map(|limit| limit.saturating_sub(size));
     pull.mark = now;
-}
-
-/// Adds all of the messages, or none if memory runs out.
-fn append(alloc: Global, outs: &mut Outs, mut more: Vec<Out>) -> Result<(), NoMemory>
-    ensures ok { OnOk result (outs.new ≡ outs.old ++ more.items) }
-    ensures err { OnErr result (outs.new ≡ outs.old) }
-{
-    let mut all = mem::replace(outs, List::new(alloc)).into_vec();
-    let appended = all.append(&mut more);
-    *outs = List::from_vec(all);
-    appended?;
-    Ok(())
 }
