@@ -1,15 +1,13 @@
 -- What follows the step of a hold, put together of who listens and of the deliveries.
-use Rattle.std.proofs.Common.{◌≡◌, ℕ, ◌-◌, ◌^◌, Bool, true, false, List, [], ◌∷◌, ◌++◌, append-nil, Option, None, Some, Ok, Err, refl, sym, ap, subst, ◌∙◌, arith, inl, inr}
+use Rattle.std.proofs.Common.{◌≡◌, ℕ, ◌-◌, ◌^◌, Bool, true, false, List, [], ◌∷◌, append-nil, None, Some, Ok, Err, refl, sym, ap, subst, ◌∙◌, arith, inl, inr}
 use Rattle.std.specs.Prelude.{if◌then◌else◌}
 use Rattle.js_base.specs.Bytes.{Bytes}
 use Rattle.js_base.specs.declared.out.Out.{Out}
-use Rattle.js_model.specs.declared.entry.PlaceEntry.{PlaceEntry}
 use Rattle.js_model.specs.declared.consumer.Consumer.{Consumer}
 use Rattle.js_model.specs.declared.desk.PlaceAt.{PlaceAt}
 use Rattle.js_model.specs.PlaceStates.{PlaceIn}
 use Rattle.js_model.specs.Ready.{some_ready}
 use Rattle.js_model.specs.Router.{RouteCall, RouteTold}
-use Rattle.js_api.specs.declared.fault.DeskFault.{DeskFault}
 use Rattle.js_api.specs.declared.fault.DeskFault.TheVariants as faults
 use Rattle.js_api.specs.Holding.{AreFirstReadings, delivery_broke, listening_of, push_consumers}
 use Rattle.js_api.specs.Worlds.{IsLater}
@@ -18,7 +16,7 @@ use Rattle.desk_hold.specs.declared.delivering.Ending.TheVariants.{Quiet, Full, 
 use Rattle.desk_hold.specs.declared.following.Following.{Following}
 use Rattle.desk_hold.specs.declared.following.Following.TheVariants.{Heard, Unheard}
 use Rattle.desk_hold.specs.declared.port.PortFault.TheVariants as ports
-use Rattle.desk_hold.specs.Deliveries.{DeliversOn, Led, Pauses}
+use Rattle.desk_hold.specs.Deliveries.{DeliversOn, Led}
 use Rattle.desk_hold.specs.Following.{Follows}
 use Rattle.desk_hold.specs.Hearing.{Hears}
 

@@ -1,5 +1,5 @@
 use Rattle.desk_hold.specs.declared.delivering.Ending.TheVariants.{Quiet, Full, Broke, Short, WornOut}
-use Rattle.desk_hold.proofs.Followed.{as_told, broke, full, no_turn, not_heard, quiet, ran_short, worn_out}
+use Rattle.desk_hold.proofs.Followed.{as_told, broke, full, quiet, ran_short, worn_out}
 use Rattle.desk_hold.proofs.following.follow.Goals as goal
 
 pub returns-in-Quiet-clause-follows : goal.returns-in-Quiet-clause-follows

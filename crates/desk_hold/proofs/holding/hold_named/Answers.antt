@@ -1,4 +1,4 @@
-use Rattle.std.proofs.Common.{IsTrue, [], Ok, Err, sym, subst, ◌∙◌}
+use Rattle.std.proofs.Common.{IsTrue, [], Ok, Err, sym, subst}
 use Rattle.js_model.specs.declared.event.Event.{Event}
 use Rattle.js_model.specs.Proper.{is_proper}
 use Rattle.js_api.specs.Holding.{event_at}
