@@ -219,10 +219,10 @@ module _ (at : PlaceAt) where
   last_holds Gone what now ready fault entries last h = ap (λ (es : List DeskEntry). last_after es last) h.1
 
   -- the entries of the hold lead the desk from the one scene to the other
-  pub held_alone : (what : What) (now : ℕ) (outcome : Outcome) (scene : Scene) (place new : PlaceIn) (router : Router) → slice_get scene.world.places at.place ≡ Some place
-      → HoldsOn IsRoute never at what now outcome (on place scene.world.router) (on new router)
+  pub held_alone : (seat : ℕ) (what : What) (now : ℕ) (outcome : Outcome) (scene : Scene) (place new : PlaceIn) (router : Router) → slice_get scene.world.places at.place ≡ Some place
+      → HoldsOn IsRoute never at seat what now outcome (on place scene.world.router) (on new router)
       → Makes (Leads SoloStep) (Holds at what now outcome) scene (with_place scene at.place (on new router) (last_of outcome.became scene.cursor.last))
-  held_alone what now outcome scene place new router there h =
+  held_alone seat what now outcome scene place new router there h =
       let last : last_after h.entries scene.cursor.last ≡ last_of outcome.became scene.cursor.last =
       ap (λ (es : List DeskEntry). last_after es scene.cursor.last) h.holds.entries_are
       ∙ last_behind h.holds.first h.holds.more scene.cursor.last

@@ -1,5 +1,5 @@
 -- The deliveries of a hold, one behind the other.
-use Rattle.std.proofs.Common.{◌≡◌, ◌≢◌, ◌≤◌, ◌+◌, ◌++◌, ℕ, suc, ◌<◌, get_or, add-one, Bool, true, false, List, [], ◌∷◌, length, length-append, append-nil, append_assoc, Option, None, Some, refl, sym, ap, subst, ◌∙◌, arith, inl, inr}
+use Rattle.std.proofs.Common.{◌≡◌, ◌≢◌, ◌≤◌, ◌+◌, ◌++◌, ℕ, ◌<◌, get_or, add-one, List, [], ◌∷◌, length, length-append, append-nil, append_assoc, Option, None, Some, refl, sym, ap, subst, ◌∙◌, arith, inl, inr}
 use Rattle.std.specs.Prelude.{◌⊎◌, sum_by, drop, take}
 use Rattle.std.proofs.Math.Seq.{drop-append_seam, take-suc}
 use Rattle.std.proofs.lemmas.List.Sums.{sum_by-append, sum_by-take-le}
@@ -7,7 +7,7 @@ use Rattle.js_base.specs.Bytes.{Bytes}
 use Rattle.js_base.specs.declared.out.Out.{Out}
 use Rattle.js_model.specs.declared.entry.Delivery.{Delivery}
 use Rattle.js_model.specs.declared.entry.PlaceEntry.{PlaceEntry}
-use Rattle.js_model.specs.declared.entry.PlaceEntry.TheVariants.{Step, Deliver, Broken}
+use Rattle.js_model.specs.declared.entry.PlaceEntry.TheVariants.{Deliver}
 use Rattle.js_model.specs.declared.desk.PlaceAt.{PlaceAt}
 use Rattle.js_model.specs.PlaceStates.{PlaceIn}
 use Rattle.js_api.specs.declared.fault.DeskFault.{DeskFault}
@@ -15,21 +15,21 @@ use Rattle.js_api.specs.Holding.{AreDeliveries, bytes_of, delivery_broke, most_b
 use Rattle.js_api.specs.Worlds.{IsLater}
 use Rattle.desk_hold.specs.declared.delivering.Ending.{Ending}
 use Rattle.desk_hold.specs.declared.delivering.Ending.TheVariants.{Quiet, Full, Broke, Short, WornOut}
-use Rattle.desk_hold.specs.Deliveries.{DeliversOn, EndsSo, GoesOn, IsSentAt, Led, Pauses, fault_by}
+use Rattle.desk_hold.specs.Deliveries.{DeliversOn, EndsSo, GoesOn, IsSentAt, Led, fault_by}
 
 -- So many deliveries were made and told so far. What goes on from here, goes on from the beginning
-pub record SoFar (now : ℕ) (listening : List Bytes) (made : ℕ) (old here : PlaceIn) (before outs : List Out) : Type 0 where
+pub record SoFar (seat : ℕ) (now : ℕ) (listening : List Bytes) (made : ℕ) (old here : PlaceIn) (before outs : List Out) : Type 0 where
   pub first : List PlaceEntry
   pub sent : List Out
   pub count : length first ≡ made
   pub added : outs ≡ before ++ sent
   pub goes : here.stopped ≡ None
   pub whole : (tail : List PlaceEntry) → delivery_broke (first ++ tail) ≡ delivery_broke tail
-  pub are : (at : PlaceAt) (fault : Option DeskFault) (tail : List PlaceEntry) → AreDeliveries 0 at now listening fault tail → AreDeliveries 0 at now listening fault (first ++ tail)
+  pub are : (at : PlaceAt) (fault : Option DeskFault) (tail : List PlaceEntry) → AreDeliveries seat at now listening fault tail → AreDeliveries seat at now listening fault (first ++ tail)
   pub led : (tail : List PlaceEntry) (more : List Out) (new : PlaceIn) → Led here tail more new → Led old (first ++ tail) (sent ++ more) new
 
-pub none_so_far : (now : ℕ) (listening : List Bytes) (old : PlaceIn) (outs : List Out) → old.stopped ≡ None → SoFar now listening 0 old old outs outs
-none_so_far now listening old outs goes = record {
+pub none_so_far : (seat now : ℕ) (listening : List Bytes) (old : PlaceIn) (outs : List Out) → old.stopped ≡ None → SoFar seat now listening 0 old old outs outs
+none_so_far seat now listening old outs goes = record {
   first = [];
   sent = [];
   count = refl;
@@ -41,15 +41,15 @@ none_so_far now listening old outs goes = record {
 }
 
 -- one more
-module _ (now : ℕ) (listening : List Bytes) (made : ℕ) (old here next : PlaceIn) (before outs after : List Out) (d : Delivery) (os : List Out)
-    (h : SoFar now listening made old here before outs) (step : IsSentAt now listening d os here next) (goes : next.stopped ≡ None) (added : after ≡ outs ++ os) where
+module _ (seat now : ℕ) (listening : List Bytes) (made : ℕ) (old here next : PlaceIn) (before outs after : List Out) (d : Delivery) (os : List Out)
+    (h : SoFar seat now listening made old here before outs) (step : IsSentAt now listening d os here next) (goes : next.stopped ≡ None) (added : after ≡ outs ++ os) where
   entry : PlaceEntry
-  entry = Deliver 0 now listening d os
+  entry = Deliver seat now listening d os
 
   grown : (tail : List PlaceEntry) → (h.first ++ entry ∷ []) ++ tail ≡ h.first ++ entry ∷ tail
   grown tail = append_assoc h.first (entry ∷ []) tail
 
-  pub one_more : SoFar now listening (made + 1) old next before after
+  pub one_more : SoFar seat now listening (made + 1) old next before after
   unfolding entry
   one_more = record {
     first = h.first ++ entry ∷ [];
@@ -58,7 +58,7 @@ module _ (now : ℕ) (listening : List Bytes) (made : ℕ) (old here next : Plac
     added = added ∙ ap (λ (l : List Out). l ++ os) h.added ∙ append_assoc before h.sent os;
     goes = goes;
     whole = λ tail. ap delivery_broke (grown tail) ∙ h.whole (entry ∷ tail);
-    are = λ at fault tail k. subst (λ (es : List PlaceEntry). AreDeliveries 0 at now listening fault es) (sym (grown tail)) (h.are at fault (entry ∷ tail) (refl, refl, refl, k));
+    are = λ at fault tail k. subst (λ (es : List PlaceEntry). AreDeliveries seat at now listening fault es) (sym (grown tail)) (h.are at fault (entry ∷ tail) (refl, refl, refl, k));
     led = λ tail more new k.
         subst (λ (es : List PlaceEntry). Led old es ((h.sent ++ os) ++ more) new) (sym (grown tail))
         (subst (λ (l : List Out). Led old (h.first ++ entry ∷ tail) l new) (sym (append_assoc h.sent os more))
@@ -81,9 +81,9 @@ ends_behind Short now listening first tail new outs same h = tt
 ends_behind WornOut now listening first tail new outs same h = (not_none first tail h.0, h.1)
 
 -- what ended there ends all
-pub ended_there : (at : PlaceAt) (now : ℕ) (listening : List Bytes) (made : ℕ) (ending : Ending) (old here new : PlaceIn) (before outs after : List Out)
-    → SoFar now listening made old here before outs → DeliversOn at now listening ending here new outs after → DeliversOn at now listening ending old new before after
-ended_there at now listening made ending old here new before outs after h k = record {
+pub ended_there : (seat : ℕ) (at : PlaceAt) (now : ℕ) (listening : List Bytes) (made : ℕ) (ending : Ending) (old here new : PlaceIn) (before outs after : List Out)
+    → SoFar seat now listening made old here before outs → DeliversOn seat at now listening ending here new outs after → DeliversOn seat at now listening ending old new before after
+ended_there seat at now listening made ending old here new before outs after h k = record {
   entries = h.first ++ k.entries;
   sent = h.sent ++ k.sent;
   are = h.are at (fault_by ending) k.entries k.are;
@@ -96,9 +96,9 @@ same_volume : (p : PlaceIn) → IsLater p.volume p.volume
 same_volume p = record { faults = omega arith; moments = omega arith; generations = omega arith }
 
 -- it is full
-pub full_there : (at : PlaceAt) (now : ℕ) (listening : List Bytes) (made : ℕ) (old here : PlaceIn) (before outs : List Out) → SoFar now listening made old here before outs
-    → (most_deliveries ≤ made) ⊎ (most_bytes ≤ sum_by bytes_of outs) → DeliversOn at now listening Full old here before outs
-full_there at now listening made old here before outs h full = record {
+pub full_there : (seat : ℕ) (at : PlaceAt) (now : ℕ) (listening : List Bytes) (made : ℕ) (old here : PlaceIn) (before outs : List Out) → SoFar seat now listening made old here before outs
+    → (most_deliveries ≤ made) ⊎ (most_bytes ≤ sum_by bytes_of outs) → DeliversOn seat at now listening Full old here before outs
+full_there seat at now listening made old here before outs h full = record {
   entries = h.first ++ [];
   sent = h.sent ++ [];
   are = h.are at None [] tt;
@@ -113,17 +113,17 @@ full_there at now listening made old here before outs h full = record {
 
 -- ---- in the loop
 
-pub next_so_far : (now : ℕ) (listening : List Bytes) (made : ℕ) (old here next : PlaceIn) (before outs after : List Out) (told : Option Ending) → told ≡ None
-    → SoFar now listening made old here before outs → GoesOn now listening told here next outs after → SoFar now listening (made + 1) old next before after
-next_so_far now listening made old here next before outs after None none h (d, os, step, goes, added) = one_more now listening made old here next before outs after d os h step goes added
-next_so_far now listening made old here next before outs after (Some ending) some h k = let no : ⊥ = cc in absurd no
+pub next_so_far : (seat now : ℕ) (listening : List Bytes) (made : ℕ) (old here next : PlaceIn) (before outs after : List Out) (told : Option Ending) → told ≡ None
+    → SoFar seat now listening made old here before outs → GoesOn now listening told here next outs after → SoFar seat now listening (made + 1) old next before after
+next_so_far seat now listening made old here next before outs after None none h (d, os, step, goes, added) = one_more seat now listening made old here next before outs after d os h step goes added
+next_so_far seat now listening made old here next before outs after (Some ending) some h k = let no : ⊥ = cc in absurd no
 
-pub ended_so : (now : ℕ) (listening : List Bytes) (made : ℕ) (old here next : PlaceIn) (before outs after : List Out) (told : Option Ending) (ending : Ending) → told ≡ Some ending
-    → SoFar now listening made old here before outs → GoesOn now listening told here next outs after → (at : PlaceAt) → DeliversOn at now listening ending old next before after
-ended_so now listening made old here next before outs after None ending some h k = let no : ⊥ = cc in absurd no
-ended_so now listening made old here next before outs after (Some last) ending some h k = λ at.
-    subst (λ (e : Ending). DeliversOn at now listening e old next before after) (let same : last ≡ ending = cc in same)
-    (ended_there at now listening made last old here next before outs after h (k at))
+pub ended_so : (seat now : ℕ) (listening : List Bytes) (made : ℕ) (old here next : PlaceIn) (before outs after : List Out) (told : Option Ending) (ending : Ending) → told ≡ Some ending
+    → SoFar seat now listening made old here before outs → GoesOn now listening told here next outs after → (at : PlaceAt) → DeliversOn seat at now listening ending old next before after
+ended_so seat now listening made old here next before outs after None ending some h k = let no : ⊥ = cc in absurd no
+ended_so seat now listening made old here next before outs after (Some last) ending some h k = λ at.
+    subst (λ (e : Ending). DeliversOn seat at now listening e old next before after) (let same : last ≡ ending = cc in same)
+    (ended_there seat at now listening made last old here next before outs after h (k seat at))
 
 -- the size of what was added
 pub larger : (size more : ℕ) (outs after : List Out) (now : ℕ) (listening : List Bytes) (here next : PlaceIn) (told : Option Ending) → told ≡ None → GoesOn now listening told here next outs after

@@ -1,15 +1,13 @@
 -- What follows the step of a hold, put together of who listens and of the deliveries.
-use Rattle.std.proofs.Common.{◌≡◌, ℕ, ◌-◌, ◌^◌, Bool, true, false, List, [], ◌∷◌, ◌++◌, append-nil, Option, None, Some, Ok, Err, refl, sym, ap, subst, ◌∙◌, arith, inl, inr}
+use Rattle.std.proofs.Common.{◌≡◌, ℕ, ◌-◌, ◌^◌, Bool, true, false, List, [], ◌∷◌, append-nil, None, Some, Ok, Err, refl, sym, ap, subst, ◌∙◌, arith, inl, inr}
 use Rattle.std.specs.Prelude.{if◌then◌else◌}
 use Rattle.js_base.specs.Bytes.{Bytes}
 use Rattle.js_base.specs.declared.out.Out.{Out}
-use Rattle.js_model.specs.declared.entry.PlaceEntry.{PlaceEntry}
 use Rattle.js_model.specs.declared.consumer.Consumer.{Consumer}
 use Rattle.js_model.specs.declared.desk.PlaceAt.{PlaceAt}
 use Rattle.js_model.specs.PlaceStates.{PlaceIn}
 use Rattle.js_model.specs.Ready.{some_ready}
 use Rattle.js_model.specs.Router.{RouteCall, RouteTold}
-use Rattle.js_api.specs.declared.fault.DeskFault.{DeskFault}
 use Rattle.js_api.specs.declared.fault.DeskFault.TheVariants as faults
 use Rattle.js_api.specs.Holding.{AreFirstReadings, delivery_broke, listening_of, push_consumers}
 use Rattle.js_api.specs.Worlds.{IsLater}
@@ -18,7 +16,7 @@ use Rattle.desk_hold.specs.declared.delivering.Ending.TheVariants.{Quiet, Full, 
 use Rattle.desk_hold.specs.declared.following.Following.{Following}
 use Rattle.desk_hold.specs.declared.following.Following.TheVariants.{Heard, Unheard}
 use Rattle.desk_hold.specs.declared.port.PortFault.TheVariants as ports
-use Rattle.desk_hold.specs.Deliveries.{DeliversOn, Led, Pauses}
+use Rattle.desk_hold.specs.Deliveries.{DeliversOn, Led}
 use Rattle.desk_hold.specs.Following.{Follows}
 use Rattle.desk_hold.specs.Hearing.{Hears}
 
@@ -32,11 +30,11 @@ same_volume p = record { faults = omega arith; moments = omega arith; generation
 pauses : (p : PlaceIn) → p.stopped ≡ None → Led p [] [] p
 pauses p goes = (record { going = goes; state = refl; stored = refl; stopped = goes; later = same_volume p }, refl)
 
-module _ {R : Type 0} (routes : R → RouteCall → RouteTold → R → Type 0) (worn : R → ℕ → R → Type 0) (at : PlaceAt) where
+module _ {R : Type 0} (routes : R → RouteCall → RouteTold → R → Type 0) (worn : R → ℕ → R → Type 0) (seat : ℕ) (at : PlaceAt) where
   -- nothing follows a step whose answer found no memory
   pub unsaid_step : (now : ℕ) (following : Following) (place : PlaceIn) (r : R) (outs : List Out) → place.stopped ≡ None → following ≡ Heard false (Some faults.NoMemory)
-      → Follows routes worn at now following place place r r outs outs
-  unsaid_step now following place r outs goes is = subst (λ (f : Following). Follows routes worn at now f place place r r outs outs) (sym is) (record {
+      → Follows routes worn seat at now following place place r r outs outs
+  unsaid_step now following place r outs goes is = subst (λ (f : Following). Follows routes worn seat at now f place place r r outs outs) (sym is) (record {
     readings = [];
     entries = [];
     sent = [];
@@ -47,8 +45,8 @@ module _ {R : Type 0} (routes : R → RouteCall → RouteTold → R → Type 0) 
 
   -- memory ran out as it was asked who listens
   pub not_heard : (now : ℕ) (following : Following) (place : PlaceIn) (r s : R) (outs : List Out) → place.stopped ≡ None → Hears routes worn (Err ports.NoMemory) place.state r s
-      → following ≡ Heard false (Some faults.NoMemory) → Follows routes worn at now following place place r s outs outs
-  not_heard now following place r s outs goes h is = subst (λ (f : Following). Follows routes worn at now f place place r s outs outs) (sym is) (record {
+      → following ≡ Heard false (Some faults.NoMemory) → Follows routes worn seat at now following place place r s outs outs
+  not_heard now following place r s outs goes h is = subst (λ (f : Following). Follows routes worn seat at now f place place r s outs outs) (sym is) (record {
     readings = h.readings;
     entries = [];
     sent = [];
@@ -59,7 +57,7 @@ module _ {R : Type 0} (routes : R → RouteCall → RouteTold → R → Type 0) 
 
   -- no turn of the router was left for that
   pub no_turn : (now number : ℕ) (place : PlaceIn) (r s : R) (outs : List Out) → place.stopped ≡ None → Hears routes worn (Err (ports.Worn number)) place.state r s
-      → Follows routes worn at now (Unheard number) place place r s outs outs
+      → Follows routes worn seat at now (Unheard number) place place r s outs outs
   no_turn now number place r s outs goes h = record {
     readings = h.readings;
     entries = [];
@@ -71,14 +69,14 @@ module _ {R : Type 0} (routes : R → RouteCall → RouteTold → R → Type 0) 
 
   module _ (now : ℕ) (listening : List Bytes) (old new : PlaceIn) (r s : R) (before after : List Out) (h : Hears routes worn (Ok listening) old.state r s) where
     -- the ending that was told
-    pub as_told : (ending told : Ending) → told ≡ ending → DeliversOn at now listening told old new before after → DeliversOn at now listening ending old new before after
-    as_told ending told is d = subst (λ (e : Ending). DeliversOn at now listening e old new before after) is d
+    pub as_told : (ending told : Ending) → told ≡ ending → DeliversOn seat at now listening told old new before after → DeliversOn seat at now listening ending old new before after
+    as_told ending told is d = subst (λ (e : Ending). DeliversOn seat at now listening e old new before after) is d
 
     -- with who was read to listen
-    read : (ending : Ending) → DeliversOn at now listening ending old new before after → DeliversOn at now (listening_of h.readings) ending old new before after
-    read ending d = subst (λ (l : List Bytes). DeliversOn at now l ending old new before after) h.reads.1 d
+    read : (ending : Ending) → DeliversOn seat at now listening ending old new before after → DeliversOn seat at now (listening_of h.readings) ending old new before after
+    read ending d = subst (λ (l : List Bytes). DeliversOn seat at now l ending old new before after) h.reads.1 d
 
-    pub quiet : DeliversOn at now listening Quiet old new before after → Follows routes worn at now (Heard false None) old new r s before after
+    pub quiet : DeliversOn seat at now listening Quiet old new before after → Follows routes worn seat at now (Heard false None) old new r s before after
     quiet d =
         let k = read Quiet d in
         record {
@@ -102,7 +100,7 @@ module _ {R : Type 0} (routes : R → RouteCall → RouteTold → R → Type 0) 
         by true ready none = refl
         by false ready none = sym none
 
-    pub broke : DeliversOn at now listening Broke old new before after → Follows routes worn at now (Heard false None) old new r s before after
+    pub broke : DeliversOn seat at now listening Broke old new before after → Follows routes worn seat at now (Heard false None) old new r s before after
     broke d =
         let k = read Broke d in
         record {
@@ -122,7 +120,7 @@ module _ {R : Type 0} (routes : R → RouteCall → RouteTold → R → Type 0) 
           };
         }
 
-    pub full : (ready : Bool) → ready ≡ some_ready new.state now listening → DeliversOn at now listening Full old new before after → Follows routes worn at now (Heard ready None) old new r s before after
+    pub full : (ready : Bool) → ready ≡ some_ready new.state now listening → DeliversOn seat at now listening Full old new before after → Follows routes worn seat at now (Heard ready None) old new r s before after
     full ready is d =
         let k = read Full d in
         record {
@@ -143,10 +141,10 @@ module _ {R : Type 0} (routes : R → RouteCall → RouteTold → R → Type 0) 
           };
         }
 
-    pub ran_short : (following : Following) → following ≡ Heard false (Some faults.NoMemory) → DeliversOn at now listening Short old new before after → Follows routes worn at now following old new r s before after
+    pub ran_short : (following : Following) → following ≡ Heard false (Some faults.NoMemory) → DeliversOn seat at now listening Short old new before after → Follows routes worn seat at now following old new r s before after
     ran_short following is d =
         let k = read Short d in
-        subst (λ (f : Following). Follows routes worn at now f old new r s before after) (sym is) (record {
+        subst (λ (f : Following). Follows routes worn seat at now f old new r s before after) (sym is) (record {
           readings = h.readings;
           entries = k.entries;
           sent = k.sent;
@@ -155,11 +153,11 @@ module _ {R : Type 0} (routes : R → RouteCall → RouteTold → R → Type 0) 
           followed = record { heard = h.reads.2; asked = inl h.reads.0; are = k.are; left = tt };
         })
 
-    pub worn_out : (following : Following) → following ≡ Heard false (Some (faults.Worn (2 ^ 62 - 1))) → DeliversOn at now listening WornOut old new before after
-        → Follows routes worn at now following old new r s before after
+    pub worn_out : (following : Following) → following ≡ Heard false (Some (faults.Worn (2 ^ 62 - 1))) → DeliversOn seat at now listening WornOut old new before after
+        → Follows routes worn seat at now following old new r s before after
     worn_out following is d =
         let k = read WornOut d in
-        subst (λ (f : Following). Follows routes worn at now f old new r s before after) (sym is) (record {
+        subst (λ (f : Following). Follows routes worn seat at now f old new r s before after) (sym is) (record {
           readings = h.readings;
           entries = k.entries;
           sent = k.sent;

@@ -1,11 +1,11 @@
 -- A step at a place, and the sending of what it sends, are one hold.
 use Rattle.std.proofs.Common.{◌≡◌, ◌≢◌, ◌-◌, ◌^◌, ℕ, Bool, true, false, List, [], ◌∷◌, Option, Some, None, Result, Ok, Err, refl, sym, ap, subst, ◌∙◌, append-nil, inl, inr, arith}
 use Rattle.std.specs.Prelude.{◌⊎◌, ◌≤◌, ◌+◌, ◌++◌, length, sum_by, if◌then◌else◌, MatchOption}
+use Rattle.std.specs.List.{AllByRecursion}
 use Rattle.std.specs.Option.{option_or}
 use Rattle.js_base.specs.Bytes.{Bytes}
 use Rattle.js_base.specs.declared.out.Out.{Out}
 use Rattle.js_model.specs.declared.stream.State.{State}
-use Rattle.js_model.specs.declared.stream.State.TheVariants.{Vacant, Live}
 use Rattle.js_model.specs.declared.consumer.Consumer.{Consumer}
 use Rattle.js_model.specs.declared.event.Event.{Event}
 use Rattle.js_model.specs.declared.event.What.{What}
@@ -21,6 +21,7 @@ use Rattle.js_model.specs.PlaceStates.{PlaceIn, VolumeAt}
 use Rattle.js_model.specs.Runs.{new_messages}
 use Rattle.js_model.specs.Ready.{some_ready}
 use Rattle.js_model.specs.Router.{RouteCall, RouteTold}
+use Rattle.model_laws.specs.Legal.{seat_of}
 use Rattle.js_api.specs.declared.fault.DeskFault.{DeskFault}
 use Rattle.js_api.specs.declared.fault.DeskFault.TheVariants as faults
 use Rattle.js_api.specs.declared.outcome.Became.{Became}
@@ -38,7 +39,7 @@ use Rattle.desk_hold.specs.declared.following.Following.{Following}
 use Rattle.desk_hold.specs.declared.following.Following.TheVariants.{Heard, Unheard}
 use Rattle.desk_hold.specs.Deliveries.{Led}
 use Rattle.desk_hold.specs.Following.{AskedSo, Follows, IsFault, LeftSo}
-use Rattle.desk_hold.specs.OnePlace.{HoldsOn, IsHeldOn, OnPlace, on}
+use Rattle.desk_hold.specs.OnePlace.{HoldsOn, IsBy, IsHeldOn, OnPlace, on}
 use Rattle.desk_hold.specs.Outcomes.{SendsFollowed, SendsMade, SendsThem, absent_by, failed_by, fault_of, quietly, shortly}
 use Rattle.desk_hold.specs.Ports.{Sends}
 use Rattle.desk_hold.specs.Steps.{EndsStep, IsMade, IsUndoneStep, WithholdsStep}
@@ -48,11 +49,11 @@ use Rattle.desk_hold.proofs.Stepped.{same_place}
 -- ---- the entry of a step
 
 -- a hold whose step led from the one place to the next, and whose deliveries led on from there
-abbrev hold_of : PlaceAt → What → ℕ → Reply → List Out → Bool → List Reading → List PlaceEntry → Sending → PlaceIn → PlaceIn → PlaceIn → Hold
-hold_of at what now reply outs unsaid readings entries sending old mid new = record {
+abbrev hold_of : ℕ → PlaceAt → What → ℕ → Reply → List Out → Bool → List Reading → List PlaceEntry → Sending → PlaceIn → PlaceIn → PlaceIn → Hold
+hold_of seat at what now reply outs unsaid readings entries sending old mid new = record {
   at = at;
   before = old.state;
-  steps = step 0 at what now reply outs unsaid;
+  steps = step seat at what now reply outs unsaid;
   between = mid.state;
   readings = readings;
   deliveries = entries;
@@ -64,15 +65,15 @@ hold_of at what now reply outs unsaid readings entries sending old mid new = rec
 }
 
 -- one without deliveries
-abbrev hold_alone : PlaceAt → What → ℕ → Reply → List Out → Bool → Sending → PlaceIn → PlaceIn → Hold
-hold_alone at what now reply outs unsaid sending old new = hold_of at what now reply outs unsaid [] [] sending old new new
+abbrev hold_alone : ℕ → PlaceAt → What → ℕ → Reply → List Out → Bool → Sending → PlaceIn → PlaceIn → Hold
+hold_alone seat at what now reply outs unsaid sending old new = hold_of seat at what now reply outs unsaid [] [] sending old new new
 
 same_volume : (p : PlaceIn) → IsLater p.volume p.volume
 same_volume p = record { faults = omega arith; moments = omega arith; generations = omega arith }
 
-held_steps : (at : PlaceAt) (what : What) (now : ℕ) (reply : Reply) (outs sent : List Out) (unsaid : Bool) (readings : List Reading) (entries : List PlaceEntry) (sending : Sending) (old mid new : PlaceIn)
-    → IsMade (event_at at what) now reply outs old mid → Led mid entries sent new → IsHeld (hold_of at what now reply outs unsaid readings entries sending old mid new) old new
-held_steps at what now reply outs sent unsaid readings entries sending old mid new made led =
+held_steps : (seat : ℕ) (at : PlaceAt) (what : What) (now : ℕ) (reply : Reply) (outs sent : List Out) (unsaid : Bool) (readings : List Reading) (entries : List PlaceEntry) (sending : Sending) (old mid new : PlaceIn)
+    → IsMade (event_at at what) now reply outs old mid → Led mid entries sent new → IsHeld (hold_of seat at what now reply outs unsaid readings entries sending old mid new) old new
+held_steps seat at what now reply outs sent unsaid readings entries sending old mid new made led =
     let total : ℕ = old.stored + length (new_messages old.state mid.state) in
     let runs = runs_from entries mid sent new total made.stored led in
     record {
@@ -94,21 +95,21 @@ held_steps at what now reply outs sent unsaid readings entries sending old mid n
 pauses : (p : PlaceIn) → p.stopped ≡ None → Led p [] [] p
 pauses p goes = (record { going = goes; state = refl; stored = refl; stopped = goes; later = same_volume p }, refl)
 
-held_step : (at : PlaceAt) (what : What) (now : ℕ) (reply : Reply) (outs : List Out) (unsaid : Bool) (sending : Sending) (old new : PlaceIn) → IsMade (event_at at what) now reply outs old new
-    → new.stopped ≡ None → IsHeld (hold_alone at what now reply outs unsaid sending old new) old new
-held_step at what now reply outs unsaid sending old new made goes = held_steps at what now reply outs [] unsaid [] [] sending old new new made (pauses new goes)
+held_step : (seat : ℕ) (at : PlaceAt) (what : What) (now : ℕ) (reply : Reply) (outs : List Out) (unsaid : Bool) (sending : Sending) (old new : PlaceIn) → IsMade (event_at at what) now reply outs old new
+    → new.stopped ≡ None → IsHeld (hold_alone seat at what now reply outs unsaid sending old new) old new
+held_step seat at what now reply outs unsaid sending old new made goes = held_steps seat at what now reply outs [] unsaid [] [] sending old new new made (pauses new goes)
 
 -- ---- what it sends
 
 -- what the step and then the deliveries send is what the hold sends
-all_sent : (at : PlaceAt) (what : What) (now : ℕ) (reply : Reply) (outs sent : List Out) (unsaid : Bool) (readings : List Reading) (entries : List PlaceEntry) (sending : Sending) (old mid new : PlaceIn)
+all_sent : (seat : ℕ) (at : PlaceAt) (what : What) (now : ℕ) (reply : Reply) (outs sent : List Out) (unsaid : Bool) (readings : List Reading) (entries : List PlaceEntry) (sending : Sending) (old mid new : PlaceIn)
     → Led mid entries sent new → (outs ++ said unsaid (answer_of (stream_name old.state) what reply)) ++ sent
-    ≡ outs_of old.state (entries_in (hold_of at what now reply outs unsaid readings entries sending old mid new))
-all_sent at what now reply outs sent unsaid readings [] sending old mid new led =
+    ≡ outs_of old.state (entries_in (hold_of seat at what now reply outs unsaid readings entries sending old mid new))
+all_sent seat at what now reply outs sent unsaid readings [] sending old mid new led =
     let own : List Out = outs ++ said unsaid (answer_of (stream_name old.state) what reply) in ap (λ (os : List Out). own ++ os) led.1 ∙ append-nil own
-all_sent at what now reply outs sent unsaid readings (entry ∷ more) sending old mid new led =
+all_sent seat at what now reply outs sent unsaid readings (entry ∷ more) sending old mid new led =
     let own : List Out = outs ++ said unsaid (answer_of (stream_name old.state) what reply) in
-    ap (λ (os : List Out). own ++ os) (sent_is (entry ∷ more) (name_behind (stream_name old.state) (Step 0 (event_at at what) now reply outs unsaid)) mid sent new led)
+    ap (λ (os : List Out). own ++ os) (sent_is (entry ∷ more) (name_behind (stream_name old.state) (Step seat (event_at at what) now reply outs unsaid)) mid sent new led)
 
 -- ---- its end
 
@@ -125,18 +126,29 @@ asked_or (Some fault) next readings entries hold r e (inl h) = inl (subst (λ (r
 asked_or (Some fault) next readings entries hold r e (inr h) = inr (subst (λ (rs : List Reading). AreFirstReadings (push_consumers hold.between) rs) (sym r) h.0, e ∙ h.1)
 
 -- deliveries without a fault are such with any
-deliveries_with : (at : PlaceAt) (now : ℕ) (listening : List Bytes) (fault : Option DeskFault) (entries : List PlaceEntry) → AreDeliveries 0 at now listening None entries
-    → AreDeliveries 0 at now listening fault entries
-deliveries_with at now listening fault [] h = tt
-deliveries_with at now listening fault (Deliver by moment heard d outs ∷ more) h = (h.0, h.1, h.2, deliveries_with at now listening fault more h.3)
-deliveries_with at now listening fault (Step by event moment reply outs unsaid ∷ more) h = let no : ⊥ = cc in absurd no
-deliveries_with at now listening fault (Broken by moment (DeliverOf heard d) ∷ more) h = h
-deliveries_with at now listening fault (Broken by moment (StepOf event) ∷ more) h = absurd h
+deliveries_with : (seat : ℕ) (at : PlaceAt) (now : ℕ) (listening : List Bytes) (fault : Option DeskFault) (entries : List PlaceEntry) → AreDeliveries seat at now listening None entries
+    → AreDeliveries seat at now listening fault entries
+deliveries_with seat at now listening fault [] h = tt
+deliveries_with seat at now listening fault (Deliver by moment heard d outs ∷ more) h = (h.0, h.1, h.2, deliveries_with seat at now listening fault more h.3)
+deliveries_with seat at now listening fault (Step by event moment reply outs unsaid ∷ more) h = let no : ⊥ = cc in absurd no
+deliveries_with seat at now listening fault (Broken by moment (DeliverOf heard d) ∷ more) h = h
+deliveries_with seat at now listening fault (Broken by moment (StepOf event) ∷ more) h = absurd h
 
-deliveries_or : (at : PlaceAt) (now : ℕ) (listening : List Bytes) (first next : Option DeskFault) (entries : List PlaceEntry) → AreDeliveries 0 at now listening first entries
-    → AreDeliveries 0 at now listening (option_or first next) entries
-deliveries_or at now listening None next entries h = deliveries_with at now listening next entries h
-deliveries_or at now listening (Some fault) next entries h = h
+-- they are all by this seat
+deliveries_by : (seat : ℕ) (at : PlaceAt) (now : ℕ) (listening : List Bytes) (fault : Option DeskFault) (entries : List PlaceEntry) → AreDeliveries seat at now listening fault entries
+    → AllByRecursion (λ (e : PlaceEntry). seat_of e ≡ seat) entries
+deliveries_by seat at now listening fault [] h = tt
+deliveries_by seat at now listening fault (Deliver by moment heard d outs ∷ more) h = (h.0, deliveries_by seat at now listening fault more h.3)
+deliveries_by seat at now listening fault (Step by event moment reply outs unsaid ∷ more) h =
+    (h.0, subst (λ (es : List PlaceEntry). AllByRecursion (λ (e : PlaceEntry). seat_of e ≡ seat) es) (sym h.4) tt)
+deliveries_by seat at now listening fault (Broken by moment (DeliverOf heard d) ∷ more) h =
+    (h.0, subst (λ (es : List PlaceEntry). AllByRecursion (λ (e : PlaceEntry). seat_of e ≡ seat) es) (sym h.3) tt)
+deliveries_by seat at now listening fault (Broken by moment (StepOf event) ∷ more) h = absurd h
+
+deliveries_or : (seat : ℕ) (at : PlaceAt) (now : ℕ) (listening : List Bytes) (first next : Option DeskFault) (entries : List PlaceEntry) → AreDeliveries seat at now listening first entries
+    → AreDeliveries seat at now listening (option_or first next) entries
+deliveries_or seat at now listening None next entries h = deliveries_with seat at now listening next entries h
+deliveries_or seat at now listening (Some fault) next entries h = h
 
 explains_sent : (sending : Sending) (unsaid : Bool) (hold : Hold) → hold.sending ≡ sending → Explains (fault_of sending unsaid) unsaid hold
 explains_sent Sent false hold e = (refl, e)
@@ -170,9 +182,9 @@ ends_or (Some f) next ready now hold new outs is h = tt
 
 -- ---- what a hold came to
 
-module _ {R : Type 0} (routes : R → RouteCall → RouteTold → R → Type 0) (worn : R → ℕ → R → Type 0) (at : PlaceAt) (what : What) (now : ℕ) where
-  pub as_told : (outcome told : Outcome) (a b : OnPlace R) → outcome ≡ told → HoldsOn routes worn at what now told a b → HoldsOn routes worn at what now outcome a b
-  as_told outcome told a b e h = subst (λ (o : Outcome). HoldsOn routes worn at what now o a b) (sym e) h
+module _ {R : Type 0} (routes : R → RouteCall → RouteTold → R → Type 0) (worn : R → ℕ → R → Type 0) (at : PlaceAt) (seat : ℕ) (what : What) (now : ℕ) where
+  pub as_told : (outcome told : Outcome) (a b : OnPlace R) → outcome ≡ told → HoldsOn routes worn at seat what now told a b → HoldsOn routes worn at seat what now outcome a b
+  as_told outcome told a b e h = subst (λ (o : Outcome). HoldsOn routes worn at seat what now o a b) (sym e) h
 
   -- what ended an event, which is this one, with outputs that were none before
   pub ends_at : (result : Result MadeStep PlaceFault) (event : Event) (old new : PlaceIn) (before outs : List Out) → event ≡ event_at at what → before ≡ []
@@ -182,28 +194,29 @@ module _ {R : Type 0} (routes : R → RouteCall → RouteTold → R → Type 0) 
       (subst (λ (e : Event). EndsStep result e now old new before outs) same h)
 
   -- one hold is all that there is
-  held_as : (outcome : Outcome) (hold : Hold) (a b : OnPlace R) → HoldsBy outcome.became at what now outcome.ready outcome.fault (Held hold ∷ []) → IsHeldOn routes worn at hold a b
-      → HoldsOn routes worn at what now outcome a b
-  held_as outcome hold a b holds is = record {
+  held_as : (outcome : Outcome) (hold : Hold) (a b : OnPlace R) → IsBy seat (Held hold) → HoldsBy outcome.became at what now outcome.ready outcome.fault (Held hold ∷ []) → IsHeldOn routes worn at hold a b
+      → HoldsOn routes worn at seat what now outcome a b
+  held_as outcome hold a b made_by holds is = record {
     entries = Held hold ∷ [];
     holds = record { first = []; more = Held hold ∷ []; entries_are = refl; prepares = inl refl; holds = holds };
     led = (b, is, refl);
+    by = (made_by, tt);
   }
 
   -- who listens was read, consumers were served, and all was sent
   made_heard : (made : MadeStep) (old mid new : PlaceIn) (outs all : List Out) (r t s : R) (ready : Bool) (fault : Option DeskFault) (sending : Sending)
-      → EndsStep (Ok made) (event_at at what) now old mid [] outs → Follows routes worn at now (Heard ready fault) mid new r t outs all → Sends routes worn t all sending s
-      → HoldsOn routes worn at what now (record { became = Made made.reply; ready = ready; fault = option_or fault (fault_of sending made.unsaid) }) (on old r) (on new s)
+      → EndsStep (Ok made) (event_at at what) now old mid [] outs → Follows routes worn seat at now (Heard ready fault) mid new r t outs all → Sends routes worn t all sending s
+      → HoldsOn routes worn at seat what now (record { became = Made made.reply; ready = ready; fault = option_or fault (fault_of sending made.unsaid) }) (on old r) (on new s)
   made_heard made old mid new outs all r t s ready fault sending h f sends =
       let next : Option DeskFault = fault_of sending made.unsaid in
-      let hold : Hold = hold_of at what now made.reply h.outs made.unsaid f.readings f.entries sending old mid new in
+      let hold : Hold = hold_of seat at what now made.reply h.outs made.unsaid f.readings f.entries sending old mid new in
       let whole : all ≡ outs_of hold.before (entries_in hold) =
-      f.added ∙ ap (λ (os : List Out). os ++ f.sent) h.added ∙ all_sent at what now made.reply h.outs f.sent made.unsaid f.readings f.entries sending old mid new f.led in
-      held_as (record { became = Made made.reply; ready = ready; fault = option_or fault next }) hold (on old r) (on new s) (
+      f.added ∙ ap (λ (os : List Out). os ++ f.sent) h.added ∙ all_sent seat at what now made.reply h.outs f.sent made.unsaid f.readings f.entries sending old mid new f.led in
+      held_as (record { became = Made made.reply; ready = ready; fault = option_or fault next }) hold (on old r) (on new s) (refl, deliveries_by seat at now (listening_of f.readings) fault f.entries f.followed.are) (
         hold,
         refl,
         record {
-          seat = 0;
+          seat = seat;
           outs = h.outs;
           unsaid = made.unsaid;
           at_is = refl;
@@ -211,7 +224,7 @@ module _ {R : Type 0} (routes : R → RouteCall → RouteTold → R → Type 0) 
           made_first = refl;
           steps = refl;
           asked = asked_or fault next f.readings f.entries hold refl refl f.followed.asked;
-          deliveries = deliveries_or at now (listening_of f.readings) fault next f.entries f.followed.are;
+          deliveries = deliveries_or seat at now (listening_of f.readings) fault next f.entries f.followed.are;
           ready_is = ready_or fault next ready now hold new all refl f.followed.left;
           explained = explains_or fault sending made.unsaid ready now hold new all refl refl f.followed.left;
           ends = ends_or fault next ready now hold new all whole f.followed.left;
@@ -219,7 +232,7 @@ module _ {R : Type 0} (routes : R → RouteCall → RouteTold → R → Type 0) 
       )
       (record {
         at_is = refl;
-        held = held_steps at what now made.reply h.outs f.sent made.unsaid f.readings f.entries sending old mid new h.made f.led;
+        held = held_steps seat at what now made.reply h.outs f.sent made.unsaid f.readings f.entries sending old mid new h.made f.led;
         told = t;
         heard = f.followed.heard;
         sent = subst (λ (os : List Out). Sends routes worn t os sending s) whole sends;
@@ -227,15 +240,15 @@ module _ {R : Type 0} (routes : R → RouteCall → RouteTold → R → Type 0) 
 
   -- no turn of the router was left before who listens was told
   made_unheard : (made : MadeStep) (old mid new : PlaceIn) (outs all : List Out) (r t : R) (number : ℕ)
-      → EndsStep (Ok made) (event_at at what) now old mid [] outs → Follows routes worn at now (Unheard number) mid new r t outs all
-      → HoldsOn routes worn at what now (record { became = Made made.reply; ready = false; fault = Some (faults.Worn number) }) (on old r) (on new t)
+      → EndsStep (Ok made) (event_at at what) now old mid [] outs → Follows routes worn seat at now (Unheard number) mid new r t outs all
+      → HoldsOn routes worn at seat what now (record { became = Made made.reply; ready = false; fault = Some (faults.Worn number) }) (on old r) (on new t)
   made_unheard made old mid new outs all r t number h f =
-      let hold : Hold = hold_of at what now made.reply h.outs made.unsaid f.readings f.entries (Unsent number) old mid new in
-      held_as (record { became = Made made.reply; ready = false; fault = Some (faults.Worn number) }) hold (on old r) (on new t) (
+      let hold : Hold = hold_of seat at what now made.reply h.outs made.unsaid f.readings f.entries (Unsent number) old mid new in
+      held_as (record { became = Made made.reply; ready = false; fault = Some (faults.Worn number) }) hold (on old r) (on new t) (refl, subst (λ (es : List PlaceEntry). AllByRecursion (λ (e : PlaceEntry). seat_of e ≡ seat) es) (sym f.followed.none) tt) (
         hold,
         refl,
         record {
-          seat = 0;
+          seat = seat;
           outs = h.outs;
           unsaid = made.unsaid;
           at_is = refl;
@@ -243,7 +256,7 @@ module _ {R : Type 0} (routes : R → RouteCall → RouteTold → R → Type 0) 
           made_first = refl;
           steps = refl;
           asked = inr (f.followed.first, f.followed.none);
-          deliveries = subst (λ (es : List PlaceEntry). AreDeliveries 0 at now (listening_of f.readings) (Some (faults.Worn number)) es) (sym f.followed.none) tt;
+          deliveries = subst (λ (es : List PlaceEntry). AreDeliveries seat at now (listening_of f.readings) (Some (faults.Worn number)) es) (sym f.followed.none) tt;
           ready_is = tt;
           explained = inl refl;
           ends = tt;
@@ -251,7 +264,7 @@ module _ {R : Type 0} (routes : R → RouteCall → RouteTold → R → Type 0) 
       )
       (record {
         at_is = refl;
-        held = held_steps at what now made.reply h.outs f.sent made.unsaid f.readings f.entries (Unsent number) old mid new h.made f.led;
+        held = held_steps seat at what now made.reply h.outs f.sent made.unsaid f.readings f.entries (Unsent number) old mid new h.made f.led;
         told = f.followed.mid;
         heard = f.followed.heard;
         sent = inr (record {
@@ -275,8 +288,8 @@ module _ {R : Type 0} (routes : R → RouteCall → RouteTold → R → Type 0) 
       ∙ ap (λ (x : Option DeskFault). record { became = became; ready = ready; fault = x }) f
 
   pub held_made : (following : Following) (outcome : Outcome) (made : MadeStep) (old mid new : PlaceIn) (outs all : List Out) (r t s : R)
-      → EndsStep (Ok made) (event_at at what) now old mid [] outs → outcome.became ≡ Made made.reply → Follows routes worn at now following mid new r t outs all
-      → SendsFollowed routes worn following made.unsaid outcome all t s → HoldsOn routes worn at what now outcome (on old r) (on new s)
+      → EndsStep (Ok made) (event_at at what) now old mid [] outs → outcome.became ≡ Made made.reply → Follows routes worn seat at now following mid new r t outs all
+      → SendsFollowed routes worn following made.unsaid outcome all t s → HoldsOn routes worn at seat what now outcome (on old r) (on new s)
   held_made (Heard ready fault) outcome made old mid new outs all r t s h became f (sending, sends, ready_is, fault_is) =
       as_told outcome (record { became = Made made.reply; ready = ready; fault = option_or fault (fault_of sending made.unsaid) }) (on old r) (on new s)
       (same_outcome outcome (Made made.reply) ready (option_or fault (fault_of sending made.unsaid)) became ready_is fault_is)
@@ -284,20 +297,21 @@ module _ {R : Type 0} (routes : R → RouteCall → RouteTold → R → Type 0) 
   held_made (Unheard number) outcome made old mid new outs all r t s h became f (ready_is, fault_is, same) =
       as_told outcome (record { became = Made made.reply; ready = false; fault = Some (faults.Worn number) }) (on old r) (on new s)
       (same_outcome outcome (Made made.reply) false (Some (faults.Worn number)) became ready_is fault_is)
-      (subst (λ (x : R). HoldsOn routes worn at what now (record { became = Made made.reply; ready = false; fault = Some (faults.Worn number) }) (on old r) (on new x)) (sym same)
+      (subst (λ (x : R). HoldsOn routes worn at seat what now (record { became = Made made.reply; ready = false; fault = Some (faults.Worn number) }) (on old r) (on new x)) (sym same)
       (made_unheard made old mid new outs all r t number h f))
 
   -- memory ran out before anything
-  pub held_nothing : (place : PlaceIn) (r : R) → HoldsOn routes worn at what now (shortly Nothing) (on place r) (on place r)
+  pub held_nothing : (place : PlaceIn) (r : R) → HoldsOn routes worn at seat what now (shortly Nothing) (on place r) (on place r)
   held_nothing place r = record {
     entries = [];
     holds = record { first = []; more = []; entries_are = refl; prepares = inl refl; holds = (refl, refl) };
     led = refl;
+    by = tt;
   }
 
   -- the place is stopped
   pub held_stopped : (stream : Bytes) (count : ℕ) (place : PlaceIn) (r : R) → stream ≡ stream_name place.state → place.stopped ≡ Some count
-      → HoldsOn routes worn at what now (quietly (Stopped stream)) (on place r) (on place r)
+      → HoldsOn routes worn at seat what now (quietly (Stopped stream)) (on place r) (on place r)
   held_stopped stream count place r name stopped = record {
     entries = Halted at place.state ∷ [];
     holds = record {
@@ -308,10 +322,11 @@ module _ {R : Type 0} (routes : R → RouteCall → RouteTold → R → Type 0) 
       holds = (place.state, refl, name, (refl, refl));
     };
     led = (on place r, record { at_is = refl; count = count; stopped = stopped; state_is = refl; same = refl }, refl);
+    by = (tt, tt);
   }
 
   -- it keeps another incarnation
-  pub held_gone : (place : PlaceIn) (r : R) → place.stopped ≡ None → kept_incarnation place.state ≢ at.incarnation → HoldsOn routes worn at what now (quietly Gone) (on place r) (on place r)
+  pub held_gone : (place : PlaceIn) (r : R) → place.stopped ≡ None → kept_incarnation place.state ≢ at.incarnation → HoldsOn routes worn at seat what now (quietly Gone) (on place r) (on place r)
   held_gone place r going other = record {
     entries = Missed at (kept_incarnation place.state) ∷ [];
     holds = record {
@@ -322,29 +337,30 @@ module _ {R : Type 0} (routes : R → RouteCall → RouteTold → R → Type 0) 
       holds = (kept_incarnation place.state, refl, (refl, refl));
     };
     led = (on place r, record { at_is = refl; going = going; kept_is = refl; other = other; same = refl }, refl);
+    by = (tt, tt);
   }
 
   -- all is as it was
-  held_same : (outcome : Outcome) (old new : PlaceIn) (r s : R) → new ≡ old → s ≡ r → HoldsOn routes worn at what now outcome (on old r) (on old r)
-      → HoldsOn routes worn at what now outcome (on old r) (on new s)
+  held_same : (outcome : Outcome) (old new : PlaceIn) (r s : R) → new ≡ old → s ≡ r → HoldsOn routes worn at seat what now outcome (on old r) (on old r)
+      → HoldsOn routes worn at seat what now outcome (on old r) (on new s)
   held_same outcome old new r s place port h =
-      subst (λ (x : R). HoldsOn routes worn at what now outcome (on old r) (on new x)) (sym port)
-      (subst (λ (x : PlaceIn). HoldsOn routes worn at what now outcome (on old r) (on x r)) (sym place) h)
+      subst (λ (x : R). HoldsOn routes worn at seat what now outcome (on old r) (on new x)) (sym port)
+      (subst (λ (x : PlaceIn). HoldsOn routes worn at seat what now outcome (on old r) (on x r)) (sym place) h)
 
   -- no place keeps this incarnation
   pub held_absent : (stream : Bytes) (place : PlaceIn) (r : R) → stream ≡ stream_name place.state → kept_incarnation place.state ≢ at.incarnation
-      → HoldsOn routes worn at what now (absent_by place.stopped stream) (on place r) (on place r)
+      → HoldsOn routes worn at seat what now (absent_by place.stopped stream) (on place r) (on place r)
   held_absent stream place r name other = by place.stopped refl
     where
-      by : (stopped : Option ℕ) → place.stopped ≡ stopped → HoldsOn routes worn at what now (absent_by stopped stream) (on place r) (on place r)
+      by : (stopped : Option ℕ) → place.stopped ≡ stopped → HoldsOn routes worn at seat what now (absent_by stopped stream) (on place r) (on place r)
       by None is = held_gone place r is other
       by (Some count) is = held_stopped stream count place r name is
 
   -- nothing was made there, and the volume was called unless the place is stopped
-  undone : (old new : PlaceIn) (r s : R) → IsUndoneStep old new → s ≡ r → HoldsOn routes worn at what now (shortly Nothing) (on old r) (on new s)
+  undone : (old new : PlaceIn) (r s : R) → IsUndoneStep old new → s ≡ r → HoldsOn routes worn at seat what now (shortly Nothing) (on old r) (on new s)
   undone old new r s h same = by old.stopped refl
     where
-      by : (stopped : Option ℕ) → old.stopped ≡ stopped → HoldsOn routes worn at what now (shortly Nothing) (on old r) (on new s)
+      by : (stopped : Option ℕ) → old.stopped ≡ stopped → HoldsOn routes worn at seat what now (shortly Nothing) (on old r) (on new s)
       by None is = record {
         entries = Stirred at old.volume new.volume false ∷ [];
         holds = record {
@@ -363,14 +379,15 @@ module _ {R : Type 0} (routes : R → RouteCall → RouteTold → R → Type 0) 
           },
           refl,
         );
+        by = (tt, tt);
       }
       by (Some count) is = held_same (shortly Nothing) old new r s (same_place old new h.state h.stored h.stopped (h.volume count is)) same (held_nothing old r)
 
   -- time passed, and no more
   ticked : (old new : PlaceIn) (outs : List Out) (r s : R) → EndsStep (Err (places.NoMemory left.Ticked)) (event_at at what) now old new [] outs
-      → SendsMade routes worn (places.NoMemory left.Ticked) outs r s → HoldsOn routes worn at what now (shortly Ticked) (on old r) (on new s)
+      → SendsMade routes worn (places.NoMemory left.Ticked) outs r s → HoldsOn routes worn at seat what now (shortly Ticked) (on old r) (on new s)
   ticked old new outs r s h sends =
-      let hold : Hold = hold_alone at Tick now Silent h.outs false sends.sending old new in
+      let hold : Hold = hold_alone seat at Tick now Silent h.outs false sends.sending old new in
       record {
         entries = Held hold ∷ [];
         holds = record {
@@ -382,7 +399,7 @@ module _ {R : Type 0} (routes : R → RouteCall → RouteTold → R → Type 0) 
             hold,
             refl,
             record {
-              seat = 0;
+              seat = seat;
               outs = h.outs;
               unsaid = false;
               at_is = refl;
@@ -402,21 +419,22 @@ module _ {R : Type 0} (routes : R → RouteCall → RouteTold → R → Type 0) 
           on new s,
           record {
             at_is = refl;
-            held = held_step at Tick now Silent h.outs false sends.sending old new h.made h.goes;
+            held = held_step seat at Tick now Silent h.outs false sends.sending old new h.made h.goes;
             told = r;
             heard = refl;
             sent = subst (λ (os : List Out). Sends routes worn r os sends.sending s) (h.added ∙ sym (append-nil h.outs)) sends.sends;
           },
           refl,
         );
+        by = ((refl, tt), tt);
       }
 
   -- it was made, and its reply is withheld
   withheld : (refused : Bool) (fault : DeskFault) (old new : PlaceIn) (outs : List Out) (r s : R) (h : WithholdsStep refused (event_at at what) now old new [] outs)
-      (sends : SendsThem routes worn outs r s) → Explains (Some fault) true (hold_alone at what now h.reply h.outs true sends.sending old new)
-      → HoldsOn routes worn at what now (record { became = Unsaid refused; ready = false; fault = Some fault }) (on old r) (on new s)
+      (sends : SendsThem routes worn outs r s) → Explains (Some fault) true (hold_alone seat at what now h.reply h.outs true sends.sending old new)
+      → HoldsOn routes worn at seat what now (record { became = Unsaid refused; ready = false; fault = Some fault }) (on old r) (on new s)
   withheld refused fault old new outs r s h sends explained =
-      let hold : Hold = hold_alone at what now h.reply h.outs true sends.sending old new in
+      let hold : Hold = hold_alone seat at what now h.reply h.outs true sends.sending old new in
       record {
         entries = Held hold ∷ [];
         holds = record {
@@ -428,7 +446,7 @@ module _ {R : Type 0} (routes : R → RouteCall → RouteTold → R → Type 0) 
             hold,
             h.reply,
             record {
-              seat = 0;
+              seat = seat;
               outs = h.outs;
               unsaid = true;
               at_is = refl;
@@ -450,20 +468,21 @@ module _ {R : Type 0} (routes : R → RouteCall → RouteTold → R → Type 0) 
           on new s,
           record {
             at_is = refl;
-            held = held_step at what now h.reply h.outs true sends.sending old new h.made h.goes;
+            held = held_step seat at what now h.reply h.outs true sends.sending old new h.made h.goes;
             told = r;
             heard = refl;
             sent = subst (λ (os : List Out). Sends routes worn r os sends.sending s) (h.added ∙ sym (append-nil h.outs)) sends.sends;
           },
           refl,
         );
+        by = ((refl, tt), tt);
       }
 
   -- the volume failed
   broke : (stream : Bytes) (old new : PlaceIn) (outs : List Out) (r s : R) → stream ≡ stream_name old.state → EndsStep (Err places.StoreFault) (event_at at what) now old new [] outs → s ≡ r
-      → HoldsOn routes worn at what now (quietly (Broke stream)) (on old r) (on new s)
+      → HoldsOn routes worn at seat what now (quietly (Broke stream)) (on old r) (on new s)
   broke stream old new outs r s name h same =
-      let hold : Hold = record (hold_alone at what now h.reply [] false Sent old new) { steps = Broken 0 now (StepOf (event_at at what)) ∷ [] } in
+      let hold : Hold = record (hold_alone seat at what now h.reply [] false Sent old new) { steps = Broken seat now (StepOf (event_at at what)) ∷ [] } in
       record {
         entries = Held hold ∷ [];
         holds = record {
@@ -475,7 +494,7 @@ module _ {R : Type 0} (routes : R → RouteCall → RouteTold → R → Type 0) 
             hold,
             refl,
             record {
-              seat = 0;
+              seat = seat;
               at_is = refl;
               steps = refl;
               readings = refl;
@@ -510,10 +529,11 @@ module _ {R : Type 0} (routes : R → RouteCall → RouteTold → R → Type 0) 
           },
           refl,
         );
+        by = ((refl, tt), tt);
       }
 
   failed : (fault : PlaceFault) (stream : Bytes) (old new : PlaceIn) (outs : List Out) (r s : R) → stream ≡ stream_name old.state
-      → EndsStep (Err fault) (event_at at what) now old new [] outs → SendsMade routes worn fault outs r s → HoldsOn routes worn at what now (failed_by fault stream) (on old r) (on new s)
+      → EndsStep (Err fault) (event_at at what) now old new [] outs → SendsMade routes worn fault outs r s → HoldsOn routes worn at seat what now (failed_by fault stream) (on old r) (on new s)
   failed (places.NoMemory left.Nothing) stream old new outs r s name h sends = undone old new r s h sends
   failed (places.NoMemory left.Ticked) stream old new outs r s name h sends = ticked old new outs r s h sends
   failed (places.NoMemory (left.Unsaid refused)) stream old new outs r s name h sends = withheld refused faults.NoMemory old new outs r s h sends tt
@@ -526,6 +546,6 @@ module _ {R : Type 0} (routes : R → RouteCall → RouteTold → R → Type 0) 
 
   -- it failed
   pub held_failed : (outcome : Outcome) (fault : PlaceFault) (stream : Bytes) (old new : PlaceIn) (outs : List Out) (r s : R) → outcome ≡ failed_by fault stream → stream ≡ stream_name old.state
-      → EndsStep (Err fault) (event_at at what) now old new [] outs → SendsMade routes worn fault outs r s → HoldsOn routes worn at what now outcome (on old r) (on new s)
+      → EndsStep (Err fault) (event_at at what) now old new [] outs → SendsMade routes worn fault outs r s → HoldsOn routes worn at seat what now outcome (on old r) (on new s)
   held_failed outcome fault stream old new outs r s is name h sends =
       as_told outcome (failed_by fault stream) (on old r) (on new s) is (failed fault stream old new outs r s name h sends)

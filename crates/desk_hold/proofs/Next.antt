@@ -1,5 +1,5 @@
 -- What a place promises of a delivery is one of the deliveries of a hold, or their end.
-use Rattle.std.proofs.Common.{◌≡◌, ◌≤◌, ◌<◌, ◌+◌, ◌^◌, ◌++◌, ◌&&◌, ℕ, Bool, true, false, List, [], ◌∷◌, length, append-nil, Option, None, Some, Result, Ok, Err, refl, sym, ap, subst, ◌∙◌, arith, IsTrue}
+use Rattle.std.proofs.Common.{◌≡◌, ◌≤◌, ◌<◌, ◌^◌, ◌++◌, ◌&&◌, ℕ, true, false, List, [], ◌∷◌, append-nil, Option, None, Some, Result, Ok, Err, refl, sym, subst, ◌∙◌, arith, IsTrue}
 use Rattle.std.specs.Prelude.{nat_le}
 use Rattle.std.proofs.lemmas.Bool.{and_from, le-leb}
 use Rattle.js_base.specs.Bytes.{Bytes}
@@ -7,7 +7,6 @@ use Rattle.js_base.specs.declared.out.Out.{Out}
 use Rattle.js_model.specs.declared.stream.State.{State}
 use Rattle.js_model.specs.declared.event.Event.{Event}
 use Rattle.js_model.specs.declared.event.What.{What}
-use Rattle.js_model.specs.declared.event.What.TheVariants.{Tick}
 use Rattle.js_model.specs.declared.reply.Reply.TheVariants.{Silent}
 use Rattle.js_model.specs.declared.entry.Delivery.{Delivery}
 use Rattle.js_model.specs.declared.entry.PlaceEntry.{PlaceEntry}
@@ -18,7 +17,7 @@ use Rattle.js_model.specs.Events.{kept_incarnation}
 use Rattle.js_model.specs.PlaceStates.{PlaceIn}
 use Rattle.js_model.specs.Proper.{is_proper}
 use Rattle.js_model.specs.Ready.{some_ready}
-use Rattle.js_model.specs.Runs.{is_few, new_messages}
+use Rattle.js_model.specs.Runs.{is_few}
 use Rattle.js_api.specs.Worlds.{IsLater}
 use Rattle.place_engine.specs.Delivering.{Delivers, Makes, tick_at}
 use Rattle.place_engine.specs.Stepping.{Elapses, Image, Seen, Steps}
@@ -26,9 +25,9 @@ use Rattle.place_engine.specs.declared.faults.PlaceFault.{PlaceFault}
 use Rattle.place_engine.specs.declared.faults.PlaceFault.TheVariants.{NoMemory, StoreFault, Stopped, Gone, Worn}
 use Rattle.place_engine.specs.declared.faults.Left.TheVariants.{Nothing, Ticked, Unsaid}
 use Rattle.desk_hold.specs.declared.delivering.Ending.{Ending}
-use Rattle.desk_hold.specs.declared.delivering.Ending.TheVariants.{Quiet, Full, Broke, Short, WornOut}
-use Rattle.desk_hold.specs.Deliveries.{DeliversOn, EndsSo, GoesOn, IsSentAt, Led, Pauses, ending_after, ending_by, fault_by}
-use Rattle.desk_hold.specs.Steps.{IsMade, EndsStep}
+use Rattle.desk_hold.specs.declared.delivering.Ending.TheVariants.{Quiet, Broke, Short, WornOut}
+use Rattle.desk_hold.specs.Deliveries.{DeliversOn, EndsSo, GoesOn, IsSentAt, ending_after, ending_by}
+use Rattle.desk_hold.specs.Steps.{EndsStep}
 use Rattle.desk_hold.proofs.Stepped.{failed_step}
 
 -- a tick for what the place keeps is an event as a reader gives it
@@ -53,8 +52,8 @@ module _ (holds : Image → State → Type 0) (now : ℕ) (listening : List Byte
 
   -- nothing more was made
   paused : (ending : Ending) → new.place.state ≡ old.place.state → new.place.stored ≡ old.place.stored → new.place.stopped ≡ old.place.stopped → Elapses holds old new → after ≡ before
-      → EndsSo ending now listening [] new.place after → (at : PlaceAt) → DeliversOn at now listening ending old.place new.place before after
-  paused ending state stored stopped time same ends at = record {
+      → EndsSo ending now listening [] new.place after → (seat : ℕ) (at : PlaceAt) → DeliversOn seat at now listening ending old.place new.place before after
+  paused ending state stored stopped time same ends seat at = record {
     entries = [];
     sent = [];
     are = tt;
@@ -70,19 +69,19 @@ module _ (holds : Image → State → Type 0) (now : ℕ) (listening : List Byte
 
   -- one was made and told, and it was the last one
   last_sent : (ending : Ending) (d : Delivery) (os : List Out) → IsSentAt now listening d os old.place new.place → new.place.stopped ≡ None → after ≡ before ++ os
-      → ((es : List PlaceEntry) → es ≡ Deliver 0 now listening d os ∷ [] → EndsSo ending now listening es new.place after) → (at : PlaceAt) → DeliversOn at now listening ending old.place new.place before after
-  last_sent ending d os step goes outs ends at = record {
-    entries = Deliver 0 now listening d os ∷ [];
+      → ((seat : ℕ) (es : List PlaceEntry) → es ≡ Deliver seat now listening d os ∷ [] → EndsSo ending now listening es new.place after) → (seat : ℕ) (at : PlaceAt) → DeliversOn seat at now listening ending old.place new.place before after
+  last_sent ending d os step goes outs ends seat at = record {
+    entries = Deliver seat now listening d os ∷ [];
     sent = os;
     are = (refl, refl, refl, tt);
     led = (new.place, [], step, goes, sym (append-nil os), (record { going = goes; state = refl; stored = refl; stopped = goes; later = same_volume new.place }, refl));
     added = outs;
-    ends = ends (Deliver 0 now listening d os ∷ []) refl;
+    ends = ends seat (Deliver seat now listening d os ∷ []) refl;
   }
 
   -- time passed in its place
-  ticked : Delivers holds (Err (NoMemory Ticked)) now listening old new before after → (at : PlaceAt) → DeliversOn at now listening Short old.place new.place before after
-  ticked h at =
+  ticked : Delivers holds (Err (NoMemory Ticked)) now listening old new before after → (seat : ℕ) (at : PlaceAt) → DeliversOn seat at now listening Short old.place new.place before after
+  ticked h seat at =
       let event : Event = tick_at old.place.state in
       let as_step : Steps holds (Err (NoMemory Ticked)) event now old new before after = record {
         ends = h.ends;
@@ -93,7 +92,7 @@ module _ (holds : Image → State → Type 0) (now : ℕ) (listening : List Byte
       let step : EndsStep (Err (NoMemory Ticked)) event now old.place new.place before after =
       failed_step holds event now old new (tick_proper old.place.state small) moment free (NoMemory Ticked) before after as_step in
       record {
-        entries = Step 0 event now Silent step.outs false ∷ [];
+        entries = Step seat event now Silent step.outs false ∷ [];
         sent = step.outs;
         are = (refl, refl, refl, refl, refl);
         led = (step.made, refl, refl, step.goes, refl, refl);
@@ -102,9 +101,9 @@ module _ (holds : Image → State → Type 0) (now : ℕ) (listening : List Byte
       }
 
   -- the volume failed in it
-  broke : Delivers holds (Err StoreFault) now listening old new before after → (at : PlaceAt) → DeliversOn at now listening Broke old.place new.place before after
-  broke h at = record {
-    entries = Broken 0 now (DeliverOf listening h.ends.delivery) ∷ [];
+  broke : Delivers holds (Err StoreFault) now listening old new before after → (seat : ℕ) (at : PlaceAt) → DeliversOn seat at now listening Broke old.place new.place before after
+  broke h seat at = record {
+    entries = Broken seat now (DeliverOf listening h.ends.delivery) ∷ [];
     sent = [];
     are = (refl, refl, refl, refl);
     led = (h.ends.sent, sent_at h.ends.delivery h.ends.sent h.ends.makes h.stored h.time, (h.ends.stops, h.ends.cause), refl, refl);
@@ -119,13 +118,13 @@ module _ (holds : Image → State → Type 0) (now : ℕ) (listening : List Byte
   next_failed (NoMemory Nothing) h = let r = h.ends.rests in paused Short r.state r.stored r.stopped h.time r.outs tt
   next_failed (NoMemory Ticked) h = ticked h
   next_failed (NoMemory (Unsaid refused)) h =
-      last_sent Short h.ends.delivery h.ends.sent (sent_at h.ends.delivery h.ends.sent h.ends.makes h.stored h.time) h.ends.goes h.ends.outs (λ es is. tt)
+      last_sent Short h.ends.delivery h.ends.sent (sent_at h.ends.delivery h.ends.sent h.ends.makes h.stored h.time) h.ends.goes h.ends.outs (λ seat es is. tt)
   next_failed StoreFault h = broke h
   next_failed (Stopped count) h = absurd (was_stopped count h.ends.stopped)
   next_failed (Gone kept) h = absurd h.ends
   next_failed (Worn refused) h =
       let k = h.ends.hides in
-      last_sent WornOut k.delivery k.sent (sent_at k.delivery k.sent k.makes h.stored h.time) k.goes k.outs (λ es is. ((λ none. let no : ⊥ = cc in absurd no), h.ends.last))
+      last_sent WornOut k.delivery k.sent (sent_at k.delivery k.sent k.makes h.stored h.time) k.goes k.outs (λ seat es is. ((λ none. let no : ⊥ = cc in absurd no), h.ends.last))
 
   pub next : (told : Result (Option Delivery) PlaceFault) → Delivers holds told now listening old new before after → GoesOn now listening (ending_after told) old.place new.place before after
   next (Ok (Some d)) h = next_made d h

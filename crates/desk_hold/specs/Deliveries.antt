@@ -84,11 +84,11 @@ EndsSo Broke now listening entries new outs = delivery_broke entries ≡ true
 EndsSo Short now listening entries new outs = Unit {0}
 EndsSo WornOut now listening entries new outs = (entries ≢ []) × (new.volume.generation ≡ 2 ^ 62 - 1)
 
--- they were made at the moment to whom somebody listens, led from the one place to the other, and what they sent was added
-pub record DeliversOn (at : PlaceAt) (now : ℕ) (listening : List Bytes) (ending : Ending) (old new : PlaceIn) (before after : List Out) : Type 0 where
+-- they were made by this seat at the moment to whom somebody listens, led from the one place to the other, and what they sent was added
+pub record DeliversOn (seat : ℕ) (at : PlaceAt) (now : ℕ) (listening : List Bytes) (ending : Ending) (old new : PlaceIn) (before after : List Out) : Type 0 where
   pub entries : List PlaceEntry
   pub sent : List Out
-  pub are : AreDeliveries 0 at now listening (fault_by ending) entries
+  pub are : AreDeliveries seat at now listening (fault_by ending) entries
   pub led : Led old entries sent new
   pub added : after ≡ before ++ sent
   pub ends : EndsSo ending now listening entries new after
@@ -97,4 +97,4 @@ pub record DeliversOn (at : PlaceAt) (now : ℕ) (listening : List Bytes) (endin
 abbrev pub GoesOn : ℕ → List Bytes → Option Ending → PlaceIn → PlaceIn → List Out → List Out → Type 0
 GoesOn now listening None old new before after =
     (d : Delivery) × (outs : List Out) × IsSentAt now listening d outs old new × (new.stopped ≡ None) × (after ≡ before ++ outs)
-GoesOn now listening (Some ending) old new before after = (at : PlaceAt) → DeliversOn at now listening ending old new before after
+GoesOn now listening (Some ending) old new before after = (seat : ℕ) (at : PlaceAt) → DeliversOn seat at now listening ending old new before after

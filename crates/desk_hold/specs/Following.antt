@@ -1,5 +1,5 @@
 -- What follows the step of a hold until its outputs are sent: who listens is read, and deliveries are made.
-use Rattle.std.specs.Prelude.{◌≡◌, ◌≢◌, ◌⊎◌, ◌≤◌, ◌++◌, ℕ, Bool, true, false, List, [], length, sum_by, MatchOption, Option, None, Some, if◌then◌else◌}
+use Rattle.std.specs.Prelude.{◌≡◌, ◌≢◌, ◌⊎◌, ◌≤◌, ◌++◌, ℕ, Bool, true, false, List, [], length, sum_by, Option, None, Some, if◌then◌else◌}
 use Rattle.js_base.specs.declared.out.Out.{Out}
 use Rattle.js_model.specs.declared.stream.State.{State}
 use Rattle.js_model.specs.declared.entry.PlaceEntry.{PlaceEntry}
@@ -38,11 +38,11 @@ abbrev pub LeftSo : Option DeskFault → Bool → ℕ → List Reading → List 
 LeftSo None ready now readings entries new outs = IsLeft ready now readings entries new outs
 LeftSo (Some fault) ready now readings entries new outs = IsFault fault entries new.volume
 
-module _ {R : Type 0} (routes : R → RouteCall → RouteTold → R → Type 0) (worn : R → ℕ → R → Type 0) (at : PlaceAt) (now : ℕ) where
+module _ {R : Type 0} (routes : R → RouteCall → RouteTold → R → Type 0) (worn : R → ℕ → R → Type 0) (seat : ℕ) (at : PlaceAt) (now : ℕ) where
   pub record IsHeard (ready : Bool) (fault : Option DeskFault) (readings : List Reading) (entries : List PlaceEntry) (old new : PlaceIn) (r s : R) (outs : List Out) : Type 0 where
     pub heard : AreHeard routes worn r readings s
     pub asked : AskedSo fault old.state readings entries
-    pub are : AreDeliveries 0 at now (listening_of readings) fault entries
+    pub are : AreDeliveries seat at now (listening_of readings) fault entries
     pub left : LeftSo fault ready now readings entries new outs
 
   -- no turn of the router was left before who listens was told, and nothing was delivered

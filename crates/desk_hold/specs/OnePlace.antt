@@ -1,11 +1,13 @@
 -- How the entries of a hold lead its place and its port.
 use Rattle.std.specs.Prelude.{◌≡◌, ◌≢◌, ℕ, Bool, List, None, Some}
+use Rattle.std.specs.List.{AllByRecursion}
 use Rattle.js_model.specs.declared.stream.State.{State}
 use Rattle.js_model.specs.declared.event.What.{What}
 use Rattle.js_model.specs.declared.desk.PlaceAt.{PlaceAt}
 use Rattle.js_model.specs.Events.{kept_incarnation}
 use Rattle.js_model.specs.PlaceStates.{VolumeAt, PlaceIn}
 use Rattle.js_model.specs.Router.{RouteCall, RouteTold}
+use Rattle.model_laws.specs.Legal.{seat_of}
 use Rattle.js_api.specs.declared.outcome.Outcome.{Outcome}
 use Rattle.js_api.specs.Entries.{Hold, entries_in, DeskEntry, Routed, Looked, Turned, Resumed, Held, Stirred, Halted, Missed, Spent}
 use Rattle.js_api.specs.Holding.{Holds}
@@ -21,6 +23,21 @@ pub record OnPlace (R : Type 0) : Type 0 where
 
 abbrev pub on : {R : Type 0} → PlaceIn → R → OnPlace R
 on place port = record { place = place; port = port }
+
+-- by this seat are those entries of the place's run that a hold made
+abbrev pub IsBy : ℕ → DeskEntry → Type 0
+IsBy seat (Routed call told) = Unit {0}
+IsBy seat (Looked joined call told) = Unit {0}
+IsBy seat (Turned after found) = Unit {0}
+IsBy seat (Resumed last) = Unit {0}
+IsBy seat (Held hold) = AllByRecursion (λ e. seat_of e ≡ seat) (entries_in hold)
+IsBy seat (Stirred at before after failed) = Unit {0}
+IsBy seat (Halted at state) = Unit {0}
+IsBy seat (Missed at kept) = Unit {0}
+IsBy seat (Spent number) = Unit {0}
+
+abbrev pub AreBy : ℕ → List DeskEntry → Type 0
+AreBy seat entries = AllByRecursion (IsBy seat) entries
 
 module _ {R : Type 0} (routes : R → RouteCall → RouteTold → R → Type 0) (worn : R → ℕ → R → Type 0) (at : PlaceAt) where
   -- who listens was told first, and then all that the hold sends was sent
@@ -62,8 +79,9 @@ module _ {R : Type 0} (routes : R → RouteCall → RouteTold → R → Type 0) 
   PlaceStep old (Missed there kept) new = IsMissedOn there kept old new
   PlaceStep old (Spent number) new = ⊥
 
-  -- a hold of what was asked there came to that, and its entries led from the one place and port to the other
-  pub record HoldsOn (what : What) (now : ℕ) (outcome : Outcome) (old new : OnPlace R) : Type 0 where
+  -- A hold of what was asked there came to that, and its entries led from the one place and port to the other. This seat made each of the place's run
+  pub record HoldsOn (seat : ℕ) (what : What) (now : ℕ) (outcome : Outcome) (old new : OnPlace R) : Type 0 where
     pub entries : List DeskEntry
     pub holds : Holds at what now outcome entries
     pub led : Leads PlaceStep old entries new
+    pub by : AreBy seat entries

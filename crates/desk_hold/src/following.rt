@@ -1,6 +1,6 @@
 //! What follows the step of a hold: who listens is read, and deliveries are made.
 
-ghost use Rattle.std.specs.Prelude.{◌≡◌, None, Some, false};
+ghost use Rattle.std.specs.Prelude.{◌≡◌, ℕ, None, Some, false};
 ghost use Rattle.js_model.specs.declared.desk.PlaceAt.{PlaceAt};
 ghost use Rattle.desk_hold.specs.Following.{Follows};
 
@@ -45,7 +45,7 @@ pub fn follow<P: Place, R: Port>(
     outs: &mut Outs,
 ) -> Following
     requires going { (P.seen place.old).place.stopped ≡ None }
-    ensures follows { (at : PlaceAt) → Follows R.routes R.worn at now result (P.seen place.old).place (P.seen place.new).place port.old port.new outs.old outs.new }
+    ensures follows { (seat : ℕ) (at : PlaceAt) → Follows R.routes R.worn seat at now result (P.seen place.old).place (P.seen place.new).place port.old port.new outs.old outs.new }
     ensures vol { P.keeps_vol (P.vol place.old) (P.vol place.new) }
 {
     let listening = match hear(alloc, place, port) {

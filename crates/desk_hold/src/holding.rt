@@ -1,6 +1,6 @@
 //! One hold on a place: an event is made there, its consumers are served, and what all this sends goes to the port.
 
-ghost use Rattle.std.specs.Prelude.{◌≡◌, ◌≤◌, ◌^◌, false, None, IsUtf8};
+ghost use Rattle.std.specs.Prelude.{◌≡◌, ◌≤◌, ◌^◌, ℕ, false, None, IsUtf8};
 ghost use Rattle.std.specs.Option.{option_or};
 ghost use Rattle.js_api.specs.declared.outcome.Became.TheVariants.{Made};
 ghost use Rattle.js_api.specs.Outputs.{stream_name};
@@ -71,7 +71,7 @@ fn follow_step<P: Place, R: Port>(
     outs: &mut Outs,
 ) -> Following
     requires going { (P.seen place.old).place.stopped ≡ None }
-    ensures follows { (at : PlaceAt) → Follows R.routes R.worn at now result (P.seen place.old).place (P.seen place.new).place port.old port.new outs.old outs.new }
+    ensures follows { (seat : ℕ) (at : PlaceAt) → Follows R.routes R.worn seat at now result (P.seen place.old).place (P.seen place.new).place port.old port.new outs.old outs.new }
     ensures vol { P.keeps_vol (P.vol place.old) (P.vol place.new) }
 {
     if unsaid {
@@ -159,7 +159,7 @@ fn hold_named<P: Place, R: Port>(
     requires stream { stream ≡ stream_name (P.seen place.old).place.state }
     requires utf8 { IsUtf8 stream }
     requires numbered { IsNumbered (P.seen place.old).place.state }
-    ensures holds { HoldsOn R.routes R.worn at event.now.what now result (on (P.seen place.old).place port.old) (on (P.seen place.new).place port.new) }
+    ensures holds { (seat : ℕ) → HoldsOn R.routes R.worn at seat event.now.what now result (on (P.seen place.old).place port.old) (on (P.seen place.new).place port.new) }
     ensures shown { CanBeShown result.became }
     ensures explained { IsExplained result.fault result.became }
     ensures number { NumbersDropped event.now.what result.became at }
@@ -202,7 +202,7 @@ fn hold_event<P: Place, R: Port>(
 ) -> Outcome
     requires event { event.now ≡ event_at at event.now.what }
     requires asked { MayAsk event.now.what }
-    ensures holds { HoldsOn R.routes R.worn at event.now.what now result (on (P.seen place.old).place port.old) (on (P.seen place.new).place port.new) }
+    ensures holds { (seat : ℕ) → HoldsOn R.routes R.worn at seat event.now.what now result (on (P.seen place.old).place port.old) (on (P.seen place.new).place port.new) }
     ensures shown { CanBeShown result.became }
     ensures explained { IsExplained result.fault result.became }
     ensures number { NumbersDropped event.now.what result.became at }
@@ -229,7 +229,7 @@ pub fn hold_on<P: Place, R: Port>(
     now: Moment,
 ) -> Outcome
     requires asked { MayAsk what }
-    ensures holds { HoldsOn R.routes R.worn at what now result (on (P.seen place.old).place port.old) (on (P.seen place.new).place port.new) }
+    ensures holds { (seat : ℕ) → HoldsOn R.routes R.worn at seat what now result (on (P.seen place.old).place port.old) (on (P.seen place.new).place port.new) }
     ensures shown { CanBeShown result.became }
     ensures explained { IsExplained result.fault result.became }
     ensures number { NumbersDropped what result.became at }

@@ -6,20 +6,20 @@ use Rattle.desk_hold.proofs.delivering.deliver_all.Goals as goal
 
 pub returns-then-size-ge-MOST_BYTES-clause-delivers :
     goal.returns-then-size-ge-MOST_BYTES-clause-delivers
-returns-then-size-ge-MOST_BYTES-clause-delivers g c = λ at. full_there at _ _ _ _ _ _ _ c.loop.invariant.so_far (inr (omega (arith, c.loop.invariant.size)))
+returns-then-size-ge-MOST_BYTES-clause-delivers g c = λ seat at. full_there seat at _ _ _ _ _ _ _ (c.loop.invariant.so_far seat) (inr (omega (arith, c.loop.invariant.size)))
 
 pub deliver_next-requires : goal.deliver_next-requires
-deliver_next-requires g c = record { going = c.loop.invariant.so_far.goes }
+deliver_next-requires g c = record { going = (c.loop.invariant.so_far 0).goes }
 
 pub returns-in-Some-clause-delivers : goal.returns-in-Some-clause-delivers
-returns-in-Some-clause-delivers g c = λ at. ended_there at _ _ _ _ _ _ _ _ _ _ c.loop.invariant.so_far (c.in-Some.ensures.goes_on at)
+returns-in-Some-clause-delivers g c = λ seat at. ended_there seat at _ _ _ _ _ _ _ _ _ _ (c.loop.invariant.so_far seat) (c.in-Some.ensures.goes_on seat at)
 
 pub returns-clause-delivers : goal.returns-clause-delivers
-returns-clause-delivers g c = λ at. full_there at _ _ _ _ _ _ _ c.loop.invariant.so_far (inl (omega arith))
+returns-clause-delivers g c = λ seat at. full_there seat at _ _ _ _ _ _ _ (c.loop.invariant.so_far seat) (inl (omega arith))
 
 pub loop-init : goal.loop-init
 loop-init g c = record {
-  so_far = none_so_far _ _ _ _ c.requires.going;
+  so_far = λ seat. none_so_far seat _ _ _ _ c.requires.going;
   size = subst (λ (outs : List Out). c.size_of-size.result ≤ sum_by bytes_of outs) c.as_slice.ensures c.size_of-size.ensures.bound;
   vol = g.met.P.Place.keeps_none _;
 }
@@ -33,7 +33,7 @@ loop-preserved g c =
     subst (λ (outs : List Out). c.size_of.result ≤ sum_by bytes_of outs) added c.size_of.ensures.bound in
     let whole = larger c.loop.size c.size_of.result c.loop.outs c.deliver_next.new.outs c.args.now c.args.listening.now _ _ _ c.in_default.is c.deliver_next.ensures.goes_on i.size more in
     record {
-      so_far = next_so_far _ _ _ _ _ _ _ _ _ c.deliver_next.result c.in_default.is i.so_far c.deliver_next.ensures.goes_on;
+      so_far = λ seat. next_so_far seat _ _ _ _ _ _ _ _ _ c.deliver_next.result c.in_default.is (i.so_far seat) c.deliver_next.ensures.goes_on;
       size = omega (arith, whole, c.saturating_add-size.ensures);
       vol = g.met.P.Place.keeps_more _ _ _ i.vol c.deliver_next.ensures.vol;
     }

@@ -3,15 +3,15 @@ use Rattle.desk_hold.proofs.Held.{as_told, held_nothing, held_absent}
 use Rattle.desk_hold.proofs.holding.hold_event.Goals as goal
 
 pub returns-in-Err-clause-holds : goal.returns-in-Err-clause-holds
-returns-in-Err-clause-holds g c =
+returns-in-Err-clause-holds g c = λ seat.
     let R = g.R.Port in
-    as_told R.routes R.worn c.args.at c.args.event.now.what c.args.now _ _ _ _ c.shortly.ensures.value
-    (held_nothing R.routes R.worn c.args.at c.args.event.now.what c.args.now _ _)
+    as_told R.routes R.worn c.args.at seat c.args.event.now.what c.args.now _ _ _ _ c.shortly.ensures.value
+    (held_nothing R.routes R.worn c.args.at seat c.args.event.now.what c.args.now _ _)
 
 pub returns-then-at-gt-INCARNATIONS_END-clause-holds :
     goal.returns-then-at-gt-INCARNATIONS_END-clause-holds
-returns-then-at-gt-INCARNATIONS_END-clause-holds g c =
+returns-then-at-gt-INCARNATIONS_END-clause-holds g c = λ seat.
     let R = g.R.Port in
-    as_told R.routes R.worn c.args.at c.args.event.now.what c.args.now _ _ _ _ c.absent.ensures.value
-    (held_absent R.routes R.worn c.args.at c.args.event.now.what c.args.now _ _ _ c.in-Ok.ensures.name
+    as_told R.routes R.worn c.args.at seat c.args.event.now.what c.args.now _ _ _ _ c.absent.ensures.value
+    (held_absent R.routes R.worn c.args.at seat c.args.event.now.what c.args.now _ _ _ c.in-Ok.ensures.name
     (none_keeps _ _ c.absent.ensures.kept c.if-at-gt-INCARNATIONS_END.true))
