@@ -307,5 +307,5 @@ fn verdict(state: &StreamState, publish: &Publish) -> Result<Verdict, NoMemory>
 {
     // that the sequences are below 2^62 is what the proof takes from this call
     let _ = state.last();
-    state.verdict(publish, true)
+    state.verdict(publish)
 }

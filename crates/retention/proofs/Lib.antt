@@ -1,5 +1,6 @@
 pub mod Splitting
 pub mod Keeping
+pub mod Confining
 pub mod Dropping
 pub mod Following
 pub mod Walking

@@ -10,3 +10,6 @@ pub mod Purges
 pub mod Loops
 pub mod Taken
 pub mod Gathering
+pub mod Merging
+pub mod Counted
+pub mod Merged

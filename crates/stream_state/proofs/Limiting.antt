@@ -3,7 +3,7 @@ use Rattle.std.proofs.Common.{◌≡◌, ℕ, ◌+◌, ◌<◌, ◌≤◌, ◌==
 use Rattle.std.specs.Prelude.{filter, find, nat_lt, count_by, is_some, sum_by, option_map, IsSome}
 use Rattle.std.specs.Option.{option_or}
 use Rattle.std.proofs.lemmas.Bool.{ltb-true, ltb-false, lt-ltb, le-ltb, or_parts, or_from, eqb-true}
-use Rattle.std.proofs.lemmas.List.Elements.{filter_agree}
+use Rattle.std.proofs.lemmas.List.Elements.{All-nil, filter_agree}
 use Rattle.std.proofs.lemmas.List.Sums.{length-filter}
 use Rattle.js_base.specs.Bytes.{Bytes, same, has}
 use Rattle.js_model.specs.declared.stream.Message.{Message}
@@ -19,7 +19,7 @@ use Rattle.js_model.proofs.Members.{IsIn, here, there, in_cons, in_filter, found
 use Rattle.js_model.proofs.Named.{same_is}
 use Rattle.js_model.proofs.Parts.{filter_part, part-length, part-sum}
 use Rattle.retention.specs.Over.{is_over_on, is_over, over_subject, over_stream, next_over, IsOverOnlyOn}
-use Rattle.retention.specs.Laws.{IsLone, LawWithin, LawWithout}
+use Rattle.retention.specs.Laws.{HoldsStored, IsCoherent, LawWithin, LawWithout}
 use Rattle.stream_view.specs.declared.counts.Counts.{Counts}
 use Rattle.stream_view.specs.Counting.{counts_of, seqs_on}
 use Rattle.stream_state.specs.Stored.{IsSound, without}
@@ -172,8 +172,8 @@ module _ (s : Stream) {ms : List Message} (part : IsPart ms s.messages) where
 
 -- ---- one message after the other
 
-pub lone : (s : Stream) → IsSound s → IsLone s
-lone s h = record { ascends = h.ascends; consumers = h.alone }
+pub coherent : (s : Stream) → IsSound s → IsCoherent s
+coherent s h = record { ascends = h.ascends; held = rw h.alone (All-nil (HoldsStored s.messages)) }
 
 -- without a message, in the words of the machine
 pub without_is : (s : Stream) (n : ℕ) (m : Message) → s.consumers ≡ [] → message_at s n ≡ Some m → without_messages s (m ∷ []) ≡ without n s
@@ -188,7 +188,7 @@ without_is s n m alone found =
 
 pub trim_without : LawWithout → (s : Stream) (n : ℕ) → IsSound s → next_over s ≡ Some n → IsSome (message_at s n) × (trim (without n s) ≡ trim s)
 trim_without law s n sound over =
-    let w = law s n (lone s sound) over in
+    let w = law s n (coherent s sound) over in
     (subst IsSome (sym w.1) refl, ap trim (sym (without_is s n w.0 sound.alone w.1)) ∙ w.2)
 
 pub over_only_less : (s : Stream) (n : ℕ) (t : Bytes) → IsOverOnlyOn s t → IsOverOnlyOn (without n s) t

@@ -16,7 +16,7 @@ use Rattle.js_model.proofs.Members.{IsIn, in_part}
 use Rattle.js_model.proofs.Parts.{filter_part}
 use Rattle.stream_state.specs.Selecting.{next_passing}
 use Rattle.stream_state.proofs.Finding.{fails_before, find_from}
-use Rattle.stream_state.proofs.Limiting.{lone, no_subject, over_on_less, trim_without, over_only_less}
+use Rattle.stream_state.proofs.Limiting.{coherent, no_subject, over_on_less, trim_without, over_only_less}
 use Rattle.stream_state.proofs.Purges.{take_long, without_none, without_one_more}
 
 -- messages that are too old have gone
@@ -50,7 +50,7 @@ pub trims_more : LawWithout → (n : ℕ) (old mid new : Stream) → Trims old m
 trims_more law n old mid new h over is sound = record { sound = sound; same = ap trim is ∙ (trim_without law mid n h.sound over).1 ∙ h.same }
 
 pub trims_all : LawWithin → (old new : Stream) → Trims old new → next_over new ≡ None → new ≡ trim old
-trims_all law old new h over = sym (law new (lone new h.sound) over) ∙ h.same
+trims_all law old new h over = sym (law new (coherent new h.sound) over) ∙ h.same
 
 pub over_found : LawWithout → (n : ℕ) (s : Stream) → IsSound s → next_over s ≡ Some n → is_some (message_at s n) ≡ true
 over_found law n s sound over = (trim_without law s n sound over).0

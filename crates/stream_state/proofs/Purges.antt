@@ -13,7 +13,7 @@ use Rattle.js_model.specs.Events.{is_below, all_but_last, message_at, purge_list
 use Rattle.js_model.specs.Lists.{Between, IsPart}
 use Rattle.js_model.specs.Streams.{passes_filter, seqs}
 use Rattle.js_model.proofs.Members.{in_bounds, found_in}
-use Rattle.stream_state.specs.Selecting.{is_named, named, selects, selected, next_passing, next_selected, next_named}
+use Rattle.stream_state.specs.Selecting.{is_named, named, selects, selected, next_passing}
 use Rattle.stream_state.specs.declared.selector.Selector.{Selector}
 use Rattle.stream_state.specs.Stored.{without, without_all}
 use Rattle.js_model.proofs.Parts.{filter_part, part-length}
@@ -83,33 +83,33 @@ find_agree : (p q : Message → Bool) → ((m : Message) → p m ≡ q m) → (m
 find_agree p q h [] = refl
 find_agree p q h (m ∷ ms) = ap (λ b. cond b (Some m) (find p ms)) (h m) ∙ ap (λ (o : Option Message). cond (q m) (Some m) o) (find_agree p q h ms)
 
-module _ (selector : Selector) (below : Option ℕ) (ms : List Message) (from : ℕ) where
+module _ (test : Bytes → Bool) (below : Option ℕ) (ms : List Message) (from : ℕ) where
   selected_from : Message → Bool
-  selected_from m = nat_le from m.seq && selects selector m.subject
+  selected_from m = nat_le from m.seq && test m.subject
 
-  named_is : find (λ m. (nat_le from m.seq && selects selector m.subject) && is_below below m.seq) ms ≡ find (λ m. nat_le from m.seq && is_named selector below m) ms
-  named_is = find_agree _ _ (λ m. and_assoc (nat_le from m.seq) (selects selector m.subject) (is_below below m.seq)) ms
+  named_is : find (λ m. (nat_le from m.seq && test m.subject) && is_below below m.seq) ms ≡ find (λ m. nat_le from m.seq && (test m.subject && is_below below m.seq)) ms
+  named_is = find_agree _ _ (λ m. and_assoc (nat_le from m.seq) (test m.subject) (is_below below m.seq)) ms
 
   found_seq : (o : Option Message) (n : ℕ) → Some n ≡ option_map (λ m. m.seq) o → (m : Message) × (o ≡ Some m) × (m.seq ≡ n)
   found_seq None n h = absurd cc
   found_seq (Some m) n h = (m, refl, cc)
 
-  pub named_found : (n : ℕ) → Some n ≡ next_selected selector ms from → is_below below n ≡ true → Some n ≡ next_named selector below ms from
+  pub named_found : (n : ℕ) → Some n ≡ next_passing (λ m. test m.subject) ms from → is_below below n ≡ true → Some n ≡ next_passing (λ m. test m.subject && is_below below m.seq) ms from
   named_found n h k =
-      let w = found_seq (find (λ m. nat_le from m.seq && selects selector m.subject) ms) n h in
+      let w = found_seq (find (λ m. nat_le from m.seq && test m.subject) ms) n h in
       ap Some (sym w.2) ∙ sym (ap (option_map (λ (m : Message). m.seq)) (sym named_is ∙ found_both _ (λ m. is_below below m.seq) w.0 ms w.1 (ap (is_below below) w.2 ∙ k)))
 
-  pub named_past : (low high n : ℕ) → Ascending low high ms → Some n ≡ next_selected selector ms from → is_below below n ≡ false → None ≡ next_named selector below ms from
+  pub named_past : (low high n : ℕ) → Ascending low high ms → Some n ≡ next_passing (λ m. test m.subject) ms from → is_below below n ≡ false → None ≡ next_passing (λ m. test m.subject && is_below below m.seq) ms from
   named_past low high n ascends h k =
-      let w = found_seq (find (λ m. nat_le from m.seq && selects selector m.subject) ms) n h in
+      let w = found_seq (find (λ m. nat_le from m.seq && test m.subject) ms) n h in
       sym (ap (option_map (λ (m : Message). m.seq)) (sym named_is ∙ first_not_below _ below low high w.0 ms ascends w.1 (ap (is_below below) w.2 ∙ k)))
 
   none_seq : (o : Option Message) → None ≡ option_map (λ m. m.seq) o → o ≡ None
   none_seq None h = refl
   none_seq (Some m) h = absurd cc
 
-  pub named_none : None ≡ next_selected selector ms from → None ≡ next_named selector below ms from
-  named_none h = sym (ap (option_map (λ (m : Message). m.seq)) (sym named_is ∙ none_both _ (λ m. is_below below m.seq) ms (none_seq (find (λ m. nat_le from m.seq && selects selector m.subject) ms) h)))
+  pub named_none : None ≡ next_passing (λ m. test m.subject) ms from → None ≡ next_passing (λ m. test m.subject && is_below below m.seq) ms from
+  named_none h = sym (ap (option_map (λ (m : Message). m.seq)) (sym named_is ∙ none_both _ (λ m. is_below below m.seq) ms (none_seq (find (λ m. nat_le from m.seq && test m.subject) ms) h)))
 
 -- ---- the sequences that go
 

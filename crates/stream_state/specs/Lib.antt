@@ -3,3 +3,4 @@ pub mod Stored
 pub mod Settled
 pub mod PushedOut
 pub mod Selecting
+pub mod Heads

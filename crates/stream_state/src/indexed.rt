@@ -1,15 +1,18 @@
 //! Messages, found by their sequences and by their subjects.
 
-ghost use Rattle.std.specs.Prelude.{◌≡◌, ◌==◌, ◌&&◌, ◌+◌, ◌^◌, ◌<◌, ◌≤◌, [], ◌∷◌, ◌++◌, None, All, filter, find, is_some, length, nat_le, not, option_map, sum_by, OnOk, OnErr};
+ghost use Rattle.std.specs.Prelude.{◌≡◌, ◌==◌, ◌&&◌, ◌+◌, ◌^◌, ◌<◌, ◌≤◌, [], ◌∷◌, ◌++◌, None, All, filter, find, is_some, length, nat_le, not, option_map, sum_by, IfOk, OnOk, OnErr};
 ghost use Rattle.std.specs.List.{last_or};
 ghost use Rattle.std.specs.Option.{option_copied};
 ghost use Rattle.js_base.specs.Bytes.{same};
+ghost use Rattle.js_base.specs.Subjects.{matches, tokens};
 ghost use Rattle.js_model.specs.Counts.{first_message};
 ghost use Rattle.js_model.specs.Streams.{seqs, size};
 ghost use Rattle.message_store.specs.Stored.{IsSmall};
+ghost use Rattle.stream_state.specs.Heads.{AreHeads};
 ghost use Rattle.stream_state.specs.Indexed.{on_subject};
 ghost use Rattle.stream_view.specs.Counting.{counts_of};
 
+use crate::heads::{Heads, heads_of};
 use js_base::NoMemory;
 use js_model::Message;
 use message_store::MessageStore;
@@ -70,6 +73,23 @@ impl IndexedMessages {
         self.subjects.at_or_after(subject, seq)
     }
 
+    /// How many messages there are whose subjects the pattern matches.
+    pub(crate) fn count_matching(&self, pattern: &[u8]) -> Result<u64, NoMemory>
+        requires few { length self.now < 2 ^ 32 }
+        ensures value { IfOk result (λ count. count ≡ length (filter (λ m. matches (tokens pattern.now) (tokens m.subject)) self.now)) }
+    {
+        let counted = self.subjects.matching(pattern)?;
+        Ok(total(counted.as_slice()))
+    }
+
+    /// The first message of each subject that the pattern matches.
+    pub(crate) fn heads_matching(&self, alloc: Global, pattern: &[u8]) -> Result<Heads, NoMemory>
+        ensures value { IfOk result (λ heads. AreHeads (λ t. matches (tokens pattern.now) (tokens t)) self.now 0 heads) }
+    {
+        let counted = self.subjects.matching(pattern)?;
+        heads_of(alloc, counted.as_slice())
+    }
+
     /// Adds a message at the end. An `Err` changes nothing.
     pub(crate) fn push(&mut self, message: Message) -> Result<(), NoMemory>
         requires above { All (λ m. m.seq < message.seq) self.old }
@@ -103,4 +123,16 @@ impl IndexedMessages {
             None => false,
         }
     }
+}
+
+/// How many sequences they count together.
+fn total(counted: &[Counts]) -> u64
+    requires few { sum_by (λ c. c.count) counted.now < 2 ^ 32 }
+    ensures value { result ≡ sum_by (λ c. c.count) counted.now }
+{
+    let mut total = 0;
+    for counts in counted {
+        total += counts.count;
+    }
+    total
 }

@@ -2,6 +2,7 @@
 #![tactic(auto)]
 
 mod ageing;
+mod heads;
 mod indexed;
 mod purging;
 mod selector;

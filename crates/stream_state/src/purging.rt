@@ -1,19 +1,22 @@
 //! Messages that are removed on request.
 
-ghost use Rattle.std.specs.Prelude.{◌≡◌, ◌==◌, ◌&&◌, ◌^◌, ◌<◌, nat_le, not, filter, find, length, map, option_map, take, IfOk, Some};
-ghost use Rattle.js_base.specs.Bytes.{has};
+ghost use Rattle.std.specs.Prelude.{◌≡◌, ◌==◌, ◌&&◌, ◌^◌, ◌<◌, Bool, nat_le, not, filter, find, length, map, option_map, take, IfOk, Some};
+ghost use Rattle.js_base.specs.Bytes.{has, Bytes};
 ghost use Rattle.js_model.specs.Events.{all_but_last, is_below, purge_list};
 ghost use Rattle.js_model.specs.Streams.{seqs};
-ghost use Rattle.stream_state.specs.Selecting.{named, next_named};
+ghost use Rattle.stream_state.specs.Heads.{AreHeads};
+ghost use Rattle.stream_state.specs.Selecting.{named, next_named, next_selected};
 ghost use Rattle.stream_state.specs.Stored.{IsSound, without_all};
 
+use crate::heads::{Heads, head_of, take_head};
 use crate::selector::Selector;
 use crate::stored::StoredStream;
 use js_base::NoMemory;
 use std::alloc::Global;
 
 /// The sequences of the messages that a purge names, by JetStream's stream purge: those that the filter matches, below a sequence, and all
-/// but a given number of the last ones. It goes through the messages for a filter with wildcards alone.
+/// but a given number of the last ones. It looks at no message that the filter does not match, and at none that is kept, but with both a
+/// sequence and a number at those below the sequence.
 pub(crate) fn purge_seqs(
     alloc: Global,
     stream: &StoredStream,
@@ -72,9 +75,7 @@ fn count_named(
     ensures value { IfOk result (λ count. count ≡ length (named selector.entry below stream.now.messages)) }
 {
     if below.is_none() {
-        if let Some(count) = selector.count(stream) {
-            return Ok(count);
-        }
+        return selector.count(stream);
     }
     let all = first_named(alloc, stream, selector, below, u64::MAX)?;
     Ok(all.as_slice().len() as u64)
@@ -91,10 +92,33 @@ fn first_named(
     requires sound { IsSound stream.now }
     ensures value { IfOk result (λ gone. gone.items ≡ take most (seqs (named selector.entry below stream.now.messages))) }
 {
+    match selector {
+        Selector::All => first_stored(alloc, stream, below, most),
+        Selector::Subject(subject) => {
+            let mut heads = head_of(alloc, stream, subject)?;
+            first_of_heads(alloc, stream, &mut heads, below, most)
+        }
+        Selector::Pattern(pattern) => {
+            let mut heads = stream.messages().heads_matching(alloc, pattern)?;
+            first_of_heads(alloc, stream, &mut heads, below, most)
+        }
+    }
+}
+
+/// The sequences of the first of all messages below a sequence, at most so many.
+fn first_stored(
+    alloc: Global,
+    stream: &StoredStream,
+    below: Option<u64>,
+    most: u64,
+) -> Result<Vec<u64>, NoMemory>
+    requires sound { IsSound stream.now }
+    ensures value { IfOk result (λ gone. gone.items ≡ take most (seqs (named Selector.All below stream.now.messages))) }
+{
     let mut gone = Vec::new(alloc);
     let mut from = 0;
     while (gone.len() as u64) < most {
-        let Some(seq) = next_named(stream, selector, below, from) else {
+        let Some(seq) = next_stored(stream, below, from) else {
             return Ok(gone);
         };
         gone.push(seq)?;
@@ -104,21 +128,53 @@ fn first_named(
 }
 
 /// The sequence of the first one from another sequence on.
-fn next_named(
-    stream: &StoredStream,
-    selector: Selector<'_>,
-    below: Option<u64>,
-    from: u64,
-) -> Option<u64>
+fn next_stored(stream: &StoredStream, below: Option<u64>, from: u64) -> Option<u64>
     requires sound { IsSound stream.now }
-    ensures value { result ≡ next_named selector.entry below stream.now.messages from }
+    ensures value { result ≡ next_named Selector.All below stream.now.messages from }
 {
-    let seq = selector.next(stream, from)?;
+    let seq = next_of_all(stream, from)?;
     if is_below(below, seq) {
         Some(seq)
     } else {
         None
     }
+}
+
+/// The sequence of the first message from a sequence on.
+fn next_of_all(stream: &StoredStream, from: u64) -> Option<u64>
+    ensures value { result ≡ next_selected Selector.All stream.now.messages from }
+{
+    match stream.first_from(from) {
+        Some(message) => Some(message.seq),
+        None => None,
+    }
+}
+
+/// The sequences of the first messages below a sequence of the subjects whose first messages these are, at most so many. It takes them out, and
+/// puts those in that come next.
+fn first_of_heads(
+    alloc: Global,
+    stream: &StoredStream,
+    heads: &mut Heads,
+    below: Option<u64>,
+    most: u64,
+) -> Result<Vec<u64>, NoMemory>
+    requires sound { IsSound stream.now }
+    ensures value { (test : Bytes → Bool)
+        → AreHeads test stream.now.messages 0 heads.old
+        → IfOk result (λ gone. gone.items ≡ take most (seqs (filter (λ m. test m.subject && is_below below m.seq) stream.now.messages))) }
+{
+    let mut gone = Vec::new(alloc);
+    while (gone.len() as u64) < most {
+        let Some(seq) = take_head(stream, heads)? else {
+            return Ok(gone);
+        };
+        if !is_below(below, seq) {
+            return Ok(gone);
+        }
+        gone.push(seq)?;
+    }
+    Ok(gone)
 }
 
 /// Whether a sequence is below the limit, if there is one.

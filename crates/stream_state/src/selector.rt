@@ -1,14 +1,15 @@
-//! Which messages a filter selects, and how they are found.
+//! Which messages a filter selects, and how many they are.
 
-ghost use Rattle.std.specs.Prelude.{◌≡◌, length, IfSome};
+ghost use Rattle.std.specs.Prelude.{◌≡◌, length, IfOk};
 ghost use Rattle.js_base.specs.Bytes.{Bytes};
 ghost use Rattle.js_model.specs.Streams.{passes_filter};
-ghost use Rattle.stream_state.specs.Selecting.{selects, selected, next_selected};
+ghost use Rattle.stream_state.specs.Selecting.{selects, selected};
 ghost use Rattle.stream_state.specs.Stored.{IsSound};
 
 use crate::stored::StoredStream;
+use js_base::NoMemory;
 use stream_view::View;
-use subject_match::{check_subject, matches};
+use subject_match::check_subject;
 
 /// What a filter selects.
 #[derive(Clone, Copy)]
@@ -35,37 +36,16 @@ impl<'a> Selector<'a> {
         }
     }
 
-    /// The sequence of the first message from a sequence on that is selected. For a pattern it goes through the messages.
-    pub(crate) fn next(self, stream: &StoredStream, from: u64) -> Option<u64>
+    /// How many messages are selected. For a pattern it looks at the subjects that it may match, and at no message.
+    pub(crate) fn count(self, stream: &StoredStream) -> Result<u64, NoMemory>
         requires sound { IsSound stream.now }
-        ensures value { result ≡ next_selected self.entry stream.now.messages from }
+        ensures value { IfOk result (λ count. count ≡ length (selected self.entry stream.now.messages)) }
     {
         match self {
-            Selector::All => next_of_all(stream, from),
-            Selector::Subject(subject) => stream.messages().at_or_after(subject, from),
-            Selector::Pattern(pattern) => next_matching(stream, pattern, from),
+            Selector::All => Ok(stream.count()),
+            Selector::Subject(subject) => Ok(count_of(stream, subject)),
+            Selector::Pattern(pattern) => stream.messages().count_matching(pattern),
         }
-    }
-
-    /// How many messages are selected, as far as it is known without going through the messages.
-    pub(crate) fn count(self, stream: &StoredStream) -> Option<u64>
-        ensures value { IfSome result (λ count. count ≡ length (selected self.entry stream.now.messages)) }
-    {
-        match self {
-            Selector::All => Some(stream.count()),
-            Selector::Subject(subject) => Some(count_of(stream, subject)),
-            Selector::Pattern(_) => None,
-        }
-    }
-}
-
-/// The sequence of the first message from a sequence on.
-fn next_of_all(stream: &StoredStream, from: u64) -> Option<u64>
-    ensures value { result ≡ next_selected Selector.All stream.now.messages from }
-{
-    match stream.first_from(from) {
-        Some(message) => Some(message.seq),
-        None => None,
     }
 }
 
@@ -77,19 +57,4 @@ fn count_of(stream: &StoredStream, subject: &[u8]) -> u64
         Some(counts) => counts.count,
         None => 0,
     }
-}
-
-/// The sequence of the first message from a sequence on whose subject matches the pattern.
-fn next_matching(stream: &StoredStream, pattern: &[u8], from: u64) -> Option<u64>
-    requires sound { IsSound stream.now }
-    ensures value { result ≡ next_selected (Selector.Pattern pattern.entry) stream.now.messages from }
-{
-    let mut from = from;
-    while let Some(message) = stream.first_from(from) {
-        if matches(pattern, message.subject.as_slice()) {
-            return Some(message.seq);
-        }
-        from = message.seq + 1;
-    }
-    None
 }

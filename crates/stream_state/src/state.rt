@@ -104,12 +104,12 @@ impl StreamState {
         self.stream.last_on(subject)
     }
 
-    /// What the stream answers a publish, by JetStream's publish headers, duplicate window and discard policy. `room` is whether the store has
-    /// a block for the message. It does not go through the messages.
-    pub fn verdict(&self, publish: &Publish, room: bool) -> Result<Verdict, NoMemory>
-        ensures value { IfOk result (λ said. said ≡ verdict self.now publish.now room) }
+    /// What the stream answers a publish, by JetStream's publish headers, duplicate window and discard policy, if its store has a block for the
+    /// message: that is the last check, and left to the store. It does not go through the messages.
+    pub fn verdict(&self, publish: &Publish) -> Result<Verdict, NoMemory>
+        ensures value { IfOk result (λ said. said ≡ verdict self.now publish.now true) }
     {
-        verdict(self.alloc, &self.stream, publish, room)
+        verdict(self.alloc, &self.stream, publish)
     }
 
     /// Stores the message of a publish that is to be taken, remembers its id, and lets the messages go that the limits drop. Gives the message's
@@ -128,8 +128,8 @@ impl StreamState {
     }
 
     /// Removes the messages that a purge names, by JetStream's stream purge: those that the filter matches, below a sequence, and all but a given
-    /// number of the last ones. Gives how many they are. It goes through the messages for a filter with wildcards, and through those that are
-    /// kept below a sequence. An `Err` changes nothing.
+    /// number of the last ones. Gives how many they are. It costs what it removes, and for a filter with wildcards also the subjects that begin
+    /// with what it has before the first of them; with both a sequence and a number, what stands below the sequence. An `Err` changes nothing.
     pub fn purge(
         &mut self,
         pattern: &[u8],

@@ -1,6 +1,6 @@
 //! Whether a publish is taken, and why not.
 
-ghost use Rattle.std.specs.Prelude.{◌≡◌, ◌+◌, ◌^◌, ◌<◌, ◌&&◌, None, IfOk, length, nat_lt, option_map, sum_by};
+ghost use Rattle.std.specs.Prelude.{◌≡◌, ◌+◌, ◌^◌, ◌<◌, ◌&&◌, true, None, IfOk, length, nat_lt, option_map, sum_by};
 ghost use Rattle.std.specs.Option.{option_copied};
 ghost use Rattle.js_model.specs.Streams.{over_limit, size};
 ghost use Rattle.js_model.specs.Trim.{max_messages};
@@ -14,7 +14,7 @@ use crate::stored::StoredStream;
 use js_base::{ApiError, Blob, NoMemory};
 use js_model::refusals::{
     bad_header_number, id_too_long, max_bytes_exceeded, max_messages_exceeded, message_too_large,
-    no_free_block, numbers_used_up, window_full, wrong_last, wrong_last_id, wrong_stream,
+    numbers_used_up, window_full, wrong_last, wrong_last_id, wrong_stream,
 };
 use js_model::{Discard, Message, Publish, Verdict};
 use retention::max_messages;
@@ -30,18 +30,17 @@ const MOST_IDS: u64 = 1 << 20;
 /// How many bytes an id has at most.
 const LONGEST_ID: usize = 256;
 
-/// What a stream answers a publish, by JetStream's publish headers, duplicate window and discard policy. `room` is whether the store
-/// has a block for the message.
+/// What a stream answers a publish, by JetStream's publish headers, duplicate window and discard policy, if its store has a block for the
+/// message.
 #[tactic(auto, unfolding(js_model::specs::Verdict::verdict))]
 pub(crate) fn verdict(
     alloc: Global,
     stream: &StoredStream,
     publish: &Publish,
-    room: bool,
 ) -> Result<Verdict, NoMemory>
     requires sound { IsSound stream.now }
     requires within { next_over stream.now ≡ None }
-    ensures value { IfOk result (λ said. said ≡ verdict stream.now publish.now room) }
+    ensures value { IfOk result (λ said. said ≡ verdict stream.now publish.now true) }
 {
     if let Some(refusal) = early_refusal(alloc, stream, publish)? {
         return Ok(Verdict::Refused(refusal));
@@ -49,7 +48,7 @@ pub(crate) fn verdict(
     if let Some(seq) = known_seq(stream, &publish.wants.id) {
         return Ok(Verdict::Duplicate(seq));
     }
-    match late_refusal(alloc, stream, publish, room)? {
+    match late_refusal(alloc, stream, publish)? {
         Some(refusal) => Ok(Verdict::Refused(refusal)),
         None => Ok(Verdict::Take),
     }
@@ -96,11 +95,10 @@ fn late_refusal(
     alloc: Global,
     stream: &StoredStream,
     publish: &Publish,
-    room: bool,
 ) -> Result<Option<ApiError>, NoMemory>
     requires sound { IsSound stream.now }
     requires within { next_over stream.now ≡ None }
-    ensures value { IfOk result (λ refusal. refusal ≡ first_refusal (late_checks stream.now publish.now room)) }
+    ensures value { IfOk result (λ refusal. refusal ≡ first_refusal (late_checks stream.now publish.now true)) }
 {
     let wants = &publish.wants;
     let last = stream.last();
@@ -125,9 +123,6 @@ fn late_refusal(
     }
     if last + 1 == NUMBERS_END {
         return Ok(Some(numbers_used_up(alloc)?));
-    }
-    if !room {
-        return Ok(Some(no_free_block(alloc)?));
     }
     Ok(None)
 }

@@ -1,2 +1,3 @@
 pub mod Sequences
 pub mod SubjectMaps
+pub mod Wildcards

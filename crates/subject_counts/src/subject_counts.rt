@@ -1,9 +1,10 @@
 //! Which sequences each subject has.
 
-ghost use Rattle.std.specs.Prelude.{◌≡◌, [], find, nat_le, OnOk, OnErr};
+ghost use Rattle.std.specs.Prelude.{◌≡◌, [], find, nat_le, IfOk, OnOk, OnErr};
 ghost use Rattle.stream_view.specs.Counting.{counts_of};
-ghost use Rattle.subject_counts.specs.Sequences.{seqs_of, AddsSeq, DropsSeq, IsAbove, KeepsSeqs};
+ghost use Rattle.subject_counts.specs.Sequences.{counts_matching, seqs_of, AddsSeq, AreDistinct, DropsSeq, IsAbove, KeepsSeqs};
 
+use crate::matching::counts_matching;
 use crate::sequence_set::{counts_in, first_from};
 use crate::subject_map::{SubjectMap, put_seq, take_seq};
 use js_base::{Blob, NoMemory};
@@ -12,7 +13,8 @@ use std::collections::BTreeMap;
 use std::marker::Model;
 use stream_view::Counts;
 
-/// The sequences of each subject, which ascend. Each call takes steps by the logarithm of what there is.
+/// The sequences of each subject, which ascend. Each call takes steps by the logarithm of what there is, and `matching` some more for each subject
+/// that it looks at.
 #[derive(Drop)]
 pub struct SubjectCounts {
     alloc: Global,
@@ -69,5 +71,14 @@ impl SubjectCounts {
         ensures value { result ≡ find (λ n. nat_le seq n) (seqs_of self.now subject.now) }
     {
         first_from(self.subjects.get(subject)?, seq)
+    }
+
+    /// How many sequences each subject has that the pattern matches, and the first and the last of them. Each subject is counted once. Only those
+    /// are looked at that begin with what the pattern has before its first wildcard.
+    pub fn matching(&self, pattern: &[u8]) -> Result<Vec<Counts>, NoMemory>
+        ensures value { IfOk result (λ found. found.items ≡ counts_matching pattern.now self.now) }
+        ensures distinct { OnOk result (AreDistinct self.now) }
+    {
+        counts_matching(&self.subjects, self.alloc, pattern)
     }
 }

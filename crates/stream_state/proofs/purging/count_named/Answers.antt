@@ -1,9 +1,10 @@
 use Rattle.std.proofs.Common.{sym, ap, ◌∙◌, length, arith}
+use Rattle.std.proofs.lemmas.Result.{IfOk-weaker}
 use Rattle.stream_state.proofs.Purges.{count_all, named_selected}
 use Rattle.stream_state.proofs.purging.count_named.Goals as goal
 
-pub returns-in-Some : goal.returns-in-Some
-returns-in-Some c = record { value = c.in-Some.ensures.value ∙ sym (named_selected c.args.selector c.args.below c.args.stream.now.messages c.if-is_none.ensures) }
+pub returns-then-is_none : goal.returns-then-is_none
+returns-then-is_none c = record { value = IfOk-weaker c.count.result _ _ (λ n e. e ∙ sym (named_selected c.args.selector c.args.below c.args.stream.now.messages c.if-is_none.ensures)) c.count.ensures.value }
 
 pub returns : goal.returns
 returns c =

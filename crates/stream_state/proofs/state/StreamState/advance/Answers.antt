@@ -4,7 +4,7 @@ use Rattle.js_model.specs.Advance.{remembered, young}
 use Rattle.js_model.proofs.Parts.{young_part}
 use Rattle.retention.specs.Over.{next_over}
 use Rattle.retention.proofs.Following.{law_within}
-use Rattle.stream_state.proofs.Limiting.{lone, within_less}
+use Rattle.stream_state.proofs.Limiting.{coherent, within_less}
 use Rattle.stream_state.proofs.Young.{advanced}
 use Rattle.stream_state.proofs.state.StreamState.advance.Goals as goal
 
@@ -29,4 +29,4 @@ returns-clause-settled c =
     let t = c.later-now.result in
     let left : c.pass_time.new.self ≡ record s { messages = young s t; moment = t; ids = remembered s t } = c.pass_time.ensures.left ∙ ap (λ (x : Stream). record x { moment = t; ids = remembered x t }) c.drop_old.ensures.left in
     let within : next_over c.pass_time.new.self ≡ None = rw left (within_less s (young_part s t) c.self.invariant.within) in
-    law_within c.pass_time.new.self (lone c.pass_time.new.self c.pass_time.ensures.sound) within
+    law_within c.pass_time.new.self (coherent c.pass_time.new.self c.pass_time.ensures.sound) within

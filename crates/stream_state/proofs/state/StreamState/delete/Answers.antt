@@ -2,7 +2,7 @@ use Rattle.std.proofs.Common.{refl, ◌∙◌, None, sym, ◌≡◌}
 use Rattle.js_model.proofs.Parts.{filter_part}
 use Rattle.retention.specs.Over.{next_over}
 use Rattle.retention.proofs.Following.{law_within}
-use Rattle.stream_state.proofs.Limiting.{lone, within_less}
+use Rattle.stream_state.proofs.Limiting.{coherent, within_less}
 use Rattle.stream_state.proofs.Purges.{deleted_is}
 use Rattle.stream_state.proofs.state.StreamState.delete.Goals as goal
 
@@ -20,4 +20,4 @@ pub returns-clause-settled : goal.returns-clause-settled
 returns-clause-settled c =
     let s = c.self.inside.stream in
     let within : next_over c.remove.new.self ≡ None = rw c.remove.ensures.left (within_less s (filter_part _ s.messages) c.self.invariant.within) in
-    law_within c.remove.new.self (lone c.remove.new.self c.remove.ensures.sound) within
+    law_within c.remove.new.self (coherent c.remove.new.self c.remove.ensures.sound) within

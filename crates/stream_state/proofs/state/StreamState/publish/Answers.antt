@@ -3,7 +3,7 @@ use Rattle.js_model.specs.declared.stream.Stream.{Stream}
 use Rattle.js_model.specs.Events.{with_message}
 use Rattle.js_model.specs.Trim.{trim}
 use Rattle.retention.proofs.Following.{law_within}
-use Rattle.stream_state.proofs.Limiting.{lone}
+use Rattle.stream_state.proofs.Limiting.{coherent}
 use Rattle.stream_state.proofs.Taken.{IsTaken, taken, next_number, has_room, over_own, trimmed_last}
 use Rattle.stream_state.proofs.state.StreamState.publish.Goals as goal
 
@@ -31,7 +31,7 @@ pub returns-clause-ok : goal.returns-clause-ok
 returns-clause-ok c = rw (← c.self.view_is) (c.trim_on.ensures.left ∙ ap trim c.in_ok-store.ensures.ok)
 
 pub returns-clause-settled : goal.returns-clause-settled
-returns-clause-settled c = law_within c.trim_on.new.stream (lone c.trim_on.new.stream c.trim_on.ensures.sound) c.trim_on.ensures.within
+returns-clause-settled c = law_within c.trim_on.new.stream (coherent c.trim_on.new.stream c.trim_on.ensures.sound) c.trim_on.ensures.within
 
 pub returns-clause-seq : goal.returns-clause-seq
 returns-clause-seq c =
@@ -40,4 +40,4 @@ returns-clause-seq c =
 
 pub returns-in_err-store-clause-settled : goal.returns-in_err-store-clause-settled
 returns-in_err-store-clause-settled c =
-    rw c.in_err-store.ensures.err (law_within c.self.inside.stream (lone c.self.inside.stream c.self.invariant.sound) c.self.invariant.within)
+    rw c.in_err-store.ensures.err (law_within c.self.inside.stream (coherent c.self.inside.stream c.self.invariant.sound) c.self.invariant.within)

@@ -6,7 +6,7 @@ use Rattle.js_model.specs.Streams.{seqs}
 use Rattle.retention.specs.Over.{next_over}
 use Rattle.retention.proofs.Following.{law_within}
 use Rattle.stream_state.specs.Stored.{without_all}
-use Rattle.stream_state.proofs.Limiting.{lone, within_less}
+use Rattle.stream_state.proofs.Limiting.{coherent, within_less}
 use Rattle.stream_state.proofs.Purges.{without_all_is, without_messages_part}
 use Rattle.stream_state.proofs.state.StreamState.purge.Goals as goal
 
@@ -35,8 +35,8 @@ returns-clause-settled c =
     let list = purge_list s c.args.pattern.now c.args.below c.args.keep in
     let left : c.remove_all.new.stream ≡ without_all (seqs list) s = c.remove_all.ensures.left ∙ ap (λ (ns : List ℕ). without_all ns s) (c.as_slice.ensures.value ∙ c.in_ok-gone.ensures.value) in
     let within : next_over c.remove_all.new.stream ≡ None = rw left (within_less s (without_messages_part s list) c.self.invariant.within) in
-    law_within c.remove_all.new.stream (lone c.remove_all.new.stream c.remove_all.ensures.sound) within
+    law_within c.remove_all.new.stream (coherent c.remove_all.new.stream c.remove_all.ensures.sound) within
 
 pub returns-in_err-gone-clause-settled : goal.returns-in_err-gone-clause-settled
 returns-in_err-gone-clause-settled c =
-    rw (← c.self.view_is) (law_within c.self.inside.stream (lone c.self.inside.stream c.self.invariant.sound) c.self.invariant.within)
+    rw (← c.self.view_is) (law_within c.self.inside.stream (coherent c.self.inside.stream c.self.invariant.sound) c.self.invariant.within)

@@ -2,7 +2,7 @@ use Rattle.std.proofs.Common.{ap, ◌∙◌}
 use Rattle.std.specs.Prelude.{option_map}
 use Rattle.js_model.specs.declared.stream.Message.{Message}
 use Rattle.stream_state.proofs.Selections.{next_of_all}
-use Rattle.stream_state.proofs.selector.next_of_all.Goals as goal
+use Rattle.stream_state.proofs.purging.next_of_all.Goals as goal
 
 pub returns-in-Some : goal.returns-in-Some
 returns-in-Some c = record { value = ap (option_map (λ (m : Message). m.seq)) c.in-Some.ensures.value ∙ next_of_all c.args.stream.now.messages c.args.from }

@@ -1,10 +1,11 @@
 use Rattle.std.proofs.Common.{◌-◌, vec_len}
+use Rattle.stream_state.specs.declared.selector.Selector.TheVariants.{All}
 use Rattle.stream_state.specs.Selecting.{is_named}
 use Rattle.stream_state.proofs.Gathering.{Gathers}
-use Rattle.stream_state.proofs.purging.first_named.Given as goal
+use Rattle.stream_state.proofs.purging.first_stored.Given as goal
 
 abbrev pub invariant-loop-below : goal.invariant-loop-below
-invariant-loop-below l = Gathers (is_named l.selector l.below) l.stream.messages l.most l.from l.gone.items
+invariant-loop-below l = Gathers (is_named All l.below) l.stream.messages l.most l.from l.gone.items
 
 abbrev pub decreases-loop-below : goal.decreases-loop-below
 decreases-loop-below l = l.most - vec_len l.gone
