@@ -1,8 +1,8 @@
 -- Limits that hold go on holding when messages go, and messages that go one by one leave what the limits keep.
-use Rattle.std.proofs.Common.{◌≡◌, ℕ, ◌+◌, ◌<◌, ◌≤◌, ◌==◌, ◌||◌, ◌⊎◌, inl, inr, Bool, true, false, cond, not, List, [], ◌∷◌, Option, Some, None, length, refl, sym, ap, ◌∙◌, arith, subst}
-use Rattle.std.specs.Prelude.{filter, find, nat_lt, count_by, is_some, sum_by, option_map, IsSome}
+use Rattle.std.proofs.Common.{◌≡◌, ℕ, ◌<◌, ◌≤◌, ◌==◌, ◌⊎◌, inl, inr, Bool, true, false, cond, not, List, [], ◌∷◌, Option, Some, None, length, refl, sym, ap, ◌∙◌, arith, subst}
+use Rattle.std.specs.Prelude.{filter, find, nat_lt, count_by, is_some, option_map, IsSome}
 use Rattle.std.specs.Option.{option_or}
-use Rattle.std.proofs.lemmas.Bool.{ltb-true, ltb-false, lt-ltb, le-ltb, or_parts, or_from, eqb-true}
+use Rattle.std.proofs.lemmas.Bool.{ltb-true, ltb-false, le-ltb, or_parts, or_from, eqb-true}
 use Rattle.std.proofs.lemmas.List.Elements.{All-nil, filter_agree}
 use Rattle.std.proofs.lemmas.List.Sums.{length-filter}
 use Rattle.js_base.specs.Bytes.{Bytes, same, has}
@@ -19,7 +19,7 @@ use Rattle.js_model.proofs.Members.{IsIn, here, there, in_cons, in_filter, found
 use Rattle.js_model.proofs.Named.{same_is}
 use Rattle.js_model.proofs.Parts.{filter_part, part-length, part-sum}
 use Rattle.retention.specs.Over.{is_over_on, is_over, over_subject, over_stream, next_over, IsOverOnlyOn}
-use Rattle.retention.specs.Laws.{HoldsStored, IsCoherent, LawWithin, LawWithout}
+use Rattle.retention.specs.Laws.{HoldsStored, IsCoherent, LawWithout}
 use Rattle.stream_view.specs.declared.counts.Counts.{Counts}
 use Rattle.stream_view.specs.Counting.{counts_of, seqs_on}
 use Rattle.stream_state.specs.Stored.{IsSound, without}

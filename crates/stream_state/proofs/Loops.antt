@@ -1,6 +1,6 @@
 -- What the loops that let messages go have left after each turn.
-use Rattle.std.proofs.Common.{◌≡◌, ℕ, ◌+◌, ◌<◌, ◌≤◌, ◌==◌, ◌&&◌, not, Bool, true, false, Option, Some, None, List, [], ◌∷◌, ◌++◌, length, get_or, take, refl, sym, ap, ◌∙◌, arith, subst}
-use Rattle.std.specs.Prelude.{filter, find, is_some, nat_le, option_map, IsSome}
+use Rattle.std.proofs.Common.{◌≡◌, ℕ, ◌+◌, ◌<◌, ◌≤◌, ◌==◌, ◌&&◌, not, Bool, true, false, Option, Some, None, List, [], length, get_or, take, refl, sym, ap, ◌∙◌, arith, subst}
+use Rattle.std.specs.Prelude.{find, is_some, nat_le, option_map}
 use Rattle.std.specs.Option.{option_or}
 use Rattle.std.proofs.lemmas.List.{take_more}
 use Rattle.js_base.specs.Bytes.{Bytes}
@@ -16,7 +16,7 @@ use Rattle.js_model.proofs.Members.{IsIn, in_part}
 use Rattle.js_model.proofs.Parts.{filter_part}
 use Rattle.stream_state.specs.Selecting.{next_passing}
 use Rattle.stream_state.proofs.Finding.{fails_before, find_from}
-use Rattle.stream_state.proofs.Limiting.{coherent, no_subject, over_on_less, trim_without, over_only_less}
+use Rattle.stream_state.proofs.Limiting.{coherent, no_subject, over_on_less, trim_without}
 use Rattle.stream_state.proofs.Purges.{take_long, without_none, without_one_more}
 
 -- messages that are too old have gone

@@ -1,6 +1,6 @@
 -- Messages of several subjects, taken in the order of their sequences from the next one of each.
-use Rattle.std.proofs.Common.{◌≡◌, ℕ, ◌+◌, ◌<◌, ◌≤◌, ◌==◌, ◌&&◌, ◌||◌, Bool, true, false, cond, List, [], ◌∷◌, Option, Some, None, length, refl, sym, ap, subst, ◌∙◌, arith, IsTrue}
-use Rattle.std.specs.Prelude.{filter, find, nat_le, option_map, IfSome}
+use Rattle.std.proofs.Common.{◌≡◌, ℕ, ◌+◌, ◌≤◌, ◌==◌, ◌&&◌, Bool, true, false, cond, List, [], ◌∷◌, Option, Some, None, refl, sym, ap, subst, ◌∙◌, arith}
+use Rattle.std.specs.Prelude.{find, nat_le, option_map}
 use Rattle.std.specs.Ordering.{is_gt, nat_cmp}
 use Rattle.std.specs.BTreeMap.{is_at}
 use Rattle.std.specs.BTreeSet.{BTreeSet, contains, IsLowerBound}
@@ -10,11 +10,9 @@ use Rattle.js_base.specs.Bytes.{Bytes, same}
 use Rattle.js_base.proofs.Meeting.{same_is, same_self}
 use Rattle.js_model.specs.declared.stream.Message.{Message}
 use Rattle.js_model.specs.Lists.{Between}
-use Rattle.js_model.specs.Streams.{seqs}
-use Rattle.js_model.proofs.Members.{IsIn, here, there, in_bounds, in_filter, found_in}
+use Rattle.js_model.proofs.Members.{IsIn, here, there, in_bounds, found_in}
 use Rattle.js_model.proofs.Named.{some_is}
 use Rattle.stream_state.specs.Heads.{next_after, AreHeads, IsAt, IsWith, TakesHead}
-use Rattle.stream_state.specs.Indexed.{on_subject}
 use Rattle.stream_state.specs.Selecting.{next_passing}
 use Rattle.stream_state.proofs.Finding.{member_found}
 

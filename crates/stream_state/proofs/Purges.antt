@@ -1,8 +1,8 @@
 -- What a purge names, and what is left without it.
-use Rattle.std.proofs.Common.{◌≡◌, ℕ, ◌+◌, ◌-◌, ◌^◌, ◌<◌, ◌≤◌, ◌==◌, ◌&&◌, ◌||◌, Bool, true, false, cond, not, List, [], ◌∷◌, ◌++◌, Option, Some, None, zero, suc, length, take, map, refl, sym, ap, ◌∙◌, arith, subst}
+use Rattle.std.proofs.Common.{◌≡◌, ℕ, ◌+◌, ◌^◌, ◌<◌, ◌≤◌, ◌==◌, ◌&&◌, ◌||◌, Bool, true, false, cond, not, List, [], ◌∷◌, ◌++◌, Option, Some, None, zero, suc, length, take, map, refl, sym, ap, ◌∙◌, arith}
 use Rattle.std.specs.Prelude.{filter, find, is_some, nat_le, option_map}
 use Rattle.std.specs.Option.{option_to_list}
-use Rattle.std.proofs.lemmas.Bool.{and_parts, leb-true, ltb-false, le-ltb, le-leb}
+use Rattle.std.proofs.lemmas.Bool.{ltb-false, le-ltb}
 use Rattle.std.proofs.lemmas.Bool.Decides.{nat_tests}
 use Rattle.std.proofs.lemmas.List.Elements.{filter_agree}
 use Rattle.std.proofs.lemmas.List.{length-map}
@@ -12,7 +12,6 @@ use Rattle.js_model.specs.declared.stream.Stream.{Stream}
 use Rattle.js_model.specs.Events.{is_below, all_but_last, message_at, purge_list, without_messages}
 use Rattle.js_model.specs.Lists.{Between, IsPart}
 use Rattle.js_model.specs.Streams.{passes_filter, seqs}
-use Rattle.js_model.proofs.Members.{in_bounds, found_in}
 use Rattle.stream_state.specs.Selecting.{is_named, named, selects, selected, next_passing}
 use Rattle.stream_state.specs.declared.selector.Selector.{Selector}
 use Rattle.stream_state.specs.Stored.{without, without_all}

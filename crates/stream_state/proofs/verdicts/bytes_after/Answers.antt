@@ -1,4 +1,4 @@
-use Rattle.std.proofs.Common.{sym, ap, ◌∙◌, arith}
+use Rattle.std.proofs.Common.{ap, ◌∙◌, arith}
 use Rattle.stream_state.specs.PushedOut.{pushed_out}
 use Rattle.stream_state.proofs.Pushing.{held_at}
 use Rattle.stream_state.proofs.verdicts.bytes_after.Goals as goal

@@ -1,4 +1,4 @@
-use Rattle.std.proofs.Common.{refl, ◌∙◌, None, sym, ◌≡◌}
+use Rattle.std.proofs.Common.{refl, ◌∙◌, None, ◌≡◌}
 use Rattle.js_model.proofs.Parts.{filter_part}
 use Rattle.retention.specs.Over.{next_over}
 use Rattle.retention.proofs.Following.{law_within}

@@ -1,7 +1,6 @@
-use Rattle.std.proofs.Common.{◌≡◌, ◌+◌, ◌^◌, ◌<◌, All, refl, length}
-use Rattle.js_model.specs.declared.stream.Message.{Message}
+use Rattle.std.proofs.Common.{◌+◌, ◌^◌, ◌<◌, refl, length}
 use Rattle.stream_state.specs.Stored.{alone, stored_message}
-use Rattle.stream_state.proofs.Sounding.{above_last, last_undone, proper_small, proper_text, sound_more, with_message_is}
+use Rattle.stream_state.proofs.Sounding.{above_last, last_undone, proper_small, proper_text, sound_more}
 use Rattle.stream_state.proofs.stored.StoredStream.store.Goals as goal
 
 pub push-requires-clause-above : goal.push-requires-clause-above
