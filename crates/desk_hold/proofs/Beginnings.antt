@@ -1,11 +1,11 @@
 -- What is left of entries that others follow.
-use Rattle.std.proofs.Common.{◌≡◌, ◌⊎◌, ⊎_elim, inl, inr, ℕ, ◌≤◌, ◌<◌, ◌+◌, ◌++◌, Bool, true, false, List, [], ◌∷◌, append-nil, append_assoc, Option, None, Some, refl, sym, ap, subst, ◌∙◌, arith}
+use Rattle.std.proofs.Common.{◌≡◌, ◌⊎◌, ⊎_elim, inl, inr, ℕ, ◌<◌, ◌++◌, List, [], ◌∷◌, append-nil, append_assoc, Option, None, Some, refl, sym, ap, subst, ◌∙◌, arith}
 use Rattle.std.proofs.lemmas.Bool.{cases_lt}
 use Rattle.js_model.specs.declared.stream.State.{State}
 use Rattle.js_model.specs.declared.entry.PlaceEntry.{PlaceEntry}
 use Rattle.js_model.specs.Firm.{IsFirm}
 use Rattle.js_model.specs.Lasting.{lasting}
-use Rattle.place_engine.specs.Stepping.{Elapses, HoldsNow, Image, IsKept, Seen}
+use Rattle.place_engine.specs.Stepping.{HoldsNow, Image, IsKept, Seen}
 use Rattle.desk_hold.specs.Crashes.{Chain, IsEntry, IsLeftOf, MayCommit, Never, Outlasts}
 
 -- ---- chains

@@ -1,8 +1,7 @@
 -- The deliveries of a hold are a part of its place's run.
-use Rattle.std.proofs.Common.{◌≡◌, ◌≤◌, ◌<◌, ◌+◌, ◌++◌, ℕ, Bool, true, false, List, [], ◌∷◌, length, append-nil, Option, None, Some, refl, sym, ap, subst, ◌∙◌, arith}
+use Rattle.std.proofs.Common.{◌≡◌, ◌≤◌, ◌<◌, ◌+◌, ◌++◌, ℕ, Bool, true, false, List, [], ◌∷◌, length, append-nil, Option, refl, sym, ap, subst, ◌∙◌, arith}
 use Rattle.std.proofs.lemmas.Bool.{ltb-true, lt-ltb}
 use Rattle.js_base.specs.Bytes.{Bytes}
-use Rattle.js_base.specs.Causes.{Rose}
 use Rattle.js_base.specs.declared.out.Out.{Out}
 use Rattle.js_base.proofs.Causes.{rose_before}
 use Rattle.js_model.specs.declared.stream.State.{State}
@@ -16,12 +15,11 @@ use Rattle.js_model.specs.declared.entry.Call.TheVariants.{Step as StepOf, Deliv
 use Rattle.js_model.specs.PlaceStates.{PlaceIn, VolumeAt}
 use Rattle.js_model.specs.Runs.{IsStep, RunFrom, is_few, new_messages, total_of}
 use Rattle.js_api.specs.Holding.{delivery_broke}
-use Rattle.js_api.specs.Outputs.{answer_of, entry_outs, name_behind, outs_from, said}
+use Rattle.js_api.specs.Outputs.{answer_of, outs_from, said}
 use Rattle.js_api.specs.Worlds.{IsLater, Stops, is_broken}
-use Rattle.js_model.specs.Firm.{IsFirm, IsFirmStep}
+use Rattle.js_model.specs.Firm.{IsFirmStep}
 use Rattle.desk_hold.specs.Crashes.{Chain}
-use Rattle.desk_hold.specs.Deliveries.{IsSentAt, Led, Pauses}
-use Rattle.desk_hold.specs.Steps.{IsMade}
+use Rattle.desk_hold.specs.Deliveries.{Led}
 
 -- ---- where the volume stands
 

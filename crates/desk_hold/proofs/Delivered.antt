@@ -1,5 +1,5 @@
 -- The deliveries of a hold, one behind the other.
-use Rattle.std.proofs.Common.{◌≡◌, ◌≢◌, ◌≤◌, ◌+◌, ◌++◌, ℕ, suc, ◌<◌, get_or, add-one, Bool, true, false, List, [], ◌∷◌, length, length-append, append-nil, append_assoc, Option, None, Some, refl, sym, ap, subst, ◌∙◌, arith, inl, inr}
+use Rattle.std.proofs.Common.{◌≡◌, ◌≢◌, ◌≤◌, ◌+◌, ◌++◌, ℕ, ◌<◌, get_or, add-one, List, [], ◌∷◌, length, length-append, append-nil, append_assoc, Option, None, Some, refl, sym, ap, subst, ◌∙◌, arith, inl, inr}
 use Rattle.std.specs.Prelude.{◌⊎◌, sum_by, drop, take}
 use Rattle.std.proofs.Math.Seq.{drop-append_seam, take-suc}
 use Rattle.std.proofs.lemmas.List.Sums.{sum_by-append, sum_by-take-le}
@@ -7,7 +7,7 @@ use Rattle.js_base.specs.Bytes.{Bytes}
 use Rattle.js_base.specs.declared.out.Out.{Out}
 use Rattle.js_model.specs.declared.entry.Delivery.{Delivery}
 use Rattle.js_model.specs.declared.entry.PlaceEntry.{PlaceEntry}
-use Rattle.js_model.specs.declared.entry.PlaceEntry.TheVariants.{Step, Deliver, Broken}
+use Rattle.js_model.specs.declared.entry.PlaceEntry.TheVariants.{Deliver}
 use Rattle.js_model.specs.declared.stream.State.{State}
 use Rattle.js_model.specs.declared.desk.PlaceAt.{PlaceAt}
 use Rattle.js_model.specs.PlaceStates.{PlaceIn}
@@ -18,7 +18,7 @@ use Rattle.place_engine.specs.Stepping.{Image, IsKept, Seen}
 use Rattle.desk_hold.specs.declared.delivering.Ending.{Ending}
 use Rattle.desk_hold.specs.declared.delivering.Ending.TheVariants.{Quiet, Full, Broke, Short, WornOut}
 use Rattle.desk_hold.specs.Crashes.{Chain, MayCommit, Never, Outlasts}
-use Rattle.desk_hold.specs.Deliveries.{DeliversOn, EndsSo, GoesOn, IsSentAt, Led, Pauses, fault_by}
+use Rattle.desk_hold.specs.Deliveries.{DeliversOn, EndsSo, GoesOn, IsSentAt, Led, fault_by}
 use Rattle.desk_hold.proofs.Beginnings.{outlasts_call, outlasts_more, outlasts_nothing}
 use Rattle.desk_hold.proofs.Chain.{none_firm}
 

@@ -42,7 +42,7 @@ use Rattle.desk_hold.specs.declared.following.Following.TheVariants.{Heard, Unhe
 use Rattle.desk_hold.specs.Crashes.{CommitsStep, IsEarlyIn, IsEntry, MayCommit, Never, Outlasts, made_by}
 use Rattle.desk_hold.specs.Deliveries.{Led}
 use Rattle.desk_hold.specs.Following.{AskedSo, Follows, IsFault, LeftSo}
-use Rattle.desk_hold.specs.OnePlace.{HoldsOn, IsBy, IsHeldOn, OnPlace, on}
+use Rattle.desk_hold.specs.OnePlace.{HoldsOn, IsBy, IsHeldOn, on}
 use Rattle.desk_hold.specs.Outcomes.{SendsFollowed, SendsMade, SendsThem, absent_by, failed_by, fault_of, quietly, shortly}
 use Rattle.desk_hold.specs.Ports.{Sends}
 use Rattle.desk_hold.specs.Steps.{EndsStep, IsMade, IsUndoneStep, WithholdsStep}

@@ -1,13 +1,11 @@
 -- What a place promises of a delivery is one of the deliveries of a hold, or their end.
-use Rattle.std.proofs.Common.{◌⊎◌, inl, inr, ◌≡◌, ◌≤◌, ◌<◌, ◌+◌, ◌^◌, ◌++◌, ◌&&◌, ℕ, Bool, true, false, List, [], ◌∷◌, length, append-nil, Option, None, Some, Result, Ok, Err, refl, sym, ap, subst, ◌∙◌, arith, IsTrue}
+use Rattle.std.proofs.Common.{◌⊎◌, inl, ◌≡◌, ◌≤◌, ◌<◌, ◌^◌, ◌++◌, ◌&&◌, ℕ, true, false, List, [], ◌∷◌, append-nil, Option, None, Some, Result, Ok, Err, refl, sym, subst, ◌∙◌, arith, IsTrue}
 use Rattle.std.specs.Prelude.{nat_le}
 use Rattle.std.proofs.lemmas.Bool.{and_from, le-leb}
 use Rattle.js_base.specs.Bytes.{Bytes}
 use Rattle.js_base.specs.declared.out.Out.{Out}
 use Rattle.js_model.specs.declared.stream.State.{State}
 use Rattle.js_model.specs.declared.event.Event.{Event}
-use Rattle.js_model.specs.declared.event.What.{What}
-use Rattle.js_model.specs.declared.event.What.TheVariants.{Tick}
 use Rattle.js_model.specs.declared.reply.Reply.TheVariants.{Silent}
 use Rattle.js_model.specs.declared.entry.Delivery.{Delivery}
 use Rattle.js_model.specs.declared.entry.PlaceEntry.{PlaceEntry}
@@ -19,7 +17,6 @@ use Rattle.js_model.specs.Lasting.{lasting}
 use Rattle.js_model.specs.PlaceStates.{PlaceIn}
 use Rattle.js_model.specs.Proper.{is_proper}
 use Rattle.js_model.specs.Ready.{some_ready}
-use Rattle.js_model.specs.Runs.{is_few, new_messages}
 use Rattle.js_api.specs.Worlds.{IsLater}
 use Rattle.place_engine.specs.Delivering.{Delivers, Makes, tick_at}
 use Rattle.place_engine.specs.Stepping.{Elapses, Image, IsKept, Seen, Steps}
@@ -27,10 +24,10 @@ use Rattle.place_engine.specs.declared.faults.PlaceFault.{PlaceFault}
 use Rattle.place_engine.specs.declared.faults.PlaceFault.TheVariants.{NoMemory, StoreFault, Stopped, Gone, Worn}
 use Rattle.place_engine.specs.declared.faults.Left.TheVariants.{Nothing, Ticked, Unsaid}
 use Rattle.desk_hold.specs.declared.delivering.Ending.{Ending}
-use Rattle.desk_hold.specs.declared.delivering.Ending.TheVariants.{Quiet, Full, Broke, Short, WornOut}
+use Rattle.desk_hold.specs.declared.delivering.Ending.TheVariants.{Quiet, Broke, Short, WornOut}
 use Rattle.desk_hold.specs.Crashes.{MayCommit, Never, Outlasts}
-use Rattle.desk_hold.specs.Deliveries.{DeliversOn, EndsSo, GoesOn, IsSentAt, Led, Pauses, ending_after, ending_by, fault_by}
-use Rattle.desk_hold.specs.Steps.{IsMade, EndsStep}
+use Rattle.desk_hold.specs.Deliveries.{DeliversOn, EndsSo, GoesOn, IsSentAt, Led, ending_after, ending_by}
+use Rattle.desk_hold.specs.Steps.{EndsStep}
 use Rattle.desk_hold.proofs.Beginnings.{outlasts_call}
 use Rattle.desk_hold.proofs.Chain.{none_firm}
 use Rattle.desk_hold.proofs.Stepped.{failed_step}
