@@ -6,6 +6,7 @@ use Rattle.js_base.specs.Bytes.{Bytes}
 use Rattle.js_base.specs.declared.out.Out.{Out}
 use Rattle.js_model.specs.declared.desk.PlaceAt.{PlaceAt}
 use Rattle.js_model.specs.declared.event.What.{What}
+use Rattle.js_model.specs.declared.stream.State.{State}
 use Rattle.js_model.specs.PlaceStates.{PlaceIn}
 use Rattle.js_model.specs.Router.{Router, RouteTold, Routed as Answered, IsRoute, Interest, Listens, route}
 use Rattle.js_api.specs.declared.outcome.Became.{Became}
@@ -18,6 +19,7 @@ use Rattle.js_api.specs.Holding.{Holds, HoldsBy, Prepares, Unmakes}
 use Rattle.js_api.specs.Leading.{Leads, Makes}
 use Rattle.js_api.specs.Outputs.{outs_of}
 use Rattle.js_api.specs.Worlds.{AreRead, AreTried, Scene, SoloStep}
+use Rattle.place_engine.specs.Stepping.{Image, Seen}
 use Rattle.desk_hold.specs.OnePlace.{HoldsOn, OnPlace, PlaceStep, on}
 use Rattle.desk_hold.specs.Ports.{AreHeard, AreSent}
 
@@ -219,10 +221,10 @@ module _ (at : PlaceAt) where
   last_holds Gone what now ready fault entries last h = ap (λ (es : List DeskEntry). last_after es last) h.1
 
   -- the entries of the hold lead the desk from the one scene to the other
-  pub held_alone : (seat : ℕ) (what : What) (now : ℕ) (outcome : Outcome) (scene : Scene) (place new : PlaceIn) (router : Router) → slice_get scene.world.places at.place ≡ Some place
-      → HoldsOn IsRoute never at seat what now outcome (on place scene.world.router) (on new router)
-      → Makes (Leads SoloStep) (Holds at what now outcome) scene (with_place scene at.place (on new router) (last_of outcome.became scene.cursor.last))
-  held_alone seat what now outcome scene place new router there h =
+  pub held_alone : (holds : Image → State → Type 0) (seat : ℕ) (what : What) (now : ℕ) (outcome : Outcome) (scene : Scene) (old new : Seen) (router : Router)
+      → slice_get scene.world.places at.place ≡ Some old.place → HoldsOn IsRoute never at holds seat what now outcome old new scene.world.router router
+      → Makes (Leads SoloStep) (Holds at what now outcome) scene (with_place scene at.place (on new.place router) (last_of outcome.became scene.cursor.last))
+  held_alone holds seat what now outcome scene old new router there h =
       let last : last_after h.entries scene.cursor.last ≡ last_of outcome.became scene.cursor.last =
       ap (λ (es : List DeskEntry). last_after es scene.cursor.last) h.holds.entries_are
       ∙ last_behind h.holds.first h.holds.more scene.cursor.last
@@ -232,6 +234,6 @@ module _ (at : PlaceAt) where
       record {
         entries = h.entries;
         are = h.holds;
-        led = subst (λ (o : Option PlaceAt). Leads SoloStep scene h.entries (with_place scene at.place (on new router) o)) last
-            (steps_alone h.entries scene (on place scene.world.router) (on new router) refl there h.led);
+        led = subst (λ (o : Option PlaceAt). Leads SoloStep scene h.entries (with_place scene at.place (on new.place router) o)) last
+            (steps_alone h.entries scene (on old.place scene.world.router) (on new.place router) refl there h.led);
       }

@@ -17,6 +17,8 @@ use Rattle.js_model.specs.Runs.{IsStep, RunFrom, is_few, new_messages, total_of}
 use Rattle.js_api.specs.Holding.{delivery_broke}
 use Rattle.js_api.specs.Outputs.{answer_of, outs_from, said}
 use Rattle.js_api.specs.Worlds.{IsLater, Stops, is_broken}
+use Rattle.js_model.specs.Firm.{IsFirmStep}
+use Rattle.desk_hold.specs.Crashes.{Chain}
 use Rattle.desk_hold.specs.Deliveries.{Led}
 
 -- ---- where the volume stands
@@ -68,6 +70,25 @@ runs_from (Broken seat now (DeliverOf listening d) ∷ more) old sent new count 
     subst (λ (entries : List PlaceEntry). RunsFrom count old new (Broken seat now (DeliverOf listening d) ∷ entries)) (sym none)
     (record { run = (outs, step.step); stored = omega (arith, le, step.stored) })
 runs_from (Broken seat now (StepOf event) ∷ more) old sent new count le h = absurd h
+
+-- ---- what is confirmed
+
+-- none of the deliveries is
+pub none_firm : (entries : List PlaceEntry) (old : PlaceIn) (sent : List Out) (new : PlaceIn) → Led old entries sent new → Chain ⊥ old.state entries new.state
+none_firm [] old sent new h = sym h.0.state
+none_firm (Deliver seat now listening d outs ∷ more) old sent new (mid, rest, step, goes, is, next) =
+    (mid.state, (old.stored, (mid.state, step.step, refl)), (λ no. no), none_firm more mid rest new next)
+none_firm (Step seat event now reply outs unsaid ∷ more) old sent new (made, tick, silent, goes, is, none) =
+    subst (λ (entries : List PlaceEntry). Chain ⊥ old.state (Step seat event now reply outs unsaid ∷ entries) new.state) (sym none) (
+      new.state,
+      (old.stored, (new.state, made.step, refl)),
+      (λ firm. subst (λ (what : What). IsFirmStep old.state what reply new.state) tick firm.1),
+      refl,
+    )
+none_firm (Broken seat now (DeliverOf listening d) ∷ more) old sent new (outs, step, stops, is, none) =
+    subst (λ (entries : List PlaceEntry). Chain ⊥ old.state (Broken seat now (DeliverOf listening d) ∷ entries) new.state) (sym none)
+    (new.state, (old.stored, (outs, step.step)), (λ no. no), refl)
+none_firm (Broken seat now (StepOf event) ∷ more) old sent new h = absurd h
 
 -- ---- what is sent
 

@@ -8,62 +8,75 @@ use Rattle.js_base.specs.declared.out.Out.{Out}
 use Rattle.js_model.specs.declared.entry.Delivery.{Delivery}
 use Rattle.js_model.specs.declared.entry.PlaceEntry.{PlaceEntry}
 use Rattle.js_model.specs.declared.entry.PlaceEntry.TheVariants.{Deliver}
+use Rattle.js_model.specs.declared.stream.State.{State}
 use Rattle.js_model.specs.declared.desk.PlaceAt.{PlaceAt}
 use Rattle.js_model.specs.PlaceStates.{PlaceIn}
 use Rattle.js_api.specs.declared.fault.DeskFault.{DeskFault}
 use Rattle.js_api.specs.Holding.{AreDeliveries, bytes_of, delivery_broke, most_bytes, most_deliveries}
 use Rattle.js_api.specs.Worlds.{IsLater}
+use Rattle.place_engine.specs.Stepping.{Image, IsKept, Seen}
 use Rattle.desk_hold.specs.declared.delivering.Ending.{Ending}
 use Rattle.desk_hold.specs.declared.delivering.Ending.TheVariants.{Quiet, Full, Broke, Short, WornOut}
+use Rattle.desk_hold.specs.Crashes.{Chain, MayCommit, Never, Outlasts}
 use Rattle.desk_hold.specs.Deliveries.{DeliversOn, EndsSo, GoesOn, IsSentAt, Led, fault_by}
+use Rattle.desk_hold.proofs.Beginnings.{outlasts_call, outlasts_more, outlasts_nothing}
+use Rattle.desk_hold.proofs.Chain.{none_firm}
 
--- So many deliveries were made and told so far. What goes on from here, goes on from the beginning
-pub record SoFar (seat : ℕ) (now : ℕ) (listening : List Bytes) (made : ℕ) (old here : PlaceIn) (before outs : List Out) : Type 0 where
-  pub first : List PlaceEntry
-  pub sent : List Out
-  pub count : length first ≡ made
-  pub added : outs ≡ before ++ sent
-  pub goes : here.stopped ≡ None
-  pub whole : (tail : List PlaceEntry) → delivery_broke (first ++ tail) ≡ delivery_broke tail
-  pub are : (at : PlaceAt) (fault : Option DeskFault) (tail : List PlaceEntry) → AreDeliveries seat at now listening fault tail → AreDeliveries seat at now listening fault (first ++ tail)
-  pub led : (tail : List PlaceEntry) (more : List Out) (new : PlaceIn) → Led here tail more new → Led old (first ++ tail) (sent ++ more) new
+module _ (holds : Image → State → Type 0) where
+  -- So many deliveries were made and told so far. What goes on from here, goes on from the beginning
+  pub record SoFar (seat : ℕ) (now : ℕ) (listening : List Bytes) (made : ℕ) (old here : Seen) (before outs : List Out) : Type 0 where
+    pub first : List PlaceEntry
+    pub sent : List Out
+    pub count : length first ≡ made
+    pub added : outs ≡ before ++ sent
+    pub goes : here.place.stopped ≡ None
+    pub whole : (tail : List PlaceEntry) → delivery_broke (first ++ tail) ≡ delivery_broke tail
+    pub are : (at : PlaceAt) (fault : Option DeskFault) (tail : List PlaceEntry) → AreDeliveries seat at now listening fault tail → AreDeliveries seat at now listening fault (first ++ tail)
+    pub led : (tail : List PlaceEntry) (more : List Out) (new : PlaceIn) → Led here.place tail more new → Led old.place (first ++ tail) (sent ++ more) new
+    pub outlasts : Outlasts holds Never first old here
 
-pub none_so_far : (seat now : ℕ) (listening : List Bytes) (old : PlaceIn) (outs : List Out) → old.stopped ≡ None → SoFar seat now listening 0 old old outs outs
-none_so_far seat now listening old outs goes = record {
-  first = [];
-  sent = [];
-  count = refl;
-  added = sym (append-nil outs);
-  goes = goes;
-  whole = λ tail. refl;
-  are = λ at fault tail h. h;
-  led = λ tail more new h. h;
-}
-
--- one more
-module _ (seat now : ℕ) (listening : List Bytes) (made : ℕ) (old here next : PlaceIn) (before outs after : List Out) (d : Delivery) (os : List Out)
-    (h : SoFar seat now listening made old here before outs) (step : IsSentAt now listening d os here next) (goes : next.stopped ≡ None) (added : after ≡ outs ++ os) where
-  entry : PlaceEntry
-  entry = Deliver seat now listening d os
-
-  grown : (tail : List PlaceEntry) → (h.first ++ entry ∷ []) ++ tail ≡ h.first ++ entry ∷ tail
-  grown tail = append_assoc h.first (entry ∷ []) tail
-
-  pub one_more : SoFar seat now listening (made + 1) old next before after
-  unfolding entry
-  one_more = record {
-    first = h.first ++ entry ∷ [];
-    sent = h.sent ++ os;
-    count = length-append h.first (entry ∷ []) ∙ ap (λ (n : ℕ). n + 1) h.count;
-    added = added ∙ ap (λ (l : List Out). l ++ os) h.added ∙ append_assoc before h.sent os;
+  pub none_so_far : (seat now : ℕ) (listening : List Bytes) (old : Seen) (outs : List Out) → IsKept holds old → old.place.stopped ≡ None → SoFar seat now listening 0 old old outs outs
+  none_so_far seat now listening old outs kept goes = record {
+    first = [];
+    sent = [];
+    count = refl;
+    added = sym (append-nil outs);
     goes = goes;
-    whole = λ tail. ap delivery_broke (grown tail) ∙ h.whole (entry ∷ tail);
-    are = λ at fault tail k. subst (λ (es : List PlaceEntry). AreDeliveries seat at now listening fault es) (sym (grown tail)) (h.are at fault (entry ∷ tail) (refl, refl, refl, k));
-    led = λ tail more new k.
-        subst (λ (es : List PlaceEntry). Led old es ((h.sent ++ os) ++ more) new) (sym (grown tail))
-        (subst (λ (l : List Out). Led old (h.first ++ entry ∷ tail) l new) (sym (append_assoc h.sent os more))
-        (h.led (entry ∷ tail) (os ++ more) new (next, more, step, goes, refl, k)));
+    whole = λ tail. refl;
+    are = λ at fault tail h. h;
+    led = λ tail more new h. h;
+    outlasts = outlasts_nothing holds old kept;
   }
+
+  -- one more
+  module _ (seat now : ℕ) (listening : List Bytes) (made : ℕ) (old here next : Seen) (before outs after : List Out) (d : Delivery) (os : List Out) (kept : IsKept holds here) (keeps : IsKept holds next)
+      (h : SoFar seat now listening made old here before outs) (step : IsSentAt now listening d os here.place next.place) (goes : next.place.stopped ≡ None) (added : after ≡ outs ++ os) (commits : MayCommit holds here next) where
+    entry : PlaceEntry
+    entry = Deliver seat now listening d os
+
+    grown : (tail : List PlaceEntry) → (h.first ++ entry ∷ []) ++ tail ≡ h.first ++ entry ∷ tail
+    grown tail = append_assoc h.first (entry ∷ []) tail
+
+    not_firm : Chain ⊥ here.place.state (entry ∷ []) next.place.state
+    unfolding entry
+    not_firm = (next.place.state, (0, (next.place.state, step.step, refl)), (λ no. no), refl)
+
+    pub one_more : SoFar seat now listening (made + 1) old next before after
+    unfolding entry
+    one_more = record {
+      first = h.first ++ entry ∷ [];
+      sent = h.sent ++ os;
+      count = length-append h.first (entry ∷ []) ∙ ap (λ (n : ℕ). n + 1) h.count;
+      added = added ∙ ap (λ (l : List Out). l ++ os) h.added ∙ append_assoc before h.sent os;
+      goes = goes;
+      whole = λ tail. ap delivery_broke (grown tail) ∙ h.whole (entry ∷ tail);
+      are = λ at fault tail k. subst (λ (es : List PlaceEntry). AreDeliveries seat at now listening fault es) (sym (grown tail)) (h.are at fault (entry ∷ tail) (refl, refl, refl, k));
+      led = λ tail more new k.
+          subst (λ (es : List PlaceEntry). Led old.place es ((h.sent ++ os) ++ more) new) (sym (grown tail))
+          (subst (λ (l : List Out). Led old.place (h.first ++ entry ∷ tail) l new) (sym (append_assoc h.sent os more))
+          (h.led (entry ∷ tail) (os ++ more) new (next.place, more, step, goes, refl, k)));
+      outlasts = outlasts_more holds Never h.first (entry ∷ []) old here next h.outlasts (outlasts_call holds here next kept keeps commits (entry ∷ []) not_firm) not_firm;
+    }
 
 -- ---- the end
 
@@ -81,28 +94,30 @@ ends_behind Short now listening first tail new outs same h = tt
 ends_behind WornOut now listening first tail new outs same h = (not_none first tail h.0, h.1)
 
 -- what ended there ends all
-pub ended_there : (seat : ℕ) (at : PlaceAt) (now : ℕ) (listening : List Bytes) (made : ℕ) (ending : Ending) (old here new : PlaceIn) (before outs after : List Out)
-    → SoFar seat now listening made old here before outs → DeliversOn seat at now listening ending here new outs after → DeliversOn seat at now listening ending old new before after
-ended_there seat at now listening made ending old here new before outs after h k = record {
+pub ended_there : (holds : Image → State → Type 0) (seat : ℕ) (at : PlaceAt) (now : ℕ) (listening : List Bytes) (made : ℕ) (ending : Ending) (old here new : Seen) (before outs after : List Out)
+    → SoFar holds seat now listening made old here before outs → DeliversOn holds seat at now listening ending here new outs after → DeliversOn holds seat at now listening ending old new before after
+ended_there holds seat at now listening made ending old here new before outs after h k = record {
   entries = h.first ++ k.entries;
   sent = h.sent ++ k.sent;
   are = h.are at (fault_by ending) k.entries k.are;
-  led = h.led k.entries k.sent new k.led;
+  led = h.led k.entries k.sent new.place k.led;
+  outlasts = outlasts_more holds Never h.first k.entries old here new h.outlasts k.outlasts (none_firm k.entries here.place k.sent new.place k.led);
   added = k.added ∙ ap (λ (l : List Out). l ++ k.sent) h.added ∙ append_assoc before h.sent k.sent;
-  ends = ends_behind ending now listening h.first k.entries new after (h.whole k.entries) k.ends;
+  ends = ends_behind ending now listening h.first k.entries new.place after (h.whole k.entries) k.ends;
 }
 
 same_volume : (p : PlaceIn) → IsLater p.volume p.volume
 same_volume p = record { faults = omega arith; moments = omega arith; generations = omega arith }
 
 -- it is full
-pub full_there : (seat : ℕ) (at : PlaceAt) (now : ℕ) (listening : List Bytes) (made : ℕ) (old here : PlaceIn) (before outs : List Out) → SoFar seat now listening made old here before outs
-    → (most_deliveries ≤ made) ⊎ (most_bytes ≤ sum_by bytes_of outs) → DeliversOn seat at now listening Full old here before outs
-full_there seat at now listening made old here before outs h full = record {
+pub full_there : (holds : Image → State → Type 0) (seat : ℕ) (at : PlaceAt) (now : ℕ) (listening : List Bytes) (made : ℕ) (old here : Seen) (before outs : List Out) → SoFar holds seat now listening made old here before outs
+    → (most_deliveries ≤ made) ⊎ (most_bytes ≤ sum_by bytes_of outs) → DeliversOn holds seat at now listening Full old here before outs
+full_there holds seat at now listening made old here before outs h full = record {
   entries = h.first ++ [];
   sent = h.sent ++ [];
   are = h.are at None [] tt;
-  led = h.led [] [] here (record { going = h.goes; state = refl; stored = refl; stopped = h.goes; later = same_volume here }, refl);
+  led = h.led [] [] here.place (record { going = h.goes; state = refl; stored = refl; stopped = h.goes; later = same_volume here.place }, refl);
+  outlasts = subst (λ (es : List PlaceEntry). Outlasts holds Never es old here) (sym (append-nil h.first)) h.outlasts;
   added = h.added ∙ ap (λ (l : List Out). before ++ l) (sym (append-nil h.sent));
   ends = (h.whole [], by full);
 }
@@ -113,27 +128,22 @@ full_there seat at now listening made old here before outs h full = record {
 
 -- ---- in the loop
 
-pub next_so_far : (seat now : ℕ) (listening : List Bytes) (made : ℕ) (old here next : PlaceIn) (before outs after : List Out) (told : Option Ending) → told ≡ None
-    → SoFar seat now listening made old here before outs → GoesOn now listening told here next outs after → SoFar seat now listening (made + 1) old next before after
-next_so_far seat now listening made old here next before outs after None none h (d, os, step, goes, added) = one_more seat now listening made old here next before outs after d os h step goes added
-next_so_far seat now listening made old here next before outs after (Some ending) some h k = let no : ⊥ = cc in absurd no
-
-pub ended_so : (seat now : ℕ) (listening : List Bytes) (made : ℕ) (old here next : PlaceIn) (before outs after : List Out) (told : Option Ending) (ending : Ending) → told ≡ Some ending
-    → SoFar seat now listening made old here before outs → GoesOn now listening told here next outs after → (at : PlaceAt) → DeliversOn seat at now listening ending old next before after
-ended_so seat now listening made old here next before outs after None ending some h k = let no : ⊥ = cc in absurd no
-ended_so seat now listening made old here next before outs after (Some last) ending some h k = λ at.
-    subst (λ (e : Ending). DeliversOn seat at now listening e old next before after) (let same : last ≡ ending = cc in same)
-    (ended_there seat at now listening made last old here next before outs after h (k seat at))
+pub next_so_far : (holds : Image → State → Type 0) (seat now : ℕ) (listening : List Bytes) (made : ℕ) (old here next : Seen) (before outs after : List Out) (told : Option Ending) → told ≡ None
+    → IsKept holds here → IsKept holds next → SoFar holds seat now listening made old here before outs → GoesOn holds now listening told here next outs after
+    → SoFar holds seat now listening (made + 1) old next before after
+next_so_far holds seat now listening made old here next before outs after None none kept keeps h (d, os, step, goes, added, commits) =
+    one_more holds seat now listening made old here next before outs after d os kept keeps h step goes added commits
+next_so_far holds seat now listening made old here next before outs after (Some ending) some kept keeps h k = let no : ⊥ = cc in absurd no
 
 -- the size of what was added
-pub larger : (size more : ℕ) (outs after : List Out) (now : ℕ) (listening : List Bytes) (here next : PlaceIn) (told : Option Ending) → told ≡ None → GoesOn now listening told here next outs after
+pub larger : (holds : Image → State → Type 0) (size more : ℕ) (outs after : List Out) (now : ℕ) (listening : List Bytes) (here next : Seen) (told : Option Ending) → told ≡ None → GoesOn holds now listening told here next outs after
     → size ≤ sum_by bytes_of outs → more ≤ sum_by bytes_of (drop (length outs) after) → size + more ≤ sum_by bytes_of after
-larger size more outs after now listening here next None none (d, os, step, goes, added) small added_small =
+larger holds size more outs after now listening here next None none (d, os, step, goes, added, commits) small added_small =
     let tail : drop (length outs) after ≡ os = ap (λ (l : List Out). drop (length outs) l) added ∙ drop-append_seam outs os in
     let whole : sum_by bytes_of after ≡ sum_by bytes_of outs + sum_by bytes_of os = ap (λ (l : List Out). sum_by bytes_of l) added ∙ sum_by-append bytes_of outs os in
     let part : sum_by bytes_of (drop (length outs) after) ≡ sum_by bytes_of os = ap (λ (l : List Out). sum_by bytes_of l) tail in
     omega (arith, small, added_small, whole, part)
-larger size more outs after now listening here next (Some last) some k small added_small = let no : ⊥ = cc in absurd no
+larger holds size more outs after now listening here next (Some last) some k small added_small = let no : ⊥ = cc in absurd no
 
 -- ---- sizes
 

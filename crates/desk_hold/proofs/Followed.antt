@@ -11,6 +11,8 @@ use Rattle.js_model.specs.Router.{RouteCall, RouteTold}
 use Rattle.js_api.specs.declared.fault.DeskFault.TheVariants as faults
 use Rattle.js_api.specs.Holding.{AreFirstReadings, delivery_broke, listening_of, push_consumers}
 use Rattle.js_api.specs.Worlds.{IsLater}
+use Rattle.js_model.specs.declared.stream.State.{State}
+use Rattle.place_engine.specs.Stepping.{Image, IsKept, Seen}
 use Rattle.desk_hold.specs.declared.delivering.Ending.{Ending}
 use Rattle.desk_hold.specs.declared.delivering.Ending.TheVariants.{Quiet, Full, Broke, Short, WornOut}
 use Rattle.desk_hold.specs.declared.following.Following.{Following}
@@ -19,6 +21,7 @@ use Rattle.desk_hold.specs.declared.port.PortFault.TheVariants as ports
 use Rattle.desk_hold.specs.Deliveries.{DeliversOn, Led}
 use Rattle.desk_hold.specs.Following.{Follows}
 use Rattle.desk_hold.specs.Hearing.{Hears}
+use Rattle.desk_hold.proofs.Beginnings.{outlasts_nothing}
 
 no_first : (consumers : List Consumer) → AreFirstReadings consumers []
 no_first [] = tt
@@ -30,53 +33,56 @@ same_volume p = record { faults = omega arith; moments = omega arith; generation
 pauses : (p : PlaceIn) → p.stopped ≡ None → Led p [] [] p
 pauses p goes = (record { going = goes; state = refl; stored = refl; stopped = goes; later = same_volume p }, refl)
 
-module _ {R : Type 0} (routes : R → RouteCall → RouteTold → R → Type 0) (worn : R → ℕ → R → Type 0) (seat : ℕ) (at : PlaceAt) where
+module _ {R : Type 0} (routes : R → RouteCall → RouteTold → R → Type 0) (worn : R → ℕ → R → Type 0) (holds : Image → State → Type 0) (seat : ℕ) (at : PlaceAt) where
   -- nothing follows a step whose answer found no memory
-  pub unsaid_step : (now : ℕ) (following : Following) (place : PlaceIn) (r : R) (outs : List Out) → place.stopped ≡ None → following ≡ Heard false (Some faults.NoMemory)
-      → Follows routes worn seat at now following place place r r outs outs
-  unsaid_step now following place r outs goes is = subst (λ (f : Following). Follows routes worn seat at now f place place r r outs outs) (sym is) (record {
+  pub unsaid_step : (now : ℕ) (following : Following) (place : Seen) (r : R) (outs : List Out) → IsKept holds place → place.place.stopped ≡ None → following ≡ Heard false (Some faults.NoMemory)
+      → Follows routes worn seat at now holds following place place r r outs outs
+  unsaid_step now following place r outs kept goes is = subst (λ (f : Following). Follows routes worn seat at now holds f place place r r outs outs) (sym is) (record {
     readings = [];
     entries = [];
     sent = [];
-    led = pauses place goes;
+    led = pauses place.place goes;
+    outlasts = outlasts_nothing holds place kept;
     added = sym (append-nil outs);
-    followed = record { heard = refl; asked = inr (no_first (push_consumers place.state), refl); are = tt; left = tt };
+    followed = record { heard = refl; asked = inr (no_first (push_consumers place.place.state), refl); are = tt; left = tt };
   })
 
   -- memory ran out as it was asked who listens
-  pub not_heard : (now : ℕ) (following : Following) (place : PlaceIn) (r s : R) (outs : List Out) → place.stopped ≡ None → Hears routes worn (Err ports.NoMemory) place.state r s
-      → following ≡ Heard false (Some faults.NoMemory) → Follows routes worn seat at now following place place r s outs outs
-  not_heard now following place r s outs goes h is = subst (λ (f : Following). Follows routes worn seat at now f place place r s outs outs) (sym is) (record {
+  pub not_heard : (now : ℕ) (following : Following) (place : Seen) (r s : R) (outs : List Out) → IsKept holds place → place.place.stopped ≡ None → Hears routes worn (Err ports.NoMemory) place.place.state r s
+      → following ≡ Heard false (Some faults.NoMemory) → Follows routes worn seat at now holds following place place r s outs outs
+  not_heard now following place r s outs kept goes h is = subst (λ (f : Following). Follows routes worn seat at now holds f place place r s outs outs) (sym is) (record {
     readings = h.readings;
     entries = [];
     sent = [];
-    led = pauses place goes;
+    led = pauses place.place goes;
+    outlasts = outlasts_nothing holds place kept;
     added = sym (append-nil outs);
     followed = record { heard = h.reads.1; asked = inr (h.reads.0, refl); are = tt; left = tt };
   })
 
   -- no turn of the router was left for that
-  pub no_turn : (now number : ℕ) (place : PlaceIn) (r s : R) (outs : List Out) → place.stopped ≡ None → Hears routes worn (Err (ports.Worn number)) place.state r s
-      → Follows routes worn seat at now (Unheard number) place place r s outs outs
-  no_turn now number place r s outs goes h = record {
+  pub no_turn : (now number : ℕ) (place : Seen) (r s : R) (outs : List Out) → IsKept holds place → place.place.stopped ≡ None → Hears routes worn (Err (ports.Worn number)) place.place.state r s
+      → Follows routes worn seat at now holds (Unheard number) place place r s outs outs
+  no_turn now number place r s outs kept goes h = record {
     readings = h.readings;
     entries = [];
     sent = [];
-    led = pauses place goes;
+    led = pauses place.place goes;
+    outlasts = outlasts_nothing holds place kept;
     added = sym (append-nil outs);
     followed = record { mid = h.reads.0; heard = h.reads.2; is_worn = h.reads.3; first = h.reads.1; none = refl };
   }
 
-  module _ (now : ℕ) (listening : List Bytes) (old new : PlaceIn) (r s : R) (before after : List Out) (h : Hears routes worn (Ok listening) old.state r s) where
+  module _ (now : ℕ) (listening : List Bytes) (old new : Seen) (r s : R) (before after : List Out) (h : Hears routes worn (Ok listening) old.place.state r s) where
     -- the ending that was told
-    pub as_told : (ending told : Ending) → told ≡ ending → DeliversOn seat at now listening told old new before after → DeliversOn seat at now listening ending old new before after
-    as_told ending told is d = subst (λ (e : Ending). DeliversOn seat at now listening e old new before after) is d
+    pub as_told : (ending told : Ending) → told ≡ ending → DeliversOn holds seat at now listening told old new before after → DeliversOn holds seat at now listening ending old new before after
+    as_told ending told is d = subst (λ (e : Ending). DeliversOn holds seat at now listening e old new before after) is d
 
     -- with who was read to listen
-    read : (ending : Ending) → DeliversOn seat at now listening ending old new before after → DeliversOn seat at now (listening_of h.readings) ending old new before after
-    read ending d = subst (λ (l : List Bytes). DeliversOn seat at now l ending old new before after) h.reads.1 d
+    read : (ending : Ending) → DeliversOn holds seat at now listening ending old new before after → DeliversOn holds seat at now (listening_of h.readings) ending old new before after
+    read ending d = subst (λ (l : List Bytes). DeliversOn holds seat at now l ending old new before after) h.reads.1 d
 
-    pub quiet : DeliversOn seat at now listening Quiet old new before after → Follows routes worn seat at now (Heard false None) old new r s before after
+    pub quiet : DeliversOn holds seat at now listening Quiet old new before after → Follows routes worn seat at now holds (Heard false None) old new r s before after
     quiet d =
         let k = read Quiet d in
         record {
@@ -84,13 +90,14 @@ module _ {R : Type 0} (routes : R → RouteCall → RouteTold → R → Type 0) 
           entries = k.entries;
           sent = k.sent;
           led = k.led;
+          outlasts = k.outlasts;
           added = k.added;
           followed = record {
             heard = h.reads.2;
             asked = h.reads.0;
             are = k.are;
             left = record {
-              ready_is = by (delivery_broke k.entries) (some_ready new.state now (listening_of h.readings)) k.ends.1;
+              ready_is = by (delivery_broke k.entries) (some_ready new.place.state now (listening_of h.readings)) k.ends.1;
               full = λ yes. let no : ⊥ = cc in absurd no;
             };
           };
@@ -100,7 +107,7 @@ module _ {R : Type 0} (routes : R → RouteCall → RouteTold → R → Type 0) 
         by true ready none = refl
         by false ready none = sym none
 
-    pub broke : DeliversOn seat at now listening Broke old new before after → Follows routes worn seat at now (Heard false None) old new r s before after
+    pub broke : DeliversOn holds seat at now listening Broke old new before after → Follows routes worn seat at now holds (Heard false None) old new r s before after
     broke d =
         let k = read Broke d in
         record {
@@ -108,19 +115,20 @@ module _ {R : Type 0} (routes : R → RouteCall → RouteTold → R → Type 0) 
           entries = k.entries;
           sent = k.sent;
           led = k.led;
+          outlasts = k.outlasts;
           added = k.added;
           followed = record {
             heard = h.reads.2;
             asked = h.reads.0;
             are = k.are;
             left = record {
-              ready_is = ap (λ (b : Bool). if b then false else some_ready new.state now (listening_of h.readings)) (sym k.ends);
+              ready_is = ap (λ (b : Bool). if b then false else some_ready new.place.state now (listening_of h.readings)) (sym k.ends);
               full = λ yes. let no : ⊥ = cc in absurd no;
             };
           };
         }
 
-    pub full : (ready : Bool) → ready ≡ some_ready new.state now listening → DeliversOn seat at now listening Full old new before after → Follows routes worn seat at now (Heard ready None) old new r s before after
+    pub full : (ready : Bool) → ready ≡ some_ready new.place.state now listening → DeliversOn holds seat at now listening Full old new before after → Follows routes worn seat at now holds (Heard ready None) old new r s before after
     full ready is d =
         let k = read Full d in
         record {
@@ -128,40 +136,43 @@ module _ {R : Type 0} (routes : R → RouteCall → RouteTold → R → Type 0) 
           entries = k.entries;
           sent = k.sent;
           led = k.led;
+          outlasts = k.outlasts;
           added = k.added;
           followed = record {
             heard = h.reads.2;
             asked = h.reads.0;
             are = k.are;
             left = record {
-              ready_is = is ∙ ap (λ (l : List Bytes). some_ready new.state now l) h.reads.1
-                  ∙ ap (λ (b : Bool). if b then false else some_ready new.state now (listening_of h.readings)) (sym k.ends.0);
+              ready_is = is ∙ ap (λ (l : List Bytes). some_ready new.place.state now l) h.reads.1
+                  ∙ ap (λ (b : Bool). if b then false else some_ready new.place.state now (listening_of h.readings)) (sym k.ends.0);
               full = λ yes. k.ends.1;
             };
           };
         }
 
-    pub ran_short : (following : Following) → following ≡ Heard false (Some faults.NoMemory) → DeliversOn seat at now listening Short old new before after → Follows routes worn seat at now following old new r s before after
+    pub ran_short : (following : Following) → following ≡ Heard false (Some faults.NoMemory) → DeliversOn holds seat at now listening Short old new before after → Follows routes worn seat at now holds following old new r s before after
     ran_short following is d =
         let k = read Short d in
-        subst (λ (f : Following). Follows routes worn seat at now f old new r s before after) (sym is) (record {
+        subst (λ (f : Following). Follows routes worn seat at now holds f old new r s before after) (sym is) (record {
           readings = h.readings;
           entries = k.entries;
           sent = k.sent;
           led = k.led;
+          outlasts = k.outlasts;
           added = k.added;
           followed = record { heard = h.reads.2; asked = inl h.reads.0; are = k.are; left = tt };
         })
 
-    pub worn_out : (following : Following) → following ≡ Heard false (Some (faults.Worn (2 ^ 62 - 1))) → DeliversOn seat at now listening WornOut old new before after
-        → Follows routes worn seat at now following old new r s before after
+    pub worn_out : (following : Following) → following ≡ Heard false (Some (faults.Worn (2 ^ 62 - 1))) → DeliversOn holds seat at now listening WornOut old new before after
+        → Follows routes worn seat at now holds following old new r s before after
     worn_out following is d =
         let k = read WornOut d in
-        subst (λ (f : Following). Follows routes worn seat at now f old new r s before after) (sym is) (record {
+        subst (λ (f : Following). Follows routes worn seat at now holds f old new r s before after) (sym is) (record {
           readings = h.readings;
           entries = k.entries;
           sent = k.sent;
           led = k.led;
+          outlasts = k.outlasts;
           added = k.added;
           followed = record { heard = h.reads.2; asked = inl h.reads.0; are = k.are; left = ((sym k.ends.1, refl), k.ends.0) };
         })

@@ -1,6 +1,6 @@
 -- A step at a place, and the sending of what it sends, are one hold.
 use Rattle.std.proofs.Common.{◌≡◌, ◌≢◌, ◌-◌, ◌^◌, ℕ, Bool, true, false, List, [], ◌∷◌, Option, Some, None, Result, Ok, Err, refl, sym, ap, subst, ◌∙◌, append-nil, inl, inr, arith}
-use Rattle.std.specs.Prelude.{◌⊎◌, ◌≤◌, ◌+◌, ◌++◌, length, sum_by, if◌then◌else◌, MatchOption}
+use Rattle.std.specs.Prelude.{◌⊎◌, ◌<◌, ◌≤◌, ◌+◌, ◌++◌, length, sum_by, if◌then◌else◌, MatchOption}
 use Rattle.std.specs.List.{AllByRecursion}
 use Rattle.std.specs.Option.{option_or}
 use Rattle.js_base.specs.Bytes.{Bytes}
@@ -31,19 +31,24 @@ use Rattle.js_api.specs.Entries.{Reading, Sending, Sent, Short, Unsent, Hold, en
 use Rattle.js_api.specs.Holding.{AreAsked, AreDeliveries, AreFirstReadings, AreReadings, Explains, HoldsBy, MayEnd, bytes_of, delivery_broke, event_at, is_ready_at, listening_of, most_bytes, most_deliveries, push_consumers, step}
 use Rattle.js_api.specs.Outputs.{answer_of, name_behind, outs_of, said, stream_name}
 use Rattle.js_api.specs.Worlds.{IsHeld, IsLater, is_broken}
+use Rattle.js_model.specs.Firm.{IsFirm}
+use Rattle.place_engine.specs.Stepping.{Image, IsKept, Seen}
 use Rattle.place_engine.specs.declared.faults.PlaceFault.{PlaceFault}
 use Rattle.place_engine.specs.declared.faults.PlaceFault.TheVariants as places
 use Rattle.place_engine.specs.declared.faults.Left.TheVariants as left
 use Rattle.desk_hold.specs.declared.stepping.MadeStep.{MadeStep}
 use Rattle.desk_hold.specs.declared.following.Following.{Following}
 use Rattle.desk_hold.specs.declared.following.Following.TheVariants.{Heard, Unheard}
+use Rattle.desk_hold.specs.Crashes.{CommitsStep, IsEarlyIn, IsEntry, MayCommit, Never, Outlasts, made_by}
 use Rattle.desk_hold.specs.Deliveries.{Led}
 use Rattle.desk_hold.specs.Following.{AskedSo, Follows, IsFault, LeftSo}
-use Rattle.desk_hold.specs.OnePlace.{HoldsOn, IsBy, IsHeldOn, OnPlace, on}
+use Rattle.desk_hold.specs.OnePlace.{HoldsOn, IsBy, IsHeldOn, on}
 use Rattle.desk_hold.specs.Outcomes.{SendsFollowed, SendsMade, SendsThem, absent_by, failed_by, fault_of, quietly, shortly}
 use Rattle.desk_hold.specs.Ports.{Sends}
 use Rattle.desk_hold.specs.Steps.{EndsStep, IsMade, IsUndoneStep, WithholdsStep}
-use Rattle.desk_hold.proofs.Chain.{led_later, led_stops, runs_from, sent_is, stops_since}
+use Rattle.desk_hold.proofs.Beginnings.{one_entry, outlasts_call, outlasts_if, outlasts_more}
+use Rattle.desk_hold.proofs.Chain.{led_later, led_stops, none_firm, runs_from, sent_is, stops_since}
+use Rattle.desk_hold.proofs.Committed.{outlasts_step}
 use Rattle.desk_hold.proofs.Stepped.{same_place}
 
 -- ---- the entry of a step
@@ -182,9 +187,10 @@ ends_or (Some f) next ready now hold new outs is h = tt
 
 -- ---- what a hold came to
 
-module _ {R : Type 0} (routes : R → RouteCall → RouteTold → R → Type 0) (worn : R → ℕ → R → Type 0) (at : PlaceAt) (seat : ℕ) (what : What) (now : ℕ) where
-  pub as_told : (outcome told : Outcome) (a b : OnPlace R) → outcome ≡ told → HoldsOn routes worn at seat what now told a b → HoldsOn routes worn at seat what now outcome a b
-  as_told outcome told a b e h = subst (λ (o : Outcome). HoldsOn routes worn at seat what now o a b) (sym e) h
+module _ {R : Type 0} (routes : R → RouteCall → RouteTold → R → Type 0) (worn : R → ℕ → R → Type 0) (holds : Image → State → Type 0) (at : PlaceAt) (seat : ℕ) (what : What) (now : ℕ) where
+  pub as_told : (outcome told : Outcome) (old new : Seen) (r s : R) → outcome ≡ told → HoldsOn routes worn at holds seat what now told old new r s
+      → HoldsOn routes worn at holds seat what now outcome old new r s
+  as_told outcome told old new r s e h = subst (λ (o : Outcome). HoldsOn routes worn at holds seat what now o old new r s) (sym e) h
 
   -- what ended an event, which is this one, with outputs that were none before
   pub ends_at : (result : Result MadeStep PlaceFault) (event : Event) (old new : PlaceIn) (before outs : List Out) → event ≡ event_at at what → before ≡ []
@@ -193,26 +199,63 @@ module _ {R : Type 0} (routes : R → RouteCall → RouteTold → R → Type 0) 
       subst (λ (os : List Out). EndsStep result (event_at at what) now old new os outs) none
       (subst (λ (e : Event). EndsStep result e now old new before outs) same h)
 
+  -- what a crash leaves of a step and of deliveries behind it
+  outlasts_hold : (old mid new : Seen) (reply : Reply) (outs sent : List Out) (unsaid : Bool) (readings : List Reading) (entries : List PlaceEntry) (sending : Sending)
+      → Outlasts holds (λ t. t < mid.place.volume.moment) (step seat at what now reply outs unsaid) old mid → Outlasts holds Never entries mid new → Led mid.place entries sent new.place
+      → let hold : Hold = hold_of seat at what now reply outs unsaid readings entries sending old.place mid.place new.place in Outlasts holds (IsEarlyIn (Held hold ∷ [])) (made_by (Held hold ∷ [])) old new
+  outlasts_hold old mid new reply outs sent unsaid readings entries sending h k led =
+      let hold : Hold = hold_of seat at what now reply outs unsaid readings entries sending old.place mid.place new.place in
+      let steps : List PlaceEntry = step seat at what now reply outs unsaid in
+      subst (λ (es : List PlaceEntry). Outlasts holds (IsEarlyIn (Held hold ∷ [])) es old new) (sym (append-nil (entries_in hold)))
+      (outlasts_more holds (IsEarlyIn (Held hold ∷ [])) steps entries old mid new
+      (outlasts_if holds (λ t. t < mid.place.volume.moment) (IsEarlyIn (Held hold ∷ [])) steps old mid (λ t early. inl early) h)
+      (outlasts_if holds Never (IsEarlyIn (Held hold ∷ [])) entries mid new (λ t no. absurd no) k)
+      (none_firm entries mid.place sent new.place led))
+
+  -- and of one step that is not confirmed
+  outlasts_alone : (hold : Hold) (old new : Seen) (e : PlaceEntry) → hold.steps ≡ e ∷ [] → hold.deliveries ≡ [] → IsKept holds old → IsKept holds new → MayCommit holds old new
+      → IsEntry old.place.state e new.place.state → (IsFirm old.place.state e new.place.state → ⊥) → Outlasts holds (IsEarlyIn (Held hold ∷ [])) (made_by (Held hold ∷ [])) old new
+  outlasts_alone hold old new e steps deliveries kept keeps commits made firm =
+      let are : made_by (Held hold ∷ []) ≡ e ∷ [] =
+      append-nil (entries_in hold) ∙ ap (λ (es : List PlaceEntry). hold.steps ++ es) deliveries ∙ append-nil hold.steps ∙ steps in
+      subst (λ (es : List PlaceEntry). Outlasts holds (IsEarlyIn (Held hold ∷ [])) es old new) (sym are)
+      (outlasts_if holds Never (IsEarlyIn (Held hold ∷ [])) (e ∷ []) old new (λ t no. absurd no)
+      (outlasts_call holds old new kept keeps commits (e ∷ []) (one_entry ⊥ e old.place.state new.place.state made firm)))
+
   -- one hold is all that there is
-  held_as : (outcome : Outcome) (hold : Hold) (a b : OnPlace R) → IsBy seat (Held hold) → HoldsBy outcome.became at what now outcome.ready outcome.fault (Held hold ∷ []) → IsHeldOn routes worn at hold a b
-      → HoldsOn routes worn at seat what now outcome a b
-  held_as outcome hold a b made_by holds is = record {
+  held_as : (outcome : Outcome) (hold : Hold) (old new : Seen) (r s : R) → IsBy seat (Held hold) → HoldsBy outcome.became at what now outcome.ready outcome.fault (Held hold ∷ [])
+      → IsHeldOn routes worn at hold (on old.place r) (on new.place s) → Outlasts holds (IsEarlyIn (Held hold ∷ [])) (made_by (Held hold ∷ [])) old new
+      → HoldsOn routes worn at holds seat what now outcome old new r s
+  held_as outcome hold old new r s made_by_seat came is lasts = record {
     entries = Held hold ∷ [];
-    holds = record { first = []; more = Held hold ∷ []; entries_are = refl; prepares = inl refl; holds = holds };
-    led = (b, is, refl);
-    by = (made_by, tt);
+    holds = record { first = []; more = Held hold ∷ []; entries_are = refl; prepares = inl refl; holds = came };
+    led = (on new.place s, is, refl);
+    by = (made_by_seat, tt);
+    outlasts = lasts;
   }
 
+  -- the entry of a step that was made
+  made_step : (old new : Seen) (reply : Reply) (outs : List Out) (unsaid : Bool) → IsMade (event_at at what) now reply outs old.place new.place
+      → IsEntry old.place.state (Step seat (event_at at what) now reply outs unsaid) new.place.state
+  made_step old new reply outs unsaid made = (old.place.stored, (new.place.state, made.step, refl))
+
+  -- a step that was made and told is on the volume, if it is confirmed
+  outlasts_told : (made : MadeStep) (old new : Seen) (outs : List Out) → IsKept holds old → IsKept holds new → CommitsStep holds (Ok made) (event_at at what) old new
+      → (h : EndsStep (Ok made) (event_at at what) now old.place new.place [] outs) → Outlasts holds (λ t. t < new.place.volume.moment) (step seat at what now made.reply h.outs made.unsaid) old new
+  outlasts_told made old new outs kept keeps c h = outlasts_step holds old new kept keeps what made.reply c.commits c.firm h.goes
+      (Step seat (event_at at what) now made.reply h.outs made.unsaid) (made_step old new made.reply h.outs made.unsaid h.made) (λ firm. firm.1)
+
   -- who listens was read, consumers were served, and all was sent
-  made_heard : (made : MadeStep) (old mid new : PlaceIn) (outs all : List Out) (r t s : R) (ready : Bool) (fault : Option DeskFault) (sending : Sending)
-      → EndsStep (Ok made) (event_at at what) now old mid [] outs → Follows routes worn seat at now (Heard ready fault) mid new r t outs all → Sends routes worn t all sending s
-      → HoldsOn routes worn at seat what now (record { became = Made made.reply; ready = ready; fault = option_or fault (fault_of sending made.unsaid) }) (on old r) (on new s)
-  made_heard made old mid new outs all r t s ready fault sending h f sends =
+  made_heard : (made : MadeStep) (old mid new : Seen) (outs all : List Out) (r t s : R) (ready : Bool) (fault : Option DeskFault) (sending : Sending)
+      → IsKept holds old → IsKept holds mid → CommitsStep holds (Ok made) (event_at at what) old mid
+      → EndsStep (Ok made) (event_at at what) now old.place mid.place [] outs → Follows routes worn seat at now holds (Heard ready fault) mid new r t outs all → Sends routes worn t all sending s
+      → HoldsOn routes worn at holds seat what now (record { became = Made made.reply; ready = ready; fault = option_or fault (fault_of sending made.unsaid) }) old new r s
+  made_heard made old mid new outs all r t s ready fault sending kept keeps c h f sends =
       let next : Option DeskFault = fault_of sending made.unsaid in
-      let hold : Hold = hold_of seat at what now made.reply h.outs made.unsaid f.readings f.entries sending old mid new in
+      let hold : Hold = hold_of seat at what now made.reply h.outs made.unsaid f.readings f.entries sending old.place mid.place new.place in
       let whole : all ≡ outs_of hold.before (entries_in hold) =
-      f.added ∙ ap (λ (os : List Out). os ++ f.sent) h.added ∙ all_sent seat at what now made.reply h.outs f.sent made.unsaid f.readings f.entries sending old mid new f.led in
-      held_as (record { became = Made made.reply; ready = ready; fault = option_or fault next }) hold (on old r) (on new s) (refl, deliveries_by seat at now (listening_of f.readings) fault f.entries f.followed.are) (
+      f.added ∙ ap (λ (os : List Out). os ++ f.sent) h.added ∙ all_sent seat at what now made.reply h.outs f.sent made.unsaid f.readings f.entries sending old.place mid.place new.place f.led in
+      held_as (record { became = Made made.reply; ready = ready; fault = option_or fault next }) hold old new r s (refl, deliveries_by seat at now (listening_of f.readings) fault f.entries f.followed.are) (
         hold,
         refl,
         record {
@@ -225,26 +268,28 @@ module _ {R : Type 0} (routes : R → RouteCall → RouteTold → R → Type 0) 
           steps = refl;
           asked = asked_or fault next f.readings f.entries hold refl refl f.followed.asked;
           deliveries = deliveries_or seat at now (listening_of f.readings) fault next f.entries f.followed.are;
-          ready_is = ready_or fault next ready now hold new all refl f.followed.left;
-          explained = explains_or fault sending made.unsaid ready now hold new all refl refl f.followed.left;
-          ends = ends_or fault next ready now hold new all whole f.followed.left;
+          ready_is = ready_or fault next ready now hold new.place all refl f.followed.left;
+          explained = explains_or fault sending made.unsaid ready now hold new.place all refl refl f.followed.left;
+          ends = ends_or fault next ready now hold new.place all whole f.followed.left;
         },
       )
       (record {
         at_is = refl;
-        held = held_steps seat at what now made.reply h.outs f.sent made.unsaid f.readings f.entries sending old mid new h.made f.led;
+        held = held_steps seat at what now made.reply h.outs f.sent made.unsaid f.readings f.entries sending old.place mid.place new.place h.made f.led;
         told = t;
         heard = f.followed.heard;
         sent = subst (λ (os : List Out). Sends routes worn t os sending s) whole sends;
       })
+      (outlasts_hold old mid new made.reply h.outs f.sent made.unsaid f.readings f.entries sending (outlasts_told made old mid outs kept keeps c h) f.outlasts f.led)
 
   -- no turn of the router was left before who listens was told
-  made_unheard : (made : MadeStep) (old mid new : PlaceIn) (outs all : List Out) (r t : R) (number : ℕ)
-      → EndsStep (Ok made) (event_at at what) now old mid [] outs → Follows routes worn seat at now (Unheard number) mid new r t outs all
-      → HoldsOn routes worn at seat what now (record { became = Made made.reply; ready = false; fault = Some (faults.Worn number) }) (on old r) (on new t)
-  made_unheard made old mid new outs all r t number h f =
-      let hold : Hold = hold_of seat at what now made.reply h.outs made.unsaid f.readings f.entries (Unsent number) old mid new in
-      held_as (record { became = Made made.reply; ready = false; fault = Some (faults.Worn number) }) hold (on old r) (on new t) (refl, subst (λ (es : List PlaceEntry). AllByRecursion (λ (e : PlaceEntry). seat_of e ≡ seat) es) (sym f.followed.none) tt) (
+  made_unheard : (made : MadeStep) (old mid new : Seen) (outs all : List Out) (r t : R) (number : ℕ)
+      → IsKept holds old → IsKept holds mid → CommitsStep holds (Ok made) (event_at at what) old mid
+      → EndsStep (Ok made) (event_at at what) now old.place mid.place [] outs → Follows routes worn seat at now holds (Unheard number) mid new r t outs all
+      → HoldsOn routes worn at holds seat what now (record { became = Made made.reply; ready = false; fault = Some (faults.Worn number) }) old new r t
+  made_unheard made old mid new outs all r t number kept keeps c h f =
+      let hold : Hold = hold_of seat at what now made.reply h.outs made.unsaid f.readings f.entries (Unsent number) old.place mid.place new.place in
+      held_as (record { became = Made made.reply; ready = false; fault = Some (faults.Worn number) }) hold old new r t (refl, subst (λ (es : List PlaceEntry). AllByRecursion (λ (e : PlaceEntry). seat_of e ≡ seat) es) (sym f.followed.none) tt) (
         hold,
         refl,
         record {
@@ -264,7 +309,7 @@ module _ {R : Type 0} (routes : R → RouteCall → RouteTold → R → Type 0) 
       )
       (record {
         at_is = refl;
-        held = held_steps seat at what now made.reply h.outs f.sent made.unsaid f.readings f.entries (Unsent number) old mid new h.made f.led;
+        held = held_steps seat at what now made.reply h.outs f.sent made.unsaid f.readings f.entries (Unsent number) old.place mid.place new.place h.made f.led;
         told = f.followed.mid;
         heard = f.followed.heard;
         sent = inr (record {
@@ -279,6 +324,7 @@ module _ {R : Type 0} (routes : R → RouteCall → RouteTold → R → Type 0) 
           sending_is = refl;
         });
       })
+      (outlasts_hold old mid new made.reply h.outs f.sent made.unsaid f.readings f.entries (Unsent number) (outlasts_told made old mid outs kept keeps c h) f.outlasts f.led)
 
   same_outcome : (outcome : Outcome) (became : Became) (ready : Bool) (fault : Option DeskFault) → outcome.became ≡ became → outcome.ready ≡ ready → outcome.fault ≡ fault
       → outcome ≡ record { became = became; ready = ready; fault = fault }
@@ -287,91 +333,94 @@ module _ {R : Type 0} (routes : R → RouteCall → RouteTold → R → Type 0) 
       ∙ ap (λ (x : Bool). record { became = became; ready = x; fault = outcome.fault }) r
       ∙ ap (λ (x : Option DeskFault). record { became = became; ready = ready; fault = x }) f
 
-  pub held_made : (following : Following) (outcome : Outcome) (made : MadeStep) (old mid new : PlaceIn) (outs all : List Out) (r t s : R)
-      → EndsStep (Ok made) (event_at at what) now old mid [] outs → outcome.became ≡ Made made.reply → Follows routes worn seat at now following mid new r t outs all
-      → SendsFollowed routes worn following made.unsaid outcome all t s → HoldsOn routes worn at seat what now outcome (on old r) (on new s)
-  held_made (Heard ready fault) outcome made old mid new outs all r t s h became f (sending, sends, ready_is, fault_is) =
-      as_told outcome (record { became = Made made.reply; ready = ready; fault = option_or fault (fault_of sending made.unsaid) }) (on old r) (on new s)
+  pub held_made : (following : Following) (outcome : Outcome) (made : MadeStep) (old mid new : Seen) (outs all : List Out) (r t s : R)
+      → IsKept holds old → IsKept holds mid → CommitsStep holds (Ok made) (event_at at what) old mid
+      → EndsStep (Ok made) (event_at at what) now old.place mid.place [] outs → outcome.became ≡ Made made.reply → Follows routes worn seat at now holds following mid new r t outs all
+      → SendsFollowed routes worn following made.unsaid outcome all t s → HoldsOn routes worn at holds seat what now outcome old new r s
+  held_made (Heard ready fault) outcome made old mid new outs all r t s kept keeps c h became f (sending, sends, ready_is, fault_is) =
+      as_told outcome (record { became = Made made.reply; ready = ready; fault = option_or fault (fault_of sending made.unsaid) }) old new r s
       (same_outcome outcome (Made made.reply) ready (option_or fault (fault_of sending made.unsaid)) became ready_is fault_is)
-      (made_heard made old mid new outs all r t s ready fault sending h f sends)
-  held_made (Unheard number) outcome made old mid new outs all r t s h became f (ready_is, fault_is, same) =
-      as_told outcome (record { became = Made made.reply; ready = false; fault = Some (faults.Worn number) }) (on old r) (on new s)
+      (made_heard made old mid new outs all r t s ready fault sending kept keeps c h f sends)
+  held_made (Unheard number) outcome made old mid new outs all r t s kept keeps c h became f (ready_is, fault_is, same) =
+      as_told outcome (record { became = Made made.reply; ready = false; fault = Some (faults.Worn number) }) old new r s
       (same_outcome outcome (Made made.reply) false (Some (faults.Worn number)) became ready_is fault_is)
-      (subst (λ (x : R). HoldsOn routes worn at seat what now (record { became = Made made.reply; ready = false; fault = Some (faults.Worn number) }) (on old r) (on new x)) (sym same)
-      (made_unheard made old mid new outs all r t number h f))
+      (subst (λ (x : R). HoldsOn routes worn at holds seat what now (record { became = Made made.reply; ready = false; fault = Some (faults.Worn number) }) old new r x) (sym same)
+      (made_unheard made old mid new outs all r t number kept keeps c h f))
 
-  -- memory ran out before anything
-  pub held_nothing : (place : PlaceIn) (r : R) → HoldsOn routes worn at seat what now (shortly Nothing) (on place r) (on place r)
-  held_nothing place r = record {
-    entries = [];
-    holds = record { first = []; more = []; entries_are = refl; prepares = inl refl; holds = (refl, refl) };
-    led = refl;
-    by = tt;
-  }
+  -- ---- nothing was made
 
-  -- the place is stopped
-  pub held_stopped : (stream : Bytes) (count : ℕ) (place : PlaceIn) (r : R) → stream ≡ stream_name place.state → place.stopped ≡ Some count
-      → HoldsOn routes worn at seat what now (quietly (Stopped stream)) (on place r) (on place r)
-  held_stopped stream count place r name stopped = record {
-    entries = Halted at place.state ∷ [];
-    holds = record {
-      first = [];
-      more = Halted at place.state ∷ [];
-      entries_are = refl;
-      prepares = inl refl;
-      holds = (place.state, refl, name, (refl, refl));
-    };
-    led = (on place r, record { at_is = refl; count = count; stopped = stopped; state_is = refl; same = refl }, refl);
-    by = (tt, tt);
-  }
+  module _ (old new : Seen) (r s : R) (same : new.place ≡ old.place) (port : s ≡ r) (lasts : Outlasts holds Never [] old new) where
+    all_same : on new.place s ≡ on old.place r
+    all_same = ap (λ (p : PlaceIn). on p s) same ∙ ap (λ (x : R). on old.place x) port
 
-  -- it keeps another incarnation
-  pub held_gone : (place : PlaceIn) (r : R) → place.stopped ≡ None → kept_incarnation place.state ≢ at.incarnation → HoldsOn routes worn at seat what now (quietly Gone) (on place r) (on place r)
-  held_gone place r going other = record {
-    entries = Missed at (kept_incarnation place.state) ∷ [];
-    holds = record {
-      first = [];
-      more = Missed at (kept_incarnation place.state) ∷ [];
-      entries_are = refl;
-      prepares = inl refl;
-      holds = (kept_incarnation place.state, refl, (refl, refl));
-    };
-    led = (on place r, record { at_is = refl; going = going; kept_is = refl; other = other; same = refl }, refl);
-    by = (tt, tt);
-  }
+    -- memory ran out before anything
+    pub held_nothing : HoldsOn routes worn at holds seat what now (shortly Nothing) old new r s
+    held_nothing = record {
+      entries = [];
+      holds = record { first = []; more = []; entries_are = refl; prepares = inl refl; holds = (refl, refl) };
+      led = sym all_same;
+      by = tt;
+      outlasts = lasts;
+    }
 
-  -- all is as it was
-  held_same : (outcome : Outcome) (old new : PlaceIn) (r s : R) → new ≡ old → s ≡ r → HoldsOn routes worn at seat what now outcome (on old r) (on old r)
-      → HoldsOn routes worn at seat what now outcome (on old r) (on new s)
-  held_same outcome old new r s place port h =
-      subst (λ (x : R). HoldsOn routes worn at seat what now outcome (on old r) (on new x)) (sym port)
-      (subst (λ (x : PlaceIn). HoldsOn routes worn at seat what now outcome (on old r) (on x r)) (sym place) h)
+    -- the place is stopped
+    pub held_stopped : (stream : Bytes) (count : ℕ) → stream ≡ stream_name old.place.state → old.place.stopped ≡ Some count
+        → HoldsOn routes worn at holds seat what now (quietly (Stopped stream)) old new r s
+    held_stopped stream count name stopped = record {
+      entries = Halted at old.place.state ∷ [];
+      holds = record {
+        first = [];
+        more = Halted at old.place.state ∷ [];
+        entries_are = refl;
+        prepares = inl refl;
+        holds = (old.place.state, refl, name, (refl, refl));
+      };
+      led = (on new.place s, record { at_is = refl; count = count; stopped = stopped; state_is = refl; same = all_same }, refl);
+      by = (tt, tt);
+      outlasts = lasts;
+    }
 
-  -- no place keeps this incarnation
-  pub held_absent : (stream : Bytes) (place : PlaceIn) (r : R) → stream ≡ stream_name place.state → kept_incarnation place.state ≢ at.incarnation
-      → HoldsOn routes worn at seat what now (absent_by place.stopped stream) (on place r) (on place r)
-  held_absent stream place r name other = by place.stopped refl
-    where
-      by : (stopped : Option ℕ) → place.stopped ≡ stopped → HoldsOn routes worn at seat what now (absent_by stopped stream) (on place r) (on place r)
-      by None is = held_gone place r is other
-      by (Some count) is = held_stopped stream count place r name is
+    -- it keeps another incarnation
+    pub held_gone : old.place.stopped ≡ None → kept_incarnation old.place.state ≢ at.incarnation → HoldsOn routes worn at holds seat what now (quietly Gone) old new r s
+    held_gone going other = record {
+      entries = Missed at (kept_incarnation old.place.state) ∷ [];
+      holds = record {
+        first = [];
+        more = Missed at (kept_incarnation old.place.state) ∷ [];
+        entries_are = refl;
+        prepares = inl refl;
+        holds = (kept_incarnation old.place.state, refl, (refl, refl));
+      };
+      led = (on new.place s, record { at_is = refl; going = going; kept_is = refl; other = other; same = all_same }, refl);
+      by = (tt, tt);
+      outlasts = lasts;
+    }
+
+    -- no place keeps this incarnation
+    pub held_absent : (stream : Bytes) → stream ≡ stream_name old.place.state → kept_incarnation old.place.state ≢ at.incarnation
+        → HoldsOn routes worn at holds seat what now (absent_by old.place.stopped stream) old new r s
+    held_absent stream name other = by old.place.stopped refl
+      where
+        by : (stopped : Option ℕ) → old.place.stopped ≡ stopped → HoldsOn routes worn at holds seat what now (absent_by stopped stream) old new r s
+        by None is = held_gone is other
+        by (Some count) is = held_stopped stream count name is
 
   -- nothing was made there, and the volume was called unless the place is stopped
-  undone : (old new : PlaceIn) (r s : R) → IsUndoneStep old new → s ≡ r → HoldsOn routes worn at seat what now (shortly Nothing) (on old r) (on new s)
-  undone old new r s h same = by old.stopped refl
+  undone : (old new : Seen) (r s : R) → IsUndoneStep old.place new.place → Outlasts holds Never [] old new → s ≡ r → HoldsOn routes worn at holds seat what now (shortly Nothing) old new r s
+  undone old new r s h lasts same = by old.place.stopped refl
     where
-      by : (stopped : Option ℕ) → old.stopped ≡ stopped → HoldsOn routes worn at seat what now (shortly Nothing) (on old r) (on new s)
+      by : (stopped : Option ℕ) → old.place.stopped ≡ stopped → HoldsOn routes worn at holds seat what now (shortly Nothing) old new r s
       by None is = record {
-        entries = Stirred at old.volume new.volume false ∷ [];
+        entries = Stirred at old.place.volume new.place.volume false ∷ [];
         holds = record {
-          first = Stirred at old.volume new.volume false ∷ [];
+          first = Stirred at old.place.volume new.place.volume false ∷ [];
           more = [];
           entries_are = refl;
-          prepares = inr (old.volume, new.volume, false, refl);
+          prepares = inr (old.place.volume, new.place.volume, false, refl);
           holds = (refl, refl);
         };
         led = (
-          on new s,
+          on new.place s,
           record {
             at_is = refl;
             stirred = record { going = is; state = h.state; stored = h.stored; stops = h.stopped ∙ is; volume_was = refl; volume_is = refl; later = h.later };
@@ -380,14 +429,16 @@ module _ {R : Type 0} (routes : R → RouteCall → RouteTold → R → Type 0) 
           refl,
         );
         by = (tt, tt);
+        outlasts = lasts;
       }
-      by (Some count) is = held_same (shortly Nothing) old new r s (same_place old new h.state h.stored h.stopped (h.volume count is)) same (held_nothing old r)
+      by (Some count) is = held_nothing old new r s (same_place old.place new.place h.state h.stored h.stopped (h.volume count is)) same lasts
 
   -- time passed, and no more
-  ticked : (old new : PlaceIn) (outs : List Out) (r s : R) → EndsStep (Err (places.NoMemory left.Ticked)) (event_at at what) now old new [] outs
-      → SendsMade routes worn (places.NoMemory left.Ticked) outs r s → HoldsOn routes worn at seat what now (shortly Ticked) (on old r) (on new s)
-  ticked old new outs r s h sends =
-      let hold : Hold = hold_alone seat at Tick now Silent h.outs false sends.sending old new in
+  ticked : (old new : Seen) (outs : List Out) (r s : R) → IsKept holds old → IsKept holds new → MayCommit holds old new
+      → EndsStep (Err (places.NoMemory left.Ticked)) (event_at at what) now old.place new.place [] outs
+      → SendsMade routes worn (places.NoMemory left.Ticked) outs r s → HoldsOn routes worn at holds seat what now (shortly Ticked) old new r s
+  ticked old new outs r s kept keeps commits h sends =
+      let hold : Hold = hold_alone seat at Tick now Silent h.outs false sends.sending old.place new.place in
       record {
         entries = Held hold ∷ [];
         holds = record {
@@ -406,7 +457,7 @@ module _ {R : Type 0} (routes : R → RouteCall → RouteTold → R → Type 0) 
               before = [];
               made_first = refl;
               steps = refl;
-              asked = inr (none_read (push_consumers new.state), refl);
+              asked = inr (none_read (push_consumers new.place.state), refl);
               deliveries = tt;
               ready_is = tt;
               explained = tt;
@@ -416,10 +467,10 @@ module _ {R : Type 0} (routes : R → RouteCall → RouteTold → R → Type 0) 
           );
         };
         led = (
-          on new s,
+          on new.place s,
           record {
             at_is = refl;
-            held = held_step seat at Tick now Silent h.outs false sends.sending old new h.made h.goes;
+            held = held_step seat at Tick now Silent h.outs false sends.sending old.place new.place h.made h.goes;
             told = r;
             heard = refl;
             sent = subst (λ (os : List Out). Sends routes worn r os sends.sending s) (h.added ∙ sym (append-nil h.outs)) sends.sends;
@@ -427,14 +478,17 @@ module _ {R : Type 0} (routes : R → RouteCall → RouteTold → R → Type 0) 
           refl,
         );
         by = ((refl, tt), tt);
+        outlasts = outlasts_alone hold old new (Step seat (event_at at Tick) now Silent h.outs false) refl refl kept keeps commits
+            (old.place.stored, (new.place.state, h.made.step, refl)) (λ firm. firm.1);
       }
 
   -- it was made, and its reply is withheld
-  withheld : (refused : Bool) (fault : DeskFault) (old new : PlaceIn) (outs : List Out) (r s : R) (h : WithholdsStep refused (event_at at what) now old new [] outs)
-      (sends : SendsThem routes worn outs r s) → Explains (Some fault) true (hold_alone seat at what now h.reply h.outs true sends.sending old new)
-      → HoldsOn routes worn at seat what now (record { became = Unsaid refused; ready = false; fault = Some fault }) (on old r) (on new s)
-  withheld refused fault old new outs r s h sends explained =
-      let hold : Hold = hold_alone seat at what now h.reply h.outs true sends.sending old new in
+  withheld : (refused : Bool) (fault : DeskFault) (old new : Seen) (outs : List Out) (r s : R) → IsKept holds old → IsKept holds new → MayCommit holds old new
+      → (h : WithholdsStep refused (event_at at what) now old.place new.place [] outs) → (sends : SendsThem routes worn outs r s)
+      → Explains (Some fault) true (hold_alone seat at what now h.reply h.outs true sends.sending old.place new.place)
+      → HoldsOn routes worn at holds seat what now (record { became = Unsaid refused; ready = false; fault = Some fault }) old new r s
+  withheld refused fault old new outs r s kept keeps commits h sends explained =
+      let hold : Hold = hold_alone seat at what now h.reply h.outs true sends.sending old.place new.place in
       record {
         entries = Held hold ∷ [];
         holds = record {
@@ -453,7 +507,7 @@ module _ {R : Type 0} (routes : R → RouteCall → RouteTold → R → Type 0) 
               before = [];
               made_first = refl;
               steps = refl;
-              asked = inr (none_read (push_consumers new.state), refl);
+              asked = inr (none_read (push_consumers new.place.state), refl);
               deliveries = tt;
               ready_is = tt;
               explained = explained;
@@ -465,10 +519,10 @@ module _ {R : Type 0} (routes : R → RouteCall → RouteTold → R → Type 0) 
           );
         };
         led = (
-          on new s,
+          on new.place s,
           record {
             at_is = refl;
-            held = held_step seat at what now h.reply h.outs true sends.sending old new h.made h.goes;
+            held = held_step seat at what now h.reply h.outs true sends.sending old.place new.place h.made h.goes;
             told = r;
             heard = refl;
             sent = subst (λ (os : List Out). Sends routes worn r os sends.sending s) (h.added ∙ sym (append-nil h.outs)) sends.sends;
@@ -476,13 +530,15 @@ module _ {R : Type 0} (routes : R → RouteCall → RouteTold → R → Type 0) 
           refl,
         );
         by = ((refl, tt), tt);
+        outlasts = outlasts_alone hold old new (Step seat (event_at at what) now h.reply h.outs true) refl refl kept keeps commits
+            (made_step old new h.reply h.outs true h.made) (λ firm. let no : ⊥ = cc in no);
       }
 
   -- the volume failed
-  broke : (stream : Bytes) (old new : PlaceIn) (outs : List Out) (r s : R) → stream ≡ stream_name old.state → EndsStep (Err places.StoreFault) (event_at at what) now old new [] outs → s ≡ r
-      → HoldsOn routes worn at seat what now (quietly (Broke stream)) (on old r) (on new s)
-  broke stream old new outs r s name h same =
-      let hold : Hold = record (hold_alone seat at what now h.reply [] false Sent old new) { steps = Broken seat now (StepOf (event_at at what)) ∷ [] } in
+  broke : (stream : Bytes) (old new : Seen) (outs : List Out) (r s : R) → IsKept holds old → IsKept holds new → MayCommit holds old new → stream ≡ stream_name old.place.state
+      → EndsStep (Err places.StoreFault) (event_at at what) now old.place new.place [] outs → s ≡ r → HoldsOn routes worn at holds seat what now (quietly (Broke stream)) old new r s
+  broke stream old new outs r s kept keeps commits name h same =
+      let hold : Hold = record (hold_alone seat at what now h.reply [] false Sent old.place new.place) { steps = Broken seat now (StepOf (event_at at what)) ∷ [] } in
       record {
         entries = Held hold ∷ [];
         holds = record {
@@ -506,7 +562,7 @@ module _ {R : Type 0} (routes : R → RouteCall → RouteTold → R → Type 0) 
           );
         };
         led = (
-          on new s,
+          on new.place s,
           record {
             at_is = refl;
             held = record {
@@ -521,7 +577,7 @@ module _ {R : Type 0} (routes : R → RouteCall → RouteTold → R → Type 0) 
               volume_was = refl;
               volume_is = refl;
               before_between = h.made.later;
-              between_after = same_volume new;
+              between_after = same_volume new.place;
             };
             told = r;
             heard = refl;
@@ -530,22 +586,27 @@ module _ {R : Type 0} (routes : R → RouteCall → RouteTold → R → Type 0) 
           refl,
         );
         by = ((refl, tt), tt);
+        outlasts = outlasts_alone hold old new (Broken seat now (StepOf (event_at at what))) refl refl kept keeps commits
+            (old.place.stored, (h.reply, h.outs, h.made.step)) (λ firm. firm);
       }
 
-  failed : (fault : PlaceFault) (stream : Bytes) (old new : PlaceIn) (outs : List Out) (r s : R) → stream ≡ stream_name old.state
-      → EndsStep (Err fault) (event_at at what) now old new [] outs → SendsMade routes worn fault outs r s → HoldsOn routes worn at seat what now (failed_by fault stream) (on old r) (on new s)
-  failed (places.NoMemory left.Nothing) stream old new outs r s name h sends = undone old new r s h sends
-  failed (places.NoMemory left.Ticked) stream old new outs r s name h sends = ticked old new outs r s h sends
-  failed (places.NoMemory (left.Unsaid refused)) stream old new outs r s name h sends = withheld refused faults.NoMemory old new outs r s h sends tt
-  failed places.StoreFault stream old new outs r s name h sends = broke stream old new outs r s name h sends
-  failed (places.Stopped count) stream old new outs r s name h sends =
-      held_same (quietly (Stopped stream)) old new r s h.same sends (held_stopped stream count old r name h.stopped)
-  failed (places.Gone kept) stream old new outs r s name h sends = held_same (quietly Gone) old new r s h.same sends (held_gone old r h.going h.other)
-  failed (places.Worn refused) stream old new outs r s name h sends =
-      withheld refused (faults.Worn (2 ^ 62 - 1)) old new outs r s h.withholds sends (inr ((sym h.last, refl), inl refl))
+  failed : (fault : PlaceFault) (stream : Bytes) (old new : Seen) (outs : List Out) (r s : R) → IsKept holds old → IsKept holds new → MayCommit holds old new → stream ≡ stream_name old.place.state
+      → EndsStep (Err fault) (event_at at what) now old.place new.place [] outs → SendsMade routes worn fault outs r s → HoldsOn routes worn at holds seat what now (failed_by fault stream) old new r s
+  failed (places.NoMemory left.Nothing) stream old new outs r s kept keeps commits name h sends =
+      undone old new r s h (outlasts_call holds old new kept keeps commits [] (sym h.state)) sends
+  failed (places.NoMemory left.Ticked) stream old new outs r s kept keeps commits name h sends = ticked old new outs r s kept keeps commits h sends
+  failed (places.NoMemory (left.Unsaid refused)) stream old new outs r s kept keeps commits name h sends = withheld refused faults.NoMemory old new outs r s kept keeps commits h sends tt
+  failed places.StoreFault stream old new outs r s kept keeps commits name h sends = broke stream old new outs r s kept keeps commits name h sends
+  failed (places.Stopped count) stream old new outs r s kept keeps commits name h sends =
+      held_stopped old new r s h.same sends (outlasts_call holds old new kept keeps commits [] (ap (λ (p : PlaceIn). p.state) (sym h.same))) stream count name h.stopped
+  failed (places.Gone other) stream old new outs r s kept keeps commits name h sends =
+      held_gone old new r s h.same sends (outlasts_call holds old new kept keeps commits [] (ap (λ (p : PlaceIn). p.state) (sym h.same))) h.going h.other
+  failed (places.Worn refused) stream old new outs r s kept keeps commits name h sends =
+      withheld refused (faults.Worn (2 ^ 62 - 1)) old new outs r s kept keeps commits h.withholds sends (inr ((sym h.last, refl), inl refl))
 
   -- it failed
-  pub held_failed : (outcome : Outcome) (fault : PlaceFault) (stream : Bytes) (old new : PlaceIn) (outs : List Out) (r s : R) → outcome ≡ failed_by fault stream → stream ≡ stream_name old.state
-      → EndsStep (Err fault) (event_at at what) now old new [] outs → SendsMade routes worn fault outs r s → HoldsOn routes worn at seat what now outcome (on old r) (on new s)
-  held_failed outcome fault stream old new outs r s is name h sends =
-      as_told outcome (failed_by fault stream) (on old r) (on new s) is (failed fault stream old new outs r s name h sends)
+  pub held_failed : (outcome : Outcome) (fault : PlaceFault) (stream : Bytes) (old new : Seen) (outs : List Out) (r s : R) → IsKept holds old → IsKept holds new
+      → CommitsStep holds (Err fault) (event_at at what) old new → outcome ≡ failed_by fault stream → stream ≡ stream_name old.place.state
+      → EndsStep (Err fault) (event_at at what) now old.place new.place [] outs → SendsMade routes worn fault outs r s → HoldsOn routes worn at holds seat what now outcome old new r s
+  held_failed outcome fault stream old new outs r s kept keeps c is name h sends =
+      as_told outcome (failed_by fault stream) old new r s is (failed fault stream old new outs r s kept keeps c.commits name h sends)

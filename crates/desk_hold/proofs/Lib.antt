@@ -2,6 +2,8 @@ pub mod Refused
 pub mod Ticks
 pub mod Stepped
 pub mod Sent
+pub mod Beginnings
+pub mod Committed
 pub mod Chain
 pub mod Delivered
 pub mod Next

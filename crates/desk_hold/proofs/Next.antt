@@ -1,12 +1,11 @@
 -- What a place promises of a delivery is one of the deliveries of a hold, or their end.
-use Rattle.std.proofs.Common.{◌≡◌, ◌≤◌, ◌<◌, ◌^◌, ◌++◌, ◌&&◌, ℕ, true, false, List, [], ◌∷◌, append-nil, Option, None, Some, Result, Ok, Err, refl, sym, subst, ◌∙◌, arith, IsTrue}
+use Rattle.std.proofs.Common.{◌⊎◌, inl, ◌≡◌, ◌≤◌, ◌<◌, ◌^◌, ◌++◌, ◌&&◌, ℕ, true, false, List, [], ◌∷◌, append-nil, Option, None, Some, Result, Ok, Err, refl, sym, subst, ◌∙◌, arith, IsTrue}
 use Rattle.std.specs.Prelude.{nat_le}
 use Rattle.std.proofs.lemmas.Bool.{and_from, le-leb}
 use Rattle.js_base.specs.Bytes.{Bytes}
 use Rattle.js_base.specs.declared.out.Out.{Out}
 use Rattle.js_model.specs.declared.stream.State.{State}
 use Rattle.js_model.specs.declared.event.Event.{Event}
-use Rattle.js_model.specs.declared.event.What.{What}
 use Rattle.js_model.specs.declared.reply.Reply.TheVariants.{Silent}
 use Rattle.js_model.specs.declared.entry.Delivery.{Delivery}
 use Rattle.js_model.specs.declared.entry.PlaceEntry.{PlaceEntry}
@@ -14,20 +13,23 @@ use Rattle.js_model.specs.declared.entry.PlaceEntry.TheVariants.{Step, Deliver, 
 use Rattle.js_model.specs.declared.entry.Call.TheVariants.{Deliver as DeliverOf}
 use Rattle.js_model.specs.declared.desk.PlaceAt.{PlaceAt}
 use Rattle.js_model.specs.Events.{kept_incarnation}
+use Rattle.js_model.specs.Lasting.{lasting}
 use Rattle.js_model.specs.PlaceStates.{PlaceIn}
 use Rattle.js_model.specs.Proper.{is_proper}
 use Rattle.js_model.specs.Ready.{some_ready}
-use Rattle.js_model.specs.Runs.{is_few}
 use Rattle.js_api.specs.Worlds.{IsLater}
 use Rattle.place_engine.specs.Delivering.{Delivers, Makes, tick_at}
-use Rattle.place_engine.specs.Stepping.{Elapses, Image, Seen, Steps}
+use Rattle.place_engine.specs.Stepping.{Elapses, Image, IsKept, Seen, Steps}
 use Rattle.place_engine.specs.declared.faults.PlaceFault.{PlaceFault}
 use Rattle.place_engine.specs.declared.faults.PlaceFault.TheVariants.{NoMemory, StoreFault, Stopped, Gone, Worn}
 use Rattle.place_engine.specs.declared.faults.Left.TheVariants.{Nothing, Ticked, Unsaid}
 use Rattle.desk_hold.specs.declared.delivering.Ending.{Ending}
 use Rattle.desk_hold.specs.declared.delivering.Ending.TheVariants.{Quiet, Broke, Short, WornOut}
-use Rattle.desk_hold.specs.Deliveries.{DeliversOn, EndsSo, GoesOn, IsSentAt, ending_after, ending_by}
+use Rattle.desk_hold.specs.Crashes.{MayCommit, Never, Outlasts}
+use Rattle.desk_hold.specs.Deliveries.{DeliversOn, EndsSo, GoesOn, IsSentAt, Led, ending_after, ending_by}
 use Rattle.desk_hold.specs.Steps.{EndsStep}
+use Rattle.desk_hold.proofs.Beginnings.{outlasts_call}
+use Rattle.desk_hold.proofs.Chain.{none_firm}
 use Rattle.desk_hold.proofs.Stepped.{failed_step}
 
 -- a tick for what the place keeps is an event as a reader gives it
@@ -36,7 +38,7 @@ tick_proper state small =
     and_from (nat_le (kept_incarnation state) (2 ^ 62) && true) true (and_from (nat_le (kept_incarnation state) (2 ^ 62)) true (le-leb (kept_incarnation state) (2 ^ 62) small) refl) refl
 
 module _ (holds : Image → State → Type 0) (now : ℕ) (listening : List Bytes) (old new : Seen) (moment : now < 2 ^ 62)
-    (free : is_few old.place.stored ≡ true → (what : What) → old.room what ≡ true) (small : kept_incarnation old.place.state ≤ 2 ^ 62) (going : old.place.stopped ≡ None)
+    (kept : IsKept holds old) (keeps : IsKept holds new) (small : kept_incarnation old.place.state ≤ 2 ^ 62) (going : old.place.stopped ≡ None)
     (before after : List Out) where
   later : Elapses holds old new → IsLater old.place.volume new.place.volume
   later h = record { faults = h.faults; moments = h.moments; generations = h.generations }
@@ -47,40 +49,69 @@ module _ (holds : Image → State → Type 0) (now : ℕ) (listening : List Byte
   sent_at : (d : Delivery) (os : List Out) → Makes now listening d os old new → new.place.stored ≤ old.place.stored → Elapses holds old new → IsSentAt now listening d os old.place new.place
   sent_at d os h stored time = record { going = h.going; step = record { delivered = h.delivered; moment = moment }; stored = stored; later = later time }
 
-  next_made : (d : Delivery) → Delivers holds (Ok (Some d)) now listening old new before after → GoesOn now listening None old.place new.place before after
-  next_made d h = (d, h.ends.sent, sent_at d h.ends.sent h.ends.makes h.stored h.time, h.ends.goes, h.ends.outs)
+  -- ---- what a crash may leave
+
+  commits_of : (told : Result (Option Delivery) PlaceFault) → Delivers holds told now listening old new before after → MayCommit holds old new
+  commits_of told h = record { time = h.time; base = by told h }
+    where
+      by : (t : Result (Option Delivery) PlaceFault) → Delivers holds t now listening old new before after → (new.base ≡ old.base) ⊎ (new.base ≡ lasting new.place.state)
+      by (Ok (Some d)) h = h.ends.base
+      by (Ok None) h = inl h.ends.rests.base
+      by (Err (NoMemory Nothing)) h = inl h.ends.rests.base
+      by (Err (NoMemory Ticked)) h = h.ends.base
+      by (Err (NoMemory (Unsaid refused))) h = inl h.ends.base
+      by (Err StoreFault) h = inl h.ends.base
+      by (Err (Stopped count)) h = inl h.ends.rests.base
+      by (Err (Gone other)) h = absurd h.ends
+      by (Err (Worn refused)) h = inl h.ends.hides.base
+
+  outlasts_of : MayCommit holds old new → (entries : List PlaceEntry) (sent : List Out) → Led old.place entries sent new.place → Outlasts holds Never entries old new
+  outlasts_of commits entries sent led = outlasts_call holds old new kept keeps commits entries (none_firm entries old.place sent new.place led)
+
+  -- ---- what was made
+
+  next_made : (d : Delivery) → Delivers holds (Ok (Some d)) now listening old new before after → GoesOn holds now listening None old new before after
+  next_made d h = (d, h.ends.sent, sent_at d h.ends.sent h.ends.makes h.stored h.time, h.ends.goes, h.ends.outs, commits_of (Ok (Some d)) h)
 
   -- nothing more was made
-  paused : (ending : Ending) → new.place.state ≡ old.place.state → new.place.stored ≡ old.place.stored → new.place.stopped ≡ old.place.stopped → Elapses holds old new → after ≡ before
-      → EndsSo ending now listening [] new.place after → (seat : ℕ) (at : PlaceAt) → DeliversOn seat at now listening ending old.place new.place before after
-  paused ending state stored stopped time same ends seat at = record {
-    entries = [];
-    sent = [];
-    are = tt;
-    led = (record { going = going; state = state; stored = stored; stopped = stopped ∙ going; later = later time }, refl);
-    added = same ∙ sym (append-nil before);
-    ends = ends;
-  }
+  paused : (ending : Ending) → new.place.state ≡ old.place.state → new.place.stored ≡ old.place.stored → new.place.stopped ≡ old.place.stopped → MayCommit holds old new → after ≡ before
+      → EndsSo ending now listening [] new.place after → (seat : ℕ) (at : PlaceAt) → DeliversOn holds seat at now listening ending old new before after
+  paused ending state stored stopped commits same ends seat at =
+      let led : Led old.place [] [] new.place = (record { going = going; state = state; stored = stored; stopped = stopped ∙ going; later = later commits.time }, refl) in
+      record {
+        entries = [];
+        sent = [];
+        are = tt;
+        led = led;
+        outlasts = outlasts_of commits [] [] led;
+        added = same ∙ sym (append-nil before);
+        ends = ends;
+      }
 
-  next_none : Delivers holds (Ok None) now listening old new before after → GoesOn now listening (Some Quiet) old.place new.place before after
+  next_none : Delivers holds (Ok None) now listening old new before after → GoesOn holds now listening (Some Quiet) old new before after
   next_none h =
       let r = h.ends.rests in
-      paused Quiet r.state r.stored r.stopped h.time r.outs (refl, subst (λ (s : State). some_ready s now listening ≡ false) (sym r.state) h.ends.none)
+      paused Quiet r.state r.stored r.stopped (commits_of (Ok None) h) r.outs (refl, subst (λ (s : State). some_ready s now listening ≡ false) (sym r.state) h.ends.none)
 
   -- one was made and told, and it was the last one
-  last_sent : (ending : Ending) (d : Delivery) (os : List Out) → IsSentAt now listening d os old.place new.place → new.place.stopped ≡ None → after ≡ before ++ os
-      → ((seat : ℕ) (es : List PlaceEntry) → es ≡ Deliver seat now listening d os ∷ [] → EndsSo ending now listening es new.place after) → (seat : ℕ) (at : PlaceAt) → DeliversOn seat at now listening ending old.place new.place before after
-  last_sent ending d os step goes outs ends seat at = record {
-    entries = Deliver seat now listening d os ∷ [];
-    sent = os;
-    are = (refl, refl, refl, tt);
-    led = (new.place, [], step, goes, sym (append-nil os), (record { going = goes; state = refl; stored = refl; stopped = goes; later = same_volume new.place }, refl));
-    added = outs;
-    ends = ends seat (Deliver seat now listening d os ∷ []) refl;
-  }
+  last_sent : (ending : Ending) (d : Delivery) (os : List Out) → MayCommit holds old new → IsSentAt now listening d os old.place new.place → new.place.stopped ≡ None → after ≡ before ++ os
+      → ((seat : ℕ) (es : List PlaceEntry) → es ≡ Deliver seat now listening d os ∷ [] → EndsSo ending now listening es new.place after)
+      → (seat : ℕ) (at : PlaceAt) → DeliversOn holds seat at now listening ending old new before after
+  last_sent ending d os commits step goes outs ends seat at =
+      let led : Led old.place (Deliver seat now listening d os ∷ []) os new.place =
+      (new.place, [], step, goes, sym (append-nil os), (record { going = goes; state = refl; stored = refl; stopped = goes; later = same_volume new.place }, refl)) in
+      record {
+        entries = Deliver seat now listening d os ∷ [];
+        sent = os;
+        are = (refl, refl, refl, tt);
+        led = led;
+        outlasts = outlasts_of commits (Deliver seat now listening d os ∷ []) os led;
+        added = outs;
+        ends = ends seat (Deliver seat now listening d os ∷ []) refl;
+      }
 
   -- time passed in its place
-  ticked : Delivers holds (Err (NoMemory Ticked)) now listening old new before after → (seat : ℕ) (at : PlaceAt) → DeliversOn seat at now listening Short old.place new.place before after
+  ticked : Delivers holds (Err (NoMemory Ticked)) now listening old new before after → (seat : ℕ) (at : PlaceAt) → DeliversOn holds seat at now listening Short old new before after
   ticked h seat at =
       let event : Event = tick_at old.place.state in
       let as_step : Steps holds (Err (NoMemory Ticked)) event now old new before after = record {
@@ -90,43 +121,49 @@ module _ (holds : Image → State → Type 0) (now : ℕ) (listening : List Byte
       }
       in
       let step : EndsStep (Err (NoMemory Ticked)) event now old.place new.place before after =
-      failed_step holds event now old new (tick_proper old.place.state small) moment free (NoMemory Ticked) before after as_step in
+      failed_step holds event now old new (tick_proper old.place.state small) moment kept.free (NoMemory Ticked) before after as_step in
+      let led : Led old.place (Step seat event now Silent step.outs false ∷ []) step.outs new.place = (step.made, refl, refl, step.goes, refl, refl) in
       record {
         entries = Step seat event now Silent step.outs false ∷ [];
         sent = step.outs;
         are = (refl, refl, refl, refl, refl);
-        led = (step.made, refl, refl, step.goes, refl, refl);
+        led = led;
+        outlasts = outlasts_of (commits_of (Err (NoMemory Ticked)) h) (Step seat event now Silent step.outs false ∷ []) step.outs led;
         added = step.added;
         ends = tt;
       }
 
   -- the volume failed in it
-  broke : Delivers holds (Err StoreFault) now listening old new before after → (seat : ℕ) (at : PlaceAt) → DeliversOn seat at now listening Broke old.place new.place before after
-  broke h seat at = record {
-    entries = Broken seat now (DeliverOf listening h.ends.delivery) ∷ [];
-    sent = [];
-    are = (refl, refl, refl, refl);
-    led = (h.ends.sent, sent_at h.ends.delivery h.ends.sent h.ends.makes h.stored h.time, (h.ends.stops, h.ends.cause), refl, refl);
-    added = h.ends.outs ∙ sym (append-nil before);
-    ends = refl;
-  }
+  broke : Delivers holds (Err StoreFault) now listening old new before after → (seat : ℕ) (at : PlaceAt) → DeliversOn holds seat at now listening Broke old new before after
+  broke h seat at =
+      let led : Led old.place (Broken seat now (DeliverOf listening h.ends.delivery) ∷ []) [] new.place =
+      (h.ends.sent, sent_at h.ends.delivery h.ends.sent h.ends.makes h.stored h.time, (h.ends.stops, h.ends.cause), refl, refl) in
+      record {
+        entries = Broken seat now (DeliverOf listening h.ends.delivery) ∷ [];
+        sent = [];
+        are = (refl, refl, refl, refl);
+        led = led;
+        outlasts = outlasts_of (commits_of (Err StoreFault) h) (Broken seat now (DeliverOf listening h.ends.delivery) ∷ []) [] led;
+        added = h.ends.outs ∙ sym (append-nil before);
+        ends = refl;
+      }
 
   was_stopped : (count : ℕ) → old.place.stopped ≡ Some count → ⊥
   was_stopped count stopped = let no : None ≡ Some count = sym going ∙ stopped in cc
 
-  next_failed : (fault : PlaceFault) → Delivers holds (Err fault) now listening old new before after → GoesOn now listening (Some (ending_by fault)) old.place new.place before after
-  next_failed (NoMemory Nothing) h = let r = h.ends.rests in paused Short r.state r.stored r.stopped h.time r.outs tt
+  next_failed : (fault : PlaceFault) → Delivers holds (Err fault) now listening old new before after → GoesOn holds now listening (Some (ending_by fault)) old new before after
+  next_failed (NoMemory Nothing) h = let r = h.ends.rests in paused Short r.state r.stored r.stopped (commits_of (Err (NoMemory Nothing)) h) r.outs tt
   next_failed (NoMemory Ticked) h = ticked h
   next_failed (NoMemory (Unsaid refused)) h =
-      last_sent Short h.ends.delivery h.ends.sent (sent_at h.ends.delivery h.ends.sent h.ends.makes h.stored h.time) h.ends.goes h.ends.outs (λ seat es is. tt)
+      last_sent Short h.ends.delivery h.ends.sent (commits_of (Err (NoMemory (Unsaid refused))) h) (sent_at h.ends.delivery h.ends.sent h.ends.makes h.stored h.time) h.ends.goes h.ends.outs (λ seat es is. tt)
   next_failed StoreFault h = broke h
   next_failed (Stopped count) h = absurd (was_stopped count h.ends.stopped)
   next_failed (Gone kept) h = absurd h.ends
   next_failed (Worn refused) h =
       let k = h.ends.hides in
-      last_sent WornOut k.delivery k.sent (sent_at k.delivery k.sent k.makes h.stored h.time) k.goes k.outs (λ seat es is. ((λ none. let no : ⊥ = cc in absurd no), h.ends.last))
+      last_sent WornOut k.delivery k.sent (commits_of (Err (Worn refused)) h) (sent_at k.delivery k.sent k.makes h.stored h.time) k.goes k.outs (λ seat es is. ((λ none. let no : ⊥ = cc in absurd no), h.ends.last))
 
-  pub next : (told : Result (Option Delivery) PlaceFault) → Delivers holds told now listening old new before after → GoesOn now listening (ending_after told) old.place new.place before after
+  pub next : (told : Result (Option Delivery) PlaceFault) → Delivers holds told now listening old new before after → GoesOn holds now listening (ending_after told) old new before after
   next (Ok (Some d)) h = next_made d h
   next (Ok None) h = next_none h
   next (Err fault) h = next_failed fault h

@@ -16,8 +16,11 @@ use Rattle.js_api.specs.declared.fault.DeskFault.{DeskFault}
 use Rattle.js_api.specs.declared.fault.DeskFault.TheVariants as faults
 use Rattle.js_api.specs.Holding.{AreDeliveries, bytes_of, delivery_broke, most_bytes, most_deliveries}
 use Rattle.js_api.specs.Worlds.{IsLater, Stops}
+use Rattle.js_model.specs.declared.stream.State.{State}
+use Rattle.place_engine.specs.Stepping.{Image, Seen}
 use Rattle.place_engine.specs.declared.faults.PlaceFault.{PlaceFault}
 use Rattle.place_engine.specs.declared.faults.PlaceFault.TheVariants as places
+use Rattle.desk_hold.specs.Crashes.{MayCommit, Never, Outlasts}
 use Rattle.desk_hold.specs.Steps.{IsMade}
 use Rattle.desk_hold.specs.declared.delivering.Ending.{Ending}
 use Rattle.desk_hold.specs.declared.delivering.Ending.TheVariants.{Quiet, Full, Broke, Short, WornOut}
@@ -84,17 +87,21 @@ EndsSo Broke now listening entries new outs = delivery_broke entries ≡ true
 EndsSo Short now listening entries new outs = Unit {0}
 EndsSo WornOut now listening entries new outs = (entries ≢ []) × (new.volume.generation ≡ 2 ^ 62 - 1)
 
--- they were made by this seat at the moment to whom somebody listens, led from the one place to the other, and what they sent was added
-pub record DeliversOn (seat : ℕ) (at : PlaceAt) (now : ℕ) (listening : List Bytes) (ending : Ending) (old new : PlaceIn) (before after : List Out) : Type 0 where
-  pub entries : List PlaceEntry
-  pub sent : List Out
-  pub are : AreDeliveries seat at now listening (fault_by ending) entries
-  pub led : Led old entries sent new
-  pub added : after ≡ before ++ sent
-  pub ends : EndsSo ending now listening entries new after
+module _ (holds : Image → State → Type 0) where
+  -- they were made by this seat at the moment to whom somebody listens, led from the one place to the other, and what they sent was added; none is
+  -- confirmed
+  pub record DeliversOn (seat : ℕ) (at : PlaceAt) (now : ℕ) (listening : List Bytes) (ending : Ending) (old new : Seen) (before after : List Out) : Type 0 where
+    pub entries : List PlaceEntry
+    pub sent : List Out
+    pub are : AreDeliveries seat at now listening (fault_by ending) entries
+    pub led : Led old.place entries sent new.place
+    pub outlasts : Outlasts holds Never entries old new
+    pub added : after ≡ before ++ sent
+    pub ends : EndsSo ending now listening entries new.place after
 
--- one more was made and told; or the deliveries end so
-abbrev pub GoesOn : ℕ → List Bytes → Option Ending → PlaceIn → PlaceIn → List Out → List Out → Type 0
-GoesOn now listening None old new before after =
-    (d : Delivery) × (outs : List Out) × IsSentAt now listening d outs old new × (new.stopped ≡ None) × (after ≡ before ++ outs)
-GoesOn now listening (Some ending) old new before after = (seat : ℕ) (at : PlaceAt) → DeliversOn seat at now listening ending old new before after
+  -- one more was made and told; or the deliveries end so
+  abbrev pub GoesOn : ℕ → List Bytes → Option Ending → Seen → Seen → List Out → List Out → Type 0
+  GoesOn now listening None old new before after =
+      (d : Delivery) × (outs : List Out)
+      × IsSentAt now listening d outs old.place new.place × (new.place.stopped ≡ None) × (after ≡ before ++ outs) × MayCommit holds old new
+  GoesOn now listening (Some ending) old new before after = (seat : ℕ) (at : PlaceAt) → DeliversOn seat at now listening ending old new before after

@@ -11,6 +11,8 @@ use Rattle.js_api.specs.declared.fault.DeskFault.{DeskFault}
 use Rattle.js_api.specs.declared.fault.DeskFault.TheVariants as faults
 use Rattle.js_api.specs.Entries.{Reading}
 use Rattle.js_api.specs.Holding.{AreDeliveries, AreFirstReadings, AreReadings, IsLastGeneration, bytes_of, delivery_broke, listening_of, most_bytes, most_deliveries, push_consumers}
+use Rattle.place_engine.specs.Stepping.{Image, Seen}
+use Rattle.desk_hold.specs.Crashes.{Never, Outlasts}
 use Rattle.desk_hold.specs.Deliveries.{Led}
 use Rattle.desk_hold.specs.Ports.{AreHeard}
 use Rattle.desk_hold.specs.declared.following.Following.{Following}
@@ -58,10 +60,11 @@ module _ {R : Type 0} (routes : R → RouteCall → RouteTold → R → Type 0) 
   IsFollowed (Unheard number) readings entries old new r s outs = IsUnheard number readings entries old r s
 
   -- it came to that, and the place and the port were led so
-  pub record Follows (following : Following) (old new : PlaceIn) (r s : R) (before after : List Out) : Type 0 where
+  pub record Follows (holds : Image → State → Type 0) (following : Following) (old new : Seen) (r s : R) (before after : List Out) : Type 0 where
     pub readings : List Reading
     pub entries : List PlaceEntry
     pub sent : List Out
-    pub led : Led old entries sent new
+    pub led : Led old.place entries sent new.place
+    pub outlasts : Outlasts holds Never entries old new
     pub added : after ≡ before ++ sent
-    pub followed : IsFollowed following readings entries old new r s after
+    pub followed : IsFollowed following readings entries old.place new.place r s after

@@ -1,6 +1,7 @@
 pub mod Ports
 pub mod Outcomes
 pub mod Steps
+pub mod Crashes
 pub mod OnePlace
 pub mod Hearing
 pub mod Deliveries

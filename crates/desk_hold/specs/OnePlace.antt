@@ -14,6 +14,8 @@ use Rattle.js_api.specs.Holding.{Holds}
 use Rattle.js_api.specs.Leading.{Leads}
 use Rattle.js_api.specs.Outputs.{outs_of}
 use Rattle.js_api.specs.Worlds.{IsHeld, IsStirred}
+use Rattle.place_engine.specs.Stepping.{Image, Seen}
+use Rattle.desk_hold.specs.Crashes.{IsEarlyIn, Outlasts, made_by}
 use Rattle.desk_hold.specs.Ports.{AreHeard, Sends}
 
 -- a place, and the port of whoever holds it
@@ -79,9 +81,11 @@ module _ {R : Type 0} (routes : R → RouteCall → RouteTold → R → Type 0) 
   PlaceStep old (Missed there kept) new = IsMissedOn there kept old new
   PlaceStep old (Spent number) new = ⊥
 
-  -- A hold of what was asked there came to that, and its entries led from the one place and port to the other. This seat made each of the place's run
-  pub record HoldsOn (seat : ℕ) (what : What) (now : ℕ) (outcome : Outcome) (old new : OnPlace R) : Type 0 where
+  -- A hold of what was asked there came to that, and its entries led from the one place and port to the other. This seat made each of the place's run.
+  -- A crash leaves a beginning of what was made of that run, with all that was confirmed by then
+  pub record HoldsOn (in_image : Image → State → Type 0) (seat : ℕ) (what : What) (now : ℕ) (outcome : Outcome) (old new : Seen) (r s : R) : Type 0 where
     pub entries : List DeskEntry
     pub holds : Holds at what now outcome entries
-    pub led : Leads PlaceStep old entries new
+    pub led : Leads PlaceStep (on old.place r) entries (on new.place s)
     pub by : AreBy seat entries
+    pub outlasts : Outlasts in_image (IsEarlyIn entries) (made_by entries) old new

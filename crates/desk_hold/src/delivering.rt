@@ -40,7 +40,7 @@ pub fn deliver_all<P: Place>(
     outs: &mut Outs,
 ) -> Ending
     requires going { (P.seen place.old).place.stopped ≡ None }
-    ensures delivers { (seat : ℕ) (at : PlaceAt) → DeliversOn seat at now listening.now result (P.seen place.old).place (P.seen place.new).place outs.old outs.new }
+    ensures delivers { (seat : ℕ) (at : PlaceAt) → DeliversOn P.holds seat at now listening.now result (P.seen place.old) (P.seen place.new) outs.old outs.new }
     ensures vol { P.keeps_vol (P.vol place.old) (P.vol place.new) }
 {
     let mut size = size_of(outs.as_slice());
@@ -65,7 +65,7 @@ fn deliver_next<P: Place>(
     outs: &mut Outs,
 ) -> Option<Ending>
     requires going { (P.seen place.old).place.stopped ≡ None }
-    ensures goes_on { GoesOn now listening.now result (P.seen place.old).place (P.seen place.new).place outs.old outs.new }
+    ensures goes_on { GoesOn P.holds now listening.now result (P.seen place.old) (P.seen place.new) outs.old outs.new }
     ensures vol { P.keeps_vol (P.vol place.old) (P.vol place.new) }
 {
     law_moment(now);
@@ -86,7 +86,7 @@ fn ending_after(told: Result<Option<Delivery>, PlaceFault>) -> Option<Ending>
     }
 }
 
-/// How a delivery's fault ends the deliveries.
+/// How a delivery's fault ends the deliveries. `Stopped` can't come, since the place was not stopped before, and no delivery is told `Gone`.
 fn ended_by(fault: PlaceFault) -> Ending
     ensures value { result ≡ ending_by fault }
 {

@@ -45,7 +45,7 @@ pub fn follow<P: Place, R: Port>(
     outs: &mut Outs,
 ) -> Following
     requires going { (P.seen place.old).place.stopped ≡ None }
-    ensures follows { (seat : ℕ) (at : PlaceAt) → Follows R.routes R.worn seat at now result (P.seen place.old).place (P.seen place.new).place port.old port.new outs.old outs.new }
+    ensures follows { (seat : ℕ) (at : PlaceAt) → Follows R.routes R.worn seat at now P.holds result (P.seen place.old) (P.seen place.new) port.old port.new outs.old outs.new }
     ensures vol { P.keeps_vol (P.vol place.old) (P.vol place.new) }
 {
     let listening = match hear(alloc, place, port) {

@@ -10,7 +10,7 @@ ghost use Rattle.js_api.specs.Holding.{event_at};
 ghost use Rattle.place_engine.specs.Shown.{IsShown};
 ghost use Rattle.desk_answers.specs.Asking.{MayAsk};
 ghost use Rattle.desk_answers.specs.Became.{CanBeShown, IsExplained, NumbersDropped, is_dropped};
-ghost use Rattle.desk_hold.specs.OnePlace.{HoldsOn, on};
+ghost use Rattle.desk_hold.specs.OnePlace.{HoldsOn};
 ghost use Rattle.desk_hold.specs.Following.{Follows};
 ghost use Rattle.desk_hold.specs.Outcomes.{SendsFollowed, SendsMade, absent_by, failed_by, quietly, shortly, worn_out};
 ghost use Rattle.desk_hold.specs.Steps.{IsNumbered};
@@ -71,7 +71,7 @@ fn follow_step<P: Place, R: Port>(
     outs: &mut Outs,
 ) -> Following
     requires going { (P.seen place.old).place.stopped ≡ None }
-    ensures follows { (seat : ℕ) (at : PlaceAt) → Follows R.routes R.worn seat at now result (P.seen place.old).place (P.seen place.new).place port.old port.new outs.old outs.new }
+    ensures follows { (seat : ℕ) (at : PlaceAt) → Follows R.routes R.worn seat at now P.holds result (P.seen place.old) (P.seen place.new) port.old port.new outs.old outs.new }
     ensures vol { P.keeps_vol (P.vol place.old) (P.vol place.new) }
 {
     if unsaid {
@@ -159,7 +159,7 @@ fn hold_named<P: Place, R: Port>(
     requires stream { stream ≡ stream_name (P.seen place.old).place.state }
     requires utf8 { IsUtf8 stream }
     requires numbered { IsNumbered (P.seen place.old).place.state }
-    ensures holds { (seat : ℕ) → HoldsOn R.routes R.worn at seat event.now.what now result (on (P.seen place.old).place port.old) (on (P.seen place.new).place port.new) }
+    ensures holds { (seat : ℕ) → HoldsOn R.routes R.worn at P.holds seat event.now.what now result (P.seen place.old) (P.seen place.new) port.old port.new }
     ensures shown { CanBeShown result.became }
     ensures explained { IsExplained result.fault result.became }
     ensures number { NumbersDropped event.now.what result.became at }
@@ -202,7 +202,7 @@ fn hold_event<P: Place, R: Port>(
 ) -> Outcome
     requires event { event.now ≡ event_at at event.now.what }
     requires asked { MayAsk event.now.what }
-    ensures holds { (seat : ℕ) → HoldsOn R.routes R.worn at seat event.now.what now result (on (P.seen place.old).place port.old) (on (P.seen place.new).place port.new) }
+    ensures holds { (seat : ℕ) → HoldsOn R.routes R.worn at P.holds seat event.now.what now result (P.seen place.old) (P.seen place.new) port.old port.new }
     ensures shown { CanBeShown result.became }
     ensures explained { IsExplained result.fault result.became }
     ensures number { NumbersDropped event.now.what result.became at }
@@ -229,7 +229,7 @@ pub fn hold_on<P: Place, R: Port>(
     now: Moment,
 ) -> Outcome
     requires asked { MayAsk what }
-    ensures holds { (seat : ℕ) → HoldsOn R.routes R.worn at seat what now result (on (P.seen place.old).place port.old) (on (P.seen place.new).place port.new) }
+    ensures holds { (seat : ℕ) → HoldsOn R.routes R.worn at P.holds seat what now result (P.seen place.old) (P.seen place.new) port.old port.new }
     ensures shown { CanBeShown result.became }
     ensures explained { IsExplained result.fault result.became }
     ensures number { NumbersDropped what result.became at }

@@ -5,6 +5,7 @@ ghost use Rattle.js_api.specs.Outputs.{answer_of, said, stream_name};
 ghost use Rattle.js_model.specs.Proper.{is_proper};
 ghost use Rattle.place_engine.specs.Places.{IsBuilt};
 ghost use Rattle.place_engine.specs.Shown.{IsShown};
+ghost use Rattle.desk_hold.specs.Crashes.{CommitsStep};
 ghost use Rattle.desk_hold.specs.Steps.{EndsStep, IsNumbered};
 
 use desk_answers::answer_of;
@@ -67,6 +68,7 @@ pub fn make<P: Place>(
     requires built { IsBuilt event.now.what }
     requires proper { IsTrue (is_proper event.now) }
     ensures ends { EndsStep result event.now now (P.seen place.old).place (P.seen place.new).place outs.old outs.new }
+    ensures commits { CommitsStep P.holds result event.now (P.seen place.old) (P.seen place.new) }
     ensures shown { IfOk result (λ step. IsShown step.reply) }
     ensures vol { P.keeps_vol (P.vol place.old) (P.vol place.new) }
 {

@@ -13,7 +13,7 @@ use Rattle.js_model.specs.Cataloging.{HasPlace}
 use Rattle.js_model.specs.Events.{kept_incarnation}
 use Rattle.js_model.specs.PlaceStates.{PlaceIn}
 use Rattle.js_model.specs.Router.{Router, IsRoute}
-use Rattle.place_engine.specs.InMemory.{Contents}
+use Rattle.place_engine.specs.InMemory.{Contents, holds_nothing, seen_of}
 use Rattle.place_engine.specs.Places.{IsBuilt}
 use Rattle.js_api.specs.declared.outcome.Became.{Became}
 use Rattle.js_api.specs.declared.outcome.Became.TheVariants as became
@@ -186,7 +186,7 @@ module _ {V : Type 0} (c : Catalog) (places : List (Contents V)) (last : Option 
 -- ---- the entries
 
 module _ {V : Type 0} (r router : Router) (c : Catalog) (places : List (Contents V)) (ticked : ℕ) (last : Option PlaceAt) (turn : Turn) (at : PlaceAt) (old new : Contents V) (there : slice_get places at.place ≡ Some old)
-    (what : What) (now : ℕ) (outcome : Outcome) (built : IsBuilt what) (h : HoldsOn IsRoute never at 0 what now outcome (on (place_in old) r) (on (place_in new) router)) where
+    (what : What) (now : ℕ) (outcome : Outcome) (built : IsBuilt what) (h : HoldsOn IsRoute never at holds_nothing 0 what now outcome (seen_of old.state) (seen_of new.state) r router) where
   pub facts_of : Facts at what outcome.became h.entries (place_in old) (place_in new)
   facts_of = hold_facts at what now built outcome h.entries (on (place_in old) r) (on (place_in new) router) h.holds h.led refl
 
@@ -203,7 +203,7 @@ module _ {V : Type 0} (r router : Router) (c : Catalog) (places : List (Contents
       → Makes SoloMade (Holds at what now outcome) (standing r c places ticked last turn) (standing router c (slice_set places at.place new) ticked later after)
   made_of later after later_is same =
       let s : Scene = (standing r c places ticked last turn).scene in
-      let m = held_alone at 0 what now outcome s (place_in old) (place_in new) router (map_get place_in places at.place old there) h in
+      let m = held_alone at holds_nothing 0 what now outcome s (seen_of old.state) (seen_of new.state) router (map_get place_in places at.place old there) h in
       let ends : with_place s at.place (on (place_in new) router) (last_of at outcome.became last) ≡ (standing router c (slice_set places at.place new) ticked later after).scene =
       ap (λ (l : Option PlaceAt). with_place s at.place (on (place_in new) router) l) (last_so outcome.became ∙ sym later_is)
       ∙ ap (λ (ps : List PlaceIn). record { world = record { router = router; catalog = c; places = ps }; cursor = record { ticked = ticked; last = later } })

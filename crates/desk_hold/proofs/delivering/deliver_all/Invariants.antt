@@ -8,7 +8,7 @@ abbrev pub invariant-loop : goal.invariant-loop
 invariant-loop g l =
     let P = g.P.Place in
     record {
-      so_far : (seat : ℕ) → SoFar seat l.fn.now l.fn.listening l.counter (P.seen l.fn.place).place (P.seen l.place).place l.fn.outs l.outs;
+      so_far : (seat : ℕ) → SoFar P.holds seat l.fn.now l.fn.listening l.counter (P.seen l.fn.place) (P.seen l.place) l.fn.outs l.outs;
       size : l.size ≤ sum_by bytes_of l.outs;
       vol : P.keeps_vol (P.vol l.fn.place) (P.vol l.place);
     }
