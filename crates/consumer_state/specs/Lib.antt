@@ -4,4 +4,5 @@ pub mod Forgetting
 pub mod Passing
 pub mod Ending
 pub mod Offering
+pub mod Sending
 pub mod Delivering

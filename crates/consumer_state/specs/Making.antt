@@ -1,8 +1,9 @@
--- Which refusals of a new consumer need no other consumer, by JetStream's rules on work queues.
-use Rattle.std.specs.Prelude.{◌≡◌, nat_lt, ◌&&◌, not, List, [], ◌∷◌, ◌++◌, Some, codes, length, ⊤}
+-- A new consumer, and which of its refusals need no other consumer, by JetStream's rules on work queues.
+use Rattle.std.specs.Prelude.{◌≡◌, ℕ, nat_lt, ◌&&◌, not, List, [], ◌∷◌, ◌++◌, Some, codes, length, ⊤}
 use Rattle.std.specs.List.{list_any}
 use Rattle.js_base.specs.Bytes.{Bytes}
 use Rattle.js_model.specs.declared.stream.Stream.{Stream}
+use Rattle.js_model.specs.declared.consumer.Consumer.{Consumer}
 use Rattle.js_model.specs.declared.consumer_config.ConsumerConfig.{ConsumerConfig}
 use Rattle.js_model.specs.declared.consumer_config.AckPolicy.TheVariants.{Explicit}
 use Rattle.js_model.specs.declared.consumer_config.DeliverPolicy.TheVariants.{All as FromAll}
@@ -12,6 +13,21 @@ use Rattle.js_model.specs.Refusals.{Check, first_refusal, work_queue_rule, too_m
 use Rattle.js_model.specs.Start.{picks_at}
 use Rattle.consumer_state.specs.declared.fault.MakeFault.{MakeFault}
 use Rattle.consumer_state.specs.declared.fault.MakeFault.TheVariants.{Refused, NoMemory}
+
+-- a consumer that was made at a moment and begins with these picks and this cursor
+abbrev pub made_at : ℕ → Bytes → ConsumerConfig → List ℕ → ℕ → Consumer
+made_at now name config picks cursor = record {
+  name = name;
+  made = now;
+  config = config;
+  picks = picks;
+  cursor = cursor;
+  dseq = 0;
+  pending = [];
+  given_up = [];
+  waiting = [];
+  mark = now;
+}
 
 -- the rules of a work queue on its consumers' policies
 abbrev pub policy_checks : Stream → ConsumerConfig → List Check

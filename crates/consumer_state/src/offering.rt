@@ -1,8 +1,8 @@
 //! Which message may be sent next, and whether something can be delivered.
 
-ghost use Rattle.std.specs.Prelude.{◌≡◌, ◌<◌, ◌^◌, None};
-ghost use Rattle.js_model.specs.Deliver.{candidates, may_wait, next_message};
-ghost use Rattle.consumer_state.specs.Offering.{IsCurrent, IsOffer};
+ghost use Rattle.std.specs.Prelude.{◌≡◌};
+ghost use Rattle.js_model.specs.Deliver.{may_wait};
+ghost use Rattle.consumer_state.specs.Offering.{is_asked, onward, IsAmong, IsCurrent, IsOffer};
 ghost use Rattle.consumer_state.specs.Delivering.{IsReady};
 
 use crate::consumer::Consumer;
@@ -42,7 +42,9 @@ impl Consumer {
     }
 
     /// Whether somebody asks: who listens to a push consumer's subject, or a pull.
-    fn is_asked(&self, listened: bool) -> bool {
+    fn is_asked(&self, listened: bool) -> bool
+        ensures value { result ≡ is_asked listened self.now }
+    {
         if self.is_push() {
             listened
         } else {
@@ -51,7 +53,10 @@ impl Consumer {
     }
 
     /// The first pick, or else the first message from the cursor on that the filter matches, if one more delivery may wait.
-    fn next<W: View>(&self, stream: &W, undelivered: u64) -> Option<u64> {
+    fn next<W: View>(&self, stream: &W, undelivered: u64) -> Option<u64>
+        requires current { IsCurrent (W.stream stream.now) self.now undelivered }
+        ensures among { IsAmong (onward (W.stream stream.now) self.now) result }
+    {
         if !self.may_wait() {
             return None;
         }
