@@ -41,7 +41,7 @@ impl Consumer {
         requires current { IsCurrent (W.stream stream.now) self.old undelivered }
         requires next { IsNext (W.stream stream.now) self.old (option_copied message.entry) }
         requires small { IfSome (option_copied message.entry) (λ m. size m < 2 ^ 64) }
-        ensures delivered { IfOk result (λ what. MayDeliver (W.stream stream.now) listened self.old what outs.old outs.new self.new) }
+        ensures delivered { IfOk result (λ what. MayDeliver (W.stream stream.now) listened (option_copied message.entry) undelivered self.old what outs.old outs.new self.new) }
         ensures ready { IfOk result (λ what. IsReady (W.stream stream.now) listened self.old (is_some what)) }
         ensures err { OnErr result (self.new ≡ self.old) }
         ensures err_outs { OnErr result (outs.new ≡ outs.old) }

@@ -8,6 +8,7 @@ ghost use Rattle.js_model.specs.Consumers.{is_work_queue, new_consumer};
 ghost use Rattle.js_model.specs.Lists.{Between};
 ghost use Rattle.js_model.specs.Refusals.{first_refusal};
 ghost use Rattle.js_model.specs.Streams.{below_limit};
+ghost use Rattle.consumer_need.specs.Stored.{HoldsStored};
 ghost use Rattle.consumer_state.specs.Keeping.{IsRestorable};
 ghost use Rattle.consumer_state.specs.Making.{made_at, policy_checks, own_checks, IsRefusal};
 
@@ -99,6 +100,7 @@ impl Consumer {
     ) -> Result<Consumer, MakeFault>
         requires valid { IsTrue (is_consumer_config config.now) }
         ensures made { IfOk result (λ c. c ≡ new_consumer (W.stream stream.now) name.now config.now) }
+        ensures holds { IfOk result (λ c. HoldsStored (W.stream stream.now) c) }
         ensures allowed { OnOk result (first_refusal (own_checks (W.stream stream.now) config.now) ≡ None) }
         ensures refused { IfErr result (IsRefusal (own_checks (W.stream stream.now) config.now)) }
     {
