@@ -1,13 +1,13 @@
 //! The progress of a consumer.
 
-ghost use Rattle.std.specs.Prelude.{◌≡◌, ℕ, ◌+◌, ◌-◌, ◌<◌, ◌≤◌, ◌^◌, ◌==◌, [], false, true, filter, find, length, nat_le, nat_lt, IfOk, OnOk, OnErr};
+ghost use Rattle.std.specs.Prelude.{◌≡◌, ℕ, ◌+◌, ◌-◌, ◌<◌, ◌≤◌, ◌^◌, ◌==◌, [], false, true, filter, find, length, nat_lt, IfOk, OnOk, OnErr};
 ghost use Rattle.std.specs.Option.{option_map};
 ghost use Rattle.js_base.specs.Bytes.{has};
 ghost use Rattle.js_model.specs.Counts.{least};
 ghost use Rattle.js_model.specs.Lists.{Between};
 ghost use Rattle.consumer_progress.specs.Progresses.{progress_of, is_held, seqs_of, IsProgress};
 ghost use Rattle.consumer_progress.specs.Sending.{after_sent, count_in};
-ghost use Rattle.consumer_progress.specs.Ending.{ended, least_of, with_due, without, EndsOneUpTo};
+ghost use Rattle.consumer_progress.specs.Ending.{ended, is_delivered, least_of, with_due, without, EndsOneUpTo};
 ghost use Rattle.consumer_progress.specs.GivingUp.{first_of, is_due, overflow_of, with_given_up, without_overflow, IsUnspent};
 
 use crate::tables::{count_in, put_delivery, table_of, table_with};
@@ -176,20 +176,14 @@ impl ConsumerProgress {
         Ok(())
     }
 
-    /// Ends the delivery of the sequence, if it waits or is given up. It takes no memory.
-    pub fn end(&mut self, seq: u64)
+    /// Ends the delivery of the sequence, if it waits or is given up, and tells whether it did. It takes no memory.
+    pub fn end(&mut self, seq: u64) -> bool
+        ensures was { result ≡ is_delivered self.old seq }
         ensures value { self.new ≡ ended (λ n. n == seq) self.old }
     {
-        self.pending.ack(seq);
-        self.given_up.ack(seq);
-    }
-
-    /// Ends all deliveries up to the sequence that wait or are given up. It takes no memory, and its cost grows with their number.
-    pub fn end_all(&mut self, seq: u64)
-        ensures value { self.new ≡ ended (λ n. nat_le n seq) self.old }
-    {
-        self.pending.ack_all(seq);
-        self.given_up.ack_all(seq);
+        let waited = self.pending.ack(seq);
+        let given_up = self.given_up.ack(seq);
+        waited || given_up
     }
 
     /// Ends one delivery up to the sequence that waits or is given up, and tells which. `None` if there is none. It takes no memory.

@@ -129,10 +129,10 @@ impl PendingTable {
         ensures leaf { IfSome result (λ f. IsLeaf f.value) }
         ensures left { self.new ≡ filter (λ p. not (p.seq == seq)) self.old }
     {
-        let leaf = self.tree.take(seq)?;
+        let entry = self.tree.get(seq)?;
         self.len -= 1;
-        self.again -= again_of(leaf.count());
-        Some(leaf)
+        self.again -= again_of(entry.count);
+        self.tree.take(seq)
     }
 
     /// Takes out all entries up to the sequence, and tells how many these were. It takes no memory, and its cost grows with their number.
