@@ -5,7 +5,9 @@ use Rattle.std.specs.List.{AllByRecursion}
 use Rattle.std.proofs.lemmas.Bool.{le-leb, lt-leb, leb-true}
 use Rattle.js_model.specs.declared.stream.Message.{Message}
 use Rattle.js_model.specs.declared.stream.Stream.{Stream}
+use Rattle.js_base.specs.Bytes.{Bytes}
 use Rattle.js_model.specs.Lists.{Between}
+use Rattle.js_model.specs.Streams.{passes_filter}
 use Rattle.js_model.proofs.Members.{IsIn, here, there, found_in, in_bounds}
 use Rattle.js_model.proofs.Named.{none_some, some_is}
 use Rattle.stream_view.specs.Heads.{MessageHead, head_of}
@@ -111,7 +113,7 @@ pub record IsSeen (found : Option Message) (head : MessageHead) : Type 0 where
   pub head_is : head ≡ head_of message
 
 pub seen : (found : Option Message) (head : MessageHead) → Some head ≡ option_map head_of found → IsSeen found head
-seen None head e = absurd (none_some e)
+seen None head e = absurd (none_some (sym e))
 seen (Some m) head e = record { message = m; is = refl; head_is = some_is e }
 
 pub unseen : (found : Option Message) → None ≡ option_map head_of found → found ≡ None
@@ -155,3 +157,12 @@ module _ (P : Message → Bool) (s : Stream) (wanted : Option ℕ) (seq : ℕ) (
         let l : seq ≤ look.message.seq = leb-true seq look.message.seq i.1 in
         let r : look.message.seq < s.last + 1 = b.1 in
         (omega arith, omega arith)
+
+-- ---- what is read of a message
+
+pub by_subject : (pattern text : Bytes) (head : MessageHead) (read result : Bool) → text ≡ head.subject → read ≡ passes_filter pattern text → read ≡ result
+    → (m : Message) → head ≡ head_of m → passes_filter pattern m.subject ≡ result
+by_subject pattern text head read result e f g m h = ap (passes_filter pattern) (sym (ap (λ x. x.subject) h) ∙ sym e) ∙ sym f ∙ g
+
+pub by_moment : (at moment : ℕ) (head : MessageHead) (result : Bool) → moment ≡ head.at → nat_le at moment ≡ result → (m : Message) → head ≡ head_of m → nat_le at m.at ≡ result
+by_moment at moment head result e f m h = ap (nat_le at) (sym (ap (λ x. x.at) h) ∙ sym e) ∙ f
