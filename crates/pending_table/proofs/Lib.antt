@@ -3,3 +3,4 @@ pub mod Ranges
 pub mod Kept
 pub mod Changed
 pub mod Tables
+pub mod Moved

@@ -1,5 +1,6 @@
 -- A search tree of entries, seen as their list.
 use Rattle.std.specs.Prelude.{◌≡◌, ℕ, ◌<◌, ◌==◌, false, List, [], ◌∷◌, ◌++◌, Option, option_map, Box, ⊤}
+use Rattle.std.specs.declared.alloc.Global.{Global}
 use Rattle.std.specs.List.{AllByRecursion}
 use Rattle.js_model.specs.declared.consumer.Pending.{Pending}
 use Rattle.pending_table.specs.declared.tree.Tree.{Tree, Empty, Fork'}
@@ -30,7 +31,7 @@ abbrev pub IsLeaf : Fork → Type 0
 IsLeaf f = (listed f ≡ f.entry ∷ []) × IsBoundedFork f
 
 -- the entry of a leaf that was taken
-abbrev pub entry_of : Option (Box Fork) → Option Pending
+abbrev pub entry_of : Option (Box Fork Global) → Option Pending
 entry_of o = option_map (λ f. f.value.entry) o
 
 -- each sequence is below all later ones

@@ -30,20 +30,11 @@ invariant_of-self c =
     let sum : i.again - c.again_of.result + c.again_of-in-Some.result + weight old ≡ i.again + weight e = omega (arith, within, before, after) in
     replaced_table i.tree c.replace.new.self i.len i.again c.self.invariant c.replace.ensures.bounded e old found c.replace.ensures.entries _ sum
 
-pub insert-requires-clause-ordered : goal.insert-requires-clause-ordered
-insert-requires-clause-ordered c = ordered c.self.inside.tree c.self.invariant.ascending
+pub insert-requires-clause-leaf : goal.insert-requires-clause-leaf
+insert-requires-clause-leaf c = c.in_ok-leaf-in-None.ensures.leaf.1
 
 pub insert-requires-clause-absent : goal.insert-requires-clause-absent
-insert-requires-clause-absent c = rw c.in_ok-leaf-in-None.ensures.leaf.0 (lacks c.args.seq c.self.inside.tree (sym c.get.ensures.value ∙ c.in-None.is))
-
-pub invariant_of-self-in-None : goal.invariant_of-self-in-None
-invariant_of-self-in-None c =
-    let i = c.self.inside in
-    let e : Pending = record { seq = c.args.seq; count = c.args.count; due = c.args.due } in
-    let room : length (entries i.tree) + 1 < 2 ^ 32 = rw c.self.view_is c.requires.room in
-    rw c.again_of-in-None.ensures.value
-    (put_table i.tree c.insert.new.self i.len i.again c.self.invariant c.insert.ensures.bounded e (sym c.get.ensures.value ∙ c.in-None.is) room
-    (rw c.in_ok-leaf-in-None.ensures.leaf.0 at c.insert.ensures.entries))
+insert-requires-clause-absent c = rw c.in_ok-leaf-in-None.ensures.leaf.0 (rw (← c.self.view_is) (sym c.get.ensures.value ∙ c.in-None.is))
 
 pub returns-in-Some-clause-ok : goal.returns-in-Some-clause-ok
 returns-in-Some-clause-ok c =

@@ -31,7 +31,7 @@ returns-else-deref-seq-clause-left t c =
     let not_less = rw c.deref.ensures at c.if-seq-deref.false in
     let not_more = rw c.deref-else-seq-deref.ensures at c.if-deref-seq.false in
     let same : f.entry.seq ≡ c.args.seq = omega (arith, not_less, not_more) in
-    rw is (c.without_entry.ensures.left ∙ sym (removed_here (entries f.left) f.entry (entries f.right) sides c.args.seq same))
+    rw is (c.without_entry-left.ensures.left ∙ sym (removed_here (entries f.left) f.entry (entries f.right) sides c.args.seq same))
 
 pub returns-then-seq-deref-clause-taken : goal.returns-then-seq-deref-clause-taken
 returns-then-seq-deref-clause-taken t c =
@@ -59,4 +59,4 @@ returns-else-deref-seq-clause-taken t c =
     let not_less = rw c.deref.ensures at c.if-seq-deref.false in
     let not_more = rw c.deref-else-seq-deref.ensures at c.if-deref-seq.false in
     let same : c.in-Fork.fork.value.entry.seq ≡ c.args.seq = omega (arith, not_less, not_more) in
-    rw is (ap Some c.without_entry.ensures.entry ∙ sym (get_here (entries f.left) f.entry (entries f.right) sides c.args.seq same))
+    rw is (ap Some c.without_entry-left.ensures.entry ∙ sym (get_here (entries f.left) f.entry (entries f.right) sides c.args.seq same))
