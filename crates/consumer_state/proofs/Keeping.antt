@@ -1,0 +1,58 @@
+-- What is kept of a consumer stays so.
+use Rattle.std.proofs.Common.{◌≡◌, ℕ, zero, suc, ◌+◌, ◌-◌, ◌<◌, ◌≤◌, Bool, true, false, ◌&&◌, not, cond, List, [], ◌∷◌, length, drop, map, refl, sym, ap, ◌∙◌, arith}
+use Rattle.std.specs.Prelude.{Option, Some, None, ◌==◌, nat_lt, All}
+use Rattle.std.proofs.lemmas.Bool.{ltb-true, ltb-false}
+use Rattle.js_base.specs.Bytes.{last_of}
+use Rattle.js_model.specs.declared.consumer.Consumer.{Consumer}
+use Rattle.js_model.specs.declared.consumer.Pending.{Pending}
+use Rattle.js_model.specs.Streams.{over_limit}
+use Rattle.js_model.specs.Acknowledge.{moved}
+use Rattle.js_model.proofs.Named.{none_some}
+use Rattle.consumer_progress.specs.GivingUp.{first_of, rest_of}
+use Rattle.consumer_state.specs.Passing.{has_overflow, overflow_of, within_overflow, without_overflow}
+use Rattle.consumer_state.proofs.Filters.{all_map}
+
+-- ---- counts
+
+pub counts_moved : (limit : Option ℕ) (n due : ℕ) (ps : List Pending) → All (λ p. over_limit p.count limit ≡ false) ps → All (λ p. over_limit p.count limit ≡ false) (map (moved n due) ps)
+counts_moved limit n due ps h = all_map (λ (p : Pending). over_limit p.count limit ≡ false) (moved n due) (λ p k. go p (p.seq == n) k) ps h
+  where
+    go : (p : Pending) (b : Bool) → over_limit p.count limit ≡ false → over_limit (cond b (record p { due = due }) p).count limit ≡ false
+    go p true k = k
+    go p false k = k
+
+-- ---- overflows
+
+over_step : (most : ℕ) (ns : List ℕ) → last_of most (cond (nat_lt most (length ns)) (rest_of ns) ns) ≡ last_of most ns
+over_step most [] = go (nat_lt most 0)
+  where
+    go : (b : Bool) → last_of most (cond b [] []) ≡ last_of {ℕ} most []
+    go true = refl
+    go false = refl
+over_step most (n ∷ ns) = go (nat_lt most (suc (length ns))) refl
+  where
+    go : (b : Bool) → nat_lt most (suc (length ns)) ≡ b → last_of most (cond b ns (n ∷ ns)) ≡ last_of most (n ∷ ns)
+    go true e = let l : most < suc (length ns) = ltb-true most (suc (length ns)) e in
+        let k : suc (length ns) - most ≡ suc (length ns - most) = omega arith in
+        sym (ap (λ i. drop i (n ∷ ns)) k)
+    go false e = refl
+
+over_end : (most : ℕ) (ns : List ℕ) → cond (nat_lt most (length ns)) (first_of ns) None ≡ None → last_of most ns ≡ ns
+over_end most [] e = drop-nil (0 - most)
+  where
+    drop-nil : (k : ℕ) → drop {ℕ} k [] ≡ []
+    drop-nil zero = refl
+    drop-nil (suc k) = refl
+over_end most (n ∷ ns) e = go (nat_lt most (suc (length ns))) refl e
+  where
+    go : (b : Bool) → nat_lt most (suc (length ns)) ≡ b → cond b (Some n) None ≡ None → last_of most (n ∷ ns) ≡ n ∷ ns
+    go true k f = absurd (none_some (sym f))
+    go false k f = let l : suc (length ns) ≤ most = ltb-false most (suc (length ns)) k in
+        let z : suc (length ns) - most ≡ 0 = omega arith in
+        ap (λ i. drop i (n ∷ ns)) z
+
+pub overflow_same : (c : Consumer) → within_overflow (without_overflow c) ≡ within_overflow c
+overflow_same c = ap (λ (ns : List ℕ). record c { given_up = ns }) (over_step 65536 c.given_up)
+
+pub overflow_ends : (c : Consumer) → overflow_of c ≡ None → within_overflow c ≡ c
+overflow_ends c e = ap (λ (ns : List ℕ). record c { given_up = ns }) (over_end 65536 c.given_up e)
