@@ -36,7 +36,7 @@ is_someone Asked = true
 is_someone TooSmall = true
 is_someone Nobody = false
 
-abbrev is_too_small : Demand → Bool
+abbrev pub is_too_small : Demand → Bool
 is_too_small Asked = false
 is_too_small TooSmall = true
 is_too_small Nobody = false

@@ -1,14 +1,20 @@
 -- What is kept of a consumer stays so.
-use Rattle.std.proofs.Common.{◌≡◌, ℕ, zero, suc, ◌+◌, ◌-◌, ◌<◌, ◌≤◌, Bool, true, false, ◌&&◌, not, cond, List, [], ◌∷◌, length, drop, map, refl, sym, ap, ◌∙◌, arith}
-use Rattle.std.specs.Prelude.{Option, Some, None, ◌==◌, nat_lt, All}
+use Rattle.std.proofs.Common.{◌≡◌, ℕ, zero, suc, ◌+◌, ◌-◌, ◌<◌, ◌≤◌, Bool, true, false, ◌&&◌, not, cond, List, [], ◌∷◌, length, drop, map, refl, sym, ap, ◌∙◌, subst, arith}
+use Rattle.std.specs.Prelude.{Option, Some, None, ◌==◌, ◌^◌, filter, nat_lt, All}
 use Rattle.std.proofs.lemmas.Bool.{ltb-true, ltb-false}
-use Rattle.js_base.specs.Bytes.{last_of}
+use Rattle.std.proofs.lemmas.List.Elements.{All-filter}
+use Rattle.js_base.specs.Bytes.{Bytes, is_empty, last_of}
 use Rattle.js_model.specs.declared.consumer.Consumer.{Consumer}
 use Rattle.js_model.specs.declared.consumer.Pending.{Pending}
+use Rattle.js_model.specs.declared.consumer_config.ConsumerConfig.{ConsumerConfig}
 use Rattle.js_model.specs.Streams.{over_limit}
 use Rattle.js_model.specs.Acknowledge.{moved}
 use Rattle.js_model.proofs.Named.{none_some}
 use Rattle.consumer_progress.specs.GivingUp.{first_of, rest_of}
+use Rattle.consumer_progress.specs.Ending.{EndsOneUpTo}
+use Rattle.consumer_progress.specs.Progresses.{Progress}
+use Rattle.pull_queue.specs.Queue.{Queue}
+use Rattle.consumer_state.specs.Keeping.{IsKept}
 use Rattle.consumer_state.specs.Passing.{has_overflow, overflow_of, within_overflow, without_overflow}
 use Rattle.consumer_state.proofs.Filters.{all_map}
 
@@ -23,10 +29,13 @@ counts_moved limit n due ps h = all_map (λ (p : Pending). over_limit p.count li
 
 -- ---- overflows
 
+abbrev nobody : List ℕ
+nobody = []
+
 over_step : (most : ℕ) (ns : List ℕ) → last_of most (cond (nat_lt most (length ns)) (rest_of ns) ns) ≡ last_of most ns
 over_step most [] = go (nat_lt most 0)
   where
-    go : (b : Bool) → last_of most (cond b [] []) ≡ last_of {ℕ} most []
+    go : (b : Bool) → last_of most (cond b nobody nobody) ≡ last_of most nobody
     go true = refl
     go false = refl
 over_step most (n ∷ ns) = go (nat_lt most (suc (length ns))) refl
@@ -40,7 +49,7 @@ over_step most (n ∷ ns) = go (nat_lt most (suc (length ns))) refl
 over_end : (most : ℕ) (ns : List ℕ) → cond (nat_lt most (length ns)) (first_of ns) None ≡ None → last_of most ns ≡ ns
 over_end most [] e = drop-nil (0 - most)
   where
-    drop-nil : (k : ℕ) → drop {ℕ} k [] ≡ []
+    drop-nil : (k : ℕ) → drop k nobody ≡ nobody
     drop-nil zero = refl
     drop-nil (suc k) = refl
 over_end most (n ∷ ns) e = go (nat_lt most (suc (length ns))) refl e
@@ -56,3 +65,47 @@ overflow_same c = ap (λ (ns : List ℕ). record c { given_up = ns }) (over_step
 
 pub overflow_ends : (c : Consumer) → overflow_of c ≡ None → within_overflow c ≡ c
 overflow_ends c e = ap (λ (ns : List ℕ). record c { given_up = ns }) (over_end 65536 c.given_up e)
+
+-- ---- a consumer of other parts
+
+module _ (name : Bytes) (made : ℕ) (config : ConsumerConfig) (p : Progress) (q : Queue) (mark : ℕ) (h : IsKept name made config p q mark) where
+  -- some deliveries are gone
+  pub kept_less : (t : Pending → Bool) (p' : Progress) (mark' : ℕ) → p'.pending ≡ filter t p.pending → p'.dseq ≡ p.dseq → IsKept name made config p' q mark'
+  kept_less t p' mark' e d = record {
+    consumer = record {
+      once = h.consumer.once;
+      counts = subst (λ ps. All (λ x. over_limit x.count config.max_deliver ≡ false) ps) (sym e) (All-filter t (λ x. over_limit x.count config.max_deliver ≡ false) p.pending h.consumer.counts);
+      no_pulls = h.consumer.no_pulls;
+      dseq = subst (λ n. n < 2 ^ 62) (sym d) h.consumer.dseq;
+    };
+    max_waiting = h.max_waiting;
+  }
+
+  -- a delivery is due at another moment
+  pub kept_moved : (n due : ℕ) (p' : Progress) → p'.pending ≡ map (moved n due) p.pending → p'.dseq ≡ p.dseq → IsKept name made config p' q mark
+  kept_moved n due p' e d = record {
+    consumer = record {
+      once = h.consumer.once;
+      counts = subst (λ ps. All (λ x. over_limit x.count config.max_deliver ≡ false) ps) (sym e) (counts_moved config.max_deliver n due p.pending h.consumer.counts);
+      no_pulls = h.consumer.no_pulls;
+      dseq = subst (λ n. n < 2 ^ 62) (sym d) h.consumer.dseq;
+    };
+    max_waiting = h.max_waiting;
+  }
+
+  -- other pulls wait, and none of a push consumer
+  pub kept_pulls : (q' : Queue) (mark' : ℕ) → q'.max_waiting ≡ q.max_waiting → (not (is_empty config.deliver_subject) ≡ true → q.pulls ≡ [] → q'.pulls ≡ []) → IsKept name made config p q' mark'
+  kept_pulls q' mark' e f = record {
+    consumer = record {
+      once = h.consumer.once;
+      counts = h.consumer.counts;
+      no_pulls = λ push. f push (h.consumer.no_pulls push);
+      dseq = h.consumer.dseq;
+    };
+    max_waiting = e ∙ h.max_waiting;
+  }
+
+  -- an entry up to a sequence ended, or none did
+  pub kept_up_to : (seq : ℕ) (o : Option ℕ) (p' : Progress) → EndsOneUpTo seq p o p' → IsKept name made config p' q mark
+  kept_up_to seq None p' w = subst (λ (r : Progress). IsKept name made config r q mark) (sym w.1) h
+  kept_up_to seq (Some n) p' w = kept_less (λ x. not (x.seq == n)) p' mark (ap (λ r. r.pending) w.2) (ap (λ r. r.dseq) w.2)

@@ -42,7 +42,7 @@ same_kept t u [] f = refl
 same_kept t u (m ∷ ms) f =
     ap (λ b. cond b (m ∷ filter t ms) (filter t ms)) (f m here) ∙ ap (λ l. cond (u m) (m ∷ l) l) (same_kept t u ms (λ x i. f x (there i)))
 
-one_of : Bool → ℕ
+abbrev one_of : Bool → ℕ
 one_of true = 1
 one_of false = 0
 
@@ -55,7 +55,7 @@ others : (t : Message → Bool) (n low high : ℕ) (ms : List Message) → Ascen
 others t n low high ms h l = same_kept (λ x. t x && not (x.seq == n)) t ms (λ x i. let b = in_bounds (λ z. z.seq) low high x ms h i in let q : low ≤ x.seq = b.0 in other t n x (omega arith))
 
 counted : (t : Message → Bool) (low high : ℕ) (m : Message) (ms : List Message) → Ascending low high ms → IsIn m ms → length (filter (λ x. t x && not (x.seq == m.seq)) ms) + one_of (t m) ≡ length (filter t ms)
-unfolding one_of
+counted t low high m [] h i = elim i [ ]
 counted t low high m (y ∷ ys) h here =
     ap (λ b. length (cond b (m ∷ filter (λ x. t x && not (x.seq == m.seq)) ys) (filter (λ x. t x && not (x.seq == m.seq)) ys)) + one_of (t m)) (ap (λ b. t m && not b) (eq-eqb m.seq m.seq refl) ∙ and_false (t m))
     ∙ ap (λ l. length l + one_of (t m)) (others t m.seq (m.seq + 1) high ys h.1 (omega arith))
@@ -95,6 +95,7 @@ in_take t ms m i = go (find t ms) refl
   where
     one : (x : Message) → IsIn m (x ∷ []) → x ≡ m
     one x here = refl
+    one x (there i) = elim i [ ]
 
     go : (o : Option Message) → find t ms ≡ o → o ≡ Some m
     go None e = elim (subst (λ l. IsIn m l) (take_none t ms e) i) [ ]
@@ -168,6 +169,7 @@ has_other n i (k ∷ ks) d = go (k == n) refl (has_other n i ks d)
     go false e h = ap (λ b. (k == i) || b) h
 
 fails_before : (t : Message → Bool) (low high : ℕ) (m x : Message) (ms : List Message) → Ascending low high ms → find t ms ≡ Some m → IsIn x ms → x.seq < m.seq → t x ≡ false
+fails_before t low high m x [] h e i l = elim i [ ]
 fails_before t low high m x (y ∷ ys) h e here l = go (t x) refl e
   where
     go : (b : Bool) → t x ≡ b → cond b (Some x) (find t ys) ≡ Some m → t x ≡ false
@@ -227,7 +229,6 @@ left_is now a c m order i placed =
     rest = length (filter (λ x. waits c x && not (x.seq == m.seq)) a.messages)
 
     go : (b : Bool) → rest + one_of b ≡ pending_count a c → rest ≡ cond b (pending_count a c - 1) (pending_count a c)
-    unfolding one_of
     go true e = omega arith
     go false e = omega arith
 
@@ -259,7 +260,7 @@ module _ (a : Stream) (c : Consumer) (m : Message) (kept : IsConsumer c) (progre
   not_spent (again e) =
       let w = find_one (λ (p : Pending). p.seq) (is_due a.moment c) m.seq 0 c.cursor c.pending progress.pending e in
       let k : find (λ (p : Pending). p.seq == m.seq) c.pending ≡ Some w.0 = w.1 in
-      rw k (and_parts _ _ w.2.0).1
+      rw k (and_parts _ _ w.2).1
   not_spent (picked pick rest e q w) =
       once (count_none c m.seq (progress.picks_pending.apart m.seq (ap (λ ns. has ns m.seq) e ∙ ap (λ b. b || has rest m.seq) (eq-eqb pick m.seq (sym q)))))
   not_spent (onward e t l w) = once (count_none c m.seq (has_not c.cursor m.seq (pending_seqs c) (between_map (λ n. n) (λ (q : Pending). q.seq) 0 c.cursor c.pending progress.pending) l))

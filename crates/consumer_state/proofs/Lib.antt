@@ -4,3 +4,6 @@ pub mod Endings
 pub mod Offers
 pub mod Lefts
 pub mod Deliveries
+pub mod Steps
+pub mod KeptSent
+pub mod Configs

@@ -13,7 +13,7 @@ use Rattle.js_model.specs.declared.consumer.Pull.{Pull}
 use Rattle.js_model.specs.Counts.{pending_count}
 use Rattle.js_model.specs.Deliver.{candidates, due_messages, is_due, is_listened, may_wait, next_message, or_next}
 use Rattle.js_model.specs.Ready.{is_ready, is_ready_with}
-use Rattle.js_model.specs.Streams.{is_push, seqs, takes}
+use Rattle.js_model.specs.Streams.{is_push, passes_filter, seqs, takes}
 use Rattle.js_model.proofs.Members.{IsIn, all_in, any_in, found_in}
 use Rattle.js_model.proofs.Named.{none_some, some_is}
 use Rattle.consumer_progress.specs.GivingUp.{first_of}
@@ -157,6 +157,19 @@ module _ (a : Stream) (c : Consumer) (waits : may_wait c ≡ true) where
         nil_of [] k = refl
         nil_of (m ∷ ms) k = absurd (omega arith)
 
+-- ---- what calls told
+
+pub due_told : (a : Stream) (v s : Consumer) (now : ℕ) (o : Option ℕ) → v ≡ s → now ≡ a.moment → o ≡ option_map (λ p. p.seq) (find (is_due now v) v.pending) → o ≡ option_map (λ p. p.seq) (find (is_due a.moment s) s.pending)
+due_told a v s now o k n e = e ∙ ap (λ n. option_map (λ p. p.seq) (find (is_due n v) v.pending)) n ∙ ap (λ c. option_map (λ p. p.seq) (find (is_due a.moment c) c.pending)) k
+
+pub taken_told : (a : Stream) (v s : Consumer) (pattern : Bytes) (from : ℕ) (o : Option ℕ) → v ≡ s → pattern ≡ v.config.filter_subject → from ≡ v.cursor
+    → o ≡ option_map (λ m. m.seq) (find (λ m. passes_filter pattern m.subject && nat_le from m.seq) a.messages) → o ≡ option_map (λ m. m.seq) (find (λ m. takes s m && nat_le s.cursor m.seq) a.messages)
+taken_told a v s pattern from o k p f e =
+    e
+    ∙ ap (λ t. option_map (λ m. m.seq) (find (λ m. passes_filter t m.subject && nat_le from m.seq) a.messages)) p
+    ∙ ap (λ n. option_map (λ m. m.seq) (find (λ m. passes_filter v.config.filter_subject m.subject && nat_le n m.seq) a.messages)) f
+    ∙ ap (λ c. option_map (λ m. m.seq) (find (λ m. takes c m && nat_le c.cursor m.seq) a.messages)) k
+
 -- ---- readiness
 
 pub hasty : (xs : List Pull) → is_some (find (λ p. p.no_wait) xs) ≡ list_any (λ p. p.no_wait) xs
@@ -211,3 +224,26 @@ ready_is a c listened o offer unpulled listening heard = at o (candidates a c) r
         ∙ and_true (is_asked listened c)
         ∙ asked (is_push c) refl
         ∙ sym (ap (λ l. is_ready_with l listening c) e)
+
+some_offer : (a : Stream) (c : Consumer) → (o : Option ℕ) × IsOffer a c o
+some_offer a c = go (candidates a c) refl
+  where
+    go : (ms : List Message) → candidates a c ≡ ms → (o : Option ℕ) × IsOffer a c o
+    go [] e = (None, e)
+    go (m ∷ ms) e = (Some m.seq, ap (λ l. has (seqs l) m.seq) e ∙ ap (λ b. b || has (seqs ms) m.seq) (eq-eqb m.seq m.seq refl))
+
+pub ready_hasty : (a : Stream) (c : Consumer) (listened : Bool) → true ≡ is_asked listened c → true ≡ is_some (find (λ p. p.no_wait) c.waiting) → (is_push c ≡ true → c.waiting ≡ []) → IsReady a listened c true
+ready_hasty a c listened asked has_one unpulled listening heard =
+    let w = some_offer a c in
+    ap (λ b. true && (b || is_some w.0)) has_one
+    ∙ ap (λ b. b && (is_some (find (λ p. p.no_wait) c.waiting) || is_some w.0)) asked
+    ∙ ready_is a c listened w.0 w.1 unpulled listening heard
+
+pub ready_offered : (a : Stream) (c : Consumer) (listened : Bool) (o : Option ℕ) → IsOffer a c o → true ≡ is_asked listened c → false ≡ is_some (find (λ p. p.no_wait) c.waiting) → (is_push c ≡ true → c.waiting ≡ []) → IsReady a listened c (is_some o)
+ready_offered a c listened o offer asked has_none unpulled listening heard =
+    ap (λ b. true && (b || is_some o)) has_none
+    ∙ ap (λ b. b && (is_some (find (λ p. p.no_wait) c.waiting) || is_some o)) asked
+    ∙ ready_is a c listened o offer unpulled listening heard
+
+pub unpulled_is : (v s : Consumer) → v ≡ s → (is_push v ≡ true → v.waiting ≡ []) → is_push s ≡ true → s.waiting ≡ []
+unpulled_is v s e f push = sym (ap (λ c. c.waiting) e) ∙ f (ap is_push e ∙ push)

@@ -93,11 +93,10 @@ impl Consumer {
     fn end(&mut self, seq: u64) -> Option<u64>
         ensures value { EndsBy (λ n. n == seq) self.old result self.new }
     {
-        if self.progress.end(seq) {
-            Some(seq)
-        } else {
-            None
+        if !self.progress.end(seq) {
+            return None;
         }
+        Some(seq)
     }
 
     /// Whether the sequence was not delivered yet, or deliveries wait for no acknowledgement.

@@ -10,8 +10,8 @@ loop-seq-init g c = record { ahead = sym (ap (option_map (λ m. m.seq)) (all_fro
 pub returns-in_err-head : goal.returns-in_err-head
 returns-in_err-head g c = record { value = c.from_residual.ensures ∙ sym (ends_unseen (λ m. nat_le c.args.at m.at) (g.W.View.stream c.args.stream.now) (option_map (λ m. m.seq) (find (λ m. nat_le c.args.at m.at) (g.W.View.stream c.args.stream.now).messages)) c.loop-seq.seq c.loop-seq.invariant c.in_err-head.ensures.value) }
 
-pub returns-then-at-at : goal.returns-then-at-at
-returns-then-at-at g c = record { value = sym (stops (λ m. nat_le c.args.at m.at) (g.W.View.stream c.args.stream.now) (option_map (λ m. m.seq) (find (λ m. nat_le c.args.at m.at) (g.W.View.stream c.args.stream.now).messages)) c.loop-seq.seq c.loop-seq.invariant (record { seq = c.head.inside.seq; at = c.head.inside.at; subject = c.head.inside.subject.now; size = c.head.inside.size }) (ap Some c.head.view_is ∙ c.in_ok-head.ensures.value) (by_moment c.args.at c.head.inside.at (record { seq = c.head.inside.seq; at = c.head.inside.at; subject = c.head.inside.subject.now; size = c.head.inside.size }) true refl (le-leb c.args.at c.head.inside.at (omega arith)))) }
+pub returns-then-as_nanos : goal.returns-then-as_nanos
+returns-then-as_nanos g c = record { value = sym (stops (λ m. nat_le c.args.at m.at) (g.W.View.stream c.args.stream.now) (option_map (λ m. m.seq) (find (λ m. nat_le c.args.at m.at) (g.W.View.stream c.args.stream.now).messages)) c.loop-seq.seq c.loop-seq.invariant (record { seq = c.head.inside.seq; at = c.head.inside.at; subject = c.head.inside.subject.now; size = c.head.inside.size }) (ap Some c.head.view_is ∙ c.in_ok-head.ensures.value) (by_moment c.args.at c.head.inside.at (record { seq = c.head.inside.seq; at = c.head.inside.at; subject = c.head.inside.subject.now; size = c.head.inside.size }) true refl (le-leb c.args.at c.head.inside.at (omega arith)))) }
 
 pub overflow_add-seq : goal.overflow_add-seq
 overflow_add-seq g c =
