@@ -4,6 +4,7 @@ pub mod Apartness
 pub mod Keys
 pub mod Naming
 pub mod Placing
+pub mod Finding
 pub mod Catalogs
 pub mod Using
 pub mod Scripts

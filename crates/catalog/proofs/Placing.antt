@@ -1,23 +1,17 @@
 -- The index follows the lists of the places.
-use Rattle.std.proofs.Common.{◌≡◌, ◌≢◌, ℕ, zero, suc, ◌+◌, ◌*◌, ◌%◌, ◌^◌, ◌<◌, ◌≤◌, ◌==◌, ◌||◌, ◌⊎◌, not, Bool, true, false, cond, List, [], ◌∷◌, ◌++◌, length, map, filter, get_or, Option, None, Some, refl, sym, ap, subst, ◌∙◌, inl, inr, arith, eq-eqb}
-use Rattle.std.specs.Prelude.{option_map}
-use Rattle.std.specs.List.{list_any}
+use Rattle.std.proofs.Common.{◌≡◌, ◌≢◌, ℕ, zero, suc, ◌+◌, ◌*◌, ◌%◌, ◌^◌, ◌<◌, ◌≤◌, ◌==◌, ◌||◌, ◌⊎◌, not, Bool, true, false, cond, List, [], ◌∷◌, ◌++◌, length, filter, get_or, Some, refl, sym, ap, subst, ◌∙◌, inl, inr, arith, eq-eqb}
 use Rattle.std.proofs.Math.ListN.{set}
 use Rattle.std.proofs.lemmas.Bool.{ne_eqb, eqb-true}
 use Rattle.std.proofs.lemmas.Bool.Decides.{eqb_tells}
 use Rattle.std.proofs.lemmas.List.Elements.{filter-append}
-use Rattle.std.proofs.lemmas.List.Folds.{list_any-append}
 use Rattle.js_base.specs.Bytes.{Bytes, has}
-use Rattle.js_base.specs.Subjects.{tokens, matches}
 use Rattle.route_index.specs.declared.sub.Sub.{Sub}
-use Rattle.route_index.specs.Subs.{IsAbove, id_of, is_match, matching_ids}
-use Rattle.js_model.specs.Catalog.{if_used, takes_subject, first_place, place_for, list_or_none}
+use Rattle.route_index.specs.Subs.{IsAbove}
 use Rattle.catalog.specs.declared.listing.Listing.{Listing}
 use Rattle.catalog.specs.declared.entry.Listed.{Listed}
-use Rattle.catalog.specs.declared.entry.Stream.{Stream}
 use Rattle.catalog.specs.declared.entry.Entry.{Entry}
 use Rattle.catalog.specs.Numbers.{numbers, numbered, is_of, subs_of_place, without_numbers, IsEarlier, IsPut}
-use Rattle.catalog.specs.Entries.{used_of, place_of, subjects_of, lists_of, lists_at, lists_of_used, second_list, subs_of_lists, without_lists, HaveRoom, LeavesList}
+use Rattle.catalog.specs.Entries.{lists_of, lists_at, subs_of_lists, without_lists, HaveRoom, LeavesList}
 use Rattle.catalog.specs.Holding.{ArePlaced, ListsPlaces}
 use Rattle.catalog.proofs.Numbering.{AreOutside, after_outside, before_outside, inside, outside_stays, inside_goes, without_append, above_put}
 
@@ -124,7 +118,7 @@ earlier_without old new ids h e f =
 
 -- ---- lists of one place
 
-append_none : {X : Type 0} (xs : List X) → xs ++ [] ≡ xs
+pub append_none : {X : Type 0} (xs : List X) → xs ++ [] ≡ xs
 append_none [] = refl
 append_none (x ∷ xs) = ap (λ more. x ∷ more) (append_none xs)
 
@@ -361,58 +355,3 @@ lists_gone old new es es' k ls lists is index rounds here differs = record {
         let P : ℕ → Type 0 = λ m. ArePlaced m 0 (old.rounds * 32 + m) (lists_at es' m) in
         let Q : List Listed → Type 0 = λ xs. ArePlaced k 0 (old.rounds * 32 + k) xs in subst P (sym e.1) (subst Q (sym here) tt)
     placed_at n (inr e) = let P : List Listed → Type 0 = λ xs. ArePlaced n 0 (old.rounds * 32 + n) xs in subst P (sym (differs.others n e.1)) (lists.placed n)
-
--- ---- finding
-
--- a place has a number that matches just where one of its subjects matches
-any_number : (n : ℕ) (subject : Bytes) (subs : List Sub) → list_any (is_of n) (matching_ids subject subs) ≡ list_any (is_match subject) (subs_of_place n subs)
-any_number n subject [] = refl
-any_number n subject (s ∷ subs) = go (is_match subject s) (is_of n s.id) refl refl (any_number n subject subs)
-  where
-    go : (a b : Bool) → is_match subject s ≡ a → is_of n s.id ≡ b → list_any (is_of n) (matching_ids subject subs) ≡ list_any (is_match subject) (subs_of_place n subs)
-        → list_any (is_of n) (map id_of (cond a (s ∷ filter (is_match subject) subs) (filter (is_match subject) subs))) ≡ list_any (is_match subject) (cond b (s ∷ subs_of_place n subs) (subs_of_place n subs))
-    go true true e f h = ap (λ b. b || list_any (is_of n) (matching_ids subject subs)) f ∙ sym (ap (λ b. b || list_any (is_match subject) (subs_of_place n subs)) e)
-    go true false e f h = ap (λ b. b || list_any (is_of n) (matching_ids subject subs)) f ∙ h
-    go false true e f h = h ∙ sym (ap (λ b. b || list_any (is_match subject) (subs_of_place n subs)) e)
-    go false false e f h = h
-
-abbrev takes_list : Bytes → List Bytes → Bool
-takes_list subject xs = list_any (λ pattern. matches (tokens pattern) (tokens subject)) xs
-
-any_numbered : (subject : Bytes) (f : ℕ) (xs : List Bytes) → list_any (is_match subject) (numbered f xs) ≡ takes_list subject xs
-any_numbered subject f [] = refl
-any_numbered subject f (x ∷ xs) = ap (λ b. matches (tokens x) (tokens subject) || b) (any_numbered subject (f + 32) xs)
-
-any_second : (subject : Bytes) (o : Option Listed) → list_any (is_match subject) (subs_of_lists (second_list o)) ≡ takes_list subject (list_or_none (option_map subjects_of o))
-any_second subject None = refl
-any_second subject (Some l) = ap (list_any (is_match subject)) (append_none (numbered l.first l.subjects)) ∙ any_numbered subject l.first l.subjects
-
-any_used : (subject : Bytes) (e : Entry) (o : Option Stream) → list_any (is_match subject) (subs_of_lists (lists_of_used o)) ≡ if_used (takes_subject subject) (option_map used_of o)
-any_used subject e None = refl
-any_used subject e (Some s) =
-    list_any-append (is_match subject) (numbered s.current.first s.current.subjects) (subs_of_lists (second_list s.replacing))
-    ∙ ap (λ b. b || list_any (is_match subject) (subs_of_lists (second_list s.replacing))) (any_numbered subject s.current.first s.current.subjects)
-    ∙ ap (λ b. takes_list subject s.current.subjects || b) (any_second subject s.replacing)
-    ∙ sym (list_any-append (λ pattern. matches (tokens pattern) (tokens subject)) s.current.subjects (list_or_none (option_map subjects_of s.replacing)))
-
--- the first place that has a number is the first whose stream takes the subject
-found_from : (ids : List ℕ) (subject : Bytes) (es : List Entry) (n : ℕ) → ((i : ℕ) → list_any (is_of (n + i)) ids ≡ list_any (is_match subject) (subs_of_lists (lists_at es i)))
-    → first_place (λ n p. list_any (is_of n) ids) n (map place_of es) ≡ first_place (λ n p. if_used (takes_subject subject) p.used) n (map place_of es)
-found_from ids subject [] n h = refl
-found_from ids subject (e ∷ es) n h =
-    ap (λ b. cond b (Some (record { place = n; incarnation = e.incarnation })) (first_place (λ n p. list_any (is_of n) ids) (n + 1) (map place_of es))) (here ∙ any_used subject e e.used)
-    ∙ ap (λ o. cond (if_used (takes_subject subject) (option_map used_of e.used)) (Some (record { place = n; incarnation = e.incarnation })) o) (found_from ids subject es (n + 1) next)
-  where
-    here : list_any (is_of n) ids ≡ list_any (is_match subject) (subs_of_lists (lists_of_used e.used))
-    here = let at : n ≡ n + 0 = omega arith in ap (λ m. list_any (is_of m) ids) at ∙ h 0
-
-    next : (i : ℕ) → list_any (is_of (n + 1 + i)) ids ≡ list_any (is_match subject) (subs_of_lists (lists_at es i))
-    next i = let at : n + 1 + i ≡ n + suc i = omega arith in ap (λ m. list_any (is_of m) ids) at ∙ h (suc i)
-
-pub found_by_numbers : (listing : Listing) (es : List Entry) (subject : Bytes) → ListsPlaces listing es
-    → first_place (λ n p. list_any (is_of n) (matching_ids subject listing.index)) 0 (map place_of es) ≡ place_for subject (map place_of es)
-found_by_numbers listing es subject lists =
-    found_from (matching_ids subject listing.index) subject es 0 (λ i. start i ∙ any_number i subject listing.index ∙ ap (list_any (is_match subject)) (lists.at i))
-  where
-    start : (i : ℕ) → list_any (is_of (0 + i)) (matching_ids subject listing.index) ≡ list_any (is_of i) (matching_ids subject listing.index)
-    start i = let at : 0 + i ≡ i = omega arith in ap (λ m. list_any (is_of m) (matching_ids subject listing.index)) at

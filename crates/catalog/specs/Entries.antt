@@ -1,8 +1,9 @@
 -- What the entries of the catalog stand for, and what the index knows of them.
-use Rattle.std.specs.Prelude.{◌≡◌, ◌⊎◌, ℕ, zero, suc, ◌+◌, ◌*◌, ◌<◌, ◌^◌, ◌==◌, List, [], ◌∷◌, ◌++◌, Bool, true, not, length, Option, None, Some, option_map, Result, Ok, Err}
+use Rattle.std.specs.Prelude.{◌≡◌, ◌⊎◌, ℕ, zero, suc, ◌+◌, ◌*◌, ◌%◌, ◌<◌, ◌^◌, ◌==◌, List, [], ◌∷◌, ◌++◌, Bool, true, not, length, Option, None, Some, option_map, Result, Ok, Err}
 use Rattle.std.specs.List.{list_any}
 use Rattle.js_base.specs.Bytes.{Bytes}
 use Rattle.route_index.specs.declared.sub.Sub.{Sub}
+use Rattle.route_index.specs.Subs.{overlapping_ids}
 use Rattle.js_model.specs.declared.desk.PlaceAt.{PlaceAt}
 use Rattle.js_model.specs.declared.catalog_fault.CatalogFault.{CatalogFault}
 use Rattle.js_model.specs.declared.catalog_fault.CatalogFault.TheVariants as faults
@@ -89,6 +90,14 @@ accepts Free n place = not (is_used place)
 abbrev pub is_other : Option ℕ → ℕ → Bool
 is_other None n = true
 is_other (Some own) n = not (n == own)
+
+-- the number is one of such a place
+abbrev pub is_of_other : Option ℕ → ℕ → Bool
+is_of_other own id = is_other own (id % 32)
+
+-- by what the index knows, the subject meets one of such a place
+abbrev pub meets_other : Option ℕ → List Sub → Bytes → Bool
+meets_other own subs subject = list_any (is_of_other own) (overlapping_ids subject subs)
 
 -- ---- a check
 

@@ -108,7 +108,7 @@ impl Catalog {
     }
 
     /// Gives the stream the lowest place that is free. It is refused where its name is there, where one of its subjects meets one of
-    /// another stream, and where no place is free, in this order. An `Err` changes nothing. It looks at the subjects of all streams.
+    /// another stream, and where no place is free, in this order. An `Err` changes nothing.
     pub fn add(&mut self, name: Name, subjects: &[Blob]) -> Result<PlaceAt, CatalogFault>
         ensures added { IsCatalogCall self.old (Add name subjects.now) (add_told result) self.new }
         ensures err { OnErr result (self.new ≡ self.old) }
@@ -124,13 +124,13 @@ impl Catalog {
     }
 
     /// Puts the new subjects of a stream beside its old ones. It is refused where one of them meets one of another stream. At a stopped
-    /// place the subjects stay as they are. An `Err` changes nothing. It looks at the subjects of all streams.
+    /// place the subjects stay as they are. An `Err` changes nothing.
     pub fn change(&mut self, place: u32, subjects: &[Blob]) -> Result<(), CatalogFault>
         requires single { HasPlace self.old place MayChange }
         ensures changed { IsCatalogCall self.old (Change place subjects.now) (change_told result) self.new }
         ensures err { OnErr result (self.new ≡ self.old) }
     {
-        if overlaps_some(self.entries.as_slice(), Some(place), subjects) {
+        if self.overlaps_some(Some(place), subjects)? {
             return Err(CatalogFault::Refused(subjects_overlap(self.alloc)?));
         }
         if !self.entries[place as usize].is_open() {
@@ -195,17 +195,23 @@ impl Catalog {
         ensures checked { ChecksAdd self.now name.now subjects.now result }
         ensures within { IfOk result (λ free. free.place < length self.now) }
     {
-        let entries = self.entries.as_slice();
         if self.named(name).is_some() {
             return Err(CatalogFault::Refused(other_config(self.alloc)?));
         }
-        if overlaps_some(entries, None, subjects) {
+        if self.overlaps_some(None, subjects)? {
             return Err(CatalogFault::Refused(subjects_overlap(self.alloc)?));
         }
-        match first_place(entries, Sought::Free) {
+        match first_place(self.entries.as_slice(), Sought::Free) {
             Some(free) => Ok(free),
             None => Err(CatalogFault::Refused(no_free_place(self.alloc)?)),
         }
+    }
+
+    /// Whether one of the subjects meets one of a stream at a place other than their own.
+    fn overlaps_some(&self, own: Option<u32>, subjects: &[Blob]) -> Result<bool, NoMemory>
+        ensures value { IfOk result (λ overlap. overlap ≡ overlaps_at (is_other own) subjects.now 0 self.now) }
+    {
+        self.listing.overlaps(own, subjects)
     }
 
     /// Gives a free place to a stream that is apart from the others. An `Err` changes nothing.
@@ -322,27 +328,4 @@ fn first_place(entries: &[Entry], sought: Sought<'_>) -> Option<PlaceAt>
         }
     }
     None
-}
-
-/// Whether the place of the number is another one than a stream's own, where it has a place already.
-fn is_other(own: Option<u32>, number: u32) -> bool
-    ensures value { result ≡ is_other own number }
-{
-    match own {
-        Some(own) => number != own,
-        None => true,
-    }
-}
-
-/// Whether a subject meets one of a stream at a place other than its own.
-fn overlaps_some(entries: &[Entry], own: Option<u32>, subjects: &[Blob]) -> bool
-    requires few { length entries.now ≤ 32 }
-    ensures value { result ≡ overlaps_at (is_other own) subjects.now 0 (map place_of entries.now) }
-{
-    for (number, entry) in entries.iter().enumerate() {
-        if is_other(own, number as u32) && entry.meets(subjects) {
-            return true;
-        }
-    }
-    false
 }

@@ -2,7 +2,7 @@
 
 ghost use Rattle.std.specs.Prelude.{◌≡◌, ◌<◌, ◌^◌, true, [], ◌∷◌, ◌++◌, IsTrue, Some, None};
 ghost use Rattle.std.specs.List.{list_any};
-ghost use Rattle.js_model.specs.Catalog.{kept_stream, list_or_none, all_subjects, takes_subject, meets_used, meets_some, if_used, is_used, taken_by, on_used, changing, kept_list, keeping, freed, stopping};
+ghost use Rattle.js_model.specs.Catalog.{kept_stream, list_or_none, takes_subject, is_used, taken_by, on_used, changing, kept_list, keeping, freed, stopping};
 ghost use Rattle.js_model.specs.Cataloging.{MayChange};
 ghost use Rattle.js_base.specs.Subjects.{tokens, matches};
 ghost use Rattle.catalog.specs.Numbers.{is_of};
@@ -10,7 +10,7 @@ ghost use Rattle.catalog.specs.Entries.{subjects_of, used_of, place_of, lists_of
 
 use crate::listing::PLACES;
 use js_base::{Blob, List, Name};
-use subject_match::{matches, overlaps};
+use subject_match::matches;
 
 /// A list of subjects, which are patterns, and the number of the first one in the index. Those of the others follow, 32 apart.
 #[derive(Drop, Debug)]
@@ -58,15 +58,6 @@ fn takes(patterns: &[Blob], subject: &[u8]) -> bool
         .any(|pattern| matches(pattern.as_slice(), subject))
 }
 
-/// Whether the subject meets one of the others.
-fn meets_some(others: &[Blob], subject: &[u8]) -> bool
-    ensures value { result ≡ meets_some others.now subject.now }
-{
-    others
-        .iter()
-        .any(|other| overlaps(subject, other.as_slice()))
-}
-
 /// Whether one of the numbers is one of this place.
 fn has_number_of(ids: &[u64], place: u32) -> bool
     ensures value { result ≡ list_any (is_of place) ids.now }
@@ -105,23 +96,6 @@ impl Stream {
         takes(self.current.subjects.as_slice(), subject) || takes(self.replacing(), subject)
     }
 
-    /// Whether the subject meets one of the stream's.
-    fn meets_one(&self, subject: &[u8]) -> bool
-        ensures value { result ≡ meets_some (all_subjects (used_of self.now)) subject.now }
-    {
-        meets_some(self.current.subjects.as_slice(), subject)
-            || meets_some(self.replacing(), subject)
-    }
-
-    /// Whether one of the subjects meets one of the stream's.
-    fn meets(&self, subjects: &[Blob]) -> bool
-        ensures value { result ≡ meets_used subjects.now (used_of self.now) }
-    {
-        subjects
-            .iter()
-            .any(|subject| self.meets_one(subject.as_slice()))
-    }
-
     /// Keeps the new subjects or the old ones, and gives the others back.
     fn keep_one(&mut self, listed: Listed, new: bool) -> Listed
         requires single { self.old.replacing ≡ None }
@@ -151,16 +125,6 @@ impl Stream {
 }
 
 impl Entry {
-    /// Whether one of the subjects meets one of the stream's, where there is one.
-    pub(crate) fn meets(&self, subjects: &[Blob]) -> bool
-        ensures value { result ≡ if_used (meets_used subjects.now) (place_of self.now).used }
-    {
-        match &self.used {
-            Some(stream) => stream.meets(subjects),
-            None => false,
-        }
-    }
-
     /// Whether it is one that is looked for, as the place of this number.
     pub(crate) fn fits(&self, number: u32, sought: Sought<'_>) -> bool
         ensures value { result ≡ accepts sought.entry number (place_of self.now) }

@@ -1,7 +1,9 @@
 //! The subjects of all places, under numbers in one index.
 
 ghost use Rattle.std.specs.Prelude.{◌≡◌, ◌<◌, ◌+◌, ◌*◌, ◌^◌, ◌++◌, [], ◌∷◌, length, IfOk, OnOk, OnErr};
+ghost use Rattle.std.specs.List.{list_any};
 ghost use Rattle.route_index.specs.Subs.{IsAbove};
+ghost use Rattle.catalog.specs.Entries.{is_other, is_of_other, meets_other};
 ghost use Rattle.catalog.specs.Numbers.{numbers, numbered, without_numbers, IsEarlier, IsPut};
 
 use js_base::{Blob, NoMemory};
@@ -55,6 +57,27 @@ impl Listing {
         }
     }
 
+    /// Whether one of the subjects meets one of a place other than their own, where they have a place already. The subjects of the others
+    /// that meet none cost a few steps in an ordered map.
+    pub(crate) fn overlaps(&self, own: Option<u32>, subjects: &[Blob]) -> Result<bool, NoMemory>
+        ensures value { IfOk result (λ overlap. overlap ≡ list_any (meets_other own self.now.index) subjects.now) }
+    {
+        for subject in subjects {
+            if self.meets_other(own, subject.as_slice())? {
+                return Ok(true);
+            }
+        }
+        Ok(false)
+    }
+
+    /// Whether the subject meets one of a place other than its own.
+    fn meets_other(&self, own: Option<u32>, subject: &[u8]) -> Result<bool, NoMemory>
+        ensures value { IfOk result (λ overlap. overlap ≡ meets_other own self.now.index subject.now) }
+    {
+        let ids = self.index.overlapping(subject)?;
+        Ok(has_number_of_other(ids.as_slice(), own))
+    }
+
     /// Lets go of the subjects under so many numbers of a place. It takes no memory.
     pub(crate) fn drop(&mut self, first: u64, count: usize)
         requires room { first + 32 * count < 2 ^ 64 }
@@ -62,6 +85,23 @@ impl Listing {
         ensures rounds { self.new.rounds ≡ self.old.rounds }
     {
         drop_all(&mut self.index, first, count);
+    }
+}
+
+/// Whether one of the numbers is one of a place other than its own.
+fn has_number_of_other(ids: &[u64], own: Option<u32>) -> bool
+    ensures value { result ≡ list_any (is_of_other own) ids.now }
+{
+    ids.iter().any(|id| is_other(own, (*id % PLACES) as u32))
+}
+
+/// Whether the place of the number is another one than a stream's own, where it has a place already.
+fn is_other(own: Option<u32>, number: u32) -> bool
+    ensures value { result ≡ is_other own number }
+{
+    match own {
+        Some(own) => number != own,
+        None => true,
     }
 }
 

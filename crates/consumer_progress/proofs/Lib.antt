@@ -1,0 +1,6 @@
+pub mod Seqs
+pub mod Filling
+pub mod Kept
+pub mod Sent
+pub mod GivenUp
+pub mod Least

@@ -1,8 +1,8 @@
 -- How sequences leave a consumer's progress, by JetStream's acknowledgements and the removal of messages.
-use Rattle.std.specs.Prelude.{◌≡◌, ℕ, ◌≤◌, nat_le, min, Bool, true, ◌==◌, ◌||◌, not, List, [], ◌∷◌, filter, map, Option, Some, None}
+use Rattle.std.specs.Prelude.{◌≡◌, ℕ, ◌≤◌, nat_le, min, Bool, true, ◌==◌, ◌||◌, not, filter, map, Option, Some, None}
 use Rattle.js_base.specs.Bytes.{has}
 use Rattle.js_model.specs.Acknowledge.{moved}
-use Rattle.consumer_progress.specs.Progresses.{Progress, seqs_of}
+use Rattle.consumer_progress.specs.Progresses.{Progress, first_of, seqs_of}
 
 -- the progress without the deliveries that ended
 abbrev pub ended : (ℕ → Bool) → Progress → Progress
@@ -15,12 +15,15 @@ ended ends p = record p {
 abbrev pub is_delivered : Progress → ℕ → Bool
 is_delivered p n = has (seqs_of p.pending) n || has p.given_up n
 
--- the least sequence of two ascending lists
-abbrev pub least_of : List ℕ → List ℕ → Option ℕ
-least_of [] [] = None
-least_of (m ∷ _) [] = Some m
-least_of [] (n ∷ _) = Some n
-least_of (m ∷ _) (n ∷ _) = Some (min m n)
+-- the lesser of two sequences, as far as they are there
+abbrev pub lesser : Option ℕ → Option ℕ → Option ℕ
+lesser None n = n
+lesser (Some m) None = Some m
+lesser (Some m) (Some n) = Some (min m n)
+
+-- the least sequence that was delivered and has not ended
+abbrev pub least_delivered : Progress → Option ℕ
+least_delivered p = lesser (first_of (seqs_of p.pending)) (first_of p.given_up)
 
 -- some delivery up to the sequence ended, or there is none
 abbrev pub EndsOneUpTo : ℕ → Progress → Option ℕ → Progress → Type 0

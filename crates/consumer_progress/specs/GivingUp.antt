@@ -1,9 +1,9 @@
--- Which deliveries are made again and which are given up, by JetStream's max_deliver. That the greatest 65,536 given up are kept is this server's own.
-use Rattle.std.specs.Prelude.{◌≡◌, ℕ, nat_le, nat_lt, Bool, true, ◌&&◌, not, if◌then◌else◌, List, [], ◌∷◌, All, filter, fold, length, map, Option, Some, None}
+-- Which deliveries are made again and which are given up, by JetStream's max_deliver. How many that are given up are kept is this server's own.
+use Rattle.std.specs.Prelude.{◌≡◌, ℕ, nat_le, nat_lt, Bool, true, ◌&&◌, not, if◌then◌else◌, List, [], ◌∷◌, All, filter, fold, length, Option, None}
 use Rattle.js_model.specs.declared.consumer.Pending.{Pending}
 use Rattle.js_model.specs.Streams.{below_limit, at_limit}
 use Rattle.js_model.specs.Advance.{placed}
-use Rattle.consumer_progress.specs.Progresses.{Progress, seqs_of}
+use Rattle.consumer_progress.specs.Progresses.{Progress, first_of, seqs_of}
 
 -- due at the moment, and delivered less often than it may be
 abbrev pub is_due : ℕ → Option ℕ → Pending → Bool
@@ -27,10 +27,6 @@ with_given_up now most p = record p {
 -- more are given up than are kept
 abbrev pub is_over : Progress → Bool
 is_over p = nat_lt 65536 (length p.given_up)
-
-abbrev pub first_of : List ℕ → Option ℕ
-first_of [] = None
-first_of (n ∷ ns) = Some n
 
 abbrev pub rest_of : List ℕ → List ℕ
 rest_of [] = []

@@ -1,5 +1,5 @@
 -- What lasts of a consumer's deliveries, by JetStream's consumers: their start, redelivery, acknowledgement and max_deliver.
-use Rattle.std.specs.Prelude.{ℕ, ◌+◌, ◌<◌, ◌≤◌, ◌^◌, Bool, ◌||◌, List, All, length, map}
+use Rattle.std.specs.Prelude.{ℕ, ◌+◌, ◌<◌, ◌≤◌, ◌^◌, Bool, ◌||◌, List, [], ◌∷◌, All, Option, Some, None, length, map}
 use Rattle.js_base.specs.Bytes.{has}
 use Rattle.js_model.specs.declared.consumer.Pending.{Pending}
 use Rattle.js_model.specs.declared.consumer.Consumer.{Consumer}
@@ -21,6 +21,15 @@ with_progress c p = record c { picks = p.picks; cursor = p.cursor; dseq = p.dseq
 
 abbrev pub seqs_of : List Pending → List ℕ
 seqs_of ps = map (λ p. p.seq) ps
+
+-- what the tables of a consumer show
+abbrev pub shown : (picks : List Pending) (cursor dseq : ℕ) (pending given_up : List Pending) → Progress
+shown picks cursor dseq pending given_up = record { picks = seqs_of picks; cursor = cursor; dseq = dseq; pending = pending; given_up = seqs_of given_up }
+
+-- the first of an ascending list is its least
+abbrev pub first_of : List ℕ → Option ℕ
+first_of [] = None
+first_of (n ∷ ns) = Some n
 
 -- the sequence is still to be delivered by itself, waits for its acknowledgement or is given up
 abbrev pub is_held : Progress → ℕ → Bool

@@ -1,21 +1,26 @@
 //! The progress of a consumer.
 
-ghost use Rattle.std.specs.Prelude.{◌≡◌, ℕ, ◌+◌, ◌-◌, ◌<◌, ◌≤◌, ◌^◌, ◌==◌, [], false, true, filter, find, length, nat_lt, IfOk, OnOk, OnErr};
+ghost use Rattle.std.specs.Prelude.{◌≡◌, ℕ, ◌+◌, ◌-◌, ◌<◌, ◌^◌, ◌==◌, [], None, false, true, filter, find, length, nat_lt, IfOk, OnOk, OnErr};
 ghost use Rattle.std.specs.Option.{option_map};
-ghost use Rattle.js_base.specs.Bytes.{has};
+ghost use Rattle.js_base.specs.Bytes.{has, last_of};
 ghost use Rattle.js_model.specs.Counts.{least};
 ghost use Rattle.js_model.specs.Lists.{Between};
-ghost use Rattle.consumer_progress.specs.Progresses.{progress_of, is_held, seqs_of, IsProgress};
+ghost use Rattle.consumer_progress.specs.Progresses.{first_of, progress_of, is_held, seqs_of, IsProgress};
 ghost use Rattle.consumer_progress.specs.Sending.{after_sent, count_in};
-ghost use Rattle.consumer_progress.specs.Ending.{ended, is_delivered, least_of, with_due, without, EndsOneUpTo};
-ghost use Rattle.consumer_progress.specs.GivingUp.{first_of, is_due, overflow_of, with_given_up, without_overflow, IsUnspent};
+ghost use Rattle.consumer_progress.specs.Ending.{ended, is_delivered, least_delivered, with_due, without, EndsOneUpTo};
+ghost use Rattle.consumer_progress.specs.GivingUp.{is_due, overflow_of, with_given_up, without_overflow, IsUnspent};
 
-use crate::tables::{count_in, put_delivery, table_of, table_with};
+use crate::tables::{
+    count_in, drop_seq, first_seq, has_seq, lesser, put_delivery, table_of, table_with,
+};
 use js_base::{Moment, NoMemory};
 use js_model::Consumer;
 use pending_table::PendingTable;
 use std::alloc::Global;
 use std::marker::Model;
+
+/// How many sequences that are given up are kept.
+const MOST_GIVEN_UP: u64 = 65_536;
 
 /// What of a consumer's deliveries lasts. The cost of a call grows with the logarithm of how many sequences there are, if no other is said.
 #[derive(Drop)]
@@ -28,28 +33,25 @@ pub struct ConsumerProgress {
 }
 
 impl Model for ConsumerProgress {
-    ghost use Rattle.consumer_progress.specs.Progresses.{seqs_of, IsProgress, Progress};
+    ghost use Rattle.consumer_progress.specs.Progresses.{shown, IsProgress, Progress};
 
     ghost Value = { Progress };
 
-    ghost view = { λ p. record { picks = seqs_of p.picks; cursor = p.cursor; dseq = p.dseq; pending = p.pending; given_up = seqs_of p.given_up } };
+    ghost view = { λ p. shown p.picks p.cursor p.dseq p.pending p.given_up };
 
-    ghost invariant = { λ p. IsProgress (record { picks = seqs_of p.picks; cursor = p.cursor; dseq = p.dseq; pending = p.pending; given_up = seqs_of p.given_up }) };
+    ghost invariant = { λ p. IsProgress (shown p.picks p.cursor p.dseq p.pending p.given_up) };
 }
 
 impl ConsumerProgress {
     /// Nothing was delivered: the picks, and all from the cursor on, are still to be.
-    pub fn start(
-        alloc: Global,
-        picks: &[u64],
-        cursor: u64,
-    ) -> Result<ConsumerProgress, NoMemory>
+    pub fn start(alloc: Global, picks: &[u64], cursor: u64) -> Result<ConsumerProgress, NoMemory>
         requires ascend { Between (λ n. n) 0 cursor picks.now }
         requires few { length picks.now < 2 ^ 32 }
         ensures value { IfOk result (λ p. p ≡ record { picks = picks.now; cursor = cursor; dseq = 0; pending = []; given_up = [] }) }
     {
+        let picks = table_of(alloc, picks)?;
         Ok(ConsumerProgress {
-            picks: table_of(alloc, picks)?,
+            picks,
             cursor,
             dseq: 0,
             pending: PendingTable::new(alloc),
@@ -62,12 +64,15 @@ impl ConsumerProgress {
         requires kept { IsProgress (progress_of kept.now) }
         ensures value { IfOk result (λ p. p ≡ progress_of kept.now) }
     {
+        let picks = table_of(alloc, kept.picks.as_slice())?;
+        let pending = table_with(alloc, kept.pending.as_slice())?;
+        let given_up = table_of(alloc, kept.given_up.as_slice())?;
         Ok(ConsumerProgress {
-            picks: table_of(alloc, kept.picks.as_slice())?,
+            picks,
             cursor: kept.cursor,
             dseq: kept.dseq,
-            pending: table_with(alloc, kept.pending.as_slice())?,
-            given_up: table_of(alloc, kept.given_up.as_slice())?,
+            pending,
+            given_up,
         })
     }
 
@@ -91,23 +96,21 @@ impl ConsumerProgress {
         ensures value { result ≡ first_of self.now.picks }
         ensures progress { IsProgress self.now }
     {
-        self.picks.first()
+        first_seq(&self.picks)
     }
 
     /// Whether the sequence is a pick.
     pub fn has_pick(&self, seq: u64) -> bool
         ensures value { result ≡ has self.now.picks seq }
     {
-        self.picks.get(seq).is_some()
+        has_seq(&self.picks, seq)
     }
 
     /// Whether the sequence is a pick, waits for its acknowledgement or is given up.
     pub fn is_held(&self, seq: u64) -> bool
         ensures value { result ≡ is_held self.now seq }
     {
-        self.picks.get(seq).is_some()
-            || self.pending.get(seq).is_some()
-            || self.given_up.get(seq).is_some()
+        has_seq(&self.picks, seq) || has_seq(&self.pending, seq) || has_seq(&self.given_up, seq)
     }
 
     /// How many deliveries wait for their acknowledgement.
@@ -135,13 +138,10 @@ impl ConsumerProgress {
 
     /// The least sequence that waits or is given up.
     fn least_delivered(&self) -> Option<u64>
-        ensures value { result ≡ least_of (seqs_of self.now.pending) self.now.given_up }
+        ensures value { result ≡ least_delivered self.now }
+        ensures progress { IsProgress self.now }
     {
-        match (self.pending.first(), self.given_up.first()) {
-            (Some(waits), Some(given_up)) => Some(waits.min(given_up)),
-            (Some(waits), None) => Some(waits),
-            (None, given_up) => given_up,
-        }
+        lesser(first_seq(&self.pending), first_seq(&self.given_up))
     }
 
     /// How often the sequence was delivered, 0 if it does not wait.
@@ -170,7 +170,7 @@ impl ConsumerProgress {
         ensures err { OnErr result (self.new ≡ self.old) }
     {
         put_delivery(&mut self.pending, self.given_up.len(), seq, due)?;
-        self.picks.ack(seq);
+        drop_seq(&mut self.picks, seq);
         self.cursor = self.cursor.max(seq + 1);
         self.dseq += 1;
         Ok(())
@@ -181,8 +181,8 @@ impl ConsumerProgress {
         ensures was { result ≡ is_delivered self.old seq }
         ensures value { self.new ≡ ended (λ n. n == seq) self.old }
     {
-        let waited = self.pending.ack(seq);
-        let given_up = self.given_up.ack(seq);
+        let waited = drop_seq(&mut self.pending, seq);
+        let given_up = drop_seq(&mut self.given_up, seq);
         waited || given_up
     }
 
@@ -205,13 +205,13 @@ impl ConsumerProgress {
         self.pending.set_due(seq, due);
     }
 
-    /// Forgets the sequence, whose message is gone. It takes no memory.
-    pub fn forget(&mut self, seq: u64)
-        ensures value { self.new ≡ without seq self.old }
+    /// Forgets a sequence whose message is gone. It takes no memory.
+    pub fn forget(&mut self, gone: u64)
+        ensures value { self.new ≡ without gone self.old }
     {
-        self.picks.ack(seq);
-        self.pending.ack(seq);
-        self.given_up.ack(seq);
+        drop_seq(&mut self.picks, gone);
+        drop_seq(&mut self.pending, gone);
+        drop_seq(&mut self.given_up, gone);
     }
 
     /// Gives up all deliveries that are due at the moment and were made as often as they may be. It takes no memory, and its cost grows with their
@@ -238,12 +238,14 @@ impl ConsumerProgress {
     pub fn overflow(&mut self) -> Option<u64>
         ensures value { result ≡ overflow_of self.old }
         ensures left { self.new ≡ without_overflow self.old }
+        ensures greatest { last_of 65536 self.new.given_up ≡ last_of 65536 self.old.given_up }
+        ensures all { result ≡ None → last_of 65536 self.new.given_up ≡ self.new.given_up }
     {
-        if self.given_up.len() <= 65_536 {
+        if self.given_up.len() <= MOST_GIVEN_UP {
             return None;
         }
-        let least = self.given_up.first()?;
-        self.given_up.ack(least);
+        let least = first_seq(&self.given_up)?;
+        drop_seq(&mut self.given_up, least);
         Some(least)
     }
 }

@@ -1,9 +1,11 @@
 //! The tables in which a consumer's sequences stand.
 
-ghost use Rattle.std.specs.Prelude.{◌≡◌, ◌+◌, ◌<◌, ◌≤◌, ◌^◌, All, length, IfOk, OnOk, OnErr};
-ghost use Rattle.js_model.specs.Lists.{Ascends, Between};
-ghost use Rattle.consumer_progress.specs.Progresses.{seqs_of};
+ghost use Rattle.std.specs.Prelude.{◌≡◌, ◌+◌, ◌<◌, ◌^◌, ◌==◌, filter, length, not, IfOk, OnOk, OnErr};
+ghost use Rattle.js_base.specs.Bytes.{has};
+ghost use Rattle.js_model.specs.Lists.{Ascends};
+ghost use Rattle.consumer_progress.specs.Progresses.{first_of, seqs_of};
 ghost use Rattle.consumer_progress.specs.Sending.{count_in, pending_after};
+ghost use Rattle.consumer_progress.specs.Ending.{lesser};
 
 use js_base::{Moment, NoMemory};
 use js_model::Pending;
@@ -37,6 +39,40 @@ pub(crate) fn table_with(alloc: Global, entries: &[Pending]) -> Result<PendingTa
     Ok(table)
 }
 
+/// Whether a table has the sequence.
+pub(crate) fn has_seq(table: &PendingTable, seq: u64) -> bool
+    ensures value { result ≡ has (seqs_of table.now) seq }
+{
+    table.get(seq).is_some()
+}
+
+/// The least sequence of a table.
+pub(crate) fn first_seq(table: &PendingTable) -> Option<u64>
+    ensures value { result ≡ first_of (seqs_of table.now) }
+{
+    table.first()
+}
+
+/// The lesser of two sequences, as far as they are there.
+pub(crate) fn lesser(one: Option<u64>, other: Option<u64>) -> Option<u64>
+    ensures value { result ≡ lesser one other }
+{
+    match (one, other) {
+        (Some(one), Some(other)) => Some(one.min(other)),
+        (Some(one), None) => Some(one),
+        (None, other) => other,
+    }
+}
+
+/// Takes the sequence out of a table, and tells whether it was there.
+pub(crate) fn drop_seq(table: &mut PendingTable, seq: u64) -> bool
+    ensures was { result ≡ has (seqs_of table.old) seq }
+    ensures left { table.new ≡ filter (λ e. not (e.seq == seq)) table.old }
+    ensures seqs { seqs_of table.new ≡ filter (λ n. not (n == seq)) (seqs_of table.old) }
+{
+    table.ack(seq)
+}
+
 /// How often the sequence was delivered, 0 if it does not wait.
 pub(crate) fn count_in(table: &PendingTable, seq: u64) -> u64
     ensures value { result ≡ count_in table.now seq }
@@ -47,15 +83,15 @@ pub(crate) fn count_in(table: &PendingTable, seq: u64) -> u64
     }
 }
 
-/// Notes a delivery that waits until the moment, or one that does not wait. An `Err` changes nothing; it comes if memory runs out, or if with one entry
-/// more there would be 2^32 here and elsewhere.
+/// Notes a delivery that waits until the moment, or one that does not wait. An `Err` changes nothing; it comes if memory runs out, or if with one
+/// entry more there would be 2^32 here and elsewhere.
 pub(crate) fn put_delivery(
     table: &mut PendingTable,
     elsewhere: u64,
     seq: u64,
     due: Option<Moment>,
 ) -> Result<(), NoMemory>
-    requires counts { All (λ e. e.count + 1 < 2 ^ 64) table.old }
+    requires count { count_in table.old seq + 1 < 2 ^ 64 }
     requires few { length table.old + elsewhere < 2 ^ 32 }
     ensures ok { OnOk result (table.new ≡ pending_after seq due table.old) }
     ensures few { OnOk result (length table.new + elsewhere < 2 ^ 32) }
@@ -68,5 +104,6 @@ pub(crate) fn put_delivery(
         return Err(NoMemory);
     }
     let count = count_in(table, seq) + 1;
-    table.put(seq, count, due)
+    table.put(seq, count, due)?;
+    Ok(())
 }

@@ -3,7 +3,11 @@
 #![tactic(auto)]
 
 #[cfg(test)]
+mod acks;
+#[cfg(test)]
 mod blocks;
+#[cfg(test)]
+mod consumers;
 #[cfg(test)]
 mod edge;
 #[cfg(test)]

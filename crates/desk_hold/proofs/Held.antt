@@ -1,6 +1,7 @@
 -- A step at a place, and the sending of what it sends, are one hold.
-use Rattle.std.proofs.Common.{◌≡◌, ◌≢◌, ◌-◌, ◌^◌, ℕ, Bool, true, false, List, [], ◌∷◌, Option, Some, None, Result, Ok, Err, refl, sym, subst, ◌∙◌, append-nil, inl, inr, arith}
-use Rattle.std.specs.Prelude.{MatchOption}
+use Rattle.std.proofs.Common.{◌≡◌, ◌≢◌, ◌-◌, ◌^◌, ℕ, Bool, true, false, List, [], ◌∷◌, Option, Some, None, Result, Ok, Err, refl, sym, ap, subst, ◌∙◌, append-nil, inl, inr, arith}
+use Rattle.std.specs.Prelude.{◌⊎◌, ◌≤◌, ◌+◌, ◌++◌, length, sum_by, if◌then◌else◌, MatchOption}
+use Rattle.std.specs.Option.{option_or}
 use Rattle.js_base.specs.Bytes.{Bytes}
 use Rattle.js_base.specs.declared.out.Out.{Out}
 use Rattle.js_model.specs.declared.stream.State.{State}
@@ -11,11 +12,13 @@ use Rattle.js_model.specs.declared.event.What.{What}
 use Rattle.js_model.specs.declared.event.What.TheVariants.{Tick}
 use Rattle.js_model.specs.declared.reply.Reply.{Reply}
 use Rattle.js_model.specs.declared.reply.Reply.TheVariants.{Silent}
-use Rattle.js_model.specs.declared.entry.PlaceEntry.TheVariants.{Broken}
-use Rattle.js_model.specs.declared.entry.Call.TheVariants.{Step as StepOf}
+use Rattle.js_model.specs.declared.entry.PlaceEntry.{PlaceEntry}
+use Rattle.js_model.specs.declared.entry.PlaceEntry.TheVariants.{Step, Deliver, Broken}
+use Rattle.js_model.specs.declared.entry.Call.TheVariants.{Step as StepOf, Deliver as DeliverOf}
 use Rattle.js_model.specs.declared.desk.PlaceAt.{PlaceAt}
 use Rattle.js_model.specs.Events.{kept_incarnation}
-use Rattle.js_model.specs.PlaceStates.{PlaceIn}
+use Rattle.js_model.specs.PlaceStates.{PlaceIn, VolumeAt}
+use Rattle.js_model.specs.Runs.{new_messages}
 use Rattle.js_model.specs.Ready.{some_ready}
 use Rattle.js_model.specs.Router.{RouteCall, RouteTold}
 use Rattle.js_api.specs.declared.fault.DeskFault.{DeskFault}
@@ -23,85 +26,147 @@ use Rattle.js_api.specs.declared.fault.DeskFault.TheVariants as faults
 use Rattle.js_api.specs.declared.outcome.Became.{Became}
 use Rattle.js_api.specs.declared.outcome.Became.TheVariants.{Made, Unsaid, Ticked, Nothing, Broke, Stopped, Gone}
 use Rattle.js_api.specs.declared.outcome.Outcome.{Outcome}
-use Rattle.js_api.specs.Entries.{Reading, Sending, Sent, Short, Unsent, Hold, Held, Stirred, Halted, Missed}
-use Rattle.js_api.specs.Holding.{AreAsked, AreFirstReadings, AreReadings, Explains, HoldsBy, MayEnd, event_at, is_ready_at, push_consumers, step}
-use Rattle.js_api.specs.Outputs.{stream_name}
-use Rattle.js_api.specs.Worlds.{IsHeld, IsLater}
-use Rattle.place_engine.specs.Provisional.{IsSilent}
+use Rattle.js_api.specs.Entries.{Reading, Sending, Sent, Short, Unsent, Hold, entries_in, Held, Stirred, Halted, Missed}
+use Rattle.js_api.specs.Holding.{AreAsked, AreDeliveries, AreFirstReadings, AreReadings, Explains, HoldsBy, MayEnd, bytes_of, delivery_broke, event_at, is_ready_at, listening_of, most_bytes, most_deliveries, push_consumers, step}
+use Rattle.js_api.specs.Outputs.{answer_of, name_behind, outs_of, said, stream_name}
+use Rattle.js_api.specs.Worlds.{IsHeld, IsLater, is_broken}
 use Rattle.place_engine.specs.declared.faults.PlaceFault.{PlaceFault}
 use Rattle.place_engine.specs.declared.faults.PlaceFault.TheVariants as places
 use Rattle.place_engine.specs.declared.faults.Left.TheVariants as left
 use Rattle.desk_hold.specs.declared.stepping.MadeStep.{MadeStep}
-use Rattle.desk_hold.specs.OnePlace.{HoldsOn, OnPlace, on}
-use Rattle.desk_hold.specs.Outcomes.{SendsStep, SendsMade, SendsThem, absent_by, failed_by, fault_of, quietly, shortly}
+use Rattle.desk_hold.specs.declared.following.Following.{Following}
+use Rattle.desk_hold.specs.declared.following.Following.TheVariants.{Heard, Unheard}
+use Rattle.desk_hold.specs.Deliveries.{Led}
+use Rattle.desk_hold.specs.Following.{AskedSo, Follows, IsFault, LeftSo}
+use Rattle.desk_hold.specs.OnePlace.{HoldsOn, IsHeldOn, OnPlace, on}
+use Rattle.desk_hold.specs.Outcomes.{SendsFollowed, SendsMade, SendsThem, absent_by, failed_by, fault_of, quietly, shortly}
 use Rattle.desk_hold.specs.Ports.{Sends}
 use Rattle.desk_hold.specs.Steps.{EndsStep, IsMade, IsUndoneStep, WithholdsStep}
+use Rattle.desk_hold.proofs.Chain.{led_later, led_stops, runs_from, sent_is, stops_since}
 use Rattle.desk_hold.proofs.Stepped.{same_place}
 
 -- ---- the entry of a step
 
-abbrev hold_of : PlaceAt → What → ℕ → Reply → List Out → Bool → Sending → PlaceIn → PlaceIn → Hold
-hold_of at what now reply outs unsaid sending old new = record {
+-- a hold whose step led from the one place to the next, and whose deliveries led on from there
+abbrev hold_of : PlaceAt → What → ℕ → Reply → List Out → Bool → List Reading → List PlaceEntry → Sending → PlaceIn → PlaceIn → PlaceIn → Hold
+hold_of at what now reply outs unsaid readings entries sending old mid new = record {
   at = at;
   before = old.state;
   steps = step 0 at what now reply outs unsaid;
-  between = new.state;
-  readings = [];
-  deliveries = [];
+  between = mid.state;
+  readings = readings;
+  deliveries = entries;
   after = new.state;
   sending = sending;
   volume_before = old.volume;
-  volume_between = new.volume;
+  volume_between = mid.volume;
   volume_after = new.volume;
 }
+
+-- one without deliveries
+abbrev hold_alone : PlaceAt → What → ℕ → Reply → List Out → Bool → Sending → PlaceIn → PlaceIn → Hold
+hold_alone at what now reply outs unsaid sending old new = hold_of at what now reply outs unsaid [] [] sending old new new
 
 same_volume : (p : PlaceIn) → IsLater p.volume p.volume
 same_volume p = record { faults = omega arith; moments = omega arith; generations = omega arith }
 
+held_steps : (at : PlaceAt) (what : What) (now : ℕ) (reply : Reply) (outs sent : List Out) (unsaid : Bool) (readings : List Reading) (entries : List PlaceEntry) (sending : Sending) (old mid new : PlaceIn)
+    → IsMade (event_at at what) now reply outs old mid → Led mid entries sent new → IsHeld (hold_of at what now reply outs unsaid readings entries sending old mid new) old new
+held_steps at what now reply outs sent unsaid readings entries sending old mid new made led =
+    let total : ℕ = old.stored + length (new_messages old.state mid.state) in
+    let runs = runs_from entries mid sent new total made.stored led in
+    record {
+      going = made.going;
+      was = refl;
+      steps = (mid.state, made.step, refl);
+      deliveries = runs.run;
+      ends = λ broken. let no : ⊥ = cc in absurd no;
+      is_state = refl;
+      stored = runs.stored;
+      stops = stops_since (is_broken entries) old.volume mid.volume new.volume new.stopped made.later (led_stops entries mid sent new led);
+      volume_was = refl;
+      volume_is = refl;
+      before_between = made.later;
+      between_after = led_later entries mid sent new led;
+    }
+
+-- nothing was delivered
+pauses : (p : PlaceIn) → p.stopped ≡ None → Led p [] [] p
+pauses p goes = (record { going = goes; state = refl; stored = refl; stopped = goes; later = same_volume p }, refl)
+
 held_step : (at : PlaceAt) (what : What) (now : ℕ) (reply : Reply) (outs : List Out) (unsaid : Bool) (sending : Sending) (old new : PlaceIn) → IsMade (event_at at what) now reply outs old new
-    → new.stopped ≡ None → IsHeld (hold_of at what now reply outs unsaid sending old new) old new
-held_step at what now reply outs unsaid sending old new made goes = record {
-  going = made.going;
-  was = refl;
-  steps = (new.state, made.step, refl);
-  deliveries = refl;
-  ends = λ broken. refl;
-  is_state = refl;
-  stored = made.stored;
-  stops = goes;
-  volume_was = refl;
-  volume_is = refl;
-  before_between = made.later;
-  between_after = same_volume new;
-}
+    → new.stopped ≡ None → IsHeld (hold_alone at what now reply outs unsaid sending old new) old new
+held_step at what now reply outs unsaid sending old new made goes = held_steps at what now reply outs [] unsaid [] [] sending old new new made (pauses new goes)
+
+-- ---- what it sends
+
+-- what the step and then the deliveries send is what the hold sends
+all_sent : (at : PlaceAt) (what : What) (now : ℕ) (reply : Reply) (outs sent : List Out) (unsaid : Bool) (readings : List Reading) (entries : List PlaceEntry) (sending : Sending) (old mid new : PlaceIn)
+    → Led mid entries sent new → (outs ++ said unsaid (answer_of (stream_name old.state) what reply)) ++ sent
+    ≡ outs_of old.state (entries_in (hold_of at what now reply outs unsaid readings entries sending old mid new))
+all_sent at what now reply outs sent unsaid readings [] sending old mid new led =
+    let own : List Out = outs ++ said unsaid (answer_of (stream_name old.state) what reply) in ap (λ (os : List Out). own ++ os) led.1 ∙ append-nil own
+all_sent at what now reply outs sent unsaid readings (entry ∷ more) sending old mid new led =
+    let own : List Out = outs ++ said unsaid (answer_of (stream_name old.state) what reply) in
+    ap (λ (os : List Out). own ++ os) (sent_is (entry ∷ more) (name_behind (stream_name old.state) (Step 0 (event_at at what) now reply outs unsaid)) mid sent new led)
 
 -- ---- its end
-
-none_push : (state : State) → IsSilent state → push_consumers state ≡ []
-none_push (Vacant last) silent = refl
-none_push (Live stream) silent = silent
 
 none_read : (cs : List Consumer) → AreFirstReadings cs []
 none_read [] = tt
 none_read (c ∷ cs) = tt
 
-asked_none : (fault : Option DeskFault) (hold : Hold) → push_consumers hold.between ≡ [] → hold.readings ≡ [] → hold.deliveries ≡ [] → AreAsked fault hold
-asked_none None hold none readings deliveries = subst (λ (cs : List Consumer). AreReadings cs hold.readings) (sym none) readings
-asked_none (Some fault) hold none readings deliveries = inr (subst (λ (rs : List Reading). AreFirstReadings (push_consumers hold.between) rs) (sym readings) (none_read (push_consumers hold.between)), deliveries)
+-- the first fault that there is
+asked_or : (first next : Option DeskFault) (readings : List Reading) (entries : List PlaceEntry) (hold : Hold) → hold.readings ≡ readings → hold.deliveries ≡ entries
+    → AskedSo first hold.between readings entries → AreAsked (option_or first next) hold
+asked_or None None readings entries hold r e h = subst (λ (rs : List Reading). AreReadings (push_consumers hold.between) rs) (sym r) h
+asked_or None (Some fault) readings entries hold r e h = inl (subst (λ (rs : List Reading). AreReadings (push_consumers hold.between) rs) (sym r) h)
+asked_or (Some fault) next readings entries hold r e (inl h) = inl (subst (λ (rs : List Reading). AreReadings (push_consumers hold.between) rs) (sym r) h)
+asked_or (Some fault) next readings entries hold r e (inr h) = inr (subst (λ (rs : List Reading). AreFirstReadings (push_consumers hold.between) rs) (sym r) h.0, e ∙ h.1)
 
-unless_fault : (fault : Option DeskFault) (P : Type 0) → P → MatchOption fault P (λ f. Unit {0})
-unless_fault None P p = p
-unless_fault (Some fault) P p = tt
+-- deliveries without a fault are such with any
+deliveries_with : (at : PlaceAt) (now : ℕ) (listening : List Bytes) (fault : Option DeskFault) (entries : List PlaceEntry) → AreDeliveries 0 at now listening None entries
+    → AreDeliveries 0 at now listening fault entries
+deliveries_with at now listening fault [] h = tt
+deliveries_with at now listening fault (Deliver by moment heard d outs ∷ more) h = (h.0, h.1, h.2, deliveries_with at now listening fault more h.3)
+deliveries_with at now listening fault (Step by event moment reply outs unsaid ∷ more) h = let no : ⊥ = cc in absurd no
+deliveries_with at now listening fault (Broken by moment (DeliverOf heard d) ∷ more) h = h
+deliveries_with at now listening fault (Broken by moment (StepOf event) ∷ more) h = absurd h
 
-explains : (sending : Sending) (unsaid : Bool) (hold : Hold) → hold.sending ≡ sending → Explains (fault_of sending unsaid) unsaid hold
-explains Sent false hold e = (refl, e)
-explains Sent true hold e = tt
-explains Short unsaid hold e = tt
-explains (Unsent number) unsaid hold e = inl e
+deliveries_or : (at : PlaceAt) (now : ℕ) (listening : List Bytes) (first next : Option DeskFault) (entries : List PlaceEntry) → AreDeliveries 0 at now listening first entries
+    → AreDeliveries 0 at now listening (option_or first next) entries
+deliveries_or at now listening None next entries h = deliveries_with at now listening next entries h
+deliveries_or at now listening (Some fault) next entries h = h
 
-ends_unready : (fault : Option DeskFault) (ready : Bool) (hold : Hold) → ready ≡ false → MayEnd fault ready hold
-ends_unready None ready hold none = λ is. absurd (let not_both : true ≡ false = sym is ∙ none in cc)
-ends_unready (Some fault) ready hold none = tt
+explains_sent : (sending : Sending) (unsaid : Bool) (hold : Hold) → hold.sending ≡ sending → Explains (fault_of sending unsaid) unsaid hold
+explains_sent Sent false hold e = (refl, e)
+explains_sent Sent true hold e = tt
+explains_sent Short unsaid hold e = tt
+explains_sent (Unsent number) unsaid hold e = inl e
+
+explains_fault : (fault : DeskFault) (unsaid : Bool) (hold : Hold) → IsFault fault hold.deliveries hold.volume_after → Explains (Some fault) unsaid hold
+explains_fault faults.NoMemory unsaid hold h = tt
+explains_fault faults.TooManySubs unsaid hold h = absurd h
+explains_fault (faults.Worn number) unsaid hold h = inr (h.0, inr h.1)
+explains_fault (faults.NoSession latest) unsaid hold h = absurd h
+
+explains_or : (fault : Option DeskFault) (sending : Sending) (unsaid ready : Bool) (now : ℕ) (hold : Hold) (new : PlaceIn) (outs : List Out) → hold.sending ≡ sending → hold.volume_after ≡ new.volume
+    → LeftSo fault ready now hold.readings hold.deliveries new outs → Explains (option_or fault (fault_of sending unsaid)) unsaid hold
+explains_or None sending unsaid ready now hold new outs e v h = explains_sent sending unsaid hold e
+explains_or (Some fault) sending unsaid ready now hold new outs e v h = explains_fault fault unsaid hold (subst (λ (at : VolumeAt). IsFault fault hold.deliveries at) (sym v) h)
+
+ready_or : (fault next : Option DeskFault) (ready : Bool) (now : ℕ) (hold : Hold) (new : PlaceIn) (outs : List Out) → hold.after ≡ new.state
+    → LeftSo fault ready now hold.readings hold.deliveries new outs → MatchOption (option_or fault next) (ready ≡ is_ready_at now hold) (λ f. Unit {0})
+ready_or None None ready now hold new outs is h =
+    subst (λ (s : State). ready ≡ (if delivery_broke hold.deliveries then false else some_ready s now (listening_of hold.readings))) (sym is) h.ready_is
+ready_or None (Some f) ready now hold new outs is h = tt
+ready_or (Some f) next ready now hold new outs is h = tt
+
+ends_or : (fault next : Option DeskFault) (ready : Bool) (now : ℕ) (hold : Hold) (new : PlaceIn) (outs : List Out) → outs ≡ outs_of hold.before (entries_in hold)
+    → LeftSo fault ready now hold.readings hold.deliveries new outs → MayEnd (option_or fault next) ready hold
+ends_or None None ready now hold new outs is h = λ yes. subst (λ (os : List Out). (most_deliveries ≤ length hold.deliveries) ⊎ (most_bytes ≤ sum_by bytes_of os)) is (h.full yes)
+ends_or None (Some f) ready now hold new outs is h = tt
+ends_or (Some f) next ready now hold new outs is h = tt
 
 -- ---- what a hold came to
 
@@ -116,50 +181,111 @@ module _ {R : Type 0} (routes : R → RouteCall → RouteTold → R → Type 0) 
       subst (λ (os : List Out). EndsStep result (event_at at what) now old new os outs) none
       (subst (λ (e : Event). EndsStep result e now old new before outs) same h)
 
-  -- it was made
-  pub held_made : (outcome : Outcome) (made : MadeStep) (old new : PlaceIn) (outs : List Out) (r s : R) → EndsStep (Ok made) (event_at at what) now old new [] outs
-      → outcome.became ≡ Made made.reply → IsSilent new.state → outcome.ready ≡ some_ready new.state now [] → outcome.ready ≡ false → SendsStep routes worn outcome.fault made.unsaid outs r s
-      → HoldsOn routes worn at what now outcome (on old r) (on new s)
-  held_made outcome made old new outs r s h became silent ready none sends =
-      let hold : Hold = hold_of at what now made.reply h.outs made.unsaid sends.sending old new in
-      record {
-        entries = Held hold ∷ [];
-        holds = record {
+  -- one hold is all that there is
+  held_as : (outcome : Outcome) (hold : Hold) (a b : OnPlace R) → HoldsBy outcome.became at what now outcome.ready outcome.fault (Held hold ∷ []) → IsHeldOn routes worn at hold a b
+      → HoldsOn routes worn at what now outcome a b
+  held_as outcome hold a b holds is = record {
+    entries = Held hold ∷ [];
+    holds = record { first = []; more = Held hold ∷ []; entries_are = refl; prepares = inl refl; holds = holds };
+    led = (b, is, refl);
+  }
+
+  -- who listens was read, consumers were served, and all was sent
+  made_heard : (made : MadeStep) (old mid new : PlaceIn) (outs all : List Out) (r t s : R) (ready : Bool) (fault : Option DeskFault) (sending : Sending)
+      → EndsStep (Ok made) (event_at at what) now old mid [] outs → Follows routes worn at now (Heard ready fault) mid new r t outs all → Sends routes worn t all sending s
+      → HoldsOn routes worn at what now (record { became = Made made.reply; ready = ready; fault = option_or fault (fault_of sending made.unsaid) }) (on old r) (on new s)
+  made_heard made old mid new outs all r t s ready fault sending h f sends =
+      let next : Option DeskFault = fault_of sending made.unsaid in
+      let hold : Hold = hold_of at what now made.reply h.outs made.unsaid f.readings f.entries sending old mid new in
+      let whole : all ≡ outs_of hold.before (entries_in hold) =
+      f.added ∙ ap (λ (os : List Out). os ++ f.sent) h.added ∙ all_sent at what now made.reply h.outs f.sent made.unsaid f.readings f.entries sending old mid new f.led in
+      held_as (record { became = Made made.reply; ready = ready; fault = option_or fault next }) hold (on old r) (on new s) (
+        hold,
+        refl,
+        record {
+          seat = 0;
+          outs = h.outs;
+          unsaid = made.unsaid;
+          at_is = refl;
+          before = [];
+          made_first = refl;
+          steps = refl;
+          asked = asked_or fault next f.readings f.entries hold refl refl f.followed.asked;
+          deliveries = deliveries_or at now (listening_of f.readings) fault next f.entries f.followed.are;
+          ready_is = ready_or fault next ready now hold new all refl f.followed.left;
+          explained = explains_or fault sending made.unsaid ready now hold new all refl refl f.followed.left;
+          ends = ends_or fault next ready now hold new all whole f.followed.left;
+        },
+      )
+      (record {
+        at_is = refl;
+        held = held_steps at what now made.reply h.outs f.sent made.unsaid f.readings f.entries sending old mid new h.made f.led;
+        told = t;
+        heard = f.followed.heard;
+        sent = subst (λ (os : List Out). Sends routes worn t os sending s) whole sends;
+      })
+
+  -- no turn of the router was left before who listens was told
+  made_unheard : (made : MadeStep) (old mid new : PlaceIn) (outs all : List Out) (r t : R) (number : ℕ)
+      → EndsStep (Ok made) (event_at at what) now old mid [] outs → Follows routes worn at now (Unheard number) mid new r t outs all
+      → HoldsOn routes worn at what now (record { became = Made made.reply; ready = false; fault = Some (faults.Worn number) }) (on old r) (on new t)
+  made_unheard made old mid new outs all r t number h f =
+      let hold : Hold = hold_of at what now made.reply h.outs made.unsaid f.readings f.entries (Unsent number) old mid new in
+      held_as (record { became = Made made.reply; ready = false; fault = Some (faults.Worn number) }) hold (on old r) (on new t) (
+        hold,
+        refl,
+        record {
+          seat = 0;
+          outs = h.outs;
+          unsaid = made.unsaid;
+          at_is = refl;
+          before = [];
+          made_first = refl;
+          steps = refl;
+          asked = inr (f.followed.first, f.followed.none);
+          deliveries = subst (λ (es : List PlaceEntry). AreDeliveries 0 at now (listening_of f.readings) (Some (faults.Worn number)) es) (sym f.followed.none) tt;
+          ready_is = tt;
+          explained = inl refl;
+          ends = tt;
+        },
+      )
+      (record {
+        at_is = refl;
+        held = held_steps at what now made.reply h.outs f.sent made.unsaid f.readings f.entries (Unsent number) old mid new h.made f.led;
+        told = f.followed.mid;
+        heard = f.followed.heard;
+        sent = inr (record {
           first = [];
-          more = Held hold ∷ [];
-          entries_are = refl;
-          prepares = inl refl;
-          holds = subst (λ (b : Became). HoldsBy b at what now outcome.ready outcome.fault (Held hold ∷ [])) (sym became) (
-            hold,
-            refl,
-            record {
-              seat = 0;
-              outs = h.outs;
-              unsaid = made.unsaid;
-              at_is = refl;
-              before = [];
-              made_first = refl;
-              steps = refl;
-              asked = asked_none outcome.fault hold (none_push new.state silent) refl refl;
-              deliveries = tt;
-              ready_is = unless_fault outcome.fault (outcome.ready ≡ is_ready_at now hold) ready;
-              explained = subst (λ (f : Option DeskFault). Explains f made.unsaid hold) (sym sends.fault_is) (explains sends.sending made.unsaid hold refl);
-              ends = ends_unready outcome.fault outcome.ready hold none;
-            },
-          );
-        };
-        led = (
-          on new s,
-          record {
-            at_is = refl;
-            held = held_step at what now made.reply h.outs made.unsaid sends.sending old new h.made h.goes;
-            told = r;
-            heard = refl;
-            sent = subst (λ (os : List Out). Sends routes worn r os sends.sending s) h.added sends.sends;
-          },
-          refl,
-        );
-      }
+          more = outs_of hold.before (entries_in hold);
+          outs_are = refl;
+          taken = [];
+          mid = f.followed.mid;
+          sent = refl;
+          number = number;
+          is_worn = f.followed.is_worn;
+          sending_is = refl;
+        });
+      })
+
+  same_outcome : (outcome : Outcome) (became : Became) (ready : Bool) (fault : Option DeskFault) → outcome.became ≡ became → outcome.ready ≡ ready → outcome.fault ≡ fault
+      → outcome ≡ record { became = became; ready = ready; fault = fault }
+  same_outcome outcome became ready fault b r f =
+      ap (λ (x : Became). record { became = x; ready = outcome.ready; fault = outcome.fault }) b
+      ∙ ap (λ (x : Bool). record { became = became; ready = x; fault = outcome.fault }) r
+      ∙ ap (λ (x : Option DeskFault). record { became = became; ready = ready; fault = x }) f
+
+  pub held_made : (following : Following) (outcome : Outcome) (made : MadeStep) (old mid new : PlaceIn) (outs all : List Out) (r t s : R)
+      → EndsStep (Ok made) (event_at at what) now old mid [] outs → outcome.became ≡ Made made.reply → Follows routes worn at now following mid new r t outs all
+      → SendsFollowed routes worn following made.unsaid outcome all t s → HoldsOn routes worn at what now outcome (on old r) (on new s)
+  held_made (Heard ready fault) outcome made old mid new outs all r t s h became f (sending, sends, ready_is, fault_is) =
+      as_told outcome (record { became = Made made.reply; ready = ready; fault = option_or fault (fault_of sending made.unsaid) }) (on old r) (on new s)
+      (same_outcome outcome (Made made.reply) ready (option_or fault (fault_of sending made.unsaid)) became ready_is fault_is)
+      (made_heard made old mid new outs all r t s ready fault sending h f sends)
+  held_made (Unheard number) outcome made old mid new outs all r t s h became f (ready_is, fault_is, same) =
+      as_told outcome (record { became = Made made.reply; ready = false; fault = Some (faults.Worn number) }) (on old r) (on new s)
+      (same_outcome outcome (Made made.reply) false (Some (faults.Worn number)) became ready_is fault_is)
+      (subst (λ (x : R). HoldsOn routes worn at what now (record { became = Made made.reply; ready = false; fault = Some (faults.Worn number) }) (on old r) (on new x)) (sym same)
+      (made_unheard made old mid new outs all r t number h f))
 
   -- memory ran out before anything
   pub held_nothing : (place : PlaceIn) (r : R) → HoldsOn routes worn at what now (shortly Nothing) (on place r) (on place r)
@@ -244,7 +370,7 @@ module _ {R : Type 0} (routes : R → RouteCall → RouteTold → R → Type 0) 
   ticked : (old new : PlaceIn) (outs : List Out) (r s : R) → EndsStep (Err (places.NoMemory left.Ticked)) (event_at at what) now old new [] outs
       → SendsMade routes worn (places.NoMemory left.Ticked) outs r s → HoldsOn routes worn at what now (shortly Ticked) (on old r) (on new s)
   ticked old new outs r s h sends =
-      let hold : Hold = hold_of at Tick now Silent h.outs false sends.sending old new in
+      let hold : Hold = hold_alone at Tick now Silent h.outs false sends.sending old new in
       record {
         entries = Held hold ∷ [];
         holds = record {
@@ -287,10 +413,10 @@ module _ {R : Type 0} (routes : R → RouteCall → RouteTold → R → Type 0) 
 
   -- it was made, and its reply is withheld
   withheld : (refused : Bool) (fault : DeskFault) (old new : PlaceIn) (outs : List Out) (r s : R) (h : WithholdsStep refused (event_at at what) now old new [] outs)
-      (sends : SendsThem routes worn outs r s) → Explains (Some fault) true (hold_of at what now h.reply h.outs true sends.sending old new)
+      (sends : SendsThem routes worn outs r s) → Explains (Some fault) true (hold_alone at what now h.reply h.outs true sends.sending old new)
       → HoldsOn routes worn at what now (record { became = Unsaid refused; ready = false; fault = Some fault }) (on old r) (on new s)
   withheld refused fault old new outs r s h sends explained =
-      let hold : Hold = hold_of at what now h.reply h.outs true sends.sending old new in
+      let hold : Hold = hold_alone at what now h.reply h.outs true sends.sending old new in
       record {
         entries = Held hold ∷ [];
         holds = record {
@@ -337,7 +463,7 @@ module _ {R : Type 0} (routes : R → RouteCall → RouteTold → R → Type 0) 
   broke : (stream : Bytes) (old new : PlaceIn) (outs : List Out) (r s : R) → stream ≡ stream_name old.state → EndsStep (Err places.StoreFault) (event_at at what) now old new [] outs → s ≡ r
       → HoldsOn routes worn at what now (quietly (Broke stream)) (on old r) (on new s)
   broke stream old new outs r s name h same =
-      let hold : Hold = record (hold_of at what now h.reply [] false Sent old new) { steps = Broken 0 now (StepOf (event_at at what)) ∷ [] } in
+      let hold : Hold = record (hold_alone at what now h.reply [] false Sent old new) { steps = Broken 0 now (StepOf (event_at at what)) ∷ [] } in
       record {
         entries = Held hold ∷ [];
         holds = record {

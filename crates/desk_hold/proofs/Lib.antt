@@ -2,6 +2,11 @@ pub mod Refused
 pub mod Ticks
 pub mod Stepped
 pub mod Sent
+pub mod Chain
+pub mod Delivered
+pub mod Next
+pub mod Listeners
+pub mod Followed
 pub mod Held
 pub mod Asked
 pub mod Alone

@@ -1,5 +1,6 @@
 -- What a hold came to, as its parts tell it.
 use Rattle.std.specs.Prelude.{◌≡◌, ◌-◌, ◌^◌, ℕ, Bool, true, false, List, Option, None, Some}
+use Rattle.std.specs.Option.{option_or}
 use Rattle.js_base.specs.Bytes.{Bytes}
 use Rattle.js_base.specs.declared.out.Out.{Out}
 use Rattle.js_model.specs.Router.{RouteCall, RouteTold}
@@ -13,6 +14,8 @@ use Rattle.place_engine.specs.declared.faults.PlaceFault.{PlaceFault}
 use Rattle.place_engine.specs.declared.faults.PlaceFault.TheVariants as places
 use Rattle.place_engine.specs.declared.faults.Left.TheVariants as left
 use Rattle.desk_hold.specs.Ports.{Sends}
+use Rattle.desk_hold.specs.declared.following.Following.{Following}
+use Rattle.desk_hold.specs.declared.following.Following.TheVariants.{Heard, Unheard}
 
 -- why a call ends with a hold, if there is a reason: its answer is unsaid, or an output found no memory, or no turn was left
 abbrev pub fault_of : Sending → Bool → Option DeskFault
@@ -49,16 +52,16 @@ absent_by None stream = quietly Gone
 absent_by (Some count) stream = quietly (Stopped stream)
 
 module _ {R : Type 0} (routes : R → RouteCall → RouteTold → R → Type 0) (worn : R → ℕ → R → Type 0) where
-  -- the outputs were sent, and this fault tells what became of them and of the answer
-  pub record SendsStep (fault : Option DeskFault) (unsaid : Bool) (outs : List Out) (old new : R) : Type 0 where
-    pub sending : Sending
-    pub sends : Sends routes worn old outs sending new
-    pub fault_is : fault ≡ fault_of sending unsaid
-
   -- the outputs were sent, whatever became of them
   pub record SendsThem (outs : List Out) (old new : R) : Type 0 where
     pub sending : Sending
     pub sends : Sends routes worn old outs sending new
+
+  -- the outputs were sent, and the first fault is told; or no turn of the router was left for them
+  abbrev pub SendsFollowed : Following → Bool → Outcome → List Out → R → R → Type 0
+  SendsFollowed (Heard ready fault) unsaid outcome outs old new =
+      (sending : Sending) × Sends routes worn old outs sending new × (outcome.ready ≡ ready) × (outcome.fault ≡ option_or fault (fault_of sending unsaid))
+  SendsFollowed (Unheard number) unsaid outcome outs old new = (outcome.ready ≡ false) × (outcome.fault ≡ Some (faults.Worn number)) × (new ≡ old)
 
   -- if the event was made in spite of the fault, or time passed, the outputs were sent
   abbrev pub SendsMade : PlaceFault → List Out → R → R → Type 0

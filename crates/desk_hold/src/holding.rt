@@ -1,33 +1,32 @@
-//! One hold on a place: an event is made there, and what it sends goes to the port. No place delivers to a consumer yet.
+//! One hold on a place: an event is made there, its consumers are served, and what all this sends goes to the port.
 
-ghost use Rattle.std.specs.Prelude.{◌≡◌, ◌≤◌, ◌^◌, [], false, IsUtf8};
+ghost use Rattle.std.specs.Prelude.{◌≡◌, ◌≤◌, ◌^◌, false, None, IsUtf8};
+ghost use Rattle.std.specs.Option.{option_or};
 ghost use Rattle.js_api.specs.declared.outcome.Became.TheVariants.{Made};
 ghost use Rattle.js_api.specs.Outputs.{stream_name};
 ghost use Rattle.js_model.specs.Events.{kept_incarnation};
-ghost use Rattle.js_model.specs.Ready.{some_ready};
+ghost use Rattle.js_model.specs.declared.desk.PlaceAt.{PlaceAt};
 ghost use Rattle.js_api.specs.Holding.{event_at};
-ghost use Rattle.place_engine.specs.Provisional.{IsSilent};
 ghost use Rattle.place_engine.specs.Shown.{IsShown};
 ghost use Rattle.desk_answers.specs.Asking.{MayAsk};
 ghost use Rattle.desk_answers.specs.Became.{CanBeShown, IsExplained, NumbersDropped, is_dropped};
 ghost use Rattle.desk_hold.specs.OnePlace.{HoldsOn, on};
-ghost use Rattle.desk_hold.specs.Outcomes.{SendsMade, SendsStep, absent_by, failed_by, quietly, shortly, worn_out};
+ghost use Rattle.desk_hold.specs.Following.{Follows};
+ghost use Rattle.desk_hold.specs.Outcomes.{SendsFollowed, SendsMade, absent_by, failed_by, quietly, shortly, worn_out};
 ghost use Rattle.desk_hold.specs.Steps.{IsNumbered};
 
+use crate::following::{Following, LAST_GENERATION, failed, follow};
 use crate::port::Port;
 use crate::sending::{fault_of, send_all};
 use crate::stepping::{MadeStep, make, stream_name};
 use js_api::{Became, DeskFault, Outcome};
-use js_base::{Blob, List, Moment, Out};
+use js_base::{Blob, List, Moment, Out, Outs};
 use js_model::{Event, PlaceAt, What};
 use place_engine::{Left, Place, PlaceFault};
 use std::alloc::Global;
 
 /// Streams have incarnations below it.
 const INCARNATIONS_END: u64 = 1 << 62;
-
-/// The last number of a store's generations.
-const LAST_GENERATION: u64 = (1 << 62) - 1;
 
 /// A hold in which memory ran out.
 fn shortly(became: Became) -> Outcome
@@ -62,30 +61,57 @@ fn quietly(became: Became) -> Outcome
     }
 }
 
-/// Whether a consumer of the place is ready, if nobody listens for a push consumer. None is ready yet.
-fn is_ready<P: Place>(alloc: Global, place: &P, now: Moment) -> bool
-    ensures value { result ≡ some_ready (P.seen place.now).place.state now [] }
-    ensures none { result ≡ false }
-    ensures silent { IsSilent (P.seen place.now).place.state }
+/// What follows a step that was made: its answer is told first, so nothing follows if memory ran out for that.
+fn follow_step<P: Place, R: Port>(
+    alloc: Global,
+    place: &mut P,
+    port: &mut R,
+    unsaid: bool,
+    now: Moment,
+    outs: &mut Outs,
+) -> Following
+    requires going { (P.seen place.old).place.stopped ≡ None }
+    ensures follows { (at : PlaceAt) → Follows R.routes R.worn at now result (P.seen place.old).place (P.seen place.new).place port.old port.new outs.old outs.new }
+    ensures vol { P.keeps_vol (P.vol place.old) (P.vol place.new) }
 {
-    let nobody = List::new(alloc);
-    place.ready(now, &nobody)
+    if unsaid {
+        return failed(DeskFault::NoMemory);
+    }
+    follow(alloc, place, port, now, outs)
 }
 
-/// Sends what a step added.
-fn finish<R: Port>(port: &mut R, outs: &[Out], step: MadeStep, ready: bool) -> Outcome
+/// Sends what a step and what followed it added.
+fn finish<R: Port>(port: &mut R, outs: &[Out], step: MadeStep, following: Following) -> Outcome
     requires shown { IsShown step.reply }
     ensures became { result.became ≡ Made step.reply }
-    ensures ready { result.ready ≡ ready }
-    ensures sends { SendsStep R.routes R.worn result.fault step.unsaid outs.now port.old port.new }
+    ensures sends { SendsFollowed R.routes R.worn following step.unsaid result outs.now port.old port.new }
     ensures shown { CanBeShown result.became }
     ensures explained { IsExplained result.fault result.became }
 {
-    let sent = send_all(port, outs);
-    Outcome {
-        became: Became::Made(step.reply),
-        ready,
-        fault: fault_of(sent, step.unsaid),
+    match following {
+        Following::Heard { ready, fault } => {
+            let sent = send_all(port, outs);
+            Outcome {
+                became: Became::Made(step.reply),
+                ready,
+                fault: first_of(fault, fault_of(sent, step.unsaid)),
+            }
+        }
+        Following::Unheard(number) => Outcome {
+            became: Became::Made(step.reply),
+            ready: false,
+            fault: Some(DeskFault::Worn(number)),
+        },
+    }
+}
+
+/// The first of two faults, if there is one.
+fn first_of(first: Option<DeskFault>, next: Option<DeskFault>) -> Option<DeskFault>
+    ensures value { result ≡ option_or first next }
+{
+    match first {
+        Some(fault) => Some(fault),
+        None => next,
     }
 }
 
@@ -142,8 +168,8 @@ fn hold_named<P: Place, R: Port>(
     let mut outs = List::new(alloc);
     match make(alloc, place, stream.as_slice(), event, now, &mut outs) {
         Ok(step) => {
-            let ready = is_ready(alloc, place, now);
-            finish(port, outs.as_slice(), step, ready)
+            let following = follow_step(alloc, place, port, step.unsaid, now, &mut outs);
+            finish(port, outs.as_slice(), step, following)
         }
         Err(fault) => fail(port, outs.as_slice(), fault, stream),
     }

@@ -2,6 +2,9 @@
 //! sends goes to the router.
 #![tactic(auto)]
 
+mod delivering;
+mod following;
+mod hearing;
 mod holding;
 mod port;
 mod sending;

@@ -46,7 +46,7 @@ fn add_answer(alloc: Global, stream: &[u8], what: &What, reply: &Reply, outs: &m
 }
 
 /// A moment is below 2^62.
-fn law_moment(now: Moment)
+pub fn law_moment(now: Moment)
     ensures bound { now < 2 ^ 62 }
 {
     let _ = now.as_nanos();

@@ -32,14 +32,40 @@ Says router.TooManySubs result = result ≡ Err faults.TooManySubs
 Says router.Worn result = result ≡ Err (faults.Worn (2 ^ 62 - 1))
 Says router.NoMemory result = result ≡ Err faults.NoMemory
 
+-- a call that may want one more subscription
+abbrev pub may_subscribe : router.RouteCall → Bool
+may_subscribe (router.Sub n pattern queue sid) = true
+may_subscribe router.Open = false
+may_subscribe (router.Close n) = false
+may_subscribe (router.Options n echo headers) = false
+may_subscribe (router.Unsub n sid max) = false
+may_subscribe (router.Publish out from) = false
+may_subscribe (router.Interest subject queue) = false
+may_subscribe (router.Collect n max) = false
+
+-- a call that wants the next session's number
+abbrev pub may_number : router.RouteCall → Bool
+may_number router.Open = true
+may_number (router.Close n) = false
+may_number (router.Options n echo headers) = false
+may_number (router.Sub n pattern queue sid) = false
+may_number (router.Unsub n sid max) = false
+may_number (router.Publish out from) = false
+may_number (router.Interest subject queue) = false
+may_number (router.Collect n max) = false
+
 -- the router may tell so of the call
 abbrev pub MaySay : router.RouteCall → router.RouteTold → Type 0
+MaySay call router.Done = Unit {0}
+MaySay call (router.Opened number) = Unit {0}
+MaySay call (router.Taken count) = Unit {0}
+MaySay call (router.Listens heard) = Unit {0}
+MaySay call (router.Frames list more) = Unit {0}
+MaySay call (router.Slow length) = Unit {0}
+MaySay call (router.NoSession latest) = Unit {0}
+MaySay call router.TooManySubs = IsTrue (may_subscribe call)
+MaySay call router.Worn = IsTrue (may_number call)
 MaySay call router.NoMemory = IsTrue (router.may_want call)
-MaySay (router.Sub n pattern queue sid) router.TooManySubs = Unit {0}
-MaySay call router.TooManySubs = ⊥
-MaySay router.Open router.Worn = Unit {0}
-MaySay call router.Worn = ⊥
-MaySay call told = Unit {0}
 
 -- the one entry of the call, or the router's turn cannot be entered
 abbrev pub Routes : router.RouteCall → Result DeskAnswer DeskFault → List DeskEntry → Type 0

@@ -38,12 +38,12 @@ pub open_refused : (r new : routes.Router) (fault : RouteFault) → routes.IsRou
 open_refused r new (refused.NoSession latest) h = absurd (open_kind r new (routes.NoSession latest) h)
 open_refused r new refused.TooManySubs h = absurd (open_kind r new routes.TooManySubs h)
 open_refused r new refused.NoMemory h = record { may = refl; says = refl }
-open_refused r new refused.Worn h = record { may = tt; says = refl }
+open_refused r new refused.Worn h = record { may = refl; says = refl }
 
 pub sub_refused : (r new : routes.Router) (n : ℕ) (pattern : Bytes) (queue : Option Bytes) (sid : Bytes) (fault : RouteFault) → routes.is_open r n ≡ true
     → routes.IsRoute r (routes.Sub n pattern queue sid) (fault_told fault) new → IsRefused (routes.Sub n pattern queue sid) fault
 sub_refused r new n pattern queue sid (refused.NoSession latest) is_open h = absurd (sub_kind r new n pattern queue sid (routes.NoSession latest) is_open h)
-sub_refused r new n pattern queue sid refused.TooManySubs is_open h = record { may = tt; says = refl }
+sub_refused r new n pattern queue sid refused.TooManySubs is_open h = record { may = refl; says = refl }
 sub_refused r new n pattern queue sid refused.NoMemory is_open h = record { may = refl; says = refl }
 sub_refused r new n pattern queue sid refused.Worn is_open h = absurd (sub_kind r new n pattern queue sid routes.Worn is_open h)
 

@@ -1,5 +1,5 @@
 -- An entry that moves from one table to another.
-use Rattle.std.proofs.Common.{◌≡◌, ℕ, ◌<◌, ◌==◌, ◌||◌, Bool, true, false, cond, List, [], ◌∷◌, Option, Some, None, map, refl, sym, ap, ◌∙◌, subst, arith}
+use Rattle.std.proofs.Common.{◌≡◌, ℕ, ◌<◌, ◌≤◌, ◌==◌, ◌||◌, Bool, true, false, cond, List, [], ◌∷◌, Option, Some, None, length, map, refl, sym, ap, ◌∙◌, arith}
 use Rattle.std.specs.Prelude.{Box, find, is_some}
 use Rattle.std.specs.List.{list_any}
 use Rattle.std.specs.declared.alloc.Global.{Global}
@@ -47,6 +47,10 @@ has_found test q (p ∷ ps) h = go (has_found test q ps) (test p) h
         let same : p ≡ q = cc k in
         or_left (p.seq == q.seq) (has (map (λ p. p.seq) ps) q.seq) (eq-eqb p.seq q.seq (ap (λ (x : Pending). x.seq) same))
     go more false k = or_right (p.seq == q.seq) (has (map (λ p. p.seq) ps) q.seq) (more k)
+
+pub found_length : (test : Pending → Bool) (q : Pending) (ps : List Pending) → find test ps ≡ Some q → 1 ≤ length ps
+found_length test q [] h = absurd cc
+found_length test q (p ∷ ps) h = omega arith
 
 any_seq : (n : ℕ) (ps : List Pending) → has (map (λ p. p.seq) ps) n ≡ list_any (λ p. p.seq == n) ps
 any_seq n [] = refl

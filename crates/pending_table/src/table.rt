@@ -192,11 +192,11 @@ impl PendingTable {
         Some(seq)
     }
 
-    /// Moves the entry that `take_spent` would take out to another table, which has no sequence of this one, and tells whether there is one. It takes no
-    /// memory, and costs what `take_spent` does.
+    /// Moves the entry that `take_spent` would take out to another table, which has no sequence of this one, and tells whether there is one. It takes
+    /// no memory, and costs what `take_spent` does.
     pub fn move_spent(&mut self, now: Moment, max: u64, into: &mut PendingTable) -> bool
         requires apart { Apart (map (λ p. p.seq) self.old) (map (λ p. p.seq) into.old) }
-        requires room { length into.old + 1 < 2 ^ 32 }
+        requires room { length self.old + length into.old < 2 ^ 32 }
         ensures is { result ≡ list_any (is_spent now max) self.old }
         ensures left { self.new ≡ without_first (is_spent now max) self.old }
         ensures moved { into.new ≡ with_found into.old (find (is_spent now max) self.old) }

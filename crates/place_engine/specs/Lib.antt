@@ -5,5 +5,6 @@ pub mod Held
 pub mod Shown
 pub mod Places
 pub mod Stepping
-pub mod Provisional
+pub mod Pushes
+pub mod Delivering
 pub mod InMemory

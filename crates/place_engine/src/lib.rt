@@ -5,9 +5,11 @@ mod faults;
 mod live_stream;
 mod memory_place;
 mod place;
+mod push;
 mod sameness;
 mod slot;
 
 pub use faults::{Left, OpenFault, PlaceFault};
 pub use memory_place::MemoryPlace;
 pub use place::Place;
+pub use push::Push;

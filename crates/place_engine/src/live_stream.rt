@@ -1,6 +1,6 @@
 //! The stream of a place in memory.
 
-ghost use Rattle.std.specs.Prelude.{◌≡◌, ◌≢◌, ◌^◌, ◌<◌, ◌==◌, [], Option, false, true, if◌then◌else◌, IfOk, IfSome, OnOk, OnErr, IsTrue, IsUtf8};
+ghost use Rattle.std.specs.Prelude.{◌≡◌, ◌≢◌, ◌≤◌, ◌^◌, ◌<◌, ◌==◌, [], Option, false, true, if◌then◌else◌, length, option_map, slice_get, IfOk, IfSome, OnOk, OnErr, IsTrue, IsUtf8};
 ghost use Rattle.std.specs.List.{list_any};
 ghost use Rattle.std.specs.Option.{option_copied};
 ghost use Rattle.js_base.specs.Bytes.{Bytes};
@@ -18,10 +18,11 @@ ghost use Rattle.js_model.specs.Streams.{first_seq};
 ghost use Rattle.js_model.specs.Verdict.{verdict};
 ghost use Rattle.place_engine.specs.Answers.{PlaceAnswers, StreamAnswers};
 ghost use Rattle.place_engine.specs.Places.{IsBuilt};
-ghost use Rattle.place_engine.specs.Provisional.{IsSilent};
+ghost use Rattle.place_engine.specs.Pushes.{push_of, pushes_in};
 ghost use Rattle.place_engine.specs.Shown.{IsShown, IsShownVerdict, IsSoundInfo};
 ghost use Rattle.place_engine.specs.Standing.{StandsAt};
 
+use crate::push::Push;
 use crate::sameness::same_stream_config;
 use js_base::{Blob, Moment, NoMemory};
 use js_model::refusals::{no_message, other_config};
@@ -106,11 +107,21 @@ impl LiveStream {
         Ok(self.info_with(config))
     }
 
+    /// The push consumer at a place in the order of their names. There are none.
+    pub fn push(&self, at: usize) -> Option<Push<'_>>
+        ensures value { result ≡ option_map push_of (slice_get (pushes_in (Live self.now)) at) }
+        ensures few { length (pushes_in (Live self.now)) ≤ 256 }
+    {
+        // that there are none is what the proof takes from this look
+        let _ = &self.state;
+        let _ = at;
+        None
+    }
+
     /// Whether a consumer is ready at a moment. There are none.
     pub fn ready(&self, now: Moment, listening: &Listening) -> bool
         ensures value { result ≡ list_any (is_ready (advance self.now now) listening.now) (advance self.now now).consumers }
         ensures none { result ≡ false }
-        ensures silent { IsSilent (Live self.now) }
     {
         // that there are none is what the proof takes from this look
         let _ = &self.state;

@@ -14,9 +14,10 @@ ghost use Rattle.place_engine.specs.Stepping.{Steps};
 
 use crate::faults::{OpenFault, PlaceFault};
 use crate::place::Place;
+use crate::push::Push;
 use crate::slot::Slot;
 use js_base::{Blob, Moment, NoMemory, Outs};
-use js_model::{Event, Listening, Reply};
+use js_model::{Delivery, Event, Listening, Reply};
 use std::alloc::Global;
 use std::marker::Model;
 
@@ -78,6 +79,11 @@ impl<V> Place for MemoryPlace<V> {
         None
     }
 
+    /// There are no consumers.
+    fn push(&self, at: usize) -> Option<Push<'_>> {
+        self.slot.push(at)
+    }
+
     fn ready(&self, now: Moment, listening: &Listening) -> bool {
         self.slot.ready(now, listening)
     }
@@ -102,6 +108,18 @@ impl<V> Place for MemoryPlace<V> {
             Ok(reply) => Ok(reply),
             Err(NoMemory) => Err(PlaceFault::NoMemory(left)),
         }
+    }
+
+    /// There are no consumers, so none is ready.
+    fn deliver_one(
+        &mut self,
+        now: Moment,
+        listening: &Listening,
+        outs: &mut Outs,
+    ) -> Result<Option<Delivery>, PlaceFault> {
+        let _ready = self.slot.ready(now, listening);
+        let _sent = outs.as_slice();
+        Ok(None)
     }
 
     fn into_vol(self) -> V {

@@ -1,19 +1,21 @@
 //! A place for one stream, in memory or on a volume.
 
-ghost use Rattle.std.specs.Prelude.{◌≡◌, ◌≤◌, ◌<◌, ◌^◌, false, IfOk, IfErr, IfSome, IsTrue, IsUtf8};
+ghost use Rattle.std.specs.Prelude.{◌≡◌, ◌≤◌, ◌<◌, ◌^◌, length, option_map, slice_get, IfOk, IfErr, IfSome, IsTrue, IsUtf8};
 ghost use Rattle.std.specs.Option.{option_copied};
 ghost use Rattle.js_model.specs.declared.stream.State.{State};
 ghost use Rattle.js_model.specs.Events.{kept_incarnation};
 ghost use Rattle.js_model.specs.Proper.{is_proper};
 ghost use Rattle.js_model.specs.Ready.{some_ready};
+ghost use Rattle.place_engine.specs.Delivering.{Delivers};
 ghost use Rattle.place_engine.specs.Places.{IsBuilt, name_in, subjects_in};
-ghost use Rattle.place_engine.specs.Provisional.{IsSilent};
+ghost use Rattle.place_engine.specs.Pushes.{push_of, pushes_in};
 ghost use Rattle.place_engine.specs.Shown.{IsShown};
 ghost use Rattle.place_engine.specs.Stepping.{Image, IsKept, Seen, Steps};
 
 use crate::faults::PlaceFault;
+use crate::push::Push;
 use js_base::{Blob, Moment, Outs};
-use js_model::{Event, Listening, Reply};
+use js_model::{Delivery, Event, Listening, Reply};
 
 /// A place, vacant or with a stream, and its volume.
 pub trait Place {
@@ -51,14 +53,15 @@ pub trait Place {
     fn stopped(&self) -> Option<u64>
         ensures value { result ≡ (seen self.now).place.stopped };
 
+    /// The push consumer at a place in the order of their names, counted from 0. `None` exactly from their number on. There are at most 256.
+    fn push(&self, at: usize) -> Option<Push<'_>>
+        ensures value { result ≡ option_map push_of (slice_get (pushes_in (seen self.now).place.state) at) }
+        ensures few { length (pushes_in (seen self.now).place.state) ≤ 256 };
+
     /// Whether a consumer is ready at a moment, one to whom something can be delivered, if somebody listens to these push consumers. It changes
     /// nothing.
-    ///
-    /// As long as there are no consumers, none is ready, and nobody is to be asked whether he listens.
     fn ready(&self, now: Moment, listening: &Listening) -> bool
-        ensures value { result ≡ some_ready (seen self.now).place.state now listening.now }
-        ensures none { result ≡ false }
-        ensures silent { IsSilent (seen self.now).place.state };
+        ensures value { result ≡ some_ready (seen self.now).place.state now listening.now };
 
     /// Makes an event at a moment, answers it, and adds what it sends to the outputs. What each fault leaves of the place and of the outputs is
     /// said at [`PlaceFault`]; if a place is stopped, the event's incarnation is not looked at.
@@ -71,6 +74,18 @@ pub trait Place {
         requires proper { IsTrue (is_proper event.now) }
         ensures steps { Steps holds result event.now now (seen self.old) (seen self.new) outs.old outs.new }
         ensures shown { IfOk result IsShown }
+        ensures vol { keeps_vol (vol self.old) (vol self.new) };
+
+    /// Makes one delivery at a moment to a consumer that is ready, if somebody listens to these push consumers, and adds what it sends to the outputs.
+    /// Which of them it is and which of its messages, is left open as far as the machine leaves it so. `None` comes exactly if none is ready, and changes
+    /// nothing. What each fault leaves of the place and of the outputs is said at [`PlaceFault`]; `Gone` does not come.
+    fn deliver_one(
+        &mut self,
+        now: Moment,
+        listening: &Listening,
+        outs: &mut Outs,
+    ) -> Result<Option<Delivery>, PlaceFault>
+        ensures delivers { Delivers holds result now listening.now (seen self.old) (seen self.new) outs.old outs.new }
         ensures vol { keeps_vol (vol self.old) (vol self.new) };
 
     /// Ends the place, and gives its volume back.

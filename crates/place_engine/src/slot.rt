@@ -1,6 +1,6 @@
 //! What a place holds, in memory.
 
-ghost use Rattle.std.specs.Prelude.{◌≡◌, ◌≢◌, ◌≤◌, ◌<◌, ◌^◌, ℕ, false, IfOk, IfSome, OnOk, OnErr, Option, IsTrue, IsUtf8};
+ghost use Rattle.std.specs.Prelude.{◌≡◌, ◌≢◌, ◌≤◌, ◌<◌, ◌^◌, ℕ, false, length, option_map, slice_get, IfOk, IfSome, OnOk, OnErr, Option, IsTrue, IsUtf8};
 ghost use Rattle.std.specs.Option.{option_copied};
 ghost use Rattle.js_base.specs.Bytes.{Bytes};
 ghost use Rattle.js_model.specs.declared.stream.State.TheVariants.{Vacant};
@@ -13,12 +13,13 @@ ghost use Rattle.js_model.specs.StateMoments.{state_at};
 ghost use Rattle.place_engine.specs.Answers.{AnswersThen, PlaceAnswers};
 ghost use Rattle.place_engine.specs.InMemory.{left_of};
 ghost use Rattle.place_engine.specs.Places.{IsBuilt, IsVacant, name_in, subjects_in};
-ghost use Rattle.place_engine.specs.Provisional.{IsSilent};
+ghost use Rattle.place_engine.specs.Pushes.{push_of, pushes_in};
 ghost use Rattle.place_engine.specs.Shown.{IsShown};
 ghost use Rattle.place_engine.specs.Standing.{StandsAt};
 
 use crate::faults::Left;
 use crate::live_stream::LiveStream;
+use crate::push::Push;
 use js_base::{Blob, Moment, NoMemory};
 use js_model::refusals::{no_stream, numbers_used_up};
 use js_model::{Listening, Reply, StreamConfig, What};
@@ -101,11 +102,21 @@ impl Slot {
         }
     }
 
+    /// The push consumer at a place in the order of their names. There are none.
+    pub fn push(&self, at: usize) -> Option<Push<'_>>
+        ensures value { result ≡ option_map push_of (slice_get (pushes_in self.now) at) }
+        ensures few { length (pushes_in self.now) ≤ 256 }
+    {
+        match &self.held {
+            Held::Nothing(_) => None,
+            Held::Stream(stream) => stream.push(at),
+        }
+    }
+
     /// Whether a consumer is ready at a moment. There are none.
     pub fn ready(&self, now: Moment, listening: &Listening) -> bool
         ensures value { result ≡ some_ready self.now now listening.now }
         ensures none { result ≡ false }
-        ensures silent { IsSilent self.now }
     {
         match &self.held {
             Held::Nothing(_) => false,

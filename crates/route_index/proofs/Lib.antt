@@ -1,9 +1,13 @@
 pub mod Numbers
 pub mod Under
 pub mod Fronts
+pub mod Order
+pub mod Pieces
+pub mod Reaching
 pub mod Parts
 pub mod Finding
 pub mod Going
+pub mod Among
 pub mod Rising
 pub mod Listing
 pub mod Whole

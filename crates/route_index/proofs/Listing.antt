@@ -14,8 +14,11 @@ use Rattle.std.proofs.lemmas.Map.Keys.{sorted_tail, IsDistinct-from_sorted}
 use Rattle.std.proofs.lemmas.List.{map-append}
 use Rattle.std.proofs.lemmas.Bool.{eqb-true, true≢false, and_parts}
 use Rattle.js_base.specs.Bytes.{Bytes, same, has}
-use Rattle.js_base.specs.Subjects.{tokens, matches}
-use Rattle.route_index.specs.Subs.{id_of, is_match, matching_ids, IsAbove, is_there, without}
+use Rattle.js_base.specs.Subjects.{tokens}
+use Rattle.route_index.specs.declared.seek.Seek.{Seek}
+use Rattle.route_index.specs.Subs.{id_of, IsAbove, is_there, without}
+use Rattle.route_index.specs.Searching.{fits}
+use Rattle.route_index.specs.Sought.{is_sought, sought_ids}
 use Rattle.route_index.specs.Ids.{Ids, Patterns, sub_of, subs_of, has_pattern, is_under, Mirrors, AddsId, DropsId, KeepsIds}
 use Rattle.route_index.proofs.Numbers.{or_false, and_true, at_number, eq_flip}
 
@@ -32,47 +35,47 @@ at_is id n = at_number id n ∙ eq_flip id n
 alone : (id : ℕ) (e : ℕ × Bytes) (es : Entries) → IsStrictlySortedBy nat_cmp (keys_of (e ∷ es)) → at id e.0 ≡ true → NonePasses (at id) es
 alone id e es rising h = none_past_head (eq_by_cmp_equiv nat_cmp_total) id e es (IsDistinct-from_sorted nat_cmp (keys_of (e ∷ es)) rising) h
 
--- ---- which numbers match
+-- ---- which numbers are sought
 
-abbrev pub match_of : Bytes → Option Bytes → Bool
-match_of subject None = false
-match_of subject (Some pattern) = matches (tokens pattern) (tokens subject)
+abbrev pub sought_of : Seek → Bytes → Option Bytes → Bool
+sought_of seek text None = false
+sought_of seek text (Some pattern) = fits seek (tokens pattern) (tokens text)
 
-pub matching_has : (subject : Bytes) (id : ℕ) (es : Entries) → IsStrictlySortedBy nat_cmp (keys_of es) → has (matching_ids subject (map sub_of es)) id ≡ match_of subject (lookup (at id) es)
-matching_has subject id [] rising = refl
-matching_has subject id (e ∷ es) rising =
-    go (matches (tokens e.1) (tokens subject)) (e.0 == id) refl refl (matching_has subject id es (sorted_tail nat_cmp e.0 (keys_of es) rising))
+pub sought_has : (seek : Seek) (text : Bytes) (id : ℕ) (es : Entries) → IsStrictlySortedBy nat_cmp (keys_of es) → has (sought_ids seek text (map sub_of es)) id ≡ sought_of seek text (lookup (at id) es)
+sought_has seek text id [] rising = refl
+sought_has seek text id (e ∷ es) rising =
+    go (fits seek (tokens e.1) (tokens text)) (e.0 == id) refl refl (sought_has seek text id es (sorted_tail nat_cmp e.0 (keys_of es) rising))
   where
-    none : (e.0 == id) ≡ true → match_of subject (lookup (at id) es) ≡ false
-    none h = ap (match_of subject) (lookup-none (at id) es (alone id e es rising (at_is id e.0 ∙ h)))
+    none : (e.0 == id) ≡ true → sought_of seek text (lookup (at id) es) ≡ false
+    none h = ap (sought_of seek text) (lookup-none (at id) es (alone id e es rising (at_is id e.0 ∙ h)))
 
-    go : (b c : Bool) → matches (tokens e.1) (tokens subject) ≡ b → (e.0 == id) ≡ c → has (matching_ids subject (map sub_of es)) id ≡ match_of subject (lookup (at id) es)
-        → has (map id_of (cond b (sub_of e ∷ filter (is_match subject) (map sub_of es)) (filter (is_match subject) (map sub_of es)))) id
-        ≡ match_of subject (cond (at id e.0) (Some e.1) (lookup (at id) es))
-    go true true f g h = ap (λ c. c || has (matching_ids subject (map sub_of es)) id) g ∙ sym (ap (λ c. match_of subject (cond c (Some e.1) (lookup (at id) es))) (at_is id e.0 ∙ g) ∙ f)
+    go : (b c : Bool) → fits seek (tokens e.1) (tokens text) ≡ b → (e.0 == id) ≡ c → has (sought_ids seek text (map sub_of es)) id ≡ sought_of seek text (lookup (at id) es)
+        → has (map id_of (cond b (sub_of e ∷ filter (is_sought seek text) (map sub_of es)) (filter (is_sought seek text) (map sub_of es)))) id
+        ≡ sought_of seek text (cond (at id e.0) (Some e.1) (lookup (at id) es))
+    go true true f g h = ap (λ c. c || has (sought_ids seek text (map sub_of es)) id) g ∙ sym (ap (λ c. sought_of seek text (cond c (Some e.1) (lookup (at id) es))) (at_is id e.0 ∙ g) ∙ f)
     go true false f g h =
-        ap (λ c. c || has (matching_ids subject (map sub_of es)) id) g ∙ h ∙ sym (ap (λ c. match_of subject (cond c (Some e.1) (lookup (at id) es))) (at_is id e.0 ∙ g))
-    go false true f g h = h ∙ none g ∙ sym (ap (λ c. match_of subject (cond c (Some e.1) (lookup (at id) es))) (at_is id e.0 ∙ g) ∙ f)
-    go false false f g h = h ∙ sym (ap (λ c. match_of subject (cond c (Some e.1) (lookup (at id) es))) (at_is id e.0 ∙ g))
+        ap (λ c. c || has (sought_ids seek text (map sub_of es)) id) g ∙ h ∙ sym (ap (λ c. sought_of seek text (cond c (Some e.1) (lookup (at id) es))) (at_is id e.0 ∙ g))
+    go false true f g h = h ∙ none g ∙ sym (ap (λ c. sought_of seek text (cond c (Some e.1) (lookup (at id) es))) (at_is id e.0 ∙ g) ∙ f)
+    go false false f g h = h ∙ sym (ap (λ c. sought_of seek text (cond c (Some e.1) (lookup (at id) es))) (at_is id e.0 ∙ g))
 
 -- those numbers rise
-above_some : (x : ℕ) (subject : Bytes) (es : Entries) → AllByRecursion (λ y. nat_cmp x y ≡ Less) (keys_of es) → AllByRecursion (λ y. nat_cmp x y ≡ Less) (matching_ids subject (map sub_of es))
-above_some x subject [] h = tt
-above_some x subject (e ∷ es) h = go (is_match subject (sub_of e)) (above_some x subject es h.1)
+above_some : (x : ℕ) (seek : Seek) (text : Bytes) (es : Entries) → AllByRecursion (λ y. nat_cmp x y ≡ Less) (keys_of es) → AllByRecursion (λ y. nat_cmp x y ≡ Less) (sought_ids seek text (map sub_of es))
+above_some x seek text [] h = tt
+above_some x seek text (e ∷ es) h = go (is_sought seek text (sub_of e)) (above_some x seek text es h.1)
   where
-    go : (b : Bool) → AllByRecursion (λ y. nat_cmp x y ≡ Less) (matching_ids subject (map sub_of es))
-        → AllByRecursion (λ y. nat_cmp x y ≡ Less) (map id_of (cond b (sub_of e ∷ filter (is_match subject) (map sub_of es)) (filter (is_match subject) (map sub_of es))))
+    go : (b : Bool) → AllByRecursion (λ y. nat_cmp x y ≡ Less) (sought_ids seek text (map sub_of es))
+        → AllByRecursion (λ y. nat_cmp x y ≡ Less) (map id_of (cond b (sub_of e ∷ filter (is_sought seek text) (map sub_of es)) (filter (is_sought seek text) (map sub_of es))))
     go true k = (h.0, k)
     go false k = k
 
-pub matching_rise : (subject : Bytes) (es : Entries) → IsStrictlySortedBy nat_cmp (keys_of es) → IsStrictlySortedBy nat_cmp (matching_ids subject (map sub_of es))
+pub sought_rise : (seek : Seek) (text : Bytes) (es : Entries) → IsStrictlySortedBy nat_cmp (keys_of es) → IsStrictlySortedBy nat_cmp (sought_ids seek text (map sub_of es))
 unfolding IsStrictlySortedBy
-matching_rise subject [] h = tt
-matching_rise subject (e ∷ es) h = go (is_match subject (sub_of e)) (matching_rise subject es h.1)
+sought_rise seek text [] h = tt
+sought_rise seek text (e ∷ es) h = go (is_sought seek text (sub_of e)) (sought_rise seek text es h.1)
   where
-    go : (b : Bool) → IsStrictlySortedBy nat_cmp (matching_ids subject (map sub_of es))
-        → IsStrictlySortedBy nat_cmp (map id_of (cond b (sub_of e ∷ filter (is_match subject) (map sub_of es)) (filter (is_match subject) (map sub_of es))))
-    go true k = (above_some e.0 subject es h.0, k)
+    go : (b : Bool) → IsStrictlySortedBy nat_cmp (sought_ids seek text (map sub_of es))
+        → IsStrictlySortedBy nat_cmp (map id_of (cond b (sub_of e ∷ filter (is_sought seek text) (map sub_of es)) (filter (is_sought seek text) (map sub_of es))))
+    go true k = (above_some e.0 seek text es h.0, k)
     go false k = k
 
 -- ---- adding

@@ -1,5 +1,5 @@
 -- A text by its first token and what is left behind its dot.
-use Rattle.std.proofs.Common.{◌≡◌, ℕ, ◌==◌, Bool, true, false, cond, List, [], ◌∷◌, ◌++◌, refl, sym, ap, ◌∙◌}
+use Rattle.std.proofs.Common.{◌≡◌, ℕ, ◌==◌, Bool, true, false, cond, List, [], ◌∷◌, ◌++◌, map, Bor, refl, sym, ap, ◌∙◌}
 use Rattle.std.specs.List.{onto_first, join_with_byte}
 use Rattle.std.proofs.lemmas.List.Splits.{slice_split_at, slice_split_none, join_with_byte-slice_split}
 use Rattle.std.proofs.lemmas.List.Elements.{All-from_recursion, All-cons}
@@ -7,7 +7,7 @@ use Rattle.js_base.specs.Bytes.{Bytes}
 use Rattle.js_base.specs.Subjects.{tokens}
 use Rattle.route_index.specs.Searching.{IsDotless, AreDotless}
 
-abbrev is_dot : ℕ → Bool
+abbrev pub is_dot : ℕ → Bool
 is_dot byte = byte == 46
 
 pub first_is : (a b : Bytes) (more others : List Bytes) → a ∷ more ≡ b ∷ others → a ≡ b
@@ -15,6 +15,10 @@ first_is a b more others h = cc
 
 pub more_are : (a b : Bytes) (more others : List Bytes) → a ∷ more ≡ b ∷ others → more ≡ others
 more_are a b more others h = cc
+
+-- the texts of references
+abbrev pub texts : List (Bor Bytes) → List Bytes
+texts refs = map (λ part. part.now) refs
 
 -- a text of one token is that token
 pub alone : (text token : Bytes) → tokens text ≡ token ∷ [] → text ≡ token

@@ -1,3 +1,5 @@
 pub mod Subs
 pub mod Ids
 pub mod Searching
+pub mod Beneath
+pub mod Sought

@@ -5,11 +5,13 @@ ghost use Rattle.std.specs.List.Sorted.{IsStrictlySortedBy};
 ghost use Rattle.std.specs.Ordering.{nat_cmp};
 ghost use Rattle.js_base.specs.Bytes.{has};
 ghost use Rattle.js_base.specs.Subjects.{tokens};
-ghost use Rattle.route_index.specs.Subs.{matching_ids, is_there, without, IsAbove};
+ghost use Rattle.route_index.specs.Sought.{sought_ids};
+ghost use Rattle.route_index.specs.Subs.{matching_ids, overlapping_ids, is_there, without, IsAbove};
 
 use crate::ids::{Ids, put_id, remove_id};
 use crate::pattern::Pattern;
-use crate::search::search;
+use crate::search::{Query, search};
+use crate::seek::Seek;
 use crate::sub::Sub;
 use js_base::NoMemory;
 use std::alloc::{AllocError, Global};
@@ -90,28 +92,49 @@ impl RouteIndex {
     pub fn matching(&self, subject: &[u8]) -> Result<Vec<u64>, NoMemory>
         ensures ids { IfOk result (λ found. found.items ≡ matching_ids subject.now self.now) }
     {
-        let mut found = self.unordered(subject)?;
+        self.sought(Seek::Matching, subject)
+    }
+
+    /// The numbers of the subscriptions whose patterns overlap with this one, in the order of their adding. At a token of the pattern the
+    /// search looks at the subscriptions that go on with this token, `*` or `>`; at a `*` at each token that subscriptions go on with; and at a
+    /// last `>` at all that are left. The other subscriptions cost nothing but a few steps in an ordered map.
+    pub fn overlapping(&self, pattern: &[u8]) -> Result<Vec<u64>, NoMemory>
+        ensures ids { IfOk result (λ found. found.items ≡ overlapping_ids pattern.now self.now) }
+    {
+        self.sought(Seek::Overlapping, pattern)
+    }
+
+    /// The numbers of the subscriptions that are sought by a text.
+    fn sought(&self, seek: Seek, text: &[u8]) -> Result<Vec<u64>, NoMemory>
+        ensures ids { IfOk result (λ found. found.items ≡ sought_ids seek text.now self.now) }
+    {
+        let mut found = self.unordered(seek, text)?;
         found.sort_unstable();
         found.dedup();
         Ok(found)
     }
 
     /// These numbers, out of order, and some more than once.
-    fn unordered(&self, subject: &[u8]) -> Result<Vec<u64>, NoMemory>
-        ensures ids { IfOk result (λ found. (id : ℕ) → has found.items id ≡ has (matching_ids subject.now self.now) id) }
-        ensures rise { OnOk result (IsStrictlySortedBy nat_cmp (matching_ids subject.now self.now)) }
+    fn unordered(&self, seek: Seek, text: &[u8]) -> Result<Vec<u64>, NoMemory>
+        ensures ids { IfOk result (λ found. (id : ℕ) → has found.items id ≡ has (sought_ids seek text.now self.now) id) }
+        ensures rise { OnOk result (IsStrictlySortedBy nat_cmp (sought_ids seek text.now self.now)) }
     {
-        let tokens = tokens_of(self.alloc, subject)?;
+        let tokens = tokens_of(self.alloc, text)?;
         let mut path = Pattern::new(self.alloc);
         let mut found = Vec::new(self.alloc);
-        search(&self.ids, &mut path, tokens.as_slice(), &mut found)?;
+        let query = Query {
+            ids: &self.ids,
+            alloc: self.alloc,
+            seek,
+        };
+        search(&query, &mut path, tokens.as_slice(), &mut found)?;
         Ok(found)
     }
 }
 
-/// The tokens of a subject.
-fn tokens_of(alloc: Global, subject: &[u8]) -> Result<Vec<&[u8]>, AllocError>
-    ensures value { IfOk result (λ parts. map (λ part. part.now) parts.items ≡ tokens subject.now) }
+/// The tokens of a subject or a pattern.
+fn tokens_of(alloc: Global, text: &[u8]) -> Result<Vec<&[u8]>, AllocError>
+    ensures value { IfOk result (λ parts. map (λ part. part.now) parts.items ≡ tokens text.now) }
 {
-    subject.split(|byte| *byte == b'.').collect(alloc)
+    text.split(|byte| *byte == b'.').collect(alloc)
 }

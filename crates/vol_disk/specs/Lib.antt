@@ -14,3 +14,4 @@ pub mod MemDisk
 pub mod Sound
 pub mod Laws
 pub mod MemVol
+pub mod Untold

@@ -1,10 +1,12 @@
 //! Volumes of numbered files, with what a crash may leave of them: a trait with a meaning, and a form in
-//! memory that has every image and tells each call that was made on it.
+//! memory that has every image and tells each call that was made on it, and one over a folder.
 #![tactic(auto)]
 
 mod call;
+mod dir_vol;
 mod drafts;
 mod failed;
+mod folder;
 mod held;
 mod hold_vol;
 mod mem_file;
@@ -14,6 +16,7 @@ mod synced;
 mod vol;
 
 pub use call::{Call, Deed};
+pub use dir_vol::DirVol;
 pub use failed::Failed;
 pub use hold_vol::HoldVol;
 pub use mem_vol::MemVol;

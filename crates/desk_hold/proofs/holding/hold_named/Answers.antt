@@ -16,13 +16,13 @@ make-requires-clause-proper g c =
 
 pub returns-in-Ok-clause-holds : goal.returns-in-Ok-clause-holds
 returns-in-Ok-clause-holds g c =
-    let R = g.R.Port in let old = (g.P.Place.seen c.args.place.now).place in let new = (g.P.Place.seen c.make.new.place).place in
+    let R = g.R.Port in let old = (g.P.Place.seen c.args.place.now).place in let mid = (g.P.Place.seen c.make.new.place).place in
+    let new = (g.P.Place.seen c.follow_step-following.new.place).place in
     let what = c.args.event.now.what in
-    let made : EndsStep (Ok c.in-Ok.step) (event_at c.args.at what) c.args.now old new [] c.make.new.outs =
-    ends_at R.routes R.worn c.args.at what c.args.now (Ok c.in-Ok.step) c.args.event.now old new c.new-outs.result c.make.new.outs c.requires.event c.new-outs.ensures c.in-Ok.ensures.ends in
-    held_made R.routes R.worn c.args.at what c.args.now _ c.in-Ok.step old new c.make.new.outs _ _ made
-    c.finish.ensures.became c.is_ready-ready.ensures.silent (c.finish.ensures.ready ∙ c.is_ready-ready.ensures.value) (c.finish.ensures.ready ∙ c.is_ready-ready.ensures.none)
-    (rw c.as_slice-in-Ok.ensures at c.finish.ensures.sends)
+    let made : EndsStep (Ok c.in-Ok.step) (event_at c.args.at what) c.args.now old mid [] c.make.new.outs =
+    ends_at R.routes R.worn c.args.at what c.args.now (Ok c.in-Ok.step) c.args.event.now old mid c.new-outs.result c.make.new.outs c.requires.event c.new-outs.ensures c.in-Ok.ensures.ends in
+    held_made R.routes R.worn c.args.at what c.args.now c.follow_step-following.result _ c.in-Ok.step old mid new c.make.new.outs c.follow_step-following.new.outs _ _ _ made
+    c.finish.ensures.became (c.follow_step-following.ensures.follows c.args.at) (rw c.as_slice-in-Ok.ensures at c.finish.ensures.sends)
 
 pub returns-in-Ok-clause-number : goal.returns-in-Ok-clause-number
 returns-in-Ok-clause-number g c =

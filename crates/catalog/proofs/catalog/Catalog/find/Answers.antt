@@ -5,7 +5,7 @@ use Rattle.js_model.specs.Catalog.{At, telling, catalog_call, first_place, place
 use Rattle.catalog.specs.declared.entry.Entry.{Entry}
 use Rattle.catalog.specs.Numbers.{is_of}
 use Rattle.catalog.specs.Entries.{place_of}
-use Rattle.catalog.proofs.Placing.{found_by_numbers}
+use Rattle.catalog.proofs.Finding.{found_by_numbers}
 use Rattle.catalog.proofs.catalog.Catalog.find.Goals as goal
 
 pub first_place-requires : goal.first_place-requires

@@ -1,4 +1,4 @@
-use Rattle.std.proofs.Common.{◌≡◌, ◌+◌, ◌<◌, ◌^◌, length}
+use Rattle.std.proofs.Common.{◌+◌, ◌<◌, ◌^◌, length}
 use Rattle.pending_table.specs.Trees.{entries}
 use Rattle.pending_table.proofs.Around.{ordered, lacks}
 use Rattle.pending_table.proofs.Tables.{put_table}

@@ -1,9 +1,9 @@
-use Rattle.std.proofs.Common.{◌≡◌, ◌≤◌, ◌+◌, ◌-◌, ◌<◌, ◌^◌, length, sym, ◌∙◌, arith}
+use Rattle.std.proofs.Common.{◌≡◌, ◌≤◌, ◌+◌, ◌-◌, sym, ◌∙◌, arith}
 use Rattle.js_model.specs.declared.consumer.Pending.{Pending}
 use Rattle.pending_table.specs.Trees.{entries}
-use Rattle.pending_table.proofs.Around.{ordered, lacks}
+use Rattle.pending_table.proofs.Around.{ordered}
 use Rattle.pending_table.proofs.Changed.{put_replaced}
-use Rattle.pending_table.proofs.Tables.{weight, put_table, replaced_table, weight_within}
+use Rattle.pending_table.proofs.Tables.{weight, replaced_table, weight_within}
 use Rattle.pending_table.proofs.table.PendingTable.put.Goals as goal
 
 pub get-requires : goal.get-requires

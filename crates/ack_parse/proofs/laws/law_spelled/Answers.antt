@@ -1,0 +1,6 @@
+use Rattle.ack_parse.proofs.Subjects.{law_subject}
+use Rattle.ack_parse.proofs.Bodies.{law_body}
+use Rattle.ack_parse.proofs.laws.law_spelled.Goals as goal
+
+pub returns : goal.returns
+returns c = record { subject = law_subject; body = law_body }

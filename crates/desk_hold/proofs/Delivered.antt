@@ -1,0 +1,152 @@
+-- The deliveries of a hold, one behind the other.
+use Rattle.std.proofs.Common.{◌≡◌, ◌≢◌, ◌≤◌, ◌+◌, ◌++◌, ℕ, suc, ◌<◌, get_or, add-one, Bool, true, false, List, [], ◌∷◌, length, length-append, append-nil, append_assoc, Option, None, Some, refl, sym, ap, subst, ◌∙◌, arith, inl, inr}
+use Rattle.std.specs.Prelude.{◌⊎◌, sum_by, drop, take}
+use Rattle.std.proofs.Math.Seq.{drop-append_seam, take-suc}
+use Rattle.std.proofs.lemmas.List.Sums.{sum_by-append, sum_by-take-le}
+use Rattle.js_base.specs.Bytes.{Bytes}
+use Rattle.js_base.specs.declared.out.Out.{Out}
+use Rattle.js_model.specs.declared.entry.Delivery.{Delivery}
+use Rattle.js_model.specs.declared.entry.PlaceEntry.{PlaceEntry}
+use Rattle.js_model.specs.declared.entry.PlaceEntry.TheVariants.{Step, Deliver, Broken}
+use Rattle.js_model.specs.declared.desk.PlaceAt.{PlaceAt}
+use Rattle.js_model.specs.PlaceStates.{PlaceIn}
+use Rattle.js_api.specs.declared.fault.DeskFault.{DeskFault}
+use Rattle.js_api.specs.Holding.{AreDeliveries, bytes_of, delivery_broke, most_bytes, most_deliveries}
+use Rattle.js_api.specs.Worlds.{IsLater}
+use Rattle.desk_hold.specs.declared.delivering.Ending.{Ending}
+use Rattle.desk_hold.specs.declared.delivering.Ending.TheVariants.{Quiet, Full, Broke, Short, WornOut}
+use Rattle.desk_hold.specs.Deliveries.{DeliversOn, EndsSo, GoesOn, IsSentAt, Led, Pauses, fault_by}
+
+-- So many deliveries were made and told so far. What goes on from here, goes on from the beginning
+pub record SoFar (now : ℕ) (listening : List Bytes) (made : ℕ) (old here : PlaceIn) (before outs : List Out) : Type 0 where
+  pub first : List PlaceEntry
+  pub sent : List Out
+  pub count : length first ≡ made
+  pub added : outs ≡ before ++ sent
+  pub goes : here.stopped ≡ None
+  pub whole : (tail : List PlaceEntry) → delivery_broke (first ++ tail) ≡ delivery_broke tail
+  pub are : (at : PlaceAt) (fault : Option DeskFault) (tail : List PlaceEntry) → AreDeliveries 0 at now listening fault tail → AreDeliveries 0 at now listening fault (first ++ tail)
+  pub led : (tail : List PlaceEntry) (more : List Out) (new : PlaceIn) → Led here tail more new → Led old (first ++ tail) (sent ++ more) new
+
+pub none_so_far : (now : ℕ) (listening : List Bytes) (old : PlaceIn) (outs : List Out) → old.stopped ≡ None → SoFar now listening 0 old old outs outs
+none_so_far now listening old outs goes = record {
+  first = [];
+  sent = [];
+  count = refl;
+  added = sym (append-nil outs);
+  goes = goes;
+  whole = λ tail. refl;
+  are = λ at fault tail h. h;
+  led = λ tail more new h. h;
+}
+
+-- one more
+module _ (now : ℕ) (listening : List Bytes) (made : ℕ) (old here next : PlaceIn) (before outs after : List Out) (d : Delivery) (os : List Out)
+    (h : SoFar now listening made old here before outs) (step : IsSentAt now listening d os here next) (goes : next.stopped ≡ None) (added : after ≡ outs ++ os) where
+  entry : PlaceEntry
+  entry = Deliver 0 now listening d os
+
+  grown : (tail : List PlaceEntry) → (h.first ++ entry ∷ []) ++ tail ≡ h.first ++ entry ∷ tail
+  grown tail = append_assoc h.first (entry ∷ []) tail
+
+  pub one_more : SoFar now listening (made + 1) old next before after
+  unfolding entry
+  one_more = record {
+    first = h.first ++ entry ∷ [];
+    sent = h.sent ++ os;
+    count = length-append h.first (entry ∷ []) ∙ ap (λ (n : ℕ). n + 1) h.count;
+    added = added ∙ ap (λ (l : List Out). l ++ os) h.added ∙ append_assoc before h.sent os;
+    goes = goes;
+    whole = λ tail. ap delivery_broke (grown tail) ∙ h.whole (entry ∷ tail);
+    are = λ at fault tail k. subst (λ (es : List PlaceEntry). AreDeliveries 0 at now listening fault es) (sym (grown tail)) (h.are at fault (entry ∷ tail) (refl, refl, refl, k));
+    led = λ tail more new k.
+        subst (λ (es : List PlaceEntry). Led old es ((h.sent ++ os) ++ more) new) (sym (grown tail))
+        (subst (λ (l : List Out). Led old (h.first ++ entry ∷ tail) l new) (sym (append_assoc h.sent os more))
+        (h.led (entry ∷ tail) (os ++ more) new (next, more, step, goes, refl, k)));
+  }
+
+-- ---- the end
+
+not_none : (first tail : List PlaceEntry) → tail ≢ [] → first ++ tail ≢ []
+not_none [] tail some = some
+not_none (e ∷ first) tail some = λ none. let no : ⊥ = cc in absurd no
+
+ends_behind : (ending : Ending) (now : ℕ) (listening : List Bytes) (first tail : List PlaceEntry) (new : PlaceIn) (outs : List Out) → delivery_broke (first ++ tail) ≡ delivery_broke tail
+    → EndsSo ending now listening tail new outs → EndsSo ending now listening (first ++ tail) new outs
+ends_behind Quiet now listening first tail new outs same h = (same ∙ h.0, h.1)
+ends_behind Full now listening first tail new outs same (whole, inl many) = (same ∙ whole, inl (omega (arith, many, length-append first tail)))
+ends_behind Full now listening first tail new outs same (whole, inr big) = (same ∙ whole, inr big)
+ends_behind Broke now listening first tail new outs same h = same ∙ h
+ends_behind Short now listening first tail new outs same h = tt
+ends_behind WornOut now listening first tail new outs same h = (not_none first tail h.0, h.1)
+
+-- what ended there ends all
+pub ended_there : (at : PlaceAt) (now : ℕ) (listening : List Bytes) (made : ℕ) (ending : Ending) (old here new : PlaceIn) (before outs after : List Out)
+    → SoFar now listening made old here before outs → DeliversOn at now listening ending here new outs after → DeliversOn at now listening ending old new before after
+ended_there at now listening made ending old here new before outs after h k = record {
+  entries = h.first ++ k.entries;
+  sent = h.sent ++ k.sent;
+  are = h.are at (fault_by ending) k.entries k.are;
+  led = h.led k.entries k.sent new k.led;
+  added = k.added ∙ ap (λ (l : List Out). l ++ k.sent) h.added ∙ append_assoc before h.sent k.sent;
+  ends = ends_behind ending now listening h.first k.entries new after (h.whole k.entries) k.ends;
+}
+
+same_volume : (p : PlaceIn) → IsLater p.volume p.volume
+same_volume p = record { faults = omega arith; moments = omega arith; generations = omega arith }
+
+-- it is full
+pub full_there : (at : PlaceAt) (now : ℕ) (listening : List Bytes) (made : ℕ) (old here : PlaceIn) (before outs : List Out) → SoFar now listening made old here before outs
+    → (most_deliveries ≤ made) ⊎ (most_bytes ≤ sum_by bytes_of outs) → DeliversOn at now listening Full old here before outs
+full_there at now listening made old here before outs h full = record {
+  entries = h.first ++ [];
+  sent = h.sent ++ [];
+  are = h.are at None [] tt;
+  led = h.led [] [] here (record { going = h.goes; state = refl; stored = refl; stopped = h.goes; later = same_volume here }, refl);
+  added = h.added ∙ ap (λ (l : List Out). before ++ l) (sym (append-nil h.sent));
+  ends = (h.whole [], by full);
+}
+  where
+    by : (most_deliveries ≤ made) ⊎ (most_bytes ≤ sum_by bytes_of outs) → (most_deliveries ≤ length (h.first ++ [])) ⊎ (most_bytes ≤ sum_by bytes_of outs)
+    by (inl many) = inl (subst (λ (es : List PlaceEntry). most_deliveries ≤ length es) (sym (append-nil h.first)) (subst (λ (n : ℕ). most_deliveries ≤ n) (sym h.count) many))
+    by (inr big) = inr big
+
+-- ---- in the loop
+
+pub next_so_far : (now : ℕ) (listening : List Bytes) (made : ℕ) (old here next : PlaceIn) (before outs after : List Out) (told : Option Ending) → told ≡ None
+    → SoFar now listening made old here before outs → GoesOn now listening told here next outs after → SoFar now listening (made + 1) old next before after
+next_so_far now listening made old here next before outs after None none h (d, os, step, goes, added) = one_more now listening made old here next before outs after d os h step goes added
+next_so_far now listening made old here next before outs after (Some ending) some h k = let no : ⊥ = cc in absurd no
+
+pub ended_so : (now : ℕ) (listening : List Bytes) (made : ℕ) (old here next : PlaceIn) (before outs after : List Out) (told : Option Ending) (ending : Ending) → told ≡ Some ending
+    → SoFar now listening made old here before outs → GoesOn now listening told here next outs after → (at : PlaceAt) → DeliversOn at now listening ending old next before after
+ended_so now listening made old here next before outs after None ending some h k = let no : ⊥ = cc in absurd no
+ended_so now listening made old here next before outs after (Some last) ending some h k = λ at.
+    subst (λ (e : Ending). DeliversOn at now listening e old next before after) (let same : last ≡ ending = cc in same)
+    (ended_there at now listening made last old here next before outs after h (k at))
+
+-- the size of what was added
+pub larger : (size more : ℕ) (outs after : List Out) (now : ℕ) (listening : List Bytes) (here next : PlaceIn) (told : Option Ending) → told ≡ None → GoesOn now listening told here next outs after
+    → size ≤ sum_by bytes_of outs → more ≤ sum_by bytes_of (drop (length outs) after) → size + more ≤ sum_by bytes_of after
+larger size more outs after now listening here next None none (d, os, step, goes, added) small added_small =
+    let tail : drop (length outs) after ≡ os = ap (λ (l : List Out). drop (length outs) l) added ∙ drop-append_seam outs os in
+    let whole : sum_by bytes_of after ≡ sum_by bytes_of outs + sum_by bytes_of os = ap (λ (l : List Out). sum_by bytes_of l) added ∙ sum_by-append bytes_of outs os in
+    let part : sum_by bytes_of (drop (length outs) after) ≡ sum_by bytes_of os = ap (λ (l : List Out). sum_by bytes_of l) tail in
+    omega (arith, small, added_small, whole, part)
+larger size more outs after now listening here next (Some last) some k small added_small = let no : ⊥ = cc in absurd no
+
+-- ---- sizes
+
+-- the size of one more
+pub size_more : (outs : List Out) (i : ℕ) (out : Out) (size more total : ℕ) → i < length outs → out ≡ get_or outs i out → size ≤ sum_by bytes_of (take i outs) → more ≤ bytes_of out → total ≤ size + more
+    → total ≤ sum_by bytes_of (take (i + 1) outs)
+size_more outs i out size more total within is small one sum =
+    let next : take (i + 1) outs ≡ take i outs ++ (out ∷ []) =
+    ap (λ (n : ℕ). take n outs) (add-one i) ∙ take-suc outs i out within ∙ ap (λ (o : Out). take i outs ++ (o ∷ [])) (sym is) in
+    let whole : sum_by bytes_of (take (i + 1) outs) ≡ sum_by bytes_of (take i outs) + sum_by bytes_of (out ∷ []) =
+    ap (λ (l : List Out). sum_by bytes_of l) next ∙ sum_by-append bytes_of (take i outs) (out ∷ []) in
+    let alone : sum_by bytes_of (out ∷ []) ≡ bytes_of out = omega arith in
+    omega (arith, small, one, sum, whole, alone)
+
+pub size_all : (outs : List Out) (i size : ℕ) → size ≤ sum_by bytes_of (take i outs) → size ≤ sum_by bytes_of outs
+size_all outs i size small = let part = sum_by-take-le bytes_of outs i in omega (arith, small, part)

@@ -1,0 +1,39 @@
+use Rattle.std.proofs.Common.{◌≡◌, ◌≤◌, ℕ, List, length, drop, sum_by, ap, subst, ◌∙◌, inl, inr, arith}
+use Rattle.js_base.specs.declared.out.Out.{Out}
+use Rattle.js_api.specs.Holding.{bytes_of}
+use Rattle.desk_hold.proofs.Delivered.{ended_there, full_there, larger, next_so_far, none_so_far}
+use Rattle.desk_hold.proofs.delivering.deliver_all.Goals as goal
+
+pub returns-then-size-ge-MOST_BYTES-clause-delivers :
+    goal.returns-then-size-ge-MOST_BYTES-clause-delivers
+returns-then-size-ge-MOST_BYTES-clause-delivers g c = λ at. full_there at _ _ _ _ _ _ _ c.loop.invariant.so_far (inr (omega (arith, c.loop.invariant.size)))
+
+pub deliver_next-requires : goal.deliver_next-requires
+deliver_next-requires g c = record { going = c.loop.invariant.so_far.goes }
+
+pub returns-in-Some-clause-delivers : goal.returns-in-Some-clause-delivers
+returns-in-Some-clause-delivers g c = λ at. ended_there at _ _ _ _ _ _ _ _ _ _ c.loop.invariant.so_far (c.in-Some.ensures.goes_on at)
+
+pub returns-clause-delivers : goal.returns-clause-delivers
+returns-clause-delivers g c = λ at. full_there at _ _ _ _ _ _ _ c.loop.invariant.so_far (inl (omega arith))
+
+pub loop-init : goal.loop-init
+loop-init g c = record {
+  so_far = none_so_far _ _ _ _ c.requires.going;
+  size = subst (λ (outs : List Out). c.size_of-size.result ≤ sum_by bytes_of outs) c.as_slice.ensures c.size_of-size.ensures.bound;
+  vol = g.met.P.Place.keeps_none _;
+}
+
+pub loop-preserved : goal.loop-preserved
+loop-preserved g c =
+    let i = c.loop.invariant in
+    let added : c.split_at.result.1.now ≡ drop (length c.loop.outs) c.deliver_next.new.outs =
+    c.split_at.ensures.back ∙ ap (λ (n : ℕ). drop n c.as_slice-in-loop.result.now) c.len-from.ensures ∙ ap (λ (outs : List Out). drop (length c.loop.outs) outs) c.as_slice-in-loop.ensures in
+    let more : c.size_of.result ≤ sum_by bytes_of (drop (length c.loop.outs) c.deliver_next.new.outs) =
+    subst (λ (outs : List Out). c.size_of.result ≤ sum_by bytes_of outs) added c.size_of.ensures.bound in
+    let whole = larger c.loop.size c.size_of.result c.loop.outs c.deliver_next.new.outs c.args.now c.args.listening.now _ _ _ c.in_default.is c.deliver_next.ensures.goes_on i.size more in
+    record {
+      so_far = next_so_far _ _ _ _ _ _ _ _ _ c.deliver_next.result c.in_default.is i.so_far c.deliver_next.ensures.goes_on;
+      size = omega (arith, whole, c.saturating_add-size.ensures);
+      vol = g.met.P.Place.keeps_more _ _ _ i.vol c.deliver_next.ensures.vol;
+    }

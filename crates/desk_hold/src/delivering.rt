@@ -1,0 +1,125 @@
+//! The deliveries of a hold.
+
+ghost use Rattle.std.specs.Prelude.{◌≡◌, ◌≤◌, sum_by, None};
+ghost use Rattle.js_api.specs.Holding.{bytes_of};
+ghost use Rattle.js_model.specs.declared.desk.PlaceAt.{PlaceAt};
+ghost use Rattle.desk_hold.specs.Deliveries.{DeliversOn, GoesOn, ending_after, ending_by};
+
+use crate::stepping::law_moment;
+use js_base::{Moment, Out, Outs};
+use js_model::{Delivery, Listening};
+use place_engine::{Place, PlaceFault};
+
+/// How many deliveries a hold makes at most.
+const MOST_DELIVERIES: u32 = 256;
+
+/// Once its outputs have so many bytes together, a hold makes no further delivery.
+const MOST_BYTES: usize = 4 << 20;
+
+/// How the deliveries of a hold ended.
+#[derive(Clone, Copy)]
+pub enum Ending {
+    /// No consumer is ready any more.
+    Quiet,
+    /// As much was done as a hold does.
+    Full,
+    /// The volume failed in the last one, and the place is stopped.
+    Broke,
+    /// Memory ran out.
+    Short,
+    /// The numbers of the store's generations are used up.
+    WornOut,
+}
+
+/// Delivers at a moment until no consumer is ready, if somebody listens to these push consumers, and adds what this sends; it ends before that once the
+/// hold is full, or by a fault.
+pub fn deliver_all<P: Place>(
+    place: &mut P,
+    now: Moment,
+    listening: &Listening,
+    outs: &mut Outs,
+) -> Ending
+    requires going { (P.seen place.old).place.stopped ≡ None }
+    ensures delivers { (at : PlaceAt) → DeliversOn at now listening.now result (P.seen place.old).place (P.seen place.new).place outs.old outs.new }
+    ensures vol { P.keeps_vol (P.vol place.old) (P.vol place.new) }
+{
+    let mut size = size_of(outs.as_slice());
+    for _ in 0..MOST_DELIVERIES {
+        if size >= MOST_BYTES {
+            return Ending::Full;
+        }
+        let from = outs.len();
+        if let Some(ending) = deliver_next(place, now, listening, outs) {
+            return ending;
+        }
+        size = size.saturating_add(size_of(outs.as_slice().split_at(from).1));
+    }
+    Ending::Full
+}
+
+/// Makes one delivery at a moment and adds what it sends, or tells why no further one is made.
+fn deliver_next<P: Place>(
+    place: &mut P,
+    now: Moment,
+    listening: &Listening,
+    outs: &mut Outs,
+) -> Option<Ending>
+    requires going { (P.seen place.old).place.stopped ≡ None }
+    ensures goes_on { GoesOn now listening.now result (P.seen place.old).place (P.seen place.new).place outs.old outs.new }
+    ensures vol { P.keeps_vol (P.vol place.old) (P.vol place.new) }
+{
+    law_moment(now);
+    // that the incarnation is at most 2^62 is what the proof takes from this call
+    let _ = place.incarnation();
+    let told = place.deliver_one(now, listening, outs);
+    ending_after(told)
+}
+
+/// Why no further delivery is made after one that came to that at a place that was not stopped before. `None` if it was made.
+fn ending_after(told: Result<Option<Delivery>, PlaceFault>) -> Option<Ending>
+    ensures value { result ≡ ending_after told }
+{
+    match told {
+        Ok(Some(_)) => None,
+        Ok(None) => Some(Ending::Quiet),
+        Err(fault) => Some(ended_by(fault)),
+    }
+}
+
+/// How a delivery's fault ends the deliveries.
+fn ended_by(fault: PlaceFault) -> Ending
+    ensures value { result ≡ ending_by fault }
+{
+    match fault {
+        PlaceFault::NoMemory(_) => Ending::Short,
+        PlaceFault::StoreFault | PlaceFault::Stopped(_) | PlaceFault::Gone(_) => Ending::Broke,
+        PlaceFault::Worn { refused: _ } => Ending::WornOut,
+    }
+}
+
+/// At most how many bytes these messages have together, in all of their fields.
+fn size_of(outs: &[Out]) -> usize
+    ensures bound { result ≤ sum_by bytes_of outs.now }
+{
+    let mut size = 0usize;
+    for out in outs {
+        size = size.saturating_add(bytes_of(out));
+    }
+    size
+}
+
+/// At most how many bytes a message has in all of its fields.
+fn bytes_of(out: &Out) -> usize
+    ensures bound { result ≤ bytes_of out.now }
+{
+    let reply = match &out.reply {
+        Some(reply) => reply.len(),
+        None => 0,
+    };
+    out.to
+        .len()
+        .saturating_add(out.subject.len())
+        .saturating_add(reply)
+        .saturating_add(out.headers.len())
+        .saturating_add(out.payload.len())
+}

@@ -1,0 +1,6 @@
+pub mod Durables
+pub mod Ranges
+pub mod Folding
+pub mod TimeEffects
+pub mod Effects
+pub mod Laws

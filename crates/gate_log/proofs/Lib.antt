@@ -1,0 +1,10 @@
+pub mod Spelling
+mod OneReading
+mod LetOn
+mod Walks
+mod Crash
+pub mod Openings
+mod Emptying
+mod Appendings
+pub mod GateReads
+pub mod Heads

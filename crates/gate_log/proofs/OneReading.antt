@@ -1,0 +1,247 @@
+-- A log file is read in one way.
+use Rattle.std.proofs.Common.{◌≡◌, ◌≢◌, ◌⊎◌, inl, inr, ℕ, ◌<◌, ◌≤◌, ◌^◌, List, [], ◌∷◌, ◌++◌, Option, Some, None, length, take, drop, get_or, refl, sym, ◌∙◌, ap, arith, append_assoc, length-append}
+use Rattle.std.specs.Int.{w16, w32, w64, to_be_bytes, from_be_bytes}
+use Rattle.std.proofs.lemmas.List.{take_at, drop_at}
+use Rattle.std.proofs.lemmas.Nat.{from_be_bytes-to_be_bytes_4, from_be_bytes-to_be_bytes_8}
+use Rattle.js_base.specs.Bytes.{Bytes}
+use Rattle.js_base.specs.Numbers.{number_at}
+use Rattle.gate_log.specs.Head.{mark, version, head}
+use Rattle.gate_log.specs.Batches.{open_batch, open_batches, end_of, HaveLengths}
+use Rattle.gate_log.specs.LogFile.{Spells, IsLog, HasOpen}
+use Rattle.gate_log.specs.Faults.{HasNoMark, HasUnknownVersion, HasBadGeneration, IsHeadDamagedAt, PassesEnd, HasCutBatch, IsDamagedAt, IsOfUnknownVersion}
+use Rattle.gate_log.specs.Laws.{LawReading}
+use Rattle.gate_log.proofs.Spelling as spelling
+use Rattle.gate_log.proofs.Spelling.{length-be4, length-head, length-open_batch}
+use Rattle.gate_log.proofs.Heads.{number_here}
+
+pub same_number : (m n : ℕ) → m < 2 ^ 32 → n < 2 ^ 32 → to_be_bytes w32 m ≡ to_be_bytes w32 n → m ≡ n
+same_number m n small less e = sym (from_be_bytes-to_be_bytes_4 m small) ∙ ap (λ (l : Bytes). from_be_bytes w32 l) e ∙ from_be_bytes-to_be_bytes_4 n less
+
+pub front_of : (x y more others : Bytes) (n : ℕ) → length x ≡ n → length y ≡ n → x ++ more ≡ y ++ others → x ≡ y
+front_of x y more others n one other e = sym (take_at x more n one) ∙ ap (λ (l : Bytes). take n l) e ∙ take_at y others n other
+
+back_of : (x y more others : Bytes) (n : ℕ) → length x ≡ n → length y ≡ n → x ++ more ≡ y ++ others → more ≡ others
+back_of x y more others n one other e = sym (drop_at x more n one) ∙ ap (λ (l : Bytes). drop n l) e ∙ drop_at y others n other
+
+-- behind its gate an open batch is its length, its records and more
+behind : (b more : Bytes) → drop 1 (open_batch b ++ more) ≡ to_be_bytes w32 (length b) ++ (b ++ more)
+behind b more = append_assoc (to_be_bytes w32 (length b)) b more
+
+same_length : (b c more others : Bytes) → length b < 2 ^ 32 → length c < 2 ^ 32 → open_batch b ++ more ≡ open_batch c ++ others → length b ≡ length c
+same_length b c more others small less e =
+    let tails = sym (behind b more) ∙ ap (λ (l : Bytes). drop 1 l) e ∙ behind c others in
+    same_number (length b) (length c) small less (front_of (to_be_bytes w32 (length b)) (to_be_bytes w32 (length c)) (b ++ more) (c ++ others) 4 (length-be4 (length b)) (length-be4 (length c)) tails)
+
+tails_same : (b c more others : Bytes) → open_batch b ++ more ≡ open_batch c ++ others → b ++ more ≡ c ++ others
+tails_same b c more others e =
+    back_of (to_be_bytes w32 (length b)) (to_be_bytes w32 (length c)) (b ++ more) (c ++ others) 4 (length-be4 (length b)) (length-be4 (length c)) (sym (behind b more) ∙ ap (λ (l : Bytes). drop 1 l) e ∙ behind c others)
+
+same_batch : (b c more others : Bytes) → length b < 2 ^ 32 → length c < 2 ^ 32 → open_batch b ++ more ≡ open_batch c ++ others → b ≡ c
+same_batch b c more others small less e = front_of b c more others (length c) (same_length b c more others small less e) refl (tails_same b c more others e)
+
+same_more : (b c more others : Bytes) → length b < 2 ^ 32 → length c < 2 ^ 32 → open_batch b ++ more ≡ open_batch c ++ others → more ≡ others
+same_more b c more others small less e = back_of b c more others (length c) (same_length b c more others small less e) refl (tails_same b c more others e)
+
+-- the batches after the first ones
+after_first : (b c : Bytes) (bs cs : List Bytes) (x y : Bytes) → length b < 2 ^ 32 → length c < 2 ^ 32 →
+    open_batches (b ∷ bs) ++ x ≡ open_batches (c ∷ cs) ++ y → (b ≡ c) × (open_batches bs ++ x ≡ open_batches cs ++ y)
+after_first b c bs cs x y small less e =
+    let whole = sym (append_assoc (open_batch b) (open_batches bs) x) ∙ e ∙ append_assoc (open_batch c) (open_batches cs) y in (
+      same_batch b c (open_batches bs ++ x) (open_batches cs ++ y) small less whole,
+      same_more b c (open_batches bs ++ x) (open_batches cs ++ y) small less whole,
+    )
+
+-- the first byte of an open batch
+opens : (b : Bytes) (bs : List Bytes) (x : Bytes) → get_or (open_batches (b ∷ bs) ++ x) 0 0 ≡ 1
+opens b bs x = refl
+
+first_byte : (x y : Bytes) → x ≡ y → get_or x 0 0 ≡ get_or y 0 0
+first_byte x y e = ap (λ (l : Bytes). get_or l 0 0) e
+
+same_closed : (bs cs : List Bytes) (g h : ℕ) (r s : Bytes) → HaveLengths bs → HaveLengths cs → open_batches bs ++ g ∷ r ≡ open_batches cs ++ h ∷ s → g ≢ 1 → h ≢ 1 → bs ≡ cs
+same_closed [] [] g h r s fit fits e shut closed = refl
+same_closed [] (c ∷ cs) g h r s fit fits e shut closed = absurd (shut (first_byte _ _ e))
+same_closed (b ∷ bs) [] g h r s fit fits e shut closed = absurd (closed (sym (first_byte _ _ e)))
+same_closed (b ∷ bs) (c ∷ cs) g h r s fit fits e shut closed =
+    let next = after_first b c bs cs (g ∷ r) (h ∷ s) fit.0 fits.0 e in
+    let more = same_closed bs cs g h r s fit.1 fits.1 next.1 shut closed in
+    λ i. next.0 i ∷ more i
+
+-- a batch with another gate behind it does not pass the end
+not_passes : (b x s : Bytes) → length b < 2 ^ 32 → 0 < length x → s ≡ to_be_bytes w32 (length b) ++ (b ++ x) → PassesEnd s → ⊥
+not_passes b x s small more is passes =
+    let count : from_be_bytes w32 (take 4 s) ≡ length b = ap (λ (l : Bytes). from_be_bytes w32 (take 4 l)) is ∙ ap (λ (l : Bytes). from_be_bytes w32 l) (take_at (to_be_bytes w32 (length b)) (b ++ x) 4 (length-be4 (length b))) ∙ from_be_bytes-to_be_bytes_4 (length b) small in
+    absurd (omega (arith, passes, count, ap length is, length-append (to_be_bytes w32 (length b)) (b ++ x), length-append b x, length-be4 (length b)))
+
+-- the gate of a batch that is read does not begin one that passes the end
+no_cut : (b : Bytes) (bs : List Bytes) (g : ℕ) (r s : Bytes) → length b < 2 ^ 32 → open_batches (b ∷ bs) ++ g ∷ r ≡ 1 ∷ s → PassesEnd s → ⊥
+no_cut b bs g r s small e passes =
+    not_passes b (open_batches bs ++ g ∷ r) s small (omega (arith, length-append (open_batches bs) (g ∷ r))) (sym (ap (λ (l : Bytes). drop 1 l) e) ∙ ap (λ (l : Bytes). drop 1 l) (append_assoc (open_batch b) (open_batches bs) (g ∷ r)) ∙ behind b (open_batches bs ++ g ∷ r)) passes
+
+not_cut : (bs cs : List Bytes) (g : ℕ) (r s : Bytes) → HaveLengths bs → HaveLengths cs → open_batches bs ++ g ∷ r ≡ open_batches cs ++ 1 ∷ s → g ≢ 1 → PassesEnd s → ⊥
+not_cut [] [] g r s fit fits e shut passes = shut (first_byte _ _ e)
+not_cut [] (c ∷ cs) g r s fit fits e shut passes = shut (first_byte _ _ e)
+not_cut (b ∷ bs) [] g r s fit fits e shut passes = no_cut b bs g r s fit.0 e passes
+not_cut (b ∷ bs) (c ∷ cs) g r s fit fits e shut passes =
+    not_cut bs cs g r s fit.1 fits.1 (after_first b c bs cs (g ∷ r) (1 ∷ s) fit.0 fits.0 e).1 shut passes
+
+same_cut : (bs cs : List Bytes) (r s : Bytes) → HaveLengths bs → HaveLengths cs → open_batches bs ++ 1 ∷ r ≡ open_batches cs ++ 1 ∷ s → PassesEnd r → PassesEnd s → bs ≡ cs
+same_cut [] [] r s fit fits e passes passed = refl
+same_cut [] (c ∷ cs) r s fit fits e passes passed = absurd (no_cut c cs 1 s r fits.0 (sym e) passes)
+same_cut (b ∷ bs) [] r s fit fits e passes passed = absurd (no_cut b bs 1 r s fit.0 e passed)
+same_cut (b ∷ bs) (c ∷ cs) r s fit fits e passes passed =
+    let next = after_first b c bs cs (1 ∷ r) (1 ∷ s) fit.0 fits.0 e in
+    let more = same_cut bs cs r s fit.1 fits.1 next.1 passes passed in
+    λ i. next.0 i ∷ more i
+
+-- ---- heads
+
+same_generation : (g h : ℕ) → g < 2 ^ 62 → h < 2 ^ 62 → head g ≡ head h → g ≡ h
+same_generation g h below less e =
+    let tails : to_be_bytes w64 g ≡ to_be_bytes w64 h = ap (λ (l : Bytes). drop 8 l) e in
+    sym (from_be_bytes-to_be_bytes_8 g (omega (arith, below))) ∙ ap (λ (l : Bytes). from_be_bytes w64 l) tails ∙ from_be_bytes-to_be_bytes_8 h (omega (arith, less))
+
+module _ (bytes : Bytes) (generation : ℕ) (batches : List Bytes) (gate : ℕ) (rest : Bytes) (s : Spells bytes generation batches gate rest) where
+  long_head : 16 < length bytes
+  long_head = omega (arith, spelling.size bytes generation batches gate rest s)
+
+  has_mark : take 6 bytes ≡ mark
+  has_mark = ap (λ (l : Bytes). take 6 l) s.bytes_are
+
+  has_version : number_at w16 bytes 6 ≡ Some version
+  has_version = number_here w16 bytes 6 (omega (arith, long_head)) ∙ ap (λ (l : Bytes). Some (from_be_bytes w16 (take 2 (drop 6 l)))) s.bytes_are
+
+  has_generation : number_at w64 bytes 8 ≡ Some generation
+  has_generation =
+      number_here w64 bytes 8 (omega (arith, long_head)) ∙ ap (λ (l : Bytes). Some (from_be_bytes w64 (take 8 (drop 8 l)))) s.bytes_are ∙ ap (λ (n : ℕ). Some n) (from_be_bytes-to_be_bytes_8 generation (omega (arith, s.below)))
+
+  no_bad_mark : HasNoMark bytes → ⊥
+  no_bad_mark bad = bad has_mark
+
+  no_bad_version : (n : ℕ) → HasUnknownVersion bytes n → ⊥
+  no_bad_version n bad = bad.unknown (some_same (sym bad.is ∙ has_version))
+    where
+      some_same : {m k : ℕ} → Some m ≡ Some k → m ≡ k
+      some_same e = cc
+
+  no_bad_generation : HasBadGeneration bytes → ⊥
+  no_bad_generation bad = absurd (omega (arith, bad.too_great, s.below, some_same (sym bad.is ∙ has_generation)))
+    where
+      some_same : {m k : ℕ} → Some m ≡ Some k → m ≡ k
+      some_same e = cc
+
+-- two spellings begin with one head, and have the same behind it
+one_head : (bytes : Bytes) (g h : ℕ) (bs cs : List Bytes) (x y : ℕ) (r s : Bytes) → Spells bytes g bs x r → Spells bytes h cs y s → g ≡ h
+one_head bytes g h bs cs x y r s one other =
+    same_generation g h one.below other.below (sym (spelling.head_is bytes g bs x r one) ∙ spelling.head_is bytes h cs y s other)
+
+one_tail : (bytes : Bytes) (g h : ℕ) (bs cs : List Bytes) (x y : ℕ) (r s : Bytes) → Spells bytes g bs x r → Spells bytes h cs y s → open_batches bs ++ x ∷ r ≡ open_batches cs ++ y ∷ s
+one_tail bytes g h bs cs x y r s one other = sym (spelling.behind_head bytes g bs x r one) ∙ spelling.behind_head bytes h cs y s other
+
+-- ---- logs
+
+logs_generation : (bytes : Bytes) (g h : ℕ) (bs cs : List Bytes) → IsLog g bs bytes → IsLog h cs bytes → g ≡ h
+logs_generation bytes g h bs cs one other = one_head bytes g h bs cs one.gate other.gate one.rest other.rest one.spells other.spells
+
+logs_list : (bytes : Bytes) (g h : ℕ) (bs cs : List Bytes) → IsLog g bs bytes → IsLog h cs bytes → bs ≡ cs
+logs_list bytes g h bs cs one other =
+    same_closed bs cs one.gate other.gate one.rest other.rest one.spells.lengths other.spells.lengths (one_tail bytes g h bs cs one.gate other.gate one.rest other.rest one.spells other.spells) one.closed other.closed
+
+-- a file of 17 bytes or fewer has no open batch
+short_none : (bytes : Bytes) (g : ℕ) (b : Bytes) (bs : List Bytes) → length bytes ≤ 17 → IsLog g (b ∷ bs) bytes → ⊥
+short_none bytes g b bs short log = absurd (omega (arith, short, spelling.size bytes g (b ∷ bs) log.gate log.rest log.spells, spelling.end_of-some b bs))
+
+-- none and some
+none_some : (bytes : Bytes) (g : ℕ) (b : Bytes) (bs : List Bytes) → HasOpen bytes None [] → IsLog g (b ∷ bs) bytes → ⊥
+none_some bytes g b bs (inl short) log = short_none bytes g b bs short log
+none_some bytes g b bs (inr none) log = differ (logs_list bytes none.0 g [] (b ∷ bs) none.1 log)
+  where
+    differ : {x : Bytes} {xs : List Bytes} → [] ≡ x ∷ xs → ⊥
+    differ e = cc
+
+pub one_generation : (bytes : Bytes) (g h : Option ℕ) (bs cs : List Bytes) → HasOpen bytes g bs → HasOpen bytes h cs → g ≡ h
+one_generation bytes None None bs cs one other = refl
+one_generation bytes None (Some h) bs [] one other = absurd other
+one_generation bytes None (Some h) [] (c ∷ cs) one other = absurd (none_some bytes h c cs one other)
+one_generation bytes None (Some h) (b ∷ bs) (c ∷ cs) one other = absurd one
+one_generation bytes (Some g) None [] cs one other = absurd one
+one_generation bytes (Some g) None (b ∷ bs) [] one other = absurd (none_some bytes g b bs other one)
+one_generation bytes (Some g) None (b ∷ bs) (c ∷ cs) one other = absurd other
+one_generation bytes (Some g) (Some h) [] cs one other = absurd one
+one_generation bytes (Some g) (Some h) (b ∷ bs) [] one other = absurd other
+one_generation bytes (Some g) (Some h) (b ∷ bs) (c ∷ cs) one other = ap (λ (n : ℕ). Some n) (logs_generation bytes g h (b ∷ bs) (c ∷ cs) one other)
+
+pub one_list : (bytes : Bytes) (g h : Option ℕ) (bs cs : List Bytes) → HasOpen bytes g bs → HasOpen bytes h cs → bs ≡ cs
+one_list bytes None None [] [] one other = refl
+one_list bytes None None [] (c ∷ cs) one other = absurd other
+one_list bytes None None (b ∷ bs) cs one other = absurd one
+one_list bytes None (Some h) bs [] one other = absurd other
+one_list bytes None (Some h) [] (c ∷ cs) one other = absurd (none_some bytes h c cs one other)
+one_list bytes None (Some h) (b ∷ bs) (c ∷ cs) one other = absurd one
+one_list bytes (Some g) None [] cs one other = absurd one
+one_list bytes (Some g) None (b ∷ bs) [] one other = absurd (none_some bytes g b bs other one)
+one_list bytes (Some g) None (b ∷ bs) (c ∷ cs) one other = absurd other
+one_list bytes (Some g) (Some h) [] cs one other = absurd one
+one_list bytes (Some g) (Some h) (b ∷ bs) [] one other = absurd other
+one_list bytes (Some g) (Some h) (b ∷ bs) (c ∷ cs) one other = logs_list bytes g h (b ∷ bs) (c ∷ cs) one other
+
+-- a long file that is read is a log
+pub long_log : (bytes : Bytes) (g : Option ℕ) (bs : List Bytes) → 17 < length bytes → HasOpen bytes g bs → (generation : ℕ) × IsLog generation bs bytes
+long_log bytes None [] long (inl short) = absurd (omega arith)
+long_log bytes None [] long (inr log) = log
+long_log bytes None (b ∷ bs) long open_ = absurd open_
+long_log bytes (Some g) [] long open_ = absurd open_
+long_log bytes (Some g) (b ∷ bs) long open_ = (g, open_)
+
+log_whole : (bytes : Bytes) (g : ℕ) (bs : List Bytes) (at : ℕ) → IsLog g bs bytes → IsHeadDamagedAt bytes at ⊎ HasCutBatch bytes at → ⊥
+log_whole bytes g bs at log (inl (inl bad)) = no_bad_mark bytes g bs log.gate log.rest log.spells bad.1
+log_whole bytes g bs at log (inl (inr bad)) = no_bad_generation bytes g bs log.gate log.rest log.spells bad.1
+log_whole bytes g bs at log (inr cut) =
+    not_cut bs cut.batches log.gate log.rest cut.rest log.spells.lengths cut.spells.lengths (one_tail bytes g cut.generation bs cut.batches log.gate 1 log.rest cut.rest log.spells cut.spells) log.closed cut.passes
+
+pub whole : (bytes : Bytes) (g : Option ℕ) (bs : List Bytes) (at : ℕ) → HasOpen bytes g bs → ¬ IsDamagedAt bytes at
+whole bytes g bs at open_ damaged =
+    let log = long_log bytes g bs damaged.long open_ in
+    log_whole bytes log.0 bs at log.1 damaged.damage
+
+pub known : (bytes : Bytes) (g : Option ℕ) (bs : List Bytes) (n : ℕ) → HasOpen bytes g bs → ¬ IsOfUnknownVersion bytes n
+known bytes g bs n open_ bad =
+    let log = long_log bytes g bs bad.long open_ in
+    no_bad_version bytes log.0 bs log.1.gate log.1.rest log.1.spells n bad.version
+
+damage_at : (bytes : Bytes) (at other : ℕ) → IsHeadDamagedAt bytes at ⊎ HasCutBatch bytes at →
+    IsHeadDamagedAt bytes other ⊎ HasCutBatch bytes other → at ≡ other
+damage_at bytes at other (inl (inl one)) (inl (inl two)) = one.0 ∙ sym two.0
+damage_at bytes at other (inl (inl one)) (inl (inr two)) = absurd (one.1 two.1.marked)
+damage_at bytes at other (inl (inl one)) (inr two) = absurd (no_bad_mark bytes two.generation two.batches 1 two.rest two.spells one.1)
+damage_at bytes at other (inl (inr one)) (inl (inl two)) = absurd (two.1 one.1.marked)
+damage_at bytes at other (inl (inr one)) (inl (inr two)) = one.0 ∙ sym two.0
+damage_at bytes at other (inl (inr one)) (inr two) = absurd (no_bad_generation bytes two.generation two.batches 1 two.rest two.spells one.1)
+damage_at bytes at other (inr one) (inl (inl two)) = absurd (no_bad_mark bytes one.generation one.batches 1 one.rest one.spells two.1)
+damage_at bytes at other (inr one) (inl (inr two)) = absurd (no_bad_generation bytes one.generation one.batches 1 one.rest one.spells two.1)
+damage_at bytes at other (inr one) (inr two) =
+    one.here ∙ ap end_of (same_cut one.batches two.batches one.rest two.rest one.spells.lengths two.spells.lengths (one_tail bytes one.generation two.generation one.batches two.batches 1 1 one.rest two.rest one.spells two.spells) one.passes two.passes) ∙ sym two.here
+
+pub one_offset : (bytes : Bytes) (at other : ℕ) → IsDamagedAt bytes at → IsDamagedAt bytes other → at ≡ other
+one_offset bytes at other one two = damage_at bytes at other one.damage two.damage
+
+damage_known : (bytes : Bytes) (at n : ℕ) → IsHeadDamagedAt bytes at ⊎ HasCutBatch bytes at → HasUnknownVersion bytes n → ⊥
+damage_known bytes at n (inl (inl one)) bad = one.1 bad.marked
+damage_known bytes at n (inl (inr one)) bad = bad.unknown (some_same (sym bad.is ∙ one.1.known))
+  where
+    some_same : {m k : ℕ} → Some m ≡ Some k → m ≡ k
+    some_same e = cc
+damage_known bytes at n (inr one) bad = no_bad_version bytes one.generation one.batches 1 one.rest one.spells n bad
+
+pub one_fault : (bytes : Bytes) (at n : ℕ) → IsDamagedAt bytes at → ¬ IsOfUnknownVersion bytes n
+one_fault bytes at n damaged bad = damage_known bytes at n damaged.damage bad.version
+
+pub law : LawReading
+law = record {
+  one_generation = one_generation;
+  one_list = one_list;
+  whole = whole;
+  known = known;
+  one_offset = one_offset;
+  one_fault = one_fault;
+}

@@ -1,0 +1,16 @@
+-- The head of a log file, 16 bytes: a mark, the version of its format and its generation. Own.
+use Rattle.std.specs.Prelude.{ℕ, [], ◌∷◌, ◌++◌}
+use Rattle.std.specs.Int.{w16, w64, to_be_bytes}
+use Rattle.js_base.specs.Bytes.{Bytes}
+
+-- `JSLOG` and a byte 0
+abbrev pub mark : Bytes
+mark = 74 ∷ 83 ∷ 76 ∷ 79 ∷ 71 ∷ 0 ∷ []
+
+-- the version of the format that is written, and the only one that is read
+abbrev pub version : ℕ
+version = 1
+
+-- the head of a log of this generation
+abbrev pub head : ℕ → Bytes
+head generation = mark ++ to_be_bytes w16 version ++ to_be_bytes w64 generation

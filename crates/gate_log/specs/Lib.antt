@@ -1,0 +1,13 @@
+pub mod Head
+pub mod Batches
+pub mod LogFile
+pub mod Faults
+pub mod LogState
+pub mod Settled
+pub mod Opening
+pub mod Reading
+pub mod Starting
+pub mod Staging
+pub mod Appending
+pub mod Walking
+pub mod Laws

@@ -1,0 +1,22 @@
+-- What the start of a log leaves.
+use Rattle.std.specs.Prelude.{◌≡◌, ◌≢◌, ◌⊎◌, ℕ, ◌<◌, List, [], Option, None, length, take, slice_index}
+use Rattle.vol_disk.specs.Disk.{Disk}
+use Rattle.vol_disk.specs.Does.{Rests}
+use Rattle.vol_disk.specs.Moments.{LeavesOnly, Elsewhere}
+use Rattle.js_base.specs.Bytes.{Bytes}
+use Rattle.gate_log.specs.LogFile.{HasOpen}
+
+-- no batch is open any more, if the file had no fault
+abbrev pub IsEmptied : Bytes → Bytes → Type 0
+IsEmptied old new = (generation : Option ℕ) (batches : List Bytes) → HasOpen old generation batches → HasOpen new None []
+
+-- at any moment the file is as it was, or emptied
+pub record Starts (file : ℕ) (old new : Disk) : Type 0 where
+  pub elsewhere : (other : ℕ) → other ≢ file → Rests other old new
+  pub any_moment : LeavesOnly old new (λ image. ((image file ≡ old.seen file) ⊎ IsEmptied (old.seen file) (image file)) × Elsewhere file old image)
+
+-- the first gate is closed, and the head is as it was
+pub record IsShut (old new : Bytes) : Type 0 where
+  pub head : take 16 new ≡ take 16 old
+  pub closed : slice_index new 16 ≢ 1
+  pub long : 17 < length new

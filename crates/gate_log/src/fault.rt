@@ -1,0 +1,47 @@
+//! Why a call on a log failed.
+
+ghost use Rattle.std.specs.Prelude.{◌≡◌};
+
+use js_base::NoMemory;
+use thiserror::Error;
+use vol_disk::Failed;
+
+/// Why a log was not opened or started, or a batch not read or appended. Offsets are those in the file.
+#[derive(Clone, Copy, Debug, PartialEq, Eq, Error)]
+pub enum LogFault {
+    /// The volume failed, and its count of faults rose.
+    #[error("the volume failed")]
+    Fault,
+    /// With the batch the log would be longer than 2^31 bytes.
+    #[error("log full")]
+    Full,
+    #[error("out of memory")]
+    NoMemory,
+    /// The file does not begin as a log does, at 0; its generation is 2^62 or more, at 8; or the batch of an open gate passes the file's end,
+    /// at that gate.
+    #[error("damaged at {0}")]
+    Damaged(u64),
+    /// The format has another version than 1.
+    #[error("unknown version {0}")]
+    UnknownVersion(u16),
+}
+
+impl From<Failed> for LogFault {
+    ghost use Rattle.gate_log.specs.declared.fault.LogFault.{LogFault};
+
+    ghost from_gives = { λ failed fault. fault ≡ LogFault.Fault };
+
+    fn from(_failed: Failed) -> LogFault {
+        LogFault::Fault
+    }
+}
+
+impl From<NoMemory> for LogFault {
+    ghost use Rattle.gate_log.specs.declared.fault.LogFault.{LogFault};
+
+    ghost from_gives = { λ refused fault. fault ≡ LogFault.NoMemory };
+
+    fn from(_refused: NoMemory) -> LogFault {
+        LogFault::NoMemory
+    }
+}

@@ -1,0 +1,4 @@
+pub mod Entries
+pub mod Lawful
+pub mod Fronts
+pub mod Laws
