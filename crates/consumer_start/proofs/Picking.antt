@@ -1,8 +1,8 @@
 -- The last message of each subject, found in a walk through the messages.
 use Rattle.std.proofs.Common.{◌≡◌, ℕ, suc, ◌+◌, ◌<◌, ◌≤◌, Bool, true, false, ◌&&◌, ◌||◌, not, cond, List, [], ◌∷◌, ◌++◌, length, refl, sym, ap, ◌∙◌, subst, arith, append-nil, append_assoc, ◌⊎◌, inl, inr}
-use Rattle.std.specs.Prelude.{Option, Some, None, nat_le, nat_lt, ◌==◌, filter, find, count_by, map, option_map, All}
+use Rattle.std.specs.Prelude.{Some, None, nat_le, nat_lt, ◌==◌, filter, find, count_by, map, option_map, All}
 use Rattle.std.specs.List.{list_any}
-use Rattle.std.proofs.lemmas.Bool.{lt-ltb, le-ltb, leb-true, lt-leb, le-leb, true≢false, eq-eqb, ne_eqb, or_right}
+use Rattle.std.proofs.lemmas.Bool.{lt-ltb, le-ltb, leb-true, lt-leb, true≢false, eq-eqb, ne_eqb, or_right}
 use Rattle.std.proofs.lemmas.Bool.Decides.{leb_tells}
 use Rattle.std.proofs.lemmas.List.{map-append, length-append}
 use Rattle.std.proofs.lemmas.List.Elements.{filter-append, All-cons, All-nil}
@@ -17,11 +17,10 @@ use Rattle.js_model.specs.Start.{picks_at, cursor_at}
 use Rattle.js_model.specs.Lists.{Between, IsPart, keep, skip, none}
 use Rattle.js_model.specs.Streams.{passes_filter, seqs}
 use Rattle.js_model.specs.Trim.{newest}
-use Rattle.js_model.proofs.Members.{IsIn, here, there, found_in, in_bounds, any_in}
+use Rattle.js_model.proofs.Members.{here, found_in, in_bounds}
 use Rattle.js_model.proofs.Named.{none_some, some_is, same_self}
 use Rattle.js_model.proofs.Parts.{between_lower, between_map, filter_part, newest_part, part_between, part_map, part_trans, part-length}
 use Rattle.js_model.proofs.Lacking.{has-part}
-use Rattle.stream_view.specs.declared.counts.Counts.{Counts}
 use Rattle.stream_view.specs.Counting.{counts_of, last_from, seqs_on}
 use Rattle.stream_view.specs.Heads.{MessageHead, head_of}
 use Rattle.stream_view.specs.Order.{IsInOrder}
@@ -124,10 +123,10 @@ module _ (s : Stream) (pattern : Bytes) where
       let t : Message → Bool = λ x. same x.subject m.subject in
       let own : t m ≡ true = same_self m.subject in
       let split : filter t s.messages ≡ filter t front ++ m ∷ filter t later =
-          ap (filter t) e ∙ filter-append t front (m ∷ later) ∙ ap (λ b. filter t front ++ cond b (m ∷ filter t later) (filter t later)) own in
+      ap (filter t) e ∙ filter-append t front (m ∷ later) ∙ ap (λ b. filter t front ++ cond b (m ∷ filter t later) (filter t later)) own in
       let whole : seqs (filter t s.messages) ≡ seqs (filter t front) ++ m.seq ∷ seqs (filter t later) = ap seqs split ∙ map-append (λ x. x.seq) (filter t front) (m ∷ filter t later) in
       let order : Between (λ n. n) (m.seq + 1) high (seqs (filter t later)) =
-          between_map (λ n. n) (λ x. x.seq) (m.seq + 1) high (filter t later) (part_between (λ x. x.seq) (m.seq + 1) high (filter_part t later) h) in
+      between_map (λ n. n) (λ x. x.seq) (m.seq + 1) high (filter t later) (part_between (λ x. x.seq) (m.seq + 1) high (filter_part t later) h) in
       ap (λ l. ends_with (counts_of l) m.seq) whole
       ∙ ends_in (seqs (filter t front)) (seqs (filter t later)) m.seq high order
       ∙ nil_map (λ x. x.seq) (filter t later)
@@ -181,10 +180,10 @@ module _ (t : Message → Bool) where
           ∙ ap (λ b. cond b (m ∷ filter (passed_below t (m.seq + 1)) ms) (filter (passed_below t (m.seq + 1)) ms)) (and_true (t m))
           ∙ ap (λ l. cond (t m) (m ∷ l) l) (none_below_it (m.seq + 1) (m.seq + 1) high ms h.1 (omega arith))
           ∙ sym
-            (ap (λ l. l ++ cond (t m) (m ∷ []) [])
-            (ap (λ b. cond (t m && b) (m ∷ filter (passed_below t seq) ms) (filter (passed_below t seq) ms)) (le-ltb m.seq seq (omega arith))
-            ∙ ap (λ b. cond b (m ∷ filter (passed_below t seq) ms) (filter (passed_below t seq) ms)) (and_false (t m))
-            ∙ none_below_it seq (m.seq + 1) high ms h.1 (omega arith)))
+          (ap (λ l. l ++ cond (t m) (m ∷ []) [])
+          (ap (λ b. cond (t m && b) (m ∷ filter (passed_below t seq) ms) (filter (passed_below t seq) ms)) (le-ltb m.seq seq (omega arith))
+          ∙ ap (λ b. cond b (m ∷ filter (passed_below t seq) ms) (filter (passed_below t seq) ms)) (and_false (t m))
+          ∙ none_below_it seq (m.seq + 1) high ms h.1 (omega arith)))
 
       cond_cons : (b : Bool) (x : Message) (l r : List Message) → cond b (x ∷ (l ++ r)) (l ++ r) ≡ cond b (x ∷ l) l ++ r
       cond_cons true x l r = refl
@@ -294,10 +293,10 @@ module _ (s : Stream) (pattern : Bytes) (order : IsInOrder s) where
         so_far =
             so.so_far
             ∙ ap seqs
-              (sym
-              (more
-              ∙ ap (λ b. filter (passed_below (picks_it s pattern) seq) s.messages ++ cond b (look.message ∷ []) []) e
-              ∙ append-nil (filter (passed_below (picks_it s pattern) seq) s.messages)));
+            (sym
+            (more
+            ∙ ap (λ b. filter (passed_below (picks_it s pattern) seq) s.messages ++ cond b (look.message ∷ []) []) e
+            ∙ append-nil (filter (passed_below (picks_it s pattern) seq) s.messages)));
         few = so.few;
       }
 
@@ -305,10 +304,10 @@ module _ (s : Stream) (pattern : Bytes) (order : IsInOrder s) where
       when_many e l =
           let ms : List Message = s.messages in
           let k : length (seqs (filter (passed_below (picks_it s pattern) (head.seq + 1)) ms)) ≡ length picks + 1 =
-              ap (λ l. length (seqs l)) (more ∙ ap (λ b. filter (passed_below (picks_it s pattern) seq) ms ++ cond b (look.message ∷ []) []) e)
-              ∙ ap length (map-append (λ m. m.seq) (filter (passed_below (picks_it s pattern) seq) ms) (look.message ∷ []))
-              ∙ length-append (seqs (filter (passed_below (picks_it s pattern) seq) ms)) (look.message.seq ∷ [])
-              ∙ ap (λ ns. length ns + 1) (sym so.so_far) in
+          ap (λ l. length (seqs l)) (more ∙ ap (λ b. filter (passed_below (picks_it s pattern) seq) ms ++ cond b (look.message ∷ []) []) e)
+          ∙ ap length (map-append (λ m. m.seq) (filter (passed_below (picks_it s pattern) seq) ms) (look.message ∷ []))
+          ∙ length-append (seqs (filter (passed_below (picks_it s pattern) seq) ms)) (look.message.seq ∷ [])
+          ∙ ap (λ ns. length ns + 1) (sym so.so_far) in
           let q : length (seqs (filter (passed_below (picks_it s pattern) (head.seq + 1)) ms)) ≤ length (seqs (filter (picks_it s pattern) ms)) = part-length (part_map (λ m. m.seq) (below_part (picks_it s pattern) (head.seq + 1) ms)) in
           let r : length (seqs (filter (picks_it s pattern) ms)) ≡ length (picks_of s pattern) = ap length (all_picked s pattern order) in
           omega arith

@@ -1,12 +1,11 @@
 -- The steps of a walk through messages against the order of their sequences, to the last that passes a test.
 use Rattle.std.proofs.Common.{◌≡◌, ℕ, suc, ◌+◌, ◌-◌, ◌<◌, ◌≤◌, Bool, true, false, ◌&&◌, cond, List, [], ◌∷◌, Some, None, refl, sym, ap, ◌∙◌, subst, arith, ◌⊎◌, inl, inr, not}
 use Rattle.std.specs.Prelude.{Option, nat_le, nat_lt, ◌==◌, filter, option_map}
-use Rattle.std.specs.List.{last_or, AllByRecursion}
-use Rattle.std.proofs.lemmas.Bool.{lt-ltb, le-ltb, leb-true, ltb-true, true≢false, eq-eqb}
+use Rattle.std.specs.List.{last_or}
+use Rattle.std.proofs.lemmas.Bool.{lt-ltb, le-ltb, ltb-true, true≢false, eq-eqb}
 use Rattle.std.proofs.lemmas.Bool.Decides.{leb_tells}
 use Rattle.js_model.specs.declared.stream.Message.{Message}
 use Rattle.js_model.specs.declared.stream.Stream.{Stream}
-use Rattle.js_model.specs.Lists.{Between}
 use Rattle.js_model.proofs.Members.{IsIn, here, there, in_cons, in_filter, in_bounds, any_in, holds_of_one}
 use Rattle.js_model.proofs.Named.{none_some, some_is}
 use Rattle.stream_view.specs.Heads.{MessageHead, head_of}
@@ -142,7 +141,7 @@ module _ (P : Message → Bool) (s : Stream) (wanted : Option ℕ) (below : ℕ)
   back_unseen l e =
       walk.behind
       ∙ ap (option_map (λ m. m.seq))
-        (none_passes P (λ m. nat_lt m.seq below) s.messages (ap (last_or None) (sym (upto_is l)) ∙ unseen (last_or None (filter (λ m. nat_le m.seq (below - 1)) s.messages)) e))
+      (none_passes P (λ m. nat_lt m.seq below) s.messages (ap (last_or None) (sym (upto_is l)) ∙ unseen (last_or None (filter (λ m. nat_le m.seq (below - 1)) s.messages)) e))
 
   module _ (l : 0 < below) (head : MessageHead) (found : Some head ≡ option_map head_of (last_or None (filter (λ m. nat_le m.seq (below - 1)) s.messages))) where
     look : IsSeen (last_or None (filter (λ m. nat_le m.seq (below - 1)) s.messages)) head

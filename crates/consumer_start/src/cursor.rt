@@ -1,6 +1,6 @@
 //! The sequence from which on all messages that its filter matches are delivered to a new consumer.
 
-ghost use Rattle.std.specs.Prelude.{◌≡◌, ◌≤◌, ◌^◌, find, nat_le, option_map};
+ghost use Rattle.std.specs.Prelude.{◌≡◌, find, nat_le, option_map};
 ghost use Rattle.js_model.specs.Streams.{first_seq};
 ghost use Rattle.js_model.specs.Start.{cursor_at};
 ghost use Rattle.stream_view.specs.Order.{IsInOrder};

@@ -43,7 +43,11 @@ fn picks_at<W: View>(
     ensures picks { IfOk result (λ picks. ArePicksAt (W.stream stream.now) config.now picks) }
 {
     match config.deliver_policy {
-        DeliverPolicy::LastPerSubject => last_per_subject(alloc, stream, config.filter_subject.as_slice()),
+        DeliverPolicy::LastPerSubject => last_per_subject(
+            alloc,
+            stream,
+            config.filter_subject.as_slice(),
+        ),
         DeliverPolicy::All
         | DeliverPolicy::Last
         | DeliverPolicy::New

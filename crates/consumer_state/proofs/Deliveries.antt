@@ -1,7 +1,6 @@
 -- What was done is a delivery.
 use Rattle.std.proofs.Common.{◌≡◌, ℕ, ◌+◌, ◌-◌, Bool, true, false, not, cond, List, [], ◌∷◌, ◌++◌, refl, sym, ap, ◌∙◌, subst}
-use Rattle.std.specs.Prelude.{Option, Some, None, Contains, IsTrue, find, is_some}
-use Rattle.std.specs.List.{list_any}
+use Rattle.std.specs.Prelude.{Option, Some, None, Contains, find, is_some}
 use Rattle.std.proofs.lemmas.Bool.{true≢false}
 use Rattle.js_base.specs.Bytes.{Bytes, is_empty}
 use Rattle.js_base.specs.declared.out.Out.{Out}
@@ -13,14 +12,13 @@ use Rattle.js_model.specs.declared.entry.Delivered.{Delivered}
 use Rattle.js_model.specs.declared.entry.Delivered.TheVariants.{Sent, TooSmall as EndedSmall, Emptied}
 use Rattle.js_model.specs.Counts.{pending_count}
 use Rattle.js_model.specs.Deliver.{address, candidates, count_of, delivery_out, fits, front_allows, is_listened, is_wanted, sent_to, without_first}
-use Rattle.js_model.specs.Ready.{is_ready, is_ready_with}
+use Rattle.js_model.specs.Ready.{is_ready_with}
 use Rattle.js_model.specs.Streams.{is_push, sent_size}
 use Rattle.js_model.proofs.Members.{IsIn, in_from_contains}
-use Rattle.js_model.proofs.Named.{none_some}
 use Rattle.consumer_texts.specs.Letter.{letter}
 use Rattle.consumer_state.specs.declared.delivering.Demand.{Demand}
 use Rattle.consumer_state.specs.declared.delivering.Demand.TheVariants.{Asked, TooSmall, Nobody}
-use Rattle.consumer_state.specs.Delivering.{demand_of, facts_of, front_demand, left_after, EndsHasty, EndsSmall, HasNoHasty, IsHeard, IsMade, IsReady, SendsOut}
+use Rattle.consumer_state.specs.Delivering.{demand_of, front_demand, left_after, EndsHasty, EndsSmall, IsHeard, IsMade, IsReady, SendsOut}
 use Rattle.consumer_state.proofs.Offers.{hasty}
 
 -- ---- who asks

@@ -1,16 +1,15 @@
 -- An acknowledgement in two steps leaves what it leaves at once.
-use Rattle.std.proofs.Common.{◌≡◌, ℕ, ◌+◌, ◌<◌, ◌≤◌, Bool, true, false, ◌&&◌, ◌||◌, not, cond, List, length, map, refl, sym, ap, ◌∙◌, subst, arith}
-use Rattle.std.specs.Prelude.{Option, Some, None, filter, nat_le, ◌==◌}
-use Rattle.std.specs.List.{list_any}
-use Rattle.std.proofs.lemmas.Bool.{eqb-true, true≢false, or_parts}
+use Rattle.std.proofs.Common.{◌≡◌, ℕ, ◌<◌, ◌≤◌, Bool, true, false, ◌&&◌, ◌||◌, not, cond, List, length, refl, sym, ap, ◌∙◌, subst, arith}
+use Rattle.std.specs.Prelude.{Option, Some, None, filter, ◌==◌}
+use Rattle.std.proofs.lemmas.Bool.{eqb-true}
 use Rattle.js_base.specs.Bytes.{Bytes, has}
 use Rattle.js_model.specs.declared.ack.Ask.{Ask}
 use Rattle.js_model.specs.declared.ack.AckKind.{AckKind}
 use Rattle.js_model.specs.declared.ack.AckKind.TheVariants.{Ack as Acknowledge, Nak, Wpi, Next, Term}
 use Rattle.js_model.specs.declared.consumer.Consumer.{Consumer}
 use Rattle.js_model.specs.declared.consumer.Pending.{Pending}
-use Rattle.js_model.specs.Acknowledge.{acknowledged, ends, is_no_delivery, without}
-use Rattle.js_model.specs.Events.{after_ack, next_ask, pulled_next}
+use Rattle.js_model.specs.Acknowledge.{ends, is_no_delivery, without}
+use Rattle.js_model.specs.Events.{after_ack}
 use Rattle.js_model.specs.Pulls.{pull_refusal, pulled, pulled_unless}
 use Rattle.js_model.specs.Streams.{pending_seqs}
 use Rattle.consumer_state.specs.Ending.{ack_ends, before_ending, begun, delayed, entries, is_delivered, kind_ends, EndsOne}

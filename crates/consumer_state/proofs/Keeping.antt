@@ -1,5 +1,5 @@
 -- What is kept of a consumer stays so.
-use Rattle.std.proofs.Common.{◌≡◌, ℕ, zero, suc, ◌+◌, ◌-◌, ◌<◌, ◌≤◌, Bool, true, false, ◌&&◌, not, cond, List, [], ◌∷◌, length, drop, map, refl, sym, ap, ◌∙◌, subst, arith}
+use Rattle.std.proofs.Common.{◌≡◌, ℕ, zero, suc, ◌-◌, ◌<◌, ◌≤◌, Bool, true, false, not, cond, List, [], ◌∷◌, length, drop, map, refl, sym, ap, ◌∙◌, subst, arith}
 use Rattle.std.specs.Prelude.{Option, Some, None, ◌==◌, ◌^◌, filter, nat_lt, All}
 use Rattle.std.proofs.lemmas.Bool.{ltb-true, ltb-false}
 use Rattle.std.proofs.lemmas.List.Elements.{All-filter}
@@ -10,12 +10,12 @@ use Rattle.js_model.specs.declared.consumer_config.ConsumerConfig.{ConsumerConfi
 use Rattle.js_model.specs.Streams.{over_limit}
 use Rattle.js_model.specs.Acknowledge.{moved}
 use Rattle.js_model.proofs.Named.{none_some}
-use Rattle.consumer_progress.specs.GivingUp.{first_of, rest_of}
+use Rattle.consumer_progress.specs.GivingUp.{rest_of}
 use Rattle.consumer_progress.specs.Ending.{EndsOneUpTo}
-use Rattle.consumer_progress.specs.Progresses.{Progress}
+use Rattle.consumer_progress.specs.Progresses.{Progress, first_of}
 use Rattle.pull_queue.specs.Queue.{Queue}
 use Rattle.consumer_state.specs.Keeping.{IsKept}
-use Rattle.consumer_state.specs.Passing.{has_overflow, overflow_of, within_overflow, without_overflow}
+use Rattle.consumer_state.specs.Passing.{overflow_of, within_overflow, without_overflow}
 use Rattle.consumer_state.proofs.Filters.{all_map}
 
 -- ---- counts

@@ -7,7 +7,6 @@ use Rattle.js_model.specs.declared.stream.Message.{Message}
 use Rattle.js_model.specs.declared.consumer.Pull.{Pull}
 use Rattle.js_model.specs.declared.consumer_config.ConsumerConfig.{ConsumerConfig}
 use Rattle.js_model.specs.Streams.{is_push, over_limit}
-use Rattle.consumer_progress.specs.Ending.{EndsOneUpTo}
 use Rattle.consumer_progress.specs.Progresses.{Progress}
 use Rattle.consumer_progress.specs.Sending.{after_sent}
 use Rattle.pull_queue.specs.Fronts.{after_front}

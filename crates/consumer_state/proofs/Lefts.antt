@@ -1,9 +1,9 @@
 -- How many messages are still to be delivered after a delivery.
-use Rattle.std.proofs.Common.{◌≡◌, ℕ, suc, ◌+◌, ◌-◌, ◌<◌, ◌≤◌, Bool, true, false, ◌&&◌, ◌||◌, not, cond, List, [], ◌∷◌, length, take, ◌^◌, ◌≢◌, refl, sym, ap, ◌∙◌, subst, arith, ◌⊎◌, inl, inr}
+use Rattle.std.proofs.Common.{◌≡◌, ℕ, ◌+◌, ◌-◌, ◌<◌, ◌≤◌, Bool, true, false, ◌&&◌, ◌||◌, not, cond, List, [], ◌∷◌, length, take, ◌^◌, ◌≢◌, refl, sym, ap, ◌∙◌, subst, arith, ◌⊎◌, inl, inr}
 use Rattle.std.specs.Prelude.{Option, Some, None, filter, find, max, nat_le, ◌==◌, Contains}
 use Rattle.std.specs.List.{list_any}
 use Rattle.std.proofs.lemmas.Bool.Decides.{leb_tells}
-use Rattle.std.proofs.lemmas.Bool.{and_parts, eqb-true, eq-eqb, le-leb, leb-true, lt-leb, ne_eqb, true≢false}
+use Rattle.std.proofs.lemmas.Bool.{and_parts, eqb-true, eq-eqb, le-leb, lt-leb, ne_eqb, true≢false}
 use Rattle.js_base.specs.Bytes.{has}
 use Rattle.js_model.specs.declared.stream.Message.{Message}
 use Rattle.js_model.specs.declared.stream.Stream.{Stream}
@@ -11,14 +11,13 @@ use Rattle.js_model.specs.declared.consumer.Consumer.{Consumer}
 use Rattle.js_model.specs.declared.consumer.Pending.{Pending}
 use Rattle.js_model.specs.Counts.{pending_count}
 use Rattle.js_model.specs.Deliver.{candidates, count_of, due_messages, front_allows, is_due, may_wait, next_message, or_next, sent_to}
-use Rattle.js_model.specs.Lists.{Apart, Between}
+use Rattle.js_model.specs.Lists.{Between}
 use Rattle.js_model.specs.Streams.{below_limit, is_push, pending_seqs, sent_size, size, takes}
 use Rattle.js_model.proofs.Candidates.{IsCandidate, IsReason, again, candidate_is, onward, picked}
 use Rattle.js_model.proofs.Members.{IsIn, any_in, find_none, find_one, here, in_any, in_bounds, in_filter, in_from_contains, there}
-use Rattle.js_model.proofs.Named.{none_some, some_is}
+use Rattle.js_model.proofs.Named.{some_is}
 use Rattle.js_model.proofs.Parts.{between_map}
 use Rattle.stream_view.specs.Order.{IsInOrder}
-use Rattle.consumer_need.specs.Needs.{awaits, is_ahead, takes_subject}
 use Rattle.consumer_progress.specs.Progresses.{progress_of, IsProgress}
 use Rattle.consumer_state.specs.Delivering.{left_after}
 use Rattle.consumer_state.specs.Keeping.{IsConsumer}

@@ -1,8 +1,8 @@
 -- Which message may be sent next, and whether something can be delivered.
-use Rattle.std.proofs.Common.{◌≡◌, ℕ, ◌+◌, ◌-◌, ◌^◌, ◌<◌, ◌≤◌, Bool, true, false, ◌&&◌, ◌||◌, not, cond, List, [], ◌∷◌, length, take, map, refl, sym, ap, ◌∙◌, subst, arith}
-use Rattle.std.specs.Prelude.{Option, Some, None, is_some, option_map, filter, find, nat_le, nat_lt, ◌==◌, All}
+use Rattle.std.proofs.Common.{◌≡◌, ℕ, ◌-◌, ◌^◌, ◌<◌, ◌≤◌, Bool, true, false, ◌&&◌, ◌||◌, not, cond, List, [], ◌∷◌, length, take, refl, sym, ap, ◌∙◌, arith}
+use Rattle.std.specs.Prelude.{Option, Some, None, is_some, option_map, filter, find, nat_le, ◌==◌, All}
 use Rattle.std.specs.List.{list_any}
-use Rattle.std.proofs.lemmas.Bool.{and_parts, eqb-true, eq-eqb, le-ltb, lt-ltb, true≢false}
+use Rattle.std.proofs.lemmas.Bool.{eqb-true, eq-eqb, le-ltb, lt-ltb, true≢false}
 use Rattle.std.proofs.lemmas.List.Elements.{All-head}
 use Rattle.js_base.specs.Bytes.{Bytes, has, is_empty}
 use Rattle.js_model.specs.declared.stream.Message.{Message}
@@ -14,12 +14,11 @@ use Rattle.js_model.specs.Counts.{pending_count}
 use Rattle.js_model.specs.Deliver.{candidates, due_messages, is_due, is_listened, may_wait, next_message, or_next}
 use Rattle.js_model.specs.Ready.{is_ready, is_ready_with}
 use Rattle.js_model.specs.Streams.{is_push, passes_filter, seqs, takes}
-use Rattle.js_model.proofs.Members.{IsIn, all_in, any_in, found_in}
+use Rattle.js_model.proofs.Members.{all_in, any_in, found_in}
 use Rattle.js_model.proofs.Named.{none_some, some_is}
-use Rattle.consumer_progress.specs.GivingUp.{first_of}
+use Rattle.consumer_progress.specs.Progresses.{first_of}
 use Rattle.consumer_state.specs.Offering.{is_asked, onward, IsAmong, IsOffer}
-use Rattle.consumer_state.specs.Delivering.{IsHeard, IsReady}
-use Rattle.consumer_state.proofs.Filters.{any_map}
+use Rattle.consumer_state.specs.Delivering.{IsReady}
 
 -- ---- filters
 
@@ -91,8 +90,8 @@ module _ (a : Stream) (c : Consumer) (low : c.dseq < 2 ^ 62 - 1) where
           let is : seq ≡ p.seq = some_is k in
           let there : has (seqs a.messages) seq ≡ true = ap (has (seqs a.messages)) is ∙ all_in (λ (p : Pending). has (seqs a.messages) p.seq ≡ true) c.pending stored i.0 in
           let kept : has (seqs (due_messages a c)) seq ≡ true =
-              has_kept (λ m. list_any (λ p. p.seq == m.seq && is_due a.moment c p) c.pending) seq
-              (λ m q. any_in (λ p. p.seq == m.seq && is_due a.moment c p) p c.pending i.0 (ap (λ b. b && is_due a.moment c p) (eq-eqb p.seq m.seq (sym is ∙ sym q)) ∙ i.1)) a.messages there in
+          has_kept (λ m. list_any (λ p. p.seq == m.seq && is_due a.moment c p) c.pending) seq
+          (λ m q. any_in (λ p. p.seq == m.seq && is_due a.moment c p) p c.pending i.0 (ap (λ b. b && is_due a.moment c p) (eq-eqb p.seq m.seq (sym is ∙ sym q)) ∙ i.1)) a.messages there in
           ap (λ l. has (seqs l) seq) (before_last a c low ∙ stays_due a c (due_messages a c) seq kept) ∙ kept
 
   -- nothing is due again
@@ -103,7 +102,7 @@ module _ (a : Stream) (c : Consumer) (low : c.dseq < 2 ^ 62 - 1) where
       go None f k =
           before_last a c low
           ∙ ap (λ l. or_next l a c)
-            (none_kept (λ m. list_any (λ p. p.seq == m.seq && is_due a.moment c p) c.pending) (λ m. none_found (is_due a.moment c) (λ p. p.seq == m.seq) c.pending f) a.messages)
+          (none_kept (λ m. list_any (λ p. p.seq == m.seq && is_due a.moment c p) c.pending) (λ m. none_found (is_due a.moment c) (λ p. p.seq == m.seq) c.pending f) a.messages)
       go (Some p) f k = absurd (none_some k)
 
   pub onward_offered : None ≡ option_map (λ p. p.seq) (find (is_due a.moment c) c.pending) → (o : Option ℕ) → IsAmong (onward a c) o → IsOffer a c o

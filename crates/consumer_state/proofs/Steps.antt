@@ -1,5 +1,5 @@
 -- What single calls leave of a consumer.
-use Rattle.std.proofs.Common.{◌≡◌, ℕ, zero, suc, add-one, ◌+◌, ◌-◌, ◌^◌, ◌<◌, ◌≤◌, Bool, true, false, ◌&&◌, ◌||◌, not, cond, List, [], ◌∷◌, ◌++◌, map, take, ◌≢◌, refl, sym, ap, ◌∙◌, subst, arith}
+use Rattle.std.proofs.Common.{◌≡◌, ℕ, zero, suc, add-one, ◌+◌, ◌-◌, ◌<◌, ◌≤◌, Bool, true, false, ◌&&◌, ◌||◌, not, cond, List, [], ◌∷◌, ◌++◌, map, take, ◌≢◌, refl, sym, ap, ◌∙◌, subst, arith}
 use Rattle.std.specs.Prelude.{Option, Some, None, All, codes, filter, find, is_some, nat_le, nat_lt, slice_get, ◌==◌}
 use Rattle.std.specs.List.{list_any}
 use Rattle.std.proofs.lemmas.Bool.{eq-eqb, le-leb, le-ltb, lt-ltb, ltb-false, ltb-true, true≢false}
@@ -15,23 +15,20 @@ use Rattle.js_model.specs.declared.ack.AckKind.{AckKind}
 use Rattle.js_model.specs.declared.consumer.Consumer.{Consumer}
 use Rattle.js_model.specs.declared.consumer.Pending.{Pending}
 use Rattle.js_model.specs.declared.consumer.Pull.{Pull}
-use Rattle.js_model.specs.declared.consumer_config.ConsumerConfig.{ConsumerConfig}
 use Rattle.js_model.specs.declared.entry.Delivered.{Delivered}
 use Rattle.js_model.specs.declared.entry.Delivered.TheVariants.{TooSmall as EndedSmall}
 use Rattle.js_model.specs.Acknowledge.{is_no_delivery, without}
-use Rattle.js_model.specs.Advance.{consumer_outs, is_spent, push_beat, push_comes, status_out}
-use Rattle.js_model.specs.Configs.{is_consumer_config}
+use Rattle.js_model.specs.Advance.{consumer_outs, push_beat, push_comes, status_out}
 use Rattle.js_model.specs.Deliver.{candidates, count_of, fits, front_served, small_block, with_pending}
-use Rattle.js_model.specs.Ready.{is_ready}
-use Rattle.js_model.specs.Streams.{at_limit, below_limit, is_push, over_limit, pending_seqs}
+use Rattle.js_model.specs.Streams.{at_limit, below_limit, over_limit, pending_seqs}
 use Rattle.js_model.proofs.Members.{found_in, all_in}
 use Rattle.js_model.proofs.Named.{none_some, some_is}
 use Rattle.consumer_progress.specs.Ending.{ended, EndsOneUpTo}
 use Rattle.consumer_progress.specs.GivingUp.{IsUnspent}
 use Rattle.consumer_progress.specs.Progresses.{Progress, progress_of, with_progress}
-use Rattle.consumer_progress.specs.Sending.{after_sent, count_in, pending_after}
+use Rattle.consumer_progress.specs.Sending.{count_in, pending_after}
 use Rattle.pull_queue.specs.Fronts.{after_front}
-use Rattle.consumer_state.specs.declared.delivering.Demand.TheVariants.{Asked, TooSmall, Nobody}
+use Rattle.consumer_state.specs.declared.delivering.Demand.TheVariants.{Asked, TooSmall}
 use Rattle.consumer_state.specs.Delivering.{front_demand, EndsSmall, IsReady, MayEndHasty}
 use Rattle.consumer_state.specs.Ending.{ack_ends, entries, is_delivered, kind_ends, EndsBy, EndsNone, EndsOne}
 use Rattle.consumer_state.specs.Parting.{farewell_of}

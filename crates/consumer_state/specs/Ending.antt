@@ -11,7 +11,7 @@ use Rattle.js_model.specs.declared.consumer.Consumer.{Consumer}
 use Rattle.js_model.specs.declared.reply.Reply.{Reply}
 use Rattle.js_model.specs.declared.reply.Reply.TheVariants.{Silent}
 use Rattle.js_model.specs.Streams.{pending_seqs}
-use Rattle.js_model.specs.Acknowledge.{ends, without, with_due, is_no_delivery, acknowledged}
+use Rattle.js_model.specs.Acknowledge.{ends, without, with_due, is_no_delivery}
 use Rattle.js_model.specs.Events.{ack_reply, next_ask, pulled_next, next_outs, after_ack}
 
 -- the consumer with the due time that the acknowledgement sets

@@ -4,7 +4,8 @@ use Rattle.std.specs.Prelude.{◌≡◌, ℕ, nat_lt, Bool, if◌then◌else◌,
 use Rattle.js_base.specs.Bytes.{last_of}
 use Rattle.js_model.specs.declared.consumer.Consumer.{Consumer}
 use Rattle.js_model.specs.Advance.{is_spent, placed, consumer_at}
-use Rattle.consumer_progress.specs.GivingUp.{first_of, rest_of}
+use Rattle.consumer_progress.specs.GivingUp.{rest_of}
+use Rattle.consumer_progress.specs.Progresses.{first_of}
 
 -- the consumer at a moment, with all sequences that are given up by then
 abbrev pub passed : ℕ → Consumer → Consumer

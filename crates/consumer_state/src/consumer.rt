@@ -5,7 +5,7 @@ ghost use Rattle.js_model.specs.declared.consumer.Consumer.{Consumer as Kept};
 ghost use Rattle.js_model.specs.declared.stream.Stream.{Stream};
 ghost use Rattle.js_model.specs.Counts.{info_of, pending_count};
 ghost use Rattle.js_model.specs.Streams.{is_push, is_unacknowledged};
-ghost use Rattle.consumer_need.specs.Needs.{awaits, takes_subject, needs_at};
+ghost use Rattle.consumer_need.specs.Needs.{awaits};
 ghost use Rattle.consumer_progress.specs.Progresses.{progress_of, IsProgress};
 ghost use Rattle.consumer_state.specs.Forgetting.{forgotten};
 ghost use Rattle.consumer_state.specs.Keeping.{IsConsumer};

@@ -66,7 +66,11 @@ impl Consumer {
         ensures value { result ≡ demand_of listened self.now size }
     {
         if self.is_push() {
-            return if listened { Demand::Asked } else { Demand::Nobody };
+            return if listened {
+                Demand::Asked
+            } else {
+                Demand::Nobody
+            };
         }
         match self.pulls.front() {
             Some(pull) if fits(size, pull.bytes) => Demand::Asked,

@@ -71,7 +71,11 @@ impl Consumer {
         match self.progress.first_pick() {
             Some(pick) => Some(pick),
             None if undelivered == 0 => None,
-            None => next_taken(stream, self.config.filter_subject.as_slice(), self.progress.cursor()),
+            None => next_taken(
+                stream,
+                self.config.filter_subject.as_slice(),
+                self.progress.cursor(),
+            ),
         }
     }
 

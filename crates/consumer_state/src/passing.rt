@@ -20,7 +20,12 @@ impl Consumer {
             return self.pulls.tell(now, outs);
         }
         if self.push_comes(now) {
-            outs.push(push_beat(self.alloc, &self.config.deliver_subject, self.progress.dseq(), self.progress.cursor())?)?;
+            outs.push(push_beat(
+                self.alloc,
+                &self.config.deliver_subject,
+                self.progress.dseq(),
+                self.progress.cursor(),
+            )?)?;
         }
         Ok(())
     }

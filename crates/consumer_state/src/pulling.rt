@@ -104,7 +104,11 @@ fn pull_of(now: Moment, reply: Blob, ask: Ask) -> Pull
         reply,
         batch: ask.batch,
         bytes: ask.max_bytes,
-        end: if ends { Some(now.plus(ask.expires)) } else { None },
+        end: if ends {
+            Some(now.plus(ask.expires))
+        } else {
+            None
+        },
         no_wait: ask.no_wait,
         heartbeat: ask.heartbeat,
         mark: now,

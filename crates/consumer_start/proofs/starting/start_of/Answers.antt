@@ -1,8 +1,4 @@
-use Rattle.std.proofs.Common.{◌≡◌, ℕ, List, Option, subst, sym}
-use Rattle.std.specs.Prelude.{All, true}
-use Rattle.js_base.specs.Bytes.{has}
-use Rattle.js_model.specs.Lists.{Between}
-use Rattle.js_model.specs.Streams.{seqs}
+use Rattle.std.proofs.Common.{ℕ, List, Option, subst}
 use Rattle.consumer_start.specs.Starts.{ArePicksAt}
 use Rattle.consumer_start.proofs.Picking.{starts_ascend, starts_stored}
 use Rattle.consumer_start.proofs.starting.start_of.Goals as goal

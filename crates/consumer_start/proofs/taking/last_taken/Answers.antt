@@ -1,4 +1,4 @@
-use Rattle.std.proofs.Common.{◌≡◌, ◌+◌, ◌<◌, ◌≤◌, ◌^◌, Some, true, false, refl, sym, ap, ◌∙◌, arith}
+use Rattle.std.proofs.Common.{◌≡◌, ◌<◌, ◌^◌, Some, true, false, sym, ap, ◌∙◌, arith}
 use Rattle.js_model.specs.Streams.{passes_filter}
 use Rattle.consumer_start.specs.Taking.{last_taken}
 use Rattle.consumer_start.proofs.Walks.{by_subject}

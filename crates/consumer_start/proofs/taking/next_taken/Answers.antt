@@ -1,4 +1,4 @@
-use Rattle.std.proofs.Common.{◌≡◌, ◌+◌, ◌<◌, ◌≤◌, ◌^◌, Some, true, false, refl, sym, ap, ◌∙◌, arith}
+use Rattle.std.proofs.Common.{◌≡◌, ◌<◌, ◌≤◌, ◌^◌, Some, true, false, refl, sym, ap, ◌∙◌, arith}
 use Rattle.js_model.specs.Streams.{passes_filter}
 use Rattle.consumer_start.specs.Taking.{next_taken}
 use Rattle.consumer_start.proofs.Walks.{by_subject, ends_past, ends_unseen, goes_on, stops, within}

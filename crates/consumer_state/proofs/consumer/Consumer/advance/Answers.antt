@@ -1,6 +1,5 @@
-use Rattle.std.proofs.Common.{◌≡◌, ap, not, subst, sym, ◌∙◌, if◌then◌else◌}
+use Rattle.std.proofs.Common.{ap, not, subst, sym, ◌∙◌, if◌then◌else◌}
 use Rattle.js_model.specs.declared.consumer.Consumer.{Consumer}
-use Rattle.js_model.specs.declared.consumer.Pending.{Pending}
 use Rattle.js_model.specs.Advance.{push_comes}
 use Rattle.consumer_progress.specs.GivingUp.{is_spent, with_given_up, IsUnspent}
 use Rattle.consumer_progress.specs.Progresses.{Progress}
@@ -23,7 +22,7 @@ returns-clause-value c =
     ap (λ (p : Progress). kept_of c.self.inside.name c.self.inside.made c.self.inside.config p c.pass_time.new.self c.mark_at-mark.result) c.give_up.ensures.value
     ∙ ap (λ (q : Queue). kept_of c.self.inside.name c.self.inside.made c.self.inside.config (with_given_up c.args.now c.self.inside.config.max_deliver c.self.inside.progress) q c.mark_at-mark.result) c.pass_time.ensures.left
     ∙ ap (λ mark. kept_of c.self.inside.name c.self.inside.made c.self.inside.config (with_given_up c.args.now c.self.inside.config.max_deliver c.self.inside.progress) (record c.self.inside.pulls { pulls = pulls.passed c.args.now c.self.inside.pulls.pulls }) mark)
-      (c.mark_at-mark.ensures.value ∙ sym (ap (λ (x : Consumer). if push_comes c.args.now x then c.args.now else x.mark) c.self.view_is))
+    (c.mark_at-mark.ensures.value ∙ sym (ap (λ (x : Consumer). if push_comes c.args.now x then c.args.now else x.mark) c.self.view_is))
     ∙ ap (passed c.args.now) c.self.view_is
 
 pub returns-clause-unspent : goal.returns-clause-unspent

@@ -1,4 +1,4 @@
-use Rattle.std.proofs.Common.{◌≡◌, ◌++◌, ◌∷◌, [], ap, sym, ◌∙◌}
+use Rattle.std.proofs.Common.{◌++◌, ◌∷◌, [], ap, sym, ◌∙◌}
 use Rattle.std.specs.Option.{option_copied}
 use Rattle.js_base.specs.declared.out.Out.{Out}
 use Rattle.consumer_state.proofs.Steps.{small_ends, small_has}

@@ -1,5 +1,3 @@
-use Rattle.std.proofs.Common.{◌≡◌, Option, Some, None, ap, not, sym, ◌∙◌}
-use Rattle.std.specs.Prelude.{◌==◌}
 use Rattle.consumer_state.proofs.Keeping.{kept_up_to}
 use Rattle.consumer_state.proofs.Steps.{up_to_ends}
 use Rattle.consumer_state.specs.Keeping.{kept_of}

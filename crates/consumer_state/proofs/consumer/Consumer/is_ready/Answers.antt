@@ -1,4 +1,4 @@
-use Rattle.std.proofs.Common.{◌≡◌, sym, ◌∙◌}
+use Rattle.std.proofs.Common.{◌∙◌}
 use Rattle.consumer_state.proofs.Offers.{ready_hasty, ready_offered}
 use Rattle.consumer_state.proofs.consumer.Consumer.is_ready.Goals as goal
 

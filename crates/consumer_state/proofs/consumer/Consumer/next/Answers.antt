@@ -1,6 +1,6 @@
-use Rattle.std.proofs.Common.{◌≡◌, ap, sym, ◌∙◌}
+use Rattle.std.proofs.Common.{ap, sym, ◌∙◌}
 use Rattle.js_model.specs.declared.consumer.Consumer.{Consumer}
-use Rattle.consumer_progress.specs.GivingUp.{first_of}
+use Rattle.consumer_progress.specs.Progresses.{first_of}
 use Rattle.consumer_state.proofs.Offers.{pick_among, taken_among, taken_told}
 use Rattle.consumer_state.specs.Keeping.{kept_of}
 use Rattle.consumer_state.proofs.consumer.Consumer.next.Goals as goal

@@ -1,8 +1,7 @@
-use Rattle.std.proofs.Common.{◌≡◌, ◌<◌, ◌≤◌, ◌+◌, ◌^◌, ap, sym, ◌∙◌, arith}
+use Rattle.std.proofs.Common.{◌≡◌, ◌<◌, ◌≤◌, ◌^◌, ap, ◌∙◌, arith}
 use Rattle.js_model.specs.declared.consumer.Consumer.{Consumer}
 use Rattle.consumer_progress.specs.Sending.{count_in}
 use Rattle.consumer_state.proofs.Steps.{count_small}
-use Rattle.consumer_state.specs.Keeping.{kept_of}
 use Rattle.consumer_state.proofs.consumer.Consumer.next_count.Goals as goal
 
 pub overflow_add-result : goal.overflow_add-result

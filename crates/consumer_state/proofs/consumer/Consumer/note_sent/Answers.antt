@@ -1,9 +1,7 @@
-use Rattle.std.proofs.Common.{◌≡◌, ap, subst, sym, ◌∙◌}
+use Rattle.std.proofs.Common.{subst, sym}
 use Rattle.js_model.specs.declared.consumer.Consumer.{Consumer}
-use Rattle.pull_queue.specs.Fronts.{after_front}
 use Rattle.consumer_state.specs.Sending.{IsSendable}
 use Rattle.consumer_state.proofs.KeptSent.{kept_pulls_after, kept_sent}
-use Rattle.consumer_state.specs.Keeping.{kept_of}
 use Rattle.consumer_state.proofs.consumer.Consumer.note_sent.Goals as goal
 
 pub invariant_of-self-2 : goal.invariant_of-self-2
