@@ -155,7 +155,7 @@ has_without n (k ∷ ks) = go (k == n) refl (has_without n ks)
     go true e h = h
     go false e h = ap (λ b. b || has (filter (λ k. not (k == n)) ks) n) e ∙ h
 
-has_other : (n i : ℕ) (ns : List ℕ) → (i == n) ≡ false → has (filter (λ k. not (k == n)) ns) i ≡ has ns i
+pub has_other : (n i : ℕ) (ns : List ℕ) → (i == n) ≡ false → has (filter (λ k. not (k == n)) ns) i ≡ has ns i
 has_other n i [] d = refl
 has_other n i (k ∷ ks) d = go (k == n) refl (has_other n i ks d)
   where
@@ -187,7 +187,7 @@ fails_before t low high m x (y ∷ ys) h e (there i) l = go (t y) e (λ f. fails
 abbrev waits : Consumer → Message → Bool
 waits c x = takes c x && (has c.picks x.seq || nat_le c.cursor x.seq)
 
-agrees : (now : ℕ) (a : Stream) (c : Consumer) (m : Message) → IsInOrder a → IsPlaced a c m → (x : Message) → IsIn x a.messages → waits (sent_to now m c) x ≡ (waits c x && not (x.seq == m.seq))
+pub agrees : (now : ℕ) (a : Stream) (c : Consumer) (m : Message) → IsInOrder a → IsPlaced a c m → (x : Message) → IsIn x a.messages → waits (sent_to now m c) x ≡ (waits c x && not (x.seq == m.seq))
 agrees now a c m order placed x i = go (x.seq == m.seq) refl
   where
     tested : (p q : Bool) → has (filter (λ k. not (k == m.seq)) c.picks) x.seq ≡ p → nat_le (max c.cursor (m.seq + 1)) x.seq ≡ q → waits (sent_to now m c) x ≡ (takes c x && (p || q))
@@ -264,13 +264,12 @@ module _ (a : Stream) (c : Consumer) (m : Message) (kept : IsConsumer c) (progre
       once (count_none c m.seq (progress.picks_pending.apart m.seq (ap (λ ns. has ns m.seq) e ∙ ap (λ b. b || has rest m.seq) (eq-eqb pick m.seq (sym q)))))
   not_spent (onward e t l w) = once (count_none c m.seq (has_not c.cursor m.seq (pending_seqs c) (between_map (λ n. n) (λ (q : Pending). q.seq) 0 c.cursor c.pending progress.pending) l))
 
-  pub sendable_is : size m < 2 ^ 64 → (is_push c ≡ false → front_allows c.waiting (sent_size m) ≡ true) → IsSendable c m
-  sendable_is small asked = record {
+  pub sendable_is : (is_push c ≡ false → front_allows c.waiting (sent_size m) ≡ true) → IsSendable c m.seq (sent_size m)
+  sendable_is asked = record {
     not_given_up = not_given_up facts.reason;
     again = not_spent facts.reason;
-    seq = let b = in_bounds (λ z. z.seq) 1 (a.last + 1) m a.messages order.ascends facts.stored in let q : m.seq < a.last + 1 = b.1 in let r : a.last < 2 ^ 62 = order.bound in omega arith;
+    bound = let b = in_bounds (λ z. z.seq) 1 (a.last + 1) m a.messages order.ascends facts.stored in let q : m.seq < a.last + 1 = b.1 in let r : a.last < 2 ^ 62 = order.bound in omega arith;
     dseq = let q : c.dseq < 2 ^ 62 - 1 = facts.number in omega arith;
-    small = small;
     asked = asked;
   }
 
