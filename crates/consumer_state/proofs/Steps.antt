@@ -98,7 +98,7 @@ count_small d n ps h = go (find (λ p. p.seq == n) ps) refl
     go None e = rw e (omega arith)
     go (Some p) e = rw e (all_in (λ (e : Pending). e.count ≤ d) ps h (found_in (λ (p : Pending). p.seq == n) p ps e).0)
 
-pub count_same : (c : Consumer) (n : ℕ) → count_of c n ≡ count_in c.pending n
+count_same : (c : Consumer) (n : ℕ) → count_of c n ≡ count_in c.pending n
 count_same c n = go (find (λ p. p.seq == n) c.pending) refl
   where
     go : (o : Option Pending) → find (λ p. p.seq == n) c.pending ≡ o → count_of c n ≡ count_in c.pending n
