@@ -4,12 +4,13 @@ use Rattle.std.specs.Prelude.{Contains, is_none}
 use Rattle.std.specs.List.{AllByRecursion, position_from}
 use Rattle.std.specs.BTreeMap.{BTreeMap}
 use Rattle.std.specs.Cmp.Lexicographic.{nat_list_eq_equiv}
-use Rattle.std.proofs.lemmas.Bool.{true≢false, and_parts}
+use Rattle.std.proofs.lemmas.Bool.{true≢false}
 use Rattle.std.proofs.lemmas.Bool.Decides.{nat_tests}
 use Rattle.std.proofs.lemmas.List.{map-append, length-map, take_more}
 use Rattle.std.proofs.lemmas.List.Elements.{Contains-append_right}
 use Rattle.js_base.specs.Bytes.{Bytes, same, same_option}
 use Rattle.js_base.proofs.Meeting.{same_is, same_self}
+use Rattle.js_model.proofs.Named.{some_is}
 use Rattle.js_model.specs.Router.{Subscription, is_plain, with_group, groups, IsMember, AreMembers}
 use Rattle.route_core.specs.Subscriptions.{are_together}
 use Rattle.route_core.specs.Groups.{next_of_two, next_of, next_of_groups, with_candidate, place_of, ArePlaces}
@@ -94,10 +95,10 @@ module _ (s : Subscription) where
   left_in x e [] = ap (λ b. cond b (x ∷ []) []) e
   left_in x e (m ∷ ms) = go (are_together m x) refl (left_in x e ms)
     where
-      other : (b c : Bool) → c ≡ false → filter kept (with_candidate ms x) ≡ with_candidate (filter kept ms) x
+      other : (b : Bool) → are_together m x ≡ false → filter kept (with_candidate ms x) ≡ with_candidate (filter kept ms) x
           → cond b (m ∷ filter kept (with_candidate ms x)) (filter kept (with_candidate ms x)) ≡ with_candidate (cond b (m ∷ filter kept ms) (filter kept ms)) x
-      other true c h k = ap (λ (ys : List Subscription). m ∷ ys) k ∙ ap (λ d. cond d (next_of_two m x ∷ filter kept ms) (m ∷ with_candidate (filter kept ms) x)) (sym h)
-      other false c h k = k
+      other true h k = ap (λ (ys : List Subscription). m ∷ ys) k ∙ ap (λ d. cond d (next_of_two m x ∷ filter kept ms) (m ∷ with_candidate (filter kept ms) x)) (sym h)
+      other false h k = k
 
       go : (b : Bool) → are_together m x ≡ b → filter kept (with_candidate ms x) ≡ with_candidate (filter kept ms) x
           → filter kept (cond b (next_of_two m x ∷ ms) (m ∷ with_candidate ms x)) ≡ with_candidate (cond (kept m) (m ∷ filter kept ms) (filter kept ms)) x
@@ -106,7 +107,7 @@ module _ (s : Subscription) where
           ap (λ b. cond b (next_of_two m x ∷ filter kept ms) (filter kept ms)) (kept_alike (next_of_two m x) m (next_queue m x h) ∙ there)
           ∙ ap (λ d. cond d (next_of_two m x ∷ filter kept ms) (m ∷ with_candidate (filter kept ms) x)) (sym h)
           ∙ ap (λ b. with_candidate (cond b (m ∷ filter kept ms) (filter kept ms)) x) (sym there)
-      go false h k = other (kept m) (are_together m x) h k
+      go false h k = other (kept m) h k
 
 pub one_more_grouped : (subs : List Subscription) (x : Subscription) → is_plain x ≡ false → next_of_groups (subs ++ x ∷ []) ≡ with_candidate (next_of_groups subs) x
 one_more_grouped [] x h = ap (λ b. cond b [] (x ∷ [])) h
@@ -167,21 +168,27 @@ module _ (n : Bytes) (x : Subscription) (in_group : x.queue ≡ Some n) where
   found_from (m ∷ ms) i at h = go (here m.queue) refl h
     where
       by_tail : are_together m x ≡ false → (j : ℕ) → Found ms (i + 1) at j → (k : ℕ) × Found (m ∷ ms) i at k
-      by_tail e j f = (suc j, record {
-        counted = omega (arith, f.counted);
-        within = omega (arith, f.within);
-        made = λ d. ap (λ (ys : List Subscription). m ∷ ys) (f.made d) ∙ ap (λ b. cond b (next_of_two m x ∷ ms) (m ∷ with_candidate ms x)) (sym e);
-        queues = ap (λ b. map queue_of (cond b (next_of_two m x ∷ ms) (m ∷ with_candidate ms x))) e ∙ ap (λ (qs : List (Option Bytes)). m.queue ∷ qs) f.queues;
-      })
+      by_tail e j f = (
+        suc j,
+        record {
+          counted = omega (arith, f.counted);
+          within = omega (arith, f.within);
+          made = λ d. ap (λ (ys : List Subscription). m ∷ ys) (f.made d) ∙ ap (λ b. cond b (next_of_two m x ∷ ms) (m ∷ with_candidate ms x)) (sym e);
+          queues = ap (λ b. map queue_of (cond b (next_of_two m x ∷ ms) (m ∷ with_candidate ms x))) e ∙ ap (λ (qs : List (Option Bytes)). m.queue ∷ qs) f.queues;
+        },
+      )
 
       go : (b : Bool) → here m.queue ≡ b → cond b (Some i) (position_from here (i + 1) (map queue_of ms)) ≡ Some at → (j : ℕ) × Found (m ∷ ms) i at j
       go true e k =
-          let together : are_together m x ≡ true = together_is m ∙ e in (0, record {
-            counted = cc (k, arith);
-            within = omega arith;
-            made = λ d. ap (λ b. cond b (next_of_two m x ∷ ms) (m ∷ with_candidate ms x)) (sym together);
-            queues = ap (λ b. map queue_of (cond b (next_of_two m x ∷ ms) (m ∷ with_candidate ms x))) together ∙ ap (λ (q : Option Bytes). q ∷ map queue_of ms) (next_queue m x together);
-          })
+          let together : are_together m x ≡ true = together_is m ∙ e in (
+            0,
+            record {
+              counted = omega (arith, some_is k);
+              within = omega arith;
+              made = λ d. ap (λ b. cond b (next_of_two m x ∷ ms) (m ∷ with_candidate ms x)) (sym together);
+              queues = ap (λ b. map queue_of (cond b (next_of_two m x ∷ ms) (m ∷ with_candidate ms x))) together ∙ ap (λ (q : Option Bytes). q ∷ map queue_of ms) (next_queue m x together);
+            },
+          )
       go false e k = let f = found_from ms (i + 1) at k in by_tail (together_is m ∙ e) f.0 f.1
 
   added_from : (members : List Subscription) (i : ℕ) → position_from here i (map queue_of members) ≡ None → with_candidate members x ≡ members ++ x ∷ []
@@ -219,7 +226,7 @@ filter_mapped {X} f p (x ∷ xs) = go (p (f x)) (filter_mapped f p xs)
     go true h = ap (λ ys. f x ∷ ys) h
     go false h = h
 
-some_name : Bytes → Option Bytes
+abbrev some_name : Bytes → Option Bytes
 some_name name = Some name
 
 -- the names of the other groups
@@ -252,10 +259,10 @@ names_are (s ∷ ss) = go s.queue refl (names_are ss)
 
 -- ---- of each group it is the next one
 
-AtLeast : Option Bytes → ℕ → Subscription → Type 0
+abbrev AtLeast : Option Bytes → ℕ → Subscription → Type 0
 AtLeast q n other = other.queue ≡ q → n ≤ other.sent
 
-More : Option Bytes → ℕ → Subscription → Type 0
+abbrev More : Option Bytes → ℕ → Subscription → Type 0
 More q n other = other.queue ≡ q → n < other.sent
 
 each : {X : Type 0} (P Q : X → Type 0) → ((x : X) → P x → Q x) → (xs : List X) → AllByRecursion P xs → AllByRecursion Q xs
@@ -326,11 +333,11 @@ all_behind s subs [] grouped h = tt
 all_behind s subs (m ∷ ms) grouped h = go (kept s m) refl (all_behind s subs ms grouped h.1)
   where
     go : (b : Bool) → kept s m ≡ b → AllByRecursion (IsNext (s ∷ subs)) (filter (kept s) ms) → AllByRecursion (IsNext (s ∷ subs)) (cond b (m ∷ filter (kept s) ms) (filter (kept s) ms))
-    go true e k = (behind s subs m (λ q. absurd (true≢false (sym e ∙ ap not (of_one_queue s.queue m.queue grouped (sym q))))) h.0, k)
+    go true e k = (behind s subs m (λ q. true≢false (sym e ∙ ap not (of_one_queue s.queue m.queue grouped (sym q)))) h.0, k)
     go false e k = k
 
 plain_before : (s : Subscription) (subs members : List Subscription) → is_plain s ≡ true → AllByRecursion (IsNext subs) members → AllByRecursion (IsNext (s ∷ subs)) members
-plain_before s subs members plain h = each (IsNext subs) (IsNext (s ∷ subs)) (λ m k. behind s subs m (λ q. absurd (true≢false (sym plain ∙ ap is_none q ∙ k.in_group))) k) members h
+plain_before s subs members plain h = each (IsNext subs) (IsNext (s ∷ subs)) (λ m k. behind s subs m (λ q. true≢false (sym plain ∙ ap is_none q ∙ k.in_group)) k) members h
 
 pub all_next : (subs : List Subscription) → AllByRecursion (IsNext subs) (next_of_groups subs)
 all_next [] = tt
@@ -342,11 +349,11 @@ all_next (s ∷ ss) = go (is_plain s) refl (all_next ss)
 
 -- ---- so they are members
 
-first_queue : List (Option Bytes) → Option Bytes
+abbrev first_queue : List (Option Bytes) → Option Bytes
 first_queue [] = None
 first_queue (q ∷ qs) = q
 
-other_queues : List (Option Bytes) → List (Option Bytes)
+abbrev other_queues : List (Option Bytes) → List (Option Bytes)
 other_queues [] = []
 other_queues (q ∷ qs) = qs
 
@@ -355,11 +362,16 @@ are_members subs [] [] e h = refl
 are_members subs [] (c ∷ cs) e h = absurd (cc (e))
 are_members subs (n ∷ ns) [] e h = absurd (cc (e))
 are_members subs (n ∷ ns) (c ∷ cs) e h =
-    let next : IsNext subs c = h.0 in
-    (c, cs, refl, record {
-      candidate = subst (λ xs. Contains xs c) (sym next.place) (Contains-append_right next.before (c ∷ next.after) c (0, omega arith, refl));
-      member = ap first_queue e;
-    }, are_members subs ns cs (ap other_queues e) h.1)
+    let next : IsNext subs c = h.0 in (
+      c,
+      cs,
+      refl,
+      record {
+        candidate = subst (λ xs. Contains xs c) (sym next.place) (Contains-append_right next.before (c ∷ next.after) c (0, omega arith, refl));
+        member = ap first_queue e;
+      },
+      are_members subs ns cs (ap other_queues e) h.1,
+    )
 
 pub next_are_members : (subs : List Subscription) → AreMembers (groups subs) subs (next_of_groups subs)
 next_are_members subs = are_members subs (groups subs) (next_of_groups subs) (names_are subs) (all_next subs)
@@ -383,7 +395,10 @@ module _ {R : Type 0} (f : R → Subscription) (places : BTreeMap (Bor Bytes) �
     FoundAt j = Found n x in_group (map f refs) 0 at j
 
     found : FoundAt at
-    found = let k = found_from n x in_group (map f refs) 0 at (sym (placed n) ∙ h) in subst FoundAt (sym k.1.counted) k.1
+    found =
+        let k = found_from n x in_group (map f refs) 0 at (sym (placed n) ∙ h) in
+        let here : k.0 ≡ at = omega (arith, k.1.counted) in
+        subst FoundAt here k.1
 
     pub place_within : at < length refs
     place_within = omega (arith, found.within, length-map refs f)

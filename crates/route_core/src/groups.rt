@@ -1,7 +1,7 @@
 //! Which member of each queue group takes a message.
 
 ghost use Rattle.std.specs.Prelude.{◌≡◌, IfOk, OnOk, Some, map};
-ghost use Rattle.route_core.specs.Groups.{next_of_two, next_of_groups, with_candidate, ArePlaces};
+ghost use Rattle.route_core.specs.Groups.{next_of_two, next_of_groups, with_candidate, place_of, ArePlaces};
 
 use crate::table::Heard;
 use js_base::NoMemory;
@@ -10,6 +10,13 @@ use std::collections::BTreeMap;
 
 /// The place of each group's member, by the group's name.
 type Places<'a> = BTreeMap<&'a [u8], usize>;
+
+/// The place of the group's member.
+fn place_of(places: &Places<'_>, group: &[u8]) -> Option<usize>
+    ensures value { result ≡ place_of places.now group.now }
+{
+    places.get(group).copied()
+}
 
 /// Has the other member take the message if it was sent fewer.
 fn prefer<'a>(member: &mut Heard<'a>, other: &Heard<'a>)
@@ -32,10 +39,10 @@ fn enter<'a>(
     ensures members { OnOk result (map (λ member. member.sub.now) members.new.items ≡ with_candidate (map (λ member. member.sub.now) members.old.items) heard.now.sub.now) }
     ensures places { OnOk result (ArePlaces places.new (map (λ member. member.sub.now) members.new.items)) }
 {
-    match places.get(group) {
+    match place_of(places, group) {
         Some(at) => {
-            let at = *at;
-            prefer(&mut members[at], heard);
+            let member = &mut members[at];
+            prefer(member, heard);
             Ok(())
         }
         None => {

@@ -1,6 +1,10 @@
-use Rattle.std.proofs.Common.{◌≡◌, ◌∙◌, Some, map, sym, ap}
+use Rattle.std.proofs.Common.{◌≡◌, ◌∙◌, Some, map, sym, ap, Bor}
 use Rattle.std.specs.List.{position_from}
-use Rattle.js_base.specs.Bytes.{same_option}
+use Rattle.std.specs.Map.{lookup}
+use Rattle.std.specs.Ordering.{nat_cmp}
+use Rattle.std.specs.Cmp.Lexicographic.{slice_cmp}
+use Rattle.std.specs.BTreeMap.{is_at}
+use Rattle.js_base.specs.Bytes.{Bytes, same_option}
 use Rattle.route_core.specs.Groups.{place_of}
 use Rattle.route_core.proofs.Members.{grouped_further, plain_further}
 use Rattle.route_core.proofs.groups.next_of_groups.Goals as goal
@@ -9,7 +13,7 @@ use Rattle.route_core.proofs.groups.next_of_groups.Goals.{in-Some+in_ok-enter, i
 pub loop-heard-init : goal.loop-heard-init
 loop-heard-init c = record {
   members = ap (map (λ member. member.sub.now)) c.new-members.ensures.items;
-  places = λ name. ap (λ es. place_of (record { entries = es }) name) c.new-places.ensures ∙ sym (ap (λ ms. position_from (same_option (Some name)) 0 (map (λ member. member.queue) (map (λ member. member.sub.now) ms))) c.new-members.ensures.items);
+  places = λ name. ap (lookup (is_at (λ (key : Bor Bytes). slice_cmp nat_cmp name key.now))) c.new-places.ensures.empty ∙ sym (ap (λ ms. position_from (same_option (Some name)) 0 (map (λ member. member.queue) (map (λ member. member.sub.now) ms))) c.new-members.ensures.items);
 }
 
 pub loop-heard-preserved : goal.loop-heard-preserved
