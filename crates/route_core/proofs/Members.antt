@@ -165,7 +165,7 @@ module _ (n : Bytes) (x : Subscription) (in_group : x.queue ≡ Some n) where
 
   found_from : (members : List Subscription) (i at : ℕ) → position_from here i (map queue_of members) ≡ Some at → (j : ℕ) × Found members i at j
   found_from [] i at h = absurd (cc (h))
-  found_from (m ∷ ms) i at h = go (here m.queue) refl h
+  found_from (m ∷ ms) i at h = go (here m.queue) refl h (found_from ms (i + 1) at)
     where
       by_tail : are_together m x ≡ false → (j : ℕ) → Found ms (i + 1) at j → (k : ℕ) × Found (m ∷ ms) i at k
       by_tail e j f = (
@@ -178,8 +178,8 @@ module _ (n : Bytes) (x : Subscription) (in_group : x.queue ≡ Some n) where
         },
       )
 
-      go : (b : Bool) → here m.queue ≡ b → cond b (Some i) (position_from here (i + 1) (map queue_of ms)) ≡ Some at → (j : ℕ) × Found (m ∷ ms) i at j
-      go true e k =
+      go : (b : Bool) → here m.queue ≡ b → cond b (Some i) (position_from here (i + 1) (map queue_of ms)) ≡ Some at → (position_from here (i + 1) (map queue_of ms) ≡ Some at → (j : ℕ) × Found ms (i + 1) at j) → (j : ℕ) × Found (m ∷ ms) i at j
+      go true e k r =
           let together : are_together m x ≡ true = together_is m ∙ e in (
             0,
             record {
@@ -189,15 +189,15 @@ module _ (n : Bytes) (x : Subscription) (in_group : x.queue ≡ Some n) where
               queues = ap (λ b. map queue_of (cond b (next_of_two m x ∷ ms) (m ∷ with_candidate ms x))) together ∙ ap (λ (q : Option Bytes). q ∷ map queue_of ms) (next_queue m x together);
             },
           )
-      go false e k = let f = found_from ms (i + 1) at k in by_tail (together_is m ∙ e) f.0 f.1
+      go false e k r = let f = r k in by_tail (together_is m ∙ e) f.0 f.1
 
   added_from : (members : List Subscription) (i : ℕ) → position_from here i (map queue_of members) ≡ None → with_candidate members x ≡ members ++ x ∷ []
   added_from [] i h = refl
-  added_from (m ∷ ms) i h = go (here m.queue) refl h
+  added_from (m ∷ ms) i h = go (here m.queue) refl h (added_from ms (i + 1))
     where
-      go : (b : Bool) → here m.queue ≡ b → cond b (Some i) (position_from here (i + 1) (map queue_of ms)) ≡ None → with_candidate (m ∷ ms) x ≡ (m ∷ ms) ++ x ∷ []
-      go true e k = absurd (cc (k))
-      go false e k = ap (λ b. cond b (next_of_two m x ∷ ms) (m ∷ with_candidate ms x)) (together_is m ∙ e) ∙ ap (λ (ys : List Subscription). m ∷ ys) (added_from ms (i + 1) k)
+      go : (b : Bool) → here m.queue ≡ b → cond b (Some i) (position_from here (i + 1) (map queue_of ms)) ≡ None → (position_from here (i + 1) (map queue_of ms) ≡ None → with_candidate ms x ≡ ms ++ x ∷ []) → with_candidate (m ∷ ms) x ≡ (m ∷ ms) ++ x ∷ []
+      go true e k r = absurd (cc (k))
+      go false e k r = ap (λ b. cond b (next_of_two m x ∷ ms) (m ∷ with_candidate ms x)) (together_is m ∙ e) ∙ ap (λ (ys : List Subscription). m ∷ ys) (r k)
 
   -- the first of a new group stands behind the others
   placed_from : (members : List Subscription) (i : ℕ) → position_from here i (map queue_of members) ≡ None → position_from here i (map queue_of (members ++ x ∷ [])) ≡ Some (i + length members)
