@@ -12,7 +12,7 @@ use Rattle.js_model.specs.Routing.{collected_told}
 use Rattle.route_core.specs.Queues.{gathered}
 use Rattle.route_core.specs.Sessions.{AreNumbered, with_first, set_options, is_publisher_open, deaf_of}
 use Rattle.route_core.specs.Subscriptions.{hears, without_sub}
-use Rattle.route_core.specs.Groups.{next_of_groups, takers_of, group_takers}
+use Rattle.route_core.specs.Groups.{takers_of, group_takers}
 use Rattle.route_core.specs.Spreading.{IsNext, Spreads}
 use Rattle.route_core.specs.Deliveries.{delivery_of, deliveries_of, handed_over, counted_once}
 use Rattle.route_core.proofs.Numbers.{only_one, tell_headers}

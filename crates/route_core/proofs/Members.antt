@@ -11,7 +11,7 @@ use Rattle.std.proofs.lemmas.List.Elements.{Contains-append_right}
 use Rattle.js_base.specs.Bytes.{Bytes, same, same_option}
 use Rattle.js_base.proofs.Meeting.{same_is, same_self}
 use Rattle.js_model.proofs.Named.{some_is}
-use Rattle.js_model.specs.Router.{Subscription, is_plain, with_group, groups, IsMember, AreMembers}
+use Rattle.js_model.specs.Router.{Subscription, is_plain, with_group, groups, AreMembers}
 use Rattle.route_core.specs.Subscriptions.{are_together}
 use Rattle.route_core.specs.Groups.{next_of_two, next_of, next_of_groups, with_candidate, place_of, ArePlaces}
 use Rattle.route_core.specs.Spreading.{IsNext}

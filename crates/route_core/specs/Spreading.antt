@@ -1,5 +1,5 @@
 -- Messages are spread over a queue group: the member takes the next one that was sent the fewest since its SUB, the earliest of several.
-use Rattle.std.specs.Prelude.{◌≡◌, ℕ, ◌<◌, ◌≤◌, false, List, ◌∷◌, ◌++◌, length, Option}
+use Rattle.std.specs.Prelude.{◌≡◌, ℕ, ◌<◌, ◌≤◌, false, List, ◌∷◌, ◌++◌, Option}
 use Rattle.std.specs.List.{AllByRecursion}
 use Rattle.js_base.specs.declared.out.Out.{Out}
 use Rattle.js_model.specs.Router.{Router, Subscription, Publish, Taken, candidates, is_plain, IsChoice, route, telling}

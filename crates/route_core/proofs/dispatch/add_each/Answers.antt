@@ -1,4 +1,4 @@
-use Rattle.std.proofs.Common.{◌∙◌, ap, map}
+use Rattle.std.proofs.Common.{◌∙◌, map}
 use Rattle.route_core.specs.Deliveries.{delivery_of}
 use Rattle.route_core.proofs.Taking.{made_more, added_one}
 use Rattle.route_core.proofs.dispatch.add_each.Goals as goal

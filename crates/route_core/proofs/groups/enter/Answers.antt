@@ -29,7 +29,7 @@ returns-in_ok-push-in-None c =
     let h = sym c.place_of.ensures.value ∙ c.in-None.is in
     let pushed = c.in_ok-push-in-None.ensures.items in
     let added = added_places (λ member. member.sub.now) places old group c.requires.places c.args.heard.now c.requires.group h c.insert.new.self
-        (λ name. btree_map_updates_str group places c.insert.new.self _ c.in_ok-insert-in-None.ensures.updates name ∙ ap (λ l. cond (same group name) (Some l) (place_of places name)) (c.len.ensures ∙ c.args.members.now.ok.0)) in
+    (λ name. btree_map_updates_str group places c.insert.new.self _ c.in_ok-insert-in-None.ensures.updates name ∙ ap (λ l. cond (same group name) (Some l) (place_of places name)) (c.len.ensures ∙ c.args.members.now.ok.0)) in
     record {
       members = ap (map (λ member. member.sub.now)) pushed ∙ added_members (λ member. member.sub.now) places old group c.requires.places c.args.heard.now c.requires.group h;
       places = λ name. added name ∙ sym (ap (λ ms. position_from (same_option (Some name)) 0 (map (λ member. member.queue) (map (λ member. member.sub.now) ms))) pushed);
