@@ -1,6 +1,6 @@
 -- What a router's lists have after each call is what the definition says.
 use Rattle.std.proofs.Common.{◌≡◌, inl, ℕ, ◌+◌, ◌==◌, ◌&&◌, ◌^◌, Bool, true, false, cond, not, List, [], ◌∷◌, ◌++◌, Option, Some, None, Ok, length, get_or, map, filter, refl, sym, ap, subst, ◌∙◌, eq-eqb}
-use Rattle.std.specs.List.{list_any, fold, position}
+use Rattle.std.specs.List.{AllByRecursion, list_any, fold, position}
 use Rattle.std.proofs.lemmas.Bool.{ne_eqb}
 use Rattle.std.proofs.lemmas.List.{length-map}
 use Rattle.js_base.specs.Bytes.{Bytes}
@@ -11,12 +11,19 @@ use Rattle.js_model.specs.Router.{Router, Session, Subscription, Waiting, Queue,
 use Rattle.js_model.specs.Routing.{collected_told}
 use Rattle.route_core.specs.Queues.{gathered}
 use Rattle.route_core.specs.Sessions.{AreNumbered, with_first, set_options, is_publisher_open, deaf_of}
-use Rattle.route_core.specs.Subscriptions.{without_sub, takers_of, group_takers}
+use Rattle.route_core.specs.Subscriptions.{hears, without_sub}
+use Rattle.route_core.specs.Groups.{takers_of, group_takers}
+use Rattle.route_core.specs.Spreading.{IsNext, Spreads}
 use Rattle.route_core.specs.Deliveries.{delivery_of, deliveries_of, handed_over, counted_once}
 use Rattle.route_core.proofs.Numbers.{only_one, tell_headers}
 use Rattle.route_core.proofs.Places.{IsFirst, found_at, any_at, none_passes, not_any}
-use Rattle.route_core.proofs.Takers.{candidates_are, plain_are, firsts_are_members}
+use Rattle.route_core.proofs.Takers.{candidates_are, plain_are}
+use Rattle.route_core.proofs.Members.{next_are_members, all_next}
 use Rattle.route_core.proofs.Handing.{router_of, handed_all}
+
+-- what spreads a message is what the definition allows
+pub spread_routed : (old new : Router) (out : Out) (from : Option ℕ) (count : ℕ) → Spreads old out from count new → IsRoute old (router.Publish out from) (router.Taken count) new
+spread_routed old new out from count h = inl (record { chosen = h.chosen; choice = h.choice; routed = h.routed })
 
 -- the lists, and the router r of which they are the parts
 module _ (sessions : List Session) (subs : List Subscription) (latest : ℕ) (r : Router) (is : router_of sessions subs latest ≡ r) where
@@ -116,40 +123,46 @@ module _ (sessions : List Session) (subs : List Subscription) (latest : ℕ) (r 
   if_publisher None after h = refl
   if_publisher (Some n) after h = if_open n after h
 
-  abbrev firsts : Out → Option ℕ → List Subscription
-  firsts out from = group_takers out.to (deaf_of sessions from) subs
+  abbrev nexts : Out → Option ℕ → List Subscription
+  nexts out from = group_takers out.to (deaf_of sessions from) subs
 
-  firsts_are_chosen : (out : Out) (from : Option ℕ) → IsChoice here (router.Publish out from) (firsts out from)
-  firsts_are_chosen out from =
-      subst (λ cs. AreMembers (groups cs) cs (firsts out from)) (sym (candidates_are here out.to from)) (firsts_are_members out.to (deaf_of sessions from) subs)
+  nexts_are_chosen : (out : Out) (from : Option ℕ) → IsChoice here (router.Publish out from) (nexts out from)
+  nexts_are_chosen out from = subst (λ cs. AreMembers (groups cs) cs (nexts out from)) (sym (candidates_are here out.to from)) (next_are_members (filter (hears out.to (deaf_of sessions from)) subs))
 
-  takers_are : (out : Out) (from : Option ℕ) → takers here out.to from (firsts out from) ≡ takers_of out.to (deaf_of sessions from) subs
+  nexts_are_next : (out : Out) (from : Option ℕ) → AllByRecursion (IsNext (candidates here out.to from)) (nexts out from)
+  nexts_are_next out from = subst (λ cs. AllByRecursion (IsNext cs) (nexts out from)) (sym (candidates_are here out.to from)) (all_next (filter (hears out.to (deaf_of sessions from)) subs))
+
+  takers_are : (out : Out) (from : Option ℕ) → takers here out.to from (nexts out from) ≡ takers_of out.to (deaf_of sessions from) subs
   takers_are out from =
-      ap (λ cs. filter router.is_plain cs ++ firsts out from) (candidates_are here out.to from) ∙ ap (λ ps. ps ++ firsts out from) (plain_are out.to (deaf_of sessions from) subs)
+      ap (λ cs. filter router.is_plain cs ++ nexts out from) (candidates_are here out.to from) ∙ ap (λ ps. ps ++ nexts out from) (plain_are out.to (deaf_of sessions from) subs)
 
   pub publish_refused : (out : Out) (from : Option ℕ) → is_publisher_open sessions from ≡ false → IsRoute r (router.Publish out from) (router.NoSession latest) r
   unfolding route
   publish_refused out None h = absurd (cc (h))
   publish_refused out (Some n) h =
-      said (router.Publish out (Some n)) (router.NoSession latest) r (firsts out (Some n)) (firsts_are_chosen out (Some n)) (if_shut n (publishing here out (Some n) (firsts out (Some n))) h)
+      said (router.Publish out (Some n)) (router.NoSession latest) r (nexts out (Some n)) (nexts_are_chosen out (Some n)) (if_shut n (publishing here out (Some n) (nexts out (Some n))) h)
 
-  pub publish_routed : (out : Out) (from : Option ℕ) → AreNumbered latest sessions → is_publisher_open sessions from ≡ true
+  pub publish_spread : (out : Out) (from : Option ℕ) → AreNumbered latest sessions → is_publisher_open sessions from ≡ true
       → (sessions' : List Session) (subs' : List Subscription) (count : ℕ)
       → sessions' ≡ fold handed_over sessions (deliveries_of sessions out (takers_of out.to (deaf_of sessions from) subs))
       → subs' ≡ fold counted_once subs (deliveries_of sessions out (takers_of out.to (deaf_of sessions from) subs))
       → count ≡ length (deliveries_of sessions out (takers_of out.to (deaf_of sessions from) subs))
-      → IsRoute r (router.Publish out from) (router.Taken count) (router_of sessions' subs' latest)
+      → Spreads r out from count (router_of sessions' subs' latest)
   unfolding route
-  publish_routed out from numbered h sessions' subs' count e f g =
+  publish_spread out from numbered h sessions' subs' count e f g =
       let all = takers_of out.to (deaf_of sessions from) subs in
       let told : length all ≡ count = sym (g ∙ length-map all (delivery_of sessions out)) in
       let left : fold (handed out) here all ≡ router_of sessions' subs' latest =
       handed_all sessions out 1 (latest + 1) latest all sessions subs numbered.ascend (tell_headers 1 (latest + 1) sessions numbered.ascend)
       ∙ ap (λ xs. router_of xs (fold counted_once subs (deliveries_of sessions out all)) latest) (sym e) ∙ ap (λ ys. router_of sessions' ys latest) (sym f) in
-      said (router.Publish out from) (router.Taken count) (router_of sessions' subs' latest) (firsts out from) (firsts_are_chosen out from)
-      (if_publisher from (publishing here out from (firsts out from)) h
-      ∙ ap (λ ts. telling (router.Taken (length ts)) (fold (handed out) here ts)) (takers_are out from)
-      ∙ ap (λ k. telling (router.Taken k) (fold (handed out) here all)) told ∙ ap (telling (router.Taken count)) left)
+      subst (λ x. Spreads x out from count (router_of sessions' subs' latest)) is (record {
+        chosen = nexts out from;
+        choice = nexts_are_chosen out from;
+        next = nexts_are_next out from;
+        routed = if_publisher from (publishing here out from (nexts out from)) h
+            ∙ ap (λ ts. telling (router.Taken (length ts)) (fold (handed out) here ts)) (takers_are out from)
+            ∙ ap (λ k. telling (router.Taken k) (fold (handed out) here all)) told ∙ ap (telling (router.Taken count)) left;
+      })
 
   -- ---- collecting
 

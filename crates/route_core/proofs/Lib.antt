@@ -10,5 +10,5 @@ pub mod Entries
 pub mod Tables
 pub mod Taking
 pub mod Searching
-pub mod Groups
+pub mod Members
 mod Idle

@@ -1,5 +1,5 @@
 -- The subscriptions under their numbers and identifiers, through each change.
-use Rattle.std.proofs.Common.{◌≡◌, ◌⊎◌, inl, inr, ℕ, ◌+◌, ◌<◌, ◌==◌, ◌&&◌, ◌||◌, Bool, true, false, cond, not, List, [], ◌∷◌, ◌++◌, Option, Some, None, length, get_or, take, map, refl, sym, ap, subst, ◌∙◌, arith, eq-eqb, append-nil}
+use Rattle.std.proofs.Common.{◌≡◌, ◌⊎◌, inl, inr, ℕ, ◌+◌, ◌<◌, ◌==◌, ◌&&◌, ◌||◌, Bool, true, false, cond, not, List, [], ◌∷◌, ◌++◌, Option, Some, None, length, get_or, take, map, refl, sym, ap, subst, ◌∙◌, arith, eq-eqb}
 use Rattle.std.specs.Prelude.{filter, is_some, IfSome}
 use Rattle.std.specs.Bool.{OnTrue, OnFalse}
 use Rattle.std.specs.List.{AllByRecursion, list_any, filter_map, cons_option}
@@ -14,13 +14,12 @@ use Rattle.std.proofs.lemmas.List.{map-append, length-append, take_more}
 use Rattle.std.proofs.lemmas.List.Elements.{filter-append, filter_map-append}
 use Rattle.js_base.specs.Bytes.{Bytes, same}
 use Rattle.js_base.proofs.Meeting.{same_is, same_self}
-use Rattle.js_model.specs.Router.{Subscription, is_sub, is_match, is_plain, limited, counted, one_more}
+use Rattle.js_model.specs.Router.{Subscription, is_sub, is_match, limited, counted, one_more}
 use Rattle.js_model.proofs.Named.{some_is, none_some}
 use Rattle.route_index.specs.declared.sub.Sub.{Sub}
 use Rattle.route_index.specs.Subs.{id_of, is_match as index_match, matching_ids, IsAbove, without}
-use Rattle.route_core.specs.Subscriptions.{is_number, hears, are_together, plain_takers, is_group_taker, passing, takers_of}
-use Rattle.route_core.proofs.Takers.{plain_are}
-use Rattle.route_core.specs.Heard.{heard_some, is_first_of_group, first_of_groups}
+use Rattle.route_core.specs.Subscriptions.{is_number, hears}
+use Rattle.route_core.specs.Heard.{heard_some}
 use Rattle.route_core.specs.declared.names.Names.{Names}
 use Rattle.route_core.specs.Names.{number_of, count_of, KeepsNames, AddsName, DropsName}
 use Rattle.route_core.specs.Table.{Numbered, at_number, indexed, is_sub_some, is_of, AreBelow, AreNamed, Holds}
@@ -592,14 +591,6 @@ filter_both {X} p q (x ∷ xs) = go (p x) (filter_both p q xs)
     go true h = ap (λ (ys : List X). cond (q x) (x ∷ ys) ys) h
     go false h = h
 
-any_both : {X : Type 0} (p q : X → Bool) (xs : List X) → list_any q (filter p xs) ≡ list_any (λ x. p x && q x) xs
-any_both p q [] = refl
-any_both {X} p q (x ∷ xs) = go (p x) (any_both p q xs)
-  where
-    go : (a : Bool) → list_any q (filter p xs) ≡ list_any (λ y. p y && q y) xs → list_any q (cond a (x ∷ filter p xs) (filter p xs)) ≡ ((a && q x) || list_any (λ y. p y && q y) xs)
-    go true h = ap (λ b. q x || b) h
-    go false h = h
-
 -- it is none of the deaf publisher's own
 abbrev pub is_reached : Option ℕ → Subscription → Bool
 is_reached deaf sub = not (is_number deaf sub.session)
@@ -623,44 +614,6 @@ heard_more deaf es found ids i d o within made is =
 pub all_heard : (deaf : Option ℕ) (es : Numbered) (subject : Bytes) (index : List Sub) → IsStrictlySortedBy nat_cmp (keys_of es) → index ≡ map indexed es
     → filter (is_reached deaf) (at_numbers es (matching_ids subject index)) ≡ filter (hears subject deaf) (subs_of es)
 all_heard deaf es subject index rising e = ap (filter (is_reached deaf)) (gathers es subject index rising e) ∙ filter_both (is_match subject) (is_reached deaf) (subs_of es)
-
-module _ (subject : Bytes) (deaf : Option ℕ) where
-  abbrev heard : List Subscription → List Subscription
-  heard subs = filter (hears subject deaf) subs
-
-  group_alike : (earlier : List Subscription) (x : Subscription) → hears subject deaf x ≡ true → is_first_of_group (heard earlier) x ≡ is_group_taker subject deaf earlier x
-  group_alike earlier x h =
-      ap (λ b. not (is_plain x) && not b) (any_both (hears subject deaf) (are_together x) earlier)
-      ∙ ap (λ b. (b && not (is_plain x)) && not (list_any (λ other. hears subject deaf other && are_together x other) earlier)) (sym h)
-
-  not_heard : (earlier : List Subscription) (x : Subscription) → hears subject deaf x ≡ false → is_group_taker subject deaf earlier x ≡ false
-  not_heard earlier x h = ap (λ b. (b && not (is_plain x)) && not (list_any (λ other. hears subject deaf other && are_together x other) earlier)) h
-
-  group_passing : (earlier xs : List Subscription) → passing is_first_of_group (heard earlier) (heard xs) ≡ passing (is_group_taker subject deaf) earlier xs
-  group_passing earlier [] = refl
-  group_passing earlier (x ∷ xs) = go (hears subject deaf x) refl (group_passing (earlier ++ x ∷ []) xs)
-    where
-      met : List Subscription
-      met = heard earlier
-
-      rest : List Subscription
-      rest = passing (is_group_taker subject deaf) (earlier ++ x ∷ []) xs
-
-      more : (b : Bool) → hears subject deaf x ≡ b → heard (earlier ++ x ∷ []) ≡ met ++ cond b (x ∷ []) []
-      more b e = filter-append (hears subject deaf) earlier (x ∷ []) ∙ ap (λ c. met ++ cond c (x ∷ []) []) e
-
-      go : (b : Bool) → hears subject deaf x ≡ b → passing is_first_of_group (heard (earlier ++ x ∷ [])) (heard xs) ≡ rest
-          → passing is_first_of_group met (cond b (x ∷ heard xs) (heard xs)) ≡ cond (is_group_taker subject deaf earlier x) (x ∷ rest) rest
-      go true e h =
-          let h' : passing is_first_of_group (met ++ x ∷ []) (heard xs) ≡ rest = ap (λ ys. passing is_first_of_group ys (heard xs)) (sym (more true e)) ∙ h in
-          ap (λ (ys : List Subscription). cond (is_first_of_group met x) (x ∷ ys) ys) h' ∙ ap (λ b. cond b (x ∷ rest) rest) (group_alike earlier x e)
-      go false e h =
-          ap (λ ys. passing is_first_of_group ys (heard xs)) (sym (more false e ∙ append-nil met)) ∙ h ∙ sym (ap (λ b. cond b (x ∷ rest) rest) (not_heard earlier x e))
-
-  -- the takers, by those that may be sent the message
-  pub takers_heard : (subs : List Subscription) → filter is_plain (heard subs) ++ first_of_groups (heard subs) ≡ takers_of subject deaf subs
-  takers_heard subs =
-      ap (λ ps. ps ++ first_of_groups (heard subs)) (plain_are subject deaf subs) ∙ ap (λ gs. plain_takers subject deaf subs ++ gs) (group_passing [] subs)
 
 -- ---- the subscription for which a message was counted
 

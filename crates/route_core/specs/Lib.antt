@@ -1,6 +1,8 @@
 pub mod Queues
 pub mod Sessions
 pub mod Subscriptions
+pub mod Groups
+pub mod Spreading
 pub mod Deliveries
 pub mod Names
 pub mod Table

@@ -1,6 +1,5 @@
 -- The subscriptions, and which of them take a message.
-use Rattle.std.specs.Prelude.{ℕ, Bool, false, not, ◌==◌, ◌&&◌, List, [], ◌∷◌, ◌++◌, map, filter, Option, Some, None, if◌then◌else◌}
-use Rattle.std.specs.List.{list_any}
+use Rattle.std.specs.Prelude.{ℕ, Bool, false, not, ◌==◌, ◌&&◌, List, map, filter, Option, Some, None}
 use Rattle.js_base.specs.Bytes.{Bytes, same_option}
 use Rattle.js_model.specs.Router.{Subscription, is_match, is_sub, is_plain, limited, counted, without_spent}
 
@@ -31,20 +30,3 @@ is_plain_taker subject deaf sub = hears subject deaf sub && is_plain sub
 
 abbrev pub plain_takers : Bytes → Option ℕ → List Subscription → List Subscription
 plain_takers subject deaf subs = filter (is_plain_taker subject deaf) subs
-
--- it may be sent the message and is in a queue group, of which none that may be sent it came earlier
-abbrev pub is_group_taker : Bytes → Option ℕ → List Subscription → Subscription → Bool
-is_group_taker subject deaf earlier sub =
-    hears subject deaf sub && not (is_plain sub) && not (list_any (λ other. hears subject deaf other && are_together sub other) earlier)
-
--- those of a list that pass a test of what comes earlier
-abbrev pub passing : {X : Type 0} → (List X → X → Bool) → List X → List X → List X
-passing test earlier [] = []
-passing test earlier (x ∷ xs) = if test earlier x then x ∷ passing test (earlier ++ x ∷ []) xs else passing test (earlier ++ x ∷ []) xs
-
-abbrev pub group_takers : Bytes → Option ℕ → List Subscription → List Subscription
-group_takers subject deaf subs = passing (is_group_taker subject deaf) [] subs
-
--- the takers of a message
-abbrev pub takers_of : Bytes → Option ℕ → List Subscription → List Subscription
-takers_of subject deaf subs = plain_takers subject deaf subs ++ group_takers subject deaf subs

@@ -1,17 +1,15 @@
 //! What a message becomes for those that take it, and how it is handed to them.
 
-ghost use Rattle.std.specs.Prelude.{◌≡◌, ◌&&◌, ◌++◌, IfOk, OnOk, filter, fold, map, not};
-ghost use Rattle.std.specs.List.{list_any};
+ghost use Rattle.std.specs.Prelude.{◌≡◌, ◌++◌, IfOk, OnOk, filter, fold, map};
 ghost use Rattle.js_model.specs.Router.{is_plain};
-ghost use Rattle.route_core.specs.Subscriptions.{are_together, takers_of};
+ghost use Rattle.route_core.specs.Groups.{takers_of};
 ghost use Rattle.route_core.specs.Deliveries.{delivery_of, deliveries_of, handed_over, counted_once};
 ghost use Rattle.route_core.specs.Sessions.{InOrder};
-ghost use Rattle.route_core.specs.Heard.{first_of_groups};
 
 use crate::delivery::Delivery;
+use crate::groups::next_of_groups;
 use crate::open_sessions::{place_of, takes_headers};
 use crate::session::Session;
-use crate::subscription::Subscription;
 use crate::table::{Heard, Table};
 use js_base::{NoMemory, Out};
 use std::alloc::Global;
@@ -41,20 +39,6 @@ fn posted_for(
     })
 }
 
-/// Whether an earlier one is of the subscription's queue group.
-fn has_earlier(earlier: &[Heard], sub: &Subscription) -> bool
-    ensures value { result ≡ list_any (λ other. are_together sub.now other.sub.now) earlier.now }
-{
-    earlier.iter().any(|other| sub.is_together_with(other.sub))
-}
-
-/// Whether the subscription is the first one of its queue group.
-fn is_first_of_group(earlier: &[Heard], sub: &Subscription) -> bool
-    ensures value { result ≡ (not (is_plain sub.now) && not (list_any (λ other. are_together sub.now other.sub.now) earlier.now)) }
-{
-    !sub.is_plain() && !has_earlier(earlier, sub)
-}
-
 /// Adds the message for each subscription that is in no queue group.
 fn add_plain(
     list: &mut Vec<Posted>,
@@ -74,30 +58,25 @@ fn add_plain(
     Ok(())
 }
 
-/// Adds the message for the first subscription of each queue group. Each is compared with the first ones of the groups before it, and with no
-/// other member.
-fn add_groups(
+/// Adds the message for each of these subscriptions.
+fn add_each(
     list: &mut Vec<Posted>,
     sessions: &[Session],
-    hearing: &[Heard],
+    takers: &[Heard],
     out: &Out,
 ) -> Result<(), NoMemory>
     requires numbered { InOrder sessions.now }
-    ensures added { OnOk result (map (λ posted. posted.delivery) list.new.items ≡ map (λ posted. posted.delivery) list.old.items ++ deliveries_of sessions.now out.now (first_of_groups (map (λ heard. heard.sub.now) hearing.now))) }
+    ensures added { OnOk result (map (λ posted. posted.delivery) list.new.items ≡ map (λ posted. posted.delivery) list.old.items ++ deliveries_of sessions.now out.now (map (λ heard. heard.sub.now) takers.now)) }
 {
-    let alloc = *list.allocator();
-    let mut firsts = Vec::new(alloc);
-    for heard in hearing {
-        if is_first_of_group(firsts.as_slice(), heard.sub) {
-            list.push(posted_for(alloc, sessions, out, heard)?)?;
-            firsts.push(*heard)?;
-        }
+    for heard in takers {
+        let alloc = *list.allocator();
+        list.push(posted_for(alloc, sessions, out, heard)?)?;
     }
     Ok(())
 }
 
-/// The message for each subscription that takes it: those in no queue group in the order of their making, and then the first one of each
-/// group, in the same order.
+/// The message for each subscription that takes it: those in no queue group in the order of their making, and then one of each group, in the
+/// order of the groups' first ones.
 pub(crate) fn deliveries(
     alloc: Global,
     sessions: &[Session],
@@ -111,7 +90,8 @@ pub(crate) fn deliveries(
     let hearing = subscriptions.hearing(out.to.as_slice(), deaf)?;
     let mut list = Vec::new(alloc);
     add_plain(&mut list, sessions, hearing.as_slice(), out)?;
-    add_groups(&mut list, sessions, hearing.as_slice(), out)?;
+    let members = next_of_groups(alloc, hearing.as_slice())?;
+    add_each(&mut list, sessions, members.as_slice(), out)?;
     Ok(list)
 }
 

@@ -3,6 +3,7 @@
 
 mod delivery;
 mod dispatch;
+mod groups;
 mod identifiers;
 mod measured_frame;
 mod names;

@@ -5,6 +5,7 @@ ghost use Rattle.std.specs.Option.{option_copied};
 ghost use Rattle.js_model.specs.Router.{IsRoute, Open, Close, Options, Sub, Unsub, Publish, Interest, Collect, Done, Listens, empty_router};
 ghost use Rattle.js_model.specs.Routing.{open_told, done_told, publish_told, collected_told, StaysOpen, KeepsOpen, ClosesOne, Opens, waiting_for, LeavesFewer};
 ghost use Rattle.js_model.specs.declared.desk.Collected.TheVariants.{Frames};
+ghost use Rattle.route_core.specs.Spreading.{Spreads};
 ghost use Rattle.route_core.specs.Idle.{IsIdle};
 
 use crate::dispatch::{deliveries, hand_over_all};
@@ -131,12 +132,14 @@ impl Router {
     }
 
     /// Hands a message to each subscription that is in no queue group and whose pattern matches its `to`, and to one of each queue group, and
-    /// answers how many there are. Their sessions find it behind what waits for them, once for each subscription and in the subscriptions'
-    /// order, the groups' last; a session without headers gets the block left off. A session for which more than 16 MiB would wait is
-    /// marked. If a session publishes, `NoSession` comes exactly if it is not open, and its own subscriptions count only if it hears
+    /// answers how many there are. Of a group that one takes it which was sent the fewest messages since its SUB, the earliest of several.
+    /// Their sessions find it behind what waits for them, once for each subscription and in the subscriptions' order, the groups' last, in
+    /// the order of their first members; a session without headers gets the block left off. A session for which more than 16 MiB would wait
+    /// is marked. If a session publishes, `NoSession` comes exactly if it is not open, and its own subscriptions count only if it hears
     /// itself. A subscription that was sent its last message ends. An `Err` changes nothing.
     pub fn publish(&mut self, out: &Out, from: Option<u64>) -> Result<u64, RouteFault>
         ensures routes { IsRoute self.old (Publish out.now from) (publish_told result) self.new }
+        ensures spreads { IfOk result (λ count. Spreads self.old out.now from count self.new) }
         ensures stay { KeepsOpen self.old self.new }
         ensures err { OnErr result (self.new ≡ self.old) }
     {

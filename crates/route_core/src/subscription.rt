@@ -3,7 +3,7 @@
 ghost use Rattle.std.specs.Prelude.{◌≡◌, ◌==◌, IfOk, Some};
 ghost use Rattle.std.specs.Option.{option_copied};
 ghost use Rattle.js_model.specs.Router.{new_subscription, is_sub, is_plain, is_match, is_in_group, is_spent, limited, counted};
-ghost use Rattle.route_core.specs.Subscriptions.{hears, are_together};
+ghost use Rattle.route_core.specs.Subscriptions.{hears};
 
 use js_base::{Blob, NoMemory};
 use std::alloc::Global;
@@ -98,6 +98,23 @@ impl Subscription {
         self.session == session && self.sid.as_slice() == sid
     }
 
+    /// Its queue group, if it is in one.
+    pub(crate) fn queue(&self) -> Option<&[u8]>
+        ensures value { option_copied result ≡ self.now.queue }
+    {
+        match &self.queue {
+            Some(queue) => Some(queue.as_slice()),
+            None => None,
+        }
+    }
+
+    /// How many messages were sent to it.
+    pub(crate) fn sent(&self) -> u64
+        ensures value { result ≡ self.now.sent }
+    {
+        self.sent
+    }
+
     /// Whether it is in no queue group.
     pub(crate) fn is_plain(&self) -> bool
         ensures value { result ≡ is_plain self.now }
@@ -127,16 +144,6 @@ impl Subscription {
             (None, _) => true,
             (Some(_), None) => false,
             (Some(group), Some(queue)) => queue.as_slice() == group,
-        }
-    }
-
-    /// Whether the two are in one queue group.
-    pub(crate) fn is_together_with(&self, other: &Subscription) -> bool
-        ensures value { result ≡ are_together self.now other.now }
-    {
-        match (&self.queue, &other.queue) {
-            (Some(queue), Some(other)) => queue.as_slice() == other.as_slice(),
-            _ => false,
         }
     }
 

@@ -5,11 +5,11 @@ use Rattle.js_base.specs.declared.out.Out.{Out}
 use Rattle.js_model.specs.Router.{Session, Subscription, Taken}
 use Rattle.route_core.specs.declared.delivery.Delivery.{Delivery}
 use Rattle.route_core.specs.Sessions.{is_publisher_open, deaf_of}
-use Rattle.route_core.specs.Subscriptions.{takers_of}
+use Rattle.route_core.specs.Groups.{takers_of}
 use Rattle.route_core.specs.Deliveries.{deliveries_of, handed_over, counted_once}
 use Rattle.route_core.proofs.Places.{lent_back}
 use Rattle.route_core.proofs.Handing.{numbered_handed, length-handed}
-use Rattle.route_core.proofs.Calls.{publish_refused, publish_routed}
+use Rattle.route_core.proofs.Calls.{publish_refused, publish_spread, spread_routed}
 use Rattle.route_core.proofs.Laws.{publish_keeps}
 use Rattle.route_core.proofs.Searching.{in_order}
 use Rattle.route_core.proofs.router.Router.publish.Goals as goal
@@ -47,10 +47,11 @@ returns c =
     let listed = of_the_lists (map (λ posted. posted.delivery) c.in_ok-list.list.items) old.sessions.items c.deref-2.result.now c.deref-3.result.now old.subscriptions old.subscriptions c.args.out.now c.args.from c.deaf_of-deaf.result
     c.in_ok-list.ensures.value c.deref-3.ensures.value c.deaf_of-deaf.ensures.value c.deref-2.ensures.value refl in
     let written = lent_back old.sessions.len old.sessions.items _ _ old.sessions.ok.0 (c.hand_over_all.ensures.sessions ∙ handed_lists _ _ _ _ c.deref_mut.ensures.value listed) (length-handed old.sessions.items (deliveries_of old.sessions.items c.args.out.now all)) in
-    let routed = publish_routed old.sessions.items old.subscriptions old.latest c.args.self.now c.self.view_is c.args.out.now c.args.from c.self.invariant open'
+    let spread = publish_spread old.sessions.items old.subscriptions old.latest c.args.self.now c.self.view_is c.args.out.now c.args.from c.self.invariant open'
     _ c.hand_over_all.new.subscriptions c.len-count.result written (c.hand_over_all.ensures.subscriptions ∙ ap (fold counted_once old.subscriptions) listed)
     (c.len-count.ensures ∙ c.in_ok-list.list.ok.0 ∙ sym (length-map c.in_ok-list.list.items (λ posted. posted.delivery)) ∙ ap length listed) in
-    record { routes = routed; stay = publish_keeps _ _ c.args.out.now c.args.from (Taken c.len-count.result) routed; err = tt }
+    let routed = spread_routed _ _ c.args.out.now c.args.from c.len-count.result spread in
+    record { routes = routed; spreads = spread; stay = publish_keeps _ _ c.args.out.now c.args.from (Taken c.len-count.result) routed; err = tt }
 
 pub is_publisher_open-requires : goal.is_publisher_open-requires
 is_publisher_open-requires c = record { numbered = in_order c.self.inside.latest c.self.inside.sessions.items c.deref.result.now c.self.invariant c.deref.ensures.value }
