@@ -21,7 +21,7 @@ use Rattle.api_requests.specs.declared.call.StreamCall.{StreamCall}
 use Rattle.api_requests.specs.declared.call.StreamCall.TheVariants as stream
 use Rattle.api_requests.specs.Calls.{general_call, stream_call}
 use Rattle.api_requests.specs.Fields.{number_in, pattern_in}
-use Rattle.api_requests.specs.Bodies.{or_braces, or_invalid_json, object_in, fields_of, or_no_name, stream_name, listing_of, setup_of}
+use Rattle.api_requests.specs.Bodies.{or_braces, or_invalid_json, object_in, fields_of, or_no_name, token_name, listing_of, setup_of}
 use Rattle.api_requests.specs.Messages.{purge_in, message_in, sequence_in}
 use Rattle.api_requests.specs.Requests.{general_request, stream_request, or_on_stream, request_of}
 use Rattle.api_requests.proofs.Plain.{is_ascii, Plain, told, one_of}
@@ -53,8 +53,8 @@ name_by : (read : Result Bytes NameFault) (refusal : ApiError) → or_no_name re
 name_by (Ok name) refusal e = absurd (cc)
 name_by (Err fault) refusal e = told _ refusal e (record { ascii = refl })
 
-name_plain : (token : Bytes) (refusal : ApiError) → stream_name token ≡ Err refusal → Plain refusal
-unfolding stream_name
+name_plain : (token : Bytes) (refusal : ApiError) → token_name token ≡ Err refusal → Plain refusal
+unfolding token_name
 name_plain token refusal e = name_by (name_of token) refusal e
 
 listing_plain : (body : Bytes) (refusal : ApiError) → listing_of body ≡ Err refusal → Plain refusal
@@ -107,7 +107,7 @@ setup_plain : (token body : Bytes) (refusal : ApiError) → setup_of token body 
 unfolding setup_of
 setup_plain token body refusal e =
     one_of (fields_of body) _ refusal e (fields_plain body refusal)
-    (λ fields named. one_of (stream_name token) _ refusal named (name_plain token refusal)
+    (λ fields named. one_of (token_name token) _ refusal named (name_plain token refusal)
     (λ name configured. one_of (reading name fields) _ refusal configured (config_plain name fields refusal) (λ config made. absurd (cc))))
 
 -- ---- calls
@@ -124,19 +124,19 @@ on_stream_plain stream.Create token body refusal e = one_of (setup_of token body
 on_stream_plain stream.Update token body refusal e = one_of (setup_of token body) _ refusal e (setup_plain token body refusal) (λ setup made. absurd (cc))
 on_stream_plain stream.Info token body refusal e =
     one_of (fields_of body) _ refusal e (fields_plain body refusal)
-    (λ fields named. one_of (stream_name token) _ refusal named (name_plain token refusal) (λ name made. absurd (cc)))
-on_stream_plain stream.Delete token body refusal e = one_of (stream_name token) _ refusal e (name_plain token refusal) (λ name made. absurd (cc))
+    (λ fields named. one_of (token_name token) _ refusal named (name_plain token refusal) (λ name made. absurd (cc)))
+on_stream_plain stream.Delete token body refusal e = one_of (token_name token) _ refusal e (name_plain token refusal) (λ name made. absurd (cc))
 on_stream_plain stream.Purge token body refusal e =
     one_of (fields_of body) _ refusal e (fields_plain body refusal)
-    (λ fields named. one_of (stream_name token) _ refusal named (name_plain token refusal)
+    (λ fields named. one_of (token_name token) _ refusal named (name_plain token refusal)
     (λ name read. one_of (purge_in fields) _ refusal read (purge_plain fields refusal) (λ purge made. absurd (cc))))
 on_stream_plain stream.MsgGet token body refusal e =
     one_of (object_in body) _ refusal e (object_plain body refusal)
-    (λ fields named. one_of (stream_name token) _ refusal named (name_plain token refusal)
+    (λ fields named. one_of (token_name token) _ refusal named (name_plain token refusal)
     (λ name read. one_of (message_in fields) _ refusal read (message_plain fields refusal) (λ by made. absurd (cc))))
 on_stream_plain stream.MsgDelete token body refusal e =
     one_of (object_in body) _ refusal e (object_plain body refusal)
-    (λ fields named. one_of (stream_name token) _ refusal named (name_plain token refusal)
+    (λ fields named. one_of (token_name token) _ refusal named (name_plain token refusal)
     (λ name read. one_of (sequence_in fields) _ refusal read (sequence_plain fields refusal) (λ seq made. absurd (cc))))
 
 some_is : {X : Type 0} (x y : X) → Some x ≡ Some y → x ≡ y

@@ -9,7 +9,7 @@ use Rattle.api_requests.specs.declared.call.StreamCall.TheVariants as stream
 use Rattle.api_requests.specs.declared.request.ApiRequest.{ApiRequest}
 use Rattle.api_requests.specs.declared.request.ApiRequest.TheVariants as requests
 use Rattle.api_requests.specs.Calls.{general_call, stream_call}
-use Rattle.api_requests.specs.Bodies.{object_in, fields_of, stream_name, listing_of, setup_of}
+use Rattle.api_requests.specs.Bodies.{object_in, fields_of, token_name, listing_of, setup_of}
 use Rattle.api_requests.specs.Messages.{purge_in, message_in, sequence_in}
 use Rattle.api_requests.specs.Requests.{general_request, stream_request, or_on_stream, request_of}
 use Rattle.api_requests.specs.Read.{IsRead}
@@ -37,22 +37,22 @@ on_stream_read stream.Update token body request e =
     after _ (setup_of token body) _ request e (λ setup is made. as_read (requests.StreamUpdate setup.0 setup.1) request made (setup_is token body setup is))
 on_stream_read stream.Info token body request e =
     after _ (fields_of body) _ request e
-    (λ fields _ named. after _ (stream_name token) _ request named (λ name is made. as_read (requests.StreamInfo name) request made (stream_is token name is)))
+    (λ fields _ named. after _ (token_name token) _ request named (λ name is made. as_read (requests.StreamInfo name) request made (stream_is token name is)))
 on_stream_read stream.Delete token body request e =
-    after _ (stream_name token) _ request e (λ name is made. as_read (requests.StreamDelete name) request made (stream_is token name is))
+    after _ (token_name token) _ request e (λ name is made. as_read (requests.StreamDelete name) request made (stream_is token name is))
 on_stream_read stream.Purge token body request e =
     after _ (fields_of body) _ request e
-    (λ fields _ named. after _ (stream_name token) _ request named
+    (λ fields _ named. after _ (token_name token) _ request named
     (λ name is read. after _ (purge_in fields) _ request read
     (λ purge purged made. as_read (requests.StreamPurge name purge.filter purge.seq purge.keep) request made (stream_is token name is, purge_is fields purge purged))))
 on_stream_read stream.MsgGet token body request e =
     after _ (object_in body) _ request e
-    (λ fields _ named. after _ (stream_name token) _ request named
+    (λ fields _ named. after _ (token_name token) _ request named
     (λ name is read. after _ (message_in fields) _ request read
     (λ by asked made. as_read (requests.StreamMsgGet name by) request made (stream_is token name is, message_is fields by asked))))
 on_stream_read stream.MsgDelete token body request e =
     after _ (object_in body) _ request e
-    (λ fields _ named. after _ (stream_name token) _ request named
+    (λ fields _ named. after _ (token_name token) _ request named
     (λ name is read. after _ (sequence_in fields) _ request read
     (λ seq asked made. as_read (requests.StreamMsgDelete name seq) request made (stream_is token name is, sequence_is fields seq asked))))
 
