@@ -1,5 +1,5 @@
 -- The laws of the subjects of calls, by the JetStream API reference: a subject is read as a call exactly if it is spelled as one.
-use Rattle.std.specs.Prelude.{◌≡◌, ◌↔◌, false, [], ◌∷◌, ◌++◌, Option, Some, None, IsTrue}
+use Rattle.std.specs.Prelude.{◌≡◌, ◌↔◌, false, ◌∷◌, ◌++◌, Option, Some, None, IsTrue}
 use Rattle.js_base.specs.Bytes.{Bytes, has}
 use Rattle.api_requests.specs.declared.call.GeneralCall.{GeneralCall}
 use Rattle.api_requests.specs.declared.call.StreamCall.{StreamCall}
@@ -20,14 +20,14 @@ LawGeneral = (subject : Bytes) (call : GeneralCall) → (general_call subject �
 abbrev pub LawOnStream : Type 0
 LawOnStream = (subject token : Bytes) (call : StreamCall) → (stream_call subject ≡ Some (call, token)) ↔ IsCallOn call token subject
 
--- the filter behind its dot, if there is one
-abbrev pub filter_shown : Option Bytes → Bytes
-filter_shown None = []
-filter_shown (Some filter) = 46 ∷ filter
+-- the consumer's token, and a dot and the filter behind it, if there is one
+abbrev pub with_filter : Bytes → Option Bytes → Bytes
+with_filter consumer None = consumer
+with_filter consumer (Some filter) = consumer ++ 46 ∷ filter
 
 -- the tokens in the subject
 abbrev pub tokens_shown : Tokens → Bytes
-tokens_shown tokens = tokens.stream ++ (46 ∷ (tokens.consumer ++ filter_shown tokens.filter))
+tokens_shown tokens = tokens.stream ++ 46 ∷ with_filter tokens.consumer tokens.filter
 
 -- the subject is that of this call with these tokens: those of the stream and of the consumer have no dot
 pub record IsCallOnConsumer (call : ConsumerCall) (tokens : Tokens) (subject : Bytes) : Type 0 where
