@@ -16,3 +16,4 @@ pub mod PlainConsumers
 pub mod Refused
 pub mod Answered
 mod RowsOfRequests
+mod RowsOfConsumers
