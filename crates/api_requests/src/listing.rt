@@ -98,6 +98,6 @@ pub(crate) fn page_of(alloc: Global, token: &[u8], body: &[u8]) -> Result<(Name,
 {
     let fields = fields_of(alloc, body)?;
     let name = token_name(alloc, token)?;
-    let offset = number_in(alloc, &fields, "offset")?;
-    Ok((name, offset.unwrap_or(0)))
+    let offset = number_in(alloc, &fields, "offset")?.unwrap_or(0);
+    Ok((name, offset))
 }
