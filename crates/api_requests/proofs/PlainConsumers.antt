@@ -118,7 +118,7 @@ names_plain : (tokens : Tokens) (refusal : ApiError) → names_of tokens ≡ Err
 unfolding names_of
 names_plain tokens refusal e =
     one_of (token_name tokens.stream) _ refusal e (name_plain tokens.stream refusal)
-    (λ stream named. one_of (token_name tokens.consumer) _ refusal named (name_plain tokens.consumer refusal) (λ consumer made. absurd (cc)))
+    (λ stream named. one_of (token_name tokens.consumer) _ refusal named (name_plain tokens.consumer refusal) (λ name made. absurd (cc)))
 
 creation_plain : (tokens : Tokens) (body : Bytes) (refusal : ApiError) → creation_of tokens body ≡ Err refusal → Plain refusal
 unfolding creation_of

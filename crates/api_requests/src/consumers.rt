@@ -8,7 +8,7 @@ ghost use Rattle.api_requests.specs.Answers.{Reads};
 ghost use Rattle.api_requests.specs.Consumers.{names_of, update_by, update_in, config_told, checked, config_in, settings_in, agrees, agreeing, creation_of};
 ghost use Rattle.api_requests.specs.Requests.{consumer_request};
 ghost use Rattle.api_requests.specs.Seen.{seen, tokens_seen};
-ghost use Rattle.api_requests.specs.declared.consumer_call.ConsumerCall.TheVariants as consumer;
+ghost use Rattle.api_requests.specs.declared.consumer_call.ConsumerCall.TheVariants as calls;
 ghost use Rattle.api_requests.specs.declared.request.ApiRequest.TheVariants as requests;
 
 use crate::consumer_call::{ConsumerCall, ConsumerTokens};
@@ -197,7 +197,7 @@ fn creation_of(alloc: Global, tokens: &ConsumerTokens, body: &[u8]) -> Result<Cr
 /// A question for messages.
 #[tactic(auto, unfolding(crate::specs::Requests::consumer_request))]
 fn read_msg_next(alloc: Global, tokens: &ConsumerTokens, body: &[u8]) -> Result<ApiRequest, ApiFault>
-    ensures reading { Reads result (consumer_request consumer.MsgNext (tokens_seen tokens.now) body.now) }
+    ensures reading { Reads result (consumer_request calls.MsgNext (tokens_seen tokens.now) body.now) }
 {
     let ask = read_ask(alloc, body)?;
     let stream = Blob::of(alloc, tokens.stream)?;
