@@ -44,12 +44,19 @@ rows_plain fields (row ∷ rows) others refusal h e more =
     (row_plain row fields parts.0)
     (λ next. rows_plain fields rows others refusal parts.1 next more)
 
+-- the refusals of checks are plain ones
+abbrev ArePlain : List Check → Type 0
+ArePlain [] = Unit {0}
+ArePlain (check ∷ more) = Plain check.1 × ArePlain more
+
+first_plain : (cs : List Check) (refusal : ApiError) → ArePlain cs → first_refusal cs ≡ Some refusal → Plain refusal
+first_plain [] refusal are e = absurd (cc)
+first_plain (c ∷ cs) refusal are e = first_by c.0 c.1 cs refusal e are.0 (λ more. first_plain cs refusal are.1 more)
+
 start_plain : (name : Bytes) (fields : Members) (refusal : ApiError) → first_refusal (start_checks fields ++ name_checks name fields) ≡ Some refusal → Plain refusal
 start_plain name fields refusal e =
-    first_by _ _ _ refusal e (record { ascii = refl })
-    (λ time. first_by _ _ _ refusal time (record { ascii = refl })
-    (λ durable. first_by _ _ _ refusal durable (record { ascii = refl })
-    (λ other. first_by _ _ [] refusal other (record { ascii = refl }) (λ none. absurd (cc)))))
+    first_plain (start_checks fields ++ name_checks name fields) refusal
+    (record { ascii = refl }, (record { ascii = refl }, (record { ascii = refl }, (record { ascii = refl }, tt)))) e
 
 unless_by : (found : Option ApiError) (config : ConsumerConfig) (refusal : ApiError) → config_unless found config ≡ Err refusal → found ≡ Some refusal
 unless_by None config refusal e = absurd (cc)

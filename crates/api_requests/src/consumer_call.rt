@@ -121,7 +121,11 @@ fn tokens_behind<'a>(call: ConsumerCall, subject: &'a [u8]) -> Option<ConsumerTo
         return None;
     }
     let tokens = tokens_of(&subject[words.len()..])?;
-    if call.allows(&tokens) { Some(tokens) } else { None }
+    if call.allows(&tokens) {
+        Some(tokens)
+    } else {
+        None
+    }
 }
 
 /// This call and its tokens, if the subject is one of it.
@@ -142,9 +146,7 @@ fn creation_call<'a>(subject: &'a [u8]) -> Option<(ConsumerCall, ConsumerTokens<
 }
 
 /// The call on a consumer that the subject is, and its tokens.
-pub(crate) fn consumer_call<'a>(
-    subject: &'a [u8],
-) -> Option<(ConsumerCall, ConsumerTokens<'a>)>
+pub(crate) fn consumer_call<'a>(subject: &'a [u8]) -> Option<(ConsumerCall, ConsumerTokens<'a>)>
     ensures value { option_map (λ x. (x.0, tokens_seen x.1)) result ≡ consumer_call subject.now }
 {
     creation_call(subject)

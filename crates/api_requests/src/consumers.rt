@@ -196,7 +196,11 @@ fn creation_of(alloc: Global, tokens: &ConsumerTokens, body: &[u8]) -> Result<Cr
 
 /// A question for messages.
 #[tactic(auto, unfolding(crate::specs::Requests::consumer_request))]
-fn read_msg_next(alloc: Global, tokens: &ConsumerTokens, body: &[u8]) -> Result<ApiRequest, ApiFault>
+fn read_msg_next(
+    alloc: Global,
+    tokens: &ConsumerTokens,
+    body: &[u8],
+) -> Result<ApiRequest, ApiFault>
     ensures reading { Reads result (consumer_request calls.MsgNext (tokens_seen tokens.now) body.now) }
 {
     let ask = read_ask(alloc, body)?;
