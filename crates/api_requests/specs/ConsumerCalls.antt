@@ -36,7 +36,7 @@ may_filter consumer.Delete = false
 may_filter consumer.MsgNext = false
 
 abbrev pub is_allowed : ConsumerCall → Tokens → Bool
-is_allowed call tokens = may_filter call || is_none tokens.filter
+is_allowed call tokens = is_none tokens.filter || may_filter call
 
 -- the tokens, if the call may have them
 abbrev pub allowed : ConsumerCall → Tokens → Option Tokens

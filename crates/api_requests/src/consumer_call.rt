@@ -80,7 +80,10 @@ impl ConsumerCall {
     fn allows(self, tokens: &ConsumerTokens) -> bool
         ensures value { result ≡ is_allowed self (tokens_seen tokens.now) }
     {
-        self.may_filter() || tokens.filter.is_none()
+        match tokens.filter {
+            Some(_) => self.may_filter(),
+            None => true,
+        }
     }
 }
 

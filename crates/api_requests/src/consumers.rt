@@ -145,7 +145,7 @@ impl Settings {
         ensures value { result ≡ agrees self.now.stream stream.now }
     {
         match &self.stream {
-            Some(other) => stream.as_slice() == other.as_slice(),
+            Some(other) => other.as_slice() == stream.as_slice(),
             None => true,
         }
     }
@@ -155,7 +155,7 @@ impl Settings {
         ensures value { result ≡ agrees (option_map (λ text. text.now) filter) self.now.config.filter_subject }
     {
         match filter {
-            Some(other) => self.config.filter_subject.as_slice() == other,
+            Some(other) => other == self.config.filter_subject.as_slice(),
             None => true,
         }
     }
