@@ -56,10 +56,46 @@ time_whole LastPerSubject = tt
 config_whole : (c : ConsumerConfig) → members_have_float (printed c) ≡ false
 unfolding printed
 config_whole c =
-    shown_whole (entries c)
-    (refl, (refl, (text_whole c.deliver_group, (refl, (text_whole c.deliver_subject, (text_whole c.description, (refl, (text_whole c.filter_subject,
-    (number_whole c.idle_heartbeat, (limit_whole c.max_ack_pending, (limit_whole c.max_deliver, (refl, (refl,
-    (sequence_whole c.deliver_policy, (time_whole c.deliver_policy, (refl, tt))))))))))))))))
+    shown_whole (entries c) (
+      refl,
+      (
+        refl,
+        (
+          text_whole c.deliver_group,
+          (
+            refl,
+            (
+              text_whole c.deliver_subject,
+              (
+                text_whole c.description,
+                (
+                  refl,
+                  (
+                    text_whole c.filter_subject,
+                    (
+                      number_whole c.idle_heartbeat,
+                      (
+                        limit_whole c.max_ack_pending,
+                        (
+                          limit_whole c.max_deliver,
+                          (
+                            refl,
+                            (
+                              refl,
+                              (sequence_whole c.deliver_policy, (time_whole c.deliver_policy, (refl, tt))),
+                            ),
+                          ),
+                        ),
+                      ),
+                    ),
+                  ),
+                ),
+              ),
+            ),
+          ),
+        ),
+      ),
+    )
 
 pub consumer_whole : (info : ConsumerInfo) → members_have_float (consumer_members info) ≡ false
 unfolding consumer_members
