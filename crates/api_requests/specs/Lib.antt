@@ -11,4 +11,5 @@ pub mod Consumers
 pub mod Seen
 pub mod Requests
 pub mod Laws
+pub mod Served
 pub mod Read
