@@ -3,7 +3,7 @@
 ghost use Rattle.std.specs.Prelude.{◌≡◌, IsUtf8};
 ghost use Rattle.api_calls.specs.Names.{name_of};
 
-/// A call of the JetStream API.
+/// A call of the JetStream API that is answered in JSON: one for each name that such an answer shows.
 #[derive(Clone, Copy, Debug)]
 pub enum ApiCall {
     AccountInfo,

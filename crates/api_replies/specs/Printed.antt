@@ -3,25 +3,18 @@ use Rattle.std.specs.Prelude.{IsUtf8}
 use Rattle.std.specs.List.{All}
 use Rattle.js_model.specs.declared.reply.Reply.{Reply}
 use Rattle.js_model.specs.declared.reply.Reply.TheVariants as answers
-use Rattle.js_model.specs.declared.consumer_config.ConsumerConfig.{ConsumerConfig}
 use Rattle.js_model.specs.declared.reply.StreamInfo.{StreamInfo}
 use Rattle.js_model.specs.declared.reply.ConsumerInfo.{ConsumerInfo}
 use Rattle.stream_config.specs.Printing.{IsPrinted}
+use Rattle.consumer_config.specs.Printing.{IsPrinted as IsPrintedConsumer}
 use Rattle.api_replies.specs.declared.reply.ApiReply.{ApiReply}
 use Rattle.api_replies.specs.declared.reply.ApiReply.TheVariants as replies
 
 abbrev pub InfoIsText : StreamInfo → Type 0
 InfoIsText info = IsPrinted info.config
 
-pub record ConsumerConfigIsText (c : ConsumerConfig) : Type 0 where
-  pub deliver_group : IsUtf8 c.deliver_group
-  pub deliver_subject : IsUtf8 c.deliver_subject
-  pub description : IsUtf8 c.description
-  pub filter_subject : IsUtf8 c.filter_subject
-  pub name : IsUtf8 c.name
-
 pub record ConsumerIsText (info : ConsumerInfo) : Type 0 where
-  pub config : ConsumerConfigIsText info.config
+  pub config : IsPrintedConsumer info.config
   pub name : IsUtf8 info.name
   pub stream : IsUtf8 info.stream
 

@@ -16,7 +16,7 @@ use Rattle.stream_config.proofs.Named.{read_name}
 use Rattle.stream_config.proofs.Parts.{printable}
 use Rattle.stream_config.proofs.Valid.{read_valid, read_served}
 use Rattle.api_requests.specs.Fields.{number_in, pattern_in}
-use Rattle.api_requests.specs.Bodies.{or_no_name, stream_name, fields_of, listing_of, setup_of}
+use Rattle.api_requests.specs.Bodies.{or_no_name, token_name, fields_of, listing_of, setup_of, page_of}
 use Rattle.api_requests.specs.Read.{IsStream, IsSetup, IsListing}
 use Rattle.api_requests.proofs.Steps.{after}
 use Rattle.api_requests.proofs.ReadFields.{number_is, pattern_is}
@@ -32,7 +32,8 @@ token_is : (token name : Bytes) → name_of token ≡ Ok name → token ≡ name
 token_is [] name e = absurd (cc)
 token_is (byte ∷ more) name e = whole (nat_lt 255 (length (byte ∷ more))) (first_bad (byte ∷ more)) (byte ∷ more) name e
 
-record Named (name : Bytes) : Type 0 where
+-- what is read as a name is read so again
+pub record Named (name : Bytes) : Type 0 where
   pub again : name_of name ≡ Ok name
   pub stream : IsStream name
 
@@ -44,11 +45,11 @@ named_by token name (Ok found) is e =
     record { again = again; stream = record { name = read_name name again; utf8 = name_utf8 name (read_name name again) } }
 named_by token name (Err fault) is e = absurd (cc)
 
-named : (token name : Bytes) → stream_name token ≡ Ok name → Named name
-unfolding stream_name
+pub named : (token name : Bytes) → token_name token ≡ Ok name → Named name
+unfolding token_name
 named token name e = named_by token name _ refl e
 
-pub stream_is : (token name : Bytes) → stream_name token ≡ Ok name → IsStream name
+pub stream_is : (token name : Bytes) → token_name token ≡ Ok name → IsStream name
 stream_is token name e = (named token name e).stream
 
 -- ---- configurations
@@ -62,7 +63,7 @@ config_named : (name : Bytes) (fields : Members) (config : StreamConfig) → rea
 unfolding reading
 config_named name fields config e = config_named_by name fields config (refusal_in name fields) e
 
-setup_by : (token name : Bytes) (fields : Members) (config : StreamConfig) → stream_name token ≡ Ok name → reading name fields ≡ Ok config → IsSetup name config
+setup_by : (token name : Bytes) (fields : Members) (config : StreamConfig) → token_name token ≡ Ok name → reading name fields ≡ Ok config → IsSetup name config
 setup_by token name fields config is read =
     let stream = named token name is in
     let valid = read_valid name fields config stream.again read in
@@ -72,7 +73,7 @@ pub setup_is : (token body : Bytes) (setup : Bytes × StreamConfig) → setup_of
 unfolding setup_of
 setup_is token body setup e =
     after _ (fields_of body) _ setup e
-    (λ fields _ named. after _ (stream_name token) _ setup named
+    (λ fields _ named. after _ (token_name token) _ setup named
     (λ name is configured. after _ (reading name fields) _ setup configured
     (λ config read made.
     let same : ◌≡◌ {A = Bytes × StreamConfig} (name, config) setup = cc in
@@ -94,3 +95,18 @@ listing_is body listing e =
     let same : ◌≡◌ {A = ℕ × Option Bytes} (unwrap_or offset 0, subject) listing = cc in
     subst (λ (l : ℕ × Option Bytes). IsListing l.0 l.1) same
     (record { number = offset_is offset (number_is _ fields offset is_offset); pattern = pattern_is _ fields subject is_subject }))))
+
+-- the stream of a page, and its offset
+pub record IsPage (stream : Bytes) (offset : ℕ) : Type 0 where
+  pub name : IsStream stream
+  pub number : is_number offset ≡ true
+
+pub page_is : (token body : Bytes) (page : Bytes × ℕ) → page_of token body ≡ Ok page → IsPage page.0 page.1
+unfolding page_of
+page_is token body page e =
+    after _ (fields_of body) _ page e
+    (λ fields _ named. after _ (token_name token) _ page named
+    (λ name is placed. after _ (number_in (codes "offset") fields) _ page placed
+    (λ offset is_offset made.
+    let same : ◌≡◌ {A = Bytes × ℕ} (name, unwrap_or offset 0) page = cc in
+    subst (λ (p : Bytes × ℕ). IsPage p.0 p.1) same (record { name = stream_is token name is; number = offset_is offset (number_is _ fields offset is_offset) }))))

@@ -1,9 +1,9 @@
 -- Refusals whose texts are ASCII.
-use Rattle.std.proofs.Common.{◌≡◌, nat_lt, Bool, true, false, Result, Ok, Err, subst, if◌then◌else◌}
+use Rattle.std.proofs.Common.{◌≡◌, nat_lt, List, ◌∷◌, Bool, true, false, Some, Result, Ok, Err, subst, if◌then◌else◌}
 use Rattle.std.specs.List.{list_all}
 use Rattle.js_base.specs.Bytes.{Bytes}
 use Rattle.js_base.specs.declared.out.ApiError.{ApiError}
-use Rattle.js_model.specs.Refusals.{invalid_value, not_supported}
+use Rattle.js_model.specs.Refusals.{Check, first_refusal, invalid_value, not_supported}
 use Rattle.api_requests.specs.Steps.{◌>>=◌}
 
 abbrev pub is_ascii : Bytes → Bool
@@ -37,3 +37,9 @@ chosen false x made refusal e plain = told made refusal e plain
 pub refused_if : {X : Type 0} (bad : Bool) (x : X) (made refusal : ApiError) → ◌≡◌ {A = Result X ApiError} (if bad then Err made else Ok x) (Err refusal) → Plain made → Plain refusal
 refused_if true x made refusal e plain = told made refusal e plain
 refused_if false x made refusal e plain = absurd (cc)
+
+-- of one check after the other, the first that fails
+pub first_by : (fails : Bool) (made : ApiError) (others : List Check) (refusal : ApiError) → first_refusal ((fails, made) ∷ others) ≡ Some refusal → Plain made
+    → (first_refusal others ≡ Some refusal → Plain refusal) → Plain refusal
+first_by true made others refusal e plain more = let same : made ≡ refusal = cc in subst (λ (r : ApiError). Plain r) same plain
+first_by false made others refusal e plain more = more e

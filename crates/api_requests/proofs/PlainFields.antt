@@ -6,7 +6,7 @@ use Rattle.js_base.specs.Subjects.{is_pattern_text, is_subject_text}
 use Rattle.js_base.specs.declared.out.ApiError.{ApiError}
 use Rattle.js_json.specs.declared.fault.JsonFault.{JsonFault}
 use Rattle.js_json.specs.Fields.{number_in as integer_in, text_in as any_text_in, is_given}
-use Rattle.api_requests.specs.Fields.{number_told, number_in, positive_in, text_told, text_in, only, pattern_in, subject_in, nothing_in}
+use Rattle.api_requests.specs.Fields.{number_told, number_in, positive_in, text_told, text_in, given_told, given_text_in, only, pattern_in, subject_in, nothing_in}
 use Rattle.api_requests.proofs.Plain.{is_ascii, Plain, wrong_plain, left_out_plain, told, one_of, chosen, refused_if}
 
 number_by : (name : Bytes) (read : Result (Option ℤ) JsonFault) (refusal : ApiError) → is_ascii name ≡ true → number_told name read ≡ Err refusal → Plain refusal
@@ -28,9 +28,17 @@ text_by name (Ok None) refusal h e = absurd (cc)
 text_by name (Ok (Some text)) refusal h e = absurd (cc)
 text_by name (Err fault) refusal h e = told _ refusal e (wrong_plain name h)
 
-text_plain : (name : Bytes) (fields : Members) (refusal : ApiError) → is_ascii name ≡ true → text_in name fields ≡ Err refusal → Plain refusal
+pub text_plain : (name : Bytes) (fields : Members) (refusal : ApiError) → is_ascii name ≡ true → text_in name fields ≡ Err refusal → Plain refusal
 unfolding text_in
 text_plain name fields refusal h e = text_by name (any_text_in name fields) refusal h e
+
+given_by : (name : Bytes) (read : Result (Option Bytes) JsonFault) (refusal : ApiError) → is_ascii name ≡ true → given_told name read ≡ Err refusal → Plain refusal
+given_by name (Ok text) refusal h e = absurd (cc)
+given_by name (Err fault) refusal h e = told _ refusal e (wrong_plain name h)
+
+pub given_plain : (name : Bytes) (fields : Members) (refusal : ApiError) → is_ascii name ≡ true → given_text_in name fields ≡ Err refusal → Plain refusal
+unfolding given_text_in
+given_plain name fields refusal h e = given_by name (any_text_in name fields) refusal h e
 
 only_plain : (is : Bytes → Bool) (name : Bytes) (text : Option Bytes) (refusal : ApiError) → is_ascii name ≡ true → only is name text ≡ Err refusal → Plain refusal
 only_plain is name None refusal h e = absurd (cc)

@@ -6,11 +6,7 @@ use Rattle.std.proofs.lemmas.Bool.Decides.{nat_tests}
 use Rattle.std.proofs.lemmas.Str.{IsUtf8-from_ascii}
 use Rattle.serde_json.specs.Data.{Members}
 use Rattle.js_base.specs.Bytes.{Bytes}
-use Rattle.js_base.specs.Names.{name_of}
-use Rattle.js_base.specs.declared.name.NameFault.{NameFault}
 use Rattle.js_base.specs.declared.out.ApiError.{ApiError}
-use Rattle.js_json.specs.declared.fault.JsonFault.{JsonFault}
-use Rattle.js_json.specs.Objects.{object_of}
 use Rattle.js_model.specs.Refusals.{Check, first_refusal, name_mismatch}
 use Rattle.js_model.specs.declared.stream_config.StreamConfig.{StreamConfig}
 use Rattle.stream_config.specs.Table.{Line, table}
@@ -19,13 +15,15 @@ use Rattle.api_requests.specs.declared.call.GeneralCall.{GeneralCall}
 use Rattle.api_requests.specs.declared.call.GeneralCall.TheVariants as general
 use Rattle.api_requests.specs.declared.call.StreamCall.{StreamCall}
 use Rattle.api_requests.specs.declared.call.StreamCall.TheVariants as stream
+use Rattle.api_requests.specs.declared.consumer_call.ConsumerCall.{ConsumerCall}
 use Rattle.api_requests.specs.Calls.{general_call, stream_call}
-use Rattle.api_requests.specs.Fields.{number_in, pattern_in}
-use Rattle.api_requests.specs.Bodies.{or_braces, or_invalid_json, object_in, fields_of, or_no_name, stream_name, listing_of, setup_of}
+use Rattle.api_requests.specs.ConsumerCalls.{Tokens, consumer_call}
+use Rattle.api_requests.specs.Bodies.{object_in, fields_of, token_name, listing_of, setup_of, page_of}
 use Rattle.api_requests.specs.Messages.{purge_in, message_in, sequence_in}
-use Rattle.api_requests.specs.Requests.{general_request, stream_request, or_on_stream, request_of}
-use Rattle.api_requests.proofs.Plain.{is_ascii, Plain, told, one_of}
-use Rattle.api_requests.proofs.PlainFields.{number_plain, pattern_plain}
+use Rattle.api_requests.specs.Requests.{general_request, stream_request, consumer_request, or_on_consumer, or_on_stream, request_of}
+use Rattle.api_requests.proofs.Plain.{is_ascii, Plain, first_by, one_of}
+use Rattle.api_requests.proofs.PlainBodies.{object_plain, fields_plain, name_plain, listing_plain, page_plain}
+use Rattle.api_requests.proofs.PlainConsumers.{consumer_plain}
 use Rattle.api_requests.proofs.PlainMessages.{purge_plain, message_plain, sequence_plain}
 
 small : (byte : ℕ) → nat_lt byte 128 ≡ true → byte < 128
@@ -35,34 +33,6 @@ ascii_at : (text : Bytes) (i : ℕ) → is_ascii text ≡ true → slice_index t
 ascii_at [] i h = omega arith
 ascii_at (byte ∷ more) zero h = small byte (and_parts (nat_lt byte 128) (is_ascii more) h).0
 ascii_at (byte ∷ more) (suc i) h = ascii_at more i (and_parts (nat_lt byte 128) (is_ascii more) h).1
-
--- ---- the parts of calls
-
-fields_by : (read : Result Members JsonFault) (refusal : ApiError) → or_invalid_json read ≡ Err refusal → Plain refusal
-fields_by (Ok fields) refusal e = absurd (cc)
-fields_by (Err fault) refusal e = told _ refusal e (record { ascii = refl })
-
-object_plain : (body : Bytes) (refusal : ApiError) → object_in body ≡ Err refusal → Plain refusal
-unfolding object_in
-object_plain body refusal e = fields_by (object_of body) refusal e
-
-fields_plain : (body : Bytes) (refusal : ApiError) → fields_of body ≡ Err refusal → Plain refusal
-fields_plain body refusal e = object_plain (or_braces body) refusal e
-
-name_by : (read : Result Bytes NameFault) (refusal : ApiError) → or_no_name read ≡ Err refusal → Plain refusal
-name_by (Ok name) refusal e = absurd (cc)
-name_by (Err fault) refusal e = told _ refusal e (record { ascii = refl })
-
-name_plain : (token : Bytes) (refusal : ApiError) → stream_name token ≡ Err refusal → Plain refusal
-unfolding stream_name
-name_plain token refusal e = name_by (name_of token) refusal e
-
-listing_plain : (body : Bytes) (refusal : ApiError) → listing_of body ≡ Err refusal → Plain refusal
-unfolding listing_of
-listing_plain body refusal e =
-    one_of (fields_of body) _ refusal e (fields_plain body refusal)
-    (λ fields placed. one_of (number_in (codes "offset") fields) _ refusal placed (number_plain _ fields refusal refl)
-    (λ offset matched. one_of (pattern_in (codes "subject") fields) _ refusal matched (pattern_plain _ fields refusal refl) (λ subject made. absurd (cc))))
 
 -- ---- configurations
 
@@ -75,11 +45,6 @@ names_itself row = is_ascii row.name
 table_ascii : list_all names_itself table ≡ true
 unfolding table
 table_ascii = refl
-
-first_by : (fails : Bool) (made : ApiError) (others : List Check) (refusal : ApiError) → first_refusal ((fails, made) ∷ others) ≡ Some refusal → Plain made
-    → (first_refusal others ≡ Some refusal → Plain refusal) → Plain refusal
-first_by true made others refusal e plain more = let same : made ≡ refusal = cc in subst (λ (r : ApiError). Plain r) same plain
-first_by false made others refusal e plain more = more e
 
 rows_plain : (fields : Members) (rows : List Line) (others : List Check) (refusal : ApiError) → list_all names_itself rows ≡ true → first_refusal (checks fields rows ++ others) ≡ Some refusal
     → (first_refusal others ≡ Some refusal → Plain refusal) → Plain refusal
@@ -107,7 +72,7 @@ setup_plain : (token body : Bytes) (refusal : ApiError) → setup_of token body 
 unfolding setup_of
 setup_plain token body refusal e =
     one_of (fields_of body) _ refusal e (fields_plain body refusal)
-    (λ fields named. one_of (stream_name token) _ refusal named (name_plain token refusal)
+    (λ fields named. one_of (token_name token) _ refusal named (name_plain token refusal)
     (λ name configured. one_of (reading name fields) _ refusal configured (config_plain name fields refusal) (λ config made. absurd (cc))))
 
 -- ---- calls
@@ -124,32 +89,40 @@ on_stream_plain stream.Create token body refusal e = one_of (setup_of token body
 on_stream_plain stream.Update token body refusal e = one_of (setup_of token body) _ refusal e (setup_plain token body refusal) (λ setup made. absurd (cc))
 on_stream_plain stream.Info token body refusal e =
     one_of (fields_of body) _ refusal e (fields_plain body refusal)
-    (λ fields named. one_of (stream_name token) _ refusal named (name_plain token refusal) (λ name made. absurd (cc)))
-on_stream_plain stream.Delete token body refusal e = one_of (stream_name token) _ refusal e (name_plain token refusal) (λ name made. absurd (cc))
+    (λ fields named. one_of (token_name token) _ refusal named (name_plain token refusal) (λ name made. absurd (cc)))
+on_stream_plain stream.Delete token body refusal e = one_of (token_name token) _ refusal e (name_plain token refusal) (λ name made. absurd (cc))
 on_stream_plain stream.Purge token body refusal e =
     one_of (fields_of body) _ refusal e (fields_plain body refusal)
-    (λ fields named. one_of (stream_name token) _ refusal named (name_plain token refusal)
+    (λ fields named. one_of (token_name token) _ refusal named (name_plain token refusal)
     (λ name read. one_of (purge_in fields) _ refusal read (purge_plain fields refusal) (λ purge made. absurd (cc))))
 on_stream_plain stream.MsgGet token body refusal e =
     one_of (object_in body) _ refusal e (object_plain body refusal)
-    (λ fields named. one_of (stream_name token) _ refusal named (name_plain token refusal)
+    (λ fields named. one_of (token_name token) _ refusal named (name_plain token refusal)
     (λ name read. one_of (message_in fields) _ refusal read (message_plain fields refusal) (λ by made. absurd (cc))))
 on_stream_plain stream.MsgDelete token body refusal e =
     one_of (object_in body) _ refusal e (object_plain body refusal)
-    (λ fields named. one_of (stream_name token) _ refusal named (name_plain token refusal)
+    (λ fields named. one_of (token_name token) _ refusal named (name_plain token refusal)
     (λ name read. one_of (sequence_in fields) _ refusal read (sequence_plain fields refusal) (λ seq made. absurd (cc))))
+on_stream_plain stream.ConsumerNames token body refusal e = one_of (page_of token body) _ refusal e (page_plain token body refusal) (λ page made. absurd (cc))
+on_stream_plain stream.ConsumerList token body refusal e = one_of (page_of token body) _ refusal e (page_plain token body refusal) (λ page made. absurd (cc))
 
 some_is : {X : Type 0} (x y : X) → Some x ≡ Some y → x ≡ y
 some_is x y e = cc
 
-refused_by : (call : Option GeneralCall) (on_stream : Option (StreamCall × Bytes)) (body : Bytes) (refusal : ApiError) → or_on_stream call on_stream body ≡ Some (Err refusal) → Plain refusal
-refused_by (Some call) on_stream body refusal e = general_plain call body refusal (some_is _ _ e)
-refused_by None (Some (call, token)) body refusal e = on_stream_plain call token body refusal (some_is _ _ e)
-refused_by None None body refusal e = absurd (cc)
+refused_on : (on_stream : Option (StreamCall × Bytes)) (on_consumer : Option (ConsumerCall × Tokens)) (body : Bytes) (refusal : ApiError)
+    → or_on_consumer on_stream on_consumer body ≡ Some (Err refusal) → Plain refusal
+refused_on (Some (call, token)) on_consumer body refusal e = on_stream_plain call token body refusal (some_is _ _ e)
+refused_on None (Some (call, tokens)) body refusal e = consumer_plain call tokens body refusal (some_is _ _ e)
+refused_on None None body refusal e = absurd (cc)
+
+refused_by : (call : Option GeneralCall) (on_stream : Option (StreamCall × Bytes)) (on_consumer : Option (ConsumerCall × Tokens)) (body : Bytes) (refusal : ApiError)
+    → or_on_stream call on_stream on_consumer body ≡ Some (Err refusal) → Plain refusal
+refused_by (Some call) on_stream on_consumer body refusal e = general_plain call body refusal (some_is _ _ e)
+refused_by None on_stream on_consumer body refusal e = refused_on on_stream on_consumer body refusal e
 
 plain : (subject body : Bytes) (refusal : ApiError) → request_of subject body ≡ Some (Err refusal) → Plain refusal
 unfolding request_of
-plain subject body refusal e = refused_by (general_call subject) (stream_call subject) body refusal e
+plain subject body refusal e = refused_by (general_call subject) (stream_call subject) (consumer_call subject) body refusal e
 
 pub refusal_utf8 : (subject body : Bytes) (refusal : ApiError) → request_of subject body ≡ Some (Err refusal) → IsUtf8 refusal.text
 refusal_utf8 subject body refusal e = let is = plain subject body refusal e in IsUtf8-from_ascii refusal.text (λ i. ascii_at refusal.text i is.ascii)

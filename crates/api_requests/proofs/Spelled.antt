@@ -10,7 +10,7 @@ use Rattle.api_requests.specs.declared.call.GeneralCall.{GeneralCall}
 use Rattle.api_requests.specs.declared.call.GeneralCall.TheVariants as general
 use Rattle.api_requests.specs.declared.call.StreamCall.{StreamCall}
 use Rattle.api_requests.specs.declared.call.StreamCall.TheVariants as stream
-use Rattle.api_requests.specs.Calls.{general_call, token_behind, called, setup_call, message_call, stream_call}
+use Rattle.api_requests.specs.Calls.{general_call, token_behind, called, setup_call, message_call, consumers_call, stream_call}
 use Rattle.api_requests.specs.Words.{general_words, stream_words}
 use Rattle.api_requests.specs.Laws.{IsCallOn, LawGeneral, LawOnStream}
 
@@ -100,14 +100,20 @@ one_of_both : {P : Type 0} (a b : Option (StreamCall × Bytes)) (x : StreamCall 
 one_of_both (Some y) b x is first second = first is
 one_of_both None b x is first second = second is
 
+-- the calls behind those on a stream as a whole
+abbrev behind_setup : Bytes → Option (StreamCall × Bytes)
+behind_setup subject = option_or (message_call subject) (consumers_call subject)
+
 read_call : (subject token : Bytes) (call : StreamCall) → stream_call subject ≡ Some (call, token) → IsCallOn call token subject
 read_call subject token call is =
-    one_of_both (setup_call subject) (message_call subject) (call, token) is
+    one_of_both (setup_call subject) (behind_setup subject) (call, token) is
     (λ setup. called_or stream.Create call subject token _ _ refl setup
     (λ update. called_or stream.Update call subject token _ _ refl update
     (λ info. called_or stream.Info call subject token _ _ refl info (last_call stream.Delete call subject token))))
+    (λ others. one_of_both (message_call subject) (consumers_call subject) (call, token) others
     (λ message. called_or stream.Purge call subject token _ _ refl message
     (λ get. called_or stream.MsgGet call subject token _ _ refl get (last_call stream.MsgDelete call subject token)))
+    (λ consumers. called_or stream.ConsumerNames call subject token _ _ refl consumers (last_call stream.ConsumerList call subject token)))
 
 -- one of the calls in its place
 tagged : StreamCall → Option Bytes → Option (StreamCall × Bytes)
@@ -127,23 +133,29 @@ again : (call : StreamCall) (token : Bytes) → has token 46 ≡ false → strea
 unfolding tagged
 again stream.Create token one =
     let subject = stream_words stream.Create ++ token in
-    ap (λ (o : Option Bytes). option_or (option_or (tagged stream.Create o) (behind_create subject)) (message_call subject)) (behind_again (stream_words stream.Create) token one)
+    ap (λ (o : Option Bytes). option_or (option_or (tagged stream.Create o) (behind_create subject)) (behind_setup subject)) (behind_again (stream_words stream.Create) token one)
 again stream.Update token one =
     let subject = stream_words stream.Update ++ token in
-    ap (λ (o : Option Bytes). option_or (option_or (tagged stream.Update o) (behind_update subject)) (message_call subject)) (behind_again (stream_words stream.Update) token one)
+    ap (λ (o : Option Bytes). option_or (option_or (tagged stream.Update o) (behind_update subject)) (behind_setup subject)) (behind_again (stream_words stream.Update) token one)
 again stream.Info token one =
     let subject = stream_words stream.Info ++ token in
-    ap (λ (o : Option Bytes). option_or (option_or (tagged stream.Info o) (called stream.Delete subject)) (message_call subject)) (behind_again (stream_words stream.Info) token one)
+    ap (λ (o : Option Bytes). option_or (option_or (tagged stream.Info o) (called stream.Delete subject)) (behind_setup subject)) (behind_again (stream_words stream.Info) token one)
 again stream.Delete token one =
     let subject = stream_words stream.Delete ++ token in
-    ap (λ (o : Option Bytes). option_or (tagged stream.Delete o) (message_call subject)) (behind_again (stream_words stream.Delete) token one)
+    ap (λ (o : Option Bytes). option_or (tagged stream.Delete o) (behind_setup subject)) (behind_again (stream_words stream.Delete) token one)
 again stream.Purge token one =
     let subject = stream_words stream.Purge ++ token in
-    ap (λ (o : Option Bytes). option_or (tagged stream.Purge o) (behind_purge subject)) (behind_again (stream_words stream.Purge) token one)
+    ap (λ (o : Option Bytes). option_or (option_or (tagged stream.Purge o) (behind_purge subject)) (consumers_call subject)) (behind_again (stream_words stream.Purge) token one)
 again stream.MsgGet token one =
     let subject = stream_words stream.MsgGet ++ token in
-    ap (λ (o : Option Bytes). option_or (tagged stream.MsgGet o) (called stream.MsgDelete subject)) (behind_again (stream_words stream.MsgGet) token one)
-again stream.MsgDelete token one = ap (λ (o : Option Bytes). tagged stream.MsgDelete o) (behind_again (stream_words stream.MsgDelete) token one)
+    ap (λ (o : Option Bytes). option_or (option_or (tagged stream.MsgGet o) (called stream.MsgDelete subject)) (consumers_call subject)) (behind_again (stream_words stream.MsgGet) token one)
+again stream.MsgDelete token one =
+    let subject = stream_words stream.MsgDelete ++ token in
+    ap (λ (o : Option Bytes). option_or (tagged stream.MsgDelete o) (consumers_call subject)) (behind_again (stream_words stream.MsgDelete) token one)
+again stream.ConsumerNames token one =
+    let subject = stream_words stream.ConsumerNames ++ token in
+    ap (λ (o : Option Bytes). option_or (tagged stream.ConsumerNames o) (called stream.ConsumerList subject)) (behind_again (stream_words stream.ConsumerNames) token one)
+again stream.ConsumerList token one = ap (λ (o : Option Bytes). tagged stream.ConsumerList o) (behind_again (stream_words stream.ConsumerList) token one)
 
 pub on_stream_spelled : LawOnStream
 on_stream_spelled subject token call = (

@@ -35,11 +35,19 @@ abbrev pub or_no_name : Result Bytes NameFault → Result Bytes ApiError
 or_no_name (Ok name) = Ok name
 or_no_name (Err _) = Err (invalid_value (codes "name"))
 
--- the name of a stream, in its token
-unfoldable pub stream_name : Bytes → Result Bytes ApiError
-stream_name token = or_no_name (name_of token)
+-- the name of a stream or a consumer, in its token
+unfoldable pub token_name : Bytes → Result Bytes ApiError
+token_name token = or_no_name (name_of token)
 
 -- ---- what several calls ask
+
+-- the stream, and the place from which its consumers are told, 0 if it is absent
+unfoldable pub page_of : Bytes → Bytes → Result (Bytes × ℕ) ApiError
+page_of token body = do
+  fields ← fields_of body
+  name ← token_name token
+  offset ← number_in (codes "offset") fields
+  Ok (name, unwrap_or offset 0)
 
 -- the place from which a list is told, 0 if it is absent, and the pattern that the subjects of the listed streams meet
 unfoldable pub listing_of : Bytes → Result (ℕ × Option Bytes) ApiError
@@ -53,6 +61,6 @@ listing_of body = do
 unfoldable pub setup_of : Bytes → Bytes → Result (Bytes × StreamConfig) ApiError
 setup_of token body = do
   fields ← fields_of body
-  name ← stream_name token
+  name ← token_name token
   config ← reading name fields
   Ok (name, config)

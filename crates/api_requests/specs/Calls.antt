@@ -42,6 +42,10 @@ message_call subject =
     (option_or (called stream.MsgGet subject)
     (called stream.MsgDelete subject))
 
+-- a list of the consumers of a stream
+abbrev pub consumers_call : Bytes → Option (StreamCall × Bytes)
+consumers_call subject = option_or (called stream.ConsumerNames subject) (called stream.ConsumerList subject)
+
 -- a call on one stream
 abbrev pub stream_call : Bytes → Option (StreamCall × Bytes)
-stream_call subject = option_or (setup_call subject) (message_call subject)
+stream_call subject = option_or (setup_call subject) (option_or (message_call subject) (consumers_call subject))

@@ -50,6 +50,14 @@ text_told name (Err _) = Err (invalid_value name)
 unfoldable pub text_in : Bytes → Members → Result (Option Bytes) ApiError
 text_in name fields = text_told name (any_text_in name fields)
 
+abbrev pub given_told : Bytes → Result (Option Bytes) JsonFault → Result (Option Bytes) ApiError
+given_told name (Ok text) = Ok text
+given_told name (Err _) = Err (invalid_value name)
+
+-- a text, if there is one, which may be empty
+unfoldable pub given_text_in : Bytes → Members → Result (Option Bytes) ApiError
+given_text_in name fields = given_told name (any_text_in name fields)
+
 abbrev pub only : (Bytes → Bool) → Bytes → Option Bytes → Result (Option Bytes) ApiError
 only is name None = Ok None
 only is name (Some text) = if is text then Ok (Some text) else Err (invalid_value name)

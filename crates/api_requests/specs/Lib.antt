@@ -1,12 +1,15 @@
 pub mod Answers
 pub mod Words
 pub mod Calls
+pub mod ConsumerCalls
 pub mod Names
 pub mod Steps
 pub mod Fields
 pub mod Bodies
 pub mod Messages
+pub mod Consumers
 pub mod Seen
 pub mod Requests
 pub mod Laws
+pub mod Served
 pub mod Read

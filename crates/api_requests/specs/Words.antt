@@ -5,6 +5,8 @@ use Rattle.api_requests.specs.declared.call.GeneralCall.{GeneralCall}
 use Rattle.api_requests.specs.declared.call.GeneralCall.TheVariants as general
 use Rattle.api_requests.specs.declared.call.StreamCall.{StreamCall}
 use Rattle.api_requests.specs.declared.call.StreamCall.TheVariants as stream
+use Rattle.api_requests.specs.declared.consumer_call.ConsumerCall.{ConsumerCall}
+use Rattle.api_requests.specs.declared.consumer_call.ConsumerCall.TheVariants as consumer
 
 -- the subject of a call on no stream of its own
 abbrev pub general_words : GeneralCall → Bytes
@@ -21,3 +23,13 @@ stream_words stream.Delete = codes "$JS.API.STREAM.DELETE."
 stream_words stream.Purge = codes "$JS.API.STREAM.PURGE."
 stream_words stream.MsgGet = codes "$JS.API.STREAM.MSG.GET."
 stream_words stream.MsgDelete = codes "$JS.API.STREAM.MSG.DELETE."
+stream_words stream.ConsumerNames = codes "$JS.API.CONSUMER.NAMES."
+stream_words stream.ConsumerList = codes "$JS.API.CONSUMER.LIST."
+
+-- what stands before the tokens of a stream and of its consumer
+abbrev pub consumer_words : ConsumerCall → Bytes
+consumer_words consumer.Create = codes "$JS.API.CONSUMER.CREATE."
+consumer_words consumer.DurableCreate = codes "$JS.API.CONSUMER.DURABLE.CREATE."
+consumer_words consumer.Info = codes "$JS.API.CONSUMER.INFO."
+consumer_words consumer.Delete = codes "$JS.API.CONSUMER.DELETE."
+consumer_words consumer.MsgNext = codes "$JS.API.CONSUMER.MSG.NEXT."

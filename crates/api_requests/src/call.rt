@@ -2,7 +2,7 @@
 
 ghost use Rattle.std.specs.Prelude.{◌≡◌, option_map};
 ghost use Rattle.api_requests.specs.Words.{general_words, stream_words};
-ghost use Rattle.api_requests.specs.Calls.{general_call, token_behind, called, setup_call, message_call, stream_call};
+ghost use Rattle.api_requests.specs.Calls.{general_call, token_behind, called, setup_call, message_call, consumers_call, stream_call};
 ghost use Rattle.api_requests.specs.Names.{api_general, api_on_stream};
 
 use api_calls::ApiCall;
@@ -25,6 +25,8 @@ pub(crate) enum StreamCall {
     Purge,
     MsgGet,
     MsgDelete,
+    ConsumerNames,
+    ConsumerList,
 }
 
 impl GeneralCall {
@@ -64,6 +66,8 @@ impl StreamCall {
             StreamCall::Purge => b"$JS.API.STREAM.PURGE.",
             StreamCall::MsgGet => b"$JS.API.STREAM.MSG.GET.",
             StreamCall::MsgDelete => b"$JS.API.STREAM.MSG.DELETE.",
+            StreamCall::ConsumerNames => b"$JS.API.CONSUMER.NAMES.",
+            StreamCall::ConsumerList => b"$JS.API.CONSUMER.LIST.",
         }
     }
 
@@ -79,6 +83,8 @@ impl StreamCall {
             StreamCall::Purge => ApiCall::StreamPurge,
             StreamCall::MsgGet => ApiCall::StreamMsgGet,
             StreamCall::MsgDelete => ApiCall::StreamMsgDelete,
+            StreamCall::ConsumerNames => ApiCall::ConsumerNames,
+            StreamCall::ConsumerList => ApiCall::ConsumerList,
         }
     }
 }
@@ -142,9 +148,18 @@ fn message_call(subject: &[u8]) -> Option<(StreamCall, &[u8])>
         .or(called(StreamCall::MsgDelete, subject))
 }
 
+/// The list of a stream's consumers that the subject is, and its token.
+fn consumers_call(subject: &[u8]) -> Option<(StreamCall, &[u8])>
+    ensures value { option_map (λ x. (x.0, x.1.now)) result ≡ consumers_call subject.now }
+{
+    called(StreamCall::ConsumerNames, subject).or(called(StreamCall::ConsumerList, subject))
+}
+
 /// The call on one stream that the subject is, and the token that stands in it for the stream.
 pub(crate) fn stream_call(subject: &[u8]) -> Option<(StreamCall, &[u8])>
     ensures value { option_map (λ x. (x.0, x.1.now)) result ≡ stream_call subject.now }
 {
-    setup_call(subject).or(message_call(subject))
+    setup_call(subject)
+        .or(message_call(subject))
+        .or(consumers_call(subject))
 }

@@ -4,7 +4,7 @@ ghost use Rattle.std.specs.Prelude.{◌≡◌, Some};
 ghost use Rattle.js_base.specs.Subjects.{is_pattern_text, is_subject_text};
 ghost use Rattle.js_json.specs.Members.{members};
 ghost use Rattle.api_requests.specs.Answers.{Reads};
-ghost use Rattle.api_requests.specs.Fields.{number_in, positive_in, unless_empty, text_in, only, pattern_in, subject_in, nothing_in};
+ghost use Rattle.api_requests.specs.Fields.{number_in, positive_in, unless_empty, text_in, given_text_in, only, pattern_in, subject_in, nothing_in};
 
 use crate::fault::ApiFault;
 use js_base::Blob;
@@ -53,12 +53,28 @@ fn unless_empty(text: Blob) -> Option<Blob>
 
 /// The text in the field, if there is one that is not empty.
 #[tactic(auto, unfolding(crate::specs::Fields::text_in))]
-fn text_in(alloc: Global, fields: &Fields, name: &str) -> Result<Option<Blob>, ApiFault>
+pub(crate) fn text_in(alloc: Global, fields: &Fields, name: &str) -> Result<Option<Blob>, ApiFault>
     ensures reading { Reads result (text_in name.now (members fields.now)) }
 {
     match fields.text(name) {
         Ok(Some(text)) => Ok(unless_empty(text)),
         Ok(None) => Ok(None),
+        Err(JsonFault::NoMemory) => Err(ApiFault::NoMemory),
+        Err(_) => Err(ApiFault::Refused(invalid_value(alloc, name.as_bytes())?)),
+    }
+}
+
+/// The text in the field, if there is one, which may be empty.
+#[tactic(auto, unfolding(crate::specs::Fields::given_text_in))]
+pub(crate) fn given_text_in(
+    alloc: Global,
+    fields: &Fields,
+    name: &str,
+) -> Result<Option<Blob>, ApiFault>
+    ensures reading { Reads result (given_text_in name.now (members fields.now)) }
+{
+    match fields.text(name) {
+        Ok(text) => Ok(text),
         Err(JsonFault::NoMemory) => Err(ApiFault::NoMemory),
         Err(_) => Err(ApiFault::Refused(invalid_value(alloc, name.as_bytes())?)),
     }

@@ -1,7 +1,9 @@
-//! The calls of the JetStream API on streams: which subjects are calls, and what is read of their bodies.
+//! The calls of the JetStream API: which subjects are calls, and what is read of their bodies.
 #![tactic(auto)]
 
 mod call;
+mod consumer_call;
+mod consumers;
 mod fault;
 mod field;
 pub mod laws;
@@ -10,8 +12,10 @@ mod messages;
 mod name;
 mod reading;
 mod request;
+mod served;
 
 pub use fault::ApiFault;
 pub use name::call_name;
 pub use reading::read_request;
 pub use request::ApiRequest;
+pub use served::read_served;

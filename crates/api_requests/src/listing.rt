@@ -4,7 +4,7 @@ ghost use Rattle.std.specs.Prelude.{◌≡◌};
 ghost use Rattle.js_json.specs.Members.{members};
 ghost use Rattle.stream_config.specs.Reading.{reading};
 ghost use Rattle.api_requests.specs.Answers.{Reads};
-ghost use Rattle.api_requests.specs.Bodies.{object_in, fields_of, stream_name, listing_of, setup_of, or_braces};
+ghost use Rattle.api_requests.specs.Bodies.{object_in, fields_of, token_name, listing_of, setup_of, page_of, or_braces};
 ghost use Rattle.api_requests.specs.Seen.{seen};
 
 use crate::fault::ApiFault;
@@ -42,10 +42,10 @@ pub(crate) fn fields_of(alloc: Global, body: &[u8]) -> Result<Fields, ApiFault>
     object_in(alloc, or_braces(body))
 }
 
-/// The stream's name, in its token.
-#[tactic(auto, unfolding(crate::specs::Bodies::stream_name))]
-pub(crate) fn stream_name(alloc: Global, token: &[u8]) -> Result<Name, ApiFault>
-    ensures reading { Reads result (stream_name token.now) }
+/// The name of a stream or a consumer, in its token.
+#[tactic(auto, unfolding(crate::specs::Bodies::token_name))]
+pub(crate) fn token_name(alloc: Global, token: &[u8]) -> Result<Name, ApiFault>
+    ensures reading { Reads result (token_name token.now) }
 {
     match Name::read(alloc, token) {
         Ok(name) => Ok(name),
@@ -64,7 +64,7 @@ pub(crate) fn setup_of(
     ensures reading { Reads result (setup_of token.now body.now) }
 {
     let fields = fields_of(alloc, body)?;
-    let name = stream_name(alloc, token)?;
+    let name = token_name(alloc, token)?;
     let config = config_of(alloc, &fields, &name)?;
     Ok((name, config))
 }
@@ -89,4 +89,15 @@ pub(crate) fn listing_of(alloc: Global, body: &[u8]) -> Result<(u64, Option<Blob
     let offset = number_in(alloc, &fields, "offset")?;
     let subject = pattern_in(alloc, &fields, "subject")?;
     Ok((offset.unwrap_or(0), subject))
+}
+
+/// The stream's name in its token, and the place from which its consumers are told.
+#[tactic(auto, unfolding(crate::specs::Bodies::page_of))]
+pub(crate) fn page_of(alloc: Global, token: &[u8], body: &[u8]) -> Result<(Name, u64), ApiFault>
+    ensures reading { Reads result (page_of token.now body.now) }
+{
+    let fields = fields_of(alloc, body)?;
+    let name = token_name(alloc, token)?;
+    let offset = number_in(alloc, &fields, "offset")?.unwrap_or(0);
+    Ok((name, offset))
 }

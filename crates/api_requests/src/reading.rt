@@ -7,8 +7,10 @@ ghost use Rattle.api_requests.specs.Requests.{general_request, stream_request, r
 ghost use Rattle.api_requests.specs.declared.call.StreamCall.TheVariants as stream;
 
 use crate::call::{GeneralCall, StreamCall, general_call, stream_call};
+use crate::consumer_call::consumer_call;
+use crate::consumers::read_on_consumer;
 use crate::fault::ApiFault;
-use crate::listing::{fields_of, listing_of, object_in, setup_of, stream_name};
+use crate::listing::{fields_of, listing_of, object_in, page_of, setup_of, token_name};
 use crate::messages::{Purge, message_in, purge_in, sequence_in};
 use crate::request::ApiRequest;
 use std::alloc::Global;
@@ -37,7 +39,7 @@ fn read_purge(alloc: Global, token: &[u8], body: &[u8]) -> Result<ApiRequest, Ap
     ensures reading { Reads result (stream_request stream.Purge token.now body.now) }
 {
     let fields = fields_of(alloc, body)?;
-    let stream = stream_name(alloc, token)?;
+    let stream = token_name(alloc, token)?;
     let Purge { filter, seq, keep } = purge_in(alloc, &fields)?;
     Ok(ApiRequest::StreamPurge {
         stream,
@@ -53,7 +55,7 @@ fn read_message_get(alloc: Global, token: &[u8], body: &[u8]) -> Result<ApiReque
     ensures reading { Reads result (stream_request stream.MsgGet token.now body.now) }
 {
     let fields = object_in(alloc, body)?;
-    let stream = stream_name(alloc, token)?;
+    let stream = token_name(alloc, token)?;
     let by = message_in(alloc, &fields)?;
     Ok(ApiRequest::StreamMsgGet { stream, by })
 }
@@ -64,7 +66,7 @@ fn read_message_delete(alloc: Global, token: &[u8], body: &[u8]) -> Result<ApiRe
     ensures reading { Reads result (stream_request stream.MsgDelete token.now body.now) }
 {
     let fields = object_in(alloc, body)?;
-    let stream = stream_name(alloc, token)?;
+    let stream = token_name(alloc, token)?;
     let seq = sequence_in(alloc, &fields)?;
     Ok(ApiRequest::StreamMsgDelete { stream, seq })
 }
@@ -90,30 +92,42 @@ fn read_on_stream(
         }
         StreamCall::Info => {
             fields_of(alloc, body)?;
-            let stream = stream_name(alloc, token)?;
+            let stream = token_name(alloc, token)?;
             Ok(ApiRequest::StreamInfo { stream })
         }
         StreamCall::Delete => {
-            let stream = stream_name(alloc, token)?;
+            let stream = token_name(alloc, token)?;
             Ok(ApiRequest::StreamDelete { stream })
         }
         StreamCall::Purge => read_purge(alloc, token, body),
         StreamCall::MsgGet => read_message_get(alloc, token, body),
         StreamCall::MsgDelete => read_message_delete(alloc, token, body),
+        StreamCall::ConsumerNames => {
+            let (stream, offset) = page_of(alloc, token, body)?;
+            Ok(ApiRequest::ConsumerNames { stream, offset })
+        }
+        StreamCall::ConsumerList => {
+            let (stream, offset) = page_of(alloc, token, body)?;
+            Ok(ApiRequest::ConsumerList { stream, offset })
+        }
     }
 }
 
 /// The call that a subject and a body are, and `None` exactly if the subject is no call. The subjects are `$JS.API.` and one of `INFO`,
-/// `STREAM.NAMES`, `STREAM.LIST`, and, with the name of a stream behind, one of `STREAM.CREATE`, `STREAM.UPDATE`, `STREAM.INFO`,
-/// `STREAM.DELETE`, `STREAM.PURGE`, `STREAM.MSG.GET` and `STREAM.MSG.DELETE`.
+/// `STREAM.NAMES`, `STREAM.LIST`; with the name of a stream behind, one of `STREAM.CREATE`, `STREAM.UPDATE`, `STREAM.INFO`, `STREAM.DELETE`,
+/// `STREAM.PURGE`, `STREAM.MSG.GET`, `STREAM.MSG.DELETE`, `CONSUMER.NAMES` and `CONSUMER.LIST`; and with the names of a stream and a consumer behind,
+/// one of `CONSUMER.CREATE`, which may have a filter behind them, `CONSUMER.DURABLE.CREATE`, `CONSUMER.INFO`, `CONSUMER.DELETE` and
+/// `CONSUMER.MSG.NEXT`.
 ///
-/// If several things are wrong, the first of these is the refusal: 10025, the body is no JSON object; 20001 of `name`, the stream's token is no
-/// name; 20001 of a field, or 20002 if the server leaves it out, in the order of the keys; 20022, another name in a configuration. An empty body is
-/// an object without fields, but for `STREAM.MSG.GET` and `STREAM.MSG.DELETE`, which need a field; the bodies of `INFO` and `STREAM.DELETE` are not
-/// looked at. `NoMemory` may come for each call.
+/// If several things are wrong, the first of these is the refusal: 10025, the body is no JSON object; 20001 of `name`, a token is no name; 20001 of a
+/// field, or 20002 if the server leaves it out, in the order of the keys, those of a consumer's configuration at `config`; 20003 and 20005, a consumer
+/// lacks where it starts, or a durable name; 20022, another name in the body than in the subject, or another filter. An empty body is an object without
+/// fields, but for `STREAM.MSG.GET`, `STREAM.MSG.DELETE` and the two that make a consumer, which need a field; the bodies of `INFO`, `STREAM.DELETE`,
+/// `CONSUMER.INFO` and `CONSUMER.DELETE` are not looked at. `CONSUMER.MSG.NEXT` is never refused. `NoMemory` may come for each call.
 ///
 /// In a purge a `seq` or `keep` of 0 counts as absent, and both of them are 20001 of `keep`. A message is asked for by just one of `seq`, which may
-/// be 0, and `last_by_subj`, or else 20001 of `seq`; it is deleted by `seq`. An empty `filter`, `subject` or `last_by_subj` counts as absent.
+/// be 0, and `last_by_subj`, or else 20001 of `seq`; it is deleted by `seq`. An empty `filter`, `subject`, `last_by_subj` or `action` counts as absent,
+/// and an absent `config` is `{}`.
 ///
 /// What is read is valid: names, configurations, numbers and patterns are such, and the texts that replies show are UTF-8, as that of a refusal.
 #[tactic(auto, unfolding(crate::specs::Requests::request_of))]
@@ -129,8 +143,11 @@ pub fn read_request(
     if let Some(call) = general_call(subject) {
         return read_general(alloc, call, body).map(Some);
     }
-    match stream_call(subject) {
-        Some((call, token)) => read_on_stream(alloc, call, token, body).map(Some),
+    if let Some((call, token)) = stream_call(subject) {
+        return read_on_stream(alloc, call, token, body).map(Some);
+    }
+    match consumer_call(subject) {
+        Some((call, tokens)) => read_on_consumer(alloc, call, &tokens, body).map(Some),
         None => Ok(None),
     }
 }

@@ -184,8 +184,9 @@ fn check_rows(alloc: Global, fields: &Fields, rows: &[Row]) -> Result<(), Config
     Ok(())
 }
 
-/// Refuses the first field that holds what it may not hold, in ascending order of their names.
-pub(crate) fn check_fields(alloc: Global, fields: &Fields) -> Result<(), ConfigFault>
+/// Refuses the first field that holds what it may not hold, in ascending order of their names: with 20001 one that has a wrong type or is out of its
+/// range, and with 20002 one that asks for what the server leaves out. `read` begins so; what is missing, and names, are looked at after that.
+pub fn check_fields(alloc: Global, fields: &Fields) -> Result<(), ConfigFault>
     ensures passes { Passes result (first_refusal (checks (members fields.now) table)) }
 {
     check_rows(alloc, fields, rows())

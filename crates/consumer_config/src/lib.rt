@@ -12,6 +12,7 @@ mod rule;
 mod table;
 
 pub use fault::ConfigFault;
+pub use judging::check_fields;
 pub use laws::{law_printable, law_printed_read};
 pub use printing::print;
 pub use reading::read;

@@ -1,7 +1,7 @@
 //! One call of the API.
 
 ghost use Rattle.std.specs.Prelude.{◌≡◌, IsTrue};
-ghost use Rattle.api_requests.specs.Read.{IsRead};
+ghost use Rattle.api_requests.specs.Served.{IsServedRequest};
 ghost use Rattle.js_api.specs.Api.{Performs};
 ghost use Rattle.js_api.specs.Leading.{Makes};
 ghost use Rattle.js_base.specs.Subjects.{is_subject_text};
@@ -16,7 +16,7 @@ use desk_streams::{
 use js_api::{ApiRequest, DeskFault};
 use js_base::{Blob, Moment};
 
-/// Carries out the call, answers it to the reply subject, and tells whether somebody took it. Calls on consumers are not read yet.
+/// Carries out the call, answers it to the reply subject, and tells whether somebody took it. Calls on consumers are not served yet.
 pub fn carry_out<G: Ground>(
     ground: &mut G,
     request: ApiRequest,
@@ -25,7 +25,7 @@ pub fn carry_out<G: Ground>(
 ) -> Result<bool, DeskFault>
     requires outside { G.phase ground.old ≡ Outside }
     requires to { IsTrue (if_given is_subject_text to.now) }
-    requires read { IsRead request }
+    requires read { IsServedRequest request }
     ensures made { Makes G.made (Performs request to.now now result) ground.old ground.new }
     ensures setting { G.setting ground.new ≡ G.setting ground.old }
     ensures phase { G.phase ground.new ≡ Outside }

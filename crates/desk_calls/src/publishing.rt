@@ -1,7 +1,7 @@
 //! What becomes of a client's message.
 
 ghost use Rattle.std.specs.Prelude.{◌≡◌, ℕ, Err, IsUtf8, Ok, Some, true};
-ghost use Rattle.api_requests.specs.Read.{IsRead};
+ghost use Rattle.api_requests.specs.Served.{IsServedRequest};
 ghost use Rattle.js_base.specs.ServerSubjects.{is_acknowledgement, is_api};
 ghost use Rattle.js_api.specs.Answering.{Publish as PublishIt, took};
 ghost use Rattle.js_api.specs.Api.{IsAsked, PublishesToApi, TakesByApi};
@@ -15,7 +15,7 @@ use crate::api::carry_out;
 use desk_answers::NOBODY;
 use desk_ground::{Caller, Ground, refuse};
 use desk_messaging::{publish_plain, tell_untaken};
-use js_api::{ApiFault, ApiRequest, DeskFault, call_name, read_request};
+use js_api::{ApiFault, ApiRequest, DeskFault, call_name, read_served};
 use js_base::{ApiError, Moment, Out};
 use js_model::Taken;
 use subject_match::{is_acknowledgement, is_api};
@@ -56,7 +56,7 @@ fn publish_call<G: Ground>(
 ) -> Result<Taken, DeskFault>
     requires outside { G.phase ground.old ≡ Outside }
     requires message { IsMessage message.now }
-    requires read { IsRead request }
+    requires read { IsServedRequest request }
     ensures made { Makes G.made (IsAsked (client_of caller) message.now now (Some (Ok request)) result) ground.old ground.new }
     ensures setting { G.setting ground.new ≡ G.setting ground.old }
     ensures phase { G.phase ground.new ≡ Outside }
@@ -82,7 +82,7 @@ fn refuse_call<G: Ground>(
     taken_by_api(ground, caller, message, taken)
 }
 
-/// Reads the call of the API that the message is, carries it out and answers it. What is no call reaches nobody.
+/// Reads the call of the API that the message is, carries it out and answers it. What is no call, or none that is served, reaches nobody.
 fn publish_to_api<G: Ground>(
     ground: &mut G,
     caller: Caller,
@@ -96,7 +96,7 @@ fn publish_to_api<G: Ground>(
     ensures phase { G.phase ground.new ≡ Outside }
 {
     let to = message.to.as_slice();
-    match read_request(ground.alloc(), to, message.payload.as_slice()) {
+    match read_served(ground.alloc(), to, message.payload.as_slice()) {
         Ok(Some(request)) => publish_call(ground, caller, message, request, now),
         Ok(None) => tell_untaken(ground, caller, message, NOBODY),
         Err(ApiFault::Refused(refusal)) => refuse_call(ground, caller, message, refusal),

@@ -9,7 +9,7 @@ use Rattle.api_calls.specs.Names.{name_of}
 use Rattle.api_requests.specs.declared.request.ApiRequest.{ApiRequest}
 use Rattle.api_requests.specs.declared.request.ApiRequest.TheVariants as requests
 use Rattle.api_requests.specs.Names.{call_name}
-use Rattle.api_requests.specs.Requests.{request_of}
+use Rattle.api_requests.specs.Served.{served_of}
 use Rattle.js_api.specs.declared.fault.DeskFault.{DeskFault}
 use Rattle.js_api.specs.Clients.{Client}
 use Rattle.js_api.specs.Entries.{DeskEntry}
@@ -18,7 +18,7 @@ use Rattle.js_api.specs.Publishing.{taken_by, PublishesToNobody}
 use Rattle.js_api.specs.OneStream.{Answers, refusal, IsCreating, IsUpdating, IsShowing, IsDeleting, IsPurging, IsReading, IsErasing}
 use Rattle.js_api.specs.AllStreams.{IsOverAll, account, names, informations}
 
--- The call was carried out so, and gives whether somebody took it. Calls of the forms that are not read yet are not carried out.
+-- The call was carried out so, and gives whether somebody took it. Calls on consumers, which are not served yet, are not carried out.
 abbrev pub Performs : ApiRequest → Option Bytes → ℕ → Result Bool DeskFault → List DeskEntry → Type 0
 Performs requests.AccountInfo to now result entries = IsOverAll (name_of calls.AccountInfo) to now (account to) result entries
 Performs (requests.StreamCreate stream config) to now result entries = IsCreating stream config to now result entries
@@ -48,11 +48,11 @@ abbrev pub TakesByApi : Client → Out → Bool → Result Taken DeskFault → L
 TakesByApi client message taken result entries =
     MatchBool taken (Gives (taken_by 0 true) result entries) (PublishesToNobody client message result entries)
 
--- a subject of the API that is no call reaches nobody
+-- a subject of the API that is no call, or none that is served, reaches nobody
 abbrev pub IsAsked : Client → Out → ℕ → Option (Result ApiRequest ApiError) → Result Taken DeskFault → List DeskEntry → Type 0
 IsAsked client message now None result entries = PublishesToNobody client message result entries
 IsAsked client message now (Some reading) result entries = Then (CarriesOut reading message now) (TakesByApi client message) result entries
 
 -- the call is read, and then carried out
 abbrev pub PublishesToApi : Client → Out → ℕ → Result Taken DeskFault → List DeskEntry → Type 0
-PublishesToApi client message now result entries = Then (Reads (request_of message.to message.payload)) (IsAsked client message now) result entries
+PublishesToApi client message now result entries = Then (Reads (served_of message.to message.payload)) (IsAsked client message now) result entries
