@@ -197,7 +197,7 @@ module _ (at : PlaceAt) where
 
   last_prepared : (first : List DeskEntry) (last : Option PlaceAt) → Prepares at first → last_after first last ≡ last
   last_prepared first last (inl none) = ap (λ (entries : List DeskEntry). last_after entries last) none
-  last_prepared first last (inr h) = ap (λ (entries : List DeskEntry). last_after entries last) h.3
+  last_prepared first last (inr h) = ap (λ (entries : List DeskEntry). last_after entries last) h.2
 
   last_held : (entries : List DeskEntry) (hold : Hold) (last : Option PlaceAt) → entries ≡ Held hold ∷ [] → hold.at ≡ at → last_after entries last ≡ Some at
   last_held entries hold last is here = ap (λ (es : List DeskEntry). last_after es last) is ∙ ap (λ (a : PlaceAt). Some a) here

@@ -416,7 +416,7 @@ module _ {R : Type 0} (routes : R → RouteCall → RouteTold → R → Type 0) 
           first = Stirred at old.place.volume new.place.volume false ∷ [];
           more = [];
           entries_are = refl;
-          prepares = inr (old.place.volume, new.place.volume, false, refl);
+          prepares = inr (old.place.volume, new.place.volume, refl);
           holds = (refl, refl);
         };
         led = (

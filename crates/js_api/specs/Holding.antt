@@ -202,10 +202,9 @@ HoldsBy (Stopped stream) at what now ready fault entries =
     (state : State) × (entries ≡ Halted at state ∷ []) × (stream ≡ stream_name state) × IsQuiet ready fault
 HoldsBy Gone at what now ready fault entries = (kept : ℕ) × (entries ≡ Missed at kept ∷ []) × IsQuiet ready fault
 
--- the volume may have been called before what was asked, or without it
+-- the volume may have been called before what was asked, or without it, and did not fail in that
 abbrev pub Prepares : PlaceAt → List DeskEntry → Type 0
-Prepares at entries =
-    (entries ≡ []) ⊎ ((before after : VolumeAt) × (failed : Bool) × (entries ≡ Stirred at before after failed ∷ []))
+Prepares at entries = (entries ≡ []) ⊎ ((before after : VolumeAt) × (entries ≡ Stirred at before after false ∷ []))
 
 -- a hold on this place, of what was asked there at the moment, came to that
 pub record Holds (at : PlaceAt) (what : What) (now : ℕ) (outcome : Outcome) (entries : List DeskEntry) : Type 0 where

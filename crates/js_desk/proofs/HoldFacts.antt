@@ -232,8 +232,8 @@ module _ (at : PlaceAt) (what : What) (now : ℕ) (built : IsBuilt what) where
           let same : entries ≡ h.more = e ∙ ap (λ (fs : List DeskEntry). fs ++ h.more) none in
           subst (λ (es : List DeskEntry). Facts at what outcome.became es old.place new.place) (sym same) (by_became outcome.became outcome.ready outcome.fault h.more old new h.holds bare going)
       by first (inr stirred) led e =
-          let both = subst (λ (fs : List DeskEntry). Leads (PlaceStep IsRoute never at) old (fs ++ h.more) new) stirred.3 led in
-          let same : entries ≡ Stirred at stirred.0 stirred.1 stirred.2 ∷ h.more = e ∙ ap (λ (fs : List DeskEntry). fs ++ h.more) stirred.3 in
+          let both = subst (λ (fs : List DeskEntry). Leads (PlaceStep IsRoute never at) old (fs ++ h.more) new) stirred.2 led in
+          let same : entries ≡ Stirred at stirred.0 stirred.1 false ∷ h.more = e ∙ ap (λ (fs : List DeskEntry). fs ++ h.more) stirred.2 in
           let f = by_became outcome.became outcome.ready outcome.fault h.more both.0 new h.holds both.2 going in
           let state : both.0.place.state ≡ old.place.state = both.1.stirred.state in
           subst (λ (es : List DeskEntry). Facts at what outcome.became es old.place new.place) (sym same) (record {

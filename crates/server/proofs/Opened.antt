@@ -90,7 +90,7 @@ kept_latest old new (entry ∷ more) h u = kept_latest h.0 new more h.2 u.1 ∙ 
 
 prepares_unrouted : (at : PlaceAt) (entries : List DeskEntry) → Prepares at entries → AreUnrouted entries
 prepares_unrouted at entries (inl e) = none_routed entries e
-prepares_unrouted at entries (inr h) = one_unrouted _ entries tt h.3
+prepares_unrouted at entries (inr h) = one_unrouted _ entries tt h.2
 
 unmade_unrouted : (at : PlaceAt) (fault : Option DeskFault) (entries : List DeskEntry) → Unmakes at fault entries → AreUnrouted entries
 unmade_unrouted at None entries h = absurd h

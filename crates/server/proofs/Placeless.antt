@@ -142,7 +142,7 @@ set_vacant (first ∷ places) (suc n) new v h (suc k) place e = set_vacant place
 prepared_vacant : (at : PlaceAt) (first : List DeskEntry) (old new : Scene) → Prepares at first → Leads SoloStep old first new → AreVacant old.world.places → AreVacant new.world.places
 prepared_vacant at first old new (inl e) led h = let same : old ≡ new = subst (λ (es : List DeskEntry). Leads SoloStep old es new) e led in subst (λ (s : Scene). AreVacant s.world.places) same h
 prepared_vacant at first old new (inr p) led h =
-    let k = subst (λ (es : List DeskEntry). Leads SoloStep old es new) p.3 led in
+    let k = subst (λ (es : List DeskEntry). Leads SoloStep old es new) p.2 led in
     let a = k.1.0 in
     let set = set_vacant old.world.places at.place a.stirred (a.is_stirred.state ∙ h at.place a.place a.is_there) h in
     subst (λ (s : Scene). AreVacant s.world.places) k.2 (subst AreVacant (sym a.places) set)
