@@ -1,4 +1,4 @@
-//! What is read of bodies.
+//! The object that a body is, the configuration or the page of a list that it asks for, and the stream's name in a subject.
 
 ghost use Rattle.std.specs.Prelude.{◌≡◌};
 ghost use Rattle.js_json.specs.Members.{members};

@@ -113,13 +113,13 @@ fn read_on_stream(
     }
 }
 
-/// The call that a subject and a body are, and `None` exactly if the subject is no call. The subjects are `$JS.API.` and one of `INFO`,
+/// The call that a subject and a body are, and `None` exactly if the subject is not a call. The subjects are `$JS.API.` and one of `INFO`,
 /// `STREAM.NAMES`, `STREAM.LIST`; with the name of a stream behind, one of `STREAM.CREATE`, `STREAM.UPDATE`, `STREAM.INFO`, `STREAM.DELETE`,
 /// `STREAM.PURGE`, `STREAM.MSG.GET`, `STREAM.MSG.DELETE`, `CONSUMER.NAMES` and `CONSUMER.LIST`; and with the names of a stream and a consumer behind,
 /// one of `CONSUMER.CREATE`, which may have a filter behind them, `CONSUMER.DURABLE.CREATE`, `CONSUMER.INFO`, `CONSUMER.DELETE` and
 /// `CONSUMER.MSG.NEXT`.
 ///
-/// If several things are wrong, the first of these is the refusal: 10025, the body is no JSON object; 20001 of `name`, a token is no name; 20001 of a
+/// If several things are wrong, the first of these is the refusal: 10025, the body is not a JSON object; 20001 of `name`, a token is no name; 20001 of a
 /// field, or 20002 if the server leaves it out, in the order of the keys, those of a consumer's configuration at `config`; 20003 and 20005, a consumer
 /// lacks where it starts, or a durable name; 20022, another name in the body than in the subject, or another filter. An empty body is an object without
 /// fields, but for `STREAM.MSG.GET`, `STREAM.MSG.DELETE` and the two that make a consumer, which need a field; the bodies of `INFO`, `STREAM.DELETE`,

@@ -21,7 +21,7 @@ pub struct MadeStep {
     pub unsaid: bool,
 }
 
-/// The name of the place's stream, empty if there is none. The incarnation of a stream is below 2^62.
+/// The name of the place's stream, empty if there is none.
 pub fn stream_name<P: Place>(place: &P) -> Result<Blob, NoMemory>
     ensures name { IfOk result (λ name. name ≡ stream_name (P.seen place.now).place.state) }
     ensures utf8 { IfOk result (λ name. IsUtf8 name) }

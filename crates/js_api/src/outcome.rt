@@ -16,7 +16,7 @@ pub enum Became {
     },
     /// Out of memory: time passed at the place, and what was asked was not made.
     Ticked,
-    /// Nothing was done.
+    /// No step was made, since memory or the numbers of turns or generations ran out before it. The state of the place is as it was.
     Nothing,
     /// The volume failed, and the place is stopped now. Whether what was asked outlives a crash is not known.
     Broke {
@@ -36,7 +36,8 @@ pub enum Became {
 #[derive(Drop, Debug)]
 pub struct Outcome {
     pub became: Became,
-    /// Whether a consumer of the place is ready at the end of the hold.
+    /// Whether a consumer is still ready after a hold that did as much as it may. It means nothing if `fault` is given, and is false if the
+    /// place is stopped or keeps another incarnation.
     pub ready: bool,
     /// Why the call of the desk ends with this hold: memory ran out in it, or the numbers of turns or of the
     /// store's generations. The reply is then answered to nobody.

@@ -73,7 +73,7 @@ impl Router {
         Ok(number)
     }
 
-    /// Closes the session: its subscriptions are gone, and so is what waits for it. It takes no memory.
+    /// Closes the session: its subscriptions are gone, and so is what waits for it. Nothing changes if the session is not open. It takes no memory.
     pub fn close(&mut self, session: u64)
         ensures routes { IsRoute self.old (Close session) Done self.new }
         ensures closed { ClosesOne session self.old self.new }
@@ -82,7 +82,8 @@ impl Router {
         self.subscriptions.remove_session(session);
     }
 
-    /// Sets whether the session hears its own messages, and whether it takes header blocks. It takes no memory.
+    /// Sets whether the session hears its own messages, and whether it takes header blocks. Nothing changes if the session is not open. It
+    /// takes no memory.
     pub fn options(&mut self, session: u64, echo: bool, headers: bool)
         ensures routes { IsRoute self.old (Options session echo headers) Done self.new }
         ensures stay { KeepsOpen self.old self.new }

@@ -2,11 +2,11 @@
 
 ghost use Rattle.server.specs.Laws.{LawComplete, LawWelcome, LawUntroubled};
 
-/// A run over whole operations ends with status 0, or with 7, out of memory. With 0 a session whose link the door gave out has answered
-/// each of them, in the order of their coming, and none by a store that failed.
+/// A run over whole operations ends with status 0, or with 7, out of memory. With 0 a session whose link the door gave out has carried out
+/// each of them, in the order of their coming, and none at a store that failed.
 /// This holds if the stream that is to be made, if there is one, is refused by no place; if the volumes come back untroubled: none failed, and
 /// none has used up its generations; if no count of faults of the door or the link rises, the input is shorter than a session may take, and the
-/// door and the link are not quiet as often in a row as they may be; and if, in each way in which it can have gone by all that was told, the
+/// door and the link are not quiet as often in a row as they may be; and if, in every run that agrees with all that was told, the
 /// client is not stale when nothing comes, and at no time waits more for it than may.
 pub fn law_complete<V>()
     ensures complete { LawComplete V }

@@ -114,6 +114,9 @@ fn pipe<R: Door, V, C: Clock, O: Sink>(
 /// All that the program does for its command line. `pipe` opens a desk over the volumes, makes the stream that the command line names, if it names
 /// one and no stream of its name is there, with every default, accepts one link and serves it, and closes the desk as this leaves it. Any other
 /// command line is refused. The volumes come back as they were handed in.
+///
+/// The status is 0 (input ended), 2 (command line), 3 (connection), 6 (limits of a session, or no link), 7 (memory), 8 (door), 10 (session refused)
+/// or 11 (stream refused).
 pub fn run<R: Door, V, C: Clock, G: Gate, O: Sink>(
     alloc: Global,
     words: &[String],

@@ -22,7 +22,7 @@ pub enum Command {
     Pipe { stream: Option<NamedStream> },
 }
 
-/// Why the command line is no command.
+/// Why the command line is not a command.
 #[derive(Clone, Copy, Debug, PartialEq, Eq, Error)]
 pub enum WordsFault {
     #[error("the command line is none of the forms")]
