@@ -1,4 +1,5 @@
 pub mod Seqs
+pub mod Dues
 pub mod Filling
 pub mod Kept
 pub mod Sent

@@ -34,6 +34,15 @@ any_seq n (p ∷ ps) = ap (λ b. (p.seq == n) || b) (any_seq n ps)
 from_zero : (n : ℕ) → nat_le 0 n ≡ true
 from_zero n = grind (arith, nat_tests)
 
+pub found_from : (seq : ℕ) (ps : List Pending) → option_map (λ p. p.seq) (find (λ p. nat_le seq p.seq) ps) ≡ find (nat_le seq) (seqs_of ps)
+found_from seq [] = refl
+found_from seq (p ∷ ps) = go (nat_le seq p.seq) (found_from seq ps)
+  where
+    go : (b : Bool) → option_map (λ p. p.seq) (find (λ p. nat_le seq p.seq) ps) ≡ find (nat_le seq) (seqs_of ps)
+        → option_map (λ p. p.seq) (cond b (Some p) (find (λ p. nat_le seq p.seq) ps)) ≡ cond b (Some p.seq) (find (nat_le seq) (seqs_of ps))
+    go true k = refl
+    go false k = k
+
 pub first_found : (ps : List Pending) → option_map (λ p. p.seq) (find (λ p. nat_le 0 p.seq) ps) ≡ first_of (seqs_of ps)
 first_found [] = refl
 first_found (p ∷ ps) = ap (λ b. option_map (λ (p : Pending). p.seq) (cond b (Some p) (find (λ p. nat_le 0 p.seq) ps))) (from_zero p.seq)

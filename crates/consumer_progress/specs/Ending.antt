@@ -1,6 +1,8 @@
 -- How sequences leave a consumer's progress, by JetStream's acknowledgements and the removal of messages.
-use Rattle.std.specs.Prelude.{◌≡◌, ℕ, ◌≤◌, nat_le, min, Bool, true, ◌==◌, ◌||◌, not, filter, map, Option, Some, None}
+use Rattle.std.specs.Prelude.{◌≡◌, ℕ, ◌≤◌, nat_le, min, Bool, true, ◌==◌, ◌&&◌, ◌||◌, not, List, filter, map, Option, Some, None}
+use Rattle.std.specs.List.{list_any}
 use Rattle.js_base.specs.Bytes.{has}
+use Rattle.js_model.specs.declared.consumer.Pending.{Pending}
 use Rattle.js_model.specs.Acknowledge.{moved}
 use Rattle.consumer_progress.specs.Progresses.{Progress, first_of, seqs_of}
 
@@ -33,6 +35,10 @@ EndsOneUpTo seq old (Some n) new = (n ≤ seq) × (is_delivered old n ≡ true) 
 -- the progress with another due moment of the delivery, if it waits
 abbrev pub with_due : ℕ → ℕ → Progress → Progress
 with_due seq due p = record p { pending = map (moved seq due) p.pending }
+
+-- the delivery waits, and is due at another moment
+abbrev pub changes_due : ℕ → ℕ → List Pending → Bool
+changes_due seq due ps = list_any (λ e. (e.seq == seq) && not (e.due == due)) ps
 
 -- the progress without the sequence
 abbrev pub without : ℕ → Progress → Progress

@@ -1,20 +1,21 @@
 //! The progress of a consumer.
 
-ghost use Rattle.std.specs.Prelude.{◌≡◌, ℕ, ◌+◌, ◌-◌, ◌<◌, ◌^◌, ◌==◌, [], None, false, true, filter, find, length, nat_lt, IfOk, OnOk, OnErr};
+ghost use Rattle.std.specs.Prelude.{◌≡◌, ℕ, ◌+◌, ◌-◌, ◌<◌, ◌^◌, ◌==◌, [], None, false, true, filter, find, length, nat_le, nat_lt, IfOk, OnOk, OnErr};
+ghost use Rattle.std.specs.List.{list_any};
 ghost use Rattle.std.specs.Option.{option_map};
 ghost use Rattle.js_base.specs.Bytes.{has, last_of};
 ghost use Rattle.js_model.specs.Counts.{least};
 ghost use Rattle.js_model.specs.Lists.{Between};
 ghost use Rattle.consumer_progress.specs.Progresses.{first_of, progress_of, is_held, seqs_of, IsProgress};
 ghost use Rattle.consumer_progress.specs.Sending.{after_sent, count_in};
-ghost use Rattle.consumer_progress.specs.Ending.{ended, is_delivered, least_delivered, with_due, without, EndsOneUpTo};
-ghost use Rattle.consumer_progress.specs.GivingUp.{is_due, overflow_of, with_given_up, without_overflow, IsUnspent};
+ghost use Rattle.consumer_progress.specs.Ending.{changes_due, ended, is_delivered, least_delivered, with_due, without, EndsOneUpTo};
+ghost use Rattle.consumer_progress.specs.GivingUp.{is_due, is_spent, overflow_of, with_given_up, without_overflow, IsUnspent};
 
 use crate::tables::{
-    count_in, drop_seq, first_seq, has_seq, lesser, put_delivery, table_of, table_with,
+    count_in, drop_seq, first_seq, has_seq, lesser, put_delivery, seq_from, table_of, table_with,
 };
 use js_base::{Moment, NoMemory};
-use js_model::Consumer;
+use js_model::{Consumer, Pending};
 use pending_table::PendingTable;
 use std::alloc::Global;
 use std::marker::Model;
@@ -149,6 +150,42 @@ impl ConsumerProgress {
         ensures value { result ≡ count_in self.now.pending seq }
     {
         count_in(&self.pending, seq)
+    }
+
+    /// Whether `set_due` would change anything: the delivery of the sequence waits, and is due at another moment.
+    pub fn changes_due(&self, seq: u64, due: Moment) -> bool
+        ensures value { result ≡ changes_due seq due self.now.pending }
+    {
+        match self.pending.get(seq) {
+            Some(told) => told.1.as_nanos() != due.as_nanos(),
+            None => false,
+        }
+    }
+
+    /// The first delivery that waits, from a sequence on.
+    pub fn waiting_from(&self, seq: u64) -> Option<Pending>
+        ensures value { result ≡ find (λ e. nat_le seq e.seq) self.now.pending }
+        ensures progress { IsProgress self.now }
+    {
+        self.pending.at_or_after(seq)
+    }
+
+    /// The least pick from a sequence on.
+    pub fn pick_from(&self, seq: u64) -> Option<u64>
+        ensures value { result ≡ find (nat_le seq) self.now.picks }
+        ensures progress { IsProgress self.now }
+    {
+        seq_from(&self.picks, seq)
+    }
+
+    /// Whether a delivery that is due at the moment was made as often as it may be; `None` is no limit.
+    pub fn has_spent(&self, now: Moment, most: Option<u64>) -> bool
+        ensures value { result ≡ list_any (is_spent now most) self.now.pending }
+    {
+        match most {
+            Some(most) => self.pending.has_spent(now, most),
+            None => false,
+        }
     }
 
     /// The least sequence that waits, is due at the moment and was delivered fewer times than it may be; `None` is no limit.

@@ -1,6 +1,6 @@
 //! The tables in which a consumer's sequences stand.
 
-ghost use Rattle.std.specs.Prelude.{◌≡◌, ◌+◌, ◌<◌, ◌^◌, ◌==◌, filter, length, not, IfOk, OnOk, OnErr};
+ghost use Rattle.std.specs.Prelude.{◌≡◌, ◌+◌, ◌<◌, ◌^◌, ◌==◌, filter, find, length, nat_le, not, IfOk, OnOk, OnErr};
 ghost use Rattle.js_base.specs.Bytes.{has};
 ghost use Rattle.js_model.specs.Lists.{Ascends};
 ghost use Rattle.consumer_progress.specs.Progresses.{first_of, seqs_of};
@@ -51,6 +51,14 @@ pub(crate) fn first_seq(table: &PendingTable) -> Option<u64>
     ensures value { result ≡ first_of (seqs_of table.now) }
 {
     table.first()
+}
+
+/// The least sequence of a table that is at least this one.
+pub(crate) fn seq_from(table: &PendingTable, seq: u64) -> Option<u64>
+    ensures value { result ≡ find (nat_le seq) (seqs_of table.now) }
+{
+    let entry = table.at_or_after(seq)?;
+    Some(entry.seq)
 }
 
 /// The lesser of two sequences, as far as they are there.

@@ -5,6 +5,8 @@ pub mod Offers
 pub mod Lefts
 pub mod Deliveries
 pub mod Steps
+pub mod Rests
+pub mod Currents
 pub mod Unreads
 pub mod KeptSent
 pub mod Configs

@@ -224,7 +224,7 @@ ready_is a c listened o offer unpulled listening heard = at o (candidates a c) r
         ∙ asked (is_push c) refl
         ∙ sym (ap (λ l. is_ready_with l listening c) e)
 
-some_offer : (a : Stream) (c : Consumer) → (o : Option ℕ) × IsOffer a c o
+pub some_offer : (a : Stream) (c : Consumer) → (o : Option ℕ) × IsOffer a c o
 some_offer a c = go (candidates a c) refl
   where
     go : (ms : List Message) → candidates a c ≡ ms → (o : Option ℕ) × IsOffer a c o

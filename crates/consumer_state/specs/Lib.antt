@@ -4,7 +4,9 @@ pub mod Forgetting
 pub mod Passing
 pub mod Ending
 pub mod EndingKinds
+pub mod DueAgain
 pub mod Offering
 pub mod Sending
 pub mod Delivering
+pub mod Before
 pub mod Unread

@@ -5,6 +5,7 @@ ghost use Rattle.std.specs.Option.{option_copied};
 ghost use Rattle.js_model.specs.Acknowledge.{ends, is_no_delivery, with_due};
 ghost use Rattle.js_model.specs.Events.{ack_reply, next_ask, next_outs};
 ghost use Rattle.consumer_state.specs.Ending.{before_ending, begun, kind_ends, outs_to, reply_to, EndsBy, EndsNext};
+ghost use Rattle.consumer_state.specs.DueAgain.{changed_due, due_by};
 ghost use Rattle.consumer_state.specs.EndingKinds.{ends_by};
 
 use crate::consumer::Consumer;
@@ -32,6 +33,32 @@ impl Consumer {
         }
         self.begin(ack, reply, now, outs)?;
         Ok(reply_to(ack.kind))
+    }
+
+    /// The moment at which a NAK or a WPI makes its delivery due again, asked before `ack`. `None` if the acknowledgement leaves each due moment as it is.
+    pub fn changed_due(&self, ack: &Ack, now: Moment) -> Option<Moment>
+        ensures value { result ≡ changed_due now ack.now.seq ack.now.kind self.now }
+    {
+        if self.is_no_delivery(ack.seq) {
+            return None;
+        }
+        let due = self.due_by(ack.kind, now)?;
+        if self.progress.changes_due(ack.seq, due) {
+            Some(due)
+        } else {
+            None
+        }
+    }
+
+    /// The moment at which the acknowledgement makes a delivery due, if it makes one due.
+    fn due_by(&self, kind: AckKind, now: Moment) -> Option<Moment>
+        ensures value { result ≡ due_by now kind self.now }
+    {
+        match kind {
+            AckKind::Nak(delay) => Some(now.plus(delay)),
+            AckKind::Wpi => Some(now.plus(self.config.ack_wait)),
+            AckKind::Ack | AckKind::Next(_) | AckKind::Term => None,
+        }
     }
 
     /// Sets when the entry is due, or pulls.

@@ -1,5 +1,6 @@
 //! Laws of what is done to a consumer in two steps.
 
+ghost use Rattle.consumer_state.specs.Before.{LawAt};
 ghost use Rattle.consumer_state.specs.Making.{LawQueueChecks};
 ghost use Rattle.consumer_state.specs.Passing.{LawPassed, LawOverflow};
 ghost use Rattle.consumer_state.specs.Ending.{LawAcknowledged, LawBeforeEnding, LawEndsOne};
@@ -17,6 +18,11 @@ pub fn law_passed()
 /// Taking out what overflows does not change what is kept at last. If nothing overflows, the consumer is already within the limit.
 pub fn law_overflow()
     ensures law { LawOverflow }
+{}
+
+/// Where passing time gives no delivery up and ends no pull, it does not change whether something can be delivered.
+pub fn law_at()
+    ensures law { LawAt }
 {}
 
 /// An acknowledgement and the endings after it leave what the acknowledgement of a delivery leaves.

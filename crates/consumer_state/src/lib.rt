@@ -2,6 +2,7 @@
 #![tactic(auto)]
 
 mod acking;
+mod before;
 mod consumer;
 mod delivering;
 mod fault;
@@ -15,6 +16,7 @@ mod unread;
 pub use consumer::Consumer;
 pub use fault::MakeFault;
 pub use laws::{
-    law_acknowledged, law_before_ending, law_ends_one, law_overflow, law_passed, law_queue_checks,
+    law_acknowledged, law_at, law_before_ending, law_ends_one, law_overflow, law_passed,
+    law_queue_checks,
 };
 pub use making::policy_refusal;

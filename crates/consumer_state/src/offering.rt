@@ -10,10 +10,10 @@ use consumer_start::next_taken;
 use stream_view::View;
 
 /// The greatest consumer sequence.
-const LAST_SEQUENCE: u64 = (1 << 62) - 1;
+pub(crate) const LAST_SEQUENCE: u64 = (1 << 62) - 1;
 
 /// How many deliveries may wait, if the configuration gives no limit.
-const MAX_PENDING: u64 = 65_536;
+pub(crate) const MAX_PENDING: u64 = 65_536;
 
 impl Consumer {
     /// The sequence of some message that may be sent at the stream's moment; `None` exactly if there is none. `undelivered` is how many messages are still to
@@ -84,7 +84,6 @@ impl Consumer {
     fn may_wait(&self) -> bool
         ensures value { result ≡ may_wait self.now }
     {
-        let limit = self.config.max_ack_pending.unwrap_or(MAX_PENDING);
-        self.is_unacknowledged() || self.progress.ack_pending() < limit
+        self.has_room(self.progress.ack_pending())
     }
 }

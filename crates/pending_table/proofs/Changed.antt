@@ -1,9 +1,9 @@
 -- The changes of the table's calls, by those of one entry.
-use Rattle.std.proofs.Common.{◌≡◌, ℕ, ◌<◌, ◌≤◌, ◌==◌, ◌&&◌, Bool, true, false, cond, not, List, [], ◌∷◌, Option, Some, None, map, length, refl, sym, ap, ◌∙◌, subst, arith}
-use Rattle.std.specs.Prelude.{filter, find, nat_le, nat_lt}
+use Rattle.std.proofs.Common.{◌≡◌, ℕ, ◌<◌, ◌≤◌, ◌==◌, ◌&&◌, ◌||◌, Bool, true, false, cond, not, List, [], ◌∷◌, Option, Some, None, map, length, refl, sym, ap, ◌∙◌, subst, arith}
+use Rattle.std.specs.Prelude.{filter, find, is_some, nat_le, nat_lt}
 use Rattle.std.specs.List.{AllByRecursion, list_any}
 use Rattle.std.specs.Option.{option_map}
-use Rattle.std.proofs.lemmas.Bool.{eqb-true, eqb-false, eq-eqb, lt-ltb, le-ltb}
+use Rattle.std.proofs.lemmas.Bool.{eqb-true, eq-eqb, lt-ltb, le-ltb, ne_eqb}
 use Rattle.std.proofs.lemmas.Bool.Decides.{nat_tests}
 use Rattle.js_model.specs.declared.consumer.Pending.{Pending}
 use Rattle.js_model.specs.Acknowledge.{moved}
@@ -99,7 +99,7 @@ first_removed test q (p ∷ ps) h found = go (first_removed test q ps h.1) (test
         ap (λ b. cond (not b) (p ∷ rest) rest) (eq-eqb p.seq q.seq at) ∙ filter_same (λ p. p.seq == q.seq) ps (later_apart p ps q.seq at h.0)
     go more false k =
         let less : p.seq < q.seq = found_all (λ x. p.seq < x.seq) test ps q h.0 k in
-        ap (λ b. cond (not b) (p ∷ rest) rest) (Rattle.std.proofs.lemmas.Bool.ne_eqb p.seq q.seq (λ e. omega (arith, e, less)))
+        ap (λ b. cond (not b) (p ∷ rest) rest) (ne_eqb p.seq q.seq (λ e. omega (arith, e, less)))
         ∙ ap (λ qs. p ∷ qs) (more k)
 
 pub none_first : (test : Pending → Bool) (ps : List Pending) → find test ps ≡ None → without_first test ps ≡ ps
@@ -234,6 +234,36 @@ module _ (low high : ℕ) (ps : List Pending) where
 pub not_found : (test : Pending → Bool) (ps : List Pending) (o : Option Pending) → find test ps ≡ o → None ≡ seq_of o → find test ps ≡ None
 not_found test ps None f h = f
 not_found test ps (Some q) f h = absurd cc
+
+-- something is found exactly if something passes
+pub found_any : (test : Pending → Bool) (ps : List Pending) (o : Option ℕ) → o ≡ seq_of (find test ps) → is_some o ≡ list_any test ps
+found_any test ps o h = ap is_some h ∙ go ps
+  where
+    go : (ps : List Pending) → is_some (seq_of (find test ps)) ≡ list_any test ps
+    go [] = refl
+    go (p ∷ ps) = at (test p) (go ps)
+      where
+        at : (b : Bool) → is_some (seq_of (find test ps)) ≡ list_any test ps → is_some (seq_of (cond b (Some p) (find test ps))) ≡ (b || list_any test ps)
+        at true k = refl
+        at false k = k
+
+-- what is found is found by its own sequence
+by_own : (test : Pending → Bool) (ps : List Pending) (q : Pending) → IsAscending ps → find test ps ≡ Some q → find (λ p. p.seq == q.seq) ps ≡ Some q
+by_own test [] q ascending h = absurd cc
+by_own test (p ∷ ps) q ascending h = go (test p) h (by_own test ps q ascending.1)
+  where
+    rest : Option Pending
+    rest = find (λ p. p.seq == q.seq) ps
+
+    go : (b : Bool) → cond b (Some p) (find test ps) ≡ Some q → (find test ps ≡ Some q → rest ≡ Some q) → cond (p.seq == q.seq) (Some p) rest ≡ Some q
+    go true k more = let same : p ≡ q = cc k in ap (λ b. cond b (Some p) rest) (eq-eqb p.seq q.seq (ap (λ (x : Pending). x.seq) same)) ∙ k
+    go false k more =
+        let less : p.seq < q.seq = found_all (λ x. p.seq < x.seq) test ps q ascending.0 k in
+        ap (λ b. cond b (Some p) rest) (ne_eqb p.seq q.seq (λ e. omega (arith, e, less))) ∙ more k
+
+pub found_own : (test : Pending → Bool) (ps : List Pending) → IsAscending ps → (n : ℕ) (o : Option Pending) → find test ps ≡ o → Some n ≡ seq_of o → find (λ p. p.seq == n) ps ≡ find test ps
+found_own test ps ascending n None f h = absurd cc
+found_own test ps ascending n (Some q) f h = let same : n ≡ q.seq = cc h in ap (λ k. find (λ p. p.seq == k) ps) same ∙ by_own test ps q ascending f ∙ sym f
 
 -- the first that passes goes by its sequence
 pub taken_first : (test : Pending → Bool) (ps : List Pending) → IsAscending ps → (n : ℕ) (o : Option Pending) → find test ps ≡ o → Some n ≡ seq_of o → filter (λ p. not (p.seq == n)) ps ≡ without_first test ps

@@ -68,6 +68,14 @@ impl PendingTable {
         self.tree.at_or_after(0)
     }
 
+    /// The first entry from a sequence on.
+    pub fn at_or_after(&self, seq: u64) -> Option<Pending>
+        ensures value { result ≡ find (λ p. nat_le seq p.seq) self.now }
+    {
+        let least = self.tree.at_or_after(seq)?;
+        self.tree.get(least)
+    }
+
     /// How many entries have a count above 1.
     pub fn again(&self) -> u64
         ensures value { result ≡ count_by is_again self.now }
@@ -179,6 +187,13 @@ impl PendingTable {
         ensures value { result ≡ option_map (λ p. p.seq) (find (is_due now) self.now) }
     {
         self.tree.first(&Asked::Due(now))
+    }
+
+    /// Whether an entry is due at the moment and has this count. It costs what `take_spent` does.
+    pub fn has_spent(&self, now: Moment, max: u64) -> bool
+        ensures value { result ≡ list_any (is_spent now max) self.now }
+    {
+        self.tree.first(&Asked::Spent(now, max)).is_some()
     }
 
     /// Takes out the entry with the least sequence that is due at the moment and has this count, and tells the sequence. It takes no memory. Its

@@ -1,6 +1,7 @@
 -- What passing time sends to pulls and leaves of them.
-use Rattle.std.proofs.Common.{◌≡◌, ℕ, Bool, true, false, cond, ◌&&◌, List, [], ◌∷◌, ◌++◌, map, not, refl, sym, ap, ◌∙◌, append-nil}
+use Rattle.std.proofs.Common.{◌≡◌, ℕ, Bool, true, false, cond, ◌&&◌, ◌||◌, List, [], ◌∷◌, ◌++◌, map, not, refl, sym, ap, ◌∙◌, append-nil}
 use Rattle.std.specs.Prelude.{All, filter}
+use Rattle.std.specs.List.{list_any}
 use Rattle.std.proofs.lemmas.List.{map-append, append_assoc}
 use Rattle.std.proofs.lemmas.List.Elements.{filter-append, All-head, All-tail}
 use Rattle.js_base.specs.declared.out.Out.{Out}
@@ -27,6 +28,10 @@ module _ (now : ℕ) where
   none_over [] h = refl
   none_over (p ∷ ps) h =
       ap (λ b. cond b (p ∷ filter (is_over now) ps) (filter (is_over now) ps)) (head_due p ps h).0 ∙ none_over ps (tail_due p ps h)
+
+  pub quiet_over : (ps : List Pull) → All (λ q. is_due now q ≡ false) ps → list_any (is_over now) ps ≡ false
+  quiet_over [] h = refl
+  quiet_over (p ∷ ps) h = ap (λ b. b || list_any (is_over now) ps) (head_due p ps h).0 ∙ quiet_over ps (tail_due p ps h)
 
   all_going : (ps : List Pull) → All (λ q. is_due now q ≡ false) ps → going_on now ps ≡ ps
   all_going [] h = refl

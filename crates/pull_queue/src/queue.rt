@@ -1,8 +1,9 @@
 //! The queue of the pulls.
 
-ghost use Rattle.std.specs.Prelude.{◌≡◌, ◌≤◌, ◌↔◌, ◌++◌, [], ◌∷◌, length, find, slice_get, IsNone, IfOk, OnOk, OnErr};
+ghost use Rattle.std.specs.Prelude.{◌≡◌, ◌≤◌, ◌↔◌, ◌++◌, ◌&&◌, [], ◌∷◌, length, find, not, slice_get, IsNone, IfOk, OnOk, OnErr};
 ghost use Rattle.std.specs.List.{list_any, position};
 ghost use Rattle.std.specs.Option.{option_copied};
+ghost use Rattle.js_model.specs.Advance.{is_over};
 ghost use Rattle.js_model.specs.Deliver.{fits, front_served, served, without_first};
 ghost use Rattle.pull_queue.specs.Passing.{passing_outs, passed};
 ghost use Rattle.pull_queue.specs.Fronts.{front_of, after_front};
@@ -86,6 +87,32 @@ impl PullQueue {
         ensures value { result ≡ position (λ p. p.no_wait) self.now.pulls }
     {
         self.pulls.iter().position(|pull| pull.no_wait)
+    }
+
+    /// Whether some pull has ended by a moment. If nothing is due at the moment, no pull is looked at.
+    pub fn has_over(&self, now: Moment) -> bool
+        ensures value { result ≡ list_any (is_over now) self.now.pulls }
+    {
+        if !is_reached(self.next, now) {
+            return false;
+        }
+        self.pulls.iter().any(|pull| is_over(pull, now))
+    }
+
+    /// Whether some pull goes on after a moment.
+    pub fn has_running(&self, now: Moment) -> bool
+        ensures value { result ≡ list_any (λ p. not (is_over now p)) self.now.pulls }
+    {
+        self.pulls.iter().any(|pull| !is_over(pull, now))
+    }
+
+    /// Whether some pull that ends when nothing can be delivered goes on after a moment.
+    pub fn has_running_no_wait(&self, now: Moment) -> bool
+        ensures value { result ≡ list_any (λ p. not (is_over now p) && p.no_wait) self.now.pulls }
+    {
+        self.pulls
+            .iter()
+            .any(|pull| !is_over(pull, now) && pull.no_wait)
     }
 
     /// Takes out the first pull that ends when nothing can be delivered, and says whether there was one. It takes no memory.
