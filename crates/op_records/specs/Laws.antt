@@ -1,0 +1,16 @@
+-- The laws of records: bytes are read as records exactly if these may stand in a log and are spelled so.
+use Rattle.std.specs.Prelude.{◌≡◌, ◌↔◌, IsTrue, List, [], ◌∷◌}
+use Rattle.std.specs.List.{flat_map, list_all}
+use Rattle.js_base.specs.Bytes.{Bytes}
+use Rattle.effects.specs.declared.effect.Effect.{Effect}
+use Rattle.op_records.specs.Allowed.{is_record}
+use Rattle.op_records.specs.Reading.{AreRecords}
+use Rattle.op_records.specs.Spelling.{spelled}
+
+-- each of them may stand in a log, and the bytes spell them one behind the other
+pub record Spells (bytes : Bytes) (effects : List Effect) : Type 0 where
+  pub allowed : IsTrue (list_all is_record effects)
+  pub bytes_are : bytes ≡ flat_map spelled effects
+
+abbrev pub LawRecords : Type 0
+LawRecords = (bytes : Bytes) (effects : List Effect) → AreRecords bytes effects ↔ Spells bytes effects
