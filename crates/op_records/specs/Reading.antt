@@ -1,5 +1,5 @@
 -- The records that bytes are, one behind the other, by a format of this server's own. Faults are told by places, which count from 0.
-use Rattle.std.specs.Prelude.{◌≡◌, ◌<◌, ℕ, length, Bool, List, [], ◌∷◌, Ok, Err}
+use Rattle.std.specs.Prelude.{◌≡◌, ◌==◌, ◌<◌, ℕ, length, nat_le, Bool, ◌&&◌, List, [], ◌∷◌, Ok, Err, if◌then◌else◌}
 use Rattle.std.specs.Int.{w8}
 use Rattle.js_base.specs.Bytes.{Bytes, same}
 use Rattle.js_model.specs.declared.consumer_config.ConsumerConfig.{ConsumerConfig}
@@ -8,7 +8,7 @@ use Rattle.effects.specs.declared.effect.Effect.TheVariants as effects
 use Rattle.op_records.specs.Steps.{Reader, ◌>>=◌, done, place}
 use Rattle.op_records.specs.Fields.{only, word, number_field, cursor_field, numbers_field, name_field, text_field, subject_field, stream_field, consumer_field, message_field, range_field}
 use Rattle.op_records.specs.declared.fault.RecordFault.{RecordFault}
-use Rattle.op_records.specs.declared.fault.RecordFault.TheVariants.{BadKind}
+use Rattle.op_records.specs.declared.fault.RecordFault.TheVariants.{BadKind, BadField}
 
 -- ---- the fields of each kind
 
@@ -100,7 +100,7 @@ now = do
 
 -- ---- records
 
--- the fields behind this kind; a kind that is none is told where it stands
+-- The fields behind this kind. A kind that is none is told where it stands, and so is that of a log's first record, which is misplaced here.
 abbrev pub of_kind : ℕ → ℕ → Reader Effect
 of_kind begin 1 = make_stream
 of_kind begin 2 = change_stream
@@ -115,6 +115,7 @@ of_kind begin 10 = acked
 of_kind begin 11 = due
 of_kind begin 12 = given_up
 of_kind begin 13 = now
+of_kind begin 32 = λ _ _. Err (BadField begin)
 of_kind begin _ = λ _ _. Err (BadKind begin)
 
 unfoldable pub record_at : Reader Effect
@@ -139,3 +140,32 @@ pub record IsWrong (bytes : Bytes) (fault : RecordFault) : Type 0 where
   pub stand : Stand bytes 0 before at
   pub more : at < length bytes
   pub wrong : record_at bytes at ≡ Err fault
+
+-- ---- where a log begins
+
+-- a kind that stands in later batches alone
+abbrev pub is_later_kind : ℕ → Bool
+is_later_kind kind = nat_le 1 kind && nat_le kind 13
+
+-- a kind that may not stand here is bad, and one that is none is told as such
+abbrev pub misplaced : {A : Type 0} → ℕ → ℕ → Reader A
+misplaced begin kind _ _ = if is_later_kind kind then Err (BadField begin) else Err (BadKind begin)
+
+abbrev pub of_first_kind : ℕ → ℕ → Reader ℕ
+of_first_kind begin kind = if kind == 32 then number_field else misplaced begin kind
+
+-- nothing stands behind it
+abbrev pub at_end : {A : Type 0} → A → Reader A
+at_end a bytes at = if at == length bytes then Ok (a, at) else Err (BadField at)
+
+unfoldable pub vacant_record : Reader ℕ
+vacant_record = do
+  begin ← place
+  kind ← word w8
+  of_first_kind begin kind
+
+-- the incarnation of the vacant place with which a log begins: its first batch is the one record of that
+unfoldable pub vacant_field : Reader ℕ
+vacant_field = do
+  incarnation ← vacant_record
+  at_end incarnation

@@ -47,3 +47,9 @@ spelled (effects.Acked name low high) = 10 ∷ (short name ++ (number low ++ num
 spelled (effects.Due name seq due) = 11 ∷ (short name ++ (number seq ++ number due))
 spelled (effects.GivenUp name moment) = 12 ∷ (short name ++ number moment)
 spelled (effects.Now moment) = 13 ∷ number moment
+
+-- ---- where a log begins
+
+-- a vacant place, and the incarnation of its last stream, 0 before the first
+unfoldable pub spelled_vacant : ℕ → Bytes
+spelled_vacant incarnation = 32 ∷ number incarnation

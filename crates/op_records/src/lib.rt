@@ -4,11 +4,12 @@
 mod fault;
 mod kinds;
 mod laws;
+mod puts;
 mod reader;
 mod reading;
 mod writing;
 
 pub use fault::RecordFault;
 pub use laws::law_records;
-pub use reading::read_records;
-pub use writing::write_record;
+pub use reading::{read_record, read_records, read_vacant};
+pub use writing::{write_record, write_vacant};
