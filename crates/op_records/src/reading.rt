@@ -36,7 +36,10 @@ pub fn read_records(alloc: Global, bytes: &[u8]) -> Result<Vec<Effect>, RecordFa
     };
     let mut effects = Vec::new(alloc);
     while reader.at < bytes.len() {
-        effects.push(record(&mut reader)?)?;
+        let effect = record(&mut reader)?;
+        if effects.push(effect).is_err() {
+            return Err(RecordFault::NoMemory);
+        }
     }
     Ok(effects)
 }

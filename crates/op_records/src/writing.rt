@@ -40,7 +40,7 @@ fn put_make_stream(
     ensures ok { OnOk result (into.new.items ≡ into.old.items ++ 1 ∷ (number incarnation ++ (number made ++ long (stream_text config.now)))) }
 {
     put_kind(into, MAKE_STREAM)?;
-    put_two(into, incarnation, made.get())?;
+    put_two(into, incarnation, made.as_nanos())?;
     put_stream_config(alloc, into, config)
 }
 
@@ -58,7 +58,7 @@ fn put_numbered(into: &mut Vec<u8>, kind: u8, seq: u64, at: Moment, id: &Blob) -
     ensures ok { OnOk result (into.new.items ≡ into.old.items ++ kind ∷ (number seq ++ (number at ++ text id.now))) }
 {
     put_kind(into, kind)?;
-    put_two(into, seq, at.get())?;
+    put_two(into, seq, at.as_nanos())?;
     put_text(into, id.as_slice())
 }
 
@@ -110,7 +110,7 @@ fn put_make_consumer(
     ensures ok { OnOk result (into.new.items ≡ into.old.items ++ 7 ∷ (short name.now ++ (number made ++ long (consumer_text config.now)))) }
 {
     put_named(into, MAKE_CONSUMER, name)?;
-    put_u64(into, made.get())?;
+    put_u64(into, made.as_nanos())?;
     put_consumer_config(alloc, into, config)
 }
 
@@ -162,17 +162,17 @@ fn put_record(alloc: Global, effect: &Effect, into: &mut Vec<u8>) -> Result<(), 
             dseq,
         } => {
             put_named_two(into, DELIVER, name, *seq, *count)?;
-            put_two(into, due.get(), *dseq)
+            put_two(into, due.as_nanos(), *dseq)
         }
         Effect::Acked { name, low, high } => put_named_two(into, ACKED, name, *low, *high),
-        Effect::Due { name, seq, due } => put_named_two(into, DUE, name, *seq, due.get()),
+        Effect::Due { name, seq, due } => put_named_two(into, DUE, name, *seq, due.as_nanos()),
         Effect::GivenUp { name, moment } => {
             put_named(into, GIVEN_UP, name)?;
-            put_u64(into, moment.get())
+            put_u64(into, moment.as_nanos())
         }
         Effect::Now { moment } => {
             put_kind(into, NOW)?;
-            put_u64(into, moment.get())
+            put_u64(into, moment.as_nanos())
         }
     }
 }

@@ -1,0 +1,9 @@
+pub mod Logs
+pub mod Batches
+pub mod Holding
+pub mod Misfits
+pub mod Damage
+pub mod Opening
+pub mod Base
+pub mod Committing
+pub mod Laws
