@@ -4,6 +4,9 @@ pub mod Holding
 pub mod Misfits
 pub mod Damage
 pub mod Opening
+pub mod Finding
+pub mod Beginning
+pub mod Reading
 pub mod Base
 pub mod Committing
 pub mod Laws

@@ -3,6 +3,9 @@
 
 mod batches;
 mod fault;
+mod folding;
+mod kept_body;
+mod kept_consumer;
 pub mod laws;
 mod logs;
 mod store;

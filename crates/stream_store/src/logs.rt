@@ -3,16 +3,14 @@
 ghost use Rattle.std.specs.Prelude.{◌≡◌, [], ◌∷◌, Some, IfOk, IfErr, IsErrOf};
 ghost use Rattle.vol_disk.specs.Moments.{Quiet};
 ghost use Rattle.js_base.specs.Causes.{HasCause};
-ghost use Rattle.gate_log.specs.LogState.{generation_of};
 ghost use Rattle.gate_log.specs.Settled.{IsSettled};
 ghost use Rattle.op_records.specs.Spelling.{spelled_vacant};
 ghost use Rattle.stream_store.specs.Logs.{is_first};
-ghost use Rattle.stream_store.specs.Reading.{IsCurrent, IsLogFault};
-ghost use Rattle.stream_store.specs.Beginning.{IsUnbegun, BeginsIn};
+ghost use Rattle.stream_store.specs.Finding.{IsCurrent, IsLogFault};
+ghost use Rattle.stream_store.specs.Beginning.{IsUnbegun, HoldsNothing, IsOutsideFault};
 
 use crate::fault::OpenFault;
-use gate_log::{GateLog, LogFault};
-use js_base::NoMemory;
+use gate_log::GateLog;
 use op_records::write_vacant;
 use std::alloc::Global;
 use vol_disk::Vol;
@@ -63,7 +61,7 @@ pub(crate) fn begin_log<V: Vol>(alloc: Global, vol: &mut V) -> Result<GateLog, O
     ensures file { IfOk result (λ log. log.file ≡ 0) }
     ensures head { IfOk result (λ log. log.head ≡ Some 1) }
     ensures settled { V.told → IfOk result (λ log. IsSettled log (spelled_vacant 0 ∷ []) (V.disk vol.new)) }
-    ensures any_moment { V.told → BeginsIn (V.disk vol.old) (V.disk vol.new) }
+    ensures any_moment { V.told → HoldsNothing (V.disk vol.old) (V.disk vol.new) }
     ensures only { IfErr result IsOutsideFault }
     ensures cause { HasCause (V.faults vol.old) (V.faults vol.new) (IsErrOf result OpenFault.Fault) }
 {

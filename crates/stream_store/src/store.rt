@@ -1,9 +1,9 @@
 //! The store of a place.
 
-ghost use Rattle.std.specs.Prelude.{◌≡◌, ◌×◌, ◌++◌, ◌<◌, ◌≤◌, ◌^◌, Some, IfOk, IfErr, OnOk, OnErr, IsErrOf, IsSome, IsTrue};
+ghost use Rattle.std.specs.Prelude.{◌≡◌, ◌<◌, ◌≤◌, ◌^◌, Some, IfOk, IfErr, OnOk, OnErr, IsErrOf, IsTrue};
 ghost use Rattle.std.specs.List.{list_all, flat_map};
-ghost use Rattle.vol_disk.specs.Moments.{Quiet};
 ghost use Rattle.js_base.specs.Causes.{HasCause};
+ghost use Rattle.gate_log.specs.LogState.{generation_of};
 ghost use Rattle.effects.specs.declared.durable.Durable.{Durable};
 ghost use Rattle.op_records.specs.Allowed.{is_record};
 ghost use Rattle.op_records.specs.Spelling.{spelled};
@@ -31,13 +31,14 @@ pub struct Store {
 }
 
 impl Model for Store {
-    ghost use Rattle.gate_log.specs.LogState.{LogState};
+    ghost use Rattle.std.specs.Prelude.{IsSome};
+    ghost use Rattle.gate_log.specs.LogState.{LogState, generation_of};
 
     ghost Value = { LogState };
 
     ghost view = { λ s. s.log };
 
-    ghost invariant = { λ s. IsSome s.log.head };
+    ghost invariant = { λ s. IsSome (generation_of s.log) };
 }
 
 /// The bytes of the records, one behind the other.
@@ -75,7 +76,7 @@ impl Store {
 
     /// The generation of the current log.
     pub fn generation(&self) -> u64
-        ensures value { self.now.head ≡ Some result }
+        ensures value { generation_of self.now ≡ Some result }
     {
         match self.log.generation() {
             Some(generation) => generation,
@@ -94,7 +95,7 @@ impl Store {
         effects: &[Effect],
     ) -> Result<(), CommitFault>
         requires records { IsTrue (list_all is_record effects.now) }
-        requires fits { V.told → (base next : Durable) × IsBase self.old base (V.disk vol.old) × IsNextBatch base effects.now next }
+        requires fits { V.told → (base : Durable) × (next : Durable) × IsBase self.old base (V.disk vol.old) × IsNextBatch base effects.now next }
         ensures committed { V.told → OnOk result (IsCommitted self.old self.new effects.now (V.disk vol.old) (V.disk vol.new)) }
         ensures any_moment { V.told → CommitsOrNot self.old effects.now (V.disk vol.old) (V.disk vol.new) }
         ensures err { OnErr result (self.new ≡ self.old) }
