@@ -1,18 +1,20 @@
 //! The open batches of a log as they are read.
 
-ghost use Rattle.std.specs.Prelude.{◌≡◌, ◌^◌, ◌<◌, IfOk, IfErr, IsErrOf};
+ghost use Rattle.std.specs.Prelude.{List, IfOk, IfErr, IsErrOf};
 ghost use Rattle.vol_disk.specs.Moments.{Quiet};
 ghost use Rattle.js_base.specs.Causes.{HasCause};
 ghost use Rattle.gate_log.specs.Settled.{IsSettled};
+ghost use Rattle.gate_log.specs.Reading.{IsReadAt, IsSomeGate};
 ghost use Rattle.js_base.specs.Bytes.{Bytes};
-ghost use Rattle.std.specs.Prelude.{List};
 ghost use Rattle.stream_store.specs.Batches.{Begins};
+ghost use Rattle.stream_store.specs.Beginning.{IsOutsideFault};
 ghost use Rattle.stream_store.specs.Reading.{GivesIn, IsAdded, IsBatchFault, IsFirstFault, IsReadFault};
 
 use crate::fault::OpenFault;
 use crate::folding::{FoldFault, Kept};
 use effects::Durable;
 use gate_log::GateLog;
+use js_base::Blob;
 use op_records::{read_record, read_vacant};
 use std::alloc::Global;
 use vol_disk::Vol;
@@ -119,6 +121,26 @@ fn add_batch(
     }
 }
 
+/// The records of the batch behind a gate, and the next gate, or `None` at the log's end.
+fn next_batch<V: Vol>(
+    alloc: Global,
+    vol: &mut V,
+    file: u32,
+    log: &GateLog,
+    gate: u64,
+) -> Result<Option<(Blob, u64)>, OpenFault>
+    requires gate { V.told → IsSomeGate log.now gate (V.disk vol.old) }
+    ensures found { V.told → IfOk result (IsReadAt log.now gate (V.disk vol.old)) }
+    ensures quiet { V.told → Quiet (V.disk vol.old) (V.disk vol.new) }
+    ensures only { IfErr result IsOutsideFault }
+    ensures cause { HasCause (V.faults vol.old) (V.faults vol.new) (IsErrOf result OpenFault.Fault) }
+{
+    match log.batch(alloc, vol, gate) {
+        Ok(found) => Ok(found),
+        Err(fault) => Err(OpenFault::of_log(file, fault)),
+    }
+}
+
 /// What the open batches of a log in this file give.
 pub(crate) fn read_batches<V: Vol>(
     alloc: Global,
@@ -133,7 +155,7 @@ pub(crate) fn read_batches<V: Vol>(
     ensures cause { HasCause (V.faults vol.old) (V.faults vol.new) (IsErrOf result OpenFault.Fault) }
 {
     let Some((first, mut gate)) = next_batch(alloc, vol, file, log, FIRST_GATE)? else {
-        return Ok(Kept::vacant(alloc, 0).into_durable());
+        return Ok(Kept::vacant(alloc, 0).into_durable()?);
     };
     let mut kept = begun(alloc, Place::behind(file, FIRST_GATE), first.as_slice())?;
     let mut last = OpenFault::Damaged { file, at: FIRST_GATE };
@@ -145,7 +167,7 @@ pub(crate) fn read_batches<V: Vol>(
         gate = next;
     }
     if kept.is_openable(alloc)? {
-        Ok(kept.into_durable())
+        Ok(kept.into_durable()?)
     } else {
         Err(last)
     }

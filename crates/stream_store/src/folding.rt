@@ -8,7 +8,7 @@ ghost use Rattle.stream_store.specs.Reading.{IsFoldFault};
 ghost use Rattle.std.specs.Prelude.{◌↔◌, IsTrue};
 
 use crate::kept_body::KeptBody;
-use effects::{Body, Durable, Effect};
+use effects::{Durable, Effect};
 use js_base::NoMemory;
 use std::alloc::Global;
 use std::marker::Model;
@@ -60,18 +60,19 @@ impl Kept {
     }
 
     /// What a volume holds.
-    pub(crate) fn into_durable(self) -> Durable
-        ensures value { result ≡ self }
+    pub(crate) fn into_durable(self) -> Result<Durable, NoMemory>
+        ensures value { IfOk result (λ durable. durable ≡ self) }
     {
         let Kept {
             alloc,
             incarnation,
             body,
         } = self;
-        Durable {
-            incarnation,
-            body: body.map(|body| body.into_body(alloc)),
-        }
+        let body = match body {
+            Some(body) => Some(body.into_body(alloc)?),
+            None => None,
+        };
+        Ok(Durable { incarnation, body })
     }
 
     /// The stream. A record that needs one is wrong as a whole if there is none.
@@ -157,7 +158,7 @@ impl Kept {
         ensures value { IfOk result (λ storable. IsTrue storable ↔ IsStorable self.now) }
     {
         match &self.body {
-            Some(body) => body.is_storable(alloc, self.incarnation),
+            Some(body) => body.is_storable(alloc),
             None => Ok(self.incarnation < 1 << 62),
         }
     }

@@ -1,15 +1,24 @@
 //! A stream that the records of a log give.
 
-ghost use Rattle.std.specs.Prelude.{◌≡◌, Some, OnOk, IfErr};
-ghost use Rattle.effects.specs.Folding.{empty_body, removed};
+ghost use Rattle.std.specs.Prelude.{◌≡◌, ◌<◌, ◌^◌, ◌↔◌, ℕ, IfOk, IsTrue};
+ghost use Rattle.effects.specs.Folding.{live, empty_body, removed};
+ghost use Rattle.stream_store.specs.Batches.{IsStorable};
+ghost use Rattle.stream_store.specs.Holding.{IsOpenable};
 
+use crate::checks::{are_different, are_few_by_subject, are_small, rise};
 use crate::folding::FoldFault;
 use crate::kept_consumer::KeptConsumer;
 use effects::Body;
 use js_base::{Blob, List, Moment, NoMemory};
-use js_model::{Consumer, ConsumerConfig, Id, Message, StreamConfig};
+use js_model::{ConsumerConfig, Id, Message, StreamConfig};
 use std::alloc::Global;
 use std::marker::Model;
+
+/// The greatest numbers of a volume: messages, ids, bytes of an id, and consumers.
+const MOST_MESSAGES: usize = 1 << 24;
+const MOST_IDS: usize = 1 << 20;
+const MOST_ID_BYTES: usize = 256;
+const MOST_CONSUMERS: usize = 256;
 
 /// A stream that the records so far give. Contracts see it as what a volume holds of it.
 #[derive(Drop, Debug)]
@@ -46,6 +55,25 @@ impl KeptBody {
             ids: Vec::new(alloc),
             consumers: Vec::new(alloc),
         }
+    }
+
+    /// What a volume holds of it.
+    pub(crate) fn into_body(self, alloc: Global) -> Result<Body, NoMemory>
+        ensures value { IfOk result (λ body. body ≡ self) }
+    {
+        let mut consumers = List::new(alloc);
+        for consumer in self.consumers {
+            consumers.push(consumer.into_consumer(alloc))?;
+        }
+        Ok(Body {
+            made: self.made,
+            moment: self.moment,
+            last: self.last,
+            config: self.config,
+            messages: List::from_vec(self.messages),
+            ids: List::from_vec(self.ids),
+            consumers,
+        })
     }
 
     /// Gives a sequence at a moment, with its id.
@@ -132,7 +160,7 @@ impl KeptBody {
         let Err(place) = self.place_of(&name) else {
             return Err(FoldFault::Misfit(1));
         };
-        let consumer = KeptConsumer::new(alloc, name, made, config, cursor, picks);
+        let consumer = KeptConsumer::new(name, made, config, cursor, picks, alloc);
         match self.consumers.insert(place, consumer) {
             Ok(()) => Ok(()),
             Err(_) => Err(FoldFault::NoMemory),
@@ -172,6 +200,59 @@ impl KeptBody {
 
     pub(crate) fn give_up(&mut self, name: &Blob, moment: Moment) -> Result<(), FoldFault> {
         self.consumer(name)?.give_up(moment)
+    }
+
+    /// Whether it is sound as it is stored, and within the bounds of a volume.
+    pub(crate) fn is_storable(&self, alloc: Global) -> Result<bool, NoMemory>
+        ensures value { IfOk result (λ storable. (incarnation : ℕ) → incarnation < 2 ^ 62 → (IsTrue storable ↔ IsStorable (live incarnation self.now))) }
+    {
+        if !self.is_bounded() || !are_different(alloc, &self.ids)? {
+            return Ok(false);
+        }
+        for consumer in self.consumers.iter() {
+            if !consumer.is_storable(alloc, &self.messages, self.last)? {
+                return Ok(false);
+            }
+        }
+        Ok(true)
+    }
+
+    /// Whether it has no more messages, ids and consumers than a volume may hold, and no longer ids.
+    fn is_bounded(&self) -> bool {
+        self.messages.len() <= MOST_MESSAGES
+            && self.ids.len() <= MOST_IDS
+            && self.ids.iter().all(|known| known.id.len() <= MOST_ID_BYTES)
+            && self.consumers.len() <= MOST_CONSUMERS
+    }
+
+    /// Whether the filters of its consumers match what they should, and a stream can be restored to it.
+    pub(crate) fn is_openable(&self, alloc: Global) -> Result<bool, NoMemory>
+        ensures value { IfOk result (λ openable. (incarnation : ℕ) → (IsTrue openable ↔ IsOpenable (live incarnation self.now))) }
+    {
+        for consumer in self.consumers.iter() {
+            if !consumer.is_matched(alloc, &self.messages)? {
+                return Ok(false);
+            }
+        }
+        Ok(self.rises() && self.is_settled(alloc)?)
+    }
+
+    /// Whether the moments of its messages and ids do not fall, and are none after its own.
+    fn rises(&self) -> bool {
+        rise(self.messages.iter().map(|message| message.at), self.moment)
+            && rise(self.ids.iter().map(|known| known.at), self.moment)
+    }
+
+    /// Whether its limits keep each message. So does its retention, as long as that is by limits alone.
+    fn is_settled(&self, alloc: Global) -> Result<bool, NoMemory> {
+        let config = &self.config;
+        if let Some(limit) = config.max_msgs_per_subject && !are_few_by_subject(alloc, &self.messages, limit)? {
+            return Ok(false);
+        }
+        let count = self.messages.len() as u64;
+        let is_few = config.max_msgs.is_none_or(|limit| count <= limit);
+        let is_small = config.max_bytes.is_none_or(|limit| are_small(&self.messages, limit));
+        Ok(is_few && is_small)
     }
 }
 

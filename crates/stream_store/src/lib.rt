@@ -2,6 +2,7 @@
 #![tactic(auto)]
 
 mod batches;
+mod checks;
 mod fault;
 mod folding;
 mod kept_body;
