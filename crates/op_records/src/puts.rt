@@ -70,7 +70,11 @@ pub(crate) fn put_numbers(into: &mut Vec<u8>, list: &List<u64>) -> Result<(), No
 }
 
 /// Adds the text of a stream's configuration.
-pub(crate) fn put_stream_config(alloc: Global, into: &mut Vec<u8>, config: &StreamConfig) -> Result<(), NoMemory>
+pub(crate) fn put_stream_config(
+    alloc: Global,
+    into: &mut Vec<u8>,
+    config: &StreamConfig,
+) -> Result<(), NoMemory>
     requires valid { IsTrue (is_stream_config config.now) }
     ensures ok { OnOk result (into.new.items ≡ into.old.items ++ long (stream_text config.now)) }
 {
@@ -79,7 +83,11 @@ pub(crate) fn put_stream_config(alloc: Global, into: &mut Vec<u8>, config: &Stre
 }
 
 /// Adds the text of a consumer's configuration.
-pub(crate) fn put_consumer_config(alloc: Global, into: &mut Vec<u8>, config: &ConsumerConfig) -> Result<(), NoMemory>
+pub(crate) fn put_consumer_config(
+    alloc: Global,
+    into: &mut Vec<u8>,
+    config: &ConsumerConfig,
+) -> Result<(), NoMemory>
     requires valid { IsTrue (is_consumer_config config.now) }
     ensures ok { OnOk result (into.new.items ≡ into.old.items ++ long (consumer_text config.now)) }
 {

@@ -263,7 +263,10 @@ impl<'a> Reader<'a> {
         if headers.len() + payload.len() > MOST_BYTES {
             return Err(RecordFault::BadField(begin));
         }
-        Ok((Blob::of(self.alloc, headers)?, Blob::of(self.alloc, payload)?))
+        Ok((
+            Blob::of(self.alloc, headers)?,
+            Blob::of(self.alloc, payload)?,
+        ))
     }
 
     /// A range of sequences. If its ends are out of order, the first is told.

@@ -7,7 +7,10 @@ ghost use Rattle.op_records.specs.Allowed.{is_text, is_served_config, is_record}
 ghost use Rattle.op_records.specs.Spelling.{number, short, text, long, numbers, spelled, spelled_vacant};
 ghost use Rattle.config_texts.specs.Texts.{stream_text, consumer_text};
 
-use crate::puts::{put_consumer_config, put_kind, put_long, put_name, put_numbers, put_stream_config, put_text, put_two};
+use crate::puts::{
+    put_consumer_config, put_kind, put_long, put_name, put_numbers, put_stream_config, put_text,
+    put_two,
+};
 use effects::Effect;
 use js_base::{Blob, List, Moment, NoMemory, put_bytes, put_u64};
 use js_model::{ConsumerConfig, StreamConfig};
@@ -15,18 +18,31 @@ use std::alloc::Global;
 
 // The kinds, each a record's first byte.
 const MAKE_STREAM: u8 = 1;
+
 const CHANGE_STREAM: u8 = 2;
+
 const DROP_STREAM: u8 = 3;
+
 const PUT_HERE: u8 = 4;
+
 const SKIP: u8 = 5;
+
 const REMOVE: u8 = 6;
+
 const MAKE_CONSUMER: u8 = 7;
+
 const DROP_CONSUMER: u8 = 8;
+
 const DELIVER: u8 = 9;
+
 const ACKED: u8 = 10;
+
 const DUE: u8 = 11;
+
 const GIVEN_UP: u8 = 12;
+
 const NOW: u8 = 13;
+
 const SNAP_VACANT: u8 = 32;
 
 fn put_make_stream(
@@ -44,7 +60,11 @@ fn put_make_stream(
     put_stream_config(alloc, into, config)
 }
 
-fn put_change_stream(alloc: Global, into: &mut Vec<u8>, config: &StreamConfig) -> Result<(), NoMemory>
+fn put_change_stream(
+    alloc: Global,
+    into: &mut Vec<u8>,
+    config: &StreamConfig,
+) -> Result<(), NoMemory>
     requires config { IsTrue (is_served_config config.now) }
     ensures ok { OnOk result (into.new.items ≡ into.old.items ++ 2 ∷ long (stream_text config.now)) }
 {
@@ -53,7 +73,13 @@ fn put_change_stream(alloc: Global, into: &mut Vec<u8>, config: &StreamConfig) -
 }
 
 /// Adds a kind, a sequence, its moment and its id.
-fn put_numbered(into: &mut Vec<u8>, kind: u8, seq: u64, at: Moment, id: &Blob) -> Result<(), NoMemory>
+fn put_numbered(
+    into: &mut Vec<u8>,
+    kind: u8,
+    seq: u64,
+    at: Moment,
+    id: &Blob,
+) -> Result<(), NoMemory>
     requires id { IsTrue (is_text id.now) }
     ensures ok { OnOk result (into.new.items ≡ into.old.items ++ kind ∷ (number seq ++ (number at ++ text id.now))) }
 {
@@ -63,7 +89,12 @@ fn put_numbered(into: &mut Vec<u8>, kind: u8, seq: u64, at: Moment, id: &Blob) -
 }
 
 /// Adds what a message is besides its numbers and its id.
-fn put_message(into: &mut Vec<u8>, subject: &Blob, headers: &Blob, payload: &Blob) -> Result<(), NoMemory>
+fn put_message(
+    into: &mut Vec<u8>,
+    subject: &Blob,
+    headers: &Blob,
+    payload: &Blob,
+) -> Result<(), NoMemory>
     requires subject { IsTrue (is_subject_text subject.now) }
     ensures ok { OnOk result (into.new.items ≡ into.old.items ++ (text subject.now ++ (long headers.now ++ long payload.now))) }
 {
@@ -82,7 +113,13 @@ fn put_named(into: &mut Vec<u8>, kind: u8, name: &Blob) -> Result<(), NoMemory>
 }
 
 /// Adds a kind, a consumer's name and two numbers.
-fn put_named_two(into: &mut Vec<u8>, kind: u8, name: &Blob, first: u64, second: u64) -> Result<(), NoMemory>
+fn put_named_two(
+    into: &mut Vec<u8>,
+    kind: u8,
+    name: &Blob,
+    first: u64,
+    second: u64,
+) -> Result<(), NoMemory>
     requires name { IsTrue (is_name name.now) }
     ensures ok { OnOk result (into.new.items ≡ into.old.items ++ kind ∷ (short name.now ++ (number first ++ number second))) }
 {

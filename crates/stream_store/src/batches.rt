@@ -158,7 +158,10 @@ pub(crate) fn read_batches<V: Vol>(
         return Ok(Kept::vacant(alloc, 0).into_durable()?);
     };
     let mut kept = begun(alloc, Place::behind(file, FIRST_GATE), first.as_slice())?;
-    let mut last = OpenFault::Damaged { file, at: FIRST_GATE };
+    let mut last = OpenFault::Damaged {
+        file,
+        at: FIRST_GATE,
+    };
     while let Some((records, next)) = next_batch(alloc, vol, file, log, gate)? {
         let place = Place::behind(file, gate);
         if let Some(at) = add_batch(alloc, place, records.as_slice(), &mut kept)? {

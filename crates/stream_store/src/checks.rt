@@ -88,7 +88,11 @@ pub(crate) fn rise(moments: impl Iterator<Item = Moment>, latest: Moment) -> boo
 }
 
 /// Whether each subject has at most so many messages.
-pub(crate) fn are_few_by_subject(alloc: Global, messages: &[Message], limit: u64) -> Result<bool, NoMemory> {
+pub(crate) fn are_few_by_subject(
+    alloc: Global,
+    messages: &[Message],
+    limit: u64,
+) -> Result<bool, NoMemory> {
     let mut counts: BTreeMap<&[u8], u64> = BTreeMap::new(alloc);
     for message in messages {
         let subject = message.subject.as_slice();

@@ -40,10 +40,11 @@ impl OpenFault {
     /// The fault of records that begin at an offset of this file.
     pub(crate) fn of_record(file: u32, begin: u64, fault: RecordFault) -> OpenFault {
         match fault {
-            RecordFault::Cut(at) | RecordFault::BadKind(at) | RecordFault::BadField(at) => OpenFault::Damaged {
-                file,
-                at: begin.saturating_add(at as u64),
-            },
+            RecordFault::Cut(at) | RecordFault::BadKind(at) | RecordFault::BadField(at) =>
+                OpenFault::Damaged {
+                    file,
+                    at: begin.saturating_add(at as u64),
+                },
             RecordFault::NoMemory => OpenFault::NoMemory,
         }
     }
@@ -78,7 +79,8 @@ impl CommitFault {
         match fault {
             LogFault::Fault => CommitFault::Fault,
             LogFault::Full => CommitFault::Full,
-            LogFault::NoMemory | LogFault::Damaged(_) | LogFault::UnknownVersion(_) => CommitFault::NoMemory,
+            LogFault::NoMemory | LogFault::Damaged(_) | LogFault::UnknownVersion(_) =>
+                CommitFault::NoMemory,
         }
     }
 }

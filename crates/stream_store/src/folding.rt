@@ -137,7 +137,9 @@ impl Kept {
                 config,
                 cursor,
                 picks,
-            } => self.live()?.make_consumer(alloc, name, made, config, cursor, picks),
+            } => self
+                .live()?
+                .make_consumer(alloc, name, made, config, cursor, picks),
             Effect::DropConsumer { name } => self.live()?.drop_consumer(&name),
             Effect::Deliver {
                 name,

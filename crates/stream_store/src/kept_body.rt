@@ -16,8 +16,11 @@ use std::marker::Model;
 
 /// The greatest numbers of a volume: messages, ids, bytes of an id, and consumers.
 const MOST_MESSAGES: usize = 1 << 24;
+
 const MOST_IDS: usize = 1 << 20;
+
 const MOST_ID_BYTES: usize = 256;
+
 const MOST_CONSUMERS: usize = 256;
 
 /// A stream that the records so far give. Contracts see it as what a volume holds of it.
@@ -117,7 +120,8 @@ impl KeptBody {
     pub(crate) fn remove(&mut self, low: u64, high: u64)
         ensures value { self.new ≡ removed low high self.old }
     {
-        self.messages.retain(|message| message.seq < low || high < message.seq);
+        self.messages
+            .retain(|message| message.seq < low || high < message.seq);
         for consumer in self.consumers.iter_mut() {
             consumer.forget(low, high);
         }
@@ -246,12 +250,16 @@ impl KeptBody {
     /// Whether its limits keep each message. So does its retention, as long as that is by limits alone.
     fn is_settled(&self, alloc: Global) -> Result<bool, NoMemory> {
         let config = &self.config;
-        if let Some(limit) = config.max_msgs_per_subject && !are_few_by_subject(alloc, &self.messages, limit)? {
+        if let Some(limit) = config.max_msgs_per_subject
+            && !are_few_by_subject(alloc, &self.messages, limit)?
+        {
             return Ok(false);
         }
         let count = self.messages.len() as u64;
         let is_few = config.max_msgs.is_none_or(|limit| count <= limit);
-        let is_small = config.max_bytes.is_none_or(|limit| are_small(&self.messages, limit));
+        let is_small = config
+            .max_bytes
+            .is_none_or(|limit| are_small(&self.messages, limit));
         Ok(is_few && is_small)
     }
 }

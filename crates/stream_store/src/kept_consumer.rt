@@ -98,7 +98,8 @@ impl KeptConsumer {
     pub(crate) fn end(&mut self, low: u64, high: u64)
         ensures value { self.new ≡ without (is_within low high) self.old }
     {
-        self.pending.retain(|entry| entry.seq < low || high < entry.seq);
+        self.pending
+            .retain(|entry| entry.seq < low || high < entry.seq);
         self.given_up.retain(|n| *n < low || high < *n);
     }
 
@@ -125,7 +126,10 @@ impl KeptConsumer {
 
     /// Sets the entry of a sequence, or adds one at its place.
     fn set_pending(&mut self, entry: Pending) -> Result<(), FoldFault> {
-        match self.pending.binary_search_by(|other| other.seq.cmp(&entry.seq)) {
+        match self
+            .pending
+            .binary_search_by(|other| other.seq.cmp(&entry.seq))
+        {
             Ok(place) => {
                 self.pending[place] = entry;
                 Ok(())
@@ -164,33 +168,49 @@ impl KeptConsumer {
             }
         }
         let limit = self.config.max_deliver;
-        self.pending.retain(|entry| moment < entry.due || limit != Some(entry.count));
+        self.pending
+            .retain(|entry| moment < entry.due || limit != Some(entry.count));
         let excess = self.given_up.len().saturating_sub(MOST_SEQUENCES);
         self.given_up.drain(..excess);
         Ok(())
     }
 
     /// Whether it is sound as it is stored beside these messages, of which the last sequence that was given is told, and within the bounds of a volume.
-    pub(crate) fn is_storable(&self, alloc: Global, messages: &[Message], last: u64) -> Result<bool, NoMemory> {
+    pub(crate) fn is_storable(
+        &self,
+        alloc: Global,
+        messages: &[Message],
+        last: u64,
+    ) -> Result<bool, NoMemory> {
         let pending = seqs_of(alloc, &self.pending)?;
         let lists = [&self.picks, &pending, &self.given_up];
-        Ok(self.cursor <= last.saturating_add(1)
-            && lists.iter().all(|seqs| self.are_own(messages, seqs))
-            && are_apart(&self.picks, &pending)
-            && are_apart(&self.picks, &self.given_up)
-            && are_apart(&pending, &self.given_up)
-            && self.pending.iter().all(|entry| self.is_counted(entry))
-            && (self.config.ack_policy != AckPolicy::None || (pending.is_empty() && self.given_up.is_empty())))
+        Ok(
+            self.cursor <= last.saturating_add(1)
+                && lists.iter().all(|seqs| self.are_own(messages, seqs))
+                && are_apart(&self.picks, &pending)
+                && are_apart(&self.picks, &self.given_up)
+                && are_apart(&pending, &self.given_up)
+                && self.pending.iter().all(|entry| self.is_counted(entry))
+                && (self.config.ack_policy != AckPolicy::None
+                    || (pending.is_empty() && self.given_up.is_empty())),
+        )
     }
 
     /// Whether sequences are few, ascend below the cursor, and are those of messages.
     fn are_own(&self, messages: &[Message], seqs: &[u64]) -> bool {
-        seqs.len() <= MOST_SEQUENCES && ascend_below(self.cursor, seqs) && are_stored(messages, seqs)
+        seqs.len() <= MOST_SEQUENCES
+            && ascend_below(self.cursor, seqs)
+            && are_stored(messages, seqs)
     }
 
     /// Whether an entry was delivered at least once, and no more often than the consumer delivered and than it may be.
     fn is_counted(&self, entry: &Pending) -> bool {
-        1 <= entry.count && entry.count <= self.dseq && self.config.max_deliver.is_none_or(|limit| entry.count <= limit)
+        1 <= entry.count
+            && entry.count <= self.dseq
+            && self
+                .config
+                .max_deliver
+                .is_none_or(|limit| entry.count <= limit)
     }
 
     /// Whether its filter matches the messages that it picked out, that wait or that were given up.
