@@ -3,6 +3,7 @@ pub mod Batches
 pub mod Holding
 pub mod Misfits
 pub mod Damage
+pub mod Faults
 pub mod Opening
 pub mod Finding
 pub mod Beginning

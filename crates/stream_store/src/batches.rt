@@ -1,6 +1,6 @@
 //! The open batches of a log as they are read.
 
-ghost use Rattle.std.specs.Prelude.{List, IfOk, IfErr, IsErrOf};
+ghost use Rattle.std.specs.Prelude.{◌≤◌, List, length, IfOk, IfErr, IsErrOf};
 ghost use Rattle.vol_disk.specs.Moments.{Quiet};
 ghost use Rattle.js_base.specs.Causes.{HasCause};
 ghost use Rattle.gate_log.specs.Settled.{IsSettled};
@@ -8,7 +8,7 @@ ghost use Rattle.gate_log.specs.Reading.{IsReadAt, IsSomeGate};
 ghost use Rattle.js_base.specs.Bytes.{Bytes};
 ghost use Rattle.stream_store.specs.Batches.{Begins};
 ghost use Rattle.stream_store.specs.Beginning.{IsOutsideFault};
-ghost use Rattle.stream_store.specs.Reading.{GivesIn, IsAdded, IsBatchFault, IsFirstFault, IsReadFault};
+ghost use Rattle.stream_store.specs.Reading.{AreRead, GivesIn, IsAdded, IsBatchFault, IsFirstFault, IsNext, IsNextFault, IsReadFault};
 
 use crate::fault::OpenFault;
 use crate::folding::{FoldFault, Kept};
@@ -75,7 +75,11 @@ fn add_record(
     records: &[u8],
     at: usize,
     kept: &mut Kept,
-) -> Result<usize, OpenFault> {
+) -> Result<usize, OpenFault>
+    requires within { at ≤ length records.now }
+    ensures next { IfOk result (IsNext kept.old records.now at kept.new) }
+    ensures fault { IfErr result (IsNextFault place.file place.begin kept.old records.now at) }
+{
     let (effect, behind) = match read_record(alloc, records, at) {
         Ok(read) => read,
         Err(fault) => return Err(OpenFault::of_record(place.file, place.begin, fault)),
@@ -93,7 +97,10 @@ fn add_records(
     place: Place,
     records: &[u8],
     kept: &mut Kept,
-) -> Result<Option<usize>, OpenFault> {
+) -> Result<Option<usize>, OpenFault>
+    ensures read { IfOk result (AreRead kept.old records.now kept.new) }
+    ensures fault { IfErr result (IsBatchFault place.file place.begin kept.old records.now) }
+{
     let mut last = None;
     let mut at = 0;
     while at < records.len() {

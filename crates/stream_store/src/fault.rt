@@ -1,6 +1,7 @@
 //! Why a store was not opened, or a commit not made.
 
 ghost use Rattle.std.specs.Prelude.{◌≡◌};
+ghost use Rattle.stream_store.specs.Faults.{open_fault, commit_fault};
 
 use gate_log::LogFault;
 use js_base::NoMemory;
@@ -28,7 +29,9 @@ pub enum OpenFault {
 
 impl OpenFault {
     /// The fault of a log in this file.
-    pub(crate) fn of_log(file: u32, fault: LogFault) -> OpenFault {
+    pub(crate) fn of_log(file: u32, fault: LogFault) -> OpenFault
+        ensures value { result ≡ open_fault file fault }
+    {
         match fault {
             LogFault::Fault => OpenFault::Fault,
             LogFault::Full | LogFault::NoMemory => OpenFault::NoMemory,
@@ -75,7 +78,9 @@ pub enum CommitFault {
 
 impl CommitFault {
     /// Why a batch was not appended. The faults of opening a log do not come.
-    pub(crate) fn of_log(fault: LogFault) -> CommitFault {
+    pub(crate) fn of_log(fault: LogFault) -> CommitFault
+        ensures value { result ≡ commit_fault fault }
+    {
         match fault {
             LogFault::Fault => CommitFault::Fault,
             LogFault::Full => CommitFault::Full,
