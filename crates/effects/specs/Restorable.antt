@@ -11,11 +11,19 @@ abbrev pub Rises : {X : Type 0} → (X → ℕ) → ℕ → ℕ → List X → T
 Rises f low high [] = low ≤ high
 Rises f low high (x ∷ xs) = (low ≤ f x) × Rises f (f x) high xs
 
--- no message and no id is later than the one after it or than the stream; and neither the limits nor the retention drop a message
-pub record IsRestorableStream (s : Stream) : Type 0 where
+-- no message and no id is later than the one after it, or than the last moment that the stream has seen
+pub record AreInTime (s : Stream) : Type 0 where
   pub messages : Rises (λ m. m.at) 0 s.moment s.messages
   pub ids : Rises (λ i. i.at) 0 s.moment s.ids
+
+-- and neither the limits nor the retention drop a message
+pub record IsRestorableStream (s : Stream) : Type 0 where
+  pub in_time : AreInTime s
   pub settled_is : settled s ≡ s
+
+abbrev pub IsInTime : State → Type 0
+IsInTime (Vacant i) = ⊤
+IsInTime (Live s) = AreInTime s
 
 abbrev pub IsRestorable : State → Type 0
 IsRestorable (Vacant i) = ⊤

@@ -122,10 +122,12 @@ fn add_batch(
     ensures fault { IfErr result (IsBatchFault place.file place.begin kept.old records.now) }
 {
     let last = add_records(alloc, place, records, kept)?;
-    match last {
-        Some(at) if !kept.is_storable(alloc)? => Err(place.damaged(at)),
-        Some(_) | None => Ok(last),
+    if let Some(at) = last {
+        if !kept.is_storable(alloc)? {
+            return Err(place.damaged(at));
+        }
     }
+    Ok(last)
 }
 
 /// The records of the batch behind a gate, and the next gate, or `None` at the log's end.
