@@ -1,1 +1,2 @@
 pub mod RowsOfDamage
+pub mod Behind

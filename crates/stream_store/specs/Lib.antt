@@ -10,4 +10,5 @@ pub mod Beginning
 pub mod Reading
 pub mod Base
 pub mod Committing
+pub mod Waiting
 pub mod Laws
