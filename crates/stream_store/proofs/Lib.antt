@@ -1,2 +1,3 @@
 pub mod RowsOfDamage
 pub mod Behind
+pub mod OneReading

@@ -1,0 +1,77 @@
+-- The batches of a log give one thing, and an image holds one thing.
+use Rattle.std.proofs.Common.{◌≡◌, ℕ, ◌+◌, ◌≤◌, Bool, cond, List, [], ◌∷◌, Some, None, Ok, Err, length, take, drop, refl, sym, ap, ◌∙◌, subst, arith}
+use Rattle.std.specs.Prelude.{nat_le}
+use Rattle.std.specs.Int.{w8, from_be_bytes}
+use Rattle.std.proofs.lemmas.Bool.{false_from_ne_true, leb-true}
+use Rattle.vol_disk.specs.Disk.{Files}
+use Rattle.js_base.specs.Bytes.{Bytes}
+use Rattle.js_base.specs.Numbers.{number_at}
+use Rattle.gate_log.proofs.OneReading.{law}
+use Rattle.effects.specs.declared.durable.Durable.{Durable}
+use Rattle.effects.specs.declared.effect.Effect.{Effect}
+use Rattle.effects.specs.Folding.{vacant, fold_all}
+use Rattle.op_records.specs.Reading.{Stand, record_at}
+use Rattle.op_records.specs.declared.fault.RecordFault.TheVariants.{Cut}
+use Rattle.stream_store.specs.Logs.{LogIn, HasLog, HasLogs, current}
+use Rattle.stream_store.specs.Batches.{Adds, AddAll, Begins, Gives}
+use Rattle.stream_store.specs.Holding.{Holds}
+
+-- ---- records
+
+-- no record begins where the bytes end
+pub none_at_end : (bytes : Bytes) → record_at bytes (length bytes) ≡ Err (Cut (length bytes))
+unfolding record_at
+none_at_end bytes = rw (no_byte) refl
+  where
+    no_byte : number_at w8 bytes (length bytes) ≡ None
+    no_byte =
+        ap (λ (b : Bool). cond b (Some (from_be_bytes w8 (take 1 (drop (length bytes) bytes)))) None)
+        (false_from_ne_true (nat_le (length bytes + 1) (length bytes)) (λ e. let q : length bytes + 1 ≤ length bytes = leb-true (length bytes + 1) (length bytes) e in absurd (omega arith)))
+
+stand_same : (bytes : Bytes) (at : ℕ) (es fs : List Effect) → Stand bytes at es (length bytes) → Stand bytes at fs (length bytes) → es ≡ fs
+stand_same bytes at [] [] h k = refl
+stand_same bytes at [] (f ∷ fs) h (behind, reads, rest) = let e = none_at_end bytes in let q = subst (λ (n : ℕ). record_at bytes n ≡ Ok (f, behind)) h reads in absurd (cc)
+stand_same bytes at (e ∷ es) [] (behind, reads, rest) k = let n = none_at_end bytes in let q = subst (λ (n : ℕ). record_at bytes n ≡ Ok (e, behind)) k reads in absurd (cc)
+stand_same bytes at (e ∷ es) (f ∷ fs) (b, reads, rest) (c, others, more) =
+    let same : Ok (e, b) ≡ Ok (f, c) = sym reads ∙ others in
+    let first : e ≡ f = cc in
+    let place : b ≡ c = cc in
+    ap (λ (x : Effect). x ∷ es) first ∙ ap (λ (l : List Effect). f ∷ l) (stand_same bytes c es fs (subst (λ (n : ℕ). Stand bytes n es (length bytes)) place rest) more)
+
+-- ---- batches
+
+begins_same : (bytes : Bytes) (d e : Durable) → Begins bytes d → Begins bytes e → d ≡ e
+begins_same bytes d e h k =
+    let same : Ok (h.incarnation, length bytes) ≡ Ok (k.incarnation, length bytes) = sym h.reads ∙ k.reads in
+    let number : h.incarnation ≡ k.incarnation = cc in
+    h.begun_is ∙ ap vacant number ∙ sym k.begun_is
+
+adds_same : (old : Durable) (bytes : Bytes) (d e : Durable) → Adds old bytes d → Adds old bytes e → d ≡ e
+adds_same old bytes d e h k =
+    let effects = stand_same bytes 0 h.effects k.effects h.records k.records in
+    let same : Some d ≡ Some e = sym h.folded ∙ ap (λ (es : List Effect). fold_all es (Some old)) effects ∙ k.folded in
+    cc
+
+add_all_same : (old : Durable) (batches : List Bytes) (d e : Durable) → AddAll old batches d → AddAll old batches e → d ≡ e
+add_all_same old [] d e h k = sym h ∙ k
+add_all_same old (batch ∷ batches) d e (b, first, rest) (c, other, more) =
+    add_all_same c batches d e (subst (λ (x : Durable). AddAll x batches d) (adds_same old batch b c first other) rest) more
+
+pub gives_same : (batches : List Bytes) (d e : Durable) → Gives batches d → Gives batches e → d ≡ e
+gives_same [] d e h k = h ∙ sym k
+gives_same (first ∷ later) d e (b, begins, rest) (c, begun, more) =
+    add_all_same c later d e (subst (λ (x : Durable). AddAll x later d) (begins_same first b c begins begun) rest) more
+
+-- ---- images
+
+pub log_same : (bytes : Bytes) (a b : LogIn) → HasLog bytes a → HasLog bytes b → a ≡ b
+log_same bytes a b h k =
+    ap (λ g. record { generation = g; batches = a.batches }) (law.one_generation bytes a.generation b.generation a.batches b.batches h k)
+    ∙ ap (λ l. record { generation = b.generation; batches = l }) (law.one_list bytes a.generation b.generation a.batches b.batches h k)
+
+pub holds_same : (image : Files) (d e : Durable) → Holds image d → Holds image e → d ≡ e
+holds_same image d e h k =
+    let zero = log_same (image 0) h.zero k.zero h.logs.in_zero k.logs.in_zero in
+    let one = log_same (image 1) h.one k.one h.logs.in_one k.logs.in_one in
+    let log : current h.zero h.one ≡ current k.zero k.one = ap (λ (l : LogIn). current l h.one) zero ∙ ap (λ (l : LogIn). current k.zero l) one in
+    gives_same (current k.zero k.one).batches d e (subst (λ (l : LogIn). Gives l.batches d) log h.gives) k.gives
