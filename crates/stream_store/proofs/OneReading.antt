@@ -1,5 +1,5 @@
 -- The batches of a log give one thing, and an image holds one thing.
-use Rattle.std.proofs.Common.{◌≡◌, ℕ, ◌+◌, ◌≤◌, Bool, cond, List, [], ◌∷◌, Some, None, Ok, Err, length, take, drop, refl, sym, ap, ◌∙◌, subst, arith}
+use Rattle.std.proofs.Common.{◌≡◌, ◌⊎◌, inl, inr, ℕ, ◌+◌, ◌≤◌, Bool, cond, List, [], ◌∷◌, Some, None, Ok, Err, length, take, drop, refl, sym, ap, ◌∙◌, subst, arith}
 use Rattle.std.specs.Prelude.{nat_le}
 use Rattle.std.specs.Int.{w8, from_be_bytes}
 use Rattle.std.proofs.lemmas.Bool.{false_from_ne_true, leb-true}
@@ -15,6 +15,8 @@ use Rattle.op_records.specs.declared.fault.RecordFault.TheVariants.{Cut}
 use Rattle.stream_store.specs.Logs.{LogIn, HasLog, HasLogs, current}
 use Rattle.stream_store.specs.Batches.{Adds, AddAll, Begins, Gives}
 use Rattle.stream_store.specs.Holding.{Holds}
+use Rattle.stream_store.specs.Damage.{IsDamaged, IsOfAnotherVersion}
+use Rattle.gate_log.specs.Faults.{IsDamagedAt, IsOfUnknownVersion}
 
 -- ---- records
 
@@ -75,3 +77,23 @@ holds_same image d e h k =
     let one = log_same (image 1) h.one k.one h.logs.in_one k.logs.in_one in
     let log : current h.zero h.one ≡ current k.zero k.one = ap (λ (l : LogIn). current l h.one) zero ∙ ap (λ (l : LogIn). current k.zero l) one in
     gives_same (current k.zero k.one).batches d e (subst (λ (l : LogIn). Gives l.batches d) log h.gives) k.gives
+
+-- ---- faults of the logs
+
+pub known : (image : Files) (zero one : LogIn) (n : ℕ) → HasLogs image zero one → IsOfAnotherVersion image n → ⊥
+known image zero one n h (file, bad) = go bad.which
+  where
+    go : ((file ≡ 0) × IsOfUnknownVersion (image 0) n) ⊎ ((file ≡ 1) × (((z : LogIn) × HasLog (image 0) z) × IsOfUnknownVersion (image 1) n)) → ⊥
+    go (inl (is, v)) = law.known (image 0) zero.generation zero.batches n h.in_zero v
+    go (inr (is, (z, v))) = law.known (image 1) one.generation one.batches n h.in_one v
+
+pub one_fault : (image : Files) (file at n : ℕ) → IsDamaged image file at → IsOfAnotherVersion image n → ⊥
+one_fault image file at n (inr bad) k = known image bad.zero bad.one n bad.logs k
+one_fault image file at n (inl bad) (other, version) = go bad.which version.which
+  where
+    go : ((file ≡ 0) × IsDamagedAt (image 0) at) ⊎ ((file ≡ 1) × (((z : LogIn) × HasLog (image 0) z) × IsDamagedAt (image 1) at))
+        → ((other ≡ 0) × IsOfUnknownVersion (image 0) n) ⊎ ((other ≡ 1) × (((z : LogIn) × HasLog (image 0) z) × IsOfUnknownVersion (image 1) n)) → ⊥
+    go (inl (is, d)) (inl (too, v)) = law.one_fault (image 0) at n d v
+    go (inl (is, d)) (inr (too, ((z, log), v))) = law.whole (image 0) z.generation z.batches at log d
+    go (inr (is, ((z, log), d))) (inl (too, v)) = law.known (image 0) z.generation z.batches n log v
+    go (inr (is, ((z, log), d))) (inr (too, (w, v))) = law.one_fault (image 1) at n d v
