@@ -6,7 +6,7 @@ use Rattle.effects.specs.declared.effect.Effect.{Effect}
 use Rattle.effects.specs.Folding.{then_fold, fold_all}
 use Rattle.stream_store.specs.Waiting.{LawWaiting}
 
-fold_append : (es fs : List Effect) (d : Option Durable) → fold_all (es ++ fs) d ≡ fold_all fs (fold_all es d)
+pub fold_append : (es fs : List Effect) (d : Option Durable) → fold_all (es ++ fs) d ≡ fold_all fs (fold_all es d)
 fold_append [] fs d = refl
 fold_append (e ∷ es) fs d = fold_append es fs (then_fold d e)
 

@@ -1,3 +1,4 @@
 pub mod RowsOfDamage
 pub mod Behind
 pub mod OneReading
+pub mod NoDamage

@@ -42,7 +42,7 @@ stand_same bytes at (e ∷ es) (f ∷ fs) (b, reads, rest) (c, others, more) =
 
 -- ---- batches
 
-begins_same : (bytes : Bytes) (d e : Durable) → Begins bytes d → Begins bytes e → d ≡ e
+pub begins_same : (bytes : Bytes) (d e : Durable) → Begins bytes d → Begins bytes e → d ≡ e
 begins_same bytes d e h k =
     let same : Ok (h.incarnation, length bytes) ≡ Ok (k.incarnation, length bytes) = sym h.reads ∙ k.reads in
     let number : h.incarnation ≡ k.incarnation = cc in
@@ -54,7 +54,7 @@ adds_same old bytes d e h k =
     let same : Some d ≡ Some e = sym h.folded ∙ ap (λ (es : List Effect). fold_all es (Some old)) effects ∙ k.folded in
     cc
 
-add_all_same : (old : Durable) (batches : List Bytes) (d e : Durable) → AddAll old batches d → AddAll old batches e → d ≡ e
+pub add_all_same : (old : Durable) (batches : List Bytes) (d e : Durable) → AddAll old batches d → AddAll old batches e → d ≡ e
 add_all_same old [] d e h k = sym h ∙ k
 add_all_same old (batch ∷ batches) d e (b, first, rest) (c, other, more) =
     add_all_same c batches d e (subst (λ (x : Durable). AddAll x batches d) (adds_same old batch b c first other) rest) more
