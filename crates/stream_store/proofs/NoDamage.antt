@@ -1,5 +1,5 @@
 -- Where batches give something, none of them is wrong.
-use Rattle.std.proofs.Common.{◌≡◌, ◌≢◌, ◌⊎◌, inl, inr, ℕ, suc, ◌<◌, List, [], ◌∷◌, ◌++◌, Some, None, Ok, Err, length, refl, sym, ap, ◌∙◌, subst, arith}
+use Rattle.std.proofs.Common.{◌≡◌, ◌⊎◌, inl, inr, ℕ, suc, ◌<◌, List, [], ◌∷◌, ◌++◌, Some, None, Ok, Err, length, refl, sym, ap, ◌∙◌, subst, arith}
 use Rattle.std.specs.Prelude.{All}
 use Rattle.vol_disk.specs.Disk.{Files}
 use Rattle.js_base.specs.Bytes.{Bytes}
@@ -9,11 +9,10 @@ use Rattle.effects.specs.declared.durable.Durable.{Durable}
 use Rattle.effects.specs.declared.effect.Effect.{Effect}
 use Rattle.effects.specs.Folding.{fold, fold_all}
 use Rattle.op_records.specs.Reading.{Stand, record_at, vacant_field, vacant_record}
-use Rattle.op_records.specs.declared.fault.RecordFault.{RecordFault}
-use Rattle.stream_store.specs.Logs.{LogIn, HasLog, current}
+use Rattle.stream_store.specs.Logs.{LogIn, current}
 use Rattle.stream_store.specs.Batches.{IsStorable, Adds, AddAll, Begins, Gives}
 use Rattle.stream_store.specs.Holding.{IsOpenable, Holds}
-use Rattle.stream_store.specs.Damage.{IsAt, IsFolded, IsMisread, IsMisfit, IsLast, IsUnstorable, HasBadRecord, IsBadFirst, IsBadLater, IsBadEnd, HasBadBatch, IsDamaged, offset}
+use Rattle.stream_store.specs.Damage.{IsFolded, IsMisread, IsMisfit, IsLast, HasBadRecord, IsEmptyFirst, IsWrongFirst, IsBadFirst, IsBadLater, IsBadEnd, HasBadBatch, IsSomeLog, IsDamaged}
 use Rattle.stream_store.proofs.OneReading.{none_at_end, begins_same, add_all_same, log_same}
 use Rattle.stream_store.proofs.Behind.{fold_append}
 
@@ -141,11 +140,10 @@ module _ (batches : List Bytes) (d : Durable) (gives : Gives batches d) (openabl
   no_bad_first : (at : ℕ) → IsBadFirst batches at → ⊥
   no_bad_first at f = go (subst (λ (l : List Bytes). Gives l d) f.batches_are gives) f.bad
     where
-      go : (b : Durable) × Begins f.first b × AddAll b f.later d
-          → ((f.first ≡ []) × (at ≡ 16)) ⊎ ((f.first ≢ []) × ((fault : RecordFault) × (place : ℕ) × (vacant_field f.first 0 ≡ Err fault) × IsAt fault place × (at ≡ offset [] place))) → ⊥
+      go : (b : Durable) × Begins f.first b × AddAll b f.later d → IsEmptyFirst f.first at ⊎ IsWrongFirst f.first at → ⊥
       unfolding vacant_field vacant_record
-      go (b, begins, adds) (inl (empty, is)) = let reads = subst (λ (l : Bytes). vacant_field l 0 ≡ Ok (begins.incarnation, length l)) empty begins.reads in absurd (cc)
-      go (b, begins, adds) (inr (some, (fault, (place, (wrong, is))))) = let reads = begins.reads in absurd (cc)
+      go (b, begins, adds) (inl e) = let reads = subst (λ (l : Bytes). vacant_field l 0 ≡ Ok (begins.incarnation, length l)) e.empty begins.reads in absurd (cc)
+      go (b, begins, adds) (inr w) = let reads = begins.reads in let wrong = w.wrong in absurd (cc)
 
   no_bad_later : (at : ℕ) → IsBadLater batches at → ⊥
   no_bad_later at l =
@@ -171,7 +169,7 @@ module _ (batches : List Bytes) (d : Durable) (gives : Gives batches d) (openabl
 pub no_damage : (image : Files) (d : Durable) (file at : ℕ) → Holds image d → IsDamaged image file at → ⊥
 no_damage image d file at h (inl bad) = go bad.which
   where
-    go : ((file ≡ 0) × IsDamagedAt (image 0) at) ⊎ ((file ≡ 1) × (((z : LogIn) × HasLog (image 0) z) × IsDamagedAt (image 1) at)) → ⊥
+    go : ((file ≡ 0) × IsDamagedAt (image 0) at) ⊎ ((file ≡ 1) × (IsSomeLog (image 0) × IsDamagedAt (image 1) at)) → ⊥
     go (inl (is, damage)) = law.whole (image 0) h.zero.generation h.zero.batches at h.logs.in_zero damage
     go (inr (is, (z, damage))) = law.whole (image 1) h.one.generation h.one.batches at h.logs.in_one damage
 no_damage image d file at h (inr bad) =

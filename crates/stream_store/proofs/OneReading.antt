@@ -15,7 +15,7 @@ use Rattle.op_records.specs.declared.fault.RecordFault.TheVariants.{Cut}
 use Rattle.stream_store.specs.Logs.{LogIn, HasLog, HasLogs, current}
 use Rattle.stream_store.specs.Batches.{Adds, AddAll, Begins, Gives}
 use Rattle.stream_store.specs.Holding.{Holds}
-use Rattle.stream_store.specs.Damage.{IsDamaged, IsOfAnotherVersion}
+use Rattle.stream_store.specs.Damage.{IsSomeLog, IsDamaged, IsOfAnotherVersion}
 use Rattle.gate_log.specs.Faults.{IsDamagedAt, IsOfUnknownVersion}
 
 -- ---- records
@@ -83,7 +83,7 @@ holds_same image d e h k =
 pub known : (image : Files) (zero one : LogIn) (n : ℕ) → HasLogs image zero one → IsOfAnotherVersion image n → ⊥
 known image zero one n h (file, bad) = go bad.which
   where
-    go : ((file ≡ 0) × IsOfUnknownVersion (image 0) n) ⊎ ((file ≡ 1) × (((z : LogIn) × HasLog (image 0) z) × IsOfUnknownVersion (image 1) n)) → ⊥
+    go : ((file ≡ 0) × IsOfUnknownVersion (image 0) n) ⊎ ((file ≡ 1) × (IsSomeLog (image 0) × IsOfUnknownVersion (image 1) n)) → ⊥
     go (inl (is, v)) = law.known (image 0) zero.generation zero.batches n h.in_zero v
     go (inr (is, (z, v))) = law.known (image 1) one.generation one.batches n h.in_one v
 
@@ -91,8 +91,8 @@ pub one_fault : (image : Files) (file at n : ℕ) → IsDamaged image file at �
 one_fault image file at n (inr bad) k = known image bad.zero bad.one n bad.logs k
 one_fault image file at n (inl bad) (other, version) = go bad.which version.which
   where
-    go : ((file ≡ 0) × IsDamagedAt (image 0) at) ⊎ ((file ≡ 1) × (((z : LogIn) × HasLog (image 0) z) × IsDamagedAt (image 1) at))
-        → ((other ≡ 0) × IsOfUnknownVersion (image 0) n) ⊎ ((other ≡ 1) × (((z : LogIn) × HasLog (image 0) z) × IsOfUnknownVersion (image 1) n)) → ⊥
+    go : ((file ≡ 0) × IsDamagedAt (image 0) at) ⊎ ((file ≡ 1) × (IsSomeLog (image 0) × IsDamagedAt (image 1) at))
+        → ((other ≡ 0) × IsOfUnknownVersion (image 0) n) ⊎ ((other ≡ 1) × (IsSomeLog (image 0) × IsOfUnknownVersion (image 1) n)) → ⊥
     go (inl (is, d)) (inl (too, v)) = law.one_fault (image 0) at n d v
     go (inl (is, d)) (inr (too, ((z, log), v))) = law.whole (image 0) z.generation z.batches at log d
     go (inr (is, ((z, log), d))) (inl (too, v)) = law.known (image 0) z.generation z.batches n log v

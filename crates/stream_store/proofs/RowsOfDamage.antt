@@ -13,10 +13,10 @@ use Rattle.stream_store.specs.Misfits.{misfit}
 -- of the one byte 255
 no_start : IsBadFirst ((255 ∷ []) ∷ []) 21
 unfolding vacant_field vacant_record
-no_start = record { first = 255 ∷ []; later = []; batches_are = refl; bad = inr ((λ is. absurd (cc)), (BadKind 0, 0, refl, refl, refl)) }
+no_start = record { first = 255 ∷ []; later = []; batches_are = refl; bad = inr (record { some = λ is. absurd (cc); fault = BadKind 0; place = 0; wrong = refl; told = refl; here = refl }) }
 
 without_records : IsBadFirst ([] ∷ []) 16
-without_records = record { first = []; later = []; batches_are = refl; bad = inl (refl, refl) }
+without_records = record { first = []; later = []; batches_are = refl; bad = inl (record { empty = refl; here = refl }) }
 
 -- ---- the field of a record that does not fit
 

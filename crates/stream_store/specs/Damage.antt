@@ -74,12 +74,25 @@ HasBadRecord old bytes at = IsMisread old bytes at ⊎ (IsMisfit old bytes at �
 abbrev pub offset : List Bytes → ℕ → ℕ
 offset front place = end_of front + 5 + place
 
--- the first batch has no record, which is told at its gate, or is none with which a log begins
+-- a first batch without records, which is told at its gate
+pub record IsEmptyFirst (first : Bytes) (at : ℕ) : Type 0 where
+  pub empty : first ≡ []
+  pub here : at ≡ end_of []
+
+-- a first batch that is no record with which a log begins
+pub record IsWrongFirst (first : Bytes) (at : ℕ) : Type 0 where
+  pub some : first ≢ []
+  pub fault : RecordFault
+  pub place : ℕ
+  pub wrong : vacant_field first 0 ≡ Err fault
+  pub told : IsAt fault place
+  pub here : at ≡ offset [] place
+
 pub record IsBadFirst (batches : List Bytes) (at : ℕ) : Type 0 where
   pub first : Bytes
   pub later : List Bytes
   pub batches_are : batches ≡ first ∷ later
-  pub bad : ((first ≡ []) × (at ≡ end_of [])) ⊎ ((first ≢ []) × ((fault : RecordFault) × (place : ℕ) × (vacant_field first 0 ≡ Err fault) × IsAt fault place × (at ≡ offset [] place)))
+  pub bad : IsEmptyFirst first at ⊎ IsWrongFirst first at
 
 -- a later batch has a record that is wrong
 pub record IsBadLater (batches : List Bytes) (at : ℕ) : Type 0 where
@@ -120,9 +133,12 @@ HasBadBatch batches at = IsBadFirst batches at ⊎ (IsBadLater batches at ⊎ Is
 
 -- ---- in an image
 
+abbrev pub IsSomeLog : Bytes → Type 0
+IsSomeLog bytes = (log : LogIn) × HasLog bytes log
+
 -- the first log has a fault, or else the second one
 pub record IsBadLog (image : Files) (file : ℕ) (HasFault : Bytes → Type 0) : Type 0 where
-  pub which : ((file ≡ 0) × HasFault (image 0)) ⊎ ((file ≡ 1) × (((zero : LogIn) × HasLog (image 0) zero) × HasFault (image 1)))
+  pub which : ((file ≡ 0) × HasFault (image 0)) ⊎ ((file ≡ 1) × (IsSomeLog (image 0) × HasFault (image 1)))
 
 -- both are logs, and the current one has a batch that is wrong
 pub record IsBadVolume (image : Files) (file at : ℕ) : Type 0 where
