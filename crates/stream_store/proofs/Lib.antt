@@ -2,3 +2,4 @@ pub mod RowsOfDamage
 pub mod Behind
 pub mod OneReading
 pub mod NoDamage
+pub mod OneDamage

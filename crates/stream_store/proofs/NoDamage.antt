@@ -24,7 +24,7 @@ record IsRest (bytes : Bytes) (here : ℕ) (all front : List Effect) : Type 0 wh
   all_are : all ≡ front ++ rest
   stand : Stand bytes here rest (length bytes)
 
-no_record : {A : Type 0} (bytes : Bytes) (at : ℕ) (effect : Effect) (behind : ℕ) → at ≡ length bytes → record_at bytes at ≡ Ok (effect, behind) → A
+pub no_record : {A : Type 0} (bytes : Bytes) (at : ℕ) (effect : Effect) (behind : ℕ) → at ≡ length bytes → record_at bytes at ≡ Ok (effect, behind) → A
 no_record bytes at effect behind e reads =
     let none = none_at_end bytes in let q = subst (λ (n : ℕ). record_at bytes n ≡ Ok (effect, behind)) e reads in absurd (cc)
 
@@ -38,7 +38,7 @@ rest_of bytes at here (e ∷ all) (f ∷ front) (b, reads, h) (c, others, k) =
     let r = rest_of bytes c here all front (subst (λ (n : ℕ). Stand bytes n all (length bytes)) place h) k in
     record { rest = r.rest; all_are = ap (λ (x : Effect). x ∷ all) first ∙ ap (λ (l : List Effect). f ∷ l) r.all_are; stand = r.stand }
 
-fold_none : (es : List Effect) → fold_all es None ≡ None
+pub fold_none : (es : List Effect) → fold_all es None ≡ None
 fold_none [] = refl
 fold_none (e ∷ es) = fold_none es
 
