@@ -3,3 +3,4 @@ pub mod Behind
 pub mod OneReading
 pub mod NoDamage
 pub mod OneDamage
+pub mod OneVolume

@@ -102,14 +102,14 @@ module _ (old : Durable) (bytes : Bytes) (new : Durable) (adds : Adds old bytes 
 -- ---- batches
 
 -- the batches up to one, that one, and those behind it
-record IsCut (begun : Durable) (front : List Bytes) (bytes : Bytes) (rest : List Bytes) (end : Durable) : Type 0 where
-  before : Durable
-  after : Durable
-  led : AddAll begun front before
-  adds : Adds before bytes after
-  leads : AddAll after rest end
+pub record IsCut (begun : Durable) (front : List Bytes) (bytes : Bytes) (rest : List Bytes) (end : Durable) : Type 0 where
+  pub before : Durable
+  pub after : Durable
+  pub led : AddAll begun front before
+  pub adds : Adds before bytes after
+  pub leads : AddAll after rest end
 
-cut : (begun : Durable) (front : List Bytes) (bytes : Bytes) (rest : List Bytes) (end : Durable) → AddAll begun (front ++ bytes ∷ rest) end → IsCut begun front bytes rest end
+pub cut : (begun : Durable) (front : List Bytes) (bytes : Bytes) (rest : List Bytes) (end : Durable) → AddAll begun (front ++ bytes ∷ rest) end → IsCut begun front bytes rest end
 cut begun [] bytes rest end (after, adds, leads) = record { before = begun; after = after; led = refl; adds = adds; leads = leads }
 cut begun (b ∷ front) bytes rest end (mid, adds, leads) =
     let c = cut mid front bytes rest end leads in

@@ -8,7 +8,7 @@ use Rattle.op_records.specs.Reading.{Stand, record_at}
 use Rattle.op_records.specs.declared.fault.RecordFault.{RecordFault}
 use Rattle.op_records.specs.declared.fault.RecordFault.TheVariants.{Cut, BadKind, BadField, NoMemory as OutOfMemory}
 use Rattle.stream_store.specs.Misfits.{misfit}
-use Rattle.stream_store.specs.Damage.{IsAt, IsFolded, HasBadRecord}
+use Rattle.stream_store.specs.Damage.{IsAt, IsFolded, IsLast, HasBadRecord}
 use Rattle.stream_store.proofs.NoDamage.{no_record, fold_none}
 
 -- what is wrong at a place: no record, one that does not fit, or the last one
@@ -52,7 +52,7 @@ not_before bytes here mid at (ending effect new reads fits place) f (g ∷ rest)
     let behind : b ≡ length bytes = cc in
     no_record bytes b g c behind more
 
-same_place : (fault : RecordFault) (at other : ℕ) → IsAt fault at → IsAt fault other → at ≡ other
+pub same_place : (fault : RecordFault) (at other : ℕ) → IsAt fault at → IsAt fault other → at ≡ other
 same_place (Cut place) at other h k = h ∙ sym k
 same_place (BadKind place) at other h k = h ∙ sym k
 same_place (BadField place) at other h k = h ∙ sym k
@@ -110,3 +110,9 @@ one_bad_record old bytes at other h k =
     let s = stops old bytes at h in
     let t = stops old bytes other k in
     same_stop bytes 0 s.here t.here old s.mid t.mid s.so_far.effects t.so_far.effects at other s.so_far.stand t.so_far.stand s.so_far.folded t.so_far.folded s.wrong t.wrong
+
+-- the last record that fits is one
+pub one_last : (old : Durable) (bytes : Bytes) (here there : ℕ) (new newer : Durable) → IsLast old bytes here new → IsLast old bytes there newer → here ≡ there
+one_last old bytes here there new newer h k =
+    same_stop bytes 0 here there old h.mid k.mid h.so_far.effects k.so_far.effects here there h.so_far.stand k.so_far.stand h.so_far.folded k.so_far.folded
+    (ending h.effect new h.reads h.fits refl) (ending k.effect newer k.reads k.fits refl)

@@ -48,7 +48,7 @@ begins_same bytes d e h k =
     let number : h.incarnation ≡ k.incarnation = cc in
     h.begun_is ∙ ap vacant number ∙ sym k.begun_is
 
-adds_same : (old : Durable) (bytes : Bytes) (d e : Durable) → Adds old bytes d → Adds old bytes e → d ≡ e
+pub adds_same : (old : Durable) (bytes : Bytes) (d e : Durable) → Adds old bytes d → Adds old bytes e → d ≡ e
 adds_same old bytes d e h k =
     let effects = stand_same bytes 0 h.effects k.effects h.records k.records in
     let same : Some d ≡ Some e = sym h.folded ∙ ap (λ (es : List Effect). fold_all es (Some old)) effects ∙ k.folded in
