@@ -1,8 +1,7 @@
 -- The batches of a log give one thing, and an image holds one thing.
-use Rattle.std.proofs.Common.{◌≡◌, ◌⊎◌, inl, inr, ℕ, ◌+◌, ◌≤◌, Bool, cond, List, [], ◌∷◌, Some, None, Ok, Err, length, take, drop, refl, sym, ap, ◌∙◌, subst, arith}
-use Rattle.std.specs.Prelude.{nat_le}
-use Rattle.std.specs.Int.{w8, from_be_bytes}
-use Rattle.std.proofs.lemmas.Bool.{false_from_ne_true, leb-true}
+use Rattle.std.proofs.Common.{◌≡◌, ◌⊎◌, inl, inr, ℕ, List, [], ◌∷◌, Option, Some, None, Ok, Err, length, refl, sym, ap, ◌∙◌, subst, arith}
+use Rattle.std.specs.Int.{w8}
+use Rattle.std.proofs.lemmas.Bool.Decides.{nat_tests}
 use Rattle.vol_disk.specs.Disk.{Files}
 use Rattle.js_base.specs.Bytes.{Bytes}
 use Rattle.js_base.specs.Numbers.{number_at}
@@ -10,7 +9,9 @@ use Rattle.gate_log.proofs.OneReading.{law}
 use Rattle.effects.specs.declared.durable.Durable.{Durable}
 use Rattle.effects.specs.declared.effect.Effect.{Effect}
 use Rattle.effects.specs.Folding.{vacant, fold_all}
-use Rattle.op_records.specs.Reading.{Stand, record_at}
+use Rattle.op_records.specs.Steps.{continued}
+use Rattle.op_records.specs.Fields.{number_told}
+use Rattle.op_records.specs.Reading.{Stand, of_kind, record_at}
 use Rattle.op_records.specs.declared.fault.RecordFault.TheVariants.{Cut}
 use Rattle.stream_store.specs.Logs.{LogIn, HasLog, HasLogs, current}
 use Rattle.stream_store.specs.Batches.{Adds, AddAll, Begins, Gives}
@@ -23,12 +24,10 @@ use Rattle.gate_log.specs.Faults.{IsDamagedAt, IsOfUnknownVersion}
 -- no record begins where the bytes end
 pub none_at_end : (bytes : Bytes) → record_at bytes (length bytes) ≡ Err (Cut (length bytes))
 unfolding record_at
-none_at_end bytes = rw (no_byte) refl
+none_at_end bytes = ap (λ (o : Option ℕ). continued bytes (λ (kind : ℕ). of_kind (length bytes) kind) (number_told w8 (length bytes) o)) no_byte
   where
     no_byte : number_at w8 bytes (length bytes) ≡ None
-    no_byte =
-        ap (λ (b : Bool). cond b (Some (from_be_bytes w8 (take 1 (drop (length bytes) bytes)))) None)
-        (false_from_ne_true (nat_le (length bytes + 1) (length bytes)) (λ e. let q : length bytes + 1 ≤ length bytes = leb-true (length bytes + 1) (length bytes) e in absurd (omega arith)))
+    no_byte = grind (arith, nat_tests)
 
 stand_same : (bytes : Bytes) (at : ℕ) (es fs : List Effect) → Stand bytes at es (length bytes) → Stand bytes at fs (length bytes) → es ≡ fs
 stand_same bytes at [] [] h k = refl
