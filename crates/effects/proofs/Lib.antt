@@ -13,3 +13,4 @@ pub mod Falling
 pub mod Resting
 pub mod Unwritten
 pub mod RowsOfRecords
+pub mod Rising

@@ -1,5 +1,5 @@
 -- What the records of a publish make of what a volume holds.
-use Rattle.std.proofs.Common.{◌≡◌, ℕ, ◌+◌, Bool, true, false, ◌||◌, not, cond, List, [], ◌∷◌, ◌++◌, map, refl, sym, ap, ◌∙◌, subst, arith}
+use Rattle.std.proofs.Common.{◌≡◌, ℕ, ◌+◌, Bool, true, false, ◌&&◌, ◌||◌, not, cond, List, [], ◌∷◌, ◌++◌, map, refl, sym, ap, ◌∙◌, subst, arith}
 use Rattle.std.specs.Prelude.{Option, Some, None, filter, ◌==◌}
 use Rattle.std.proofs.lemmas.Bool.{true≢false, eq-eqb, eqb-true, not-true}
 use Rattle.std.proofs.lemmas.List.{append-nil}
@@ -30,7 +30,7 @@ use Rattle.effects.specs.declared.durable.Body.{Body}
 use Rattle.effects.specs.declared.durable.Durable.{Durable}
 use Rattle.effects.specs.declared.effect.Effect.TheVariants.{PutHere, Skip}
 use Rattle.effects.specs.Durables.{body_of, durable_of}
-use Rattle.effects.specs.Folding.{live, put, numbered, holding, keeping, fold_all}
+use Rattle.effects.specs.Folding.{live, is_next, put, numbered, holding, keeping, fold_all}
 use Rattle.effects.specs.Effects.{is_skipped, publish_effects, published_skipped, settle_effects}
 use Rattle.effects.specs.Laws.{Leads}
 use Rattle.effects.proofs.Removing.{is_there, keeping_all, keeping_agree, fold_settled, leads_settled}
@@ -41,10 +41,13 @@ module _ (a : Stream) (p : Publish) (h : IsSoundStream a) (k : IsSoundStream (wi
   abbrev stored : Stream
   stored = record a { messages = a.messages ++ message_of a p ∷ []; last = a.last + 1 }
 
+  is_next_own : is_next (a.last + 1) a.moment (body_of a) ≡ true
+  is_next_own = ap (λ (b : Bool). b && (a.moment == a.moment)) (eq-eqb (a.last + 1) (a.last + 1) refl) ∙ eq-eqb a.moment a.moment refl
+
   -- ---- a message that is kept
 
   leads_put : Leads (Live a) (PutHere (a.last + 1) a.moment p.wants.id p.subject p.headers p.payload ∷ []) (Live (with_message a p))
-  leads_put = ap (λ (b : Bool). cond b (Some (live a.incarnation (put (message_of a p) p.wants.id (body_of a)))) None) (eq-eqb (a.last + 1) (a.last + 1) refl) ∙ go p.wants.id
+  leads_put = ap (λ (b : Bool). cond b (Some (live a.incarnation (put (message_of a p) p.wants.id (body_of a)))) None) is_next_own ∙ go p.wants.id
     where
       go : (id : Bytes) → Some (live a.incarnation (put (message_of a p) id (body_of a))) ≡ Some (durable_of (Live (with_id stored id)))
       go [] = refl
@@ -91,7 +94,7 @@ module _ (a : Stream) (p : Publish) (h : IsSoundStream a) (k : IsSoundStream (wi
       ∙ ap (without (byte ∷ more) (filter (λ m. passes m.seq) (a.messages ++ message_of a p ∷ []))) (sym consumers_stay)
 
   fold_skip : fold_all (Skip (a.last + 1) a.moment p.wants.id ∷ []) (Some (durable_of (Live a))) ≡ Some (live (with_message a p).incarnation (keeping passes (body_of (with_message a p))))
-  fold_skip = ap (λ (b : Bool). cond b (without p.wants.id a.messages (map lasting_consumer a.consumers)) None) (eq-eqb (a.last + 1) (a.last + 1) refl) ∙ skipped_body p.wants.id
+  fold_skip = ap (λ (b : Bool). cond b (without p.wants.id a.messages (map lasting_consumer a.consumers)) None) is_next_own ∙ skipped_body p.wants.id
 
   leads_skip : is_skipped a p ≡ true → Leads (Live a) (Skip (a.last + 1) a.moment p.wants.id ∷ settle_effects ((a.last + 1) ∷ []) (Live (with_message a p))) (Live (settled (with_message a p)))
   unfolding trim kept

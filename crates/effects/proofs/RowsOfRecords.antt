@@ -211,6 +211,10 @@ next_needed : fold held (Skip 5 t0 []) ≡ None
 unfolding answered advance advance_outs kept trim verdict
 next_needed = refl
 
+own_moment_needed : fold held (Skip 4 (t0 + 1) []) ≡ None
+unfolding answered advance advance_outs kept trim verdict
+own_moment_needed = refl
+
 later_needed : fold held (Now 1) ≡ None
 unfolding answered advance advance_outs kept trim verdict
 later_needed = refl

@@ -1,5 +1,5 @@
 -- What a record makes of what a volume held before, by a rule of this server's own.
-use Rattle.std.specs.Prelude.{ℕ, ◌+◌, max, nat_le, nat_lt, Bool, not, ◌==◌, if◌then◌else◌, List, [], ◌∷◌, ◌++◌, Option, Some, None, map, filter}
+use Rattle.std.specs.Prelude.{ℕ, ◌+◌, max, nat_le, nat_lt, Bool, not, ◌==◌, ◌&&◌, if◌then◌else◌, List, [], ◌∷◌, ◌++◌, Option, Some, None, map, filter}
 use Rattle.std.specs.List.{list_any}
 use Rattle.js_base.specs.Bytes.{Bytes, same}
 use Rattle.js_base.specs.Moments.{plus}
@@ -52,6 +52,10 @@ added_id ids (byte ∷ more) seq at = ids ++ record { id = byte ∷ more; seq = 
 -- the sequence and the id were given
 abbrev pub numbered : ℕ → ℕ → Bytes → Body → Body
 numbered seq at id b = record b { last = seq; ids = added_id b.ids id seq at }
+
+-- the sequence is the next one, and the moment the last that the stream has seen
+abbrev pub is_next : ℕ → ℕ → Body → Bool
+is_next seq at b = (seq == b.last + 1) && (at == b.moment)
 
 abbrev pub put : Message → Bytes → Body → Body
 put m id b = numbered m.seq m.at id (record b { messages = b.messages ++ m ∷ [] })
@@ -160,14 +164,15 @@ fold_vacant i (Due name seq due) = None
 fold_vacant i (GivenUp name moment) = None
 fold_vacant i (Now moment) = None
 
--- a sequence has to be the next, a moment none that has passed, and a consumer has to be there, or not to be there if it is made
+-- A sequence has to be the next; a message's moment the last that the stream has seen, and a moment that it sees none that has passed; and a consumer has to
+-- be there, or not to be there if it is made
 abbrev pub fold_live : ℕ → Body → Effect → Option Durable
 fold_live i b (MakeStream incarnation made config) = None
 fold_live i b (ChangeStream config) = Some (live i (record b { config = config }))
 fold_live i b DropStream = Some (vacant i)
 fold_live i b (PutHere seq at id subject headers payload) =
-    if seq == b.last + 1 then Some (live i (put (record { seq = seq; at = at; subject = subject; headers = headers; payload = payload }) id b)) else None
-fold_live i b (Skip seq at id) = if seq == b.last + 1 then Some (live i (numbered seq at id b)) else None
+    if is_next seq at b then Some (live i (put (record { seq = seq; at = at; subject = subject; headers = headers; payload = payload }) id b)) else None
+fold_live i b (Skip seq at id) = if is_next seq at b then Some (live i (numbered seq at id b)) else None
 fold_live i b (Remove low high) = Some (live i (removed low high b))
 fold_live i b (MakeConsumer name made config cursor picks) = live_if i (with_made b (consumer_from name made config cursor picks) (by_name b.consumers name))
 fold_live i b (DropConsumer name) = live_if i (without_consumer b (by_name b.consumers name))

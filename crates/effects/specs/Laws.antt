@@ -12,6 +12,7 @@ use Rattle.js_model.specs.Runs.{IsStep}
 use Rattle.model_laws.specs.Sound.{IsSound}
 use Rattle.model_laws.specs.Bounds.{IsBounded}
 use Rattle.effects.specs.Durables.{durable_of}
+use Rattle.effects.specs.Restorable.{IsInTime}
 use Rattle.effects.specs.Effects.{event_effects, delivery_effects}
 use Rattle.effects.specs.Folding.{fold_all}
 use Rattle.effects.specs.declared.effect.Effect.{Effect}
@@ -37,3 +38,11 @@ LawNoRecords = (count : ℕ) (old new : State) (e : Event) (now : ℕ) (reply : 
 abbrev pub LawNoRecordsSent : Type 0
 LawNoRecordsSent = (old new : State) (now : ℕ) (listening : List Bytes) (d : Delivery) (outs : List Out) → IsDelivered old now listening d outs new
     → IsSound old → IsBounded old → (delivery_effects old now d new ≡ []) ↔ (lasting old ≡ lasting new)
+
+-- the moments of what is stored do not fall, whatever event is made
+abbrev pub LawInTime : Type 0
+LawInTime = (count : ℕ) (old new : State) (e : Event) (now : ℕ) (reply : Reply) (outs : List Out) → IsStep count old e now reply outs new → IsInTime old → IsInTime new
+
+-- and whatever delivery
+abbrev pub LawInTimeSent : Type 0
+LawInTimeSent = (old new : State) (now : ℕ) (listening : List Bytes) (d : Delivery) (outs : List Out) → IsDelivered old now listening d outs new → IsInTime old → IsInTime new

@@ -1,4 +1,5 @@
 pub mod Durables
+pub mod Restorable
 pub mod Ranges
 pub mod Folding
 pub mod TimeEffects

@@ -7,4 +7,4 @@ mod laws;
 
 pub use durable::{Body, Durable};
 pub use effect::Effect;
-pub use laws::law_effects;
+pub use laws::{law_effects, law_in_time};

@@ -1,0 +1,6 @@
+pub mod Solid
+pub mod Entries
+pub mod Floats
+pub mod Names
+pub mod StreamTexts
+pub mod ConsumerTexts

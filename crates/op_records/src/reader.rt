@@ -1,0 +1,288 @@
+//! The fields of records as they are read.
+
+ghost use Rattle.std.specs.Prelude.{◌≡◌, IfOk, IfErr, Ok};
+ghost use Rattle.std.specs.Int.{w8, w16, w32, w64};
+ghost use Rattle.op_records.specs.Answers.{IsFaultOf, IsWithin, Reads};
+ghost use Rattle.op_records.specs.Fields.{word, number_field, cursor_field, numbers_field, part, piece, name_field, text_field, subject_field, stream_field, consumer_field, message_field, range_field};
+
+use crate::fault::RecordFault;
+use config_texts::{read_consumer_text, read_stream_text};
+use js_base::{Blob, List, Moment, Name, NameFault, get_u16, get_u32, get_u64};
+use js_model::{ConsumerConfig, StreamConfig};
+use nats_headers::is_block;
+use std::alloc::Global;
+use subject_match::check_subject;
+
+/// The end of the numbers.
+const NUMBERS_END: u64 = 1 << 62;
+
+/// The bytes of a message's header block and payload together.
+const MOST_BYTES: usize = 1_048_576;
+
+/// Bytes, and the place at which the next field begins.
+pub(crate) struct Reader<'a> {
+    pub(crate) alloc: Global,
+    pub(crate) bytes: &'a [u8],
+    pub(crate) at: usize,
+}
+
+impl<'a> Reader<'a> {
+    /// A number below 2^62.
+    pub(crate) fn number(&mut self) -> Result<u64, RecordFault>
+        requires within { IsWithin self.old }
+        ensures same { self.new.bytes ≡ self.old.bytes }
+        ensures within { IsWithin self.new }
+        ensures reading { Reads result self.new (number_field self.old.bytes.now self.old.at) }
+    {
+        let begin = self.at;
+        let number = self.long_word()?;
+        if number < NUMBERS_END {
+            Ok(number)
+        } else {
+            Err(RecordFault::BadField(begin))
+        }
+    }
+
+    /// A moment.
+    pub(crate) fn moment(&mut self) -> Result<Moment, RecordFault>
+        requires within { IsWithin self.old }
+        ensures same { self.new.bytes ≡ self.old.bytes }
+        ensures within { IsWithin self.new }
+        ensures reading { Reads result self.new (number_field self.old.bytes.now self.old.at) }
+    {
+        let begin = self.at;
+        let number = self.long_word()?;
+        Moment::of(number).ok_or(RecordFault::BadField(begin))
+    }
+
+    /// Where a consumer begins: up to 2^62.
+    pub(crate) fn cursor(&mut self) -> Result<u64, RecordFault>
+        requires within { IsWithin self.old }
+        ensures same { self.new.bytes ≡ self.old.bytes }
+        ensures within { IsWithin self.new }
+        ensures reading { Reads result self.new (cursor_field self.old.bytes.now self.old.at) }
+    {
+        let begin = self.at;
+        let number = self.long_word()?;
+        if number <= NUMBERS_END {
+            Ok(number)
+        } else {
+            Err(RecordFault::BadField(begin))
+        }
+    }
+
+    /// Numbers behind their count.
+    pub(crate) fn numbers(&mut self) -> Result<List<u64>, RecordFault>
+        requires within { IsWithin self.old }
+        ensures same { self.new.bytes ≡ self.old.bytes }
+        ensures within { IsWithin self.new }
+        ensures reading { Reads result self.new (numbers_field self.old.bytes.now self.old.at) }
+    {
+        let count = self.word()?;
+        let mut numbers = List::new(self.alloc);
+        for _ in 0..count {
+            numbers.push(self.number()?)?;
+        }
+        Ok(numbers)
+    }
+
+    /// A number of eight bytes.
+    fn long_word(&mut self) -> Result<u64, RecordFault>
+        requires within { IsWithin self.old }
+        ensures same { self.new.bytes ≡ self.old.bytes }
+        ensures within { IsWithin self.new }
+        ensures reading { Reads result self.new (word w64 self.old.bytes.now self.old.at) }
+    {
+        let number = get_u64(self.bytes, self.at).ok_or(RecordFault::Cut(self.at))?;
+        self.at += 8;
+        Ok(number)
+    }
+
+    /// A number of four bytes.
+    fn word(&mut self) -> Result<u32, RecordFault>
+        requires within { IsWithin self.old }
+        ensures same { self.new.bytes ≡ self.old.bytes }
+        ensures within { IsWithin self.new }
+        ensures reading { Reads result self.new (word w32 self.old.bytes.now self.old.at) }
+    {
+        let number = get_u32(self.bytes, self.at).ok_or(RecordFault::Cut(self.at))?;
+        self.at += 4;
+        Ok(number)
+    }
+
+    /// A number of two bytes.
+    fn short_word(&mut self) -> Result<u16, RecordFault>
+        requires within { IsWithin self.old }
+        ensures same { self.new.bytes ≡ self.old.bytes }
+        ensures within { IsWithin self.new }
+        ensures reading { Reads result self.new (word w16 self.old.bytes.now self.old.at) }
+    {
+        let number = get_u16(self.bytes, self.at).ok_or(RecordFault::Cut(self.at))?;
+        self.at += 2;
+        Ok(number)
+    }
+
+    /// A byte.
+    pub(crate) fn byte(&mut self) -> Result<u8, RecordFault>
+        requires within { IsWithin self.old }
+        ensures same { self.new.bytes ≡ self.old.bytes }
+        ensures within { IsWithin self.new }
+        ensures reading { Reads result self.new (word w8 self.old.bytes.now self.old.at) }
+    {
+        let byte = *self.bytes.get(self.at).ok_or(RecordFault::Cut(self.at))?;
+        self.at += 1;
+        Ok(byte)
+    }
+
+    /// The next bytes, so many, of the field that begins at a place.
+    fn part(&mut self, begin: usize, size: usize) -> Result<&'a [u8], RecordFault>
+        requires within { IsWithin self.old }
+        ensures same { self.new.bytes ≡ self.old.bytes }
+        ensures within { IsWithin self.new }
+        ensures value { IfOk result (λ text. part begin size self.old.bytes.now self.old.at ≡ Ok (text.now, self.new.at)) }
+        ensures fault { IfErr result (IsFaultOf (part begin size self.old.bytes.now self.old.at)) }
+    {
+        let rest = &self.bytes[self.at..];
+        if size > rest.len() {
+            return Err(RecordFault::Cut(begin));
+        }
+        self.at += size;
+        Ok(&rest[..size])
+    }
+
+    /// A name.
+    pub(crate) fn name(&mut self) -> Result<Blob, RecordFault>
+        requires within { IsWithin self.old }
+        ensures same { self.new.bytes ≡ self.old.bytes }
+        ensures within { IsWithin self.new }
+        ensures reading { Reads result self.new (name_field self.old.bytes.now self.old.at) }
+    {
+        let begin = self.at;
+        let size = self.byte()?;
+        let text = self.part(begin, usize::from(size))?;
+        match Name::read(self.alloc, text) {
+            Ok(name) => name.as_blob().clone().map_err(|_| RecordFault::NoMemory),
+            Err(NameFault::NoMemory) => Err(RecordFault::NoMemory),
+            Err(_) => Err(RecordFault::BadField(begin)),
+        }
+    }
+
+    /// The bytes behind a length of two bytes.
+    fn text_bytes(&mut self) -> Result<&'a [u8], RecordFault>
+        requires within { IsWithin self.old }
+        ensures same { self.new.bytes ≡ self.old.bytes }
+        ensures within { IsWithin self.new }
+        ensures value { IfOk result (λ text. piece w16 self.old.bytes.now self.old.at ≡ Ok (text.now, self.new.at)) }
+        ensures fault { IfErr result (IsFaultOf (piece w16 self.old.bytes.now self.old.at)) }
+    {
+        let begin = self.at;
+        let size = self.short_word()?;
+        self.part(begin, usize::from(size))
+    }
+
+    /// The bytes behind a length of four bytes.
+    fn long_bytes(&mut self) -> Result<&'a [u8], RecordFault>
+        requires within { IsWithin self.old }
+        ensures same { self.new.bytes ≡ self.old.bytes }
+        ensures within { IsWithin self.new }
+        ensures value { IfOk result (λ text. piece w32 self.old.bytes.now self.old.at ≡ Ok (text.now, self.new.at)) }
+        ensures fault { IfErr result (IsFaultOf (piece w32 self.old.bytes.now self.old.at)) }
+    {
+        let begin = self.at;
+        let size = self.word()?;
+        self.part(begin, size as usize)
+    }
+
+    /// Any text.
+    pub(crate) fn text(&mut self) -> Result<Blob, RecordFault>
+        requires within { IsWithin self.old }
+        ensures same { self.new.bytes ≡ self.old.bytes }
+        ensures within { IsWithin self.new }
+        ensures reading { Reads result self.new (text_field self.old.bytes.now self.old.at) }
+    {
+        let text = self.text_bytes()?;
+        Ok(Blob::of(self.alloc, text)?)
+    }
+
+    /// A subject without wildcards.
+    pub(crate) fn subject(&mut self) -> Result<Blob, RecordFault>
+        requires within { IsWithin self.old }
+        ensures same { self.new.bytes ≡ self.old.bytes }
+        ensures within { IsWithin self.new }
+        ensures reading { Reads result self.new (subject_field self.old.bytes.now self.old.at) }
+    {
+        let begin = self.at;
+        let subject = self.text_bytes()?;
+        match check_subject(subject) {
+            Ok(()) => Ok(Blob::of(self.alloc, subject)?),
+            Err(_) => Err(RecordFault::BadField(begin)),
+        }
+    }
+
+    /// A stream's configuration.
+    pub(crate) fn stream_config(&mut self) -> Result<StreamConfig, RecordFault>
+        requires within { IsWithin self.old }
+        ensures same { self.new.bytes ≡ self.old.bytes }
+        ensures within { IsWithin self.new }
+        ensures reading { Reads result self.new (stream_field self.old.bytes.now self.old.at) }
+    {
+        let begin = self.at;
+        let text = self.long_bytes()?;
+        read_stream_text(self.alloc, text)?.ok_or(RecordFault::BadField(begin))
+    }
+
+    /// A consumer's configuration.
+    pub(crate) fn consumer_config(&mut self) -> Result<ConsumerConfig, RecordFault>
+        requires within { IsWithin self.old }
+        ensures same { self.new.bytes ≡ self.old.bytes }
+        ensures within { IsWithin self.new }
+        ensures reading { Reads result self.new (consumer_field self.old.bytes.now self.old.at) }
+    {
+        let begin = self.at;
+        let text = self.long_bytes()?;
+        read_consumer_text(self.alloc, text)?.ok_or(RecordFault::BadField(begin))
+    }
+
+    /// A message's header block and its payload. If they are too long together, the header block is told.
+    pub(crate) fn message(&mut self) -> Result<(Blob, Blob), RecordFault>
+        requires within { IsWithin self.old }
+        ensures same { self.new.bytes ≡ self.old.bytes }
+        ensures within { IsWithin self.new }
+        ensures reading { Reads result self.new (message_field self.old.bytes.now self.old.at) }
+    {
+        let begin = self.at;
+        let headers = self.long_bytes()?;
+        if headers.len() > MOST_BYTES || !(headers.is_empty() || is_block(headers)) {
+            return Err(RecordFault::BadField(begin));
+        }
+        let behind = self.at;
+        let payload = self.long_bytes()?;
+        if payload.len() > MOST_BYTES {
+            return Err(RecordFault::BadField(behind));
+        }
+        if headers.len() + payload.len() > MOST_BYTES {
+            return Err(RecordFault::BadField(begin));
+        }
+        Ok((
+            Blob::of(self.alloc, headers)?,
+            Blob::of(self.alloc, payload)?,
+        ))
+    }
+
+    /// A range of sequences. If its ends are out of order, the first is told.
+    pub(crate) fn range(&mut self) -> Result<(u64, u64), RecordFault>
+        requires within { IsWithin self.old }
+        ensures same { self.new.bytes ≡ self.old.bytes }
+        ensures within { IsWithin self.new }
+        ensures reading { Reads result self.new (range_field self.old.bytes.now self.old.at) }
+    {
+        let begin = self.at;
+        let low = self.number()?;
+        let high = self.number()?;
+        if low <= high {
+            Ok((low, high))
+        } else {
+            Err(RecordFault::BadField(begin))
+        }
+    }
+}

@@ -1,0 +1,98 @@
+-- The batches of a log give one thing, and an image holds one thing.
+use Rattle.std.proofs.Common.{◌≡◌, ◌⊎◌, inl, inr, ℕ, List, [], ◌∷◌, Option, Some, None, Ok, Err, length, refl, sym, ap, ◌∙◌, subst, arith}
+use Rattle.std.specs.Int.{w8}
+use Rattle.std.proofs.lemmas.Bool.Decides.{nat_tests}
+use Rattle.vol_disk.specs.Disk.{Files}
+use Rattle.js_base.specs.Bytes.{Bytes}
+use Rattle.js_base.specs.Numbers.{number_at}
+use Rattle.gate_log.proofs.OneReading.{law}
+use Rattle.effects.specs.declared.durable.Durable.{Durable}
+use Rattle.effects.specs.declared.effect.Effect.{Effect}
+use Rattle.effects.specs.Folding.{vacant, fold_all}
+use Rattle.op_records.specs.Steps.{continued}
+use Rattle.op_records.specs.Fields.{number_told}
+use Rattle.op_records.specs.Reading.{Stand, of_kind, record_at}
+use Rattle.op_records.specs.declared.fault.RecordFault.TheVariants.{Cut}
+use Rattle.stream_store.specs.Logs.{LogIn, HasLog, HasLogs, current}
+use Rattle.stream_store.specs.Batches.{Adds, AddAll, Begins, Gives}
+use Rattle.stream_store.specs.Holding.{Holds}
+use Rattle.stream_store.specs.Damage.{IsSomeLog, IsDamaged, IsOfAnotherVersion}
+use Rattle.gate_log.specs.Faults.{IsDamagedAt, IsOfUnknownVersion}
+
+-- ---- records
+
+-- no record begins where the bytes end
+pub none_at_end : (bytes : Bytes) → record_at bytes (length bytes) ≡ Err (Cut (length bytes))
+unfolding record_at
+none_at_end bytes = ap (λ (o : Option ℕ). continued bytes (λ (kind : ℕ). of_kind (length bytes) kind) (number_told w8 (length bytes) o)) no_byte
+  where
+    no_byte : number_at w8 bytes (length bytes) ≡ None
+    no_byte = grind (arith, nat_tests)
+
+stand_same : (bytes : Bytes) (at : ℕ) (es fs : List Effect) → Stand bytes at es (length bytes) → Stand bytes at fs (length bytes) → es ≡ fs
+stand_same bytes at [] [] h k = refl
+stand_same bytes at [] (f ∷ fs) h (behind, reads, rest) = let e = none_at_end bytes in let q = subst (λ (n : ℕ). record_at bytes n ≡ Ok (f, behind)) h reads in absurd (cc)
+stand_same bytes at (e ∷ es) [] (behind, reads, rest) k = let n = none_at_end bytes in let q = subst (λ (n : ℕ). record_at bytes n ≡ Ok (e, behind)) k reads in absurd (cc)
+stand_same bytes at (e ∷ es) (f ∷ fs) (b, reads, rest) (c, others, more) =
+    let same : Ok (e, b) ≡ Ok (f, c) = sym reads ∙ others in
+    let first : e ≡ f = cc in
+    let place : b ≡ c = cc in
+    ap (λ (x : Effect). x ∷ es) first ∙ ap (λ (l : List Effect). f ∷ l) (stand_same bytes c es fs (subst (λ (n : ℕ). Stand bytes n es (length bytes)) place rest) more)
+
+-- ---- batches
+
+pub begins_same : (bytes : Bytes) (d e : Durable) → Begins bytes d → Begins bytes e → d ≡ e
+begins_same bytes d e h k =
+    let same : Ok (h.incarnation, length bytes) ≡ Ok (k.incarnation, length bytes) = sym h.reads ∙ k.reads in
+    let number : h.incarnation ≡ k.incarnation = cc in
+    h.begun_is ∙ ap vacant number ∙ sym k.begun_is
+
+pub adds_same : (old : Durable) (bytes : Bytes) (d e : Durable) → Adds old bytes d → Adds old bytes e → d ≡ e
+adds_same old bytes d e h k =
+    let effects = stand_same bytes 0 h.effects k.effects h.records k.records in
+    let same : Some d ≡ Some e = sym h.folded ∙ ap (λ (es : List Effect). fold_all es (Some old)) effects ∙ k.folded in
+    cc
+
+pub add_all_same : (old : Durable) (batches : List Bytes) (d e : Durable) → AddAll old batches d → AddAll old batches e → d ≡ e
+add_all_same old [] d e h k = sym h ∙ k
+add_all_same old (batch ∷ batches) d e (b, first, rest) (c, other, more) =
+    add_all_same c batches d e (subst (λ (x : Durable). AddAll x batches d) (adds_same old batch b c first other) rest) more
+
+pub gives_same : (batches : List Bytes) (d e : Durable) → Gives batches d → Gives batches e → d ≡ e
+gives_same [] d e h k = h ∙ sym k
+gives_same (first ∷ later) d e (b, begins, rest) (c, begun, more) =
+    add_all_same c later d e (subst (λ (x : Durable). AddAll x later d) (begins_same first b c begins begun) rest) more
+
+-- ---- images
+
+pub log_same : (bytes : Bytes) (a b : LogIn) → HasLog bytes a → HasLog bytes b → a ≡ b
+log_same bytes a b h k =
+    ap (λ g. record { generation = g; batches = a.batches }) (law.one_generation bytes a.generation b.generation a.batches b.batches h k)
+    ∙ ap (λ l. record { generation = b.generation; batches = l }) (law.one_list bytes a.generation b.generation a.batches b.batches h k)
+
+pub holds_same : (image : Files) (d e : Durable) → Holds image d → Holds image e → d ≡ e
+holds_same image d e h k =
+    let zero = log_same (image 0) h.zero k.zero h.logs.in_zero k.logs.in_zero in
+    let one = log_same (image 1) h.one k.one h.logs.in_one k.logs.in_one in
+    let log : current h.zero h.one ≡ current k.zero k.one = ap (λ (l : LogIn). current l h.one) zero ∙ ap (λ (l : LogIn). current k.zero l) one in
+    gives_same (current k.zero k.one).batches d e (subst (λ (l : LogIn). Gives l.batches d) log h.gives) k.gives
+
+-- ---- faults of the logs
+
+pub known : (image : Files) (zero one : LogIn) (n : ℕ) → HasLogs image zero one → IsOfAnotherVersion image n → ⊥
+known image zero one n h (file, bad) = go bad.which
+  where
+    go : ((file ≡ 0) × IsOfUnknownVersion (image 0) n) ⊎ ((file ≡ 1) × (IsSomeLog (image 0) × IsOfUnknownVersion (image 1) n)) → ⊥
+    go (inl (is, v)) = law.known (image 0) zero.generation zero.batches n h.in_zero v
+    go (inr (is, (z, v))) = law.known (image 1) one.generation one.batches n h.in_one v
+
+pub one_fault : (image : Files) (file at n : ℕ) → IsDamaged image file at → IsOfAnotherVersion image n → ⊥
+one_fault image file at n (inr bad) k = known image bad.zero bad.one n bad.logs k
+one_fault image file at n (inl bad) (other, version) = go bad.which version.which
+  where
+    go : ((file ≡ 0) × IsDamagedAt (image 0) at) ⊎ ((file ≡ 1) × (IsSomeLog (image 0) × IsDamagedAt (image 1) at))
+        → ((other ≡ 0) × IsOfUnknownVersion (image 0) n) ⊎ ((other ≡ 1) × (IsSomeLog (image 0) × IsOfUnknownVersion (image 1) n)) → ⊥
+    go (inl (is, d)) (inl (too, v)) = law.one_fault (image 0) at n d v
+    go (inl (is, d)) (inr (too, ((z, log), v))) = law.whole (image 0) z.generation z.batches at log d
+    go (inr (is, ((z, log), d))) (inl (too, v)) = law.known (image 0) z.generation z.batches n log v
+    go (inr (is, ((z, log), d))) (inr (too, (w, v))) = law.one_fault (image 1) at n d v

@@ -1,0 +1,14 @@
+pub mod Logs
+pub mod Batches
+pub mod Holding
+pub mod Misfits
+pub mod Damage
+pub mod Faults
+pub mod Opening
+pub mod Finding
+pub mod Beginning
+pub mod Reading
+pub mod Base
+pub mod Committing
+pub mod Waiting
+pub mod Laws
