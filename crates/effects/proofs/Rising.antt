@@ -3,21 +3,14 @@ use Rattle.std.proofs.Common.{◌≡◌, ℕ, ◌+◌, ◌≤◌, List, [], ◌�
 use Rattle.std.specs.Prelude.{⊤}
 use Rattle.std.proofs.lemmas.Bool.{and_parts}
 use Rattle.js_base.specs.Bytes.{Bytes}
-use Rattle.js_base.specs.declared.out.Out.{Out}
 use Rattle.js_model.specs.Lists.{IsPart, none, keep, skip}
-use Rattle.js_model.specs.declared.stream.Message.{Message}
 use Rattle.js_model.specs.declared.stream.Stream.{Stream}
 use Rattle.js_model.specs.declared.stream.State.{State}
 use Rattle.js_model.specs.declared.stream.State.TheVariants.{Vacant, Live}
-use Rattle.js_model.specs.declared.event.Event.{Event}
 use Rattle.js_model.specs.declared.event.Publish.{Publish}
-use Rattle.js_model.specs.declared.reply.Reply.{Reply}
-use Rattle.js_model.specs.declared.entry.Delivery.{Delivery}
 use Rattle.js_model.specs.Advance.{advance}
 use Rattle.js_model.specs.Verdict.{message_of}
 use Rattle.js_model.specs.Events.{with_message, with_id}
-use Rattle.js_model.specs.Deliver.{IsDelivered}
-use Rattle.js_model.specs.Runs.{IsStep}
 use Rattle.js_model.proofs.Parts.{filter_part, young_part}
 use Rattle.model_laws.proofs.Facts.{IsStreamFact, IfLive, at_event, at_delivery}
 use Rattle.model_laws.proofs.Sounding.{IsProperWhat}
