@@ -1,13 +1,11 @@
 -- The texts of consumers' configurations: a text is read as a configuration exactly if it is that configuration's.
-use Rattle.std.proofs.Common.{◌≡◌, ℕ, ◌<◌, ◌^◌, ◌-◌, nat_le, ◌==◌, Bool, true, false, List, [], ◌∷◌, Option, Some, None, Result, Ok, Err, codes, IsTrue, IsUtf8, refl, sym, ap, subst, ◌∙◌, if◌then◌else◌, arith}
+use Rattle.std.proofs.Common.{◌≡◌, ℕ, ◌<◌, ◌^◌, ◌-◌, nat_le, ◌==◌, Bool, true, false, Some, None, Result, Ok, codes, IsTrue, IsUtf8, refl, sym, ap, subst, ◌∙◌, if◌then◌else◌, arith}
 use Rattle.std.proofs.lemmas.Bool.{and_parts}
 use Rattle.std.proofs.lemmas.Bool.Decides.{nat_tests}
 use Rattle.std.specs.Prelude.{option_and_then}
 use Rattle.json.proofs.Printed.Utf8.{IsUtf8-are_ascii}
-use Rattle.serde_json.specs.Data.{Members, object}
-use Rattle.serde_json.specs.Written.{compact_text}
+use Rattle.serde_json.specs.Data.{Members}
 use Rattle.js_base.specs.Bytes.{Bytes, same}
-use Rattle.js_base.specs.Names.{name_of}
 use Rattle.js_base.proofs.Meeting.{same_is, same_self}
 use Rattle.js_json.specs.Objects.{object_of}
 use Rattle.js_model.proofs.Named.{some_is}
@@ -76,24 +74,51 @@ few n h = grind (arith, nat_tests)
 solid : (c : ConsumerConfig) → IsTrue (is_consumer_config c) → Each Solid (entries c)
 solid c is =
     let texts = printable c is in
-    let parts = config_parts c is in
-    (
+    let parts = config_parts c is in (
       text_solid (ack_policy_text c.ack_policy) (ack_utf8 c.ack_policy),
-      (number_solid c.ack_wait parts.wait,
-      (text_if c.deliver_group texts.deliver_group,
-      (text_solid (deliver_policy_text c.deliver_policy) (policy_utf8 c.deliver_policy),
-      (text_if c.deliver_subject texts.deliver_subject,
-      (text_if c.description texts.description,
-      (text_solid c.name texts.name,
-      (text_if c.filter_subject texts.filter_subject,
-      (number_if (c.idle_heartbeat == 0) c.idle_heartbeat (wide c.idle_heartbeat parts.heartbeat),
-      (limit_solid 65536 c.max_ack_pending refl parts.pending,
-      (limit_solid (2 ^ 62 - 1) c.max_deliver refl parts.deliver,
-      (count_solid c.max_waiting (few c.max_waiting parts.waiting),
-      (text_solid c.name texts.name,
-      (sequence_solid c.deliver_policy parts.start,
-      (time_solid c.deliver_policy parts.start,
-      (text_solid (codes "instant") (IsUtf8-are_ascii _ refl), tt))))))))))))))),
+      (
+        number_solid c.ack_wait parts.wait,
+        (
+          text_if c.deliver_group texts.deliver_group,
+          (
+            text_solid (deliver_policy_text c.deliver_policy) (policy_utf8 c.deliver_policy),
+            (
+              text_if c.deliver_subject texts.deliver_subject,
+              (
+                text_if c.description texts.description,
+                (
+                  text_solid c.name texts.name,
+                  (
+                    text_if c.filter_subject texts.filter_subject,
+                    (
+                      number_if (c.idle_heartbeat == 0) c.idle_heartbeat (wide c.idle_heartbeat parts.heartbeat),
+                      (
+                        limit_solid 65536 c.max_ack_pending refl parts.pending,
+                        (
+                          limit_solid (2 ^ 62 - 1) c.max_deliver refl parts.deliver,
+                          (
+                            count_solid c.max_waiting (few c.max_waiting parts.waiting),
+                            (
+                              text_solid c.name texts.name,
+                              (
+                                sequence_solid c.deliver_policy parts.start,
+                                (
+                                  time_solid c.deliver_policy parts.start,
+                                  (text_solid (codes "instant") (IsUtf8-are_ascii _ refl), tt),
+                                ),
+                              ),
+                            ),
+                          ),
+                        ),
+                      ),
+                    ),
+                  ),
+                ),
+              ),
+            ),
+          ),
+        ),
+      ),
     )
 
 -- ---- a configuration is read from its text

@@ -1,5 +1,5 @@
 -- An object that is made of entries is read back from what is written of it.
-use Rattle.std.proofs.Common.{◌≡◌, ℕ, zero, suc, ◌<◌, ◌≤◌, ◌^◌, nat_lt, nat_le, Bool, true, false, ◌&&◌, ◌||◌, List, [], ◌∷◌, ◌++◌, Option, Some, None, Result, Ok, Err, codes, IsUtf8, refl, sym, ap, ◌∙◌, subst, arith, append_assoc, append-nil}
+use Rattle.std.proofs.Common.{◌≡◌, ℕ, suc, ◌<◌, ◌≤◌, ◌^◌, nat_lt, nat_le, Bool, true, false, ◌&&◌, List, [], ◌∷◌, ◌++◌, Option, Some, None, Result, Ok, Err, codes, IsUtf8, refl, sym, ap, ◌∙◌, subst, arith, append_assoc, append-nil}
 use Rattle.std.specs.Prelude.{option_map, option_and_then, if◌then◌else◌}
 use Rattle.std.specs.List.{All}
 use Rattle.std.proofs.lemmas.Bool.{and_parts}
@@ -7,10 +7,14 @@ use Rattle.std.proofs.lemmas.Bool.Decides.{nat_tests}
 use Rattle.std.proofs.lemmas.Str.{IsUtf8-append, IsUtf8-nil, is_utf8-from_IsUtf8}
 use Rattle.json.specs.Json as json
 use Rattle.json.specs.Tree as tree
-use Rattle.json.proofs.Printed.Trees.{document-print}
+use Rattle.json.specs.Token.{Token}
+use Rattle.json.specs.Lex.{tokens}
+use Rattle.json.specs.Print.{print, quoted}
+use Rattle.json.proofs.Printed.Tokens.{tokens-print}
+use Rattle.json.proofs.Printed.Trees.{ArePrintable-json_tokens, value-json_tokens}
 use Rattle.json.proofs.Printed.Utf8.{are_ascii, IsUtf8-are_ascii, IsUtf8-key}
-use Rattle.serde_json.specs.Data.{Data, string, object, Members, no_members, member, put}
-use Rattle.serde_json.specs.Read.{read, of_json, of_members}
+use Rattle.serde_json.specs.Data.{Data, string, object, Members, put}
+use Rattle.serde_json.specs.Read.{max_depth, read, of_json, of_members}
 use Rattle.serde_json.specs.Written.{outline, members_outline, compact_text, members_text, comma_if, has_float, members_have_float}
 use Rattle.serde_json.proofs.Texts.{print-outline}
 use Rattle.js_base.specs.Bytes.{Bytes}
@@ -21,7 +25,7 @@ use Rattle.js_json.specs.Objects.{object_of}
 use Rattle.js_model.specs.Configs.{is_limit, is_number}
 use Rattle.consumer_config.specs.Printing.{text_shown, object_with}
 use Rattle.consumer_config.proofs.Shown.{with_nulls, are_apart, fields_same}
-use Rattle.consumer_config.proofs.Printings.{is_last, with_entry, put_last, none_last}
+use Rattle.config_texts.proofs.Putting.{is_last, with_entry, put_last, none_last}
 use Rattle.config_texts.specs.Reading.{allowed, found, name_in}
 use Rattle.config_texts.proofs.Names.{same_name}
 use Rattle.config_texts.proofs.Solid.{Solid, EachUtf8, text_solid, count_solid, none_solid}
@@ -85,17 +89,20 @@ utf8 : (later : Bool) (es : Entries) → Each Solid es → KeysAreUtf8 es → Is
 utf8 later [] solid keys = IsUtf8-are_ascii (125 ∷ []) refl
 utf8 later ((key, None) ∷ es) solid keys = utf8 later es solid.1 keys.1
 utf8 later ((key, Some d) ∷ es) solid keys =
-    IsUtf8-append (comma_if later) _ (comma_utf8 later)
-    (subst IsUtf8 (append_assoc _ (58 ∷ []) _) (IsUtf8-append _ _ (IsUtf8-key key keys.0) (IsUtf8-append _ _ solid.0.utf8 (utf8 true es solid.1 keys.1))))
+    IsUtf8-append (comma_if later) (quoted key ++ 58 ∷ (compact_text d ++ members_text true (object_with es))) (comma_utf8 later)
+    (subst IsUtf8 (append_assoc (quoted key) (58 ∷ []) (compact_text d ++ members_text true (object_with es))) (IsUtf8-append (quoted key ++ 58 ∷ []) (compact_text d ++ members_text true (object_with es)) (IsUtf8-key key keys.0) (IsUtf8-append (compact_text d) (members_text true (object_with es)) solid.0.utf8 (utf8 true es solid.1 keys.1))))
 
 -- ---- the object
+
+read_tree : (j : json.Json) → tree.HasNumbers j → tree.depth j ≤ max_depth → option_and_then (λ (p : json.Json × List Token). json.if_last p.0 p.1) (json.value max_depth (tokens (print (tree.json_tokens j)))) ≡ Some j
+read_tree j numbers shallow =
+    ap (option_and_then (λ (p : json.Json × List Token). json.if_last p.0 p.1))
+    (ap (json.value max_depth) (tokens-print (tree.json_tokens j) (ArePrintable-json_tokens j numbers) ∙ sym (append-nil (tree.json_tokens j))) ∙ value-json_tokens j max_depth [] shallow)
 
 read_back : (es : Entries) → ascend_from [] es ≡ true → Each Solid es → read (compact_text (object (object_with es))) ≡ Some (object (object_with es))
 read_back es ascends solid =
     let d : Data = object (object_with es) in
-    ap (λ (text : Bytes). option_and_then of_json (json.document text)) (sym (print-outline d))
-    ∙ ap (option_and_then of_json) (document-print (outline d) (numbers es solid) (omega (arith, flat es solid)))
-    ∙ ap (option_map object) (back [] es ascends solid)
+    ap read (sym (print-outline d)) ∙ ap (option_and_then of_json) (read_tree (outline d) (numbers es solid) (omega (arith, flat es solid))) ∙ ap (option_map object) (back [] es ascends solid)
 
 -- the object is read from its text
 pub object_back : (es : Entries) → ascend_from [] es ≡ true → Each Solid es → KeysAreUtf8 es → object_of (compact_text (object (object_with es))) ≡ Ok (object_with es)

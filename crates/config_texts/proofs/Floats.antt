@@ -1,6 +1,6 @@
 -- The entries of the printed configurations, of which none is a float.
 use Rattle.std.proofs.Common.{◌≡◌, ℕ, Bool, true, false, List, [], ◌∷◌, Option, Some, None, codes, refl, ap, ◌∙◌, if◌then◌else◌}
-use Rattle.serde_json.specs.Data.{Data, string, array, object, Members, no_items, item}
+use Rattle.serde_json.specs.Data.{string, array, object, Members}
 use Rattle.serde_json.specs.Written.{has_float, items_have_float}
 use Rattle.js_base.specs.Bytes.{Bytes}
 use Rattle.js_json.specs.Building.{count, limit, texts}
@@ -9,7 +9,7 @@ use Rattle.js_model.specs.declared.consumer_config.DeliverPolicy.{DeliverPolicy}
 use Rattle.js_model.specs.declared.consumer_config.DeliverPolicy.TheVariants as delivers
 use Rattle.js_model.specs.declared.consumer_config.ConsumerConfig.{ConsumerConfig}
 use Rattle.stream_config.specs.Printing.{retention_text, discard_text, described, printed as stream_printed}
-use Rattle.consumer_config.specs.Printing.{text_shown, number_shown, sequence_shown, time_shown, entries, object_with, printed as consumer_printed}
+use Rattle.consumer_config.specs.Printing.{text_shown, sequence_shown, time_shown, entries, object_with, printed as consumer_printed}
 use Rattle.config_texts.proofs.Entries.{Entries, OnShown, Each, IsWhole, no_float}
 
 -- ---- a stream's entries

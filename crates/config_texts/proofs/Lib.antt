@@ -1,4 +1,5 @@
 pub mod Solid
+pub mod Putting
 pub mod Entries
 pub mod Floats
 pub mod Names

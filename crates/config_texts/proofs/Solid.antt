@@ -1,19 +1,17 @@
 -- Data that is read back from what is written of it.
-use Rattle.std.proofs.Common.{◌≡◌, ℕ, zero, suc, ◌+◌, ◌<◌, ◌≤◌, ◌^◌, negsuc, Bool, true, false, List, [], ◌∷◌, ◌++◌, Some, None, slice_index, decimal, IsUtf8, refl, sym, ap, ◌∙◌, rules, arith}
-use Rattle.std.specs.Prelude.{option_map, option_and_then, map}
+use Rattle.std.proofs.Common.{◌≡◌, ℕ, zero, suc, ◌<◌, ◌≤◌, ◌^◌, negsuc, Bool, true, false, List, [], ◌∷◌, Some, None, slice_index, decimal, IsUtf8, refl, ap, rules, arith}
+use Rattle.std.specs.Prelude.{option_map}
 use Rattle.std.specs.Char.{is_ascii_digit}
-use Rattle.std.specs.Fmt.{signed_decimal}
-use Rattle.std.specs.List.{list_all, All}
+use Rattle.std.specs.List.{list_all}
 use Rattle.std.proofs.lemmas.Bool.{and_parts}
 use Rattle.std.proofs.lemmas.Bool.Decides.{nat_tests}
 use Rattle.std.proofs.lemmas.Fmt.{digits_decimal}
 use Rattle.std.proofs.lemmas.Str.{IsUtf8-from_ascii, IsUtf8-append, IsUtf8-nil}
 use Rattle.std.proofs.lemmas.Str.Parse.{IsNumeralModel, numerals_by_weight}
-use Rattle.json.specs.Json as json
 use Rattle.json.specs.Tree as tree
 use Rattle.json.proofs.Printed.Decimals.{IsNumber-decimal, IsNumber-signed_decimal}
 use Rattle.json.proofs.Printed.Utf8.{IsUtf8-are_ascii, IsUtf8-quoted}
-use Rattle.serde_json.specs.Data.{Data, number, string, array, unsigned, negative, Items, no_items, item}
+use Rattle.serde_json.specs.Data.{Data, number, string, array, Items, item}
 use Rattle.serde_json.specs.Read.{of_json, of_items}
 use Rattle.serde_json.specs.Written.{outline, items_outline, compact_text, items_text, comma_if}
 use Rattle.serde_json.proofs.Numbers.{number_of-decimal, number_of-negative}
@@ -49,12 +47,12 @@ decimal_utf8 n h = IsUtf8-from_ascii (decimal n) (λ i. digit_at (decimal n) i (
 pub count_solid : (n : ℕ) → n < 2 ^ 64 → Solid (count n)
 count_solid n h = record { back = ap (option_map number) (number_of-decimal n h); numbers = IsNumber-decimal n h; flat = omega arith; utf8 = decimal_utf8 n h }
 
-none_solid : Solid (limit None)
+pub none_solid : Solid (limit None)
 none_solid = record {
   back = ap (option_map number) (number_of-negative 0 (omega arith));
   numbers = IsNumber-signed_decimal (negsuc 0) (omega arith);
   flat = omega arith;
-  utf8 = IsUtf8-are_ascii (signed_decimal (negsuc 0)) refl;
+  utf8 = IsUtf8-append (45 ∷ []) (decimal 1) (IsUtf8-are_ascii (45 ∷ []) refl) (decimal_utf8 1 (omega arith));
 }
 
 -- ---- lists of texts

@@ -1,11 +1,10 @@
 -- The texts of streams' configurations: a text is read as a configuration exactly if it is that configuration's.
-use Rattle.std.proofs.Common.{◌≡◌, ℕ, ◌^◌, ◌-◌, Bool, true, false, List, [], ◌∷◌, Option, Some, None, Result, Ok, Err, codes, IsTrue, IsUtf8, refl, sym, ap, subst, ◌∙◌, if◌then◌else◌, arith}
+use Rattle.std.proofs.Common.{◌≡◌, ◌^◌, ◌-◌, Bool, true, false, [], Some, None, Result, Ok, codes, IsTrue, IsUtf8, refl, sym, ap, subst, ◌∙◌, if◌then◌else◌, arith}
 use Rattle.std.specs.Prelude.{option_and_then}
 use Rattle.json.proofs.Printed.Utf8.{IsUtf8-are_ascii}
 use Rattle.serde_json.specs.Data.{Members, object}
 use Rattle.serde_json.specs.Written.{compact_text}
 use Rattle.js_base.specs.Bytes.{Bytes, same}
-use Rattle.js_base.specs.Names.{name_of}
 use Rattle.js_base.proofs.Meeting.{same_is, same_self}
 use Rattle.js_json.specs.Objects.{object_of}
 use Rattle.js_model.proofs.Named.{some_is}
@@ -47,22 +46,45 @@ unfolding stream_entries
 solid c is =
     let texts = printable c is in
     let parts = config_parts c is in
-    let limits = limit_parts c is in
-    (
+    let limits = limit_parts c is in (
       text_if c.description texts.description,
-      (text_solid (discard_text c.discard) (discard_utf8 c.discard),
-      (number_solid c.duplicate_window parts.window,
-      (number_solid c.max_age limits.age,
-      (limit_solid (2 ^ 62 - 1) c.max_bytes refl limits.bytes,
-      (limit_solid 256 c.max_consumers refl parts.consumers,
-      (limit_solid (2 ^ 62 - 1) c.max_msg_size refl limits.size,
-      (limit_solid (2 ^ 62 - 1) c.max_msgs refl limits.msgs,
-      (limit_solid (2 ^ 62 - 1) c.max_msgs_per_subject refl limits.for_each,
-      (text_solid c.name texts.name,
-      (count_solid 1 (omega arith),
-      (text_solid (retention_text c.retention) (retention_utf8 c.retention),
-      (text_solid (codes "file") (IsUtf8-are_ascii _ refl),
-      (texts_solid c.subjects (each_utf8 c.subjects texts.subjects), tt))))))))))))),
+      (
+        text_solid (discard_text c.discard) (discard_utf8 c.discard),
+        (
+          number_solid c.duplicate_window parts.window,
+          (
+            number_solid c.max_age limits.age,
+            (
+              limit_solid (2 ^ 62 - 1) c.max_bytes refl limits.bytes,
+              (
+                limit_solid 256 c.max_consumers refl parts.consumers,
+                (
+                  limit_solid (2 ^ 62 - 1) c.max_msg_size refl limits.size,
+                  (
+                    limit_solid (2 ^ 62 - 1) c.max_msgs refl limits.msgs,
+                    (
+                      limit_solid (2 ^ 62 - 1) c.max_msgs_per_subject refl limits.for_each,
+                      (
+                        text_solid c.name texts.name,
+                        (
+                          count_solid 1 (omega arith),
+                          (
+                            text_solid (retention_text c.retention) (retention_utf8 c.retention),
+                            (
+                              text_solid (codes "file") (IsUtf8-are_ascii _ refl),
+                              (texts_solid c.subjects (each_utf8 c.subjects texts.subjects), tt),
+                            ),
+                          ),
+                        ),
+                      ),
+                    ),
+                  ),
+                ),
+              ),
+            ),
+          ),
+        ),
+      ),
     )
 
 -- ---- a configuration is read from its text

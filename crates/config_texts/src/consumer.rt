@@ -8,11 +8,11 @@ ghost use Rattle.config_texts.specs.Reading.{allowed, consumer_in, if_consumer_t
 ghost use Rattle.config_texts.specs.Texts.{consumer_text};
 
 use crate::lookup::{fields_of, name_in};
+use consumer_config::{ConfigFault, print, read};
 use js_base::{Blob, NoMemory};
 use js_json::Fields;
 use js_model::ConsumerConfig;
 use std::alloc::Global;
-use consumer_config::{ConfigFault, print, read};
 
 /// The text of the configuration.
 #[tactic(auto, unfolding(crate::specs::Texts::consumer_text), using(crate::proofs::Floats::consumer_whole))]
@@ -41,7 +41,11 @@ fn consumer_in(alloc: Global, fields: &Fields) -> Result<Option<ConsumerConfig>,
 }
 
 /// The configuration, if it has this text.
-fn if_consumer_text(alloc: Global, text: &[u8], config: ConsumerConfig) -> Result<Option<ConsumerConfig>, NoMemory>
+fn if_consumer_text(
+    alloc: Global,
+    text: &[u8],
+    config: ConsumerConfig,
+) -> Result<Option<ConsumerConfig>, NoMemory>
     requires utf8 { IsPrinted config }
     ensures value { IfOk result (λ same. same ≡ if_consumer_text text.now config) }
 {

@@ -41,7 +41,11 @@ fn stream_in(alloc: Global, fields: &Fields) -> Result<Option<StreamConfig>, NoM
 }
 
 /// The configuration, if it has this text.
-fn if_stream_text(alloc: Global, text: &[u8], config: StreamConfig) -> Result<Option<StreamConfig>, NoMemory>
+fn if_stream_text(
+    alloc: Global,
+    text: &[u8],
+    config: StreamConfig,
+) -> Result<Option<StreamConfig>, NoMemory>
     requires utf8 { IsPrinted config }
     ensures value { IfOk result (λ same. same ≡ if_stream_text text.now config) }
 {

@@ -12,15 +12,15 @@ use Rattle.consumer_config.proofs.Fields.{suc_not_0}
 use Rattle.consumer_config.specs.Printing.{ack_policy_text, deliver_policy_text, text_shown, number_shown, sequence_shown, time_shown, with_start, entries, object_with, printed}
 
 -- whether the key is behind all of these
-abbrev pub is_last : Bytes → List (Bytes × Option Data) → Bool
+abbrev is_last : Bytes → List (Bytes × Option Data) → Bool
 is_last key [] = true
 is_last key ((k, _) ∷ more) = match_ordering (slice_cmp nat_cmp key k) false false (is_last key more)
 
-abbrev pub with_entry : Bytes → Option Data → List (Bytes × Option Data) → List (Bytes × Option Data)
+abbrev with_entry : Bytes → Option Data → List (Bytes × Option Data) → List (Bytes × Option Data)
 with_entry key value es = es ++ (key, value) ∷ []
 
 -- a field that is put in behind all others
-pub put_last : (key : Bytes) (value : Data) (es : List (Bytes × Option Data)) → is_last key es ≡ true → put key value (object_with es) ≡ object_with (with_entry key (Some value) es)
+put_last : (key : Bytes) (value : Data) (es : List (Bytes × Option Data)) → is_last key es ≡ true → put key value (object_with es) ≡ object_with (with_entry key (Some value) es)
 put_last key value [] h = refl
 put_last key value ((k, None) ∷ more) h = by (slice_cmp nat_cmp key k) (put_last key value more) h
   where
@@ -38,7 +38,7 @@ put_last key value ((k, Some d) ∷ more) h = by (slice_cmp nat_cmp key k) (put_
     by Greater rec h = ap (member k d) (rec h)
 
 -- one that is not shown
-pub none_last : (key : Bytes) (es : List (Bytes × Option Data)) → object_with es ≡ object_with (with_entry key None es)
+none_last : (key : Bytes) (es : List (Bytes × Option Data)) → object_with es ≡ object_with (with_entry key None es)
 none_last key [] = refl
 none_last key ((k, None) ∷ more) = none_last key more
 none_last key ((k, Some d) ∷ more) = ap (member k d) (none_last key more)
