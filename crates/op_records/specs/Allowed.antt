@@ -1,6 +1,6 @@
 -- Which records a volume's log may have, by a format of this server's own: numbers below 2^62 (a cursor may be 2^62), names, configurations that are valid, a
 -- message that a block file may have, and ranges whose ends are in order.
-use Rattle.std.specs.Prelude.{ℕ, ◌+◌, ◌^◌, nat_lt, nat_le, Bool, ◌&&◌, ◌||◌, List, length}
+use Rattle.std.specs.Prelude.{ℕ, ◌+◌, ◌^◌, nat_lt, nat_le, Bool, true, ◌&&◌, ◌||◌, List, length}
 use Rattle.std.specs.List.{list_all}
 use Rattle.js_base.specs.Bytes.{Bytes, is_empty, same}
 use Rattle.js_base.specs.Subjects.{is_subject_text}

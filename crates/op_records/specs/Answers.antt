@@ -1,5 +1,6 @@
 -- What a call answered, and the reading that its definition gives: they are the same, unless memory ran out.
-use Rattle.std.specs.Prelude.{◌≡◌, ◌≤◌, ℕ, length, List, Result, Ok, Err}
+use Rattle.std.specs.Prelude.{◌≡◌, ◌≤◌, ℕ, length, Result, Ok, Err}
+use Rattle.std.specs.Global.{Vec}
 use Rattle.js_base.specs.Bytes.{Bytes}
 use Rattle.effects.specs.declared.effect.Effect.{Effect}
 use Rattle.op_records.specs.Reading.{AreRecords, IsWrong}
@@ -11,6 +12,12 @@ use Rattle.op_records.specs.declared.reader.Reader.{Reader}
 -- the reader stands within its bytes
 abbrev pub IsWithin : Reader → Type 0
 IsWithin reader = reader.at ≤ length reader.bytes.now
+
+-- it reads the same bytes, and stands behind where it stood, or there
+pub record IsBehind (old new : Reader) : Type 0 where
+  pub bytes : new.bytes ≡ old.bytes
+  pub further : old.at ≤ new.at
+  pub within : IsWithin new
 
 -- the reading has this fault, or memory ran out
 abbrev pub IsFaultOf : {A : Type 0} → Reading A → RecordFault → Type 0
@@ -42,6 +49,6 @@ IsWrongBy bytes (BadField at) = IsWrong bytes (BadField at)
 IsWrongBy bytes OutOfMemory = Unit {0}
 
 -- the bytes are these records, or the first that is wrong is told
-abbrev pub ReadsRecords : Result (List Effect) RecordFault → Bytes → Type 0
-ReadsRecords (Ok effects) bytes = AreRecords bytes effects
+abbrev pub ReadsRecords : Result (Vec Effect) RecordFault → Bytes → Type 0
+ReadsRecords (Ok effects) bytes = AreRecords bytes effects.items
 ReadsRecords (Err fault) bytes = IsWrongBy bytes fault

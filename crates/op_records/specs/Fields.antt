@@ -117,16 +117,21 @@ is_small_header headers = is_header headers && is_small headers
 abbrev pub fit : Bytes × Bytes → Bool
 fit (headers, payload) = nat_le (length headers + length payload) most_bytes
 
+-- bytes behind a length, which is a field of its own; and where they begin
+abbrev pub sized_part : (Bytes → Bool) → Reader (ℕ × Bytes)
+sized_part may = do
+  size ← word w32
+  begin ← place
+  bytes ← part begin size
+  bytes ← only may begin bytes
+  done (begin, bytes)
+
 -- if they are too long together, the header block is told
 unfoldable pub message_field : Reader (Bytes × Bytes)
 message_field = do
-  begin ← place
-  headers ← piece w32
-  headers ← only is_small_header begin headers
-  behind ← place
-  payload ← piece w32
-  payload ← only is_small behind payload
-  only fit begin (headers, payload)
+  headers ← sized_part is_small_header
+  payload ← sized_part is_small
+  only fit headers.0 (headers.1, payload.1)
 
 -- ---- a range, whose first end is told if they are out of order
 

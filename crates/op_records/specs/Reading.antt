@@ -100,29 +100,37 @@ now = do
 
 -- ---- records
 
--- The fields behind this kind. A kind that is none is told where it stands, and so is that of a log's first record, which is misplaced here.
-abbrev pub of_kind : ℕ → ℕ → Reader Effect
-of_kind begin 1 = make_stream
-of_kind begin 2 = change_stream
-of_kind begin 3 = done effects.DropStream
-of_kind begin 4 = put_here
-of_kind begin 5 = skip
-of_kind begin 6 = remove
-of_kind begin 7 = make_consumer
-of_kind begin 8 = drop_consumer
-of_kind begin 9 = deliver
-of_kind begin 10 = acked
-of_kind begin 11 = due
-of_kind begin 12 = given_up
-of_kind begin 13 = now
-of_kind begin 32 = λ _ _. Err (BadField begin)
-of_kind begin _ = λ _ _. Err (BadKind begin)
+-- each kind, and the fields behind it
+abbrev pub table : List (ℕ × Reader Effect)
+table =
+    (1, make_stream)
+    ∷ (2, change_stream)
+    ∷ (3, done effects.DropStream)
+    ∷ (4, put_here)
+    ∷ (5, skip)
+    ∷ (6, remove)
+    ∷ (7, make_consumer)
+    ∷ (8, drop_consumer)
+    ∷ (9, deliver)
+    ∷ (10, acked)
+    ∷ (11, due)
+    ∷ (12, given_up)
+    ∷ (13, now)
+    ∷ []
+
+-- A kind that is none is told where it stands, and so is that of a log's first record, which is misplaced here.
+abbrev pub of_no_kind : ℕ → ℕ → Reader Effect
+of_no_kind begin kind _ _ = if kind == 32 then Err (BadField begin) else Err (BadKind begin)
+
+abbrev pub fields_in : List (ℕ × Reader Effect) → ℕ → ℕ → Reader Effect
+fields_in [] begin kind = of_no_kind begin kind
+fields_in ((k, fields) ∷ more) begin kind = if kind == k then fields else fields_in more begin kind
 
 unfoldable pub record_at : Reader Effect
 record_at = do
   begin ← place
   kind ← word w8
-  of_kind begin kind
+  fields_in table begin kind
 
 -- these records stand one behind the other from the one place to the other
 abbrev pub Stand : Bytes → ℕ → List Effect → ℕ → Type 0

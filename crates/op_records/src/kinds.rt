@@ -1,17 +1,17 @@
 //! The records of each kind as they are read.
 
-ghost use Rattle.std.specs.Prelude.{◌≡◌};
-ghost use Rattle.op_records.specs.Answers.{IsWithin, Reads};
+ghost use Rattle.std.specs.Prelude.{◌<◌, IfOk};
+ghost use Rattle.op_records.specs.Answers.{IsBehind, IsWithin, Reads};
 ghost use Rattle.op_records.specs.Reading as kinds;
 
 use crate::fault::RecordFault;
 use crate::reader::Reader;
 use effects::Effect;
 
+#[tactic(auto, unfolding(crate::specs::Reading::make_stream))]
 fn make_stream(reader: &mut Reader<'_>) -> Result<Effect, RecordFault>
     requires within { IsWithin reader.old }
-    ensures same { reader.new.bytes ≡ reader.old.bytes }
-    ensures within { IsWithin reader.new }
+    ensures behind { IsBehind reader.old reader.new }
     ensures reading { Reads result reader.new (kinds.make_stream reader.old.bytes.now reader.old.at) }
 {
     let incarnation = reader.number()?;
@@ -24,20 +24,20 @@ fn make_stream(reader: &mut Reader<'_>) -> Result<Effect, RecordFault>
     })
 }
 
+#[tactic(auto, unfolding(crate::specs::Reading::change_stream))]
 fn change_stream(reader: &mut Reader<'_>) -> Result<Effect, RecordFault>
     requires within { IsWithin reader.old }
-    ensures same { reader.new.bytes ≡ reader.old.bytes }
-    ensures within { IsWithin reader.new }
+    ensures behind { IsBehind reader.old reader.new }
     ensures reading { Reads result reader.new (kinds.change_stream reader.old.bytes.now reader.old.at) }
 {
     let config = reader.stream_config()?;
     Ok(Effect::ChangeStream { config })
 }
 
+#[tactic(auto, unfolding(crate::specs::Reading::put_here))]
 fn put_here(reader: &mut Reader<'_>) -> Result<Effect, RecordFault>
     requires within { IsWithin reader.old }
-    ensures same { reader.new.bytes ≡ reader.old.bytes }
-    ensures within { IsWithin reader.new }
+    ensures behind { IsBehind reader.old reader.new }
     ensures reading { Reads result reader.new (kinds.put_here reader.old.bytes.now reader.old.at) }
 {
     let seq = reader.number()?;
@@ -55,10 +55,10 @@ fn put_here(reader: &mut Reader<'_>) -> Result<Effect, RecordFault>
     })
 }
 
+#[tactic(auto, unfolding(crate::specs::Reading::skip))]
 fn skip(reader: &mut Reader<'_>) -> Result<Effect, RecordFault>
     requires within { IsWithin reader.old }
-    ensures same { reader.new.bytes ≡ reader.old.bytes }
-    ensures within { IsWithin reader.new }
+    ensures behind { IsBehind reader.old reader.new }
     ensures reading { Reads result reader.new (kinds.skip reader.old.bytes.now reader.old.at) }
 {
     let seq = reader.number()?;
@@ -67,20 +67,20 @@ fn skip(reader: &mut Reader<'_>) -> Result<Effect, RecordFault>
     Ok(Effect::Skip { seq, at, id })
 }
 
+#[tactic(auto, unfolding(crate::specs::Reading::remove))]
 fn remove(reader: &mut Reader<'_>) -> Result<Effect, RecordFault>
     requires within { IsWithin reader.old }
-    ensures same { reader.new.bytes ≡ reader.old.bytes }
-    ensures within { IsWithin reader.new }
+    ensures behind { IsBehind reader.old reader.new }
     ensures reading { Reads result reader.new (kinds.remove reader.old.bytes.now reader.old.at) }
 {
     let (low, high) = reader.range()?;
     Ok(Effect::Remove { low, high })
 }
 
+#[tactic(auto, unfolding(crate::specs::Reading::make_consumer))]
 fn make_consumer(reader: &mut Reader<'_>) -> Result<Effect, RecordFault>
     requires within { IsWithin reader.old }
-    ensures same { reader.new.bytes ≡ reader.old.bytes }
-    ensures within { IsWithin reader.new }
+    ensures behind { IsBehind reader.old reader.new }
     ensures reading { Reads result reader.new (kinds.make_consumer reader.old.bytes.now reader.old.at) }
 {
     let begin = reader.at;
@@ -101,20 +101,20 @@ fn make_consumer(reader: &mut Reader<'_>) -> Result<Effect, RecordFault>
     })
 }
 
+#[tactic(auto, unfolding(crate::specs::Reading::drop_consumer))]
 fn drop_consumer(reader: &mut Reader<'_>) -> Result<Effect, RecordFault>
     requires within { IsWithin reader.old }
-    ensures same { reader.new.bytes ≡ reader.old.bytes }
-    ensures within { IsWithin reader.new }
+    ensures behind { IsBehind reader.old reader.new }
     ensures reading { Reads result reader.new (kinds.drop_consumer reader.old.bytes.now reader.old.at) }
 {
     let name = reader.name()?;
     Ok(Effect::DropConsumer { name })
 }
 
+#[tactic(auto, unfolding(crate::specs::Reading::deliver))]
 fn deliver(reader: &mut Reader<'_>) -> Result<Effect, RecordFault>
     requires within { IsWithin reader.old }
-    ensures same { reader.new.bytes ≡ reader.old.bytes }
-    ensures within { IsWithin reader.new }
+    ensures behind { IsBehind reader.old reader.new }
     ensures reading { Reads result reader.new (kinds.deliver reader.old.bytes.now reader.old.at) }
 {
     let name = reader.name()?;
@@ -131,10 +131,10 @@ fn deliver(reader: &mut Reader<'_>) -> Result<Effect, RecordFault>
     })
 }
 
+#[tactic(auto, unfolding(crate::specs::Reading::acked))]
 fn acked(reader: &mut Reader<'_>) -> Result<Effect, RecordFault>
     requires within { IsWithin reader.old }
-    ensures same { reader.new.bytes ≡ reader.old.bytes }
-    ensures within { IsWithin reader.new }
+    ensures behind { IsBehind reader.old reader.new }
     ensures reading { Reads result reader.new (kinds.acked reader.old.bytes.now reader.old.at) }
 {
     let name = reader.name()?;
@@ -142,10 +142,10 @@ fn acked(reader: &mut Reader<'_>) -> Result<Effect, RecordFault>
     Ok(Effect::Acked { name, low, high })
 }
 
+#[tactic(auto, unfolding(crate::specs::Reading::due))]
 fn due(reader: &mut Reader<'_>) -> Result<Effect, RecordFault>
     requires within { IsWithin reader.old }
-    ensures same { reader.new.bytes ≡ reader.old.bytes }
-    ensures within { IsWithin reader.new }
+    ensures behind { IsBehind reader.old reader.new }
     ensures reading { Reads result reader.new (kinds.due reader.old.bytes.now reader.old.at) }
 {
     let name = reader.name()?;
@@ -154,10 +154,10 @@ fn due(reader: &mut Reader<'_>) -> Result<Effect, RecordFault>
     Ok(Effect::Due { name, seq, due })
 }
 
+#[tactic(auto, unfolding(crate::specs::Reading::given_up))]
 fn given_up(reader: &mut Reader<'_>) -> Result<Effect, RecordFault>
     requires within { IsWithin reader.old }
-    ensures same { reader.new.bytes ≡ reader.old.bytes }
-    ensures within { IsWithin reader.new }
+    ensures behind { IsBehind reader.old reader.new }
     ensures reading { Reads result reader.new (kinds.given_up reader.old.bytes.now reader.old.at) }
 {
     let name = reader.name()?;
@@ -165,10 +165,10 @@ fn given_up(reader: &mut Reader<'_>) -> Result<Effect, RecordFault>
     Ok(Effect::GivenUp { name, moment })
 }
 
+#[tactic(auto, unfolding(crate::specs::Reading::now))]
 fn now(reader: &mut Reader<'_>) -> Result<Effect, RecordFault>
     requires within { IsWithin reader.old }
-    ensures same { reader.new.bytes ≡ reader.old.bytes }
-    ensures within { IsWithin reader.new }
+    ensures behind { IsBehind reader.old reader.new }
     ensures reading { Reads result reader.new (kinds.now reader.old.bytes.now reader.old.at) }
 {
     let moment = reader.moment()?;
@@ -176,11 +176,12 @@ fn now(reader: &mut Reader<'_>) -> Result<Effect, RecordFault>
 }
 
 /// The record at the reader's place.
+#[tactic(auto, unfolding(crate::specs::Reading::record_at))]
 pub(crate) fn record(reader: &mut Reader<'_>) -> Result<Effect, RecordFault>
     requires within { IsWithin reader.old }
-    ensures same { reader.new.bytes ≡ reader.old.bytes }
-    ensures within { IsWithin reader.new }
+    ensures behind { IsBehind reader.old reader.new }
     ensures reading { Reads result reader.new (kinds.record_at reader.old.bytes.now reader.old.at) }
+    ensures further { IfOk result (λ effect. reader.old.at < reader.new.at) }
 {
     let begin = reader.at;
     match reader.byte()? {
@@ -203,10 +204,10 @@ pub(crate) fn record(reader: &mut Reader<'_>) -> Result<Effect, RecordFault>
 }
 
 /// The incarnation of the vacant place with which a log begins.
+#[tactic(auto, unfolding(crate::specs::Reading::vacant_record))]
 pub(crate) fn vacant(reader: &mut Reader<'_>) -> Result<u64, RecordFault>
     requires within { IsWithin reader.old }
-    ensures same { reader.new.bytes ≡ reader.old.bytes }
-    ensures within { IsWithin reader.new }
+    ensures behind { IsBehind reader.old reader.new }
     ensures reading { Reads result reader.new (kinds.vacant_record reader.old.bytes.now reader.old.at) }
 {
     let begin = reader.at;

@@ -1,6 +1,7 @@
 //! The fields of records as they are written.
 
 ghost use Rattle.std.specs.Prelude.{◌≡◌, ◌++◌, ◌∷◌, [], length, IsTrue, OnOk};
+ghost use Rattle.std.specs.List.{flat_map};
 ghost use Rattle.js_model.specs.Configs.{is_name, is_stream_config, is_consumer_config};
 ghost use Rattle.op_records.specs.Allowed.{is_text};
 ghost use Rattle.op_records.specs.Spelling.{number, short, text, long, numbers};
@@ -55,7 +56,17 @@ pub(crate) fn put_long(into: &mut Vec<u8>, bytes: &[u8]) -> Result<(), NoMemory>
     put_bytes(into, bytes)
 }
 
-/// Adds numbers behind their count.
+/// Adds each of the numbers.
+fn put_each(into: &mut Vec<u8>, numbers: &[u64]) -> Result<(), NoMemory>
+    ensures ok { OnOk result (into.new.items ≡ into.old.items ++ flat_map number numbers.now) }
+{
+    for n in numbers {
+        put_u64(into, *n)?;
+    }
+    Ok(())
+}
+
+/// Adds numbers behind their count. More than such a count can say find no memory.
 pub(crate) fn put_numbers(into: &mut Vec<u8>, list: &List<u64>) -> Result<(), NoMemory>
     ensures ok { OnOk result (into.new.items ≡ into.old.items ++ numbers list.now) }
 {
@@ -63,10 +74,7 @@ pub(crate) fn put_numbers(into: &mut Vec<u8>, list: &List<u64>) -> Result<(), No
         return Err(NoMemory);
     };
     put_u32(into, count)?;
-    for n in list.as_slice() {
-        put_u64(into, *n)?;
-    }
-    Ok(())
+    put_each(into, list.as_slice())
 }
 
 /// Adds the text of a stream's configuration.

@@ -9,6 +9,7 @@ use Rattle.effects.specs.declared.durable.Durable.{Durable}
 use Rattle.effects.specs.declared.effect.Effect.{Effect}
 use Rattle.effects.specs.Folding.{fold, fold_all}
 use Rattle.op_records.specs.Reading.{Stand, record_at, vacant_field, vacant_record}
+use Rattle.op_records.proofs.Steps.{value_is, place_is}
 use Rattle.stream_store.specs.Logs.{LogIn, current}
 use Rattle.stream_store.specs.Batches.{IsStorable, Adds, AddAll, Begins, Gives}
 use Rattle.stream_store.specs.Holding.{IsOpenable, Holds}
@@ -32,9 +33,8 @@ rest_of : (bytes : Bytes) (at here : ℕ) (all front : List Effect) → Stand by
 rest_of bytes at here all [] h k = record { rest = all; all_are = refl; stand = subst (λ (n : ℕ). Stand bytes n all (length bytes)) k h }
 rest_of bytes at here [] (f ∷ front) h (behind, reads, more) = no_record bytes at f behind h reads
 rest_of bytes at here (e ∷ all) (f ∷ front) (b, reads, h) (c, others, k) =
-    let same : Ok (e, b) ≡ Ok (f, c) = sym reads ∙ others in
-    let first : e ≡ f = cc in
-    let place : b ≡ c = cc in
+    let first = value_is e b f c (sym reads ∙ others) in
+    let place = place_is e b f c (sym reads ∙ others) in
     let r = rest_of bytes c here all front (subst (λ (n : ℕ). Stand bytes n all (length bytes)) place h) k in
     record { rest = r.rest; all_are = ap (λ (x : Effect). x ∷ all) first ∙ ap (λ (l : List Effect). f ∷ l) r.all_are; stand = r.stand }
 
@@ -73,8 +73,7 @@ module _ (old : Durable) (bytes : Bytes) (new : Durable) (adds : Adds old bytes 
       go : (rest : List Effect) → Stand bytes m.here rest (length bytes) → fold_all rest (Some m.mid) ≡ Some new → ⊥
       go [] e folded = no_record bytes m.here m.effect m.behind e m.reads
       go (f ∷ rest) (behind, reads, more) folded =
-          let same : Ok (f, behind) ≡ Ok (m.effect, m.behind) = sym reads ∙ m.reads in
-          let first : f ≡ m.effect = cc in
+          let first = value_is f behind m.effect m.behind (sym reads ∙ m.reads) in
           let none : fold_all rest (fold m.mid f) ≡ None = ap (λ (e : Effect). fold_all rest (fold m.mid e)) first ∙ ap (fold_all rest) m.unfit ∙ fold_none rest in
           absurd (cc)
 
@@ -85,13 +84,11 @@ module _ (old : Durable) (bytes : Bytes) (new : Durable) (adds : Adds old bytes 
       go : (rest : List Effect) → Stand bytes here rest (length bytes) → fold_all rest (Some l.mid) ≡ Some new → other ≡ new
       go [] e folded = no_record bytes here l.effect (length bytes) e l.reads
       go (f ∷ []) (behind, reads, e) folded =
-          let same : Ok (f, behind) ≡ Ok (l.effect, length bytes) = sym reads ∙ l.reads in
-          let first : f ≡ l.effect = cc in
+          let first = value_is f behind l.effect (length bytes) (sym reads ∙ l.reads) in
           let made : Some other ≡ Some new = sym l.fits ∙ ap (fold l.mid) (sym first) ∙ folded in
           cc
       go (f ∷ (g ∷ rest)) (behind, reads, (next, others, more)) folded =
-          let same : Ok (f, behind) ≡ Ok (l.effect, length bytes) = sym reads ∙ l.reads in
-          let place : behind ≡ length bytes = cc in
+          let place = place_is f behind l.effect (length bytes) (sym reads ∙ l.reads) in
           no_record bytes behind g next place others
 
   pub no_bad_record : (at : ℕ) → HasBadRecord old bytes at → ⊥
@@ -138,10 +135,10 @@ module _ (batches : List Bytes) (d : Durable) (gives : Gives batches d) (openabl
       go (b, other, adds) = subst (λ (x : Durable). AddAll x later d) (begins_same first b begun other begins) adds
 
   no_bad_first : (at : ℕ) → IsBadFirst batches at → ⊥
+  unfolding vacant_field vacant_record
   no_bad_first at f = go (subst (λ (l : List Bytes). Gives l d) f.batches_are gives) f.bad
     where
       go : (b : Durable) × Begins f.first b × AddAll b f.later d → IsEmptyFirst f.first at ⊎ IsWrongFirst f.first at → ⊥
-      unfolding vacant_field vacant_record
       go (b, begins, adds) (inl e) = let reads = subst (λ (l : Bytes). vacant_field l 0 ≡ Ok (begins.incarnation, length l)) e.empty begins.reads in absurd (cc)
       go (b, begins, adds) (inr w) = let reads = begins.reads in let wrong = w.wrong in absurd (cc)
 

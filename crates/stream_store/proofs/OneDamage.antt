@@ -7,6 +7,7 @@ use Rattle.effects.specs.Folding.{fold, fold_all}
 use Rattle.op_records.specs.Reading.{Stand, record_at}
 use Rattle.op_records.specs.declared.fault.RecordFault.{RecordFault}
 use Rattle.op_records.specs.declared.fault.RecordFault.TheVariants.{Cut, BadKind, BadField, NoMemory as OutOfMemory}
+use Rattle.op_records.proofs.Steps.{value_is, place_is}
 use Rattle.stream_store.specs.Misfits.{misfit}
 use Rattle.stream_store.specs.Damage.{IsAt, IsFolded, IsLast, HasBadRecord}
 use Rattle.stream_store.proofs.NoDamage.{no_record, fold_none}
@@ -39,17 +40,14 @@ not_before : (bytes : Bytes) (here : ℕ) (mid : Durable) (at : ℕ) → Wrong b
     → Stand bytes here (f ∷ rest) there → fold_all (f ∷ rest) (Some mid) ≡ Some end → Wrong bytes there end other → ⊥
 not_before bytes here mid at (misread more fault wrong place) f rest there end other (behind, reads, stand) folded next = absurd (cc)
 not_before bytes here mid at (misfitting effect behind reads unfit place) f rest there end other (b, others, stand) folded next =
-    let same : Ok (f, b) ≡ Ok (effect, behind) = sym others ∙ reads in
-    let first : f ≡ effect = cc in
+    let first = value_is f b effect behind (sym others ∙ reads) in
     let none : fold_all rest (fold mid f) ≡ None = ap (λ (e : Effect). fold_all rest (fold mid e)) first ∙ ap (fold_all rest) unfit ∙ fold_none rest in
     absurd (cc)
 not_before bytes here mid at (ending effect new reads fits place) f [] there end other (b, others, stand) folded next =
-    let same : Ok (f, b) ≡ Ok (effect, length bytes) = sym others ∙ reads in
-    let behind : b ≡ length bytes = cc in
+    let behind = place_is f b effect (length bytes) (sym others ∙ reads) in
     not_at_end bytes there end other (sym stand ∙ behind) next
 not_before bytes here mid at (ending effect new reads fits place) f (g ∷ rest) there end other (b, others, (c, more, stand)) folded next =
-    let same : Ok (f, b) ≡ Ok (effect, length bytes) = sym others ∙ reads in
-    let behind : b ≡ length bytes = cc in
+    let behind = place_is f b effect (length bytes) (sym others ∙ reads) in
     no_record bytes b g c behind more
 
 pub same_place : (fault : RecordFault) (at other : ℕ) → IsAt fault at → IsAt fault other → at ≡ other
@@ -67,14 +65,13 @@ same_wrong bytes here mid at other (misread more fault wrong place) (misfitting 
 same_wrong bytes here mid at other (misread more fault wrong place) (ending effect new reads fits there) = absurd (cc)
 same_wrong bytes here mid at other (misfitting effect behind reads unfit place) (misread less fail bad there) = absurd (cc)
 same_wrong bytes here mid at other (misfitting effect behind reads unfit place) (misfitting e b others none there) =
-    let same : Ok (effect, behind) ≡ Ok (e, b) = sym reads ∙ others in
-    let one : effect ≡ e = cc in
+    let one = value_is effect behind e b (sym reads ∙ others) in
     place ∙ ap (λ (f : Effect). here + misfit mid f) one ∙ sym there
 same_wrong bytes here mid at other (misfitting effect behind reads unfit place) (ending e new others fits there) =
-    let same : Ok (effect, behind) ≡ Ok (e, length bytes) = sym reads ∙ others in absurd (cc)
+    let same = value_is effect behind e (length bytes) (sym reads ∙ others) in absurd (cc)
 same_wrong bytes here mid at other (ending effect new reads fits place) (misread less fail bad there) = absurd (cc)
 same_wrong bytes here mid at other (ending effect new reads fits place) (misfitting e b others none there) =
-    let same : Ok (effect, length bytes) ≡ Ok (e, b) = sym reads ∙ others in absurd (cc)
+    let same = value_is effect (length bytes) e b (sym reads ∙ others) in absurd (cc)
 same_wrong bytes here mid at other (ending effect new reads fits place) (ending e newer others fit there) = place ∙ sym there
 
 -- two readings of the same bytes stop at one place
@@ -94,9 +91,8 @@ same_stop bytes from here there old mid end (e ∷ es) [] at other h k folded go
     let two : old ≡ end = cc in
     absurd (not_before bytes from old other (subst (λ (d : Durable). Wrong bytes from d other) (sym two) (subst (λ (n : ℕ). Wrong bytes n end other) (sym k) v)) e es here mid at h folded w)
 same_stop bytes from here there old mid end (e ∷ es) (f ∷ fs) at other (b, reads, h) (c, others, k) folded goes w v =
-    let same : Ok (e, b) ≡ Ok (f, c) = sym reads ∙ others in
-    let first : e ≡ f = cc in
-    let place : b ≡ c = cc in
+    let first = value_is e b f c (sym reads ∙ others) in
+    let place = place_is e b f c (sym reads ∙ others) in
     go (fold old f) (ap (λ (x : Effect). fold_all es (fold old x)) (sym first) ∙ folded) goes
     (λ d p r. same_stop bytes c here there d mid end es fs at other (subst (λ (n : ℕ). Stand bytes n es here) place h) k p r w v)
   where

@@ -11,8 +11,9 @@ use Rattle.effects.specs.declared.effect.Effect.{Effect}
 use Rattle.effects.specs.Folding.{vacant, fold_all}
 use Rattle.op_records.specs.Steps.{continued}
 use Rattle.op_records.specs.Fields.{number_told}
-use Rattle.op_records.specs.Reading.{Stand, of_kind, record_at}
+use Rattle.op_records.specs.Reading.{Stand, table, fields_in, record_at}
 use Rattle.op_records.specs.declared.fault.RecordFault.TheVariants.{Cut}
+use Rattle.op_records.proofs.Steps.{value_is, place_is}
 use Rattle.stream_store.specs.Logs.{LogIn, HasLog, HasLogs, current}
 use Rattle.stream_store.specs.Batches.{Adds, AddAll, Begins, Gives}
 use Rattle.stream_store.specs.Holding.{Holds}
@@ -24,7 +25,7 @@ use Rattle.gate_log.specs.Faults.{IsDamagedAt, IsOfUnknownVersion}
 -- no record begins where the bytes end
 pub none_at_end : (bytes : Bytes) → record_at bytes (length bytes) ≡ Err (Cut (length bytes))
 unfolding record_at
-none_at_end bytes = ap (λ (o : Option ℕ). continued bytes (λ (kind : ℕ). of_kind (length bytes) kind) (number_told w8 (length bytes) o)) no_byte
+none_at_end bytes = ap (λ (o : Option ℕ). continued bytes (λ (kind : ℕ). fields_in table (length bytes) kind) (number_told w8 (length bytes) o)) no_byte
   where
     no_byte : number_at w8 bytes (length bytes) ≡ None
     no_byte = grind (arith, nat_tests)
@@ -34,17 +35,15 @@ stand_same bytes at [] [] h k = refl
 stand_same bytes at [] (f ∷ fs) h (behind, reads, rest) = let e = none_at_end bytes in let q = subst (λ (n : ℕ). record_at bytes n ≡ Ok (f, behind)) h reads in absurd (cc)
 stand_same bytes at (e ∷ es) [] (behind, reads, rest) k = let n = none_at_end bytes in let q = subst (λ (n : ℕ). record_at bytes n ≡ Ok (e, behind)) k reads in absurd (cc)
 stand_same bytes at (e ∷ es) (f ∷ fs) (b, reads, rest) (c, others, more) =
-    let same : Ok (e, b) ≡ Ok (f, c) = sym reads ∙ others in
-    let first : e ≡ f = cc in
-    let place : b ≡ c = cc in
+    let first = value_is e b f c (sym reads ∙ others) in
+    let place = place_is e b f c (sym reads ∙ others) in
     ap (λ (x : Effect). x ∷ es) first ∙ ap (λ (l : List Effect). f ∷ l) (stand_same bytes c es fs (subst (λ (n : ℕ). Stand bytes n es (length bytes)) place rest) more)
 
 -- ---- batches
 
 pub begins_same : (bytes : Bytes) (d e : Durable) → Begins bytes d → Begins bytes e → d ≡ e
 begins_same bytes d e h k =
-    let same : Ok (h.incarnation, length bytes) ≡ Ok (k.incarnation, length bytes) = sym h.reads ∙ k.reads in
-    let number : h.incarnation ≡ k.incarnation = cc in
+    let number = value_is h.incarnation (length bytes) k.incarnation (length bytes) (sym h.reads ∙ k.reads) in
     h.begun_is ∙ ap vacant number ∙ sym k.begun_is
 
 pub adds_same : (old : Durable) (bytes : Bytes) (d e : Durable) → Adds old bytes d → Adds old bytes e → d ≡ e

@@ -80,9 +80,11 @@ both_later begun old new (x ∷ front) (y ∷ others) b c rest more place other 
 empties_stay : (d : Durable) (batches : List Bytes) → IsStorable d → All (λ batch. batch ≡ []) batches → AddAll d batches d
 empties_stay d [] storable all = refl
 empties_stay d (b ∷ batches) storable all =
-    let is : b ≡ [] = all 0 b (omega arith) in
-    (d, subst (λ (l : Bytes). Adds d l d) (sym is) (record { effects = []; records = refl; folded = refl; storable = storable }),
-    empties_stay d batches storable (λ k batch within. all (suc k) batch (omega (arith, within))))
+    let is : b ≡ [] = all 0 b (omega arith) in (
+      d,
+      subst (λ (l : Bytes). Adds d l d) (sym is) (record { effects = []; records = refl; folded = refl; storable = storable }),
+      empties_stay d batches storable (λ k batch within. all (suc k) batch (omega (arith, within))),
+    )
 
 add_more : (begun mid end : Durable) (front : List Bytes) (b : Bytes) (empty : List Bytes) → AddAll begun front mid → Adds mid b end → All (λ batch. batch ≡ []) empty
     → AddAll begun (front ++ b ∷ empty) end
@@ -148,8 +150,8 @@ later_later batches at other l m =
     let begun : l.begun ≡ m.begun = begins_same m.first l.begun m.begun (subst (λ (b : Bytes). Begins b l.begun) same l.begins) m.begins in
     l.here
     ∙ offsets_same l.first m.first l.front m.front l.place m.place same
-      (both_later m.begun l.old m.old l.front m.front l.bytes m.bytes l.rest m.rest l.place m.place (rest_of l.first m.first (l.front ++ l.bytes ∷ l.rest) (m.front ++ m.bytes ∷ m.rest) lists)
-      (subst (λ (d : Durable). AddAll d l.front l.old) begun l.so_far) m.so_far l.bad m.bad)
+    (both_later m.begun l.old m.old l.front m.front l.bytes m.bytes l.rest m.rest l.place m.place (rest_of l.first m.first (l.front ++ l.bytes ∷ l.rest) (m.front ++ m.bytes ∷ m.rest) lists)
+    (subst (λ (d : Durable). AddAll d l.front l.old) begun l.so_far) m.so_far l.bad m.bad)
     ∙ sym m.here
 
 end_end : (batches : List Bytes) (at other : ℕ) → IsBadEnd batches at → IsBadEnd batches other → at ≡ other
@@ -159,8 +161,8 @@ end_end batches at other l m =
     let begun : l.begun ≡ m.begun = begins_same m.first l.begun m.begun (subst (λ (b : Bytes). Begins b l.begun) same l.begins) m.begins in
     l.here
     ∙ offsets_same l.first m.first l.front m.front l.place m.place same
-      (both_end m.begun l.old m.old l.new m.new l.front m.front l.bytes m.bytes l.empty m.empty l.place m.place (rest_of l.first m.first (l.front ++ l.bytes ∷ l.empty) (m.front ++ m.bytes ∷ m.empty) lists)
-      l.are_empty m.are_empty (subst (λ (d : Durable). AddAll d l.front l.old) begun l.so_far) m.so_far l.last m.last)
+    (both_end m.begun l.old m.old l.new m.new l.front m.front l.bytes m.bytes l.empty m.empty l.place m.place (rest_of l.first m.first (l.front ++ l.bytes ∷ l.empty) (m.front ++ m.bytes ∷ m.empty) lists)
+    l.are_empty m.are_empty (subst (λ (d : Durable). AddAll d l.front l.old) begun l.so_far) m.so_far l.last m.last)
     ∙ sym m.here
 
 -- what can't be opened is added, so no batch of it is wrong
