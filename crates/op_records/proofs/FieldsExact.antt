@@ -1,21 +1,29 @@
 -- The fields of records are read exactly where they are spelled.
-use Rattle.std.proofs.Common.{◌≡◌, ℕ, zero, suc, ◌+◌, ◌≤◌, ◌<◌, ◌^◌, Bool, true, false, ◌&&◌, List, [], ◌∷◌, ◌++◌, length, take, drop, Option, Some, None, Ok, Err, IsTrue, nat_le, refl, sym, ap, subst, ◌∙◌, if◌then◌else◌, arith, length-append, length-take, length-drop}
+use Rattle.std.proofs.Common.{◌≡◌, ℕ, zero, suc, ◌+◌, ◌≤◌, ◌<◌, ◌^◌, Bool, true, false, ◌&&◌, List, [], ◌∷◌, ◌++◌, length, take, drop, Option, Some, None, is_none, nat_lt, Result, Ok, Err, IsTrue, nat_le, refl, sym, ap, subst, ◌∙◌, if◌then◌else◌, arith, length-append, length-take, length-drop}
 use Rattle.std.specs.Int.{Width, w8, w16, w32, w64, byte_len, to_be_bytes}
 use Rattle.std.specs.List.{flat_map, list_all}
 use Rattle.std.proofs.lemmas.Bool.{and_parts, and_from}
+use Rattle.std.proofs.lemmas.Bool.Decides.{nat_tests}
 use Rattle.std.proofs.lemmas.List.Concat.{flat_map-cons}
 use Rattle.js_base.specs.Bytes.{Bytes}
+use Rattle.js_base.specs.Names.{name_of, unless_bad, first_bad, is_name_byte}
+use Rattle.js_base.specs.declared.name.NameFault.{NameFault}
+use Rattle.js_base.specs.declared.name.NameFault.TheVariants.{TooLong}
 use Rattle.js_base.specs.Subjects.{is_subject_text}
+use Rattle.js_base.proofs.Places.{none_fails}
 use Rattle.js_model.specs.Configs.{is_name, is_number}
 use Rattle.js_model.proofs.NameTexts.{name_parts}
+use Rattle.config_texts.specs.Reading.{allowed}
+use Rattle.config_texts.proofs.Entries.{allowed_back}
+use Rattle.config_texts.proofs.Names.{name_back, same_name}
 use Rattle.op_records.specs.Steps.{Reading, Reader, ◌>>=◌, continued, done}
-use Rattle.op_records.specs.Fields.{only, word, part, piece, number_field, cursor_field, number_fields, numbers_field, name_field, text_field, subject_field, in_order, range_field}
+use Rattle.op_records.specs.Fields.{only, word, part, piece, some_or_bad, number_field, cursor_field, number_fields, numbers_field, name_field, text_field, subject_field, in_order, range_field}
 use Rattle.op_records.specs.Allowed.{is_text, is_cursor, are_picks, is_range}
 use Rattle.op_records.specs.Spelling.{number, short, text, numbers}
 use Rattle.op_records.specs.declared.fault.RecordFault.{RecordFault}
 use Rattle.op_records.specs.declared.fault.RecordFault.TheVariants.{Cut}
 use Rattle.op_records.proofs.Spans.{Spans, span_none, span_of, span_then, span_front, span_back, span_is}
-use Rattle.op_records.proofs.Steps.{both, value_is, place_is, passed}
+use Rattle.op_records.proofs.Steps.{both, value_is, place_is, passed, given}
 use Rattle.op_records.proofs.Exact.{AreBytes, Batch, Exact, IsWide, wide8, wide16, wide32, wide64, word_took, word_again, le_is, is_le, lt_is, is_lt}
 
 -- ---- numbers
@@ -157,11 +165,32 @@ subject_short subject is =
     let size : nat_le (length subject) 1024 ≡ true = (and_parts _ _ (and_parts _ _ (and_parts _ _ (and_parts _ _ (and_parts _ _ is).0).0).0).0).1 in
     omega (arith, le_is (length subject) 1024 size)
 
+-- what is read as a name is one
+read_is : (text name : Bytes) → name_of text ≡ Ok name → is_name text ≡ true
+read_is [] name h = absurd (cc)
+read_is (byte ∷ more) name h = by (nat_lt 255 (length (byte ∷ more))) refl (first_bad (byte ∷ more)) refl h
+  where
+    within : (n : ℕ) → nat_lt 255 n ≡ false → nat_le n 255 ≡ true
+    within n h = grind (arith, nat_tests)
+
+    by : (long : Bool) → nat_lt 255 (length (byte ∷ more)) ≡ long → (bad : Option ℕ) → first_bad (byte ∷ more) ≡ bad → if◌then◌else◌ {A = Result Bytes NameFault} long (Err TooLong) (unless_bad bad (byte ∷ more)) ≡ Ok name → is_name (byte ∷ more) ≡ true
+    by true e bad b h = absurd (cc)
+    by false e None b h = and_from _ _ (within (length (byte ∷ more)) e) (sym (none_fails is_name_byte (byte ∷ more)) ∙ ap (λ (o : Option ℕ). is_none o) b)
+    by false e (Some at) b h = absurd (cc)
+
 pub name_exact : Exact name_field short (λ name. IsTrue (is_name name))
 unfolding name_field
 name_exact = record {
-  took = λ bytes at name behind b e. tested_took w8 (2 ^ 8) wide8 is_name bytes at name behind b e;
-  again = λ bytes at name behind b is s. tested_again w8 (2 ^ 8) wide8 is_name bytes at name behind (name_short name is) is s;
+  took = λ bytes at name behind b e.
+      let p = both bytes (λ (text : Bytes). some_or_bad at (allowed (name_of text))) (piece w8 bytes at) name behind e in
+      let q = given at (allowed (name_of p.value)) bytes p.mid name behind p.second in
+      let t = piece_took w8 (2 ^ 8) wide8 bytes at p.value p.mid b p.first in
+      let read = allowed_back (name_of p.value) name q.some in
+      let same = same_name p.value name read in (
+        subst (λ (l : Bytes). IsTrue (is_name l)) same (read_is p.value name read),
+        subst (λ (l : Bytes). Spans bytes at (short l) behind) same (subst (λ (k : ℕ). Spans bytes at (short p.value) k) q.place t.1),
+      );
+  again = λ bytes at name behind b is s. rw (piece_again w8 (2 ^ 8) wide8 bytes at name behind (name_short name is) s, name_back name is) refl;
 }
 
 pub text_exact : Exact text_field text (λ bytes. IsTrue (is_text bytes))

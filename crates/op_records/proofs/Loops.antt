@@ -1,9 +1,10 @@
 -- Numbers and records that are read one after the other, as loops do.
-use Rattle.std.proofs.Common.{◌≡◌, ℕ, suc, ◌+◌, ◌-◌, ◌≤◌, ◌<◌, List, [], ◌∷◌, ◌++◌, length, Ok, Err, refl, sym, ap, ◌∙◌, append_assoc, append-nil, arith}
+use Rattle.std.proofs.Common.{◌≡◌, ℕ, suc, ◌+◌, ◌-◌, ◌≤◌, ◌<◌, List, [], ◌∷◌, ◌++◌, length, Ok, Err, refl, sym, ap, subst, ◌∙◌, append_assoc, append-nil, arith}
+use Rattle.std.specs.Int.{w32}
 use Rattle.js_base.specs.Bytes.{Bytes}
 use Rattle.effects.specs.declared.effect.Effect.{Effect}
 use Rattle.op_records.specs.Steps.{Reading, continued, done}
-use Rattle.op_records.specs.Fields.{number_field, number_fields}
+use Rattle.op_records.specs.Fields.{word, number_field, number_fields, numbers_field}
 use Rattle.op_records.specs.Reading.{record_at, Stand, IsWrong}
 use Rattle.op_records.specs.Answers.{IsFaultOf, IsWrongBy}
 use Rattle.op_records.specs.declared.fault.RecordFault.{RecordFault}
@@ -46,6 +47,14 @@ is_done bytes front count i at total le so_far =
     let k : count - i ≡ 0 = omega arith in
     let one : with_front front (number_fields (count - i) bytes at) ≡ Ok (front, at) = rw k (ap (λ (l : List ℕ). Ok (l, at)) (append-nil front)) in
     sym so_far ∙ one
+
+pub numbers_fault : (bytes : Bytes) (at count mid : ℕ) (fault : RecordFault) → word w32 bytes at ≡ Ok (count, mid) → IsFaultOf (number_fields count bytes mid) fault → IsFaultOf (numbers_field bytes at) fault
+unfolding numbers_field
+numbers_fault bytes at count mid fault first h = subst (λ (r : Reading ℕ). IsFaultOf (continued bytes number_fields r) fault) (sym first) h
+
+pub numbers_read : (bytes : Bytes) (at count mid : ℕ) (ns : List ℕ) (behind : ℕ) → word w32 bytes at ≡ Ok (count, mid) → number_fields count bytes mid ≡ Ok (ns, behind) → numbers_field bytes at ≡ Ok (ns, behind)
+unfolding numbers_field
+numbers_read bytes at count mid ns behind first h = ap (continued bytes number_fields) first ∙ h
 
 -- ---- records
 

@@ -1,8 +1,8 @@
 -- What is known of one reading after the other.
-use Rattle.std.proofs.Common.{◌≡◌, ℕ, Bool, true, false, Ok, Err, refl, sym, ap, ◌∙◌, if◌then◌else◌}
+use Rattle.std.proofs.Common.{◌≡◌, ℕ, Bool, true, false, Option, Some, None, Ok, Err, refl, sym, ap, ◌∙◌, if◌then◌else◌}
 use Rattle.js_base.specs.Bytes.{Bytes}
 use Rattle.op_records.specs.Steps.{Reading, Reader, continued, done}
-use Rattle.op_records.specs.Fields.{only}
+use Rattle.op_records.specs.Fields.{only, some_or_bad}
 use Rattle.op_records.specs.Answers.{IsFaultOf}
 use Rattle.op_records.specs.declared.fault.RecordFault.{RecordFault}
 use Rattle.op_records.specs.declared.fault.RecordFault.TheVariants.{Cut, BadKind, BadField, NoMemory as OutOfMemory}
@@ -52,3 +52,12 @@ passed may begin a bytes at b behind e = by (may a) refl e
         let same = value_is a at b behind e in
         record { may_be = ap may (sym same) ∙ is; value = same; place = place_is a at b behind e }
     by false is e = absurd (cc)
+
+-- the value was read
+pub record Given {A : Type 0} (o : Option A) (a : A) (at behind : ℕ) : Type 0 where
+  pub some : o ≡ Some a
+  pub place : at ≡ behind
+
+pub given : {A : Type 0} (begin : ℕ) (o : Option A) (bytes : Bytes) (at : ℕ) (a : A) (behind : ℕ) → some_or_bad begin o bytes at ≡ Ok (a, behind) → Given o a at behind
+given begin None bytes at a behind e = absurd (cc)
+given begin (Some x) bytes at a behind e = record { some = ap Some (value_is x at a behind e); place = place_is x at a behind e }

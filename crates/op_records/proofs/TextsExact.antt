@@ -18,7 +18,7 @@ use Rattle.op_records.specs.Fields.{only, word, part, piece, some_or_bad, stream
 use Rattle.op_records.specs.Allowed.{is_header, fits_block, is_served_config}
 use Rattle.op_records.specs.Spelling.{long}
 use Rattle.op_records.proofs.Spans.{Spans, span_then, span_front, span_back}
-use Rattle.op_records.proofs.Steps.{both, value_is, place_is, passed}
+use Rattle.op_records.proofs.Steps.{both, value_is, place_is, passed, given}
 use Rattle.op_records.proofs.Exact.{Batch, Exact, wide32, word_took, word_again, le_is, is_le}
 use Rattle.op_records.proofs.FieldsExact.{part_took, part_again, piece_took, piece_again}
 
@@ -27,14 +27,6 @@ short_text : (bytes : Bytes) (at : ℕ) (text : Bytes) (behind : ℕ) → Batch 
 short_text bytes at text behind b s = omega (arith, b.short, s.ends, s.within, length-append (to_be_bytes w32 (length text)) text)
 
 -- ---- configurations
-
-record Given {A : Type 0} (o : Option A) (a : A) (at behind : ℕ) : Type 0 where
-  some : o ≡ Some a
-  place : at ≡ behind
-
-given : {A : Type 0} (begin : ℕ) (o : Option A) (bytes : Bytes) (at : ℕ) (a : A) (behind : ℕ) → some_or_bad begin o bytes at ≡ Ok (a, behind) → Given o a at behind
-given begin None bytes at a behind e = absurd (cc)
-given begin (Some x) bytes at a behind e = record { some = ap Some (value_is x at a behind e); place = place_is x at a behind e }
 
 limits_is : (policy : Retention) → same_retention policy Limits ≡ true → policy ≡ Limits
 limits_is Limits h = refl

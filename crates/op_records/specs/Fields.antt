@@ -3,12 +3,13 @@
 use Rattle.std.specs.Prelude.{ℕ, zero, suc, ◌+◌, ◌^◌, nat_le, Bool, ◌&&◌, List, [], ◌∷◌, take, drop, length, Option, Some, None, Ok, Err, if◌then◌else◌}
 use Rattle.std.specs.Int.{Width, w8, w16, w32, w64, byte_len}
 use Rattle.js_base.specs.Bytes.{Bytes, is_empty}
+use Rattle.js_base.specs.Names.{name_of}
 use Rattle.js_base.specs.Numbers.{number_at}
 use Rattle.js_base.specs.Subjects.{is_subject_text}
-use Rattle.js_model.specs.Configs.{is_name, is_number}
+use Rattle.js_model.specs.Configs.{is_number}
 use Rattle.js_model.specs.declared.stream_config.StreamConfig.{StreamConfig}
 use Rattle.js_model.specs.declared.consumer_config.ConsumerConfig.{ConsumerConfig}
-use Rattle.config_texts.specs.Reading.{stream_of, consumer_of}
+use Rattle.config_texts.specs.Reading.{allowed, stream_of, consumer_of}
 use Rattle.op_records.specs.Steps.{Reading, Reader, ◌>>=◌, done, place}
 use Rattle.op_records.specs.Allowed.{is_cursor, is_header}
 use Rattle.op_records.specs.declared.fault.RecordFault.{RecordFault}
@@ -68,12 +69,6 @@ piece w = do
   size ← word w
   part begin size
 
-unfoldable pub name_field : Reader Bytes
-name_field = do
-  begin ← place
-  name ← piece w8
-  only is_name begin name
-
 -- any text
 unfoldable pub text_field : Reader Bytes
 text_field = piece w16
@@ -87,6 +82,12 @@ subject_field = do
 abbrev pub some_or_bad : {A : Type 0} → ℕ → Option A → Reader A
 some_or_bad begin None = λ _ _. Err (BadField begin)
 some_or_bad begin (Some a) = done a
+
+unfoldable pub name_field : Reader Bytes
+name_field = do
+  begin ← place
+  text ← piece w8
+  some_or_bad begin (allowed (name_of text))
 
 -- the text of a stream's configuration
 unfoldable pub stream_field : Reader StreamConfig

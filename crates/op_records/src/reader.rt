@@ -1,13 +1,15 @@
 //! The fields of records as they are read.
 
-ghost use Rattle.std.specs.Prelude.{◌≡◌, ◌+◌, IfOk, IfErr, Ok};
+ghost use Rattle.std.specs.Prelude.{◌≡◌, ◌+◌, IfOk, IfErr, Ok, Some};
+ghost use Rattle.js_base.specs.Names.{name_of};
+ghost use Rattle.config_texts.specs.Reading.{allowed};
 ghost use Rattle.std.specs.Int.{w8, w16, w32, w64};
 ghost use Rattle.op_records.specs.Answers.{IsBehind, IsFaultOf, IsWithin, Reads};
 ghost use Rattle.op_records.specs.Fields.{word, number_field, cursor_field, numbers_field, part, piece, name_field, text_field, subject_field, stream_field, consumer_field, is_small, is_small_header, sized_part, message_field, range_field};
 
 use crate::fault::RecordFault;
 use config_texts::{read_consumer_text, read_stream_text};
-use js_base::{Blob, List, Moment, Name, NameFault, get_u16, get_u32, get_u64};
+use js_base::{Blob, List, Moment, Name, NameFault, NoMemory, get_u16, get_u32, get_u64};
 use js_model::{ConsumerConfig, StreamConfig};
 use nats_headers::is_block;
 use std::alloc::Global;
@@ -82,7 +84,8 @@ impl<'a> Reader<'a> {
         let count = self.word()?;
         let mut numbers = List::new(self.alloc);
         for _ in 0..count {
-            numbers.push(self.number()?)?;
+            let number = self.number()?;
+            numbers.push(number)?;
         }
         Ok(numbers)
     }
@@ -157,11 +160,7 @@ impl<'a> Reader<'a> {
         let begin = self.at;
         let size = self.byte()?;
         let text = self.part(begin, usize::from(size))?;
-        match Name::read(self.alloc, text) {
-            Ok(name) => name.as_blob().clone().map_err(|_| RecordFault::NoMemory),
-            Err(NameFault::NoMemory) => Err(RecordFault::NoMemory),
-            Err(_) => Err(RecordFault::BadField(begin)),
-        }
+        read_name(self.alloc, text)?.ok_or(RecordFault::BadField(begin))
     }
 
     /// The bytes behind a length of two bytes.
@@ -305,5 +304,26 @@ impl<'a> Reader<'a> {
         } else {
             Err(RecordFault::BadField(begin))
         }
+    }
+}
+
+/// The name that the text is.
+fn read_name(alloc: Global, text: &[u8]) -> Result<Option<Blob>, NoMemory>
+    ensures value { IfOk result (λ name. name ≡ allowed (name_of text.now)) }
+{
+    match Name::read(alloc, text) {
+        Ok(name) => share(name.as_blob()),
+        Err(NameFault::NoMemory) => Err(NoMemory),
+        Err(_) => Ok(None),
+    }
+}
+
+/// The same bytes.
+fn share(blob: &Blob) -> Result<Option<Blob>, NoMemory>
+    ensures value { IfOk result (λ copy. copy ≡ Some blob.now) }
+{
+    match blob.clone() {
+        Ok(copy) => Ok(Some(copy)),
+        Err(_) => Err(NoMemory),
     }
 }

@@ -46,6 +46,7 @@ pub fn read_records(alloc: Global, bytes: &[u8]) -> Result<Vec<Effect>, RecordFa
 
 /// The incarnation of the vacant place with which a log begins: its first batch is the one record of that. `BadField` tells a record of another kind, a
 /// number of 2^62 or more, and what stands behind the record. It takes no memory.
+#[tactic(auto, unfolding(crate::specs::Reading::vacant_field))]
 pub fn read_vacant(alloc: Global, bytes: &[u8]) -> Result<u64, RecordFault>
     ensures reading { ReadsVacant result bytes.now (vacant_field bytes.now 0) }
 {

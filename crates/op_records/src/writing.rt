@@ -73,6 +73,7 @@ fn put_change_stream(
 }
 
 /// Adds a kind, a sequence, its moment and its id.
+#[tactic(auto, using(crate::proofs::Regrouping::behind_kind))]
 fn put_numbered(
     into: &mut Vec<u8>,
     kind: u8,
@@ -152,6 +153,7 @@ fn put_make_consumer(
 }
 
 /// Adds the record at the end. An `Err` leaves some of it behind what was there.
+#[tactic(auto, unfolding(crate::specs::Spelling::spelled))]
 fn put_record(alloc: Global, effect: &Effect, into: &mut Vec<u8>) -> Result<(), NoMemory>
     requires record { IsTrue (is_record effect.now) }
     ensures ok { OnOk result (into.new.items ≡ into.old.items ++ spelled effect.now) }
@@ -227,6 +229,7 @@ pub fn write_record(alloc: Global, effect: &Effect, into: &mut Vec<u8>) -> Resul
 
 /// Adds the record with which the log of a vacant place begins, with the incarnation of its last stream, 0 before the first. An `Err` leaves what
 /// was there.
+#[tactic(auto, unfolding(crate::specs::Spelling::spelled_vacant))]
 pub fn write_vacant(alloc: Global, incarnation: u64, into: &mut Vec<u8>) -> Result<(), NoMemory>
     requires number { incarnation < 2 ^ 62 }
     ensures ok { OnOk result (into.new.items ≡ into.old.items ++ spelled_vacant incarnation) }
