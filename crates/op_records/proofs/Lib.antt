@@ -6,5 +6,4 @@ pub mod TextsExact
 pub mod KindsExact
 pub mod RecordsExact
 pub mod Loops
-pub mod Regrouping
 pub mod RowsOfRecords

@@ -37,12 +37,12 @@ pub(crate) fn put_name(into: &mut Vec<u8>, name: &[u8]) -> Result<(), NoMemory>
 }
 
 /// Adds a text behind a length of two bytes.
-pub(crate) fn put_text(into: &mut Vec<u8>, bytes: &[u8]) -> Result<(), NoMemory>
+pub(crate) fn put_text(into: &mut Vec<u8>, bytes: &Blob) -> Result<(), NoMemory>
     requires text { IsTrue (is_text bytes.now) }
     ensures ok { OnOk result (into.new.items ≡ into.old.items ++ text bytes.now) }
 {
     put_u16(into, bytes.len() as u16)?;
-    put_bytes(into, bytes)
+    put_bytes(into, bytes.as_slice())
 }
 
 /// Adds bytes behind a length of four. Bytes that are longer than such a length can say find no memory.

@@ -73,7 +73,6 @@ fn put_change_stream(
 }
 
 /// Adds a kind, a sequence, its moment and its id.
-#[tactic(auto, using(crate::proofs::Regrouping::behind_kind))]
 fn put_numbered(
     into: &mut Vec<u8>,
     kind: u8,
@@ -86,7 +85,7 @@ fn put_numbered(
 {
     put_kind(into, kind)?;
     put_two(into, seq, at.as_nanos())?;
-    put_text(into, id.as_slice())
+    put_text(into, id)
 }
 
 /// Adds what a message is besides its numbers and its id.
@@ -99,7 +98,7 @@ fn put_message(
     requires subject { IsTrue (is_subject_text subject.now) }
     ensures ok { OnOk result (into.new.items ≡ into.old.items ++ (text subject.now ++ (long headers.now ++ long payload.now))) }
 {
-    put_text(into, subject.as_slice())?;
+    put_text(into, subject)?;
     put_long(into, headers.as_slice())?;
     put_long(into, payload.as_slice())
 }
