@@ -6,4 +6,5 @@ pub mod TextsExact
 pub mod KindsExact
 pub mod RecordsExact
 pub mod Loops
+pub mod Written
 pub mod RowsOfRecords

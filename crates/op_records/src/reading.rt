@@ -8,6 +8,7 @@ use crate::fault::RecordFault;
 use crate::kinds::{record, vacant};
 use crate::reader::Reader;
 use effects::Effect;
+use js_base::List;
 use std::alloc::Global;
 
 /// The record that begins at a place of the bytes, and the place behind it.
@@ -34,14 +35,12 @@ pub fn read_records(alloc: Global, bytes: &[u8]) -> Result<Vec<Effect>, RecordFa
         bytes,
         at: 0,
     };
-    let mut effects = Vec::new(alloc);
+    let mut effects = List::new(alloc);
     while reader.at < bytes.len() {
         let effect = record(&mut reader)?;
-        if effects.push(effect).is_err() {
-            return Err(RecordFault::NoMemory);
-        }
+        effects.push(effect)?;
     }
-    Ok(effects)
+    Ok(effects.into_vec())
 }
 
 /// The incarnation of the vacant place with which a log begins: its first batch is the one record of that. `BadField` tells a record of another kind, a
