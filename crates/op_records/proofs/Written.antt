@@ -8,8 +8,8 @@ at_ok (Ok value) f h = f h
 at_ok (Err e) f h = h
 
 -- a kind, two parts and a third are written behind what was there
-pub behind_kind : {old one two new : Bytes} (kind : ℕ) (a b c : Bytes) → one ≡ old ++ kind ∷ [] → two ≡ one ++ (a ++ b) → new ≡ two ++ c → new ≡ old ++ kind ∷ (a ++ (b ++ c))
-behind_kind {old} kind a b c first second third =
+pub behind_kind : (old one two new : Bytes) (kind : ℕ) (a b c : Bytes) → one ≡ old ++ kind ∷ [] → two ≡ one ++ (a ++ b) → new ≡ two ++ c → new ≡ old ++ kind ∷ (a ++ (b ++ c))
+behind_kind old one two new kind a b c first second third =
     third ∙ ap (λ (l : Bytes). l ++ c) second ∙ ap (λ (l : Bytes). (l ++ (a ++ b)) ++ c) first ∙ grouped old kind a b c
   where
     grouped : (old : Bytes) (kind : ℕ) (a b c : Bytes) → ((old ++ kind ∷ []) ++ (a ++ b)) ++ c ≡ old ++ kind ∷ (a ++ (b ++ c))
