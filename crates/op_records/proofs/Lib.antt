@@ -1,0 +1,10 @@
+pub mod Spans
+pub mod Steps
+pub mod Exact
+pub mod FieldsExact
+pub mod TextsExact
+pub mod KindsExact
+pub mod RecordsExact
+pub mod Loops
+pub mod Written
+pub mod RowsOfRecords

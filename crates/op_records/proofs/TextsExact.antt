@@ -1,0 +1,127 @@
+-- Configurations and messages are read exactly where they are spelled.
+use Rattle.std.proofs.Common.{◌≡◌, ℕ, ◌+◌, ◌<◌, ◌^◌, Bool, true, false, List, [], ◌∷◌, ◌++◌, length, Option, Some, None, Ok, Err, IsTrue, nat_le, refl, sym, ap, subst, ◌∙◌, arith, length-append}
+use Rattle.std.specs.Int.{w32, to_be_bytes}
+use Rattle.std.proofs.lemmas.Bool.{and_parts, and_from}
+use Rattle.js_base.specs.Bytes.{Bytes}
+use Rattle.js_model.specs.Configs.{is_stream_config, is_consumer_config, same_retention}
+use Rattle.js_model.specs.Served.{IsServed}
+use Rattle.js_model.specs.declared.stream_config.Retention.{Retention}
+use Rattle.js_model.specs.declared.stream_config.Retention.TheVariants.{Limits, Interest, WorkQueue}
+use Rattle.js_model.specs.declared.stream_config.StreamConfig.{StreamConfig}
+use Rattle.js_model.specs.declared.consumer_config.ConsumerConfig.{ConsumerConfig}
+use Rattle.config_texts.specs.Reading.{stream_of, consumer_of}
+use Rattle.config_texts.specs.Texts.{stream_text, consumer_text}
+use Rattle.config_texts.proofs.StreamTexts.{law_stream_text}
+use Rattle.config_texts.proofs.ConsumerTexts.{law_consumer_text}
+use Rattle.op_records.specs.Steps.{Reader, ◌>>=◌, done, place}
+use Rattle.op_records.specs.Fields.{only, word, part, piece, some_or_bad, stream_field, consumer_field, is_small, is_small_header, sized_part, fit, message_field}
+use Rattle.op_records.specs.Allowed.{is_header, fits_block, is_served_config}
+use Rattle.op_records.specs.Spelling.{long}
+use Rattle.op_records.proofs.Spans.{Spans, span_then, span_front, span_back}
+use Rattle.op_records.proofs.Steps.{both, value_is, place_is, passed, given}
+use Rattle.op_records.proofs.Exact.{Batch, Exact, wide32, word_took, word_again, le_is, is_le}
+use Rattle.op_records.proofs.FieldsExact.{part_took, part_again, piece_took, piece_again}
+
+-- a text that stands in a batch is short
+short_text : (bytes : Bytes) (at : ℕ) (text : Bytes) (behind : ℕ) → Batch bytes → Spans bytes at (long text) behind → length text < 2 ^ 32
+short_text bytes at text behind b s = omega (arith, b.short, s.ends, s.within, length-append (to_be_bytes w32 (length text)) text)
+
+-- ---- configurations
+
+limits_is : (policy : Retention) → same_retention policy Limits ≡ true → policy ≡ Limits
+limits_is Limits h = refl
+limits_is Interest h = absurd (cc)
+limits_is WorkQueue h = absurd (cc)
+
+pub stream_exact : Exact stream_field (λ config. long (stream_text config)) (λ config. IsTrue (is_served_config config))
+unfolding stream_field
+stream_exact = record {
+  took = λ bytes at config behind b e.
+      let p = both bytes (λ (text : Bytes). some_or_bad at (stream_of text)) (piece w32 bytes at) config behind e in
+      let q = given at (stream_of p.value) bytes p.mid config behind p.second in
+      let t = piece_took w32 (2 ^ 32) wide32 bytes at p.value p.mid b p.first in
+      let is = (law_stream_text p.value config).0 q.some in (
+        and_from _ _ is.valid (ap (λ (r : Retention). same_retention r Limits) is.served.retention),
+        subst (λ (l : Bytes). Spans bytes at (long l) behind) is.spelled (subst (λ (k : ℕ). Spans bytes at (long p.value) k) q.place t.1),
+      );
+  again = λ bytes at config behind b is s.
+      let parts = and_parts (is_stream_config config) (same_retention config.retention Limits) is in
+      let read = (law_stream_text (stream_text config) config).1 (record { valid = parts.0; served = record { retention = limits_is config.retention parts.1 }; spelled = refl }) in
+      rw (piece_again w32 (2 ^ 32) wide32 bytes at (stream_text config) behind (short_text bytes at (stream_text config) behind b s) s, read) refl;
+}
+
+pub consumer_exact : Exact consumer_field (λ config. long (consumer_text config)) (λ config. IsTrue (is_consumer_config config))
+unfolding consumer_field
+consumer_exact = record {
+  took = λ bytes at config behind b e.
+      let p = both bytes (λ (text : Bytes). some_or_bad at (consumer_of text)) (piece w32 bytes at) config behind e in
+      let q = given at (consumer_of p.value) bytes p.mid config behind p.second in
+      let t = piece_took w32 (2 ^ 32) wide32 bytes at p.value p.mid b p.first in
+      let is = (law_consumer_text p.value config).0 q.some in
+      (is.valid, subst (λ (l : Bytes). Spans bytes at (long l) behind) is.spelled (subst (λ (k : ℕ). Spans bytes at (long p.value) k) q.place t.1));
+  again = λ bytes at config behind b is s.
+      let read = (law_consumer_text (consumer_text config) config).1 (record { valid = is; spelled = refl }) in
+      rw (piece_again w32 (2 ^ 32) wide32 bytes at (consumer_text config) behind (short_text bytes at (consumer_text config) behind b s) s, read) refl;
+}
+
+-- ---- a message's header block and payload
+
+record Sized (may : Bytes → Bool) (bytes : Bytes) (at : ℕ) (text : Bytes) (behind : ℕ) : Type 0 where
+  may_be : may text ≡ true
+  there : Spans bytes at (long text) behind
+
+sized_took : (may : Bytes → Bool) (bytes : Bytes) (at : ℕ) (found : ℕ × Bytes) (behind : ℕ) → Batch bytes → sized_part may bytes at ≡ Ok (found, behind) → Sized may bytes at found.1 behind
+sized_took may bytes at found behind b e =
+    let p = both bytes (λ (size : ℕ). place >>= λ begin. part begin size >>= λ text. only may begin text >>= λ text. done (begin, text)) (word w32 bytes at) found behind e in
+    let q = both bytes (λ (text : Bytes). only may p.mid text >>= λ text. done (p.mid, text)) (part p.mid p.value bytes p.mid) found behind p.second in
+    let r = both bytes (λ (text : Bytes). done (p.mid, text)) (only may p.mid q.value bytes q.mid) found behind q.second in
+    let t = passed may p.mid q.value bytes q.mid r.value r.mid r.first in
+    let n = word_took w32 (2 ^ 32) wide32 bytes at p.value p.mid b.are_bytes p.first in
+    let u = part_took p.mid p.value bytes p.mid q.value q.mid q.first in
+    let text : q.value ≡ found.1 = t.value ∙ ap (λ (x : ℕ × Bytes). x.1) (value_is (p.mid, r.value) r.mid found behind r.second) in
+    let behind_is : q.mid ≡ behind = t.place ∙ place_is (p.mid, r.value) r.mid found behind r.second in
+    let size : to_be_bytes w32 p.value ≡ to_be_bytes w32 (length q.value) = ap (to_be_bytes w32) (sym u.0) in
+    let there : Spans bytes at (long q.value) q.mid = subst (λ (l : Bytes). Spans bytes at (l ++ q.value) q.mid) size (span_then bytes at (to_be_bytes w32 p.value) p.mid q.value q.mid n.1 u.1) in
+    record {
+      may_be = ap may (sym text ∙ t.value) ∙ t.may_be;
+      there = subst (λ (k : ℕ). Spans bytes at (long found.1) k) behind_is (subst (λ (l : Bytes). Spans bytes at (long l) q.mid) text there);
+    }
+
+sized_again : (may : Bytes → Bool) (bytes : Bytes) (at : ℕ) (text : Bytes) (behind : ℕ) → length text < 2 ^ 32 → may text ≡ true → Spans bytes at (long text) behind → sized_part may bytes at ≡ Ok ((at + length (to_be_bytes w32 (length text)), text), behind)
+sized_again may bytes at text behind lt is s =
+    let mid : ℕ = at + length (to_be_bytes w32 (length text)) in
+    let size = word_again w32 (2 ^ 32) wide32 bytes at (length text) mid lt (span_front bytes at (to_be_bytes w32 (length text)) text behind s) in
+    let rest = part_again mid bytes mid text behind (span_back bytes at (to_be_bytes w32 (length text)) text behind s) in
+    rw (size, rest, is) refl
+
+abbrev pub message_text : Bytes × Bytes → Bytes
+message_text m = long m.0 ++ long m.1
+
+abbrev pub Messages : Bytes × Bytes → Type 0
+Messages m = IsTrue (is_header m.0) × IsTrue (fits_block m.0 m.1)
+
+pub message_exact : Exact message_field message_text Messages
+unfolding message_field
+message_exact = record {
+  took = λ bytes at message behind b e.
+      let p = both bytes (λ (headers : ℕ × Bytes). sized_part is_small >>= λ payload. only fit headers.0 (headers.1, payload.1)) (sized_part is_small_header bytes at) message behind e in
+      let q = both bytes (λ (payload : ℕ × Bytes). only fit p.value.0 (p.value.1, payload.1)) (sized_part is_small bytes p.mid) message behind p.second in
+      let r = passed fit p.value.0 (p.value.1, q.value.1) bytes q.mid message behind q.second in
+      let headers = sized_took is_small_header bytes at p.value p.mid b p.first in
+      let payload = sized_took is_small bytes p.mid q.value q.mid b q.first in
+      let fits : IsTrue (fit (p.value.1, q.value.1)) = subst (λ (m : Bytes × Bytes). IsTrue (fit m)) (sym r.value) r.may_be in
+      let whole : Messages (p.value.1, q.value.1) × Spans bytes at (message_text (p.value.1, q.value.1)) q.mid = (
+        ((and_parts _ _ headers.may_be).0, fits),
+        span_then bytes at (long p.value.1) p.mid (long q.value.1) q.mid headers.there payload.there,
+      ) in
+      subst (λ (k : ℕ). Messages message × Spans bytes at (message_text message) k) r.place (subst (λ (m : Bytes × Bytes). Messages m × Spans bytes at (message_text m) q.mid) r.value whole);
+  again = λ bytes at message behind b is s.
+      let front = span_front bytes at (long message.0) (long message.1) behind s in
+      let back = span_back bytes at (long message.0) (long message.1) behind s in
+      let together = le_is (length message.0 + length message.1) 1048576 is.1 in
+      let small : is_small_header message.0 ≡ true = and_from _ _ is.0 (is_le (length message.0) 1048576 (omega arith)) in
+      let few : is_small message.1 ≡ true = is_le (length message.1) 1048576 (omega arith) in
+      let first = sized_again is_small_header bytes at message.0 (at + length (long message.0)) (omega arith) small front in
+      let second = sized_again is_small bytes (at + length (long message.0)) message.1 behind (omega arith) few back in
+      rw (first, second, is.1) refl;
+}

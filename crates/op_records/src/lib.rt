@@ -1,0 +1,15 @@
+//! The records of a volume's log: they are read from bytes, and written.
+#![tactic(auto)]
+
+mod fault;
+mod kinds;
+mod laws;
+mod puts;
+mod reader;
+mod reading;
+mod writing;
+
+pub use fault::RecordFault;
+pub use laws::law_records;
+pub use reading::{read_record, read_records, read_vacant};
+pub use writing::{write_record, write_vacant};
