@@ -1,0 +1,11 @@
+use Rattle.std.proofs.Common.{rules, tests, not, ap, ◌∙◌}
+use Rattle.std.specs.Prelude.{filter}
+use Rattle.std.proofs.lemmas.Fn.{filter_same}
+use Rattle.js_model.specs.declared.stream.Message.{Message}
+use Rattle.effects.specs.Ranges.{is_within}
+use Rattle.record_fold.proofs.streams.drop_messages.Goals as goal
+
+pub returns : goal.returns
+returns c =
+    let test = λ (m : Message). not (is_within c.args.low c.args.high m.seq) in
+    record { left = c.from_vec.ensures ∙ filter_same _ test _ (λ x b f' k. search (rules, tests)) _ _ c.retain.ensures.filtered ∙ ap (filter test) c.take-kept.ensures.items }

@@ -1,0 +1,4 @@
+pub mod Misfits
+pub mod Changes
+pub mod Faults
+pub mod Entries
