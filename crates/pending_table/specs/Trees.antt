@@ -1,5 +1,5 @@
 -- A search tree of entries, seen as their list.
-use Rattle.std.specs.Prelude.{◌≡◌, ℕ, ◌<◌, ◌==◌, false, List, [], ◌∷◌, ◌++◌, ⊤}
+use Rattle.std.specs.Prelude.{◌≡◌, ℕ, ◌<◌, ◌==◌, false, List, [], ◌∷◌, ◌++◌, Option, option_map, Box, ⊤}
 use Rattle.std.specs.List.{AllByRecursion}
 use Rattle.js_model.specs.declared.consumer.Pending.{Pending}
 use Rattle.pending_table.specs.declared.tree.Tree.{Tree, Empty, Fork'}
@@ -24,6 +24,14 @@ AreSidesBounded f = IsBounded f.left × IsBounded f.right
 
 abbrev pub IsBoundedFork : Fork → Type 0
 IsBoundedFork f = AllByRecursion (IsWithin f.bounds) (listed f) × AreSidesBounded f
+
+-- a fork with nothing on its sides
+abbrev pub IsLeaf : Fork → Type 0
+IsLeaf f = (listed f ≡ f.entry ∷ []) × IsBoundedFork f
+
+-- the entry of a leaf that was taken
+abbrev pub entry_of : Option (Box Fork) → Option Pending
+entry_of o = option_map (λ f. f.value.entry) o
 
 -- each sequence is below all later ones
 abbrev pub IsAscending : List Pending → Type 0

@@ -1,12 +1,14 @@
 //! The table of the deliveries that wait.
 
-ghost use Rattle.std.specs.Prelude.{◌≡◌, ◌==◌, ◌+◌, ◌^◌, ◌<◌, ◌&&◌, [], filter, find, length, map, nat_le, nat_lt, not, if◌then◌else◌, OnOk, OnErr};
+ghost use Rattle.std.specs.Prelude.{◌≡◌, ◌==◌, ◌+◌, ◌^◌, ◌<◌, ◌&&◌, [], None, filter, find, length, map, nat_le, nat_lt, not, if◌then◌else◌, IfSome, OnOk, OnErr};
 ghost use Rattle.std.specs.List.{count_by, list_any};
 ghost use Rattle.std.specs.Option.{option_map};
 ghost use Rattle.js_model.specs.Acknowledge.{moved};
 ghost use Rattle.js_model.specs.Deliver.{with_pending, without_first};
-ghost use Rattle.pending_table.specs.Asked.{is_due, is_spent};
+ghost use Rattle.js_model.specs.Lists.{Apart};
+ghost use Rattle.pending_table.specs.Asked.{is_due, is_spent, with_found};
 ghost use Rattle.pending_table.specs.Table.{is_again};
+ghost use Rattle.pending_table.specs.Trees.{entry_of, IsLeaf};
 
 use crate::asked::Asked;
 use crate::tree::{Fork, Tree};
@@ -95,9 +97,7 @@ impl PendingTable {
             }
             None => {
                 let leaf = Fork::leaf(self.alloc, entry)?;
-                self.tree.insert(leaf);
-                self.len += 1;
-                self.again += again_of(count);
+                self.insert(leaf);
             }
         }
         Ok(())
@@ -108,13 +108,31 @@ impl PendingTable {
         ensures was { result ≡ list_any (λ p. p.seq == seq) self.old }
         ensures left { self.new ≡ filter (λ p. not (p.seq == seq)) self.old }
     {
-        let Some(entry) = self.tree.get(seq) else {
-            return false;
-        };
-        self.tree.remove(seq);
+        self.take(seq).is_some()
+    }
+
+    /// Puts a leaf at its place. It takes no memory.
+    fn insert(&mut self, leaf: Box<Fork>)
+        requires leaf { IsLeaf leaf.value }
+        requires absent { find (λ p. p.seq == leaf.value.entry.seq) self.old ≡ None }
+        requires room { length self.old + 1 < 2 ^ 32 }
+        ensures value { self.new ≡ with_pending self.old leaf.value.entry }
+    {
+        self.len += 1;
+        self.again += again_of(leaf.count());
+        self.tree.insert(leaf);
+    }
+
+    /// Takes the entry of the sequence out as a leaf.
+    fn take(&mut self, seq: u64) -> Option<Box<Fork>>
+        ensures taken { entry_of result ≡ find (λ p. p.seq == seq) self.old }
+        ensures leaf { IfSome result (λ f. IsLeaf f.value) }
+        ensures left { self.new ≡ filter (λ p. not (p.seq == seq)) self.old }
+    {
+        let entry = self.tree.get(seq)?;
         self.len -= 1;
         self.again -= again_of(entry.count);
-        true
+        self.tree.take(seq)
     }
 
     /// Takes out all entries up to the sequence, and tells how many these were. It takes no memory, and its cost grows with their number.
@@ -172,6 +190,34 @@ impl PendingTable {
         let seq = self.tree.first(&Asked::Spent(now, max))?;
         self.ack(seq);
         Some(seq)
+    }
+
+    /// Moves the entry that `take_spent` would take out to another table, which has no sequence of this one, and tells whether there is one. It takes no
+    /// memory, and costs what `take_spent` does.
+    pub fn move_spent(&mut self, now: Moment, max: u64, into: &mut PendingTable) -> bool
+        requires apart { Apart (map (λ p. p.seq) self.old) (map (λ p. p.seq) into.old) }
+        requires room { length into.old + 1 < 2 ^ 32 }
+        ensures is { result ≡ list_any (is_spent now max) self.old }
+        ensures left { self.new ≡ without_first (is_spent now max) self.old }
+        ensures moved { into.new ≡ with_found into.old (find (is_spent now max) self.old) }
+    {
+        match self.take_spent_leaf(now, max) {
+            Some(leaf) => {
+                into.insert(leaf);
+                true
+            }
+            None => false,
+        }
+    }
+
+    /// Takes out the first entry that is due at the moment and has this count, as a leaf.
+    fn take_spent_leaf(&mut self, now: Moment, max: u64) -> Option<Box<Fork>>
+        ensures taken { entry_of result ≡ find (is_spent now max) self.old }
+        ensures leaf { IfSome result (λ f. IsLeaf f.value) }
+        ensures left { self.new ≡ without_first (is_spent now max) self.old }
+    {
+        let seq = self.tree.first(&Asked::Spent(now, max))?;
+        self.take(seq)
     }
 }
 

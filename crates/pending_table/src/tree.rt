@@ -1,12 +1,12 @@
 //! The search tree of the entries: an AVL tree, of which each fork knows what holds of all its entries.
 
-ghost use Rattle.std.specs.Prelude.{◌≡◌, ◌≤◌, [], ◌∷◌, ◌++◌, ◌==◌, None, IfOk, filter, find, map, nat_le, not, if◌then◌else◌};
+ghost use Rattle.std.specs.Prelude.{◌≡◌, ◌≤◌, [], ◌∷◌, ◌++◌, ◌==◌, None, IfOk, IfSome, filter, find, map, nat_le, not, if◌then◌else◌};
 ghost use Rattle.std.specs.List.{AllByRecursion};
 ghost use Rattle.std.specs.Option.{option_map, option_to_list};
 ghost use Rattle.js_model.specs.Deliver.{with_pending};
 ghost use Rattle.js_model.specs.declared.consumer.Pending.{Pending};
 ghost use Rattle.pending_table.specs.Asked.{passes, IsWithin};
-ghost use Rattle.pending_table.specs.Trees.{entries, listed, AreSidesBounded, AreTopsBounded, IsBounded, IsBoundedFork, IsOrdered, Lacks};
+ghost use Rattle.pending_table.specs.Trees.{entries, entry_of, listed, AreSidesBounded, AreTopsBounded, IsBounded, IsBoundedFork, IsLeaf, IsOrdered, Lacks};
 
 use crate::asked::Asked;
 use crate::bounds::Bounds;
@@ -94,7 +94,7 @@ impl Tree {
         requires bounded { IsBounded self.old }
         requires ordered { IsOrdered self.old }
         requires absent { Lacks leaf.value.entry.seq self.old }
-        requires leaf { (listed leaf.value ≡ leaf.value.entry ∷ []) × IsBoundedFork leaf.value }
+        requires leaf { IsLeaf leaf.value }
         ensures entries { entries self.new ≡ with_pending (entries self.old) leaf.value.entry }
         ensures bounded { IsBounded self.new }
     {
@@ -131,31 +131,38 @@ impl Tree {
         fork.update();
     }
 
-    /// Takes the entry of the sequence out, if there is one. It takes no memory.
-    pub(crate) fn remove(&mut self, seq: u64)
+    /// Takes the entry of the sequence out, if there is one, as a leaf. It takes no memory.
+    pub(crate) fn take(&mut self, seq: u64) -> Option<Box<Fork>>
         requires bounded { IsBounded self.old }
         requires ordered { IsOrdered self.old }
+        ensures taken { entry_of result ≡ find (λ p. p.seq == seq) (entries self.old) }
+        ensures leaf { IfSome result (λ f. IsLeaf f.value) }
         ensures left { entries self.new ≡ filter (λ p. not (p.seq == seq)) (entries self.old) }
         ensures bounded { IsBounded self.new }
     {
         let Tree::Fork(mut fork) = mem::replace(self, Tree::Empty) else {
-            return;
+            return None;
         };
         if seq < fork.entry.seq {
-            fork.left.remove(seq);
+            let taken = fork.left.take(seq);
             *self = Tree::Fork(balanced(fork));
+            taken
         } else if fork.entry.seq < seq {
-            fork.right.remove(seq);
+            let taken = fork.right.take(seq);
             *self = Tree::Fork(balanced(fork));
+            taken
         } else {
-            *self = without_entry(fork);
+            let (left, leaf) = without_entry(fork);
+            *self = left;
+            Some(leaf)
         }
     }
 
-    /// Takes the first entry out.
-    fn pop_first(&mut self) -> Option<Pending>
+    /// Takes the first entry out, as a leaf.
+    fn pop_first(&mut self) -> Option<Box<Fork>>
         requires bounded { IsBounded self.old }
-        ensures first { entries self.old ≡ option_to_list result ++ entries self.new }
+        ensures first { entries self.old ≡ option_to_list (entry_of result) ++ entries self.new }
+        ensures leaf { IfSome result (λ f. IsLeaf f.value) }
         ensures bounded { IsBounded self.new }
         ensures none { result ≡ None → entries self.new ≡ [] }
     {
@@ -169,7 +176,8 @@ impl Tree {
             }
             None => {
                 *self = mem::replace(&mut fork.right, Tree::Empty);
-                Some(fork.entry)
+                fork.update();
+                Some(fork)
             }
         }
     }
@@ -208,7 +216,7 @@ impl Tree {
 impl Fork {
     /// A fork with nothing on its sides.
     pub(crate) fn leaf(alloc: Global, entry: Pending) -> Result<Box<Fork>, NoMemory>
-        ensures leaf { IfOk result (λ f. (f.value.entry ≡ entry) × (listed f.value ≡ entry ∷ []) × IsBoundedFork f.value) }
+        ensures leaf { IfOk result (λ f. (f.value.entry ≡ entry) × IsLeaf f.value) }
     {
         let leaf = Fork {
             left: Tree::Empty,
@@ -218,6 +226,13 @@ impl Fork {
             height: 1,
         };
         Ok(Box::new(alloc, leaf)?)
+    }
+
+    /// How often the message of the entry was delivered.
+    pub(crate) fn count(&self) -> u64
+        ensures value { result ≡ self.now.entry.count }
+    {
+        self.entry.count
     }
 
     /// Sets the bounds and the height anew.
@@ -256,18 +271,25 @@ fn balanced(mut top: Box<Fork>) -> Box<Fork>
     }
 }
 
-/// What is left without the entry of the fork.
-fn without_entry(mut fork: Box<Fork>) -> Tree
+/// What is left without the entry of the fork, and that entry as a leaf.
+fn without_entry(mut fork: Box<Fork>) -> (Tree, Box<Fork>)
     requires sides { AreSidesBounded fork.value }
-    ensures left { entries result ≡ entries fork.value.left ++ entries fork.value.right }
-    ensures bounded { IsBounded result }
+    ensures left { entries result.0 ≡ entries fork.value.left ++ entries fork.value.right }
+    ensures bounded { IsBounded result.0 }
+    ensures entry { result.1.value.entry ≡ fork.value.entry }
+    ensures leaf { IsLeaf result.1.value }
 {
     match fork.right.pop_first() {
-        Some(next) => {
-            fork.entry = next;
-            Tree::Fork(balanced(fork))
+        Some(mut next) => {
+            mem::swap(&mut fork.entry, &mut next.entry);
+            next.update();
+            (Tree::Fork(balanced(fork)), next)
         }
-        None => mem::replace(&mut fork.left, Tree::Empty),
+        None => {
+            let left = mem::replace(&mut fork.left, Tree::Empty);
+            fork.update();
+            (left, fork)
+        }
     }
 }
 

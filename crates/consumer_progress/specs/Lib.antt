@@ -1,0 +1,4 @@
+pub mod Progresses
+pub mod Sending
+pub mod Ending
+pub mod GivingUp
