@@ -1,5 +1,5 @@
-pub mod Indexed
-pub mod Stored
+pub mod Attended
+pub mod Followers
+pub mod Needing
+pub mod Spans
 pub mod Settled
-pub mod PushedOut
-pub mod Selecting

@@ -1,7 +1,7 @@
 use Rattle.std.proofs.Common.{◌∙◌}
 use Rattle.std.proofs.lemmas.Bool.{OnTrue_at}
 use Rattle.retention.proofs.Following.{law_without}
-use Rattle.stream_state.proofs.Limiting.{unlimited}
+use Rattle.stored_stream.proofs.Limiting.{unlimited}
 use Rattle.stream_state.proofs.Loops.{over_found, over_next, thins_none, thins_more, thins_all}
 use Rattle.stream_state.proofs.trimming.trim_subjects.Goals as goal
 
