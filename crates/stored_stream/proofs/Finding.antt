@@ -1,10 +1,10 @@
 -- What is found among messages in the order of their sequences.
-use Rattle.std.proofs.Common.{◌≡◌, ℕ, ◌+◌, ◌<◌, ◌≤◌, ◌==◌, ◌&&◌, ◌||◌, ◌⊎◌, inl, inr, Bool, true, false, cond, not, List, [], ◌∷◌, Option, Some, None, length, map, refl, sym, ap, subst, ◌∙◌, arith, Bor}
+use Rattle.std.proofs.Common.{◌≡◌, ℕ, ◌+◌, ◌<◌, ◌≤◌, ◌==◌, ◌&&◌, ◌⊎◌, inl, inr, Bool, true, false, cond, not, List, [], ◌∷◌, Option, Some, None, length, refl, sym, ap, subst, ◌∙◌, arith, Bor}
 use Rattle.std.specs.Prelude.{All, IfSome, IsUtf8, count_by, filter, find, option_map, is_some, nat_le, unwrap_or}
 use Rattle.std.specs.List.{last_or}
 use Rattle.std.specs.Option.{option_copied}
 use Rattle.std.proofs.lemmas.Str.{IsUtf8-from_is_utf8}
-use Rattle.std.proofs.lemmas.Bool.{eqb-true, eq-eqb, leb-true, leb-false, ne_eqb}
+use Rattle.std.proofs.lemmas.Bool.{eq-eqb, leb-true, leb-false, ne_eqb}
 use Rattle.std.proofs.lemmas.List.{length-map}
 use Rattle.std.proofs.lemmas.List.Sums.{length-filter}
 use Rattle.js_base.specs.Bytes.{Bytes, same}
@@ -17,11 +17,10 @@ use Rattle.js_model.specs.Streams.{seqs}
 use Rattle.js_model.specs.Verdict.{last_on}
 use Rattle.js_model.proofs.Members.{IsIn, here, there, in_cons, in_filter, in_bounds, all_in, found_in}
 use Rattle.js_model.proofs.Named.{none_some, some_is}
-use Rattle.js_model.proofs.Parts.{filter_part, part_between}
 use Rattle.stream_view.specs.declared.counts.Counts.{Counts}
 use Rattle.stream_view.specs.Counting.{counts_of, last_from, seqs_on}
 use Rattle.stored_stream.specs.Selecting.{next_passing}
-use Rattle.stored_stream.specs.Stored.{IsSound, IsText, without}
+use Rattle.stored_stream.specs.Stored.{IsSound, IsText}
 
 abbrev Ascending : ℕ → ℕ → List Message → Type 0
 Ascending low high ms = Between (λ m. m.seq) low high ms

@@ -1,13 +1,12 @@
 -- The index by subjects, through each change of the messages.
-use Rattle.std.proofs.Common.{◌≡◌, ℕ, ◌+◌, ◌<◌, ◌≤◌, ◌==◌, Bool, true, false, cond, not, List, [], ◌∷◌, ◌++◌, Option, Some, None, map, refl, sym, ap, ◌∙◌, arith, append-nil, eq-eqb}
+use Rattle.std.proofs.Common.{◌≡◌, ℕ, ◌<◌, ◌==◌, Bool, true, false, cond, not, List, [], ◌∷◌, ◌++◌, Some, None, refl, sym, ap, ◌∙◌, arith, append-nil, eq-eqb}
 use Rattle.std.specs.Prelude.{All, filter, find}
 use Rattle.std.proofs.lemmas.Bool.{ne_eqb}
 use Rattle.std.proofs.lemmas.List.{map-append}
 use Rattle.std.proofs.lemmas.List.Elements.{All-filter, All-map, filter-append, All-weaker}
 use Rattle.js_base.specs.Bytes.{Bytes, same}
-use Rattle.js_base.proofs.Meeting.{same_is, same_self}
+use Rattle.js_base.proofs.Meeting.{same_is}
 use Rattle.js_model.specs.declared.stream.Message.{Message}
-use Rattle.js_model.specs.Lists.{Ascends}
 use Rattle.js_model.specs.Streams.{seqs}
 use Rattle.subject_counts.specs.Sequences.{Subjects, seqs_of, AddsSeq, DropsSeq, KeepsSeqs, IsAbove}
 use Rattle.stored_stream.specs.Indexed.{on_subject, AreIndexed}

@@ -1,30 +1,26 @@
 -- Limits that hold go on holding when messages go, and messages that go one by one leave what the limits keep.
-use Rattle.std.proofs.Common.{◌≡◌, ℕ, ◌+◌, ◌<◌, ◌≤◌, ◌==◌, ◌||◌, ◌⊎◌, inl, inr, Bool, true, false, cond, not, List, [], ◌∷◌, Option, Some, None, length, refl, sym, ap, ◌∙◌, arith, subst}
-use Rattle.std.specs.Prelude.{filter, find, nat_lt, count_by, is_some, sum_by, option_map, IsSome}
+use Rattle.std.proofs.Common.{◌≡◌, ℕ, ◌<◌, ◌≤◌, ◌⊎◌, inl, inr, Bool, true, false, cond, List, [], ◌∷◌, Option, Some, None, length, refl, sym, ap, ◌∙◌, arith, subst}
+use Rattle.std.specs.Prelude.{filter, find, nat_lt, count_by, is_some, option_map}
 use Rattle.std.specs.Option.{option_or}
-use Rattle.std.proofs.lemmas.Bool.{ltb-true, ltb-false, lt-ltb, le-ltb, or_parts, or_from, eqb-true}
-use Rattle.std.proofs.lemmas.List.Elements.{All-nil, filter_agree}
+use Rattle.std.proofs.lemmas.Bool.{ltb-true, ltb-false, le-ltb, or_parts, or_from}
 use Rattle.std.proofs.lemmas.List.Sums.{length-filter}
-use Rattle.js_base.specs.Bytes.{Bytes, same, has}
+use Rattle.js_base.specs.Bytes.{Bytes, same}
 use Rattle.js_model.specs.declared.stream.Message.{Message}
 use Rattle.js_model.specs.declared.stream.Stream.{Stream}
 use Rattle.js_model.specs.declared.stream_config.StreamConfig.{StreamConfig}
 use Rattle.js_model.specs.Consumers.{empty_stream}
 use Rattle.js_model.specs.Counts.{first_message}
-use Rattle.js_model.specs.Events.{message_at, without_messages}
 use Rattle.js_model.specs.Lists.{IsPart, none, keep, skip}
-use Rattle.js_model.specs.Streams.{size, seqs, over_limit, only}
-use Rattle.js_model.specs.Trim.{max_messages, trim}
-use Rattle.js_model.proofs.Members.{IsIn, here, there, in_cons, in_filter, found_in}
+use Rattle.js_model.specs.Streams.{size, over_limit}
+use Rattle.js_model.specs.Trim.{max_messages}
+use Rattle.js_model.proofs.Members.{IsIn, here, there, in_cons, in_filter}
 use Rattle.js_model.proofs.Named.{same_is}
-use Rattle.js_model.proofs.Parts.{filter_part, part-length, part-sum}
-use Rattle.retention.specs.Over.{is_over_on, is_over, over_subject, over_stream, next_over, IsOverOnlyOn}
-use Rattle.retention.specs.Laws.{HoldsStored, IsCoherent, LawWithin, LawWithout}
+use Rattle.js_model.proofs.Parts.{part-length, part-sum}
+use Rattle.retention.specs.Over.{is_over_on, is_over, over_subject, over_stream, next_over}
 use Rattle.stream_view.specs.declared.counts.Counts.{Counts}
 use Rattle.stream_view.specs.Counting.{counts_of, seqs_on}
-use Rattle.stored_stream.specs.Stored.{IsSound, without}
+use Rattle.stored_stream.specs.Stored.{IsSound}
 use Rattle.stored_stream.proofs.Finding.{first_counted, nothing_on}
-use Rattle.stored_stream.proofs.Lists.{eq_flip, or_false}
 
 -- ---- fewer messages
 

@@ -1,7 +1,7 @@
 -- What a purge names, and what is left without it.
-use Rattle.std.proofs.Common.{◌≡◌, ℕ, ◌+◌, ◌-◌, ◌^◌, ◌<◌, ◌≤◌, ◌==◌, ◌&&◌, ◌||◌, Bool, true, false, cond, not, List, [], ◌∷◌, ◌++◌, Option, Some, None, zero, suc, length, take, map, refl, sym, ap, ◌∙◌, arith, subst}
-use Rattle.std.specs.Prelude.{filter, find, is_some, nat_le, option_map}
-use Rattle.std.proofs.lemmas.Bool.{and_parts, leb-true, ltb-false, le-ltb, le-leb}
+use Rattle.std.proofs.Common.{◌≡◌, ℕ, ◌+◌, ◌^◌, ◌<◌, ◌≤◌, ◌&&◌, Bool, true, false, cond, List, [], ◌∷◌, Option, Some, None, zero, suc, length, take, map, refl, sym, ap, ◌∙◌, arith}
+use Rattle.std.specs.Prelude.{find, is_some, nat_le, option_map}
+use Rattle.std.proofs.lemmas.Bool.{ltb-false, le-ltb}
 use Rattle.std.proofs.lemmas.List.Elements.{filter_agree}
 use Rattle.std.proofs.lemmas.List.{length-map}
 use Rattle.js_base.specs.Bytes.{Bytes}
@@ -10,8 +10,7 @@ use Rattle.js_model.specs.declared.stream.Stream.{Stream}
 use Rattle.js_model.specs.Events.{is_below, all_but_last, purge_list}
 use Rattle.js_model.specs.Lists.{Between}
 use Rattle.js_model.specs.Streams.{passes_filter, seqs}
-use Rattle.js_model.proofs.Members.{in_bounds}
-use Rattle.stored_stream.specs.Selecting.{is_named, named, selects, selected, next_passing, next_selected, next_named}
+use Rattle.stored_stream.specs.Selecting.{is_named, named, selects, selected, next_selected, next_named}
 use Rattle.stored_stream.specs.declared.selector.Selector.{Selector}
 use Rattle.js_model.proofs.Parts.{filter_part, part-length}
 use Rattle.stored_stream.proofs.Lists.{and_true}

@@ -1,17 +1,14 @@
 -- What a filter selects, one message after the other.
-use Rattle.std.proofs.Common.{◌≡◌, ℕ, ◌+◌, ◌-◌, ◌^◌, ◌<◌, ◌≤◌, ◌==◌, ◌&&◌, ◌||◌, Bool, true, false, cond, not, List, [], ◌∷◌, ◌++◌, Option, Some, None, length, take, map, refl, sym, ap, ◌∙◌, arith, subst}
-use Rattle.std.specs.Prelude.{filter, find, nat_le, nat_lt, option_map, All}
-use Rattle.std.specs.List.{list_any, join_with_byte}
-use Rattle.std.proofs.lemmas.Bool.{true≢false, and_parts, and_from, or_parts, or_left, leb-true, leb-false, le-leb, lt-leb, ltb-true, ltb-false, le-ltb, not-true}
+use Rattle.std.proofs.Common.{◌≡◌, ℕ, ◌+◌, ◌≤◌, ◌==◌, ◌&&◌, ◌||◌, Bool, true, false, cond, not, List, [], ◌∷◌, Option, Some, None, length, refl, sym, ap, ◌∙◌, arith}
+use Rattle.std.specs.Prelude.{filter, find, nat_le, option_map}
+use Rattle.std.specs.List.{join_with_byte}
+use Rattle.std.proofs.lemmas.Bool.{and_parts, or_parts, leb-true, le-leb, lt-leb, not-true}
 use Rattle.std.proofs.lemmas.Bool.Decides.{nat_tests}
-use Rattle.std.proofs.lemmas.List.Elements.{filter_agree}
 use Rattle.std.proofs.lemmas.List.Splits.{join_with_byte-slice_split}
-use Rattle.js_base.specs.Bytes.{Bytes, same, is_empty, has}
+use Rattle.js_base.specs.Bytes.{Bytes, same, is_empty}
 use Rattle.js_base.specs.Subjects.{tokens, matches, is_plain, is_wild, star, rest, is_subject_text}
 use Rattle.js_base.proofs.Meeting.{same_is, same_self}
 use Rattle.js_model.specs.declared.stream.Message.{Message}
-use Rattle.js_model.specs.declared.stream.Stream.{Stream}
-use Rattle.js_model.specs.Events.{is_below, all_but_last, purge_list, without_messages}
 use Rattle.js_model.specs.Lists.{Between}
 use Rattle.js_model.specs.Streams.{passes_filter, seqs}
 use Rattle.js_model.proofs.Members.{in_bounds, found_in}

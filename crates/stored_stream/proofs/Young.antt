@@ -1,11 +1,11 @@
 -- Messages that are too old stand first.
-use Rattle.std.proofs.Common.{◌≡◌, ℕ, ◌+◌, ◌<◌, ◌≤◌, ◌==◌, Bool, true, false, cond, not, List, [], ◌∷◌, Option, Some, None, min, max, refl, sym, ap, subst, ◌∙◌, arith}
-use Rattle.std.specs.Prelude.{filter, find, nat_lt, IfNone, IfSome, IsSome}
-use Rattle.std.proofs.lemmas.Bool.{ltb-true, ltb-false, lt-ltb, le-ltb, eq-eqb, ne_eqb}
+use Rattle.std.proofs.Common.{◌≡◌, ℕ, ◌+◌, ◌<◌, ◌≤◌, ◌==◌, Bool, true, false, cond, not, List, [], ◌∷◌, Option, Some, None, refl, sym, ap, subst, ◌∙◌, arith}
+use Rattle.std.specs.Prelude.{filter, nat_lt, IfNone, IfSome, IsSome}
+use Rattle.std.proofs.lemmas.Bool.{ltb-true, ltb-false, lt-ltb, le-ltb, eq-eqb}
 use Rattle.js_base.specs.Moments.{plus}
 use Rattle.js_model.specs.declared.stream.Message.{Message}
 use Rattle.js_model.specs.declared.stream.Stream.{Stream}
-use Rattle.js_model.specs.Advance.{young, aged, stream_at, remembered, advance}
+use Rattle.js_model.specs.Advance.{young}
 use Rattle.js_model.specs.Counts.{first_message}
 use Rattle.js_model.specs.Events.{message_at}
 use Rattle.js_model.specs.Lists.{Between}

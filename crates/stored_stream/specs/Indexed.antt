@@ -1,5 +1,5 @@
 -- Messages with an index by their subjects, this server's own.
-use Rattle.std.specs.Prelude.{◌≡◌, ℕ, List, filter}
+use Rattle.std.specs.Prelude.{◌≡◌, List, filter}
 use Rattle.js_base.specs.Bytes.{Bytes, same}
 use Rattle.js_model.specs.Lists.{Ascends}
 use Rattle.js_model.specs.declared.stream.Message.{Message}

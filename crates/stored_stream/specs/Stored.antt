@@ -1,7 +1,7 @@
 -- Streams as they are stored: what holds of them whether or not their limits hold.
 use Rattle.std.specs.Prelude.{◌≡◌, ℕ, true, ◌+◌, ◌^◌, ◌<◌, ◌≤◌, ◌==◌, not, List, [], ◌∷◌, ◌++◌, filter, length, All, IsTrue}
 use Rattle.std.specs.Str.{is_utf8}
-use Rattle.js_base.specs.Bytes.{Bytes, has}
+use Rattle.js_base.specs.Bytes.{Bytes}
 use Rattle.js_model.specs.declared.stream_config.StreamConfig.{StreamConfig}
 use Rattle.js_model.specs.declared.stream.Message.{Message}
 use Rattle.js_model.specs.declared.stream.Id.{Id}

@@ -49,12 +49,7 @@ impl Model for StoredStream {
 
 impl StoredStream {
     /// A stream without messages. It takes no memory.
-    pub fn make(
-        alloc: Global,
-        incarnation: u64,
-        config: StreamConfig,
-        now: Moment,
-    ) -> StoredStream
+    pub fn make(alloc: Global, incarnation: u64, config: StreamConfig, now: Moment) -> StoredStream
         requires valid { IsTrue (is_stream_config config) }
         requires incarnation { incarnation < 2 ^ 62 }
         ensures value { result ≡ empty_stream incarnation config now }

@@ -1,4 +1,4 @@
-use Rattle.std.proofs.Common.{◌≡◌, ◌+◌, ◌≤◌, true, false, ap, sym, ◌∙◌, arith}
+use Rattle.std.proofs.Common.{◌≡◌, ◌+◌, true, false, ap, sym, ◌∙◌, arith}
 use Rattle.js_base.specs.Bytes.{Bytes}
 use Rattle.js_base.specs.Subjects.{tokens, matches}
 use Rattle.js_model.specs.declared.stream.Message.{Message}

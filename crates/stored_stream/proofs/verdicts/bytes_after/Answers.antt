@@ -1,4 +1,4 @@
-use Rattle.std.proofs.Common.{sym, ap, ◌∙◌, arith}
+use Rattle.std.proofs.Common.{ap, ◌∙◌, arith}
 use Rattle.stored_stream.specs.PushedOut.{pushed_out}
 use Rattle.stored_stream.proofs.Pushing.{held_at}
 use Rattle.stored_stream.proofs.verdicts.bytes_after.Goals as goal

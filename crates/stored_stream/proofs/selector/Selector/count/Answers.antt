@@ -1,5 +1,4 @@
-use Rattle.std.proofs.Common.{◌≡◌, true, refl, ap, sym, ◌∙◌, length, List}
-use Rattle.std.specs.Prelude.{filter}
+use Rattle.std.proofs.Common.{true, refl, ap, sym, ◌∙◌, length}
 use Rattle.js_model.specs.declared.stream.Message.{Message}
 use Rattle.stored_stream.proofs.Lists.{filter_all}
 use Rattle.stored_stream.proofs.selector.Selector.count.Goals as goal

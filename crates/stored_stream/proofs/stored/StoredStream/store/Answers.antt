@@ -1,7 +1,6 @@
-use Rattle.std.proofs.Common.{◌≡◌, ◌+◌, ◌^◌, ◌<◌, All, refl, length}
-use Rattle.js_model.specs.declared.stream.Message.{Message}
+use Rattle.std.proofs.Common.{◌+◌, ◌^◌, ◌<◌, refl, length}
 use Rattle.stored_stream.specs.Stored.{alone, stored_message}
-use Rattle.stored_stream.proofs.Sounding.{above_last, last_undone, proper_small, proper_text, sound_more, with_message_is}
+use Rattle.stored_stream.proofs.Sounding.{above_last, last_undone, proper_small, proper_text, sound_more}
 use Rattle.stored_stream.proofs.stored.StoredStream.store.Goals as goal
 
 pub push-requires-clause-above : goal.push-requires-clause-above

@@ -1,4 +1,4 @@
-use Rattle.std.proofs.Common.{◌≡◌, Some, ap, ◌∙◌, arith}
+use Rattle.std.proofs.Common.{Some, ap, ◌∙◌, arith}
 use Rattle.std.specs.Prelude.{find, nat_le, option_map}
 use Rattle.js_model.specs.declared.stream.Message.{Message}
 use Rattle.message_store.specs.Stored.{IsSmall}

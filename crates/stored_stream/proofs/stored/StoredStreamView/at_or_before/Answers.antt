@@ -1,4 +1,4 @@
-use Rattle.std.proofs.Common.{◌≡◌, Some, None, List, ap, ◌∙◌, arith}
+use Rattle.std.proofs.Common.{Some, None, List, ap, ◌∙◌, arith}
 use Rattle.std.specs.Prelude.{filter, nat_le, option_map}
 use Rattle.std.specs.List.{last_or}
 use Rattle.js_model.specs.declared.stream.Message.{Message}
