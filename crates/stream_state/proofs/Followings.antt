@@ -1,6 +1,7 @@
 -- What a stream and the consumers that it keeps come to, call by call.
-use Rattle.std.proofs.Common.{◌≡◌, ℕ, ◌+◌, ◌<◌, ◌≤◌, ◌^◌, ◌==◌, not, List, [], ◌∷◌, ◌++◌, Some, length, map, refl, sym, ap, subst, ◌∙◌}
+use Rattle.std.proofs.Common.{◌≡◌, ℕ, ◌+◌, ◌<◌, ◌≤◌, ◌^◌, ◌==◌, Bool, not, List, [], ◌∷◌, ◌++◌, Some, length, map, refl, sym, ap, subst, ◌∙◌}
 use Rattle.std.specs.Prelude.{All, IsTrue, filter}
+use Rattle.std.proofs.lemmas.List.{length-map}
 use Rattle.std.proofs.lemmas.List.Elements.{All-nil, All-map, All-weaker}
 use Rattle.js_base.specs.Bytes.{Bytes}
 use Rattle.js_model.specs.declared.stream_config.StreamConfig.{StreamConfig}
@@ -13,7 +14,8 @@ use Rattle.js_model.specs.Configs.{is_stream_config}
 use Rattle.js_model.specs.Consumers.{empty_stream}
 use Rattle.js_model.specs.Events.{message_at, with_message}
 use Rattle.js_model.specs.Proper.{is_proper_publish}
-use Rattle.js_model.specs.Verdict.{message_of}
+use Rattle.js_model.specs.Refusals.{first_refusal}
+use Rattle.js_model.specs.Verdict.{early_checks, first_of_all, known, late_checks, message_of, verdict}
 use Rattle.js_model.proofs.Parts.{filter_part}
 use Rattle.consumer_need.specs.Stored.{HoldsStored}
 use Rattle.stored_stream.specs.Stored.{IsSound, with_known, without}
@@ -22,13 +24,24 @@ use Rattle.stream_state.specs.Attended.{stored_of, without_seq, IsAttended}
 use Rattle.stream_state.specs.Followers.{attended, gaining, losing, standing, AreFollowed, Following, IsCounted}
 use Rattle.stream_state.proofs.Attending.{attended_config, attended_later, attended_less, attended_more, named_map, sound_stored, sound_with}
 use Rattle.stream_state.proofs.Holding.{all_counted_less, all_counted_more, counted_few, gaining_consumers, losing_consumers}
-use Rattle.stream_state.proofs.Passing.{holds_at}
+use Rattle.stream_state.proofs.Timing.{holds_at}
+
+-- ---- elements that are changed one by one
+
+pub as_many : (xs ys ws : List Following) (f : Following → Following) → xs ≡ ys → ws ≡ map f xs → length ws ≡ length ys
+as_many xs ys ws f is changed = ap (λ (l : List Following). length l) (changed ∙ ap (map f) is) ∙ length-map ys f
 
 -- ---- what is stored of a stream
 
 -- what is stored of a sound stream is sound
 pub sound_as : (s t : Stream) → stored_of t ≡ stored_of s → IsAttended s → IsSound t
 sound_as s t e h = sound_with (stored_of t) t.consumers (subst IsSound (sym e) (sound_stored s h))
+
+-- and gets the same verdict
+pub verdict_as : (s t : Stream) (p : Publish) (room : Bool) → stored_of t ≡ stored_of s → verdict t p room ≡ verdict s p room
+unfolding verdict
+verdict_as s t p room e =
+    ap (λ (x : Stream). first_of_all (first_refusal (early_checks x p)) (known x p.wants.id) (first_refusal (late_checks x p room))) e
 
 -- ---- a new stream
 

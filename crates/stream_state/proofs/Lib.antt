@@ -4,7 +4,11 @@ pub mod Going
 pub mod Loops
 pub mod Taken
 pub mod Needing
-pub mod Releasing
-pub mod Passing
+pub mod Unkept
+pub mod Spanning
+pub mod Timing
 pub mod Settling
 pub mod Followings
+pub mod Naming
+pub mod Changing
+pub mod Walks

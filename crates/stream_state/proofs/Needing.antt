@@ -1,5 +1,5 @@
 -- Which messages the retention keeps, as others go.
-use Rattle.std.proofs.Common.{◌≡◌, ℕ, ◌==◌, ◌||◌, ◌&&◌, Bool, true, false, cond, not, List, [], ◌∷◌, map, refl, sym, ap, ◌∙◌}
+use Rattle.std.proofs.Common.{◌≡◌, ℕ, zero, suc, ◌<◌, ◌==◌, ◌||◌, ◌&&◌, Bool, true, false, cond, not, List, [], ◌∷◌, get_or, set, length, map, refl, sym, ap, ◌∙◌, arith}
 use Rattle.std.specs.Prelude.{filter}
 use Rattle.std.specs.List.{list_any}
 use Rattle.std.proofs.lemmas.Bool.{or_left, or_right, eq-eqb}
@@ -12,6 +12,7 @@ use Rattle.js_model.specs.Streams.{confined, pending_seqs, seqs, takes}
 use Rattle.js_model.specs.Retention.{is_kept, needs}
 use Rattle.js_model.proofs.Members.{IsIn, here, there}
 use Rattle.stored_stream.proofs.Lists.{filter-map}
+use Rattle.stream_state.specs.Followers.{Following}
 use Rattle.stream_state.specs.Needing.{NeedSame}
 use Rattle.stream_state.proofs.Holding.{has_filtered}
 
@@ -43,3 +44,17 @@ module _ (ns : List ℕ) (m : Message) (e : has ns m.seq ≡ true) where
 
   pub kept_same : (policy : Policy) (cs : List Consumer) → is_kept policy (map (confined ns) cs) m ≡ is_kept policy cs m
   kept_same policy cs = kept_alike policy m (map (confined ns) cs) cs (need_same_map m (confined ns) needs_same (λ c. refl) cs)
+
+-- ---- one of several changes
+
+pub need_same_trans : (m : Message) (bs cs ds : List Consumer) → NeedSame m bs cs → NeedSame m cs ds → NeedSame m bs ds
+need_same_trans m bs cs ds h k = record { needed = h.needed ∙ k.needed; taken = h.taken ∙ k.taken }
+
+any_set : (test : Consumer → Bool) (fs : List Following) (i : ℕ) (g d : Following) → i < length fs → test g.consumer ≡ test (get_or fs i d).consumer → list_any test (map (λ f. f.consumer) (set fs i g)) ≡ list_any test (map (λ f. f.consumer) fs)
+any_set test [] i g d l e = absurd (omega arith)
+any_set test (f ∷ fs) zero g d l e = ap (λ (b : Bool). b || list_any test (map (λ f. f.consumer) fs)) e
+any_set test (f ∷ fs) (suc i) g d l e = ap (λ (b : Bool). test f.consumer || b) (any_set test fs i g d (omega arith) e)
+
+pub need_same_set : (m : Message) (fs : List Following) (i : ℕ) (g d : Following) → i < length fs → needs g.consumer m ≡ needs (get_or fs i d).consumer m → takes g.consumer m ≡ takes (get_or fs i d).consumer m
+    → NeedSame m (map (λ f. f.consumer) (set fs i g)) (map (λ f. f.consumer) fs)
+need_same_set m fs i g d l n t = record { needed = any_set (λ c. needs c m) fs i g d l n; taken = any_set (λ c. takes c m) fs i g d l t }

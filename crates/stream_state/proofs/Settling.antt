@@ -28,41 +28,11 @@ use Rattle.stream_state.specs.Spans.{joined, spans, IsKeptOutside}
 use Rattle.stream_state.specs.declared.span.Span.{Span}
 use Rattle.stream_state.proofs.Attending.{attended_less, coherent}
 use Rattle.stream_state.proofs.Needing.{kept_alike}
-use Rattle.stream_state.proofs.Releasing.{all_from_in, keeps, keeps_less, outside_less}
+use Rattle.stream_state.proofs.Spanning.{outside_first, outside_second, spans_all, spans_one, spans_second}
+use Rattle.stream_state.proofs.Unkept.{all_from_in, keeps, keeps_less, outside_less}
 
 pub trimmed : (s : Stream) → IsAttended s → next_over s ≡ None → trim s ≡ s
 trimmed s h within = law_within s (coherent s h) within
-
--- ---- spans
-
-spans_first : (a b : Span) (n : ℕ) → spans a n ≡ true → spans (joined a b) n ≡ true
-spans_first a b n h =
-    let low : a.first ≤ n = leb-true a.first n (and_parts _ _ h).0 in
-    let high : n ≤ a.last = leb-true n a.last (and_parts _ _ h).1 in
-    rw (le-leb (min a.first b.first) n (omega arith), le-leb n (max a.last b.last) (omega arith)) refl
-
-spans_second : (a b : Span) (n : ℕ) → spans b n ≡ true → spans (joined a b) n ≡ true
-spans_second a b n h =
-    let low : b.first ≤ n = leb-true b.first n (and_parts _ _ h).0 in
-    let high : n ≤ b.last = leb-true n b.last (and_parts _ _ h).1 in
-    rw (le-leb (min a.first b.first) n (omega arith), le-leb n (max a.last b.last) (omega arith)) refl
-
-outside : (b : Bool) {c : Bool} → c ≡ false → (b ≡ true → c ≡ true) → b ≡ false
-outside true e f = absurd (true≢false (sym (f refl) ∙ e))
-outside false e f = refl
-
--- what is outside of both is outside of each
-pub outside_first : (a b : Span) (n : ℕ) → spans (joined a b) n ≡ false → spans a n ≡ false
-outside_first a b n e = outside (spans a n) e (spans_first a b n)
-
-pub outside_second : (a b : Span) (n : ℕ) → spans (joined a b) n ≡ false → spans b n ≡ false
-outside_second a b n e = outside (spans b n) e (spans_second a b n)
-
-pub spans_one : (n : ℕ) → spans (record { first = n; last = n }) n ≡ true
-spans_one n = rw (le-leb n n (omega arith)) refl
-
-pub spans_all : (n last : ℕ) → n ≤ last → spans (record { first = 0; last = last }) n ≡ true
-spans_all n last l = rw (le-leb 0 n (omega arith), le-leb n last l) refl
 
 -- ---- what is kept outside
 
@@ -119,3 +89,19 @@ pub advanced : (s : Stream) (now : ℕ) → advance s now ≡ record (only s (yo
 }
 unfolding advance
 advanced s now = refl
+
+-- ---- what each call leaves outside its span
+
+-- a publish, of which the message may not be kept
+pub published_kept : (loose one : Span) (s : Stream) (p : Publish) (n : ℕ) → one ≡ record { first = n; last = n } → n ≡ s.last + 1 → IsKeptOutside loose s → IsKeptOutside (joined loose one) (trim (with_message s p))
+published_kept loose one s p n is own h =
+    outside_trim (joined loose one) (with_message s p)
+    (outside_published loose (joined loose one) s p (λ m e. outside_first loose one m.seq e)
+    (spans_second loose one (s.last + 1) (ap (λ (span : Span). spans span (s.last + 1)) is ∙ ap (λ k. spans (record { first = k; last = k }) (s.last + 1)) own ∙ spans_one (s.last + 1))) h)
+
+-- time that passes, for which some messages may not be kept
+pub advanced_kept : (loose other : Span) (s t : Stream) (now : ℕ) → t ≡ record (only s (young s now)) { moment = now; ids = remembered s now; consumers = map (consumer_at now) (only s (young s now)).consumers }
+    → ((m : Message) → spans other m.seq ≡ false → NeedSame m t.consumers (only s (young s now)).consumers) → IsKeptOutside loose s → IsKeptOutside (joined loose other) t
+advanced_kept loose other s t now is same h =
+    outside_same loose (joined loose other) (only s (young s now)) t (ap (λ (x : Stream). x.messages) is) (ap (λ (x : Stream). x.config.retention) is) (λ m e. outside_first loose other m.seq e)
+    (λ m e. same m (outside_second loose other m.seq e)) (outside_less loose s (young_part s now) h)

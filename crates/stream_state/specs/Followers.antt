@@ -1,6 +1,6 @@
 -- Consumers as a stream keeps them, this server's own: each with the number of messages that are still to be delivered to it.
-use Rattle.std.specs.Prelude.{◌≡◌, ℕ, ◌+◌, ◌-◌, if◌then◌else◌, List, All, filter, length, map}
-use Rattle.js_base.specs.Bytes.{Bytes}
+use Rattle.std.specs.Prelude.{◌≡◌, ℕ, Bool, ◌+◌, ◌-◌, if◌then◌else◌, List, All, filter, length, map}
+use Rattle.js_base.specs.Bytes.{Bytes, same}
 use Rattle.js_model.specs.declared.stream.Message.{Message}
 use Rattle.js_model.specs.declared.stream.Stream.{Stream}
 use Rattle.js_model.specs.declared.consumer.Consumer.{Consumer}
@@ -28,6 +28,9 @@ losing subject seq f = record { consumer = forgotten seq f.consumer; undelivered
 -- after time has passed up to a moment
 abbrev pub standing : ℕ → Following → Following
 standing now f = record f { consumer = consumer_at now f.consumer }
+
+abbrev pub is_named : Bytes → Following → Bool
+is_named name f = same f.consumer.name name
 
 -- the number is that of the messages that are still to be delivered
 abbrev pub IsCounted : List Message → Following → Type 0

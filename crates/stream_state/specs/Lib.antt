@@ -3,3 +3,4 @@ pub mod Followers
 pub mod Needing
 pub mod Spans
 pub mod Settled
+pub mod Answering

@@ -7,6 +7,7 @@ ghost use Rattle.stream_state.specs.Followers.{gaining, losing, standing};
 ghost use Rattle.stream_state.specs.Needing.{NeedSame};
 ghost use Rattle.stream_state.specs.Spans.{spans};
 
+use crate::passing::pass_time;
 use crate::span::Span;
 use consumer_need::Need;
 use consumer_state::Consumer;
@@ -44,12 +45,7 @@ impl Follower {
         ensures value { self.new ≡ standing now self.old }
         ensures loose { (m : Message) → spans result m.seq ≡ false → needs self.new.consumer m ≡ needs self.old.consumer m }
     {
-        self.consumer.advance(now);
-        let mut loose = Span::none();
-        while let Some(seq) = self.consumer.overflow() {
-            loose = loose.join(Span::one(seq));
-        }
-        loose
+        pass_time(&mut self.consumer, now)
     }
 
     /// Takes note of a message that is removed. It takes no memory.

@@ -4,6 +4,7 @@
 mod ageing;
 mod followed;
 mod follower;
+mod passing;
 mod releasing;
 mod removing;
 mod span;

@@ -8,12 +8,26 @@ ghost use Rattle.stream_state.specs.Spans.{IsKeptOutside};
 
 use crate::followed::FollowedStream;
 use crate::span::Span;
+use js_model::{Message, Retention};
 use retention::is_kept;
 use stream_view::View;
 
 /// Lets the messages go that the retention does not keep. None of them is outside the span; it looks at the messages in the span alone. It takes no
 /// memory.
 pub(crate) fn release(stream: &mut FollowedStream, loose: Span)
+    requires sound { IsAttended stream.old }
+    requires outside { IsKeptOutside loose stream.old }
+    ensures left { stream.new ≡ kept stream.old }
+    ensures sound { IsAttended stream.new }
+{
+    match stream.config().retention {
+        Retention::Limits => (),
+        Retention::Interest | Retention::WorkQueue => release_unneeded(stream, loose),
+    }
+}
+
+/// The same, whatever the retention is.
+fn release_unneeded(stream: &mut FollowedStream, loose: Span)
     requires sound { IsAttended stream.old }
     requires outside { IsKeptOutside loose stream.old }
     ensures left { stream.new ≡ kept stream.old }
@@ -32,14 +46,23 @@ fn first_unkept(stream: &FollowedStream, from: u64, last: u64) -> Option<u64>
     ensures value { result ≡ next_passing (λ m. nat_le m.seq last && not (is_kept stream.now.config.retention stream.now.consumers m)) stream.now.messages from }
 {
     let mut from = from;
-    while let Some(message) = stream.at_or_after(from) {
+    while let Some(message) = stream.stored().first_from(from) {
         if last < message.seq {
             return None;
         }
-        if !is_kept(&stream.config().retention, stream.followers(), message.subject.as_slice(), message.seq) {
+        if !keeps(stream, message) {
             return Some(message.seq);
         }
         from = message.seq + 1;
     }
     None
+}
+
+/// Whether the retention keeps the message.
+fn keeps(stream: &FollowedStream, message: &Message) -> bool
+    ensures value { result ≡ is_kept stream.now.config.retention stream.now.consumers message.now }
+{
+    let retention = stream.config().retention;
+    let subject = message.subject.as_slice();
+    is_kept(retention, stream.followers(), subject, message.seq)
 }

@@ -40,7 +40,7 @@ impl Span {
 
     /// The sequences of both, and those between them.
     pub(crate) fn join(self, other: Span) -> Span
-        ensures value { result ≡ joined self.entry other }
+        ensures value { result ≡ joined self other }
     {
         Span {
             first: self.first.min(other.first),

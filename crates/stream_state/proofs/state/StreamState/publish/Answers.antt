@@ -1,9 +1,8 @@
-use Rattle.std.proofs.Common.{◌≡◌, ◌+◌, None, true, ap, sym, subst, ◌∙◌}
+use Rattle.std.proofs.Common.{true, ap, ◌∙◌}
 use Rattle.js_model.specs.declared.stream.Stream.{Stream}
 use Rattle.js_model.specs.Events.{with_message}
 use Rattle.js_model.specs.Trim.{trim}
-use Rattle.stream_state.specs.Spans.{IsKeptOutside}
-use Rattle.stream_state.proofs.Settling.{outside_first, outside_published, outside_second, outside_trim, spans_one, spans_second, trimmed}
+use Rattle.stream_state.proofs.Settling.{published_kept, trimmed}
 use Rattle.stream_state.proofs.Taken.{IsTaken, taken, next_number, has_room, over_own, trimmed_last}
 use Rattle.stream_state.proofs.state.StreamState.publish.Goals as goal
 
@@ -23,3 +22,29 @@ store-requires c =
 pub trim_on-requires : goal.trim_on-requires
 trim_on-requires c =
     record { sound = c.in_ok-store.ensures.sound; others = rw (c.in_ok-store.ensures.ok, c.as_slice.ensures) (over_own c.self.inside.stream c.args.publish.now c.self.invariant.within) }
+
+pub invariant_of-self-2 : goal.invariant_of-self-2
+invariant_of-self-2 c =
+    let s = c.self.inside.stream in
+    let p = c.args.publish.now in
+    let left = c.trim_on.ensures.left ∙ ap trim c.in_ok-store.ensures.ok in
+    let own = c.last-seq.ensures.value ∙ ap (λ (x : Stream). x.last) left ∙ trimmed_last s p in
+    record {
+      attended = c.trim_on.ensures.sound;
+      within = c.trim_on.ensures.within;
+      kept = rw (c.join-self-inside.ensures.value, left) (published_kept c.self.inside.loose c.one.result s p c.last-seq.result c.one.ensures.value own c.self.invariant.kept);
+    }
+
+pub returns-clause-ok : goal.returns-clause-ok
+returns-clause-ok c = rw (← c.self.view_is) (c.trim_on.ensures.left ∙ ap trim c.in_ok-store.ensures.ok)
+
+pub returns-clause-settled : goal.returns-clause-settled
+returns-clause-settled c = trimmed c.trim_on.new.stream c.trim_on.ensures.sound c.trim_on.ensures.within
+
+pub returns-clause-seq : goal.returns-clause-seq
+returns-clause-seq c =
+    rw (← c.self.view_is)
+    (c.last-seq.ensures.value ∙ ap (λ (s : Stream). s.last) (c.trim_on.ensures.left ∙ ap trim c.in_ok-store.ensures.ok) ∙ trimmed_last c.self.inside.stream c.args.publish.now)
+
+pub returns-in_err-store-clause-settled : goal.returns-in_err-store-clause-settled
+returns-in_err-store-clause-settled c = rw c.in_err-store.ensures.err (trimmed c.self.inside.stream c.self.invariant.attended c.self.invariant.within)

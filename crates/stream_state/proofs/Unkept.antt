@@ -4,6 +4,7 @@ use Rattle.std.specs.Prelude.{All, filter, find, is_some, nat_le, option_map}
 use Rattle.std.proofs.lemmas.Bool.{true≢false, and_parts, eqb-true, leb-true, leb-false, le-leb, lt-leb}
 use Rattle.std.proofs.lemmas.List.Elements.{All-nil, All-cons, All-head, All-tail}
 use Rattle.js_base.specs.Bytes.{has}
+use Rattle.js_model.specs.declared.stream_config.Retention.TheVariants.{Limits}
 use Rattle.js_model.specs.declared.stream.Message.{Message}
 use Rattle.js_model.specs.declared.stream.Stream.{Stream}
 use Rattle.js_model.specs.Events.{message_at}
@@ -74,6 +75,10 @@ kept_without s n h =
 pub all_kept : (s : Stream) → IsAttended s → ((m : Message) → IsIn m s.messages → keeps s m ≡ true) → kept s ≡ s
 unfolding kept
 all_kept s attended h = ap (only s) (filter_all (keeps s) s.messages (all_from_in (λ m. keeps s m ≡ true) s.messages h)) ∙ only_own s attended.held
+
+-- limits alone let none go
+pub limits_keep_all : (s : Stream) → IsAttended s → s.config.retention ≡ Limits → kept s ≡ s
+limits_keep_all s attended e = all_kept s attended (λ m i. ap (λ policy. is_kept policy s.consumers m) e)
 
 -- ---- one after the other
 

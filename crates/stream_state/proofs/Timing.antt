@@ -15,6 +15,9 @@ use Rattle.js_model.proofs.Named.{none_some, some_is}
 use Rattle.consumer_progress.specs.GivingUp.{first_of, rest_of}
 use Rattle.consumer_need.specs.Stored.{HoldsStored}
 use Rattle.consumer_state.specs.Passing.{has_overflow, overflow_of, passed, without_overflow, within_overflow, LawOverflow, LawPassed}
+use Rattle.stream_state.specs.Spans.{joined, spans}
+use Rattle.stream_state.specs.declared.span.Span.{Span}
+use Rattle.stream_state.proofs.Spanning.{other_than, outside_first, outside_second}
 
 -- ---- either of several
 
@@ -121,15 +124,52 @@ overflow_fewer c seq e = go (has_overflow c) c.given_up e
 
 -- ---- what a consumer holds goes on being stored
 
+abbrev is_stored : Stream → ℕ → Type 0
+is_stored s n = has (seqs s.messages) n ≡ true
+
 pub holds_at : (now : ℕ) (s : Stream) (c : Consumer) → HoldsStored s c → HoldsStored s (consumer_at now c)
 holds_at now s c h = record {
   picks = h.picks;
-  pending = All-filter (λ p. not (is_spent now c p)) (λ p. P p.seq) c.pending h.pending;
+  pending = All-filter (λ p. not (is_spent now c p)) (λ p. is_stored s p.seq) c.pending h.pending;
   given_up =
-      All-drop P _ (fold placed c.given_up (map (λ p. p.seq) (filter (is_spent now c) c.pending)))
-      (all_all_placed P c.given_up (map (λ p. p.seq) (filter (is_spent now c) c.pending)) h.given_up
-      (All-map P (λ p. p.seq) (filter (is_spent now c) c.pending) (All-filter (is_spent now c) (λ p. P p.seq) c.pending h.pending)));
+      All-drop (is_stored s) _ (fold placed c.given_up (map (λ p. p.seq) (filter (is_spent now c) c.pending)))
+      (all_all_placed (is_stored s) c.given_up (map (λ p. p.seq) (filter (is_spent now c) c.pending)) h.given_up
+      (All-map (is_stored s) (λ p. p.seq) (filter (is_spent now c) c.pending) (All-filter (is_spent now c) (λ p. is_stored s p.seq) c.pending h.pending)));
 }
+
+-- ---- the overflow, one by one
+
+abbrev needs_it : Consumer → Message → Bool
+needs_it c m = needs c m
+
+pub none_overflows : (c : Consumer) → None ≡ overflow_of c → without_overflow c ≡ c
+none_overflows c e = ap (λ (ns : List ℕ). record c { given_up = ns }) (go (has_overflow c) c.given_up e)
   where
-    abbrev P : ℕ → Type 0
-    P n = has (seqs s.messages) n ≡ true
+    go : (b : Bool) (ns : List ℕ) → None ≡ cond b (first_of ns) None → cond b (rest_of ns) ns ≡ ns
+    go true [] k = refl
+    go true (n ∷ ns) k = absurd (none_some k)
+    go false ns k = refl
+
+-- time has passed, and some of what overflows has gone
+pub record Overflows (now : ℕ) (old mid : Consumer) (loose : Span) : Type 0 where
+  pub same : within_overflow mid ≡ consumer_at now old
+  pub needs : (m : Message) → spans loose m.seq ≡ false → needs mid m ≡ needs old m
+
+pub overflows_none : LawPassed → (now : ℕ) (old mid : Consumer) (loose : Span) → mid ≡ passed now old → Overflows now old mid loose
+overflows_none law now old mid loose is = record {
+  same = ap within_overflow is ∙ sym (law now old);
+  needs = λ m e. ap (λ (c : Consumer). needs_it c m) is ∙ passed_needs now old m;
+}
+
+pub overflows_more : LawOverflow → (now seq : ℕ) (old mid new : Consumer) (loose one : Span) → Overflows now old mid loose → Some seq ≡ overflow_of mid → new ≡ without_overflow mid → one ≡ record { first = seq; last = seq } → Overflows now old new (joined loose one)
+overflows_more law now seq old mid new loose one h e is own = record {
+  same = ap within_overflow is ∙ (law mid).0 ∙ h.same;
+  needs = λ m out. ap (λ (c : Consumer). needs_it c m) is
+      ∙ overflow_needs mid seq m e (other_than seq m.seq (ap (λ (span : Span). spans span m.seq) (sym own) ∙ outside_second loose one m.seq out))
+      ∙ h.needs m (outside_first loose one m.seq out);
+}
+
+pub overflows_all : LawOverflow → (now : ℕ) (old mid new : Consumer) (loose : Span) → Overflows now old mid loose → None ≡ overflow_of mid → new ≡ without_overflow mid → (new ≡ consumer_at now old) × ((m : Message) → spans loose m.seq ≡ false → needs new m ≡ needs old m)
+overflows_all law now old mid new loose h e is =
+    let stays = is ∙ none_overflows mid e in
+    (stays ∙ sym ((law mid).1 (sym e)) ∙ h.same, λ m out. ap (λ (c : Consumer). needs c m) stays ∙ h.needs m out)
