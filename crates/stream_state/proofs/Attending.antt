@@ -1,8 +1,7 @@
 -- A stream with its consumers stays whole.
-use Rattle.std.proofs.Common.{◌≡◌, ℕ, ◌+◌, ◌<◌, ◌≤◌, ◌^◌, ◌==◌, Bool, true, not, List, [], ◌∷◌, ◌++◌, Option, Some, None, length, map, refl, sym, ap, subst, ◌∙◌}
-use Rattle.std.specs.Prelude.{All, IsTrue, filter, option_map}
-use Rattle.std.proofs.lemmas.List.Elements.{All-nil, All-weaker}
-use Rattle.js_base.specs.Bytes.{Bytes, has}
+use Rattle.std.proofs.Common.{◌≡◌, ℕ, ◌+◌, ◌<◌, ◌≤◌, ◌^◌, ◌==◌, not, List, [], ◌∷◌, ◌++◌, length, map, refl, sym, ap, subst, ◌∙◌}
+use Rattle.std.specs.Prelude.{IsTrue, filter, option_map}
+use Rattle.std.proofs.lemmas.List.Elements.{All-weaker}
 use Rattle.js_model.specs.declared.stream_config.StreamConfig.{StreamConfig}
 use Rattle.js_model.specs.declared.stream.Message.{Message}
 use Rattle.js_model.specs.declared.stream.Stream.{Stream}
@@ -10,17 +9,16 @@ use Rattle.js_model.specs.declared.consumer.Consumer.{Consumer}
 use Rattle.js_model.specs.declared.event.Publish.{Publish}
 use Rattle.js_model.specs.Advance.{remembered}
 use Rattle.js_model.specs.Configs.{is_stream_config}
-use Rattle.js_model.specs.Events.{message_at, with_message}
+use Rattle.js_model.specs.Events.{with_message}
 use Rattle.js_model.specs.Lists.{IsPart}
 use Rattle.js_model.specs.Proper.{is_proper_publish}
 use Rattle.js_model.specs.Streams.{by_name, confined, only, seqs}
-use Rattle.js_model.proofs.Members.{found_in}
 use Rattle.js_model.proofs.Named.{KeepsNames, by_name-map}
 use Rattle.js_model.proofs.Parts.{all_part, filter_part, part_trans}
 use Rattle.consumer_need.specs.Stored.{HoldsStored}
 use Rattle.retention.specs.Laws.{IsCoherent}
 use Rattle.retention.proofs.Confining.{holds_confined, only_own, only_within}
-use Rattle.stored_stream.specs.Stored.{IsSound, IsText, stored_message, with_known}
+use Rattle.stored_stream.specs.Stored.{IsSound, stored_message, with_known}
 use Rattle.stored_stream.proofs.Sounding.{sound_less, sound_more, sound_later, sound_config, proper_small, proper_text, with_message_is}
 use Rattle.stream_state.specs.Attended.{stored_of, without_seq, AreNamedApart, IsAttended}
 use Rattle.stream_state.proofs.Holding.{has_more, holds_in}

@@ -1,20 +1,19 @@
 -- A stream with another consumer in the place of one of its name.
-use Rattle.std.proofs.Common.{◌≡◌, ℕ, zero, suc, ◌||◌, ◌<◌, Bool, true, false, cond, List, [], ◌∷◌, Option, Some, None, get_or, set, length, map, refl, sym, ap, subst, ◌∙◌, arith}
-use Rattle.std.specs.Prelude.{All, find}
+use Rattle.std.proofs.Common.{◌≡◌, ℕ, zero, suc, ◌||◌, ◌<◌, Bool, true, false, cond, List, [], ◌∷◌, Some, None, get_or, set, length, map, refl, sym, ap, ◌∙◌, arith}
+use Rattle.std.specs.Prelude.{All}
 use Rattle.std.specs.List.{list_any, position}
-use Rattle.std.proofs.lemmas.Bool.{true≢false}
-use Rattle.std.proofs.lemmas.List.Elements.{All-nil, All-cons, All-head, All-tail, All-map, All-weaker}
-use Rattle.js_base.specs.Bytes.{Bytes, has, same}
+use Rattle.std.proofs.lemmas.List.Elements.{All-nil, All-cons, All-head, All-tail, All-weaker}
+use Rattle.js_base.specs.Bytes.{Bytes, same}
 use Rattle.js_model.specs.declared.stream.Message.{Message}
 use Rattle.js_model.specs.declared.stream.Stream.{Stream}
 use Rattle.js_model.specs.declared.consumer.Consumer.{Consumer}
 use Rattle.js_model.specs.Retention.{needs}
 use Rattle.js_model.specs.Streams.{by_name, in_place_of, takes, with_consumer}
-use Rattle.js_model.proofs.Named.{found_named as named_found, in_place_of-names, none_some, placed_same, placed_other, same_is, some_is}
+use Rattle.js_model.proofs.Named.{found_named as named_found, in_place_of-names, none_some, same_is, some_is}
 use Rattle.consumer_need.specs.Needs.{awaits}
 use Rattle.consumer_need.specs.Stored.{HoldsStored}
 use Rattle.stream_state.specs.Attended.{AreNamedApart, IsAttended}
-use Rattle.stream_state.specs.Followers.{attended, is_named, AreFollowed, Following, IsCounted}
+use Rattle.stream_state.specs.Followers.{attended, is_named, AreFollowed, Following}
 use Rattle.stream_state.specs.Needing.{NeedSame}
 use Rattle.stream_state.proofs.Attending.{named_map, sound_with}
 use Rattle.stream_state.proofs.Naming.{found_named, place_within, placed_at}

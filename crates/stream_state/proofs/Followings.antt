@@ -11,7 +11,6 @@ use Rattle.js_model.specs.declared.consumer.Consumer.{Consumer}
 use Rattle.js_model.specs.declared.event.Publish.{Publish}
 use Rattle.js_model.specs.Advance.{consumer_at, remembered}
 use Rattle.js_model.specs.Configs.{is_stream_config}
-use Rattle.js_model.specs.Consumers.{empty_stream}
 use Rattle.js_model.specs.Events.{message_at, with_message}
 use Rattle.js_model.specs.Proper.{is_proper_publish}
 use Rattle.js_model.specs.Refusals.{first_refusal}

@@ -1,10 +1,9 @@
 -- What consumers hold and await as messages come and go.
 use Rattle.std.proofs.Common.{◌≡◌, ℕ, ◌+◌, ◌-◌, ◌<◌, ◌≤◌, ◌^◌, ◌==◌, ◌&&◌, ◌||◌, Bool, true, false, cond, not, List, [], ◌∷◌, ◌++◌, Some, length, map, refl, sym, ap, ◌∙◌, arith}
 use Rattle.std.specs.Prelude.{All, filter, find, nat_le}
-use Rattle.std.proofs.lemmas.Bool.{true≢false, eqb-true, eq-eqb, ne_eqb, or_left, or_right}
-use Rattle.std.proofs.lemmas.Bool.Decides.{nat_tests}
+use Rattle.std.proofs.lemmas.Bool.{true≢false, eqb-true, eq-eqb}
 use Rattle.std.proofs.lemmas.List.{length-append}
-use Rattle.std.proofs.lemmas.List.Elements.{All-nil, All-cons, All-head, All-tail, All-map, All-weaker, filter-append, filter_passes}
+use Rattle.std.proofs.lemmas.List.Elements.{All-head, All-tail, All-map, All-weaker, filter-append, filter_passes}
 use Rattle.js_base.specs.Bytes.{Bytes, has}
 use Rattle.js_model.specs.declared.stream.Message.{Message}
 use Rattle.js_model.specs.declared.stream.Stream.{Stream}
@@ -15,7 +14,7 @@ use Rattle.js_model.specs.Streams.{confined, seqs}
 use Rattle.js_model.proofs.Members.{found_in}
 use Rattle.js_model.proofs.Named.{some_is}
 use Rattle.js_model.proofs.Parts.{filter_part, part-length}
-use Rattle.consumer_need.specs.Needs.{awaits, is_ahead, takes_subject}
+use Rattle.consumer_need.specs.Needs.{awaits, takes_subject}
 use Rattle.consumer_need.specs.Stored.{HoldsStored}
 use Rattle.consumer_state.specs.Forgetting.{forgotten}
 use Rattle.stored_stream.proofs.Finding.{apart}
@@ -104,8 +103,10 @@ module _ (s : Stream) (seq : ℕ) where
   pub losing_consumers : (subject : Bytes) (fs : List Following) → All (HoldsStored s) (map (λ f. f.consumer) fs) → map (λ f. f.consumer) (map (losing subject seq) fs) ≡ map (confined (seqs rest)) (map (λ f. f.consumer) fs)
   losing_consumers subject [] h = refl
   losing_consumers subject (f ∷ fs) h =
-      rw (forgotten_is f.consumer (All-head (HoldsStored s) f.consumer (map (λ f. f.consumer) fs) h),
-      losing_consumers subject fs (All-tail (HoldsStored s) f.consumer (map (λ f. f.consumer) fs) h)) refl
+      rw (
+        forgotten_is f.consumer (All-head (HoldsStored s) f.consumer (map (λ f. f.consumer) fs) h),
+        losing_consumers subject fs (All-tail (HoldsStored s) f.consumer (map (λ f. f.consumer) fs) h),
+      ) refl
 
 -- ---- what is still to be delivered
 

@@ -1,12 +1,12 @@
 -- The follower of a name, by its place.
-use Rattle.std.proofs.Common.{◌≡◌, ℕ, suc, zero, ◌+◌, ◌<◌, ◌≤◌, Bool, true, false, cond, not, List, [], ◌∷◌, Option, Some, None, get_or, set, length, map, refl, sym, ap, subst, ◌∙◌, arith}
-use Rattle.std.specs.Prelude.{filter, find, nat_lt}
+use Rattle.std.proofs.Common.{◌≡◌, ℕ, suc, ◌+◌, ◌<◌, ◌≤◌, Bool, true, false, cond, not, List, [], ◌∷◌, Some, None, get_or, set, length, map, refl, sym, ap, subst, ◌∙◌, arith}
+use Rattle.std.specs.Prelude.{nat_lt}
 use Rattle.std.specs.List.{position, position_or_len}
-use Rattle.std.proofs.lemmas.Bool.{true≢false, ltb-true, ltb-false}
+use Rattle.std.proofs.lemmas.Bool.{ltb-true, ltb-false}
 use Rattle.js_base.specs.Bytes.{Bytes, same}
 use Rattle.js_model.specs.declared.consumer.Consumer.{Consumer}
 use Rattle.js_model.specs.Streams.{by_name, in_place_of}
-use Rattle.js_model.proofs.Named.{none_some, same_is, same_self, some_is}
+use Rattle.js_model.proofs.Named.{none_some, same_is, some_is}
 use Rattle.stream_state.specs.Attended.{AreNamedApart}
 use Rattle.stream_state.specs.Followers.{is_named, Following}
 

@@ -1,6 +1,5 @@
 -- Which messages the retention keeps, as others go.
-use Rattle.std.proofs.Common.{◌≡◌, ℕ, zero, suc, ◌<◌, ◌==◌, ◌||◌, ◌&&◌, Bool, true, false, cond, not, List, [], ◌∷◌, get_or, set, length, map, refl, sym, ap, ◌∙◌, arith}
-use Rattle.std.specs.Prelude.{filter}
+use Rattle.std.proofs.Common.{◌≡◌, ℕ, zero, suc, ◌<◌, ◌==◌, ◌||◌, Bool, true, not, List, [], ◌∷◌, get_or, set, length, map, refl, sym, ap, ◌∙◌, arith}
 use Rattle.std.specs.List.{list_any}
 use Rattle.std.proofs.lemmas.Bool.{or_left, or_right, eq-eqb}
 use Rattle.js_base.specs.Bytes.{has}

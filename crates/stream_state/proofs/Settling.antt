@@ -1,24 +1,22 @@
 -- A stream whose limits hold stays one, and which of its messages may no longer be kept.
-use Rattle.std.proofs.Common.{◌≡◌, ℕ, ◌+◌, ◌<◌, ◌≤◌, ◌==◌, ◌&&◌, Bool, true, false, not, List, [], ◌∷◌, ◌++◌, None, min, max, map, refl, sym, ap, subst, ◌∙◌, arith}
-use Rattle.std.specs.Prelude.{All, filter, nat_le}
-use Rattle.std.proofs.lemmas.Bool.{true≢false, and_parts, leb-true, le-leb}
-use Rattle.std.proofs.lemmas.List.Elements.{All-nil, All-push, All-weaker}
-use Rattle.js_base.specs.Bytes.{has}
+use Rattle.std.proofs.Common.{◌≡◌, ℕ, ◌+◌, ◌<◌, true, false, List, None, max, map, refl, sym, ap, subst, ◌∙◌, arith}
+use Rattle.std.specs.Prelude.{All, filter}
+use Rattle.std.proofs.lemmas.Bool.{true≢false}
+use Rattle.std.proofs.lemmas.List.Elements.{All-push, All-weaker}
 use Rattle.js_model.specs.declared.stream.Message.{Message}
 use Rattle.js_model.specs.declared.stream.Stream.{Stream}
 use Rattle.js_model.specs.declared.consumer.Consumer.{Consumer}
 use Rattle.js_model.specs.declared.event.Publish.{Publish}
 use Rattle.js_model.specs.Advance.{advance, consumer_at, remembered, young}
 use Rattle.js_model.specs.Events.{with_message}
-use Rattle.js_model.specs.Lists.{Between, IsPart}
 use Rattle.js_model.specs.Retention.{is_kept, kept}
 use Rattle.js_model.specs.Streams.{only}
 use Rattle.js_model.specs.Trim.{max_messages, trim}
 use Rattle.js_model.specs.Verdict.{message_of}
-use Rattle.js_model.proofs.Members.{IsIn, all_in, in_bounds, in_filter, in_part}
+use Rattle.js_model.proofs.Members.{in_bounds, in_filter}
 use Rattle.js_model.proofs.Parts.{filter_part, young_part}
 use Rattle.retention.specs.Over.{next_over}
-use Rattle.retention.proofs.Dropping.{limits_keep, limits_keep_part, trim_only}
+use Rattle.retention.proofs.Dropping.{limits_keep_part, trim_only}
 use Rattle.retention.proofs.Following.{law_within}
 use Rattle.stored_stream.proofs.Limiting.{within_less}
 use Rattle.stored_stream.proofs.Sounding.{with_message_is}
@@ -26,7 +24,7 @@ use Rattle.stream_state.specs.Attended.{IsAttended}
 use Rattle.stream_state.specs.Needing.{NeedSame}
 use Rattle.stream_state.specs.Spans.{joined, spans, IsKeptOutside}
 use Rattle.stream_state.specs.declared.span.Span.{Span}
-use Rattle.stream_state.proofs.Attending.{attended_less, coherent}
+use Rattle.stream_state.proofs.Attending.{coherent}
 use Rattle.stream_state.proofs.Needing.{kept_alike}
 use Rattle.stream_state.proofs.Spanning.{outside_first, outside_second, spans_all, spans_one, spans_second}
 use Rattle.stream_state.proofs.Unkept.{all_from_in, keeps, keeps_less, outside_less}
@@ -85,7 +83,9 @@ within_kept s h = within_less s (filter_part (keeps s) s.messages) h
 
 -- the stream at a moment, step by step
 pub advanced : (s : Stream) (now : ℕ) → advance s now ≡ record (only s (young s (max s.moment now))) {
-  moment = max s.moment now; ids = remembered s (max s.moment now); consumers = map (consumer_at (max s.moment now)) (only s (young s (max s.moment now))).consumers
+  moment = max s.moment now;
+  ids = remembered s (max s.moment now);
+  consumers = map (consumer_at (max s.moment now)) (only s (young s (max s.moment now))).consumers;
 }
 unfolding advance
 advanced s now = refl

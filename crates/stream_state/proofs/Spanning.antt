@@ -1,6 +1,5 @@
 -- Spans that are joined, and what is outside of them.
-use Rattle.std.proofs.Common.{◌≡◌, ℕ, ◌≤◌, ◌==◌, ◌&&◌, Bool, true, false, min, max, refl, sym, ap, ◌∙◌, arith}
-use Rattle.std.specs.Prelude.{nat_le}
+use Rattle.std.proofs.Common.{◌≡◌, ℕ, ◌≤◌, ◌==◌, Bool, true, false, min, max, refl, sym, ap, ◌∙◌, arith}
 use Rattle.std.proofs.lemmas.Bool.{true≢false, and_parts, leb-true, le-leb, eqb-true}
 use Rattle.stream_state.specs.Spans.{joined, spans}
 use Rattle.stream_state.specs.declared.span.Span.{Span}

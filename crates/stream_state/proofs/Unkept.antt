@@ -1,19 +1,18 @@
 -- Messages that the retention does not keep go one by one.
-use Rattle.std.proofs.Common.{◌≡◌, ℕ, ◌+◌, ◌<◌, ◌≤◌, ◌==◌, ◌&&◌, ◌⊎◌, inl, inr, Bool, true, false, cond, not, List, [], ◌∷◌, Option, Some, None, map, refl, sym, ap, subst, ◌∙◌, arith}
+use Rattle.std.proofs.Common.{◌≡◌, ℕ, ◌+◌, ◌<◌, ◌==◌, ◌&&◌, Bool, true, false, cond, not, List, [], ◌∷◌, Option, Some, None, refl, sym, ap, subst, ◌∙◌, arith}
 use Rattle.std.specs.Prelude.{All, filter, find, is_some, nat_le, option_map}
-use Rattle.std.proofs.lemmas.Bool.{true≢false, and_parts, eqb-true, leb-true, leb-false, le-leb, lt-leb}
-use Rattle.std.proofs.lemmas.List.Elements.{All-nil, All-cons, All-head, All-tail}
-use Rattle.js_base.specs.Bytes.{has}
+use Rattle.std.proofs.lemmas.Bool.{true≢false, and_parts, eqb-true, leb-false, lt-leb}
+use Rattle.std.proofs.lemmas.List.Elements.{All-nil, All-cons}
 use Rattle.js_model.specs.declared.stream_config.Retention.TheVariants.{Limits}
 use Rattle.js_model.specs.declared.stream.Message.{Message}
 use Rattle.js_model.specs.declared.stream.Stream.{Stream}
 use Rattle.js_model.specs.Events.{message_at}
-use Rattle.js_model.specs.Lists.{Ascends, Between, IsPart}
+use Rattle.js_model.specs.Lists.{IsPart}
 use Rattle.js_model.specs.Retention.{is_kept, kept}
-use Rattle.js_model.specs.Streams.{confined, only, seqs}
+use Rattle.js_model.specs.Streams.{only, seqs}
 use Rattle.js_model.proofs.Members.{IsIn, here, there, all_in, found_in, in_part}
 use Rattle.js_model.proofs.Named.{some_is}
-use Rattle.js_model.proofs.Parts.{all_part, filter_part}
+use Rattle.js_model.proofs.Parts.{filter_part}
 use Rattle.retention.proofs.Confining.{only_own, only_within}
 use Rattle.stored_stream.specs.Selecting.{next_passing}
 use Rattle.stored_stream.proofs.Finding.{fails_before, find_from, member_found}

@@ -18,7 +18,7 @@ loop-follower-preserved c =
     let fs = c.loop-follower.followers in
     let here : Following = get_or fs i c.follower-item.result in (
       rw c.advance.ensures.value
-      (map_over_more (standing c.args.now) c.args.followers.now fs i here (omega arith) c.loop-follower.invariant.0 (get_or_default fs i c.follower-item.result here (omega arith))),
+          (map_over_more (standing c.args.now) c.args.followers.now fs i here (omega arith) c.loop-follower.invariant.0 (get_or_default fs i c.follower-item.result here (omega arith))),
       λ m e. let out = ap (λ span. spans span m.seq) c.join-loose.ensures.value in
           need_same_trans m _ _ _
           (need_same_set m fs i c.advance.new.self c.follower-item.result (omega arith) (c.advance.ensures.loose m (outside_second c.loop-follower.loose c.advance.result m.seq (sym out ∙ e))) (ap (λ (f : Following). takes f.consumer m) c.advance.ensures.value))

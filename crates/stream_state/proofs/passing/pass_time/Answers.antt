@@ -1,4 +1,3 @@
-use Rattle.std.proofs.Common.{sym, ap, ◌∙◌}
 use Rattle.stream_state.proofs.Timing.{overflow_fewer, overflows_all, overflows_more, overflows_none}
 use Rattle.stream_state.proofs.passing.pass_time.Goals as goal
 

@@ -1,4 +1,4 @@
-use Rattle.std.proofs.Common.{◌≡◌, ◌+◌, ◌≤◌, ◌&&◌, not, true, false, Some, ap, sym, ◌∙◌, arith}
+use Rattle.std.proofs.Common.{◌≡◌, ◌+◌, ◌&&◌, not, true, false, ap, sym, ◌∙◌, arith}
 use Rattle.std.specs.Prelude.{find, nat_le}
 use Rattle.std.proofs.lemmas.Bool.{le-leb}
 use Rattle.js_model.specs.declared.stream.Message.{Message}

@@ -1,8 +1,6 @@
-use Rattle.std.proofs.Common.{◌≡◌, List, Some, length, map, sym, ap, subst, ◌∙◌}
+use Rattle.std.proofs.Common.{◌≡◌, List, map, sym, ap, subst, ◌∙◌}
 use Rattle.js_base.specs.Bytes.{Bytes}
 use Rattle.js_model.specs.declared.stream.Stream.{Stream}
-use Rattle.js_model.specs.Events.{message_at}
-use Rattle.stored_stream.specs.Stored.{without}
 use Rattle.stream_state.specs.Followers.{attended, losing, AreFollowed, Following}
 use Rattle.stream_state.proofs.Followings.{as_many, followed_less, removed}
 use Rattle.stream_state.proofs.Going.{without_absent}
@@ -23,7 +21,7 @@ invariant_of-self c =
     c.lose_all.ensures.value
     ∙ ap (λ (x : Bytes). map (losing x c.args.seq) c.as_mut_slice.result.now) c.as_slice.ensures
     ∙ ap (map (losing m.subject c.args.seq)) c.as_mut_slice.ensures.value in
-    let written = with_items_is c.self.inside.followers c.lose_all.new.followers (as_many c.as_mut_slice.result.now fs c.lose_all.new.followers (losing c.as_slice.result.now c.args.seq) c.as_mut_slice.ensures.value c.lose_all.ensures.value ∙ c.self.inside.followers.ok.0) in
+    let written = with_items_is c.self.inside.followers c.lose_all.new.followers (as_many c.as_mut_slice.result.now fs c.lose_all.new.followers (losing c.as_slice.result.now c.args.seq) c.as_mut_slice.ensures.value c.lose_all.ensures.value ∙ sym c.self.inside.followers.ok.0) in
     subst (λ (l : List Following). AreFollowed c.remove.new.self l) (sym (written ∙ told))
     (subst (λ (x : Stream). AreFollowed x (map (losing m.subject c.args.seq) fs)) (sym c.remove.ensures.left) (followed_less s fs c.self.invariant c.args.seq m (sym c.in-Some.ensures.value)))
 
@@ -32,7 +30,7 @@ returns-clause-left c =
     let s = c.self.inside.stored in
     let fs = c.self.inside.followers.items in
     let told : c.lose_all.new.followers ≡ map (losing c.as_slice.result.now c.args.seq) fs = c.lose_all.ensures.value ∙ ap (map (losing c.as_slice.result.now c.args.seq)) c.as_mut_slice.ensures.value in
-    let written = with_items_is c.self.inside.followers c.lose_all.new.followers (as_many c.as_mut_slice.result.now fs c.lose_all.new.followers (losing c.as_slice.result.now c.args.seq) c.as_mut_slice.ensures.value c.lose_all.ensures.value ∙ c.self.inside.followers.ok.0) in
+    let written = with_items_is c.self.inside.followers c.lose_all.new.followers (as_many c.as_mut_slice.result.now fs c.lose_all.new.followers (losing c.as_slice.result.now c.args.seq) c.as_mut_slice.ensures.value c.lose_all.ensures.value ∙ sym c.self.inside.followers.ok.0) in
     rw (← c.self.view_is)
     (ap (λ (l : List Following). attended c.remove.new.self l) (written ∙ told)
     ∙ ap (λ (x : Stream). attended x (map (losing c.as_slice.result.now c.args.seq) fs)) c.remove.ensures.left

@@ -1,7 +1,5 @@
-use Rattle.std.proofs.Common.{ap, sym, subst, ◌∙◌}
+use Rattle.std.proofs.Common.{ap, ◌∙◌}
 use Rattle.js_model.specs.Trim.{trim}
-use Rattle.stream_state.specs.Spans.{IsKeptOutside}
-use Rattle.stream_state.specs.declared.span.Span.{Span}
 use Rattle.stream_state.proofs.Settling.{outside_all, trimmed}
 use Rattle.stream_state.proofs.state.StreamState.change.Goals as goal
 

@@ -1,9 +1,8 @@
 use Rattle.std.proofs.Common.{true, ap, ◌∙◌}
 use Rattle.js_model.specs.declared.stream.Stream.{Stream}
-use Rattle.js_model.specs.Events.{with_message}
 use Rattle.js_model.specs.Trim.{trim}
 use Rattle.stream_state.proofs.Settling.{published_kept, trimmed}
-use Rattle.stream_state.proofs.Taken.{IsTaken, taken, next_number, has_room, over_own, trimmed_last}
+use Rattle.stream_state.proofs.Taken.{taken, next_number, has_room, over_own, trimmed_last}
 use Rattle.stream_state.proofs.state.StreamState.publish.Goals as goal
 
 pub store-requires : goal.store-requires

@@ -1,4 +1,4 @@
-use Rattle.std.proofs.Common.{◌≡◌, None, ◌∙◌}
+use Rattle.std.proofs.Common.{◌≡◌, None}
 use Rattle.retention.specs.Over.{next_over}
 use Rattle.stream_state.proofs.Settling.{outside_kept, trimmed, within_kept}
 use Rattle.stream_state.proofs.state.StreamState.release.Goals as goal

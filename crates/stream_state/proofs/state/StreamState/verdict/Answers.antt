@@ -1,8 +1,6 @@
 use Rattle.std.proofs.Common.{ap, ◌∙◌}
 use Rattle.js_model.specs.declared.stream.Stream.{Stream}
-use Rattle.js_model.specs.Verdict.{verdict}
 use Rattle.retention.specs.Over.{next_over}
-use Rattle.stream_state.specs.Attended.{stored_of}
 use Rattle.stream_state.proofs.Followings.{sound_as, verdict_as}
 use Rattle.stream_state.proofs.state.StreamState.verdict.Goals as goal
 
