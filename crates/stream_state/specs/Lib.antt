@@ -4,3 +4,4 @@ pub mod Needing
 pub mod Spans
 pub mod Settled
 pub mod Answering
+pub mod Delivering

@@ -2,6 +2,7 @@
 #![tactic(auto)]
 
 mod ageing;
+mod calls;
 mod followed;
 mod follower;
 mod passing;
