@@ -11,12 +11,12 @@ use crate::fault::PullFault;
 use crate::front::Front;
 use crate::moments::{beat_all, earlier, is_over, is_reached, next_of, next_of_all};
 use crate::status::{put_beats, put_timeouts};
-use js_base::{List, Moment, NoMemory, Out, Outs};
+use consumer_texts::append;
+use js_base::{Moment, NoMemory, Out, Outs};
 use js_model::Pull;
 use std::alloc::Global;
 use std::collections::VecDeque;
 use std::marker::Model;
-use std::mem;
 
 /// The pulls of a consumer that wait for messages, in the order of their asking, and how many of them may.
 #[derive(Drop)]
@@ -215,16 +215,4 @@ fn serve(pull: &mut Pull, size: u64, now: Moment)
     pull.batch = pull.batch.saturating_sub(1);
     pull.bytes = pull.bytes.map(|limit| limit.saturating_sub(size));
     pull.mark = now;
-}
-
-/// Adds all of the messages, or none if memory runs out.
-fn append(alloc: Global, outs: &mut Outs, mut more: Vec<Out>) -> Result<(), NoMemory>
-    ensures ok { OnOk result (outs.new ≡ outs.old ++ more.items) }
-    ensures err { OnErr result (outs.new ≡ outs.old) }
-{
-    let mut all = mem::replace(outs, List::new(alloc)).into_vec();
-    let appended = all.append(&mut more);
-    *outs = List::from_vec(all);
-    appended?;
-    Ok(())
 }

@@ -1,5 +1,5 @@
--- What the limits keep of the messages of a stream without consumers.
-use Rattle.std.proofs.Common.{◌≡◌, ℕ, ◌≤◌, Bool, true, false, ◌||◌, List, [], ◌∷◌, ◌++◌, Option, None, length, map, refl, sym, ap, ◌∙◌, subst, arith}
+-- What the limits keep of the messages of a stream.
+use Rattle.std.proofs.Common.{◌≡◌, ℕ, ◌≤◌, Bool, true, false, ◌||◌, List, ◌∷◌, ◌++◌, Option, None, length, refl, sym, ap, ◌∙◌, subst, arith}
 use Rattle.std.specs.Prelude.{nat_lt, find, sum_by}
 use Rattle.std.specs.List.{AllByRecursion}
 use Rattle.std.proofs.lemmas.Bool.{ltb-false, or_parts}
@@ -7,9 +7,11 @@ use borrow.Author.Tests.{ltb-true}
 use Rattle.js_base.specs.Bytes.{last_of}
 use Rattle.js_model.specs.declared.stream.Message.{Message}
 use Rattle.js_model.specs.declared.stream.Stream.{Stream}
-use Rattle.js_model.specs.declared.consumer.Consumer.{Consumer}
-use Rattle.js_model.specs.Streams.{only, confined, seqs, size, over_limit}
+use Rattle.js_model.specs.Lists.{IsPart}
+use Rattle.js_model.specs.Streams.{only, size, over_limit}
 use Rattle.js_model.specs.Trim.{newest_at, fitting_at, max_messages, trim}
+use Rattle.js_model.proofs.Parts.{drop_part, fitting_at_part, newest_at_part, part_trans}
+use Rattle.retention.proofs.Confining.{only_within}
 use Rattle.retention.proofs.Keeping.{is_crowded, newest_at_few, newest_at_rest, newest_at-without, last_of_few, last_of-without, fitting_at_few, fitting_at-without}
 use Rattle.retention.proofs.Splitting.{IsSplit}
 
@@ -55,22 +57,15 @@ module _ (per_subject : Option ℕ) (most : ℕ) (bytes : Option ℕ) where
           ∙ fitting_at-without bytes m back f
           ∙ sym (ap (fitting_at bytes) (last_of_few most (m ∷ back) few))
 
+  -- it is some of them
+  pub limits_keep_part : (ms : List Message) → IsPart (limits_keep ms) ms
+  limits_keep_part ms = part_trans (fitting_at_part bytes (last_of most (newest_at per_subject ms))) (part_trans (drop_part _ (newest_at per_subject ms)) (newest_at_part per_subject ms))
+
 -- ---- a stream
 
--- the stream with these messages
-abbrev pub holding : Stream → List Message → Stream
-holding s ms = record s { messages = ms }
-
-pub only-holding : (s : Stream) (ms : List Message) → s.consumers ≡ [] → only s ms ≡ holding s ms
-only-holding s ms e =
-    ap (λ (cs : List Consumer). record s { messages = ms; consumers = map (confined (seqs ms)) cs }) e
-    ∙ ap (λ (cs : List Consumer). record s { messages = ms; consumers = cs }) (sym e)
-
-pub trim-holding : (s : Stream) → s.consumers ≡ [] → trim s ≡ holding s (limits_keep s.config.max_msgs_per_subject (max_messages s) s.config.max_bytes s.messages)
+pub trim_only : (s : Stream) → trim s ≡ only s (limits_keep s.config.max_msgs_per_subject (max_messages s) s.config.max_bytes s.messages)
 unfolding trim
-trim-holding s e =
-    ap (λ (cs : List Consumer). record s { messages = third; consumers = map (confined (seqs third)) (map (confined (seqs second)) (map (confined (seqs first)) cs)) }) e
-    ∙ ap (λ (cs : List Consumer). record s { messages = third; consumers = cs }) (sym e)
+trim_only s = ap (λ (t : Stream). only t third) (only_within (drop_part _ first) s) ∙ only_within (fitting_at_part s.config.max_bytes second) s
   where
     first : List Message
     first = newest_at s.config.max_msgs_per_subject s.messages

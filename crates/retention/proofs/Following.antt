@@ -8,13 +8,14 @@ use Rattle.js_model.specs.declared.stream.Message.{Message}
 use Rattle.js_model.specs.declared.stream.Stream.{Stream}
 use Rattle.js_model.specs.Counts.{first_message}
 use Rattle.js_model.specs.Events.{message_at, without_messages}
-use Rattle.js_model.specs.Lists.{Between, IsPart, keep, skip}
-use Rattle.js_model.specs.Streams.{seqs, over_limit}
+use Rattle.js_model.specs.Lists.{Between}
+use Rattle.js_model.specs.Streams.{only, seqs, over_limit}
 use Rattle.js_model.specs.Trim.{max_messages, trim}
-use Rattle.js_model.proofs.Parts.{all_part, part_between, trim_part}
-use Rattle.retention.specs.Laws.{IsLone, LawTrimmed, LawWithin, LawWithout}
+use Rattle.js_model.proofs.Parts.{part_between}
+use Rattle.retention.specs.Laws.{IsCoherent, LawTrimmed, LawWithin, LawWithout}
 use Rattle.retention.specs.Over.{is_over, next_over, over_subject}
-use Rattle.retention.proofs.Dropping.{holding, is_large, limits_keep, limits_keep_few, limits_keep-rest, limits_keep-without, only-holding, trim-holding}
+use Rattle.retention.proofs.Confining.{holds_confined, only_own, only_within}
+use Rattle.retention.proofs.Dropping.{is_large, limits_keep, limits_keep_few, limits_keep-rest, limits_keep-without, limits_keep_part, trim_only}
 use Rattle.retention.proofs.Keeping.{is_crowded}
 use Rattle.retention.proofs.Splitting.{found_by_seq, split_at_found, without_it}
 
@@ -79,75 +80,74 @@ next_is s = go (over_subject s) refl (is_over s) refl
 -- ---- the laws
 
 pub law_within : LawWithin
-law_within s lone e =
+law_within s coherent e =
     let none = subst (NextIs s) e (next_is s) in
-    trim-holding s lone.consumers ∙ ap (holding s) (limits_keep_few s.config.max_msgs_per_subject (max_messages s) s.config.max_bytes s.messages none.0 none.1)
+    trim_only s ∙ ap (only s) (limits_keep_few s.config.max_msgs_per_subject (max_messages s) s.config.max_bytes s.messages none.0 none.1) ∙ only_own s coherent.held
 
-module _ (s : Stream) (lone : IsLone s) (n : ℕ) (front : List Message) (m : Message) (back : List Message) (goes : Goes s n front m back) where
-  ascending : Between (λ m. m.seq) 1 (s.last + 1) (front ++ m ∷ back)
-  ascending = subst (λ ms. Between (λ m. m.seq) 1 (s.last + 1) ms) goes.whole lone.ascends
+module _ (s : Stream) (n : ℕ) (front : List Message) (m : Message) (back : List Message) (goes : Goes s n front m back) where
+  trim_same : trim (only s (front ++ back)) ≡ trim s
+  trim_same =
+      trim_only (only s (front ++ back)) ∙ only_within (limits_keep_part s.config.max_msgs_per_subject (max_messages s) s.config.max_bytes (front ++ back)) s
+      ∙ ap (only s) goes.same ∙ sym (trim_only s)
 
-  trim_same : trim (holding s (front ++ back)) ≡ trim s
-  trim_same = trim-holding (holding s (front ++ back)) lone.consumers ∙ ap (holding s) goes.same ∙ sym (trim-holding s lone.consumers)
+  module _ (coherent : IsCoherent s) where
+    ascending : Between (λ m. m.seq) 1 (s.last + 1) (front ++ m ∷ back)
+    ascending = subst (λ ms. Between (λ m. m.seq) 1 (s.last + 1) ms) goes.whole coherent.ascends
 
-  there_is : message_at s n ≡ Some m
-  there_is = ap (find (λ x. x.seq == n)) goes.whole ∙ subst (λ k. find (λ x. x.seq == k) (front ++ m ∷ back) ≡ Some m) goes.seq (found_by_seq 1 (s.last + 1) front back m ascending)
+    there_is : message_at s n ≡ Some m
+    there_is = ap (find (λ x. x.seq == n)) goes.whole ∙ subst (λ k. find (λ x. x.seq == k) (front ++ m ∷ back) ≡ Some m) goes.seq (found_by_seq 1 (s.last + 1) front back m ascending)
 
-  left : without_messages s (m ∷ []) ≡ holding s (front ++ back)
-  left =
-      only-holding s (filter (λ x. not (has (seqs (m ∷ [])) x.seq)) s.messages) lone.consumers
-      ∙ ap (holding s) (ap (filter (λ x. not (has (seqs (m ∷ [])) x.seq))) goes.whole ∙ without_it 1 (s.last + 1) front back m ascending)
+    left : without_messages s (m ∷ []) ≡ only s (front ++ back)
+    left = ap (only s) (ap (filter (λ x. not (has (seqs (m ∷ [])) x.seq))) goes.whole ∙ without_it 1 (s.last + 1) front back m ascending)
 
 pub law_without : LawWithout
-law_without s n lone e =
+law_without s n coherent e =
     let w = subst (NextIs s) e (next_is s) in
-    (w.1, there_is s lone n w.0 w.1 w.2 w.3, ap trim (left s lone n w.0 w.1 w.2 w.3) ∙ trim_same s lone n w.0 w.1 w.2 w.3)
-
-part_without : (front back : List Message) (m : Message) → IsPart (front ++ back) (front ++ m ∷ back)
-part_without [] back m = skip (all_part back)
-part_without (x ∷ front) back m = keep (part_without front back m)
+    (w.1, there_is s n w.0 w.1 w.2 w.3 coherent, ap trim (left s n w.0 w.1 w.2 w.3 coherent) ∙ trim_same s n w.0 w.1 w.2 w.3)
 
 longer : (front back : List Message) (m : Message) → length (front ++ m ∷ back) ≡ suc (length (front ++ back))
 longer [] back m = refl
 longer (x ∷ front) back m = ap suc (longer front back m)
 
-module _ (s : Stream) (lone : IsLone s) (n : ℕ) (front : List Message) (m : Message) (back : List Message) (goes : Goes s n front m back) where
-  lone_without : IsLone (holding s (front ++ back))
-  lone_without = record { ascends = part_between (λ m. m.seq) 1 (s.last + 1) (part_without front back m) (ascending s lone n front m back goes); consumers = lone.consumers }
+one_more : (s : Stream) (n : ℕ) (front : List Message) (m : Message) (back : List Message) → Goes s n front m back → length s.messages ≡ suc (length (front ++ back))
+one_more s n front m back goes = ap length goes.whole ∙ longer front back m
 
-  one_more : length s.messages ≡ suc (length (front ++ back))
-  one_more = ap length goes.whole ∙ longer front back m
+-- what the limits keep is all of it, so nothing of it goes
+none_kept : (s : Stream) → next_over s ≡ None → next_over (trim s) ≡ None
+none_kept s e =
+    let none = subst (NextIs s) e (next_is s) in
+    ap next_over (trim_only s) ∙ ap (λ ms. next_over (only s ms)) (limits_keep_few s.config.max_msgs_per_subject (max_messages s) s.config.max_bytes s.messages none.0 none.1) ∙ e
 
 -- of what the limits keep nothing goes next
-nothing_next : (count : ℕ) (s : Stream) → IsLone s → length s.messages ≤ count → next_over (trim s) ≡ None
-nothing_next zero s lone few = go (next_over s) refl
+nothing_next : (count : ℕ) (s : Stream) → length s.messages ≤ count → next_over (trim s) ≡ None
+nothing_next zero s few = go (next_over s) refl
   where
     go : (o : Option ℕ) → next_over s ≡ o → next_over (trim s) ≡ None
-    go None e = ap next_over (law_within s lone e) ∙ e
+    go None e = none_kept s e
     go (Some n) e =
         let w = subst (NextIs s) e (next_is s) in
-        let more : length s.messages ≡ suc (length (w.0 ++ w.2)) = one_more s lone n w.0 w.1 w.2 w.3 in
+        let more : length s.messages ≡ suc (length (w.0 ++ w.2)) = one_more s n w.0 w.1 w.2 w.3 in
         absurd (omega arith)
-nothing_next (suc count) s lone few = go (λ t l f. nothing_next count t l f) (next_over s) refl
+nothing_next (suc count) s few = go (λ t f. nothing_next count t f) (next_over s) refl
   where
-    go : ((t : Stream) → IsLone t → length t.messages ≤ count → next_over (trim t) ≡ None) → (o : Option ℕ) → next_over s ≡ o → next_over (trim s) ≡ None
-    go more None e = ap next_over (law_within s lone e) ∙ e
+    go : ((t : Stream) → length t.messages ≤ count → next_over (trim t) ≡ None) → (o : Option ℕ) → next_over s ≡ o → next_over (trim s) ≡ None
+    go more None e = none_kept s e
     go more (Some n) e =
         let w = subst (NextIs s) e (next_is s) in
-        let longer : length s.messages ≡ suc (length (w.0 ++ w.2)) = one_more s lone n w.0 w.1 w.2 w.3 in
-        ap next_over (sym (trim_same s lone n w.0 w.1 w.2 w.3)) ∙ more (holding s (w.0 ++ w.2)) (lone_without s lone n w.0 w.1 w.2 w.3) (omega arith)
+        let longer : length s.messages ≡ suc (length (w.0 ++ w.2)) = one_more s n w.0 w.1 w.2 w.3 in
+        ap next_over (sym (trim_same s n w.0 w.1 w.2 w.3)) ∙ more (only s (w.0 ++ w.2)) (omega arith)
+
+-- what holds of a stream with what the limits keep holds of the stream as they keep it
+pub trimmed_coherent : (s : Stream) → IsCoherent s → IsCoherent (trim s)
+trimmed_coherent s coherent =
+    subst IsCoherent (sym (trim_only s))
+    (record {
+      ascends = part_between (λ m. m.seq) 1 (s.last + 1) (limits_keep_part s.config.max_msgs_per_subject (max_messages s) s.config.max_bytes s.messages) coherent.ascends;
+      held = holds_confined s (kept_of s s.messages);
+    })
 
 pub law_trimmed : LawTrimmed
-law_trimmed s lone = (none, law_within (trim s) trimmed none)
+law_trimmed s coherent = (none, law_within (trim s) (trimmed_coherent s coherent) none)
   where
     none : next_over (trim s) ≡ None
-    none = nothing_next (length s.messages) s lone (omega arith)
-
-    held : Stream
-    held = holding s (kept_of s s.messages)
-
-    part : IsPart held.messages s.messages
-    part = subst (λ (t : Stream). IsPart t.messages s.messages) (trim-holding s lone.consumers) (trim_part s)
-
-    trimmed : IsLone (trim s)
-    trimmed = subst IsLone (sym (trim-holding s lone.consumers)) (record { ascends = part_between (λ m. m.seq) 1 (s.last + 1) part lone.ascends; consumers = lone.consumers })
+    none = nothing_next (length s.messages) s (omega arith)

@@ -1,5 +1,7 @@
-pub mod Indexed
-pub mod Stored
+pub mod Attended
+pub mod Followers
+pub mod Needing
+pub mod Spans
 pub mod Settled
-pub mod PushedOut
-pub mod Selecting
+pub mod Answering
+pub mod Delivering

@@ -1,13 +1,15 @@
-//! A stream without its consumers: what is stored, which message ids are known, and what a publish comes to.
+//! A stream with its consumers: what is stored, what its limits and its retention keep of it, and what its consumers make of it.
 #![tactic(auto)]
 
 mod ageing;
-mod indexed;
-mod purging;
-mod selector;
+mod calls;
+mod followed;
+mod follower;
+mod passing;
+mod releasing;
+mod removing;
+mod span;
 mod state;
-mod stored;
 mod trimming;
-mod verdicts;
 
 pub use state::StreamState;

@@ -1,0 +1,10 @@
+//! Where a new consumer begins, and which message of a stream a filter takes next.
+#![tactic(auto)]
+
+mod cursor;
+mod picks;
+mod starting;
+mod taking;
+
+pub use starting::{Start, start};
+pub use taking::next_taken;

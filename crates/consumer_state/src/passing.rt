@@ -1,0 +1,49 @@
+//! What passing time does to a consumer and what it sends.
+
+ghost use Rattle.std.specs.Prelude.{◌≡◌, ◌++◌, OnOk, OnErr};
+ghost use Rattle.js_model.specs.Advance.{consumer_outs, push_comes};
+ghost use Rattle.consumer_progress.specs.GivingUp.{IsUnspent};
+ghost use Rattle.consumer_state.specs.Passing.{passed};
+
+use crate::consumer::Consumer;
+use consumer_texts::push_beat;
+use js_base::{Moment, NoMemory, Outs};
+
+impl Consumer {
+    /// Adds what the consumer sends by a moment: the timeouts of the pulls that end, the heartbeats of the others, and its own. An `Err` adds none. It is
+    /// called before `advance`.
+    pub fn tell_advance(&self, now: Moment, outs: &mut Outs) -> Result<(), NoMemory>
+        ensures ok { OnOk result (outs.new ≡ outs.old ++ consumer_outs now self.now) }
+        ensures err { OnErr result (outs.new ≡ outs.old) }
+    {
+        if !self.is_push() {
+            return self.pulls.tell(now, outs);
+        }
+        if self.push_comes(now) {
+            outs.push(push_beat(self.alloc, &self.config.deliver_subject, self.progress.dseq(), self.progress.cursor())?)?;
+        }
+        Ok(())
+    }
+
+    /// Lets time pass up to a moment: pulls end, heartbeats are marked, and the deliveries that were made as often as they may be are given up. It takes no
+    /// memory. More than 65,536 may then be given up, until `overflow` gives `None`. What it costs grows with how many are given up now, and with how many
+    /// pulls wait if one of them ends or a heartbeat comes.
+    pub fn advance(&mut self, now: Moment)
+        ensures value { self.new ≡ passed now self.old }
+        ensures unspent { IsUnspent now self.new.config.max_deliver self.new.pending }
+    {
+        if self.push_comes(now) {
+            self.mark = now;
+        }
+        self.progress.give_up(now, self.config.max_deliver);
+        self.pulls.pass_time(now);
+    }
+
+    /// Whether a heartbeat of a push consumer has come.
+    fn push_comes(&self, now: Moment) -> bool
+        ensures value { result ≡ push_comes now self.now }
+    {
+        let heartbeat = self.config.idle_heartbeat;
+        self.is_push() && 0 < heartbeat && self.mark.plus(heartbeat).as_nanos() <= now.as_nanos()
+    }
+}

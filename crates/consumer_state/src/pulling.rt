@@ -1,0 +1,95 @@
+//! The pulls of a consumer.
+
+ghost use Rattle.std.specs.Prelude.{◌≡◌, ◌++◌, [], IfOk, OnOk, OnErr};
+ghost use Rattle.std.specs.Option.{option_copied};
+ghost use Rattle.js_model.specs.Events.{farewells};
+ghost use Rattle.js_model.specs.Pulls.{pull_of, pull_refusal, pulled, pull_outs};
+
+use crate::consumer::Consumer;
+use consumer_texts::{append, bad_request, exceeded_waiting, farewell, push_based, status_out};
+use js_base::{Blob, Moment, NoMemory, Out, Outs};
+use js_model::{Ask, Pull};
+
+impl Consumer {
+    /// Lets a pull wait from a moment on, if it has a subject for its messages; a pull that is refused is sent why. `ask` is `None` for a body of no form.
+    /// An `Err` changes nothing and adds nothing.
+    pub fn pull(
+        &mut self,
+        reply: Option<&Blob>,
+        ask: Option<Ask>,
+        now: Moment,
+        outs: &mut Outs,
+    ) -> Result<(), NoMemory>
+        ensures ok { OnOk result (self.new ≡ pulled now (option_copied reply.entry) ask self.old) }
+        ensures outs { OnOk result (outs.new ≡ outs.old ++ pull_outs (option_copied reply.entry) ask self.old) }
+        ensures err { OnErr result (self.new ≡ self.old) }
+        ensures err_outs { OnErr result (outs.new ≡ outs.old) }
+    {
+        let Some(reply) = reply else {
+            return Ok(());
+        };
+        match (self.refusal(ask)?, ask) {
+            (Some(block), _) => outs.push(status_out(reply, block)?),
+            (None, Some(ask)) => self.put_pull(pull_of(now, reply.clone()?, ask)),
+            (None, None) => Ok(()),
+        }
+    }
+
+    /// Tells each waiting pull that the consumer is gone. An `Err` adds nothing. What it costs grows with how many pulls wait.
+    pub fn tell_dropped(&self, outs: &mut Outs) -> Result<(), NoMemory>
+        ensures ok { OnOk result (outs.new ≡ outs.old ++ farewells self.now) }
+        ensures err { OnErr result (outs.new ≡ outs.old) }
+    {
+        let farewells = self.farewells()?;
+        append(self.alloc, outs, farewells)
+    }
+
+    fn farewells(&self) -> Result<Vec<Out>, NoMemory>
+        ensures value { IfOk result (λ outs. outs.items ≡ farewells self.now) }
+    {
+        let mut outs = Vec::new(self.alloc);
+        for place in 0..self.pulls.len() {
+            if let Some(pull) = self.pulls.at(place) {
+                outs.push(farewell(self.alloc, pull)?)?;
+            }
+        }
+        Ok(outs)
+    }
+
+    /// The status block that refuses a pull, if it is refused.
+    fn refusal(&self, ask: Option<Ask>) -> Result<Option<Blob>, NoMemory>
+        ensures value { IfOk result (λ refusal. refusal ≡ pull_refusal self.now ask) }
+    {
+        if self.is_push() {
+            return Ok(Some(push_based(self.alloc)?));
+        }
+        if ask.is_none() {
+            return Ok(Some(bad_request(self.alloc)?));
+        }
+        if self.config.max_waiting <= self.pulls.len() {
+            return Ok(Some(exceeded_waiting(self.alloc)?));
+        }
+        Ok(None)
+    }
+
+    fn put_pull(&mut self, pull: Pull) -> Result<(), NoMemory>
+    {
+        self.pulls.ask(pull).map_err(|_| NoMemory)
+    }
+}
+
+/// The pull that waits from a moment on, for what is asked. One that does not wait for messages, or gives no time, has no end.
+fn pull_of(now: Moment, reply: Blob, ask: Ask) -> Pull
+    ensures value { result ≡ pull_of now reply ask }
+{
+    let ends = !ask.no_wait && ask.expires != 0;
+    Pull {
+        reply,
+        batch: ask.batch,
+        bytes: ask.max_bytes,
+        end: if ends { Some(now.plus(ask.expires)) } else { None },
+        no_wait: ask.no_wait,
+        heartbeat: ask.heartbeat,
+        mark: now,
+    }
+}

@@ -1,0 +1,4 @@
+pub mod Indexed
+pub mod Stored
+pub mod PushedOut
+pub mod Selecting

@@ -1,0 +1,50 @@
+//! Ranges of sequences.
+
+ghost use Rattle.std.specs.Prelude.{◌≡◌, ℕ, ◌==◌, false};
+ghost use Rattle.stream_state.specs.Spans.{spans, joined};
+
+/// The sequences from the first to the last. There is none if the first is above the last.
+#[derive(Clone, Copy)]
+pub(crate) struct Span {
+    pub(crate) first: u64,
+    pub(crate) last: u64,
+}
+
+impl Span {
+    /// No sequence.
+    pub(crate) fn none() -> Span
+        ensures none { (seq : ℕ) → spans result seq ≡ false }
+    {
+        Span {
+            first: u64::MAX,
+            last: 0,
+        }
+    }
+
+    /// All sequences up to the last one.
+    pub(crate) fn up_to(last: u64) -> Span
+        ensures value { result ≡ record { first = 0; last = last } }
+    {
+        Span { first: 0, last }
+    }
+
+    /// One sequence.
+    pub(crate) fn one(seq: u64) -> Span
+        ensures value { result ≡ record { first = seq; last = seq } }
+    {
+        Span {
+            first: seq,
+            last: seq,
+        }
+    }
+
+    /// The sequences of both, and those between them.
+    pub(crate) fn join(self, other: Span) -> Span
+        ensures value { result ≡ joined self other }
+    {
+        Span {
+            first: self.first.min(other.first),
+            last: self.last.max(other.last),
+        }
+    }
+}
