@@ -1,12 +1,13 @@
 -- The steps of a walk through messages in the order of their sequences, to the first that passes a test.
 use Rattle.std.proofs.Common.{◌≡◌, ℕ, ◌+◌, ◌<◌, ◌≤◌, Bool, true, false, ◌&&◌, cond, List, [], ◌∷◌, Some, None, refl, sym, ap, ◌∙◌, subst, arith}
 use Rattle.std.specs.Prelude.{Option, nat_le, find, option_map}
-use Rattle.std.specs.List.{AllByRecursion}
 use Rattle.std.proofs.lemmas.Bool.{le-leb, lt-leb, leb-true}
 use Rattle.js_model.specs.declared.stream.Message.{Message}
 use Rattle.js_model.specs.declared.stream.Stream.{Stream}
+use Rattle.js_base.specs.Bytes.{Bytes}
 use Rattle.js_model.specs.Lists.{Between}
-use Rattle.js_model.proofs.Members.{IsIn, here, there, found_in, in_bounds}
+use Rattle.js_model.specs.Streams.{passes_filter}
+use Rattle.js_model.proofs.Members.{here, there, found_in, in_bounds}
 use Rattle.js_model.proofs.Named.{none_some, some_is}
 use Rattle.stream_view.specs.Heads.{MessageHead, head_of}
 use Rattle.stream_view.specs.Order.{IsInOrder}
@@ -95,7 +96,7 @@ module _ (P : Message → Bool) where
           let le : a ≤ m.seq = leb-true a m.seq l in
           let behind : nat_le (first.seq + 1) m.seq ≡ false = subst (λ (z : Message). nat_le (z.seq + 1) m.seq ≡ false) is (lt-leb (m.seq + 1) m.seq (omega arith)) in
           let same : find (passes_from P a) ms ≡ find (passes_from P (first.seq + 1)) ms =
-              subst (λ (z : Message). find (passes_from P a) ms ≡ find (passes_from P (z.seq + 1)) ms) is (low_bounds a (m.seq + 1) (m.seq + 1) high ms h.1 (omega arith) (omega arith)) in
+          subst (λ (z : Message). find (passes_from P a) ms ≡ find (passes_from P (z.seq + 1)) ms) is (low_bounds a (m.seq + 1) (m.seq + 1) high ms h.1 (omega arith) (omega arith)) in
           failed a (ap P is ∙ p) ∙ same ∙ sym (skipped (first.seq + 1) (nat_le (first.seq + 1) m.seq) behind)
       go more false l f =
           let after = in_bounds (λ m. m.seq) (m.seq + 1) high first ms h.1 (found_in (λ m. nat_le a m.seq) first ms f).0 in
@@ -111,7 +112,7 @@ pub record IsSeen (found : Option Message) (head : MessageHead) : Type 0 where
   pub head_is : head ≡ head_of message
 
 pub seen : (found : Option Message) (head : MessageHead) → Some head ≡ option_map head_of found → IsSeen found head
-seen None head e = absurd (none_some e)
+seen None head e = absurd (none_some (sym e))
 seen (Some m) head e = record { message = m; is = refl; head_is = some_is e }
 
 pub unseen : (found : Option Message) → None ≡ option_map head_of found → found ≡ None
@@ -155,3 +156,12 @@ module _ (P : Message → Bool) (s : Stream) (wanted : Option ℕ) (seq : ℕ) (
         let l : seq ≤ look.message.seq = leb-true seq look.message.seq i.1 in
         let r : look.message.seq < s.last + 1 = b.1 in
         (omega arith, omega arith)
+
+-- ---- what is read of a message
+
+pub by_subject : (pattern text : Bytes) (head : MessageHead) (read result : Bool) → text ≡ head.subject → read ≡ passes_filter pattern text → read ≡ result
+    → (m : Message) → head ≡ head_of m → passes_filter pattern m.subject ≡ result
+by_subject pattern text head read result e f g m h = ap (passes_filter pattern) (sym (ap (λ x. x.subject) h) ∙ sym e) ∙ sym f ∙ g
+
+pub by_moment : (at moment : ℕ) (head : MessageHead) (result : Bool) → moment ≡ head.at → nat_le at moment ≡ result → (m : Message) → head ≡ head_of m → nat_le at m.at ≡ result
+by_moment at moment head result e f m h = ap (nat_le at) (sym (ap (λ x. x.at) h) ∙ sym e) ∙ f

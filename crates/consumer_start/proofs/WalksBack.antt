@@ -1,13 +1,12 @@
 -- The steps of a walk through messages against the order of their sequences, to the last that passes a test.
-use Rattle.std.proofs.Common.{◌≡◌, ℕ, ◌+◌, ◌-◌, ◌<◌, ◌≤◌, Bool, true, false, ◌&&◌, cond, List, [], ◌∷◌, Some, None, refl, sym, ap, ◌∙◌, arith, ◌⊎◌, inl, inr, not}
+use Rattle.std.proofs.Common.{◌≡◌, ℕ, suc, ◌+◌, ◌-◌, ◌<◌, ◌≤◌, Bool, true, false, ◌&&◌, cond, List, [], ◌∷◌, Some, None, refl, sym, ap, ◌∙◌, subst, arith, ◌⊎◌, inl, inr, not}
 use Rattle.std.specs.Prelude.{Option, nat_le, nat_lt, ◌==◌, filter, option_map}
-use Rattle.std.specs.List.{last_or, AllByRecursion}
-use Rattle.std.proofs.lemmas.Bool.{lt-ltb, le-ltb, leb-true, ltb-true, true≢false, eq-eqb}
+use Rattle.std.specs.List.{last_or}
+use Rattle.std.proofs.lemmas.Bool.{lt-ltb, le-ltb, ltb-true, true≢false, eq-eqb}
 use Rattle.std.proofs.lemmas.Bool.Decides.{leb_tells}
 use Rattle.js_model.specs.declared.stream.Message.{Message}
 use Rattle.js_model.specs.declared.stream.Stream.{Stream}
-use Rattle.js_model.specs.Lists.{Between}
-use Rattle.js_model.proofs.Members.{IsIn, here, there, in_filter, in_bounds, any_in, holds_of_one}
+use Rattle.js_model.proofs.Members.{IsIn, here, there, in_cons, in_filter, in_bounds, any_in, holds_of_one}
 use Rattle.js_model.proofs.Named.{none_some, some_is}
 use Rattle.stream_view.specs.Heads.{MessageHead, head_of}
 use Rattle.stream_view.specs.Order.{IsInOrder}
@@ -36,16 +35,13 @@ last_in o [] m e = inl e
 last_in o (x ∷ xs) m e = go (last_in (Some x) xs m e)
   where
     go : (Some x ≡ Some m) ⊎ IsIn m xs → (o ≡ Some m) ⊎ IsIn m (x ∷ xs)
-    go (inl k) = inr (subst_here (some_is k))
-      where
-        subst_here : x ≡ m → IsIn m (x ∷ xs)
-        subst_here refl = here
+    go (inl k) = inr (subst (λ (z : Message). IsIn z (x ∷ xs)) (some_is k) here)
     go (inr i) = inr (there i)
 
 -- in an ascending list it is the greatest
 greatest : (t : Message → Bool) (o : Option Message) (low high : ℕ) (ms : List Message) (m : Message) → Ascending low high ms → last_or o (filter t ms) ≡ Some m → (x : Message) → IsIn x ms → t x ≡ true → x.seq ≤ m.seq
 greatest t o low high [] m h e x i p = elim i [ ]
-greatest t o low high (y ∷ ys) m h e x i p = go (t y) refl e
+greatest t o low high (y ∷ ys) m h e x i p = go (λ d f j. greatest t d (y.seq + 1) high ys m h.1 f x j p) (t y) refl e
   where
     -- the last one comes from y on
     from_y : last_or (Some y) (filter t ys) ≡ Some m → y.seq ≤ m.seq
@@ -58,17 +54,21 @@ greatest t o low high (y ∷ ys) m h e x i p = go (t y) refl e
             let q : y.seq + 1 ≤ m.seq = b.0 in
             omega arith
 
-    go : (b : Bool) → t y ≡ b → last_or o (cond b (y ∷ filter t ys) (filter t ys)) ≡ Some m → x.seq ≤ m.seq
-    go true k f = at i
+    go : ((o : Option Message) → last_or o (filter t ys) ≡ Some m → IsIn x ys → x.seq ≤ m.seq) → (b : Bool) → t y ≡ b → last_or o (cond b (y ∷ filter t ys) (filter t ys)) ≡ Some m → x.seq ≤ m.seq
+    go more true k f = at (in_cons i)
       where
-        at : IsIn x (y ∷ ys) → x.seq ≤ m.seq
-        at here = from_y f
-        at (there j) = greatest t (Some y) (y.seq + 1) high ys m h.1 f x j p
-    go false k f = at i p
+        at : (y ≡ x) ⊎ IsIn x ys → x.seq ≤ m.seq
+        at (inl q) = subst (λ (z : Message). z.seq ≤ m.seq) q (from_y f)
+        at (inr j) = more (Some y) f j
+    go more false k f = at (in_cons i)
       where
-        at : IsIn x (y ∷ ys) → t x ≡ true → x.seq ≤ m.seq
-        at here q = absurd (true≢false (sym q ∙ k))
-        at (there j) q = greatest t o (y.seq + 1) high ys m h.1 f x j q
+        at : (y ≡ x) ⊎ IsIn x ys → x.seq ≤ m.seq
+        at (inl q) = absurd (true≢false (sym p ∙ sym (ap t q) ∙ k))
+        at (inr j) = more o f j
+
+some : (y : Message) (ys : List Message) → last_or (Some y) ys ≡ None → ⊥
+some y [] f = none_some (sym f)
+some y (z ∷ zs) f = some z zs f
 
 module _ (P : Message → Bool) where
   and_true : (b : Bool) → (b && true) ≡ b
@@ -79,7 +79,7 @@ module _ (P : Message → Bool) where
   and_false true = refl
   and_false false = refl
 
-  both : (Message → Bool) → Message → Bool
+  abbrev both : (Message → Bool) → Message → Bool
   both t m = P m && t m
 
   -- what is the last so far of those that pass the one test, is the last of those that pass both, if it passes
@@ -90,27 +90,25 @@ module _ (P : Message → Bool) where
   last_passes : (t : Message → Bool) (d e : Option Message) (ms : List Message) (m : Message) → IsTail d e → last_or d (filter t ms) ≡ Some m → P m ≡ true → last_or e (filter (both t) ms) ≡ Some m
   last_passes t None e [] m r k p = absurd (none_some k)
   last_passes t (Some x) e [] m r k p = r (ap P (some_is k) ∙ p) ∙ k
-  last_passes t d e (x ∷ xs) m r k p = go (t x) k
+  last_passes t d e (x ∷ xs) m r k p = go (λ d e r f. last_passes t d e xs m r f p) (t x) k
     where
-      next : (b : Bool) → P x ≡ b → last_or (Some x) (filter t xs) ≡ Some m → last_or e (cond (b && true) (x ∷ filter (both t) xs) (filter (both t) xs)) ≡ Some m
-      next true q f = last_passes t (Some x) (Some x) xs m (λ _. refl) f p
-      next false q f = last_passes t (Some x) e xs m (λ w. absurd (true≢false (sym w ∙ q))) f p
-
-      go : (b : Bool) → last_or d (cond b (x ∷ filter t xs) (filter t xs)) ≡ Some m → last_or e (cond (P x && b) (x ∷ filter (both t) xs) (filter (both t) xs)) ≡ Some m
-      go true f = next (P x) refl f
-      go false f = ap (λ b. last_or e (cond b (x ∷ filter (both t) xs) (filter (both t) xs))) (and_false (P x)) ∙ last_passes t d e xs m r f p
+      go : ((d e : Option Message) → IsTail d e → last_or d (filter t xs) ≡ Some m → last_or e (filter (both t) xs) ≡ Some m) → (b : Bool) → last_or d (cond b (x ∷ filter t xs) (filter t xs)) ≡ Some m
+          → last_or e (cond (P x && b) (x ∷ filter (both t) xs) (filter (both t) xs)) ≡ Some m
+      go more true f = next (P x) refl
+        where
+          next : (b : Bool) → P x ≡ b → last_or e (cond (b && true) (x ∷ filter (both t) xs) (filter (both t) xs)) ≡ Some m
+          next true q = more (Some x) (Some x) (λ _. refl) f
+          next false q = more (Some x) e (λ w. absurd (true≢false (sym w ∙ q))) f
+      go more false f = ap (λ b. last_or e (cond b (x ∷ filter (both t) xs) (filter (both t) xs))) (and_false (P x)) ∙ more d e r f
 
   none_passes : (t : Message → Bool) (ms : List Message) → last_or None (filter t ms) ≡ None → last_or None (filter (both t) ms) ≡ None
   none_passes t [] k = refl
-  none_passes t (x ∷ xs) k = go (t x) k
+  none_passes t (x ∷ xs) k = go (none_passes t xs) (t x) k
     where
-      some : (y : Message) (ys : List Message) → last_or (Some y) ys ≡ None → ⊥
-      some y [] f = none_some (sym f)
-      some y (z ∷ zs) f = some z zs f
-
-      go : (b : Bool) → last_or None (cond b (x ∷ filter t xs) (filter t xs)) ≡ None → last_or None (cond (P x && b) (x ∷ filter (both t) xs) (filter (both t) xs)) ≡ None
-      go true f = absurd (some x (filter t xs) f)
-      go false f = ap (λ b. last_or None (cond b (x ∷ filter (both t) xs) (filter (both t) xs))) (and_false (P x)) ∙ none_passes t xs f
+      go : (last_or None (filter t xs) ≡ None → last_or None (filter (both t) xs) ≡ None) → (b : Bool) → last_or None (cond b (x ∷ filter t xs) (filter t xs)) ≡ None
+          → last_or None (cond (P x && b) (x ∷ filter (both t) xs) (filter (both t) xs)) ≡ None
+      go more true f = absurd (some x (filter t xs) f)
+      go more false f = ap (λ b. last_or None (cond b (x ∷ filter (both t) xs) (filter (both t) xs))) (and_false (P x)) ∙ more f
 
 not_true : (b : Bool) → not b ≡ true → b ≡ false
 not_true true e = absurd (true≢false (sym e))
@@ -143,7 +141,7 @@ module _ (P : Message → Bool) (s : Stream) (wanted : Option ℕ) (below : ℕ)
   back_unseen l e =
       walk.behind
       ∙ ap (option_map (λ m. m.seq))
-        (none_passes P (λ m. nat_lt m.seq below) s.messages (ap (last_or None) (sym (upto_is l)) ∙ unseen (last_or None (filter (λ m. nat_le m.seq (below - 1)) s.messages)) e))
+      (none_passes P (λ m. nat_lt m.seq below) s.messages (ap (last_or None) (sym (upto_is l)) ∙ unseen (last_or None (filter (λ m. nat_le m.seq (below - 1)) s.messages)) e))
 
   module _ (l : 0 < below) (head : MessageHead) (found : Some head ≡ option_map head_of (last_or None (filter (λ m. nat_le m.seq (below - 1)) s.messages))) where
     look : IsSeen (last_or None (filter (λ m. nat_le m.seq (below - 1)) s.messages)) head
@@ -194,16 +192,16 @@ module _ (P : Message → Bool) (s : Stream) (wanted : Option ℕ) (below : ℕ)
             (any_in (λ m. (m.seq == x.seq) && not (P m)) look.message s.messages is_in (ap (λ b. b && not (P look.message)) (eq-eqb look.message.seq x.seq e) ∙ ap not (p look.message look.head_is))))
 
         agree : (x : Message) → IsIn x s.messages → (P x && nat_lt x.seq below) ≡ (P x && nat_lt x.seq look.message.seq)
-        agree x i = go (leb_tells (x.seq + 1) below) (leb_tells (x.seq + 1) look.message.seq)
+        agree x i = go (leb_tells (suc x.seq) below) (leb_tells (suc x.seq) look.message.seq)
           where
-            go : ((nat_lt x.seq below ≡ true) × (x.seq + 1 ≤ below)) ⊎ ((nat_lt x.seq below ≡ false) × (below < x.seq + 1))
-                → ((nat_lt x.seq look.message.seq ≡ true) × (x.seq + 1 ≤ look.message.seq)) ⊎ ((nat_lt x.seq look.message.seq ≡ false) × (look.message.seq < x.seq + 1))
+            go : ((nat_lt x.seq below ≡ true) × (suc x.seq ≤ below)) ⊎ ((nat_lt x.seq below ≡ false) × (below < suc x.seq))
+                → ((nat_lt x.seq look.message.seq ≡ true) × (suc x.seq ≤ look.message.seq)) ⊎ ((nat_lt x.seq look.message.seq ≡ false) × (look.message.seq < suc x.seq))
                 → (P x && nat_lt x.seq below) ≡ (P x && nat_lt x.seq look.message.seq)
             go (inl a) (inl b) = ap (λ t. P x && t) (a.0 ∙ sym b.0)
             go (inl a) (inr b) =
                 let q : x.seq ≤ look.message.seq = greatest (λ m. nat_lt m.seq below) None 1 (s.last + 1) s.messages look.message order.ascends last_is x i a.0 in
-                let r : look.message.seq < x.seq + 1 = b.1 in
+                let r : look.message.seq < suc x.seq = b.1 in
                 let e : look.message.seq ≡ x.seq = omega arith in
                 ap (λ t. t && nat_lt x.seq below) (fails x i e) ∙ sym (ap (λ t. t && nat_lt x.seq look.message.seq) (fails x i e))
-            go (inr a) (inl b) = let q = is_below in let k : x.seq + 1 ≤ look.message.seq = b.1 in let r : below < x.seq + 1 = a.1 in absurd (omega arith)
+            go (inr a) (inl b) = let q = is_below in let k : suc x.seq ≤ look.message.seq = b.1 in let r : below < suc x.seq = a.1 in absurd (omega arith)
             go (inr a) (inr b) = ap (λ t. P x && t) (a.0 ∙ sym b.0)

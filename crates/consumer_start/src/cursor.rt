@@ -1,8 +1,9 @@
 //! The sequence from which on all messages that its filter matches are delivered to a new consumer.
 
-ghost use Rattle.std.specs.Prelude.{◌≡◌, ◌≤◌, ◌^◌, find, nat_le, option_map};
+ghost use Rattle.std.specs.Prelude.{◌≡◌, find, nat_le, option_map};
 ghost use Rattle.js_model.specs.Streams.{first_seq};
 ghost use Rattle.js_model.specs.Start.{cursor_at};
+ghost use Rattle.stream_view.specs.Order.{IsInOrder};
 
 use crate::taking::last_taken;
 use js_base::Moment;
@@ -39,6 +40,7 @@ fn first_since<W: View>(stream: &W, at: Moment) -> Option<u64>
 /// with the last message, it goes through messages.
 pub(crate) fn cursor_at<W: View>(stream: &W, config: &ConsumerConfig) -> u64
     ensures value { result ≡ cursor_at config.now.deliver_policy config.now.filter_subject (W.stream stream.now) }
+    ensures order { IsInOrder (W.stream stream.now) }
 {
     let next = stream.last() + 1;
     match config.deliver_policy {

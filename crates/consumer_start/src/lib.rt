@@ -6,5 +6,5 @@ mod picks;
 mod starting;
 mod taking;
 
-pub use starting::{Start, start};
+pub use starting::{Start, start_of};
 pub use taking::next_taken;

@@ -1,12 +1,10 @@
 //! The last message of each subject, by JetStream's deliver policy `last_per_subject`.
 
-ghost use Rattle.std.specs.Prelude.{◌≡◌, ◌++◌, ◌<◌, length, IfOk};
-ghost use Rattle.js_model.specs.Start.{matching};
-ghost use Rattle.js_model.specs.Streams.{passes_filter, seqs};
-ghost use Rattle.js_model.specs.Trim.{newest};
+ghost use Rattle.std.specs.Prelude.{◌≡◌, IfOk};
+ghost use Rattle.consumer_start.specs.Picking.{is_pick, ArePicks};
 
 use consumer_need::passes;
-use js_base::NoMemory;
+use js_base::{List, NoMemory};
 use std::alloc::Global;
 use stream_view::{Head, View};
 
@@ -14,7 +12,9 @@ use stream_view::{Head, View};
 const MOST_PICKS: usize = 65_536;
 
 /// Whether the message is the last one of its subject, and the filter matches it.
-fn is_pick<W: View>(stream: &W, filter: &[u8], head: &Head<'_>) -> bool {
+fn is_pick<W: View>(stream: &W, filter: &[u8], head: &Head<'_>) -> bool
+    ensures value { result ≡ is_pick (W.stream stream.now) filter.now head.now.subject head.now.seq }
+{
     if !passes(filter, head.subject.as_slice()) {
         return false;
     }
@@ -29,9 +29,11 @@ pub(crate) fn last_per_subject<W: View>(
     alloc: Global,
     stream: &W,
     filter: &[u8],
-) -> Result<Option<Vec<u64>>, NoMemory> {
+) -> Result<Option<List<u64>>, NoMemory>
+    ensures picks { IfOk result (λ picks. ArePicks (W.stream stream.now) filter.now picks) }
+{
     let last = stream.last();
-    let mut picks = Vec::new(alloc);
+    let mut picks = List::new(alloc);
     let mut seq = 0;
     while seq <= last {
         let Some(head) = stream.at_or_after(seq) else {

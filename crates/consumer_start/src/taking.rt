@@ -1,7 +1,6 @@
 //! The messages that a filter takes.
 
-ghost use Rattle.std.specs.Prelude.{◌≡◌, option_map};
-ghost use Rattle.std.specs.List.{last_or};
+ghost use Rattle.std.specs.Prelude.{◌≡◌};
 ghost use Rattle.consumer_start.specs.Taking.{next_taken, last_taken};
 
 use consumer_need::passes;

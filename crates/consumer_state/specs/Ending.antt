@@ -11,7 +11,7 @@ use Rattle.js_model.specs.declared.consumer.Consumer.{Consumer}
 use Rattle.js_model.specs.declared.reply.Reply.{Reply}
 use Rattle.js_model.specs.declared.reply.Reply.TheVariants.{Silent}
 use Rattle.js_model.specs.Streams.{pending_seqs}
-use Rattle.js_model.specs.Acknowledge.{ends, without, with_due, is_no_delivery, acknowledged}
+use Rattle.js_model.specs.Acknowledge.{ends, without, with_due, is_no_delivery}
 use Rattle.js_model.specs.Events.{ack_reply, next_ask, pulled_next, next_outs, after_ack}
 
 -- the consumer with the due time that the acknowledgement sets
@@ -42,8 +42,12 @@ reply_to c n kind = if is_no_delivery c n then Silent else ack_reply kind
 abbrev pub outs_to : Option Bytes → ℕ → AckKind → Consumer → List Out
 outs_to reply n kind c = if is_no_delivery c n then [] else next_outs reply (next_ask kind) c
 
+-- of a sequence that was delivered
+abbrev pub begun : ℕ → Option Bytes → ℕ → AckKind → Consumer → Consumer
+begun now reply n kind c = pulled_next now reply (next_ask kind) (delayed now n kind c)
+
 abbrev pub before_ending : ℕ → Option Bytes → ℕ → AckKind → Consumer → Consumer
-before_ending now reply n kind c = if is_no_delivery c n then c else pulled_next now reply (next_ask kind) (delayed now n kind c)
+before_ending now reply n kind c = if is_no_delivery c n then c else begun now reply n kind c
 
 -- ---- the second step
 
@@ -54,21 +58,24 @@ is_delivered c n = has (pending_seqs c) n || has c.given_up n
 abbrev pub entries : Consumer → ℕ
 entries c = length c.pending + length c.given_up
 
--- one of the entries that the acknowledgement ends is ended
-pub record EndsOne (n : ℕ) (kind : AckKind) (old : Consumer) (m : ℕ) (new : Consumer) : Type 0 where
-  pub ends : ack_ends old n kind m ≡ true
+-- one of the entries that end is ended
+pub record EndsOne (ends : ℕ → Bool) (old : Consumer) (m : ℕ) (new : Consumer) : Type 0 where
+  pub is : ends m ≡ true
   pub was : is_delivered old m ≡ true
   pub left : new ≡ without (λ k. k == m) old
   pub fewer : entries new < entries old
 
 -- none is left
-pub record EndsNone (n : ℕ) (kind : AckKind) (old new : Consumer) : Type 0 where
-  pub none : without (ack_ends old n kind) old ≡ old
+pub record EndsNone (ends : ℕ → Bool) (old new : Consumer) : Type 0 where
+  pub none : without ends old ≡ old
   pub same : new ≡ old
 
+abbrev pub EndsBy : (ℕ → Bool) → Consumer → Option ℕ → Consumer → Type 0
+EndsBy ends old None new = EndsNone ends old new
+EndsBy ends old (Some m) new = EndsOne ends old m new
+
 abbrev pub EndsNext : ℕ → AckKind → Consumer → Option ℕ → Consumer → Type 0
-EndsNext n kind old None new = EndsNone n kind old new
-EndsNext n kind old (Some m) new = EndsOne n kind old m new
+EndsNext n kind old m new = EndsBy (ack_ends old n kind) old m new
 
 -- ---- both
 
@@ -84,5 +91,5 @@ LawBeforeEnding = (now : ℕ) (reply : Option Bytes) (n : ℕ) (kind : AckKind) 
 
 -- each ending leaves the same to be left
 abbrev pub LawEndsOne : Type 0
-LawEndsOne = (n : ℕ) (kind : AckKind) (old new : Consumer) (m : ℕ) → EndsOne n kind old m new
+LawEndsOne = (n : ℕ) (kind : AckKind) (old new : Consumer) (m : ℕ) → EndsOne (ack_ends old n kind) old m new
     → without (ack_ends new n kind) new ≡ without (ack_ends old n kind) old

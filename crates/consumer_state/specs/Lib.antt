@@ -3,6 +3,8 @@ pub mod Making
 pub mod Forgetting
 pub mod Passing
 pub mod Ending
+pub mod EndingKinds
 pub mod Offering
 pub mod Sending
 pub mod Delivering
+pub mod Parting

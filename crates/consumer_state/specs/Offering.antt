@@ -17,7 +17,7 @@ pub record IsCurrent (a : Stream) (c : Consumer) (undelivered : ℕ) : Type 0 wh
   pub order : IsInOrder a
   pub stored : HoldsStored a c
   pub unspent : IsUnspent a.moment c.config.max_deliver c.pending
-  pub undelivered : undelivered ≡ pending_count a c
+  pub count : undelivered ≡ pending_count a c
 
 -- the sequence of one of the messages, or there is none
 abbrev pub IsAmong : List Message → Option ℕ → Type 0

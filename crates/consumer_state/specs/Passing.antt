@@ -1,10 +1,11 @@
 -- What passing time does to a consumer, in two steps, by JetStream's pull expiry, idle heartbeat and max_deliver: first all but that too many may be given
 -- up, then the least of those go, one by one. That the greatest 65,536 stay is this server's own.
-use Rattle.std.specs.Prelude.{◌≡◌, ℕ, nat_lt, true, if◌then◌else◌, List, [], ◌∷◌, Option, Some, None, All, filter, fold, length, map}
+use Rattle.std.specs.Prelude.{◌≡◌, ℕ, nat_lt, Bool, if◌then◌else◌, Option, None, filter, fold, length, map}
 use Rattle.js_base.specs.Bytes.{last_of}
 use Rattle.js_model.specs.declared.consumer.Consumer.{Consumer}
 use Rattle.js_model.specs.Advance.{is_spent, placed, consumer_at}
-use Rattle.consumer_progress.specs.GivingUp.{first_of, rest_of}
+use Rattle.consumer_progress.specs.GivingUp.{rest_of}
+use Rattle.consumer_progress.specs.Progresses.{first_of}
 
 -- the consumer at a moment, with all sequences that are given up by then
 abbrev pub passed : ℕ → Consumer → Consumer

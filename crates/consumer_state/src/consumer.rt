@@ -5,8 +5,10 @@ ghost use Rattle.js_model.specs.declared.consumer.Consumer.{Consumer as Kept};
 ghost use Rattle.js_model.specs.declared.stream.Stream.{Stream};
 ghost use Rattle.js_model.specs.Counts.{info_of, pending_count};
 ghost use Rattle.js_model.specs.Streams.{is_push, is_unacknowledged};
-ghost use Rattle.consumer_need.specs.Needs.{awaits, takes_subject, needs_at};
+ghost use Rattle.consumer_need.specs.Needs.{awaits};
+ghost use Rattle.consumer_progress.specs.Progresses.{progress_of, IsProgress};
 ghost use Rattle.consumer_state.specs.Forgetting.{forgotten};
+ghost use Rattle.consumer_state.specs.Keeping.{IsConsumer};
 ghost use Rattle.consumer_state.specs.Passing.{overflow_of, without_overflow};
 
 use consumer_need::{Need, passes};
@@ -76,6 +78,14 @@ impl Consumer {
             AckPolicy::None => true,
             AckPolicy::All | AckPolicy::Explicit => false,
         }
+    }
+
+    /// What holds of every consumer. It does nothing.
+    pub(crate) fn holds(&self)
+        ensures consumer { IsConsumer self.now }
+        ensures progress { IsProgress (progress_of self.now) }
+    {
+        let _cursor = self.progress.cursor();
     }
 
     /// Whether a message of this subject and this sequence is still to be delivered to it.

@@ -1,9 +1,9 @@
 //! One delivery.
 
-ghost use Rattle.std.specs.Prelude.{◌≡◌, ◌<◌, ◌^◌, ◌++◌, ◌∷◌, [], IfOk, IfSome, OnOk, OnErr, is_some};
+ghost use Rattle.std.specs.Prelude.{◌≡◌, ◌+◌, ◌<◌, ◌^◌, ◌++◌, ◌∷◌, [], IfOk, IfSome, OnOk, OnErr, is_some};
 ghost use Rattle.std.specs.Option.{option_copied};
 ghost use Rattle.js_model.specs.Streams.{sent_size, size};
-ghost use Rattle.js_model.specs.Deliver.{address, fits, sent_to};
+ghost use Rattle.js_model.specs.Deliver.{address, count_of, fits, sent_to};
 ghost use Rattle.consumer_texts.specs.Letter.{letter};
 ghost use Rattle.consumer_state.specs.Offering.{IsCurrent, IsNext};
 ghost use Rattle.consumer_state.specs.Sending.{due_after, IsSendable};
@@ -39,8 +39,8 @@ impl Consumer {
         outs: &mut Outs,
     ) -> Result<Option<Delivered>, NoMemory>
         requires current { IsCurrent (W.stream stream.now) self.old undelivered }
-        requires next { IsNext (W.stream stream.now) self.old (option_copied message.entry) }
-        requires small { IfSome (option_copied message.entry) (λ m. size m < 2 ^ 64) }
+        requires next { IsNext (W.stream stream.now) self.old (option_copied message) }
+        requires small { IfSome (option_copied message) (λ m. size m < 2 ^ 64) }
         ensures delivered { IfOk result (λ what. MayDeliver (W.stream stream.now) listened (option_copied message.entry) undelivered self.old what outs.old outs.new self.new) }
         ensures ready { IfOk result (λ what. IsReady (W.stream stream.now) listened self.old (is_some what)) }
         ensures err { OnErr result (self.new ≡ self.old) }
@@ -49,6 +49,7 @@ impl Consumer {
         let Some(message) = message else {
             return self.end_hasty(outs);
         };
+        self.holds();
         let size = sent_size(message);
         match self.demand(listened, size) {
             Demand::Asked => {
@@ -65,7 +66,11 @@ impl Consumer {
         ensures value { result ≡ demand_of listened self.now size }
     {
         if self.is_push() {
-            return if listened { Demand::Asked } else { Demand::Nobody };
+            return if listened {
+                Demand::Asked
+            } else {
+                Demand::Nobody
+            };
         }
         match self.pulls.front() {
             Some(pull) if fits(size, pull.bytes) => Demand::Asked,
@@ -95,9 +100,10 @@ impl Consumer {
         ensures err { OnErr result (self.new ≡ self.old) }
         ensures err_outs { OnErr result (outs.new ≡ outs.old) }
     {
-        if let Some(pull) = self.pulls.front() {
-            outs.push(too_small(self.alloc, pull)?)?;
-        }
+        let Some(pull) = self.pulls.front() else {
+            return Ok(Delivered::TooSmall);
+        };
+        outs.push(too_small(self.alloc, pull)?)?;
         self.pulls.take_front(size, now);
         Ok(Delivered::TooSmall)
     }
@@ -116,17 +122,18 @@ impl Consumer {
         ensures err { OnErr result (self.new ≡ self.old) }
         ensures err_outs { OnErr result (outs.new ≡ outs.old) }
     {
-        let what = Delivered::Sent {
-            seq: message.seq,
-            count: self.progress.count_of(message.seq) + 1,
-            dseq: self.progress.dseq() + 1,
-        };
+        let count = self.next_count(message.seq);
+        let dseq = self.progress.dseq() + 1;
         let out = self.letter(stream, message, undelivered)?;
         let mut all = mem::replace(outs, List::new(self.alloc)).into_vec();
         let put = self.put_sent(&mut all, out, now, message);
         *outs = List::from_vec(all);
         put?;
-        Ok(what)
+        Ok(Delivered::Sent {
+            seq: message.seq,
+            count,
+            dseq,
+        })
     }
 
     /// The message that a delivery sends.
@@ -138,11 +145,19 @@ impl Consumer {
         let told = Sending {
             stream,
             consumer: &self.name,
-            count: self.progress.count_of(message.seq) + 1,
+            count: self.next_count(message.seq),
             dseq: self.progress.dseq() + 1,
             left: self.left_after(message, undelivered),
         };
         delivery_out(self.alloc, &told, &to, message)
+    }
+
+    /// How often a message was delivered, with one more delivery.
+    fn next_count(&self, seq: u64) -> u64
+        ensures value { result ≡ count_of self.now seq + 1 }
+    {
+        self.holds();
+        self.progress.count_of(seq) + 1
     }
 
     /// How many messages are still to be delivered after the message was sent.

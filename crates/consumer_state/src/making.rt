@@ -15,7 +15,7 @@ ghost use Rattle.consumer_state.specs.Making.{made_at, policy_checks, own_checks
 use crate::consumer::Consumer;
 use crate::fault::MakeFault;
 use consumer_progress::ConsumerProgress;
-use consumer_start::{Start, start};
+use consumer_start::{Start, start_of};
 use js_base::{ApiError, Blob, Moment, NoMemory};
 use js_model::refusals::{too_many_subjects, work_queue_rule};
 use js_model::{
@@ -107,7 +107,7 @@ impl Consumer {
         if let Some(refusal) = policy_refusal(alloc, stream, config)? {
             return Err(MakeFault::Refused(refusal));
         }
-        match start(alloc, stream, config)? {
+        match start_of(alloc, stream, config)? {
             Some(start) => Ok(Consumer::at_start(alloc, name, config, stream.moment(), &start)?),
             None => Err(MakeFault::Refused(too_many_subjects(alloc)?)),
         }
@@ -121,10 +121,10 @@ impl Consumer {
         now: Moment,
         start: &Start,
     ) -> Result<Consumer, NoMemory>
-        requires ascend { Between (λ n. n) 0 start.now.cursor start.now.picks.items }
+        requires ascend { Between (λ n. n) 0 start.now.cursor start.now.picks }
         requires once { below_limit 0 config.now.max_deliver ≡ true }
-        requires few { length start.now.picks.items ≤ 65536 }
-        ensures value { IfOk result (λ c. c ≡ made_at now name.now config.now start.now.picks.items start.now.cursor) }
+        requires few { length start.now.picks ≤ 65536 }
+        ensures value { IfOk result (λ c. c ≡ made_at now name.now config.now start.now.picks start.now.cursor) }
     {
         Ok(Consumer {
             alloc,

@@ -1,6 +1,6 @@
 //! Which message may be sent next, and whether something can be delivered.
 
-ghost use Rattle.std.specs.Prelude.{◌≡◌};
+ghost use Rattle.std.specs.Prelude.{◌≡◌, find, is_some};
 ghost use Rattle.js_model.specs.Deliver.{may_wait};
 ghost use Rattle.consumer_state.specs.Offering.{is_asked, onward, IsAmong, IsCurrent, IsOffer};
 ghost use Rattle.consumer_state.specs.Delivering.{IsReady};
@@ -37,8 +37,9 @@ impl Consumer {
         requires current { IsCurrent (W.stream stream.now) self.now undelivered }
         ensures value { IsReady (W.stream stream.now) listened self.now result }
     {
+        self.holds();
         self.is_asked(listened)
-            && (self.pulls.no_wait().is_some() || self.candidate(stream, undelivered).is_some())
+            && (self.has_hasty() || self.candidate(stream, undelivered).is_some())
     }
 
     /// Whether somebody asks: who listens to a push consumer's subject, or a pull.
@@ -52,6 +53,13 @@ impl Consumer {
         }
     }
 
+    /// Whether some pull does not wait for messages.
+    fn has_hasty(&self) -> bool
+        ensures value { result ≡ is_some (find (λ p. p.no_wait) self.now.waiting) }
+    {
+        self.pulls.no_wait().is_some()
+    }
+
     /// The first pick, or else the first message from the cursor on that the filter matches, if one more delivery may wait.
     fn next<W: View>(&self, stream: &W, undelivered: u64) -> Option<u64>
         requires current { IsCurrent (W.stream stream.now) self.now undelivered }
@@ -63,7 +71,11 @@ impl Consumer {
         match self.progress.first_pick() {
             Some(pick) => Some(pick),
             None if undelivered == 0 => None,
-            None => next_taken(stream, self.config.filter_subject.as_slice(), self.progress.cursor()),
+            None => next_taken(
+                stream,
+                self.config.filter_subject.as_slice(),
+                self.progress.cursor(),
+            ),
         }
     }
 

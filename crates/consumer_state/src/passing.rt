@@ -1,6 +1,6 @@
 //! What passing time does to a consumer and what it sends.
 
-ghost use Rattle.std.specs.Prelude.{◌≡◌, ◌++◌, OnOk, OnErr};
+ghost use Rattle.std.specs.Prelude.{◌≡◌, ◌++◌, if◌then◌else◌, OnOk, OnErr};
 ghost use Rattle.js_model.specs.Advance.{consumer_outs, push_comes};
 ghost use Rattle.consumer_progress.specs.GivingUp.{IsUnspent};
 ghost use Rattle.consumer_state.specs.Passing.{passed};
@@ -20,7 +20,12 @@ impl Consumer {
             return self.pulls.tell(now, outs);
         }
         if self.push_comes(now) {
-            outs.push(push_beat(self.alloc, &self.config.deliver_subject, self.progress.dseq(), self.progress.cursor())?)?;
+            outs.push(push_beat(
+                self.alloc,
+                &self.config.deliver_subject,
+                self.progress.dseq(),
+                self.progress.cursor(),
+            )?)?;
         }
         Ok(())
     }
@@ -32,11 +37,17 @@ impl Consumer {
         ensures value { self.new ≡ passed now self.old }
         ensures unspent { IsUnspent now self.new.config.max_deliver self.new.pending }
     {
-        if self.push_comes(now) {
-            self.mark = now;
-        }
+        let mark = self.mark_at(now);
         self.progress.give_up(now, self.config.max_deliver);
         self.pulls.pass_time(now);
+        self.mark = mark;
+    }
+
+    /// The mark, with a heartbeat that has come by a moment.
+    fn mark_at(&self, now: Moment) -> Moment
+        ensures value { result ≡ (if push_comes now self.now then now else self.now.mark) }
+    {
+        if self.push_comes(now) { now } else { self.mark }
     }
 
     /// Whether a heartbeat of a push consumer has come.

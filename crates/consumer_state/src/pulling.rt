@@ -1,14 +1,17 @@
 //! The pulls of a consumer.
 
-ghost use Rattle.std.specs.Prelude.{◌≡◌, ◌++◌, [], IfOk, OnOk, OnErr};
-ghost use Rattle.std.specs.Option.{option_copied};
+ghost use Rattle.std.specs.Prelude.{◌≡◌, ◌<◌, ◌++◌, ◌∷◌, [], false, length, map, IfOk, OnOk, OnErr};
+ghost use Rattle.std.specs.Option.{option_copied, option_to_list};
 ghost use Rattle.js_model.specs.Events.{farewells};
+ghost use Rattle.js_model.specs.Streams.{is_push};
+ghost use Rattle.consumer_state.specs.Parting.{farewell_of};
 ghost use Rattle.js_model.specs.Pulls.{pull_of, pull_refusal, pulled, pull_outs};
 
 use crate::consumer::Consumer;
 use consumer_texts::{append, bad_request, exceeded_waiting, farewell, push_based, status_out};
 use js_base::{Blob, Moment, NoMemory, Out, Outs};
 use js_model::{Ask, Pull};
+use std::alloc::Global;
 
 impl Consumer {
     /// Lets a pull wait from a moment on, if it has a subject for its messages; a pull that is refused is sent why. `ask` is `None` for a body of no form.
@@ -49,9 +52,7 @@ impl Consumer {
     {
         let mut outs = Vec::new(self.alloc);
         for place in 0..self.pulls.len() {
-            if let Some(pull) = self.pulls.at(place) {
-                outs.push(farewell(self.alloc, pull)?)?;
-            }
+            put_farewell(self.alloc, &mut outs, self.pulls.at(place))?;
         }
         Ok(outs)
     }
@@ -72,10 +73,26 @@ impl Consumer {
         Ok(None)
     }
 
+    /// Adds a pull behind all others.
     fn put_pull(&mut self, pull: Pull) -> Result<(), NoMemory>
+        requires room { length self.old.waiting < self.old.config.max_waiting }
+        requires pulled { is_push self.old ≡ false }
+        ensures ok { OnOk result (self.new ≡ record self.old { waiting = self.old.waiting ++ pull ∷ [] }) }
+        ensures err { OnErr result (self.new ≡ self.old) }
     {
         self.pulls.ask(pull).map_err(|_| NoMemory)
     }
+}
+
+/// Adds what a pull is told, if there is one.
+fn put_farewell(alloc: Global, outs: &mut Vec<Out>, pull: Option<&Pull>) -> Result<(), NoMemory>
+    ensures ok { OnOk result (outs.new.items ≡ outs.old.items ++ map farewell_of (option_to_list (option_copied pull.entry))) }
+{
+    let Some(pull) = pull else {
+        return Ok(());
+    };
+    outs.push(farewell(alloc, pull)?)?;
+    Ok(())
 }
 
 /// The pull that waits from a moment on, for what is asked. One that does not wait for messages, or gives no time, has no end.
@@ -87,7 +104,11 @@ fn pull_of(now: Moment, reply: Blob, ask: Ask) -> Pull
         reply,
         batch: ask.batch,
         bytes: ask.max_bytes,
-        end: if ends { Some(now.plus(ask.expires)) } else { None },
+        end: if ends {
+            Some(now.plus(ask.expires))
+        } else {
+            None
+        },
         no_wait: ask.no_wait,
         heartbeat: ask.heartbeat,
         mark: now,

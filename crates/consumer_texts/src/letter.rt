@@ -58,7 +58,11 @@ fn put_sequences(into: &mut Vec<u8>, count: u64, seq: u64, dseq: u64) -> Result<
 }
 
 /// Adds the subject to which a delivery is acknowledged.
-fn put_ack_subject(into: &mut Vec<u8>, told: &Sending<'_>, message: &Message) -> Result<(), NoMemory>
+fn put_ack_subject(
+    into: &mut Vec<u8>,
+    told: &Sending<'_>,
+    message: &Message,
+) -> Result<(), NoMemory>
     ensures ok { OnOk result (into.new.items ≡ into.old.items ++ ack_text told.now message.now) }
 {
     put_names(into, told.stream.as_slice(), told.consumer.as_slice())?;

@@ -1,0 +1,9 @@
+pub mod Filters
+pub mod Keeping
+pub mod Endings
+pub mod Offers
+pub mod Lefts
+pub mod Deliveries
+pub mod Steps
+pub mod KeptSent
+pub mod Configs
