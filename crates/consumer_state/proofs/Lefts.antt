@@ -155,7 +155,7 @@ has_without n (k ∷ ks) = go (k == n) refl (has_without n ks)
     go true e h = h
     go false e h = ap (λ b. b || has (filter (λ k. not (k == n)) ks) n) e ∙ h
 
-has_other : (n i : ℕ) (ns : List ℕ) → (i == n) ≡ false → has (filter (λ k. not (k == n)) ns) i ≡ has ns i
+pub has_other : (n i : ℕ) (ns : List ℕ) → (i == n) ≡ false → has (filter (λ k. not (k == n)) ns) i ≡ has ns i
 has_other n i [] d = refl
 has_other n i (k ∷ ks) d = go (k == n) refl (has_other n i ks d)
   where
@@ -184,10 +184,10 @@ fails_before t low high m x (y ∷ ys) h e (there i) l = go (t y) e (λ f. fails
         absurd (omega arith)
     go false f more = more f
 
-abbrev waits : Consumer → Message → Bool
+abbrev pub waits : Consumer → Message → Bool
 waits c x = takes c x && (has c.picks x.seq || nat_le c.cursor x.seq)
 
-agrees : (now : ℕ) (a : Stream) (c : Consumer) (m : Message) → IsInOrder a → IsPlaced a c m → (x : Message) → IsIn x a.messages → waits (sent_to now m c) x ≡ (waits c x && not (x.seq == m.seq))
+pub agrees : (now : ℕ) (a : Stream) (c : Consumer) (m : Message) → IsInOrder a → IsPlaced a c m → (x : Message) → IsIn x a.messages → waits (sent_to now m c) x ≡ (waits c x && not (x.seq == m.seq))
 agrees now a c m order placed x i = go (x.seq == m.seq) refl
   where
     tested : (p q : Bool) → has (filter (λ k. not (k == m.seq)) c.picks) x.seq ≡ p → nat_le (max c.cursor (m.seq + 1)) x.seq ≡ q → waits (sent_to now m c) x ≡ (takes c x && (p || q))

@@ -81,7 +81,7 @@ impl Consumer {
     }
 
     /// What holds of every consumer. It does nothing.
-    pub(crate) fn holds(&self)
+    pub fn holds(&self)
         ensures consumer { IsConsumer self.now }
         ensures progress { IsProgress (progress_of self.now) }
     {

@@ -1,79 +1,75 @@
--- A stream with another consumer in the place of one of its name.
-use Rattle.std.proofs.Common.{◌≡◌, ℕ, zero, suc, ◌||◌, ◌<◌, Bool, true, false, cond, List, [], ◌∷◌, Some, None, get_or, set, length, map, refl, sym, ap, ◌∙◌, arith}
-use Rattle.std.specs.Prelude.{All}
-use Rattle.std.specs.List.{list_any, position}
-use Rattle.std.proofs.lemmas.List.Elements.{All-nil, All-cons, All-head, All-tail, All-weaker}
+-- A stream with another consumer at a place.
+use Rattle.std.proofs.Common.{◌≡◌, ℕ, zero, suc, ◌||◌, ◌<◌, Bool, true, false, cond, List, [], ◌∷◌, Some, None, get_or, set, length, map, refl, sym, ap, subst, ◌∙◌, arith}
+use Rattle.std.specs.Prelude.{All, option_map, slice_get}
+use Rattle.std.specs.List.{list_any}
+use Rattle.std.proofs.lemmas.List.Elements.{All-nil, All-cons, All-get_or, All-head, All-set, All-tail, All-weaker}
+use Rattle.std.proofs.lemmas.Option.{slice_get-get_or, slice_get-map}
 use Rattle.js_base.specs.Bytes.{Bytes, same}
 use Rattle.js_model.specs.declared.stream.Message.{Message}
 use Rattle.js_model.specs.declared.stream.Stream.{Stream}
 use Rattle.js_model.specs.declared.consumer.Consumer.{Consumer}
 use Rattle.js_model.specs.Retention.{needs}
 use Rattle.js_model.specs.Streams.{by_name, in_place_of, takes, with_consumer}
-use Rattle.js_model.proofs.Named.{found_named as named_found, in_place_of-names, none_some, same_is, some_is}
-use Rattle.consumer_need.specs.Needs.{awaits}
+use Rattle.js_model.proofs.Named.{in_place_of-names, none_some, placed_other, placed_same, same_is, same_self, some_is}
 use Rattle.consumer_need.specs.Stored.{HoldsStored}
 use Rattle.stream_state.specs.Attended.{AreNamedApart, IsAttended}
-use Rattle.stream_state.specs.Followers.{attended, is_named, AreFollowed, Following}
+use Rattle.stream_state.specs.Followers.{attended, AreFollowed, Following, IsCounted}
 use Rattle.stream_state.specs.Needing.{NeedSame}
 use Rattle.stream_state.proofs.Attending.{named_map, sound_with}
-use Rattle.stream_state.proofs.Naming.{found_named, place_within, placed_at}
 
--- a list in which what stands at a place is another that has a property too
-pub all_set : {X : Type 0} (P : X → Type 0) (xs : List X) (i : ℕ) (x : X) → All P xs → P x → All P (set xs i x)
-all_set P [] i x h k = h
-all_set P (y ∷ ys) zero x h k = All-cons P x ys k (All-tail P y ys h)
-all_set P (y ∷ ys) (suc i) x h k = All-cons P y (set ys i x) (All-head P y ys h) (all_set P ys i x (All-tail P y ys h) k)
+-- the consumers of a stream's followers
+abbrev pub consumers_of : List Following → List Consumer
+consumers_of fs = map (λ f. f.consumer) fs
 
-pub all_at : {X : Type 0} (P : X → Type 0) (xs : List X) (i : ℕ) (d : X) → i < length xs → All P xs → P (get_or xs i d)
-all_at P [] i d l h = absurd (omega arith)
-all_at P (y ∷ ys) zero d l h = All-head P y ys h
-all_at P (y ∷ ys) (suc i) d l h = all_at P ys i d (omega arith) (All-tail P y ys h)
+-- ---- what stands at a place
 
--- what is left of one consumer and what becomes of it: the name, what is stored, and what it takes and needs of some messages
-pub record Turns (s : Stream) (old new : Consumer) : Type 0 where
-  pub name : new.name ≡ old.name
-  pub held : HoldsStored s old → HoldsStored s new
-  pub awaits_same : (m : Message) → awaits new m.subject m.seq ≡ awaits old m.subject m.seq
+-- another one has not its name
+named_there : (gs : List Following) (i : ℕ) (d : Following) → i < length gs → by_name (consumers_of gs) (get_or gs i d).consumer.name ≡ None → ⊥
+named_there [] i d l e = absurd (omega arith)
+named_there (g ∷ gs) zero d l e = none_some (sym e ∙ ap (λ (b : Bool). cond b (Some g.consumer) (by_name (consumers_of gs) g.consumer.name)) (same_self g.consumer.name))
+named_there (g ∷ gs) (suc i) d l e = go (same g.consumer.name (get_or gs i d).consumer.name) e (named_there gs i d (omega arith))
+  where
+    go : (b : Bool) → cond b (Some g.consumer) (by_name (consumers_of gs) (get_or gs i d).consumer.name) ≡ None → (by_name (consumers_of gs) (get_or gs i d).consumer.name ≡ None → ⊥) → ⊥
+    go true k r = none_some (sym k)
+    go false k r = r k
 
-module _ (s : Stream) (fs : List Following) (h : AreFollowed s fs) (name : Bytes) (i : ℕ) (d : Following) (at : Some i ≡ position (is_named name) fs) (new : Following)
-    (turns : Turns (attended s fs) (get_or fs i d).consumer new.consumer) where
-  found : by_name (attended s fs).consumers name ≡ Some (get_or fs i d).consumer
-  found = found_named name fs i d at
+first_other : (g : Following) (gs : List Following) (i : ℕ) (d : Following) (name : Bytes) → by_name (consumers_of gs) g.consumer.name ≡ None → i < length gs → name ≡ (get_or gs i d).consumer.name → same g.consumer.name name ≡ false
+first_other g gs i d name none l e = go (same g.consumer.name name) refl
+  where
+    go : (b : Bool) → same g.consumer.name name ≡ b → same g.consumer.name name ≡ false
+    go true q = absurd (named_there gs i d l (ap (by_name (consumers_of gs)) (sym (same_is g.consumer.name name q ∙ e)) ∙ none))
+    go false q = q
 
-  own : (get_or fs i d).consumer.name ≡ name
-  own = named_found (attended s fs).consumers name (get_or fs i d).consumer found
+-- it is the one of its name
+pub found_at : (fs : List Following) (i : ℕ) (d : Following) → AreNamedApart (consumers_of fs) → i < length fs → by_name (consumers_of fs) (get_or fs i d).consumer.name ≡ Some (get_or fs i d).consumer
+found_at [] i d a l = absurd (omega arith)
+found_at (g ∷ gs) zero d a l = ap (λ (b : Bool). cond b (Some g.consumer) (by_name (consumers_of gs) g.consumer.name)) (same_self g.consumer.name)
+found_at (g ∷ gs) (suc i) d a l =
+    ap (λ (b : Bool). cond b (Some g.consumer) (by_name (consumers_of gs) (get_or gs i d).consumer.name)) (first_other g gs i d (get_or gs i d).consumer.name a.0 (omega arith) refl) ∙ found_at gs i d a.1 (omega arith)
 
-  -- the stream with it
-  pub changed : attended s (set fs i new) ≡ with_consumer (attended s fs) new.consumer
-  changed = ap (λ (cs : List Consumer). record s { consumers = cs }) (placed_at name fs i new h.attended.named at (turns.name ∙ own))
+pub there : (fs : List Following) (i : ℕ) (d : Following) → i < length fs → slice_get (consumers_of fs) i ≡ Some (get_or fs i d).consumer
+there fs i d l = slice_get-map (λ f. f.consumer) fs i ∙ ap (option_map (λ (f : Following). f.consumer)) (slice_get-get_or fs i d l)
 
-  held_new : All (HoldsStored (attended s fs)) (map (in_place_of new.consumer) (attended s fs).consumers)
-  held_new = go (attended s fs).consumers h.attended.held
-    where
-      ready : HoldsStored (attended s fs) new.consumer
-      ready = turns.held (all_at_consumers fs i (place_within name fs i at) h.attended.held)
-        where
-          all_at_consumers : (gs : List Following) (k : ℕ) → k < length gs → All (HoldsStored (attended s fs)) (map (λ f. f.consumer) gs) → HoldsStored (attended s fs) (get_or gs k d).consumer
-          all_at_consumers [] k l a = absurd (omega arith)
-          all_at_consumers (g ∷ gs) zero l a = All-head (HoldsStored (attended s fs)) g.consumer (map (λ f. f.consumer) gs) a
-          all_at_consumers (g ∷ gs) (suc k) l a = all_at_consumers gs k (omega arith) (All-tail (HoldsStored (attended s fs)) g.consumer (map (λ f. f.consumer) gs) a)
+-- ---- another one there
 
-      one : (b : Bool) (c : Consumer) → HoldsStored (attended s fs) c → HoldsStored (attended s fs) (cond b new.consumer c)
-      one true c k = ready
-      one false c k = k
+-- where no other has the name, none is replaced
+none_placed : (cs : List Consumer) (new : Consumer) → by_name cs new.name ≡ None → map (in_place_of new) cs ≡ cs
+none_placed [] new h = refl
+none_placed (c ∷ cs) new h = go (same c.name new.name) h (none_placed cs new)
+  where
+    go : (b : Bool) → cond b (Some c) (by_name cs new.name) ≡ None → (by_name cs new.name ≡ None → map (in_place_of new) cs ≡ cs) → cond b new c ∷ map (in_place_of new) cs ≡ c ∷ cs
+    go true k r = absurd (none_some (sym k))
+    go false k r = ap (λ (l : List Consumer). c ∷ l) (r k)
 
-      go : (cs : List Consumer) → All (HoldsStored (attended s fs)) cs → All (HoldsStored (attended s fs)) (map (in_place_of new.consumer) cs)
-      go [] a = All-nil (HoldsStored (attended s fs))
-      go (c ∷ cs) a =
-          All-cons (HoldsStored (attended s fs)) (in_place_of new.consumer c) (map (in_place_of new.consumer) cs)
-          (one (same c.name new.consumer.name) c (All-head (HoldsStored (attended s fs)) c cs a)) (go cs (All-tail (HoldsStored (attended s fs)) c cs a))
-
-  pub attended_changed : IsAttended (with_consumer (attended s fs) new.consumer)
-  attended_changed = record {
-    sound = sound_with (attended s fs) (map (in_place_of new.consumer) (attended s fs).consumers) h.attended.sound;
-    held = All-weaker (HoldsStored (attended s fs)) (HoldsStored (with_consumer (attended s fs) new.consumer)) (λ c k. record { picks = k.picks; pending = k.pending; given_up = k.given_up }) (map (in_place_of new.consumer) (attended s fs).consumers) held_new;
-    named = named_map (in_place_of new.consumer) (in_place_of-names new.consumer) (attended s fs).consumers h.attended.named;
-  }
+set_placed : (fs : List Following) (i : ℕ) (d new : Following) → AreNamedApart (consumers_of fs) → i < length fs → new.consumer.name ≡ (get_or fs i d).consumer.name
+    → consumers_of (set fs i new) ≡ map (in_place_of new.consumer) (consumers_of fs)
+set_placed [] i d new a l e = absurd (omega arith)
+set_placed (g ∷ gs) zero d new a l e =
+    ap (λ (cs : List Consumer). new.consumer ∷ cs) (sym (none_placed (consumers_of gs) new.consumer (ap (by_name (consumers_of gs)) e ∙ a.0)))
+    ∙ ap (λ (c : Consumer). c ∷ map (in_place_of new.consumer) (consumers_of gs)) (sym (placed_same new.consumer g.consumer (sym e)))
+set_placed (g ∷ gs) (suc i) d new a l e =
+    ap (λ (c : Consumer). c ∷ consumers_of (set gs i new)) (sym (placed_other new.consumer g.consumer (first_other g gs i d new.consumer.name a.0 (omega arith) e)))
+    ∙ ap (λ (cs : List Consumer). in_place_of new.consumer g.consumer ∷ cs) (set_placed gs i d new a.1 (omega arith) e)
 
 -- ---- what the consumers need
 
@@ -103,3 +99,50 @@ module _ (new old : Consumer) (test : Consumer → Bool) (alike : test new ≡ t
 -- consumers of which one has changed need and take the same of a message of which it needs and takes the same
 pub need_same_placed : (m : Message) (new old : Consumer) (cs : List Consumer) → AreNamedApart cs → by_name cs new.name ≡ Some old → needs new m ≡ needs old m → takes new m ≡ takes old m → NeedSame m (map (in_place_of new) cs) cs
 need_same_placed m new old cs named found n t = record { needed = any_placed new old (λ c. needs c m) n cs named found; taken = any_placed new old (λ c. takes c m) t cs named found }
+
+-- ---- a follower at its place
+
+-- what becomes of one consumer: its name, what is stored, and how many messages are still to be delivered
+pub record Turns (s : Stream) (old new : Following) : Type 0 where
+  pub name : new.consumer.name ≡ old.consumer.name
+  pub held : HoldsStored s old.consumer → HoldsStored s new.consumer
+  pub counted : IsCounted s.messages old → IsCounted s.messages new
+
+module _ (s : Stream) (fs : List Following) (h : AreFollowed s fs) (i : ℕ) (d : Following) (within : i < length fs) (new : Following) (turns : Turns (attended s fs) (get_or fs i d) new) where
+  -- the stream with it
+  pub changed : attended s (set fs i new) ≡ with_consumer (attended s fs) new.consumer
+  changed = ap (λ (cs : List Consumer). record s { consumers = cs }) (set_placed fs i d new h.attended.named within turns.name)
+
+  all_held : (gs : List Following) (k : ℕ) → k < length gs → All (HoldsStored (attended s fs)) (consumers_of gs) → HoldsStored (attended s fs) (get_or gs k d).consumer
+  all_held [] k l a = absurd (omega arith)
+  all_held (g ∷ gs) zero l a = All-head (HoldsStored (attended s fs)) g.consumer (consumers_of gs) a
+  all_held (g ∷ gs) (suc k) l a = all_held gs k (omega arith) (All-tail (HoldsStored (attended s fs)) g.consumer (consumers_of gs) a)
+
+  held_new : (cs : List Consumer) → All (HoldsStored (attended s fs)) cs → All (HoldsStored (attended s fs)) (map (in_place_of new.consumer) cs)
+  held_new [] a = All-nil (HoldsStored (attended s fs))
+  held_new (c ∷ cs) a =
+      All-cons (HoldsStored (attended s fs)) (in_place_of new.consumer c) (map (in_place_of new.consumer) cs) (one (same c.name new.consumer.name) (All-head (HoldsStored (attended s fs)) c cs a))
+      (held_new cs (All-tail (HoldsStored (attended s fs)) c cs a))
+    where
+      one : (b : Bool) → HoldsStored (attended s fs) c → HoldsStored (attended s fs) (cond b new.consumer c)
+      one true k = turns.held (all_held fs i within h.attended.held)
+      one false k = k
+
+  pub attended_changed : IsAttended (with_consumer (attended s fs) new.consumer)
+  attended_changed = record {
+    sound = sound_with (attended s fs) (map (in_place_of new.consumer) (attended s fs).consumers) h.attended.sound;
+    held = All-weaker (HoldsStored (attended s fs)) (HoldsStored (with_consumer (attended s fs) new.consumer)) (λ c k. record { picks = k.picks; pending = k.pending; given_up = k.given_up }) (map (in_place_of new.consumer) (attended s fs).consumers)
+        (held_new (attended s fs).consumers h.attended.held);
+    named = named_map (in_place_of new.consumer) (in_place_of-names new.consumer) (attended s fs).consumers h.attended.named;
+  }
+
+  pub followed_changed : AreFollowed s (set fs i new)
+  followed_changed = record {
+    attended = subst IsAttended (sym changed) attended_changed;
+    counted = All-set (IsCounted s.messages) fs i new (turns.counted (All-get_or (IsCounted s.messages) fs i d within h.counted)) h.counted;
+  }
+
+  -- messages of which it needs and takes the same are needed as before
+  pub need_same_there : (m : Message) → needs new.consumer m ≡ needs (get_or fs i d).consumer m → takes new.consumer m ≡ takes (get_or fs i d).consumer m → NeedSame m (with_consumer (attended s fs) new.consumer).consumers (attended s fs).consumers
+  need_same_there m n t =
+      need_same_placed m new.consumer (get_or fs i d).consumer (consumers_of fs) h.attended.named (ap (by_name (consumers_of fs)) turns.name ∙ found_at fs i d h.attended.named within) n t

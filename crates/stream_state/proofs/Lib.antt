@@ -9,6 +9,11 @@ pub mod Spanning
 pub mod Timing
 pub mod Settling
 pub mod Followings
-pub mod Naming
 pub mod Changing
+pub mod Naming
+pub mod Ends
+pub mod Acking
+pub mod Counts
+pub mod Hands
+pub mod Makes
 pub mod Walks

@@ -1,14 +1,16 @@
 -- The follower of a name, by its place.
-use Rattle.std.proofs.Common.{◌≡◌, ℕ, suc, ◌+◌, ◌<◌, ◌≤◌, Bool, true, false, cond, not, List, [], ◌∷◌, Some, None, get_or, set, length, map, refl, sym, ap, subst, ◌∙◌, arith}
+use Rattle.std.proofs.Common.{◌≡◌, ℕ, suc, ◌+◌, ◌<◌, ◌≤◌, Bool, true, false, cond, not, List, [], ◌∷◌, Option, Some, None, get_or, length, map, refl, sym, ap, subst, ◌∙◌, arith}
 use Rattle.std.specs.Prelude.{nat_lt}
 use Rattle.std.specs.List.{position, position_or_len}
 use Rattle.std.proofs.lemmas.Bool.{ltb-true, ltb-false}
+use Rattle.std.proofs.lemmas.List.{length-map}
 use Rattle.js_base.specs.Bytes.{Bytes, same}
 use Rattle.js_model.specs.declared.consumer.Consumer.{Consumer}
-use Rattle.js_model.specs.Streams.{by_name, in_place_of}
-use Rattle.js_model.proofs.Named.{none_some, same_is, some_is}
-use Rattle.stream_state.specs.Attended.{AreNamedApart}
+use Rattle.js_model.specs.Streams.{by_name}
+use Rattle.js_model.proofs.Named.{none_some, some_is}
 use Rattle.stream_state.specs.Followers.{is_named, Following}
+use Rattle.stream_state.specs.Placing.{IsPlaceOf}
+use Rattle.stream_state.proofs.Changing.{consumers_of, there}
 
 place_is : (name : Bytes) (fs : List Following) (i : ℕ) → Some i ≡ position (is_named name) fs → (position_or_len (is_named name) fs < length fs) × (i ≡ position_or_len (is_named name) fs)
 place_is name fs i h = go (nat_lt (position_or_len (is_named name) fs) (length fs)) refl h
@@ -54,36 +56,13 @@ found_named name fs i d h = let w = place_is name fs i h in subst (λ k. by_name
         step true k r = refl
         step false k r = r (omega (arith, k)) ∙ ap (λ (j : ℕ). Some (get_or (g ∷ gs) j d).consumer) (one_more (position_or_len (is_named name) gs))
 
--- ---- another one at its place
-
--- where no other has the name, none is replaced
-none_placed : (cs : List Consumer) (new : Consumer) → by_name cs new.name ≡ None → map (in_place_of new) cs ≡ cs
-none_placed [] new h = refl
-none_placed (c ∷ cs) new h = go (same c.name new.name) h (none_placed cs new)
-  where
-    go : (b : Bool) → cond b (Some c) (by_name cs new.name) ≡ None → (by_name cs new.name ≡ None → map (in_place_of new) cs ≡ cs) → cond b new c ∷ map (in_place_of new) cs ≡ c ∷ cs
-    go true k r = absurd (none_some (sym k))
-    go false k r = ap (λ (l : List Consumer). c ∷ l) (r k)
-
-pub placed_at : (name : Bytes) (fs : List Following) (i : ℕ) (new : Following) → AreNamedApart (map (λ f. f.consumer) fs) → Some i ≡ position (is_named name) fs → new.consumer.name ≡ name
-    → map (λ f. f.consumer) (set fs i new) ≡ map (in_place_of new.consumer) (map (λ f. f.consumer) fs)
-placed_at name fs i new named h own = let w = place_is name fs i h in subst (λ k. map (λ f. f.consumer) (set fs k new) ≡ map (in_place_of new.consumer) (map (λ f. f.consumer) fs)) (sym w.1) (go fs named w.0)
-  where
-    go : (gs : List Following) → AreNamedApart (map (λ f. f.consumer) gs) → position_or_len (is_named name) gs < length gs
-        → map (λ f. f.consumer) (set gs (position_or_len (is_named name) gs) new) ≡ map (in_place_of new.consumer) (map (λ f. f.consumer) gs)
-    go [] apart l = absurd (omega arith)
-    go (g ∷ gs) apart l = step (is_named name g) refl l (go gs apart.1)
-      where
-        step : (b : Bool) → is_named name g ≡ b → cond (not b) (1 + position_or_len (is_named name) gs) 0 < suc (length gs)
-            → (position_or_len (is_named name) gs < length gs → map (λ f. f.consumer) (set gs (position_or_len (is_named name) gs) new) ≡ map (in_place_of new.consumer) (map (λ f. f.consumer) gs))
-            → map (λ f. f.consumer) (set (g ∷ gs) (cond (not b) (1 + position_or_len (is_named name) gs) 0) new) ≡ in_place_of new.consumer g.consumer ∷ map (in_place_of new.consumer) (map (λ f. f.consumer) gs)
-        step true e k r =
-            let alike : same g.consumer.name new.consumer.name ≡ true = ap (same g.consumer.name) own ∙ e in
-            let none : by_name (map (λ f. f.consumer) gs) new.consumer.name ≡ None = ap (by_name (map (λ f. f.consumer) gs)) (own ∙ sym (same_is g.consumer.name name e)) ∙ apart.0 in
-            ap (λ (l : List Consumer). new.consumer ∷ l) (sym (none_placed (map (λ f. f.consumer) gs) new.consumer none))
-            ∙ sym (ap (λ (c : Bool). cond c new.consumer g.consumer ∷ map (in_place_of new.consumer) (map (λ f. f.consumer) gs)) alike)
-        step false e k r =
-            let other : same g.consumer.name new.consumer.name ≡ false = ap (same g.consumer.name) own ∙ e in
-            ap (λ (j : ℕ). map (λ f. f.consumer) (set (g ∷ gs) j new)) (sym (one_more (position_or_len (is_named name) gs)))
-            ∙ ap (λ (l : List Consumer). g.consumer ∷ l) (r (omega (arith, k)))
-            ∙ sym (ap (λ (c : Bool). cond c new.consumer g.consumer ∷ map (in_place_of new.consumer) (map (λ f. f.consumer) gs)) other)
+-- the place that is found is that of the name
+pub place_is_of : (name : Bytes) (fs : List Following) (o : Option ℕ) → o ≡ position (is_named name) fs → IsPlaceOf (consumers_of fs) name o
+place_is_of name fs None h = none_named name fs h
+place_is_of name [] (Some i) h = let l : i < 0 = place_within name [] i h in absurd (omega arith)
+place_is_of name (f ∷ fs) (Some i) h =
+    let l : i < length (f ∷ fs) = place_within name (f ∷ fs) i h in
+    record {
+      within = subst (λ n. i < n) (sym (length-map (f ∷ fs) (λ (g : Following). g.consumer))) l;
+      found = there (f ∷ fs) i f l ∙ sym (found_named name (f ∷ fs) i f h);
+    }

@@ -10,9 +10,17 @@ use Rattle.js_model.specs.Ready.{is_ready}
 use Rattle.js_model.specs.Streams.{with_consumer}
 use Rattle.consumer_progress.specs.GivingUp.{IsUnspent}
 
--- time has passed for the consumers up to the stream's moment
-pub record AreCurrent (s : Stream) : Type 0 where
-  pub unspent : All (λ c. IsUnspent s.moment c.config.max_deliver c.pending) s.consumers
+-- time has passed for the consumer up to a moment: no delivery that is due was made as often as it may be
+abbrev pub IsCurrentAt : ℕ → Consumer → Type 0
+IsCurrentAt now c = IsUnspent now c.config.max_deliver c.pending
+
+-- it has passed for all consumers
+pub record AreCurrentAt (now : ℕ) (s : Stream) : Type 0 where
+  pub unspent : All (IsCurrentAt now) s.consumers
+
+-- up to the stream's moment
+abbrev pub AreCurrent : Stream → Type 0
+AreCurrent s = AreCurrentAt s.moment s
 
 -- whether something can be delivered to the consumer, whoever else is listened to; nothing can if there is none
 abbrev pub IsReadyIf : Stream → Option Consumer → Bool → Bool → Type 0

@@ -5,3 +5,7 @@ pub mod Spans
 pub mod Settled
 pub mod Answering
 pub mod Delivering
+pub mod Placing
+pub mod Asked
+pub mod Counting
+pub mod Handing

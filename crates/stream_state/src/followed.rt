@@ -1,6 +1,6 @@
 //! A stream's messages, ids, numbers and consumers, whether or not its limits hold.
 
-ghost use Rattle.std.specs.Prelude.{◌≡◌, ◌+◌, ◌^◌, ◌<◌, ◌≤◌, None, false, is_some, length, map, IsTrue, OnOk, OnErr};
+ghost use Rattle.std.specs.Prelude.{◌≡◌, ◌+◌, ◌^◌, ◌<◌, ◌≤◌, None, false, is_some, length, map, All, IsTrue, OnOk, OnErr};
 ghost use Rattle.std.specs.Bool.{OnTrue};
 ghost use Rattle.js_base.specs.Bytes.{is_empty};
 ghost use Rattle.js_model.specs.declared.stream.Message.{Message};
@@ -11,6 +11,8 @@ ghost use Rattle.js_model.specs.Events.{message_at, with_message};
 ghost use Rattle.js_model.specs.Proper.{is_proper_publish};
 ghost use Rattle.js_model.specs.Verdict.{known};
 ghost use Rattle.stream_state.specs.Attended.{stored_of, without_seq, IsAttended};
+ghost use Rattle.stream_state.specs.Delivering.{AreCurrentAt};
+ghost use Rattle.stream_state.specs.Followers.{IsCounted};
 ghost use Rattle.stream_state.specs.Needing.{NeedSame};
 ghost use Rattle.stream_state.specs.Spans.{spans};
 
@@ -26,8 +28,8 @@ use stream_view::{Counts, Head, View};
 /// A stream with its consumers, whose limits may be passed.
 #[derive(Drop)]
 pub(crate) struct FollowedStream {
-    stored: StoredStream,
-    followers: Vec<Follower>,
+    pub(crate) stored: StoredStream,
+    pub(crate) followers: Vec<Follower>,
 }
 
 impl Model for FollowedStream {
@@ -70,6 +72,7 @@ impl FollowedStream {
     /// Its consumers, each with what is still to be delivered to it.
     pub(crate) fn followers(&self) -> &[Follower]
         ensures value { map (λ f. f.consumer) result.now ≡ self.now.consumers }
+        ensures counted { All (IsCounted self.now.messages) result.now }
     {
         self.followers.as_slice()
     }
@@ -126,6 +129,7 @@ impl FollowedStream {
     pub(crate) fn advance_consumers(&mut self, now: Moment) -> Span
         ensures left { self.new ≡ record self.old { consumers = map (consumer_at now) self.old.consumers } }
         ensures loose { (m : Message) → spans result m.seq ≡ false → NeedSame m self.new.consumers self.old.consumers }
+        ensures current { AreCurrentAt now self.new }
         ensures sound { IsAttended self.new }
     {
         advance_all(self.followers.as_mut_slice(), now)

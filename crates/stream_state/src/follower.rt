@@ -1,9 +1,12 @@
 //! Consumers as their stream keeps them.
 
-ghost use Rattle.std.specs.Prelude.{◌≡◌, ◌+◌, ◌^◌, ◌<◌, false, All, map};
+ghost use Rattle.std.specs.Prelude.{◌≡◌, ◌+◌, ◌^◌, ◌<◌, ◌≤◌, false, All, length, map};
+ghost use Rattle.std.specs.List.{position, prefix_len};
 ghost use Rattle.js_model.specs.declared.stream.Message.{Message};
+ghost use Rattle.js_model.specs.Consumers.{is_before};
 ghost use Rattle.js_model.specs.Retention.{needs};
-ghost use Rattle.stream_state.specs.Followers.{gaining, losing, standing};
+ghost use Rattle.stream_state.specs.Delivering.{IsCurrentAt};
+ghost use Rattle.stream_state.specs.Followers.{gaining, is_named, losing, standing};
 ghost use Rattle.stream_state.specs.Needing.{NeedSame};
 ghost use Rattle.stream_state.specs.Spans.{spans};
 
@@ -11,14 +14,14 @@ use crate::passing::pass_time;
 use crate::span::Span;
 use consumer_need::Need;
 use consumer_state::Consumer;
-use js_base::Moment;
+use js_base::{Blob, Moment};
 use std::marker::Model;
 
 /// A consumer, and how many messages of its stream are still to be delivered to it.
 #[derive(Drop)]
 pub(crate) struct Follower {
-    consumer: Consumer,
-    undelivered: u64,
+    pub(crate) consumer: Consumer,
+    pub(crate) undelivered: u64,
 }
 
 impl Model for Follower {
@@ -30,6 +33,27 @@ impl Model for Follower {
 }
 
 impl Follower {
+    /// The consumer's name.
+    pub(crate) fn name(&self) -> &Blob
+        ensures value { result.now ≡ self.now.consumer.name }
+    {
+        self.consumer.name()
+    }
+
+    /// Whether that is this one.
+    pub(crate) fn is_named(&self, name: &Blob) -> bool
+        ensures value { result ≡ is_named name.now self.now }
+    {
+        self.name().as_slice() == name.as_slice()
+    }
+
+    /// Whether it is before this one.
+    fn is_before(&self, name: &Blob) -> bool
+        ensures value { result ≡ is_before self.now.consumer.name name.now }
+    {
+        self.name().as_slice().cmp(name.as_slice()).is_lt()
+    }
+
     /// Takes note of a message that was stored.
     fn gain(&mut self, subject: &[u8], seq: u64)
         requires room { self.old.undelivered < 2 ^ 32 }
@@ -44,6 +68,7 @@ impl Follower {
     fn advance(&mut self, now: Moment) -> Span
         ensures value { self.new ≡ standing now self.old }
         ensures loose { (m : Message) → spans result m.seq ≡ false → needs self.new.consumer m ≡ needs self.old.consumer m }
+        ensures current { IsCurrentAt now self.new.consumer }
     {
         pass_time(&mut self.consumer, now)
     }
@@ -63,6 +88,7 @@ impl Follower {
 pub(crate) fn advance_all(followers: &mut [Follower], now: Moment) -> Span
     ensures value { followers.new ≡ map (standing now) followers.old }
     ensures loose { (m : Message) → spans result m.seq ≡ false → NeedSame m (map (λ f. f.consumer) followers.new) (map (λ f. f.consumer) followers.old) }
+    ensures current { All (λ f. IsCurrentAt now f.consumer) followers.new }
 {
     let mut loose = Span::none();
     for follower in followers.iter_mut() {
@@ -81,6 +107,24 @@ impl Need for Follower {
     fn needs(&self, subject: &[u8], seq: u64) -> bool {
         self.consumer.needs(subject, seq)
     }
+}
+
+/// The place of the consumer of a name.
+pub(crate) fn place_of(followers: &[Follower], name: &Blob) -> Option<usize>
+    ensures value { result ≡ position (is_named name.now) followers.now }
+{
+    followers.iter().position(|follower| follower.is_named(name))
+}
+
+/// How many of the first consumers have names before this one.
+pub(crate) fn place_before(followers: &[Follower], name: &Blob) -> usize
+    ensures value { result ≡ prefix_len (λ f. is_before f.consumer.name name.now) followers.now }
+    ensures within { result ≤ length followers.now }
+{
+    followers
+        .iter()
+        .take_while(|follower| follower.is_before(name))
+        .count()
 }
 
 /// Tells all of a message that was stored.

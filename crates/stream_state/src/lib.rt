@@ -2,14 +2,22 @@
 #![tactic(auto)]
 
 mod ageing;
+mod answering;
+mod asking;
 mod calls;
+mod counting;
+mod ending;
 mod followed;
 mod follower;
+mod handing;
+mod listing;
 mod passing;
 mod releasing;
 mod removing;
+mod rules;
 mod span;
 mod state;
+mod telling;
 mod trimming;
 
 pub use state::StreamState;

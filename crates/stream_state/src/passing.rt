@@ -4,6 +4,7 @@ ghost use Rattle.std.specs.Prelude.{◌≡◌, false};
 ghost use Rattle.js_model.specs.declared.stream.Message.{Message};
 ghost use Rattle.js_model.specs.Advance.{consumer_at};
 ghost use Rattle.js_model.specs.Retention.{needs};
+ghost use Rattle.stream_state.specs.Delivering.{IsCurrentAt};
 ghost use Rattle.stream_state.specs.Spans.{spans};
 
 use crate::span::Span;
@@ -15,6 +16,7 @@ use js_base::Moment;
 pub(crate) fn pass_time(consumer: &mut Consumer, now: Moment) -> Span
     ensures value { consumer.new ≡ consumer_at now consumer.old }
     ensures loose { (m : Message) → spans result m.seq ≡ false → needs consumer.new m ≡ needs consumer.old m }
+    ensures current { IsCurrentAt now consumer.new }
 {
     law_passed();
     law_overflow();

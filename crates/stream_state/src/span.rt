@@ -1,7 +1,10 @@
 //! Ranges of sequences.
 
 ghost use Rattle.std.specs.Prelude.{◌≡◌, ℕ, ◌==◌, false};
+ghost use Rattle.stream_state.specs.Handing.{is_of};
 ghost use Rattle.stream_state.specs.Spans.{spans, joined};
+
+use js_model::Delivered;
 
 /// The sequences from the first to the last. There is none if the first is above the last.
 #[derive(Clone, Copy)]
@@ -35,6 +38,16 @@ impl Span {
         Span {
             first: seq,
             last: seq,
+        }
+    }
+
+    /// That of the message that is sent, if the delivery is of one.
+    pub(crate) fn of(what: Delivered) -> Span
+        ensures outside { (seq : ℕ) → spans result seq ≡ false → is_of what seq ≡ false }
+    {
+        match what {
+            Delivered::Sent { seq, .. } => Span::one(seq),
+            Delivered::TooSmall | Delivered::Emptied => Span::none(),
         }
     }
 

@@ -13,6 +13,7 @@ ghost use Rattle.js_model.specs.Proper.{is_proper_publish};
 ghost use Rattle.js_model.specs.Retention.{kept};
 ghost use Rattle.js_model.specs.Trim.{trim};
 ghost use Rattle.js_model.specs.Verdict.{last_on, verdict};
+ghost use Rattle.stream_state.specs.Delivering.{AreCurrent};
 
 use crate::ageing::drop_old;
 use crate::followed::FollowedStream;
@@ -30,10 +31,10 @@ use stream_view::{Counts, Head, View};
 /// A stream with its consumers, as its limits keep it. The messages that its retention no longer keeps are there until `release`.
 #[derive(Drop)]
 pub struct StreamState {
-    alloc: Global,
-    stream: FollowedStream,
+    pub(crate) alloc: Global,
+    pub(crate) stream: FollowedStream,
     /// The retention keeps all messages outside it.
-    loose: Span,
+    pub(crate) loose: Span,
 }
 
 impl Model for StreamState {
@@ -177,6 +178,7 @@ impl StreamState {
     /// moment. It takes no memory, and costs what it removes and what the consumers give up.
     pub fn advance(&mut self, now: Moment)
         ensures value { self.new ≡ advance self.old now }
+        ensures current { AreCurrent self.new }
         ensures settled { trim self.new ≡ self.new }
     {
         let now = later(self.stream.moment(), now);
@@ -234,7 +236,7 @@ impl View for StreamState {
 }
 
 /// The later of two moments.
-fn later(one: Moment, other: Moment) -> Moment
+pub(crate) fn later(one: Moment, other: Moment) -> Moment
     ensures value { result ≡ max one other }
 {
     if one.as_nanos() < other.as_nanos() {
