@@ -50,10 +50,22 @@ found_at (g ∷ gs) (suc i) d a l =
 pub there : (fs : List Following) (i : ℕ) (d : Following) → i < length fs → slice_get (consumers_of fs) i ≡ Some (get_or fs i d).consumer
 there fs i d l = slice_get-map (λ f. f.consumer) fs i ∙ ap (option_map (λ (f : Following). f.consumer)) (slice_get-get_or fs i d l)
 
+-- what holds of each consumer holds of it
+pub all_there : (P : Consumer → Type 0) (fs : List Following) (i : ℕ) (d : Following) → i < length fs → All P (consumers_of fs) → P (get_or fs i d).consumer
+all_there P [] i d l a = absurd (omega arith)
+all_there P (g ∷ gs) zero d l a = All-head P g.consumer (consumers_of gs) a
+all_there P (g ∷ gs) (suc i) d l a = all_there P gs i d (omega arith) (All-tail P g.consumer (consumers_of gs) a)
+
 -- ---- another one there
 
+-- it may be the same
+pub set_own : (fs : List Following) (i : ℕ) (d : Following) → set fs i (get_or fs i d) ≡ fs
+set_own [] i d = refl
+set_own (g ∷ gs) zero d = refl
+set_own (g ∷ gs) (suc i) d = ap (λ (fs : List Following). g ∷ fs) (set_own gs i d)
+
 -- where no other has the name, none is replaced
-none_placed : (cs : List Consumer) (new : Consumer) → by_name cs new.name ≡ None → map (in_place_of new) cs ≡ cs
+pub none_placed : (cs : List Consumer) (new : Consumer) → by_name cs new.name ≡ None → map (in_place_of new) cs ≡ cs
 none_placed [] new h = refl
 none_placed (c ∷ cs) new h = go (same c.name new.name) h (none_placed cs new)
   where
@@ -113,11 +125,6 @@ module _ (s : Stream) (fs : List Following) (h : AreFollowed s fs) (i : ℕ) (d 
   pub changed : attended s (set fs i new) ≡ with_consumer (attended s fs) new.consumer
   changed = ap (λ (cs : List Consumer). record s { consumers = cs }) (set_placed fs i d new h.attended.named within turns.name)
 
-  all_held : (gs : List Following) (k : ℕ) → k < length gs → All (HoldsStored (attended s fs)) (consumers_of gs) → HoldsStored (attended s fs) (get_or gs k d).consumer
-  all_held [] k l a = absurd (omega arith)
-  all_held (g ∷ gs) zero l a = All-head (HoldsStored (attended s fs)) g.consumer (consumers_of gs) a
-  all_held (g ∷ gs) (suc k) l a = all_held gs k (omega arith) (All-tail (HoldsStored (attended s fs)) g.consumer (consumers_of gs) a)
-
   held_new : (cs : List Consumer) → All (HoldsStored (attended s fs)) cs → All (HoldsStored (attended s fs)) (map (in_place_of new.consumer) cs)
   held_new [] a = All-nil (HoldsStored (attended s fs))
   held_new (c ∷ cs) a =
@@ -125,7 +132,7 @@ module _ (s : Stream) (fs : List Following) (h : AreFollowed s fs) (i : ℕ) (d 
       (held_new cs (All-tail (HoldsStored (attended s fs)) c cs a))
     where
       one : (b : Bool) → HoldsStored (attended s fs) c → HoldsStored (attended s fs) (cond b new.consumer c)
-      one true k = turns.held (all_held fs i within h.attended.held)
+      one true k = turns.held (all_there (HoldsStored (attended s fs)) fs i d within h.attended.held)
       one false k = k
 
   pub attended_changed : IsAttended (with_consumer (attended s fs) new.consumer)

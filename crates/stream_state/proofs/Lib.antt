@@ -16,4 +16,8 @@ pub mod Acking
 pub mod Counts
 pub mod Hands
 pub mod Makes
+pub mod AtPlaces
+pub mod Calling
+pub mod Refusing
+pub mod Paging
 pub mod Walks

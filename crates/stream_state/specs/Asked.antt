@@ -18,12 +18,13 @@ use Rattle.stream_state.specs.Needing.{NeedSame}
 use Rattle.stream_state.specs.Spans.{spans}
 use Rattle.stream_state.specs.declared.answering.Acked.{Acked}
 
--- it pulls
+-- it pulls, and needs the same messages
 pub record PullsAt (s : Stream) (place : ℕ) (reply : Option Bytes) (ask : Option Ask) (outs_old outs_new : List Out) (new : Stream) : Type 0 where
   pub consumer : Consumer
   pub found : slice_get s.consumers place ≡ Some consumer
   pub outs : outs_new ≡ outs_old ++ pull_outs reply ask consumer
   pub left : new ≡ with_consumer s (pulled s.moment reply ask consumer)
+  pub needed : (m : Message) → NeedSame m new.consumers s.consumers
 
 -- the consumer after an acknowledgement; one of a sequence that was not delivered does nothing
 abbrev pub acked : ℕ → Option Bytes → ℕ → AckKind → Consumer → Consumer

@@ -79,7 +79,8 @@ impl FollowedStream {
         ensures err_outs { OnErr result (outs.new ≡ outs.old) }
     {
         let now = self.stored.moment();
-        self.followers[place].ack(ack, reply, now, outs)
+        let follower = &mut self.followers[place];
+        follower.ack(ack, reply, now, outs)
     }
 
     /// Lets a pull of the consumer at a place wait, at the stream's moment, or tells why it is refused. An `Err` changes nothing and adds nothing.
@@ -97,7 +98,8 @@ impl FollowedStream {
         ensures err_outs { OnErr result (outs.new ≡ outs.old) }
     {
         let now = self.stored.moment();
-        self.followers[place].pull(reply, ask, now, outs)
+        let follower = &mut self.followers[place];
+        follower.pull(reply, ask, now, outs)
     }
 
     /// The information of the consumer at a place.
@@ -135,6 +137,7 @@ impl FollowedStream {
         ensures err { OnErr result (self.new ≡ self.old) }
         ensures err_outs { OnErr result (outs.new ≡ outs.old) }
     {
-        self.followers[place].deliver(&self.stored, listened, outs)
+        let follower = &mut self.followers[place];
+        follower.deliver(&self.stored, listened, outs)
     }
 }

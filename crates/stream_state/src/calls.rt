@@ -54,11 +54,7 @@ impl StreamState {
 
     /// Makes a consumer of a name that none has. It is refused exactly if a rule forbids it, by the first one that does. An `Err` changes nothing. It goes
     /// through the messages.
-    pub fn make_consumer(
-        &mut self,
-        name: &Blob,
-        config: &ConsumerConfig,
-    ) -> Result<(), MakeFault>
+    pub fn make_consumer(&mut self, name: &Blob, config: &ConsumerConfig) -> Result<(), MakeFault>
         requires valid { IsTrue (is_consumer_config config.now) }
         requires absent { by_name self.old.consumers name.now ≡ None }
         ensures made { OnOk result (self.new ≡ record self.old { consumers = with_new self.old.consumers (new_consumer self.old name.now config.now) }) }
@@ -167,7 +163,10 @@ impl StreamState {
     pub fn consumer_names(&self, offset: u64) -> Result<List<Blob>, NoMemory>
         ensures value { IfOk result (λ names. names ≡ page_of 1024 offset (map (λ c. c.name) self.now.consumers)) }
     {
-        names(self.alloc, page(self.stream.followers(), NAMES_PAGE, offset))
+        names(
+            self.alloc,
+            page(self.stream.followers(), NAMES_PAGE, offset),
+        )
     }
 
     /// The information of the consumers from a place on in their order, at most 256.

@@ -113,7 +113,9 @@ impl Need for Follower {
 pub(crate) fn place_of(followers: &[Follower], name: &Blob) -> Option<usize>
     ensures value { result ≡ position (is_named name.now) followers.now }
 {
-    followers.iter().position(|follower| follower.is_named(name))
+    followers
+        .iter()
+        .position(|follower| follower.is_named(name))
 }
 
 /// How many of the first consumers have names before this one.

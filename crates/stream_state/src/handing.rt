@@ -68,7 +68,10 @@ impl Follower {
     fn left_without(&self, message: &Message) -> u64
         ensures value { result ≡ left_after self.now.consumer message.now self.now.undelivered }
     {
-        if self.consumer.awaits(message.subject.as_slice(), message.seq) {
+        if self
+            .consumer
+            .awaits(message.subject.as_slice(), message.seq)
+        {
             self.undelivered.saturating_sub(1)
         } else {
             self.undelivered
