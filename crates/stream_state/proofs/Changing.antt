@@ -2,6 +2,7 @@
 use Rattle.std.proofs.Common.{◌≡◌, ℕ, zero, suc, ◌||◌, ◌<◌, Bool, true, false, cond, List, [], ◌∷◌, Some, None, get_or, set, length, map, refl, sym, ap, subst, ◌∙◌, arith}
 use Rattle.std.specs.Prelude.{All, option_map, slice_get}
 use Rattle.std.specs.List.{list_any}
+use Rattle.std.proofs.lemmas.List.{length-map}
 use Rattle.std.proofs.lemmas.List.Elements.{All-nil, All-cons, All-get_or, All-head, All-set, All-tail, All-weaker}
 use Rattle.std.proofs.lemmas.Option.{slice_get-get_or, slice_get-map}
 use Rattle.js_base.specs.Bytes.{Bytes, same}
@@ -49,6 +50,10 @@ found_at (g ∷ gs) (suc i) d a l =
 
 pub there : (fs : List Following) (i : ℕ) (d : Following) → i < length fs → slice_get (consumers_of fs) i ≡ Some (get_or fs i d).consumer
 there fs i d l = slice_get-map (λ f. f.consumer) fs i ∙ ap (option_map (λ (f : Following). f.consumer)) (slice_get-get_or fs i d l)
+
+-- a place of a consumer is one of a follower
+pub place_there : (s t : Stream) (fs : List Following) (i : ℕ) → attended s fs ≡ t → i < length t.consumers → i < length fs
+place_there s t fs i e l = subst (λ n. i < n) (ap (λ (x : Stream). length x.consumers) (sym e) ∙ length-map fs (λ f. f.consumer)) l
 
 -- what holds of each consumer holds of it
 pub all_there : (P : Consumer → Type 0) (fs : List Following) (i : ℕ) (d : Following) → i < length fs → All P (consumers_of fs) → P (get_or fs i d).consumer
