@@ -97,8 +97,9 @@ impl StreamState {
         let Some(place) = self.stream.place(name) else {
             return Ok(Reply::Refused(no_consumer(self.alloc)?));
         };
+        let last = self.stream.last();
         self.stream.drop_consumer(place, outs)?;
-        self.loose = Span::up_to(self.stream.last());
+        self.loose = Span::up_to(last);
         Ok(Reply::Done)
     }
 

@@ -21,5 +21,5 @@ returns c =
     let i = c.self.inside in
     let l = place_there i.stored c.args.self.now i.followers.items c.args.place c.self.view_is c.requires.within in
     let w = acks_at i.stored i.followers.items c.self.invariant c.args.place c.index_mut-follower.result.now l c.index_mut-follower.ensures.value c.ack.result c.moment-now.result _ c.args.ack.now.seq c.args.ack.now.kind _ _ c.ack.new.self
-        c.moment-now.ensures.value c.ack.ensures.acked c.ack.ensures.err in
+    c.moment-now.ensures.value c.ack.ensures.acked c.ack.ensures.err in
     record { acked = rw (← c.self.view_is) w.ok; sound = w.sound; err = rw (← c.self.view_is) w.err; err_outs = c.ack.ensures.err_outs }

@@ -1,6 +1,8 @@
 use Rattle.std.proofs.Common.{◌≡◌, ◌<◌, length, ap, sym, subst, ◌∙◌, arith}
 use Rattle.js_model.specs.declared.stream.Stream.{Stream}
 use Rattle.stream_state.specs.Delivering.{AreCurrent}
+use Rattle.stream_state.specs.Followers.{attended}
+use Rattle.stream_state.proofs.Attending.{sound_with}
 use Rattle.stream_state.proofs.AtPlaces.{current_there, hands_at, Follows}
 use Rattle.stream_state.proofs.Changing.{place_there}
 use Rattle.stream_state.proofs.asking.FollowedStream.deliver.Goals as goal
@@ -16,7 +18,7 @@ deliver-requires c =
     let i = c.self.inside in
     let l = place_there i.stored c.args.self.now i.followers.items c.args.place c.self.view_is c.requires.within in
     record {
-      sound = c.self.invariant.attended.sound;
+      sound = sound_with (attended i.stored i.followers.items) i.stored.consumers c.self.invariant.attended.sound;
       current = current_there i.stored i.followers.items c.self.invariant c.args.place c.index_mut-follower.result.now l c.index_mut-follower.ensures.value (subst AreCurrent (sym c.self.view_is) c.requires.current);
     }
 

@@ -21,5 +21,5 @@ returns c =
     let i = c.self.inside in
     let l = place_there i.stored c.args.self.now i.followers.items c.args.place c.self.view_is c.requires.within in
     let w = pulls i.stored i.followers.items c.self.invariant c.args.place c.index_mut-follower.result.now l c.index_mut-follower.ensures.value c.pull.result c.moment-now.result _ c.args.ask _ _ c.pull.new.self c.moment-now.ensures.value
-        c.pull.ensures.ok c.pull.ensures.outs c.pull.ensures.err in
+    c.pull.ensures.ok c.pull.ensures.outs c.pull.ensures.err in
     record { pulled = rw (← c.self.view_is) w.ok; sound = w.sound; err = rw (← c.self.view_is) w.err; err_outs = c.pull.ensures.err_outs }
