@@ -1,8 +1,9 @@
 -- What a stream and its consumers come to if the one at a place is asked.
 use Rattle.std.proofs.Common.{◌≡◌, ℕ, ◌+◌, ◌<◌, Bool, true, false, List, [], ◌∷◌, ◌++◌, Option, Some, None, Result, Ok, Err, get_or, set, length, map, refl, sym, ap, subst, ◌∙◌}
-use Rattle.std.specs.Prelude.{All, Contains, IfOk, OnErr, OnOk, slice_get}
+use Rattle.std.specs.Prelude.{All, Contains, IfOk, OnErr, OnOk, filter, not, slice_get}
+use Rattle.std.specs.List.{remove}
 use Rattle.std.proofs.lemmas.List.Elements.{All-get_or, All-weaker}
-use Rattle.js_base.specs.Bytes.{Bytes}
+use Rattle.js_base.specs.Bytes.{Bytes, same}
 use Rattle.js_base.specs.declared.out.Out.{Out}
 use Rattle.js_model.specs.declared.ack.Ask.{Ask}
 use Rattle.js_model.specs.declared.ack.AckKind.{AckKind}
@@ -13,6 +14,7 @@ use Rattle.js_model.specs.declared.consumer_config.ConsumerConfig.{ConsumerConfi
 use Rattle.js_model.specs.declared.entry.Delivered.{Delivered}
 use Rattle.js_model.specs.declared.entry.Delivered.TheVariants.{Sent, TooSmall, Emptied}
 use Rattle.js_model.specs.Deliver.{candidates, Delivers}
+use Rattle.js_model.specs.Events.{farewells}
 use Rattle.js_model.specs.Pulls.{pulled, pull_outs}
 use Rattle.js_model.specs.Ready.{is_ready_with}
 use Rattle.js_model.specs.Retention.{needs}
@@ -20,7 +22,7 @@ use Rattle.js_model.specs.Streams.{passes_filter, takes, with_consumer}
 use Rattle.consumer_need.specs.Stored.{HoldsStored}
 use Rattle.consumer_state.specs.Delivering.{IsReady}
 use Rattle.consumer_state.specs.Offering.{IsCurrent}
-use Rattle.stream_state.specs.Asked.{acked, acked_outs, AcksAt, IsAcked, PullsAt}
+use Rattle.stream_state.specs.Asked.{acked, acked_outs, AcksAt, DropsAt, IsAcked, PullsAt}
 use Rattle.stream_state.specs.declared.answering.Acked.{Acked}
 use Rattle.stream_state.specs.Attended.{IsAttended}
 use Rattle.stream_state.specs.Delivering.{AreCurrent, IsCurrentAt, IsReadyAt, IsReadyIf}
@@ -29,6 +31,7 @@ use Rattle.stream_state.specs.Handing.{is_of, DeliversFor, MayHandAt}
 use Rattle.stream_state.specs.Needing.{NeedSame}
 use Rattle.stream_state.proofs.Acking.{acked_lessens, pulled_lessens, pulled_needs, takes_same, turned, Lessens}
 use Rattle.stream_state.proofs.Changing.{all_there, changed, consumers_of, followed_changed, need_same_there, set_own, there, Turns}
+use Rattle.stream_state.proofs.Makes.{dropped, followed_dropped}
 
 -- ---- of what candidates and readiness are told
 
@@ -202,3 +205,16 @@ module _ (s : Stream) (fs : List Following) (h : AreFollowed s fs) (i : ℕ) (ol
         held = λ k. let w = is.held in record { picks = w.picks; pending = w.pending; given_up = w.given_up };
         counted = λ k. is.counted;
       }
+
+  -- ---- its end
+
+  pub drops : (outs_old outs_new : List Out) → outs_new ≡ outs_old ++ farewells old.consumer → DropsAt whole i outs_old outs_new (attended s (remove fs i))
+  drops outs_old outs_new outs = record {
+    consumer = old.consumer;
+    found = found;
+    outs = outs;
+    left = dropped s fs h i old within ∙ ap (λ (f : Following). record whole { consumers = filter (λ e. not (same e.name f.consumer.name)) whole.consumers }) (sym at);
+  }
+
+  pub followed_without : AreFollowed s (remove fs i)
+  followed_without = followed_dropped s fs h i old within

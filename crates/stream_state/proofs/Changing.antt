@@ -1,5 +1,5 @@
 -- A stream with another consumer at a place.
-use Rattle.std.proofs.Common.{◌≡◌, ℕ, zero, suc, ◌||◌, ◌<◌, Bool, true, false, cond, List, [], ◌∷◌, Some, None, get_or, set, length, map, refl, sym, ap, subst, ◌∙◌, arith}
+use Rattle.std.proofs.Common.{◌≡◌, ℕ, zero, suc, ◌||◌, ◌<◌, Bool, true, false, cond, List, [], ◌∷◌, Option, Some, None, get_or, set, length, map, refl, sym, ap, subst, ◌∙◌, arith}
 use Rattle.std.specs.Prelude.{All, option_map, slice_get}
 use Rattle.std.specs.List.{list_any}
 use Rattle.std.proofs.lemmas.List.{length-map}
@@ -50,6 +50,10 @@ found_at (g ∷ gs) (suc i) d a l =
 
 pub there : (fs : List Following) (i : ℕ) (d : Following) → i < length fs → slice_get (consumers_of fs) i ≡ Some (get_or fs i d).consumer
 there fs i d l = slice_get-map (λ f. f.consumer) fs i ∙ ap (option_map (λ (f : Following). f.consumer)) (slice_get-get_or fs i d l)
+
+-- what stands there, if there is one
+pub got : (fs : List Following) (i : ℕ) (o : Option Following) → o ≡ slice_get fs i → slice_get (consumers_of fs) i ≡ option_map (λ f. f.consumer) o
+got fs i o e = slice_get-map (λ f. f.consumer) fs i ∙ ap (option_map (λ (f : Following). f.consumer)) (sym e)
 
 -- a place of a consumer is one of a follower
 pub place_there : (s t : Stream) (fs : List Following) (i : ℕ) → attended s fs ≡ t → i < length t.consumers → i < length fs
