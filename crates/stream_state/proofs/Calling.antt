@@ -22,20 +22,21 @@ use Rattle.js_model.specs.Streams.{by_name, in_place_of, with_consumer}
 use Rattle.js_model.proofs.Members.{all_in}
 use Rattle.js_model.proofs.Named.{found_named, none_some, same_is, some_is}
 use Rattle.stream_state.specs.Answering.{Answers}
-use Rattle.stream_state.specs.Asked.{AcksAt, DropsAt, PullsAt}
-use Rattle.stream_state.specs.declared.answering.Acked.{Acked}
-use Rattle.stream_state.specs.Attended.{AreNamedApart}
-use Rattle.stream_state.specs.Delivering.{DeliversAt}
-use Rattle.stream_state.specs.Handing.{is_of, HandsAt}
-use Rattle.stream_state.specs.Needing.{NeedSame}
-use Rattle.stream_state.specs.Placing.{IsNamedAt}
-use Rattle.stream_state.specs.Spans.{joined, spans, IsKeptOutside}
-use Rattle.stream_state.specs.declared.span.Span.{Span}
-use Rattle.stream_state.proofs.Changing.{none_placed}
-use Rattle.stream_state.proofs.Needing.{kept_alike}
+use Rattle.followed_stream.specs.Asked.{AcksAt, DropsAt, PullsAt}
+use Rattle.followed_stream.specs.declared.answering.Acked.{Acked}
+use Rattle.followed_stream.specs.Attended.{AreNamedApart}
+use Rattle.followed_stream.specs.Delivering.{DeliversAt}
+use Rattle.followed_stream.specs.Handing.{is_of, HandsAt}
+use Rattle.followed_stream.specs.Needing.{NeedSame}
+use Rattle.followed_stream.specs.Placing.{IsNamedAt}
+use Rattle.followed_stream.specs.Spans.{joined, spans, IsKeptOutside}
+use Rattle.followed_stream.specs.declared.span.Span.{Span}
+use Rattle.followed_stream.proofs.Changing.{none_placed}
+use Rattle.followed_stream.proofs.Needing.{kept_alike}
 use Rattle.stream_state.proofs.Settling.{outside_same}
-use Rattle.stream_state.proofs.Spanning.{outside_first, outside_second}
-use Rattle.stream_state.proofs.Unkept.{all_from_in, keeps}
+use Rattle.followed_stream.proofs.Spanning.{outside_first, outside_second}
+use Rattle.followed_stream.proofs.Holding.{all_from_in}
+use Rattle.stream_state.proofs.Unkept.{keeps}
 
 -- ---- the consumer itself in its place
 

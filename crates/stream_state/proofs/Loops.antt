@@ -12,14 +12,14 @@ use Rattle.js_model.specs.Streams.{only}
 use Rattle.js_model.specs.Trim.{trim}
 use Rattle.retention.specs.Over.{is_over_on, next_over, over_stream, over_subject}
 use Rattle.retention.specs.Laws.{LawWithin, LawWithout}
-use Rattle.stream_state.specs.Attended.{without_seq, without_seqs, IsAttended}
+use Rattle.followed_stream.specs.Attended.{without_seq, without_seqs, IsAttended}
 use Rattle.js_model.proofs.Members.{IsIn, in_part}
 use Rattle.js_model.proofs.Parts.{filter_part}
 use Rattle.stored_stream.specs.Selecting.{next_passing}
 use Rattle.stored_stream.proofs.Finding.{fails_before, find_from}
 use Rattle.stored_stream.proofs.Limiting.{no_subject, over_on_less}
-use Rattle.stream_state.proofs.Attending.{coherent, leaves_none, leaves_more, Leaves}
-use Rattle.stream_state.proofs.Going.{trim_without, without_none, without_one_more}
+use Rattle.followed_stream.proofs.Attending.{coherent, leaves_none, leaves_more, Leaves}
+use Rattle.followed_stream.proofs.Going.{trim_without, without_none, without_one_more}
 use Rattle.stored_stream.proofs.Purges.{take_long}
 
 -- messages that are too old have gone

@@ -8,7 +8,7 @@ use Rattle.js_model.specs.declared.consumer.Consumer.{Consumer}
 use Rattle.js_model.specs.Advance.{advance_outs, consumer_outs, young}
 use Rattle.js_model.specs.Events.{page_of}
 use Rattle.js_model.specs.Streams.{confined, seqs}
-use Rattle.stream_state.specs.Followers.{Following}
+use Rattle.followed_stream.specs.Followers.{Following}
 
 pub page_map : {X Y : Type 0} (f : X → Y) (most offset : ℕ) (xs : List X) → map f (page_of most offset xs) ≡ page_of most offset (map f xs)
 page_map f most offset xs = sym (take-map f most (drop offset xs)) ∙ ap (take most) (sym (drop-map f offset xs))

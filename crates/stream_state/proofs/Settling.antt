@@ -20,14 +20,15 @@ use Rattle.retention.proofs.Dropping.{limits_keep_part, trim_only}
 use Rattle.retention.proofs.Following.{law_within}
 use Rattle.stored_stream.proofs.Limiting.{within_less}
 use Rattle.stored_stream.proofs.Sounding.{with_message_is}
-use Rattle.stream_state.specs.Attended.{IsAttended}
-use Rattle.stream_state.specs.Needing.{NeedSame}
-use Rattle.stream_state.specs.Spans.{joined, spans, IsKeptOutside}
-use Rattle.stream_state.specs.declared.span.Span.{Span}
-use Rattle.stream_state.proofs.Attending.{coherent}
-use Rattle.stream_state.proofs.Needing.{kept_alike}
-use Rattle.stream_state.proofs.Spanning.{outside_first, outside_second, spans_all, spans_one, spans_second}
-use Rattle.stream_state.proofs.Unkept.{all_from_in, keeps, keeps_less, outside_less}
+use Rattle.followed_stream.specs.Attended.{IsAttended}
+use Rattle.followed_stream.specs.Needing.{NeedSame}
+use Rattle.followed_stream.specs.Spans.{joined, spans, IsKeptOutside}
+use Rattle.followed_stream.specs.declared.span.Span.{Span}
+use Rattle.followed_stream.proofs.Attending.{coherent}
+use Rattle.followed_stream.proofs.Needing.{kept_alike}
+use Rattle.followed_stream.proofs.Spanning.{outside_first, outside_second, spans_all, spans_one, spans_second}
+use Rattle.followed_stream.proofs.Holding.{all_from_in}
+use Rattle.stream_state.proofs.Unkept.{keeps, keeps_less, outside_less}
 
 pub trimmed : (s : Stream) → IsAttended s → next_over s ≡ None → trim s ≡ s
 trimmed s h within = law_within s (coherent s h) within
@@ -43,9 +44,6 @@ outside_same span other s t messages retention wider same h = record {
       (λ m k e. kept_alike t.config.retention m t.consumers s.consumers (same m e) ∙ ap (λ policy. is_kept policy s.consumers m) retention ∙ k (wider m e))
       s.messages h.kept);
 }
-
-pub same_need : (m : Message) (cs : List Consumer) → NeedSame m cs cs
-same_need m cs = record { needed = refl; taken = refl }
 
 pub outside_published : (span other : Span) (s : Stream) (p : Publish) → ((m : Message) → spans other m.seq ≡ false → spans span m.seq ≡ false) → spans other (s.last + 1) ≡ true → IsKeptOutside span s → IsKeptOutside other (with_message s p)
 outside_published span other s p wider own h = subst (IsKeptOutside other) (sym (with_message_is s p)) (record {

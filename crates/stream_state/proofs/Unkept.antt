@@ -18,19 +18,15 @@ use Rattle.stored_stream.specs.Selecting.{next_passing}
 use Rattle.stored_stream.proofs.Finding.{fails_before, find_from, member_found}
 use Rattle.stored_stream.proofs.Limiting.{none_found}
 use Rattle.stored_stream.proofs.Lists.{filter_all}
-use Rattle.stream_state.specs.Attended.{without_seq, IsAttended}
-use Rattle.stream_state.specs.Spans.{spans, IsKeptOutside}
-use Rattle.stream_state.specs.declared.span.Span.{Span}
-use Rattle.stream_state.proofs.Holding.{filter_agree_on}
-use Rattle.stream_state.proofs.Needing.{kept_same, seq_in}
+use Rattle.followed_stream.specs.Attended.{without_seq, IsAttended}
+use Rattle.followed_stream.specs.Spans.{spans, IsKeptOutside}
+use Rattle.followed_stream.specs.declared.span.Span.{Span}
+use Rattle.followed_stream.proofs.Holding.{all_from_in, filter_agree_on}
+use Rattle.followed_stream.proofs.Needing.{kept_same, seq_in}
 
 -- what is kept of a stream
 abbrev pub keeps : Stream → Message → Bool
 keeps s m = is_kept s.config.retention s.consumers m
-
-pub all_from_in : {X : Type 0} (P : X → Type 0) (xs : List X) → ((x : X) → IsIn x xs → P x) → All P xs
-all_from_in P [] h = All-nil P
-all_from_in P (x ∷ xs) h = All-cons P x xs (h x here) (all_from_in P xs (λ y i. h y (there i)))
 
 -- a stream with some of its messages keeps those that it kept
 pub keeps_less : (s : Stream) {ms : List Message} → IsPart ms s.messages → (m : Message) → IsIn m ms → keeps (only s ms) m ≡ keeps s m

@@ -1,11 +1,2 @@
-pub mod Attended
-pub mod Followers
-pub mod Needing
-pub mod Spans
 pub mod Settled
 pub mod Answering
-pub mod Delivering
-pub mod Placing
-pub mod Asked
-pub mod Counting
-pub mod Handing

@@ -2,9 +2,9 @@
 use Rattle.std.specs.Prelude.{◌≡◌, None}
 use Rattle.js_model.specs.declared.stream.Stream.{Stream}
 use Rattle.retention.specs.Over.{next_over}
-use Rattle.stream_state.specs.Attended.{IsAttended}
-use Rattle.stream_state.specs.Spans.{IsKeptOutside}
-use Rattle.stream_state.specs.declared.span.Span.{Span}
+use Rattle.followed_stream.specs.Attended.{IsAttended}
+use Rattle.followed_stream.specs.Spans.{IsKeptOutside}
+use Rattle.followed_stream.specs.declared.span.Span.{Span}
 
 -- its limits hold, and its retention keeps the messages outside a span
 pub record IsSettled (s : Stream) (loose : Span) : Type 0 where

@@ -3,9 +3,9 @@
 ghost use Rattle.std.specs.Prelude.{◌≡◌};
 ghost use Rattle.js_model.specs.Advance.{young};
 ghost use Rattle.js_model.specs.Streams.{only};
-ghost use Rattle.stream_state.specs.Attended.{IsAttended};
+ghost use Rattle.followed_stream.specs.Attended.{IsAttended};
 
-use crate::followed::FollowedStream;
+use followed_stream::FollowedStream;
 use js_base::Moment;
 use stored_stream::first_old;
 

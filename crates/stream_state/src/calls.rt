@@ -13,15 +13,14 @@ ghost use Rattle.js_model.specs.Trim.{trim};
 ghost use Rattle.consumer_need.specs.Stored.{HoldsStored};
 ghost use Rattle.consumer_state.specs.Making.{IsRefusal};
 ghost use Rattle.stream_state.specs.Answering.{Answers};
-ghost use Rattle.stream_state.specs.Delivering.{AreCurrent, DeliversAt, IsReadyAt};
+ghost use Rattle.followed_stream.specs.Delivering.{AreCurrent, DeliversAt, IsReadyAt};
 
-use crate::answering::Acked;
 use crate::listing::{infos, names, page};
 use crate::rules::{has_rival, is_work_queue, max_consumers};
-use crate::span::Span;
 use crate::state::{StreamState, later};
 use crate::telling::tell_all;
 use consumer_state::{Consumer, MakeFault, policy_refusal};
+use followed_stream::{Acked, Span};
 use js_base::{ApiError, Blob, List, Moment, NoMemory, Outs};
 use js_model::refusals::{max_consumers_reached, no_consumer, work_queue_rule};
 use js_model::{Ack, Ask, ConsumerConfig, ConsumerInfo, Delivery, Reply};

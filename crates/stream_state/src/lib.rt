@@ -1,21 +1,12 @@
-//! A stream with its consumers: what is stored, what its limits and its retention keep of it, and what its consumers make of it.
+//! A stream with its consumers, as its limits and its retention keep it, and what its consumers are asked.
 #![tactic(auto)]
 
 mod ageing;
-mod answering;
-mod asking;
 mod calls;
-mod counting;
-mod ending;
-mod followed;
-mod follower;
-mod handing;
 mod listing;
-mod passing;
 mod releasing;
 mod removing;
 mod rules;
-mod span;
 mod state;
 mod telling;
 mod trimming;

@@ -5,7 +5,7 @@ ghost use Rattle.js_model.specs.declared.stream.Stream.{Stream};
 ghost use Rattle.js_model.specs.Counts.{consumer_info, pending_count};
 ghost use Rattle.js_model.specs.Events.{page_of};
 
-use crate::follower::Follower;
+use followed_stream::Follower;
 use js_base::{Blob, List, NoMemory};
 use js_model::ConsumerInfo;
 use std::alloc::Global;

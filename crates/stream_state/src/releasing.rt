@@ -3,11 +3,10 @@
 ghost use Rattle.std.specs.Prelude.{◌≡◌, ◌&&◌, not, nat_le};
 ghost use Rattle.js_model.specs.Retention.{is_kept, kept};
 ghost use Rattle.stored_stream.specs.Selecting.{next_passing};
-ghost use Rattle.stream_state.specs.Attended.{IsAttended};
-ghost use Rattle.stream_state.specs.Spans.{IsKeptOutside};
+ghost use Rattle.followed_stream.specs.Attended.{IsAttended};
+ghost use Rattle.followed_stream.specs.Spans.{IsKeptOutside};
 
-use crate::followed::FollowedStream;
-use crate::span::Span;
+use followed_stream::{FollowedStream, Span};
 use js_model::{Message, Retention};
 use retention::is_kept;
 use stream_view::View;

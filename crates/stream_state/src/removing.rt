@@ -1,9 +1,9 @@
 //! Messages that are removed on request.
 
 ghost use Rattle.std.specs.Prelude.{◌≡◌};
-ghost use Rattle.stream_state.specs.Attended.{without_seqs, IsAttended};
+ghost use Rattle.followed_stream.specs.Attended.{without_seqs, IsAttended};
 
-use crate::followed::FollowedStream;
+use followed_stream::FollowedStream;
 
 /// Takes the messages of these sequences out. It takes no memory.
 pub(crate) fn remove_all(stream: &mut FollowedStream, gone: &[u64])

@@ -6,7 +6,7 @@ ghost use Rattle.js_model.specs.declared.stream_config.Retention.TheVariants.{Wo
 ghost use Rattle.js_model.specs.Configs.{same_retention};
 ghost use Rattle.js_model.specs.Consumers.{filters_meet, is_rival};
 
-use crate::follower::Follower;
+use followed_stream::Follower;
 use js_base::Blob;
 use js_model::{ConsumerConfig, Retention, StreamConfig};
 use subject_match::overlaps;
@@ -44,7 +44,7 @@ pub(crate) fn has_rival(followers: &[Follower], name: &Blob, config: &ConsumerCo
 fn is_rival(follower: &Follower, name: &Blob, config: &ConsumerConfig) -> bool
     ensures value { result ≡ is_rival name.now config.now follower.now.consumer }
 {
-    let own = follower.consumer.config().filter_subject.as_slice();
+    let own = follower.config().filter_subject.as_slice();
     !follower.is_named(name) && filters_meet(own, config.filter_subject.as_slice())
 }
 

@@ -13,14 +13,13 @@ ghost use Rattle.js_model.specs.Proper.{is_proper_publish};
 ghost use Rattle.js_model.specs.Retention.{kept};
 ghost use Rattle.js_model.specs.Trim.{trim};
 ghost use Rattle.js_model.specs.Verdict.{last_on, verdict};
-ghost use Rattle.stream_state.specs.Delivering.{AreCurrent};
+ghost use Rattle.followed_stream.specs.Delivering.{AreCurrent};
 
 use crate::ageing::drop_old;
-use crate::followed::FollowedStream;
 use crate::releasing::release;
 use crate::removing::remove_all;
-use crate::span::Span;
 use crate::trimming::{trim, trim_on};
+use followed_stream::{FollowedStream, Span};
 use js_base::{Moment, NoMemory};
 use js_model::{Message, Publish, StreamConfig, Verdict};
 use std::alloc::Global;

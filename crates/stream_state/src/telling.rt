@@ -4,8 +4,8 @@ ghost use Rattle.std.specs.Prelude.{◌≡◌, ◌++◌, IfOk, OnOk, OnErr};
 ghost use Rattle.std.specs.List.{flat_map};
 ghost use Rattle.js_model.specs.Advance.{consumer_outs};
 
-use crate::follower::Follower;
 use consumer_texts::append;
+use followed_stream::Follower;
 use js_base::{List, Moment, NoMemory, Outs};
 use std::alloc::Global;
 
@@ -29,7 +29,7 @@ fn told(alloc: Global, followers: &[Follower], now: Moment) -> Result<Outs, NoMe
 {
     let mut told = List::new(alloc);
     for follower in followers {
-        follower.consumer.tell_advance(now, &mut told)?;
+        follower.tell_advance(now, &mut told)?;
     }
     Ok(told)
 }

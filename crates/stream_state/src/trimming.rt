@@ -4,9 +4,9 @@ ghost use Rattle.std.specs.Prelude.{◌≡◌, None, false};
 ghost use Rattle.js_base.specs.Bytes.{Bytes};
 ghost use Rattle.js_model.specs.Trim.{trim};
 ghost use Rattle.retention.specs.Over.{is_over_on, next_over, IsOverOnlyOn};
-ghost use Rattle.stream_state.specs.Attended.{IsAttended};
+ghost use Rattle.followed_stream.specs.Attended.{IsAttended};
 
-use crate::followed::FollowedStream;
+use followed_stream::FollowedStream;
 use retention::over_limits_on;
 use stored_stream::first_crowded;
 use stream_view::View;

@@ -5,7 +5,7 @@ use Rattle.js_model.specs.declared.stream.Stream.{Stream}
 use Rattle.js_model.specs.Advance.{young}
 use Rattle.js_model.specs.Events.{message_at}
 use Rattle.stored_stream.specs.Stored.{without}
-use Rattle.stream_state.proofs.Followings.{sound_as}
+use Rattle.followed_stream.proofs.Followings.{sound_as}
 use Rattle.stream_state.proofs.Loops.{ages_none, ages_more, ages_all}
 use Rattle.stream_state.proofs.ageing.drop_old.Goals as goal
 

@@ -2,7 +2,7 @@ use Rattle.std.proofs.Common.{◌≡◌, map, take}
 use Rattle.std.specs.Prelude.{All}
 use Rattle.js_model.specs.declared.stream.Stream.{Stream}
 use Rattle.js_model.specs.Counts.{consumer_info, pending_count}
-use Rattle.stream_state.specs.Followers.{Following}
+use Rattle.followed_stream.specs.Followers.{Following}
 use Rattle.stream_state.proofs.listing.infos.Given as goal
 
 -- the informations so far

@@ -1,5 +1,5 @@
 use Rattle.std.proofs.Common.{◌≡◌, map, take}
-use Rattle.stream_state.specs.Followers.{Following}
+use Rattle.followed_stream.specs.Followers.{Following}
 use Rattle.stream_state.proofs.listing.names.Given as goal
 
 -- the names so far

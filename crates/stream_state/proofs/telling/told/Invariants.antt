@@ -1,7 +1,7 @@
 use Rattle.std.proofs.Common.{◌≡◌, take}
 use Rattle.std.specs.List.{flat_map}
 use Rattle.js_model.specs.Advance.{consumer_outs}
-use Rattle.stream_state.specs.Followers.{Following}
+use Rattle.followed_stream.specs.Followers.{Following}
 use Rattle.stream_state.proofs.telling.told.Given as goal
 
 -- what those so far send

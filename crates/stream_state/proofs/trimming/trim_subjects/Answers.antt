@@ -5,7 +5,7 @@ use Rattle.js_model.specs.declared.stream.Stream.{Stream}
 use Rattle.retention.specs.Over.{is_over_on}
 use Rattle.retention.proofs.Following.{law_without}
 use Rattle.stored_stream.specs.Selecting.{next_passing}
-use Rattle.stream_state.proofs.Followings.{sound_as}
+use Rattle.followed_stream.proofs.Followings.{sound_as}
 use Rattle.stream_state.proofs.Loops.{over_found, over_next, thins_none, thins_more, thins_all}
 use Rattle.stream_state.proofs.trimming.trim_subjects.Goals as goal
 

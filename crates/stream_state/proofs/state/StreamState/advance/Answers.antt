@@ -4,7 +4,7 @@ use Rattle.js_model.specs.Advance.{consumer_at, remembered, young}
 use Rattle.js_model.specs.Streams.{only}
 use Rattle.js_model.proofs.Parts.{young_part}
 use Rattle.retention.specs.Over.{next_over}
-use Rattle.stream_state.proofs.Going.{within_only}
+use Rattle.followed_stream.proofs.Going.{within_only}
 use Rattle.stream_state.proofs.Settling.{advanced, advanced_kept, trimmed}
 use Rattle.stream_state.proofs.state.StreamState.advance.Goals as goal
 

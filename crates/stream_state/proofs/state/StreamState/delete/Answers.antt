@@ -1,7 +1,7 @@
 use Rattle.std.proofs.Common.{◌≡◌, None, refl, ◌∙◌}
 use Rattle.js_model.proofs.Parts.{filter_part}
 use Rattle.retention.specs.Over.{next_over}
-use Rattle.stream_state.proofs.Going.{deleted_is, within_only}
+use Rattle.followed_stream.proofs.Going.{deleted_is, within_only}
 use Rattle.stream_state.proofs.Unkept.{outside_less}
 use Rattle.stream_state.proofs.Settling.{trimmed}
 use Rattle.stream_state.proofs.state.StreamState.delete.Goals as goal

@@ -5,9 +5,9 @@ use Rattle.js_model.specs.declared.stream.Stream.{Stream}
 use Rattle.js_model.specs.Events.{purge_list}
 use Rattle.js_model.specs.Streams.{seqs}
 use Rattle.retention.specs.Over.{next_over}
-use Rattle.stream_state.specs.Attended.{without_seqs}
-use Rattle.stream_state.proofs.Followings.{sound_as}
-use Rattle.stream_state.proofs.Going.{within_only, without_messages_part}
+use Rattle.followed_stream.specs.Attended.{without_seqs}
+use Rattle.followed_stream.proofs.Followings.{sound_as}
+use Rattle.followed_stream.proofs.Going.{within_only, without_messages_part}
 use Rattle.stream_state.proofs.Unkept.{outside_less}
 use Rattle.stream_state.proofs.Settling.{trimmed}
 use Rattle.stream_state.proofs.state.StreamState.purge.Goals as goal

@@ -1,7 +1,7 @@
 use Rattle.std.proofs.Common.{ap, ◌∙◌}
 use Rattle.js_model.specs.declared.stream.Stream.{Stream}
 use Rattle.retention.specs.Over.{next_over}
-use Rattle.stream_state.proofs.Followings.{sound_as, verdict_as}
+use Rattle.followed_stream.proofs.Followings.{sound_as, verdict_as}
 use Rattle.stream_state.proofs.state.StreamState.verdict.Goals as goal
 
 pub verdict-requires-clause-sound : goal.verdict-requires-clause-sound
