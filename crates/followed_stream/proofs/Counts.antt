@@ -19,7 +19,7 @@ module _ (t : Message → Bool) (high : ℕ) (ms : List Message) (ascends : Betw
     where
       go : (b : Bool) → length (cond b (first ∷ filter t l) (filter t l)) ≡ cond b 1 0 + length (filter t l)
       go true = omega arith
-      go false = refl
+      go false = omega arith
 
   pub counts_more : (from count : ℕ) (m : Message) → IsCountTo t ms from count → Some m ≡ find (λ x. nat_le from x.seq) ms → IsCountTo t ms (m.seq + 1) (count + cond (t m) 1 0)
   counts_more from count m h e =
