@@ -15,11 +15,11 @@ use Rattle.js_model.specs.Deliver.{address, candidates, count_of, delivery_out, 
 use Rattle.js_model.specs.Ready.{is_ready_with}
 use Rattle.js_model.specs.Streams.{is_push, sent_size}
 use Rattle.js_model.proofs.Members.{IsIn, in_from_contains}
-use Rattle.consumer_texts.specs.Letter.{letter}
+use Rattle.consumer_texts.specs.Deliveries.{delivery_of}
 use Rattle.consumer_state.specs.declared.delivering.Demand.{Demand}
 use Rattle.consumer_state.specs.declared.delivering.Demand.TheVariants.{Asked, TooSmall, Nobody}
-use Rattle.consumer_state.specs.Delivering.{demand_of, front_demand, left_after, EndsHasty, EndsSmall, IsHeard, IsMade, IsReady, SendsOut}
-use Rattle.consumer_state.proofs.Offers.{hasty}
+use Rattle.consumer_state.specs.Delivering.{demand_of, front_demand, left_after, EndsNoWait, EndsSmall, IsHeard, IsMade, IsReady, SendsOut}
+use Rattle.consumer_state.proofs.Offers.{any_no_wait}
 
 -- ---- who asks
 
@@ -129,7 +129,7 @@ sent_made a listened m undelivered old what outs_old outs_new new candidate aske
       own = delivery_out a old (sent_to a.moment m old) m (count_of old m.seq + 1) ∷ [];
       outs_are =
           w.outs_are
-          ∙ ap (λ n. outs_old ++ letter (record { stream = a.config.name; consumer = old.name; count = count_of old m.seq + 1; dseq = old.dseq + 1; left = n }) (address old) m ∷ []) (sym left);
+          ∙ ap (λ n. outs_old ++ delivery_of (record { stream = a.config.name; consumer = old.name; count = count_of old m.seq + 1; dseq = old.dseq + 1; left = n }) (address old) m ∷ []) (sym left);
       delivers = λ listening heard. record {
         message = m;
         candidate = candidate;
@@ -171,9 +171,9 @@ small_made a listened m undelivered old what outs_old outs_new new candidate dem
       left = sym count;
     }
 
-pub hasty_made : (a : Stream) (listened : Bool) (undelivered : ℕ) (old : Consumer) (what : Delivered) (outs_old outs_new : List Out) (new : Consumer) → candidates a old ≡ [] → undelivered ≡ pending_count a old
-    → EndsHasty old what outs_old outs_new new → IsMade a listened None undelivered old what outs_old outs_new new
-hasty_made a listened undelivered old what outs_old outs_new new none count w =
+pub no_wait_made : (a : Stream) (listened : Bool) (undelivered : ℕ) (old : Consumer) (what : Delivered) (outs_old outs_new : List Out) (new : Consumer) → candidates a old ≡ [] → undelivered ≡ pending_count a old
+    → EndsNoWait old what outs_old outs_new new → IsMade a listened None undelivered old what outs_old outs_new new
+no_wait_made a listened undelivered old what outs_old outs_new new none count w =
     subst (λ z. IsMade a listened None undelivered old z outs_old outs_new new) (sym w.what_is) (subst (λ z. IsMade a listened None undelivered old Emptied outs_old outs_new z) (sym w.after_is) made)
   where
     made : IsMade a listened None undelivered old Emptied outs_old outs_new (record old { waiting = without_first (λ p. p.no_wait) old.waiting })
@@ -186,5 +186,5 @@ hasty_made a listened undelivered old what outs_old outs_new new none count w =
     }
 
 -- a pull that does not wait ends exactly if there is one
-pub ready_by_hasty : (a : Stream) (listened : Bool) (c : Consumer) (o : Option Pull) → candidates a c ≡ [] → find (λ p. p.no_wait) c.waiting ≡ o → IsReady a listened c (is_some o)
-ready_by_hasty a listened c o none e listening heard = sym (ap is_some e) ∙ hasty c.waiting ∙ sym (ap (λ ms. is_ready_with ms listening c) none)
+pub ready_by_no_wait : (a : Stream) (listened : Bool) (c : Consumer) (o : Option Pull) → candidates a c ≡ [] → find (λ p. p.no_wait) c.waiting ≡ o → IsReady a listened c (is_some o)
+ready_by_no_wait a listened c o none e listening heard = sym (ap is_some e) ∙ any_no_wait c.waiting ∙ sym (ap (λ ms. is_ready_with ms listening c) none)

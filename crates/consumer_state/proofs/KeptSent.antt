@@ -3,7 +3,6 @@ use Rattle.std.proofs.Common.{◌≡◌, ℕ, ◌+◌, ◌^◌, ◌<◌, ◌++�
 use Rattle.std.specs.Prelude.{Option, All, Result, Ok, Err, OnOk, OnErr}
 use Rattle.std.proofs.lemmas.Bool.{true≢false}
 use Rattle.js_base.specs.Bytes.{Bytes}
-use Rattle.js_model.specs.declared.stream.Message.{Message}
 use Rattle.js_model.specs.declared.consumer.Pull.{Pull}
 use Rattle.js_model.specs.declared.consumer_config.ConsumerConfig.{ConsumerConfig}
 use Rattle.js_model.specs.Streams.{is_push, over_limit}
@@ -16,12 +15,12 @@ use Rattle.consumer_state.specs.Sending.{IsSendable}
 use Rattle.consumer_state.proofs.Keeping.{kept_pulls}
 use Rattle.consumer_state.proofs.Steps.{again_in, counts_sent}
 
-module _ (name : Bytes) (made : ℕ) (config : ConsumerConfig) (p : Progress) (q : Queue) (mark : ℕ) (h : IsKept name made config p q mark) (m : Message) (sendable : IsSendable (kept_of name made config p q mark) m) (due : Option ℕ) (p' : Progress) (sent : p' ≡ after_sent m.seq due p) where
+module _ (name : Bytes) (made : ℕ) (config : ConsumerConfig) (p : Progress) (q : Queue) (mark : ℕ) (h : IsKept name made config p q mark) (seq bytes : ℕ) (sendable : IsSendable (kept_of name made config p q mark) seq bytes) (due : Option ℕ) (p' : Progress) (sent : p' ≡ after_sent seq due p) where
   pub kept_sent : (mark' : ℕ) → IsKept name made config p' q mark'
   kept_sent mark' = record {
     consumer = record {
       once = h.consumer.once;
-      counts = subst (λ (r : Progress). All (λ x. over_limit x.count config.max_deliver ≡ false) r.pending) (sym sent) (counts_sent config.max_deliver m.seq due p.pending (again_in (kept_of name made config p q mark) m sendable) h.consumer.counts);
+      counts = subst (λ (r : Progress). All (λ x. over_limit x.count config.max_deliver ≡ false) r.pending) (sym sent) (counts_sent config.max_deliver seq due p.pending (again_in (kept_of name made config p q mark) seq bytes sendable) h.consumer.counts);
       no_pulls = h.consumer.no_pulls;
       dseq = subst (λ (r : Progress). r.dseq < 2 ^ 62) (sym sent) sendable.dseq;
     };

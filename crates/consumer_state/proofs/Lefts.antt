@@ -264,13 +264,12 @@ module _ (a : Stream) (c : Consumer) (m : Message) (kept : IsConsumer c) (progre
       once (count_none c m.seq (progress.picks_pending.apart m.seq (ap (λ ns. has ns m.seq) e ∙ ap (λ b. b || has rest m.seq) (eq-eqb pick m.seq (sym q)))))
   not_spent (onward e t l w) = once (count_none c m.seq (has_not c.cursor m.seq (pending_seqs c) (between_map (λ n. n) (λ (q : Pending). q.seq) 0 c.cursor c.pending progress.pending) l))
 
-  pub sendable_is : size m < 2 ^ 64 → (is_push c ≡ false → front_allows c.waiting (sent_size m) ≡ true) → IsSendable c m
-  sendable_is small asked = record {
+  pub sendable_is : (is_push c ≡ false → front_allows c.waiting (sent_size m) ≡ true) → IsSendable c m.seq (sent_size m)
+  sendable_is asked = record {
     not_given_up = not_given_up facts.reason;
     again = not_spent facts.reason;
-    seq = let b = in_bounds (λ z. z.seq) 1 (a.last + 1) m a.messages order.ascends facts.stored in let q : m.seq < a.last + 1 = b.1 in let r : a.last < 2 ^ 62 = order.bound in omega arith;
+    bound = let b = in_bounds (λ z. z.seq) 1 (a.last + 1) m a.messages order.ascends facts.stored in let q : m.seq < a.last + 1 = b.1 in let r : a.last < 2 ^ 62 = order.bound in omega arith;
     dseq = let q : c.dseq < 2 ^ 62 - 1 = facts.number in omega arith;
-    small = small;
     asked = asked;
   }
 

@@ -171,9 +171,9 @@ taken_told a v s pattern from o k p f e =
 
 -- ---- readiness
 
-pub hasty : (xs : List Pull) → is_some (find (λ p. p.no_wait) xs) ≡ list_any (λ p. p.no_wait) xs
-hasty [] = refl
-hasty (x ∷ xs) = go x.no_wait (hasty xs)
+pub any_no_wait : (xs : List Pull) → is_some (find (λ p. p.no_wait) xs) ≡ list_any (λ p. p.no_wait) xs
+any_no_wait [] = refl
+any_no_wait (x ∷ xs) = go x.no_wait (any_no_wait xs)
   where
     go : (b : Bool) → is_some (find (λ p. p.no_wait) xs) ≡ list_any (λ p. p.no_wait) xs → is_some (cond b (Some x) (find (λ p. p.no_wait) xs)) ≡ (b || list_any (λ p. p.no_wait) xs)
     go true h = refl
@@ -182,13 +182,13 @@ hasty (x ∷ xs) = go x.no_wait (hasty xs)
 pub ready_is : (a : Stream) (c : Consumer) (listened : Bool) (o : Option ℕ) → IsOffer a c o → (is_push c ≡ true → c.waiting ≡ []) → IsReady a listened c (is_asked listened c && (is_some (find (λ p. p.no_wait) c.waiting) || is_some o))
 ready_is a c listened o offer unpulled listening heard = at o (candidates a c) refl offer
   where
-    hasty_true : (b : Bool) → (b || true) ≡ true
-    hasty_true true = refl
-    hasty_true false = refl
+    or_true : (b : Bool) → (b || true) ≡ true
+    or_true true = refl
+    or_true false = refl
 
-    hasty_false : (b : Bool) → (b || false) ≡ b
-    hasty_false true = refl
-    hasty_false false = refl
+    or_false : (b : Bool) → (b || false) ≡ b
+    or_false true = refl
+    or_false false = refl
 
     and_true : (b : Bool) → (b && true) ≡ b
     and_true true = refl
@@ -210,16 +210,16 @@ ready_is a c listened o offer unpulled listening heard = at o (candidates a c) r
       where
         go : (ps : List Pull) → (not (is_empty ps) && is_some (find (λ p. p.no_wait) ps)) ≡ list_any (λ p. p.no_wait) ps
         go [] = refl
-        go (p ∷ ps) = hasty (p ∷ ps)
+        go (p ∷ ps) = any_no_wait (p ∷ ps)
 
     at : (o : Option ℕ) (ms : List Message) → candidates a c ≡ ms → IsOffer a c o → (is_asked listened c && (is_some (find (λ p. p.no_wait) c.waiting) || is_some o)) ≡ is_ready a listening c
     at None ms e k =
-        ap (λ b. is_asked listened c && b) (hasty_false (is_some (find (λ p. p.no_wait) c.waiting)))
+        ap (λ b. is_asked listened c && b) (or_false (is_some (find (λ p. p.no_wait) c.waiting)))
         ∙ waits (is_push c) refl
         ∙ sym (ap (λ l. is_ready_with l listening c) k)
     at (Some n) [] e k = absurd (true≢false (sym k ∙ ap (λ l. has (seqs l) n) e))
     at (Some n) (m ∷ ms) e k =
-        ap (λ b. is_asked listened c && b) (hasty_true (is_some (find (λ p. p.no_wait) c.waiting)))
+        ap (λ b. is_asked listened c && b) (or_true (is_some (find (λ p. p.no_wait) c.waiting)))
         ∙ and_true (is_asked listened c)
         ∙ asked (is_push c) refl
         ∙ sym (ap (λ l. is_ready_with l listening c) e)
@@ -231,8 +231,8 @@ some_offer a c = go (candidates a c) refl
     go [] e = (None, e)
     go (m ∷ ms) e = (Some m.seq, ap (λ l. has (seqs l) m.seq) e ∙ ap (λ b. b || has (seqs ms) m.seq) (eq-eqb m.seq m.seq refl))
 
-pub ready_hasty : (a : Stream) (c : Consumer) (listened : Bool) → true ≡ is_asked listened c → true ≡ is_some (find (λ p. p.no_wait) c.waiting) → (is_push c ≡ true → c.waiting ≡ []) → IsReady a listened c true
-ready_hasty a c listened asked has_one unpulled listening heard =
+pub ready_no_wait : (a : Stream) (c : Consumer) (listened : Bool) → true ≡ is_asked listened c → true ≡ is_some (find (λ p. p.no_wait) c.waiting) → (is_push c ≡ true → c.waiting ≡ []) → IsReady a listened c true
+ready_no_wait a c listened asked has_one unpulled listening heard =
     let w = some_offer a c in
     ap (λ b. true && (b || is_some w.0)) has_one
     ∙ ap (λ b. b && (is_some (find (λ p. p.no_wait) c.waiting) || is_some w.0)) asked

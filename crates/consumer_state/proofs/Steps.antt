@@ -9,7 +9,6 @@ use Rattle.std.proofs.lemmas.List.{map-append}
 use Rattle.js_base.specs.Bytes.{has}
 use Rattle.js_base.specs.Status.{status}
 use Rattle.js_base.specs.declared.out.Out.{Out}
-use Rattle.js_model.specs.declared.stream.Message.{Message}
 use Rattle.js_model.specs.declared.stream.Stream.{Stream}
 use Rattle.js_model.specs.declared.ack.AckKind.{AckKind}
 use Rattle.js_model.specs.declared.consumer.Consumer.{Consumer}
@@ -29,11 +28,11 @@ use Rattle.consumer_progress.specs.Progresses.{Progress, progress_of, with_progr
 use Rattle.consumer_progress.specs.Sending.{count_in, pending_after}
 use Rattle.pull_queue.specs.Fronts.{after_front}
 use Rattle.consumer_state.specs.declared.delivering.Demand.TheVariants.{Asked, TooSmall}
-use Rattle.consumer_state.specs.Delivering.{front_demand, EndsSmall, IsReady, MayEndHasty}
+use Rattle.consumer_state.specs.Delivering.{front_demand, EndsSmall, IsReady, MayEndNoWait}
 use Rattle.consumer_state.specs.Ending.{ack_ends, entries, is_delivered, kind_ends, EndsBy, EndsNone, EndsOne}
-use Rattle.consumer_state.specs.Parting.{farewell_of}
+use Rattle.consumer_texts.specs.Parting.{farewell_of}
 use Rattle.consumer_state.specs.Sending.{IsSendable}
-use Rattle.consumer_state.proofs.Deliveries.{is_too_small, ready_by_hasty}
+use Rattle.consumer_state.proofs.Deliveries.{is_too_small, ready_by_no_wait}
 use Rattle.consumer_state.proofs.Endings.{fewer_entries, without_none}
 use Rattle.consumer_state.proofs.Filters.{any_map}
 
@@ -107,7 +106,7 @@ count_small d n ps h = go (find (λ p. p.seq == n) ps) refl
     go None e = rw e (omega arith)
     go (Some p) e = rw e (all_in (λ (e : Pending). e.count ≤ d) ps h (found_in (λ (p : Pending). p.seq == n) p ps e).0)
 
-count_same : (c : Consumer) (n : ℕ) → count_of c n ≡ count_in c.pending n
+pub count_same : (c : Consumer) (n : ℕ) → count_of c n ≡ count_in c.pending n
 count_same c n = go (find (λ p. p.seq == n) c.pending) refl
   where
     go : (o : Option Pending) → find (λ p. p.seq == n) c.pending ≡ o → count_of c n ≡ count_in c.pending n
@@ -132,8 +131,8 @@ pub counts_sent : (limit : Option ℕ) (seq : ℕ) (due : Option ℕ) (ps : List
 counts_sent limit seq None ps e h = h
 counts_sent limit seq (Some due) ps e h = all_with (λ (p : Pending). over_limit p.count limit ≡ false) (record { seq = seq; count = count_in ps seq + 1; due = due }) ps (one_more (count_in ps seq) limit e) h
 
-pub again_in : (c : Consumer) (m : Message) → IsSendable c m → below_limit (count_in c.pending m.seq) c.config.max_deliver ≡ true
-again_in c m h = ap (λ n. below_limit n c.config.max_deliver) (sym (count_same c m.seq)) ∙ h.again
+pub again_in : (c : Consumer) (seq bytes : ℕ) → IsSendable c seq bytes → below_limit (count_in c.pending seq) c.config.max_deliver ≡ true
+again_in c seq bytes h = ap (λ n. below_limit n c.config.max_deliver) (sym (count_same c seq)) ∙ h.again
 
 -- ---- time
 
@@ -197,9 +196,9 @@ small_has v s k size small front = go v.waiting (ap (λ (c : Consumer). front_de
     go [] e f = absurd (true≢false (sym (ap is_too_small e)))
     go (p ∷ ps) e f = none_some f
 
-pub hasty_ready : (a : Stream) (listened : Bool) (s : Consumer) (o : Option Delivered) (outs_old outs_new : List Out) (new : Consumer) → candidates a s ≡ [] → MayEndHasty s o outs_old outs_new new → IsReady a listened s (is_some o)
-hasty_ready a listened s None outs_old outs_new new none w = ready_by_hasty a listened s None none w.none
-hasty_ready a listened s (Some what) outs_old outs_new new none w = ready_by_hasty a listened s (Some w.pull) none w.first
+pub no_wait_ready : (a : Stream) (listened : Bool) (s : Consumer) (o : Option Delivered) (outs_old outs_new : List Out) (new : Consumer) → candidates a s ≡ [] → MayEndNoWait s o outs_old outs_new new → IsReady a listened s (is_some o)
+no_wait_ready a listened s None outs_old outs_new new none w = ready_by_no_wait a listened s None none w.none
+no_wait_ready a listened s (Some what) outs_old outs_new new none w = ready_by_no_wait a listened s (Some w.pull) none w.first
 
 pub beat_told : (v s : Consumer) → v ≡ s → (d n : ℕ) → d ≡ v.dseq → n ≡ v.cursor
     → status_out v.config.deliver_subject (status 100 (codes "Idle Heartbeat") ((codes "Nats-Last-Consumer", d) ∷ (codes "Nats-Last-Stream", n - 1) ∷ [])) ≡ push_beat s

@@ -14,7 +14,7 @@ use Rattle.js_model.specs.Deliver.{address, count_of, empty_block, fits, is_list
 use Rattle.js_model.specs.Ready.{is_ready}
 use Rattle.js_model.specs.Streams.{is_push}
 use Rattle.consumer_need.specs.Needs.{awaits}
-use Rattle.consumer_texts.specs.Letter.{SendingFacts, letter}
+use Rattle.consumer_texts.specs.Deliveries.{SendingFacts, delivery_of}
 use Rattle.consumer_state.specs.declared.delivering.Demand.{Demand}
 use Rattle.consumer_state.specs.declared.delivering.Demand.TheVariants.{Asked, TooSmall, Nobody}
 
@@ -80,7 +80,7 @@ facts_of stream c m undelivered = record { stream = stream; consumer = c.name; c
 pub record SendsOut (stream : Bytes) (now : ℕ) (m : Message) (undelivered : ℕ) (old : Consumer) (what : Delivered) (outs_old outs_new : List Out) (new : Consumer) : Type 0 where
   pub what_is : what ≡ Sent m.seq (count_of old m.seq + 1) (old.dseq + 1)
   pub after_is : new ≡ sent_to now m old
-  pub outs_are : outs_new ≡ outs_old ++ letter (facts_of stream old m undelivered) (address old) m ∷ []
+  pub outs_are : outs_new ≡ outs_old ++ delivery_of (facts_of stream old m undelivered) (address old) m ∷ []
 
 -- the first pull, which is too small for a message, ends
 pub record EndsSmall (old : Consumer) (what : Delivered) (outs_old outs_new : List Out) (new : Consumer) : Type 0 where
@@ -92,7 +92,7 @@ pub record EndsSmall (old : Consumer) (what : Delivered) (outs_old outs_new : Li
   pub outs_are : outs_new ≡ outs_old ++ status_out front.reply (small_block front) ∷ []
 
 -- the first pull that does not wait ends
-pub record EndsHasty (old : Consumer) (what : Delivered) (outs_old outs_new : List Out) (new : Consumer) : Type 0 where
+pub record EndsNoWait (old : Consumer) (what : Delivered) (outs_old outs_new : List Out) (new : Consumer) : Type 0 where
   pub pull : Pull
   pub first : find (λ p. p.no_wait) old.waiting ≡ Some pull
   pub what_is : what ≡ Emptied
@@ -100,10 +100,10 @@ pub record EndsHasty (old : Consumer) (what : Delivered) (outs_old outs_new : Li
   pub outs_are : outs_new ≡ outs_old ++ status_out pull.reply empty_block ∷ []
 
 -- or there is none, and nothing changes
-pub record HasNoHasty (old : Consumer) (outs_old outs_new : List Out) (new : Consumer) : Type 0 where
+pub record HasNoneToEnd (old : Consumer) (outs_old outs_new : List Out) (new : Consumer) : Type 0 where
   pub none : find (λ p. p.no_wait) old.waiting ≡ None
   pub idle : IsIdle old outs_old outs_new new
 
-abbrev pub MayEndHasty : Consumer → Option Delivered → List Out → List Out → Consumer → Type 0
-MayEndHasty old None outs_old outs_new new = HasNoHasty old outs_old outs_new new
-MayEndHasty old (Some what) outs_old outs_new new = EndsHasty old what outs_old outs_new new
+abbrev pub MayEndNoWait : Consumer → Option Delivered → List Out → List Out → Consumer → Type 0
+MayEndNoWait old None outs_old outs_new new = HasNoneToEnd old outs_old outs_new new
+MayEndNoWait old (Some what) outs_old outs_new new = EndsNoWait old what outs_old outs_new new

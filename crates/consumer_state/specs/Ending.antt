@@ -89,7 +89,7 @@ abbrev pub LawBeforeEnding : Type 0
 LawBeforeEnding = (now : ℕ) (reply : Option Bytes) (n : ℕ) (kind : AckKind) (c : Consumer) (m : ℕ)
     → ack_ends (before_ending now reply n kind c) n kind m ≡ ack_ends c n kind m
 
--- each ending leaves the same to be left
+-- ending one entry does not change what is left once all have ended
 abbrev pub LawEndsOne : Type 0
 LawEndsOne = (n : ℕ) (kind : AckKind) (old new : Consumer) (m : ℕ) → EndsOne (ack_ends old n kind) old m new
     → without (ack_ends new n kind) new ≡ without (ack_ends old n kind) old

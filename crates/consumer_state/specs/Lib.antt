@@ -7,4 +7,4 @@ pub mod EndingKinds
 pub mod Offering
 pub mod Sending
 pub mod Delivering
-pub mod Parting
+pub mod Unread

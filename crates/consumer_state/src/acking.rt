@@ -13,7 +13,7 @@ use js_model::{Ack, AckKind, AckPolicy, Reply};
 
 impl Consumer {
     /// Answers an acknowledgement at a moment, and does all of it but ending entries: a NAK or a WPI sets when its entry is due, and what asks for the next
-    /// message is a pull, whose messages go to `reply`. `end_next` then ends the entries. An `Err` changes nothing and adds nothing.
+    /// message is a pull, whose messages go to `reply`. Call `end_next` after it until that gives `None`. An `Err` changes nothing and adds nothing.
     pub fn ack(
         &mut self,
         ack: &Ack,

@@ -19,8 +19,8 @@ use pull_queue::PullQueue;
 use std::alloc::Global;
 use std::marker::Model;
 
-/// A consumer of a stream. What a call costs does not grow with what is stored, and with the logarithm of how many deliveries wait or are given up, if no
-/// other is said.
+/// A consumer of a stream. The cost of a call does not grow with what is stored; it grows with the logarithm of how many deliveries wait or are given up,
+/// unless the call says otherwise.
 #[derive(Drop)]
 pub struct Consumer {
     pub(crate) alloc: Global,
@@ -44,6 +44,7 @@ impl Model for Consumer {
 }
 
 impl Consumer {
+    /// Its name.
     pub fn name(&self) -> &Blob
         ensures value { result.now ≡ self.now.name }
     {
@@ -57,6 +58,7 @@ impl Consumer {
         self.made
     }
 
+    /// Its configuration.
     pub fn config(&self) -> &ConsumerConfig
         ensures value { result.now ≡ self.now.config }
     {
@@ -110,7 +112,7 @@ impl Consumer {
         self.progress.overflow()
     }
 
-    /// Its numbers, where so many messages are still to be delivered to it.
+    /// Its numbers. `undelivered` is how many messages are still to be delivered to it.
     pub fn info(&self, undelivered: u64) -> Info
         ensures value { (s : Stream) → undelivered ≡ pending_count s self.now → result ≡ info_of s self.now }
     {

@@ -2,12 +2,13 @@
 
 ghost use Rattle.std.specs.Prelude.{◌≡◌, ◌+◌, ◌<◌, ◌^◌, ◌++◌, ◌∷◌, [], IfOk, IfSome, OnOk, OnErr, is_some};
 ghost use Rattle.std.specs.Option.{option_copied};
+ghost use Rattle.js_model.specs.declared.stream.Message.{Message as Stored};
 ghost use Rattle.js_model.specs.Streams.{sent_size, size};
 ghost use Rattle.js_model.specs.Deliver.{address, count_of, fits, sent_to};
-ghost use Rattle.consumer_texts.specs.Letter.{letter};
+ghost use Rattle.consumer_texts.specs.Deliveries.{delivery_of};
 ghost use Rattle.consumer_state.specs.Offering.{IsCurrent, IsNext};
 ghost use Rattle.consumer_state.specs.Sending.{due_after, IsSendable};
-ghost use Rattle.consumer_state.specs.Delivering.{demand_of, facts_of, front_demand, left_after, EndsSmall, IsReady, MayDeliver, MayEndHasty, SendsOut};
+ghost use Rattle.consumer_state.specs.Delivering.{demand_of, facts_of, front_demand, left_after, EndsSmall, IsReady, MayDeliver, MayEndNoWait, SendsOut};
 
 use crate::consumer::Consumer;
 use consumer_texts::{Sending, delivery_out, emptied, too_small};
@@ -27,9 +28,10 @@ pub(crate) enum Demand {
 }
 
 impl Consumer {
-    /// Makes one delivery at the stream's moment, if so many messages are still to be delivered, and somebody listens to a push consumer's subject or nobody
-    /// does: `message`, that of the candidate, is sent, or the first pull that is too small for it ends; if there is no candidate, the first pull that does
-    /// not wait ends. `None` exactly if the consumer is not ready. An `Err` changes nothing and adds nothing.
+    /// Makes one delivery at the stream's moment: `message`, that of the candidate, is sent, or the first pull that is too small for it ends; if there is no
+    /// candidate, the first pull that does not wait ends. `undelivered` is how many messages are still to be delivered, and `listened` says whether somebody
+    /// listens to a push consumer's deliver subject. `None` exactly if the consumer is not ready. An `Err` changes nothing and adds nothing. Where there is no
+    /// candidate, its cost grows with how many pulls wait.
     pub fn deliver_next<W: View>(
         &mut self,
         stream: &W,
@@ -47,7 +49,7 @@ impl Consumer {
         ensures err_outs { OnErr result (outs.new ≡ outs.old) }
     {
         let Some(message) = message else {
-            return self.end_hasty(outs);
+            return self.end_no_wait(outs);
         };
         self.holds();
         let size = sent_size(message);
@@ -62,7 +64,7 @@ impl Consumer {
     }
 
     /// Who asks for a message of this size.
-    fn demand(&self, listened: bool, size: u64) -> Demand
+    pub(crate) fn demand(&self, listened: bool, size: u64) -> Demand
         ensures value { result ≡ demand_of listened self.now size }
     {
         if self.is_push() {
@@ -80,8 +82,8 @@ impl Consumer {
     }
 
     /// Ends the first pull that does not wait, if there is one, since there is nothing to deliver.
-    fn end_hasty(&mut self, outs: &mut Outs) -> Result<Option<Delivered>, NoMemory>
-        ensures ended { IfOk result (λ what. MayEndHasty self.old what outs.old outs.new self.new) }
+    fn end_no_wait(&mut self, outs: &mut Outs) -> Result<Option<Delivered>, NoMemory>
+        ensures ended { IfOk result (λ what. MayEndNoWait self.old what outs.old outs.new self.new) }
         ensures err { OnErr result (self.new ≡ self.old) }
         ensures err_outs { OnErr result (outs.new ≡ outs.old) }
     {
@@ -108,7 +110,7 @@ impl Consumer {
         Ok(Delivered::TooSmall)
     }
 
-    /// Sends a message at a moment, if so many messages are still to be delivered.
+    /// Sends a message at a moment. `undelivered` is how many messages are still to be delivered before.
     fn send(
         &mut self,
         stream: &Blob,
@@ -117,14 +119,15 @@ impl Consumer {
         undelivered: u64,
         outs: &mut Outs,
     ) -> Result<Delivered, NoMemory>
-        requires sendable { IsSendable self.old message.now }
+        requires sendable { IsSendable self.old message.now.seq (sent_size message.now) }
+        requires small { size message.now < 2 ^ 64 }
         ensures sent { IfOk result (λ what. SendsOut stream.now now message.now undelivered self.old what outs.old outs.new self.new) }
         ensures err { OnErr result (self.new ≡ self.old) }
         ensures err_outs { OnErr result (outs.new ≡ outs.old) }
     {
         let count = self.next_count(message.seq);
         let dseq = self.progress.dseq() + 1;
-        let out = self.letter(stream, message, undelivered)?;
+        let out = self.delivery(stream, message, undelivered)?;
         let mut all = mem::replace(outs, List::new(self.alloc)).into_vec();
         let put = self.put_sent(&mut all, out, now, message);
         *outs = List::from_vec(all);
@@ -137,9 +140,9 @@ impl Consumer {
     }
 
     /// The message that a delivery sends.
-    fn letter(&self, stream: &Blob, message: &Message, undelivered: u64) -> Result<Out, NoMemory>
-        requires sendable { IsSendable self.now message.now }
-        ensures value { IfOk result (λ out. out ≡ letter (facts_of stream.now self.now message.now undelivered) (address self.now) message.now) }
+    fn delivery(&self, stream: &Blob, message: &Message, undelivered: u64) -> Result<Out, NoMemory>
+        requires sendable { IsSendable self.now message.now.seq (sent_size message.now) }
+        ensures value { IfOk result (λ out. out ≡ delivery_of (facts_of stream.now self.now message.now undelivered) (address self.now) message.now) }
     {
         let to = self.address()?;
         let told = Sending {
@@ -153,7 +156,7 @@ impl Consumer {
     }
 
     /// How often a message was delivered, with one more delivery.
-    fn next_count(&self, seq: u64) -> u64
+    pub(crate) fn next_count(&self, seq: u64) -> u64
         ensures value { result ≡ count_of self.now seq + 1 }
     {
         self.holds();
@@ -192,30 +195,31 @@ impl Consumer {
         now: Moment,
         message: &Message,
     ) -> Result<(), NoMemory>
-        requires sendable { IsSendable self.old message.now }
+        requires sendable { IsSendable self.old message.now.seq (sent_size message.now) }
+        requires small { size message.now < 2 ^ 64 }
         ensures ok { OnOk result (self.new ≡ sent_to now message.now self.old) }
         ensures outs { OnOk result (all.new.items ≡ all.old.items ++ out ∷ []) }
         ensures err { OnErr result (self.new ≡ self.old) }
         ensures err_outs { OnErr result (all.new.items ≡ all.old.items) }
     {
         all.reserve(1)?;
-        self.note_sent(now, message)?;
+        self.note_sent(now, message.seq, sent_size(message))?;
         all.push_reserved(out);
         Ok(())
     }
 
-    /// Notes that the message was sent at a moment.
-    fn note_sent(&mut self, now: Moment, message: &Message) -> Result<(), NoMemory>
-        requires sendable { IsSendable self.old message.now }
-        ensures ok { OnOk result (self.new ≡ sent_to now message.now self.old) }
+    /// Notes that the message of a sequence, with so many bytes, was sent at a moment.
+    pub(crate) fn note_sent(&mut self, now: Moment, seq: u64, size: u64) -> Result<(), NoMemory>
+        requires sendable { IsSendable self.old seq size }
+        ensures ok { OnOk result ((m : Stored) → m.seq ≡ seq → sent_size m ≡ size → self.new ≡ sent_to now m self.old) }
         ensures err { OnErr result (self.new ≡ self.old) }
     {
         let due = self.due_after(now);
-        self.progress.sent(message.seq, due)?;
+        self.progress.sent(seq, due)?;
         if self.is_push() {
             self.mark = now;
         } else {
-            self.pulls.take_front(sent_size(message), now);
+            self.pulls.take_front(size, now);
         }
         Ok(())
     }

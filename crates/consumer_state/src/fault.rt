@@ -9,6 +9,7 @@ pub enum MakeFault {
     /// A rule forbids it.
     #[error("the consumer is refused")]
     Refused(ApiError),
+    /// An allocation was refused.
     #[error("out of memory")]
     NoMemory,
 }

@@ -14,7 +14,7 @@ pub fn law_passed()
     ensures law { LawPassed }
 {}
 
-/// An overflow leaves the same to be kept, and where there is none, just that is there.
+/// Taking out what overflows does not change what is kept at last. If nothing overflows, the consumer is already within the limit.
 pub fn law_overflow()
     ensures law { LawOverflow }
 {}
@@ -29,7 +29,7 @@ pub fn law_before_ending()
     ensures law { LawBeforeEnding }
 {}
 
-/// An ending leaves the same to be left at last.
+/// Ending one entry does not change what is left once all have ended.
 pub fn law_ends_one()
     ensures law { LawEndsOne }
 {}

@@ -10,6 +10,7 @@ mod making;
 mod offering;
 mod passing;
 mod pulling;
+mod unread;
 
 pub use consumer::Consumer;
 pub use fault::MakeFault;

@@ -14,6 +14,7 @@ ghost use Rattle.consumer_state.specs.Making.{made_at, policy_checks, own_checks
 
 use crate::consumer::Consumer;
 use crate::fault::MakeFault;
+use crate::pulling::refused_memory;
 use consumer_progress::ConsumerProgress;
 use consumer_start::{Start, start_of};
 use js_base::{ApiError, Blob, Moment, NoMemory};
@@ -84,7 +85,7 @@ fn queue_of(alloc: Global, max_waiting: u64, pulls: &[Pull]) -> Result<PullQueue
 {
     let mut queue = PullQueue::new(alloc, max_waiting);
     for pull in pulls {
-        queue.ask(copy_pull(pull)?).map_err(|_| NoMemory)?;
+        queue.ask(copy_pull(pull)?).map_err(refused_memory)?;
     }
     Ok(queue)
 }
@@ -137,7 +138,7 @@ impl Consumer {
         })
     }
 
-    /// The consumer that was kept.
+    /// The consumer that was kept: no more pulls wait than its configuration allows.
     pub fn restore(alloc: Global, kept: &KeptConsumer) -> Result<Consumer, NoMemory>
         requires kept { IsRestorable kept.now }
         ensures value { IfOk result (λ c. c ≡ kept.now) }

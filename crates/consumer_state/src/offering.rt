@@ -16,8 +16,8 @@ const LAST_SEQUENCE: u64 = (1 << 62) - 1;
 const MAX_PENDING: u64 = 65_536;
 
 impl Consumer {
-    /// The sequence of some message that may be sent at the stream's moment, if so many are still to be delivered; `None` if there is none. It goes through
-    /// the messages from the cursor up to the next one that the filter matches.
+    /// The sequence of some message that may be sent at the stream's moment; `None` exactly if there is none. `undelivered` is how many messages are still to
+    /// be delivered. It goes through the messages from the cursor up to the next one that the filter matches.
     pub fn candidate<W: View>(&self, stream: &W, undelivered: u64) -> Option<u64>
         requires current { IsCurrent (W.stream stream.now) self.now undelivered }
         ensures offer { IsOffer (W.stream stream.now) self.now result }
@@ -31,15 +31,16 @@ impl Consumer {
         }
     }
 
-    /// Whether something can be delivered at the stream's moment, if so many messages are still to be, and somebody listens to a push consumer's subject or
-    /// nobody does. Where nobody asks, nothing is looked for.
+    /// Whether something can be delivered at the stream's moment. `undelivered` is how many messages are still to be delivered, and `listened` says whether
+    /// somebody listens to a push consumer's deliver subject. Where nobody asks, nothing is looked for; else the cost grows with how many pulls wait, and it
+    /// is that of `candidate`.
     pub fn is_ready<W: View>(&self, stream: &W, listened: bool, undelivered: u64) -> bool
         requires current { IsCurrent (W.stream stream.now) self.now undelivered }
         ensures value { IsReady (W.stream stream.now) listened self.now result }
     {
         self.holds();
         self.is_asked(listened)
-            && (self.has_hasty() || self.candidate(stream, undelivered).is_some())
+            && (self.has_no_wait() || self.candidate(stream, undelivered).is_some())
     }
 
     /// Whether somebody asks: who listens to a push consumer's subject, or a pull.
@@ -54,7 +55,7 @@ impl Consumer {
     }
 
     /// Whether some pull does not wait for messages.
-    fn has_hasty(&self) -> bool
+    fn has_no_wait(&self) -> bool
         ensures value { result ≡ is_some (find (λ p. p.no_wait) self.now.waiting) }
     {
         self.pulls.no_wait().is_some()

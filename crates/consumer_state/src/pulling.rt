@@ -4,13 +4,14 @@ ghost use Rattle.std.specs.Prelude.{◌≡◌, ◌<◌, ◌++◌, ◌∷◌, [],
 ghost use Rattle.std.specs.Option.{option_copied, option_to_list};
 ghost use Rattle.js_model.specs.Events.{farewells};
 ghost use Rattle.js_model.specs.Streams.{is_push};
-ghost use Rattle.consumer_state.specs.Parting.{farewell_of};
+ghost use Rattle.consumer_texts.specs.Parting.{farewell_of};
 ghost use Rattle.js_model.specs.Pulls.{pull_of, pull_refusal, pulled, pull_outs};
 
 use crate::consumer::Consumer;
 use consumer_texts::{append, bad_request, exceeded_waiting, farewell, push_based, status_out};
 use js_base::{Blob, Moment, NoMemory, Out, Outs};
 use js_model::{Ask, Pull};
+use pull_queue::PullFault;
 use std::alloc::Global;
 
 impl Consumer {
@@ -80,7 +81,14 @@ impl Consumer {
         ensures ok { OnOk result (self.new ≡ record self.old { waiting = self.old.waiting ++ pull ∷ [] }) }
         ensures err { OnErr result (self.new ≡ self.old) }
     {
-        self.pulls.ask(pull).map_err(|_| NoMemory)
+        self.pulls.ask(pull).map_err(refused_memory)
+    }
+}
+
+/// Why a pull is not added to a queue that has room for it.
+pub(crate) fn refused_memory(fault: PullFault) -> NoMemory {
+    match fault {
+        PullFault::Full | PullFault::NoMemory => NoMemory,
     }
 }
 

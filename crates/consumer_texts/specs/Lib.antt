@@ -1,1 +1,3 @@
-pub mod Letter
+pub mod Beats
+pub mod Deliveries
+pub mod Parting

@@ -1,8 +1,9 @@
 //! What passing time sends: timeouts and heartbeats.
 
-ghost use Rattle.std.specs.Prelude.{◌≡◌, ◌-◌, ◌∷◌, [], codes, IfOk};
+ghost use Rattle.std.specs.Prelude.{◌≡◌, codes, IfOk};
 ghost use Rattle.js_base.specs.Status.{status};
 ghost use Rattle.js_model.specs.Advance.{status_out, timeout, pull_beat};
+ghost use Rattle.consumer_texts.specs.Beats.{last_fields};
 
 use crate::status::{left_fields, status_out};
 use js_base::{Blob, NoMemory, Out};
@@ -29,7 +30,7 @@ pub fn pull_beat(alloc: Global, pull: &Pull) -> Result<Out, NoMemory>
 
 /// The last consumer sequence and the sequence before the cursor, as the fields of a status block.
 fn last_fields(alloc: Global, dseq: u64, cursor: u64) -> Result<[(Blob, u64); 2], NoMemory>
-    ensures value { IfOk result (λ fields. fields ≡ (codes "Nats-Last-Consumer", dseq) ∷ (codes "Nats-Last-Stream", cursor - 1) ∷ []) }
+    ensures value { IfOk result (λ fields. fields ≡ last_fields dseq cursor) }
 {
     let consumer = Blob::of(alloc, b"Nats-Last-Consumer")?;
     let stream = Blob::of(alloc, b"Nats-Last-Stream")?;
@@ -38,7 +39,7 @@ fn last_fields(alloc: Global, dseq: u64, cursor: u64) -> Result<[(Blob, u64); 2]
 
 /// A push consumer's heartbeat to its deliver subject: it tells the last consumer sequence and the sequence before the cursor.
 pub fn push_beat(alloc: Global, to: &Blob, dseq: u64, cursor: u64) -> Result<Out, NoMemory>
-    ensures value { IfOk result (λ out. out ≡ status_out to.now (status 100 (codes "Idle Heartbeat") ((codes "Nats-Last-Consumer", dseq) ∷ (codes "Nats-Last-Stream", cursor - 1) ∷ []))) }
+    ensures value { IfOk result (λ out. out ≡ status_out to.now (status 100 (codes "Idle Heartbeat") (last_fields dseq cursor))) }
 {
     let last = last_fields(alloc, dseq, cursor)?;
     let block = write_status(alloc, 100, b"Idle Heartbeat", &last)?;

@@ -1,9 +1,9 @@
 //! What a pull is told that ends.
 
-ghost use Rattle.std.specs.Prelude.{◌≡◌, [], codes, IfOk};
-ghost use Rattle.js_base.specs.Status.{status};
+ghost use Rattle.std.specs.Prelude.{◌≡◌, IfOk};
 ghost use Rattle.js_model.specs.Advance.{status_out};
 ghost use Rattle.js_model.specs.Deliver.{small_block, empty_block};
+ghost use Rattle.consumer_texts.specs.Parting.{farewell_of};
 
 use crate::status::{left_fields, status_out};
 use js_base::{NoMemory, Out};
@@ -30,7 +30,7 @@ pub fn emptied(alloc: Global, pull: &Pull) -> Result<Out, NoMemory>
 
 /// Tells a pull that its consumer is gone.
 pub fn farewell(alloc: Global, pull: &Pull) -> Result<Out, NoMemory>
-    ensures value { IfOk result (λ out. out ≡ status_out pull.now.reply (status 409 (codes "Consumer Deleted") [])) }
+    ensures value { IfOk result (λ out. out ≡ farewell_of pull.now) }
 {
     let block = write_status(alloc, 409, b"Consumer Deleted", &[])?;
     status_out(&pull.reply, block)

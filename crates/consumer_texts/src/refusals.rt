@@ -21,7 +21,7 @@ pub fn bad_request(alloc: Global) -> Result<Blob, NoMemory>
     write_status(alloc, 400, b"Bad Request", &[])
 }
 
-/// As many pulls wait as may.
+/// As many pulls wait already as `max_waiting` allows.
 pub fn exceeded_waiting(alloc: Global) -> Result<Blob, NoMemory>
     ensures value { IfOk result (λ block. block ≡ exceeded_waiting) }
 {

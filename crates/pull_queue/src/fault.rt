@@ -5,9 +5,10 @@ use thiserror::Error;
 /// Why a pull was not added.
 #[derive(Drop, Debug, Error)]
 pub enum PullFault {
-    /// As many pulls wait as may.
+    /// `max_waiting` pulls wait already.
     #[error("too many pulls wait")]
     Full,
+    /// An allocation was refused.
     #[error("out of memory")]
     NoMemory,
 }

@@ -40,7 +40,7 @@ impl Model for PullQueue {
 }
 
 impl PullQueue {
-    /// A queue in which no pull waits, and in which so many may. It takes no memory.
+    /// An empty queue for at most `max_waiting` pulls. It takes no memory.
     pub fn new(alloc: Global, max_waiting: u64) -> PullQueue
         ensures value { result ≡ record { max_waiting = max_waiting; pulls = [] } }
     {
@@ -102,8 +102,8 @@ impl PullQueue {
         }
     }
 
-    /// Adds a pull behind all others. It is `Full` exactly if as many wait as may, and else `NoMemory` if an allocation is refused; either changes
-    /// nothing.
+    /// Adds a pull behind all others. The fault is `Full` exactly if `max_waiting` pulls wait already, and else `NoMemory` if an allocation is refused;
+    /// either changes nothing.
     pub fn ask(&mut self, pull: Pull) -> Result<(), PullFault>
         ensures ok { OnOk result (self.new ≡ record self.old { pulls = self.old.pulls ++ pull ∷ [] }) }
         ensures err { OnErr result (self.new ≡ self.old) }

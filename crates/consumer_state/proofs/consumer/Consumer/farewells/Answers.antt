@@ -3,7 +3,7 @@ use Rattle.std.specs.Option.{option_to_list}
 use Rattle.std.specs.Prelude.{Option, slice_get}
 use Rattle.js_model.specs.declared.consumer.Consumer.{Consumer}
 use Rattle.js_model.specs.declared.consumer.Pull.{Pull}
-use Rattle.consumer_state.specs.Parting.{farewell_of}
+use Rattle.consumer_texts.specs.Parting.{farewell_of}
 use Rattle.consumer_state.proofs.Steps.{farewells_more}
 use Rattle.consumer_state.proofs.consumer.Consumer.farewells.Goals as goal
 

@@ -1,5 +1,5 @@
 use Rattle.std.proofs.Common.{◌≡◌, map, take}
-use Rattle.consumer_state.specs.Parting.{farewell_of}
+use Rattle.consumer_texts.specs.Parting.{farewell_of}
 use Rattle.consumer_state.proofs.consumer.Consumer.farewells.Given as goal
 
 -- what the pulls so far are told

@@ -1,7 +1,7 @@
 //! The message that a delivery sends, and the subject to which it is acknowledged.
 
 ghost use Rattle.std.specs.Prelude.{◌≡◌, ◌++◌, IfOk, OnOk, codes, decimal};
-ghost use Rattle.consumer_texts.specs.Letter.{ack_text, letter};
+ghost use Rattle.consumer_texts.specs.Deliveries.{ack_text, delivery_of};
 
 use js_base::{Blob, NoMemory, Out, put_bytes, put_decimal};
 use js_model::Message;
@@ -23,7 +23,7 @@ pub struct Sending<'a> {
 }
 
 impl<'a> Model for Sending<'a> {
-    ghost use Rattle.consumer_texts.specs.Letter.{SendingFacts};
+    ghost use Rattle.consumer_texts.specs.Deliveries.{SendingFacts};
 
     ghost Value = { SendingFacts };
 
@@ -88,7 +88,7 @@ pub fn delivery_out(
     to: &Blob,
     message: &Message,
 ) -> Result<Out, NoMemory>
-    ensures value { IfOk result (λ out. out ≡ letter told.now to.now message.now) }
+    ensures value { IfOk result (λ out. out ≡ delivery_of told.now to.now message.now) }
 {
     Ok(Out {
         to: to.clone()?,

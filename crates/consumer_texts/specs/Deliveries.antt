@@ -21,8 +21,9 @@ abbrev pub ack_text : SendingFacts → Message → Bytes
 ack_text told m =
     codes "$JS.ACK." ++ told.stream ++ codes "." ++ told.consumer ++ codes "." ++ decimal told.count ++ codes "." ++ decimal m.seq ++ codes "." ++ decimal told.dseq ++ codes "." ++ decimal m.at ++ codes "." ++ decimal told.left
 
-abbrev pub letter : SendingFacts → Bytes → Message → Out
-letter told to m = record {
+-- the message that a delivery sends to a subject
+abbrev pub delivery_of : SendingFacts → Bytes → Message → Out
+delivery_of told to m = record {
   to = to;
   subject = m.subject;
   reply = Some (ack_text told m);
@@ -34,6 +35,6 @@ letter told to m = record {
 abbrev pub told_of : Stream → Consumer → ℕ → SendingFacts
 told_of s new count = record { stream = s.config.name; consumer = new.name; count = count; dseq = new.dseq; left = pending_count s new }
 
--- the letter is what the delivery sends
-abbrev pub LawLetter : Type 0
-LawLetter = (s : Stream) (old new : Consumer) (m : Message) (count : ℕ) → delivery_out s old new m count ≡ letter (told_of s new count) (address old) m
+-- it is what a delivery of the machine sends
+abbrev pub LawDelivery : Type 0
+LawDelivery = (s : Stream) (old new : Consumer) (m : Message) (count : ℕ) → delivery_out s old new m count ≡ delivery_of (told_of s new count) (address old) m
