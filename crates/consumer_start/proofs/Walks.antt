@@ -7,7 +7,7 @@ use Rattle.js_model.specs.declared.stream.Stream.{Stream}
 use Rattle.js_base.specs.Bytes.{Bytes}
 use Rattle.js_model.specs.Lists.{Between}
 use Rattle.js_model.specs.Streams.{passes_filter}
-use Rattle.js_model.proofs.Members.{here, there, found_in, in_bounds}
+use Rattle.js_model.proofs.Members.{here, found_in, in_bounds}
 use Rattle.js_model.proofs.Named.{none_some, some_is}
 use Rattle.stream_view.specs.Heads.{MessageHead, head_of}
 use Rattle.stream_view.specs.Order.{IsInOrder}

@@ -1,8 +1,8 @@
 -- What filters leave of lists.
 use Rattle.std.proofs.Common.{◌≡◌, suc, ◌-◌, ◌<◌, ◌≤◌, Bool, true, false, ◌||◌, not, cond, List, [], ◌∷◌, length, map, refl, sym, ap, ◌∙◌, arith}
-use Rattle.std.specs.Prelude.{filter, All}
+use Rattle.std.specs.Prelude.{filter, nat_lt, All}
 use Rattle.std.specs.List.{list_any}
-use Rattle.std.proofs.lemmas.Bool.{true≢false}
+use Rattle.std.proofs.lemmas.Bool.{le-ltb, lt-ltb, true≢false}
 use Rattle.std.proofs.lemmas.List.Elements.{All-cons, All-head, All-tail, All-nil}
 use Rattle.js_model.proofs.Parts.{filter_part, part-length}
 
@@ -32,6 +32,22 @@ fewer t (x ∷ xs) e = go (t x) (fewer t xs) (no_more (λ x. not (t x)) xs) e
         → length (cond (not b) (x ∷ filter (λ x. not (t x)) xs) (filter (λ x. not (t x)) xs)) < suc (length xs)
     go true f l k = omega arith
     go false f l k = let q : length (filter (λ x. not (t x)) xs) < length xs = f k in omega arith
+
+pub filter_none : {X : Type 0} (t : X → Bool) (xs : List X) → list_any t xs ≡ false → filter (λ x. not (t x)) xs ≡ xs
+filter_none t [] e = refl
+filter_none {X} t (x ∷ xs) e = go (t x) (filter_none t xs) e
+  where
+    go : (b : Bool) → (list_any t xs ≡ false → filter (λ x. not (t x)) xs ≡ xs) → (b || list_any t xs) ≡ false → cond (not b) (x ∷ filter (λ x. not (t x)) xs) (filter (λ x. not (t x)) xs) ≡ x ∷ xs
+    go true f k = absurd (true≢false k)
+    go false f k = ap (λ (l : List X). x ∷ l) (f k)
+
+-- whether some element is taken out is told by the lengths
+pub fewer_tells : {X : Type 0} (t : X → Bool) (xs : List X) → nat_lt (length (filter (λ x. not (t x)) xs)) (length xs) ≡ list_any t xs
+fewer_tells t xs = go (list_any t xs) refl
+  where
+    go : (b : Bool) → list_any t xs ≡ b → nat_lt (length (filter (λ x. not (t x)) xs)) (length xs) ≡ b
+    go true e = lt-ltb (length (filter (λ x. not (t x)) xs)) (length xs) (fewer t xs e)
+    go false e = let k : length (filter (λ x. not (t x)) xs) ≡ length xs = ap length (filter_none t xs e) in le-ltb (length (filter (λ x. not (t x)) xs)) (length xs) (omega arith)
 
 pub any_map : {X Y : Type 0} (t : Y → Bool) (f : X → Y) (xs : List X) → list_any t (map f xs) ≡ list_any (λ x. t (f x)) xs
 any_map t f [] = refl

@@ -5,7 +5,6 @@ pub mod Offers
 pub mod Lefts
 pub mod Deliveries
 pub mod Steps
-pub mod Sents
 pub mod Unreads
 pub mod KeptSent
 pub mod Configs

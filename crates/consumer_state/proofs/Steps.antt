@@ -34,21 +34,13 @@ use Rattle.consumer_texts.specs.Parting.{farewell_of}
 use Rattle.consumer_state.specs.Sending.{IsSendable}
 use Rattle.consumer_state.proofs.Deliveries.{is_too_small, ready_by_no_wait}
 use Rattle.consumer_state.proofs.Endings.{fewer_entries, without_none}
-use Rattle.consumer_state.proofs.Filters.{any_map}
+use Rattle.consumer_state.proofs.Filters.{any_map, filter_none}
 
 -- ---- endings
 
 filter_same : {X : Type 0} (t u : X → Bool) → ((x : X) → t x ≡ u x) → (xs : List X) → filter t xs ≡ filter u xs
 filter_same t u f [] = refl
 filter_same {X} t u f (x ∷ xs) = ap (λ b. cond b (x ∷ filter t xs) (filter t xs)) (f x) ∙ ap (λ (l : List X). cond (u x) (x ∷ l) l) (filter_same t u f xs)
-
-filter_none : {X : Type 0} (t : X → Bool) (xs : List X) → list_any t xs ≡ false → filter (λ x. not (t x)) xs ≡ xs
-filter_none t [] e = refl
-filter_none {X} t (x ∷ xs) e = go (t x) (filter_none t xs) e
-  where
-    go : (b : Bool) → (list_any t xs ≡ false → filter (λ x. not (t x)) xs ≡ xs) → (b || list_any t xs) ≡ false → cond (not b) (x ∷ filter (λ x. not (t x)) xs) (filter (λ x. not (t x)) xs) ≡ x ∷ xs
-    go true f k = absurd (true≢false k)
-    go false f k = ap (λ (l : List X). x ∷ l) (f k)
 
 without_same : (E F : ℕ → Bool) → ((m : ℕ) → E m ≡ F m) → (c : Consumer) → without E c ≡ without F c
 without_same E F f c =
@@ -106,7 +98,7 @@ count_small d n ps h = go (find (λ p. p.seq == n) ps) refl
     go None e = rw e (omega arith)
     go (Some p) e = rw e (all_in (λ (e : Pending). e.count ≤ d) ps h (found_in (λ (p : Pending). p.seq == n) p ps e).0)
 
-pub count_same : (c : Consumer) (n : ℕ) → count_of c n ≡ count_in c.pending n
+count_same : (c : Consumer) (n : ℕ) → count_of c n ≡ count_in c.pending n
 count_same c n = go (find (λ p. p.seq == n) c.pending) refl
   where
     go : (o : Option Pending) → find (λ p. p.seq == n) c.pending ≡ o → count_of c n ≡ count_in c.pending n

@@ -1,7 +1,8 @@
 //! What passing time does to a consumer and what it sends.
 
 ghost use Rattle.std.specs.Prelude.{◌≡◌, ◌++◌, if◌then◌else◌, OnOk, OnErr};
-ghost use Rattle.js_model.specs.Advance.{consumer_outs, push_comes};
+ghost use Rattle.std.specs.List.{list_any};
+ghost use Rattle.js_model.specs.Advance.{consumer_outs, is_spent, push_comes};
 ghost use Rattle.consumer_progress.specs.GivingUp.{IsUnspent};
 ghost use Rattle.consumer_state.specs.Passing.{passed};
 
@@ -30,17 +31,20 @@ impl Consumer {
         Ok(())
     }
 
-    /// Lets time pass up to a moment: pulls end, heartbeats are marked, and the deliveries that were made as often as they may be are given up. It takes no
-    /// memory. More than 65,536 may then be given up, until `overflow` gives `None`. What it costs grows with how many are given up now, and with how many
-    /// pulls wait if one of them ends or a heartbeat comes.
-    pub fn advance(&mut self, now: Moment)
+    /// Lets time pass up to a moment: pulls end, heartbeats are marked, and the deliveries that were made as often as they may be are given up. It tells
+    /// whether any delivery is given up now. It takes no memory. More than 65,536 may then be given up: call `overflow` until that gives `None`. What it
+    /// costs grows with how many are given up now, and with how many pulls wait if one of them ends or a heartbeat comes.
+    pub fn advance(&mut self, now: Moment) -> bool
         ensures value { self.new ≡ passed now self.old }
+        ensures gave_up { result ≡ list_any (is_spent now self.old) self.old.pending }
         ensures unspent { IsUnspent now self.new.config.max_deliver self.new.pending }
     {
         let mark = self.mark_at(now);
+        let waited = self.progress.ack_pending();
         self.progress.give_up(now, self.config.max_deliver);
         self.pulls.pass_time(now);
         self.mark = mark;
+        self.progress.ack_pending() < waited
     }
 
     /// The mark, with a heartbeat that has come by a moment.

@@ -1,4 +1,4 @@
-use Rattle.std.proofs.Common.{◌≡◌, ◌+◌, ◌<◌, ◌≤◌, ◌^◌, Some, length, sym, ap, ◌∙◌, arith}
+use Rattle.std.proofs.Common.{◌≡◌, ◌<◌, ◌≤◌, ◌^◌, Some, length, sym, ap, ◌∙◌, arith}
 use Rattle.stream_view.specs.Heads.{MessageHead}
 use Rattle.consumer_start.specs.Picking.{is_pick}
 use Rattle.consumer_start.proofs.Picking.{at_first, bounds, when_many, when_passed, when_past, when_picked, when_unseen}

@@ -6,6 +6,7 @@ use Rattle.consumer_progress.specs.Progresses.{Progress}
 use Rattle.pull_queue.specs.Passing as pulls
 use Rattle.pull_queue.specs.Queue.{Queue}
 use Rattle.consumer_state.specs.Passing.{passed}
+use Rattle.consumer_state.proofs.Filters.{fewer_tells}
 use Rattle.consumer_state.proofs.Keeping.{kept_less, kept_pulls}
 use Rattle.consumer_state.proofs.Steps.{unspent_left}
 use Rattle.consumer_state.specs.Keeping.{kept_of}
@@ -29,3 +30,7 @@ pub returns-clause-unspent : goal.returns-clause-unspent
 returns-clause-unspent c =
     subst (λ (p : Progress). IsUnspent c.args.now c.self.inside.config.max_deliver p.pending) (sym c.give_up.ensures.value)
     (unspent_left c.args.now c.self.inside.config.max_deliver c.self.inside.progress.pending c.self.invariant.consumer.counts)
+
+pub returns-clause-gave_up : goal.returns-clause-gave_up
+returns-clause-gave_up c =
+    fewer_tells (is_spent c.args.now c.self.inside.config.max_deliver) c.self.inside.progress.pending
