@@ -1,5 +1,5 @@
 -- Consumers hold and need the same as time passes, but for what overflows.
-use Rattle.std.proofs.Common.{◌≡◌, ℕ, ◌<◌, ◌==◌, ◌||◌, ◌&&◌, Bool, true, false, cond, not, List, [], ◌∷◌, Some, None, length, map, refl, sym, ap, ◌∙◌, arith}
+use Rattle.std.proofs.Common.{◌≡◌, ℕ, ◌<◌, ◌==◌, ◌||◌, ◌&&◌, Bool, true, false, cond, not, List, [], ◌∷◌, Some, None, length, map, refl, sym, ap, subst, ◌∙◌, arith}
 use Rattle.std.specs.Prelude.{All, filter, fold, nat_le, nat_lt}
 use Rattle.std.proofs.lemmas.List.Elements.{All-cons, All-head, All-tail, All-map, All-filter, All-drop}
 use Rattle.js_base.specs.Bytes.{has}
@@ -14,6 +14,7 @@ use Rattle.js_model.proofs.Named.{none_some, some_is}
 use Rattle.consumer_progress.specs.GivingUp.{first_of, rest_of}
 use Rattle.consumer_need.specs.Stored.{HoldsStored}
 use Rattle.consumer_state.specs.Passing.{has_overflow, overflow_of, passed, without_overflow, within_overflow, LawOverflow, LawPassed}
+use Rattle.followed_stream.specs.Delivering.{IsCurrentAt}
 use Rattle.followed_stream.specs.Spans.{joined, spans}
 use Rattle.followed_stream.specs.declared.span.Span.{Span}
 use Rattle.followed_stream.proofs.Spanning.{other_than, outside_first, outside_second}
@@ -153,11 +154,13 @@ none_overflows c e = ap (λ (ns : List ℕ). record c { given_up = ns }) (go (ha
 pub record Overflows (now : ℕ) (old mid : Consumer) (loose : Span) : Type 0 where
   pub same : within_overflow mid ≡ consumer_at now old
   pub needs : (m : Message) → spans loose m.seq ≡ false → needs mid m ≡ needs old m
+  pub current : IsCurrentAt now mid
 
-pub overflows_none : LawPassed → (now : ℕ) (old mid : Consumer) (loose : Span) → mid ≡ passed now old → Overflows now old mid loose
-overflows_none law now old mid loose is = record {
+pub overflows_none : LawPassed → (now : ℕ) (old mid : Consumer) (loose : Span) → mid ≡ passed now old → IsCurrentAt now mid → Overflows now old mid loose
+overflows_none law now old mid loose is current = record {
   same = ap within_overflow is ∙ sym (law now old);
   needs = λ m e. ap (λ (c : Consumer). needs_it c m) is ∙ passed_needs now old m;
+  current = current;
 }
 
 pub overflows_more : LawOverflow → (now seq : ℕ) (old mid new : Consumer) (loose one : Span) → Overflows now old mid loose → Some seq ≡ overflow_of mid → new ≡ without_overflow mid → one ≡ record { first = seq; last = seq } → Overflows now old new (joined loose one)
@@ -166,9 +169,13 @@ overflows_more law now seq old mid new loose one h e is own = record {
   needs = λ m out. ap (λ (c : Consumer). needs_it c m) is
       ∙ overflow_needs mid seq m e (other_than seq m.seq (ap (λ (span : Span). spans span m.seq) (sym own) ∙ outside_second loose one m.seq out))
       ∙ h.needs m (outside_first loose one m.seq out);
+  current = subst (IsCurrentAt now) (sym is) h.current;
 }
 
 pub overflows_all : LawOverflow → (now : ℕ) (old mid new : Consumer) (loose : Span) → Overflows now old mid loose → None ≡ overflow_of mid → new ≡ without_overflow mid → (new ≡ consumer_at now old) × ((m : Message) → spans loose m.seq ≡ false → needs new m ≡ needs old m)
 overflows_all law now old mid new loose h e is =
     let stays = is ∙ none_overflows mid e in
     (stays ∙ sym ((law mid).1 (sym e)) ∙ h.same, λ m out. ap (λ (c : Consumer). needs c m) stays ∙ h.needs m out)
+
+pub overflows_current : (now : ℕ) (old mid new : Consumer) (loose : Span) → Overflows now old mid loose → new ≡ without_overflow mid → IsCurrentAt now new
+overflows_current now old mid new loose h is = subst (IsCurrentAt now) (sym is) h.current

@@ -47,3 +47,8 @@ returns-clause-settled c =
     let left = c.advance_consumers-loose.ensures.left ∙ ap (λ (x : Stream). record x { consumers = map (consumer_at t) x.consumers }) aged in
     let within : next_over c.advance_consumers-loose.new.self ≡ None = rw left (within_only s (young_part s t) c.self.invariant.within) in
     trimmed c.advance_consumers-loose.new.self c.advance_consumers-loose.ensures.sound within
+
+pub returns-clause-current : goal.returns-clause-current
+returns-clause-current c =
+    let at = ap (λ (x : Stream). x.moment) (c.advance_consumers-loose.ensures.left ∙ ap (λ (x : Stream). record x { consumers = map (consumer_at c.later-now.result) x.consumers }) c.pass_time.ensures.left) in
+    rw at c.advance_consumers-loose.ensures.current
