@@ -1,5 +1,5 @@
 -- A delivery of a message that cannot be read is one of the machine's.
-use Rattle.std.proofs.Common.{◌≡◌, ℕ, ◌+◌, ◌-◌, Bool, List, [], ◌∷◌, refl, sym, ap, arith}
+use Rattle.std.proofs.Common.{◌≡◌, ℕ, ◌+◌, ◌-◌, ◌≤◌, Bool, List, [], ◌∷◌, refl, sym, ap, arith}
 use Rattle.std.specs.Prelude.{None, Some, Contains, slice_get}
 use Rattle.js_model.specs.declared.stream.Message.{Message}
 use Rattle.js_model.specs.declared.stream.Stream.{Stream}
@@ -10,7 +10,7 @@ use Rattle.js_model.specs.declared.entry.Delivered.TheVariants.{Sent, TooSmall a
 use Rattle.js_model.specs.Advance.{status_out}
 use Rattle.js_model.specs.Counts.{pending_count}
 use Rattle.js_model.specs.Deliver.{address, candidates, count_of, sent_to, small_block}
-use Rattle.js_model.specs.Streams.{sent_size, size}
+use Rattle.js_model.specs.Streams.{sent_size}
 use Rattle.pull_queue.specs.Fronts.{after_front}
 use Rattle.stream_view.specs.Heads.{MessageHead, head_of}
 use Rattle.consumer_texts.specs.Deliveries.{delivery_of}
@@ -21,8 +21,11 @@ use Rattle.consumer_state.proofs.Deliveries.{sent_made, small_made}
 use Rattle.consumer_state.proofs.Steps.{small_ends, small_has}
 
 -- the bytes that are sent of a message are told by what is seen of it
-pub bytes_of : (m : Message) → size m - 40 ≡ sent_size m
-bytes_of m = let bytes : ℕ = sent_size m in let e : sent_size m + 40 - 40 ≡ sent_size m = omega arith in e
+pub bytes_are : (head : MessageHead) (m : Message) → head ≡ head_of m → head.size - 40 ≡ sent_size m
+bytes_are head m e = let k : head.size ≡ sent_size m + 40 = ap (λ h. h.size) e in let bytes : ℕ = sent_size m in omega arith
+
+pub least_size : (head : MessageHead) (m : Message) → head ≡ head_of m → 40 ≤ head.size
+least_size head m e = let k : head.size ≡ sent_size m + 40 = ap (λ h. h.size) e in omega arith
 
 pub sent_unread : (a : Stream) (listened : Bool) (m : Message) (head : MessageHead) (old : Consumer) (what : Delivered) (new : Consumer) → head ≡ head_of m → Contains (candidates a old) m
     → demand_of listened old (sent_size m) ≡ Asked → pending_count a (sent_to a.moment m old) ≡ left_after old m (pending_count a old) → what ≡ Sent m.seq (count_of old m.seq + 1) (old.dseq + 1)

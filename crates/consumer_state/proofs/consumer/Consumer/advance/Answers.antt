@@ -1,5 +1,8 @@
-use Rattle.std.proofs.Common.{ap, not, subst, sym, ◌∙◌, if◌then◌else◌}
+use Rattle.std.proofs.Common.{ap, length, not, subst, sym, ◌∙◌, if◌then◌else◌}
+use Rattle.std.specs.Prelude.{filter, nat_lt}
+use Rattle.std.specs.List.{list_any}
 use Rattle.js_model.specs.declared.consumer.Consumer.{Consumer}
+use Rattle.js_model.specs.Advance as advance
 use Rattle.js_model.specs.Advance.{push_comes}
 use Rattle.consumer_progress.specs.GivingUp.{is_spent, with_given_up, IsUnspent}
 use Rattle.consumer_progress.specs.Progresses.{Progress}
@@ -33,4 +36,7 @@ returns-clause-unspent c =
 
 pub returns-clause-gave_up : goal.returns-clause-gave_up
 returns-clause-gave_up c =
-    fewer_tells (is_spent c.args.now c.self.inside.config.max_deliver) c.self.inside.progress.pending
+    ap (λ n. nat_lt n c.ack_pending-waited.result) (c.ack_pending.ensures.value ∙ ap (λ (p : Progress). length p.pending) c.give_up.ensures.value)
+    ∙ ap (nat_lt (length (filter (λ p. not (is_spent c.args.now c.self.inside.config.max_deliver p)) c.self.inside.progress.pending))) c.ack_pending-waited.ensures.value
+    ∙ fewer_tells (is_spent c.args.now c.self.inside.config.max_deliver) c.self.inside.progress.pending
+    ∙ ap (λ (x : Consumer). list_any (advance.is_spent c.args.now x) x.pending) c.self.view_is
