@@ -184,7 +184,7 @@ fails_before t low high m x (y ∷ ys) h e (there i) l = go (t y) e (λ f. fails
         absurd (omega arith)
     go false f more = more f
 
-abbrev pub waits : Consumer → Message → Bool
+abbrev waits : Consumer → Message → Bool
 waits c x = takes c x && (has c.picks x.seq || nat_le c.cursor x.seq)
 
 pub agrees : (now : ℕ) (a : Stream) (c : Consumer) (m : Message) → IsInOrder a → IsPlaced a c m → (x : Message) → IsIn x a.messages → waits (sent_to now m c) x ≡ (waits c x && not (x.seq == m.seq))

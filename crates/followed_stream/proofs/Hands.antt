@@ -24,7 +24,7 @@ use Rattle.consumer_need.specs.Stored.{HoldsStored}
 use Rattle.consumer_progress.specs.Progresses.{progress_of, IsProgress}
 use Rattle.consumer_state.specs.Delivering.{left_of, IsHeard, IsReady, MayDeliver}
 use Rattle.consumer_state.specs.Offering.{IsCurrent}
-use Rattle.consumer_state.proofs.Lefts.{agrees, placed_is, waits}
+use Rattle.consumer_state.proofs.Lefts.{agrees, placed_is}
 use Rattle.stored_stream.proofs.Lists.{and_true, eq_flip}
 use Rattle.followed_stream.specs.Counting.{left_if_sent, left_then}
 use Rattle.followed_stream.specs.Followers.{Following}
@@ -74,6 +74,10 @@ all_with_pending P (p ∷ ps) new h k = go (nat_lt p.seq new.seq) (p.seq == new.
     go false false r = All-cons (λ (p : Pending). P p.seq) new (p ∷ ps) k h
 
 -- ---- a message that is sent
+
+-- the consumer awaits the message
+abbrev waits : Consumer → Message → Bool
+waits c x = takes c x && (has c.picks x.seq || nat_le c.cursor x.seq)
 
 module _ (a : Stream) (c : Consumer) (m : Message) (progress : IsProgress (progress_of c)) (order : IsInOrder a) (candidate : Contains (candidates a c) m) where
   after : Consumer
