@@ -1,5 +1,5 @@
 -- What is kept of a consumer stays so when a message is sent to it.
-use Rattle.std.proofs.Common.{◌≡◌, ℕ, ◌+◌, ◌^◌, ◌<◌, ◌++◌, ◌∷◌, [], false, true, subst, sym, ap, ◌∙◌}
+use Rattle.std.proofs.Common.{◌≡◌, ℕ, ◌^◌, ◌<◌, ◌++◌, ◌∷◌, [], false, subst, sym, ap, ◌∙◌}
 use Rattle.std.specs.Prelude.{Option, All, Result, Ok, Err, OnOk, OnErr}
 use Rattle.std.proofs.lemmas.Bool.{true≢false}
 use Rattle.js_base.specs.Bytes.{Bytes}

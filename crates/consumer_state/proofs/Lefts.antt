@@ -12,7 +12,7 @@ use Rattle.js_model.specs.declared.consumer.Pending.{Pending}
 use Rattle.js_model.specs.Counts.{pending_count}
 use Rattle.js_model.specs.Deliver.{candidates, count_of, due_messages, front_allows, is_due, may_wait, next_message, or_next, sent_to}
 use Rattle.js_model.specs.Lists.{Between}
-use Rattle.js_model.specs.Streams.{below_limit, is_push, pending_seqs, sent_size, size, takes}
+use Rattle.js_model.specs.Streams.{below_limit, is_push, pending_seqs, sent_size, takes}
 use Rattle.js_model.proofs.Candidates.{IsCandidate, IsReason, again, candidate_is, onward, picked}
 use Rattle.js_model.proofs.Members.{IsIn, any_in, find_none, find_one, here, in_any, in_bounds, in_filter, in_from_contains, there}
 use Rattle.js_model.proofs.Named.{some_is}

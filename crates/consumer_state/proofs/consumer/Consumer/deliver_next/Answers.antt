@@ -2,7 +2,6 @@ use Rattle.std.proofs.Common.{◌<◌, ◌^◌, ap, subst, sym, ◌∙◌}
 use Rattle.std.specs.Prelude.{IfSome}
 use Rattle.std.specs.Option.{option_copied}
 use Rattle.std.proofs.lemmas.Result.{IfOk-weaker}
-use Rattle.js_model.specs.declared.consumer.Consumer.{Consumer}
 use Rattle.js_model.specs.Streams.{sent_size, size}
 use Rattle.consumer_state.specs.Offering.{IsNext}
 use Rattle.consumer_state.specs.Delivering.{demand_of, left_after, IsMade, SendsOut}
