@@ -49,15 +49,15 @@ found_at (g ∷ gs) (suc i) d a l =
     ap (λ (b : Bool). cond b (Some g.consumer) (by_name (consumers_of gs) (get_or gs i d).consumer.name)) (first_other g gs i d (get_or gs i d).consumer.name a.0 (omega arith) refl) ∙ found_at gs i d a.1 (omega arith)
 
 pub there : (fs : List Following) (i : ℕ) (d : Following) → i < length fs → slice_get (consumers_of fs) i ≡ Some (get_or fs i d).consumer
-there fs i d l = slice_get-map (λ f. f.consumer) fs i ∙ ap (option_map (λ (f : Following). f.consumer)) (slice_get-get_or fs i d l)
+there fs i d l = slice_get-map (λ (f : Following). f.consumer) fs i ∙ ap (option_map (λ (f : Following). f.consumer)) (slice_get-get_or fs i d l)
 
 -- what stands there, if there is one
 pub got : (fs : List Following) (i : ℕ) (o : Option Following) → o ≡ slice_get fs i → slice_get (consumers_of fs) i ≡ option_map (λ f. f.consumer) o
-got fs i o e = slice_get-map (λ f. f.consumer) fs i ∙ ap (option_map (λ (f : Following). f.consumer)) (sym e)
+got fs i o e = slice_get-map (λ (f : Following). f.consumer) fs i ∙ ap (option_map (λ (f : Following). f.consumer)) (sym e)
 
 -- a place of a consumer is one of a follower
 pub place_there : (s t : Stream) (fs : List Following) (i : ℕ) → attended s fs ≡ t → i < length t.consumers → i < length fs
-place_there s t fs i e l = subst (λ n. i < n) (ap (λ (x : Stream). length x.consumers) (sym e) ∙ length-map fs (λ f. f.consumer)) l
+place_there s t fs i e l = subst (λ n. i < n) (ap (λ (x : Stream). length x.consumers) (sym e) ∙ length-map fs (λ (f : Following). f.consumer)) l
 
 -- what holds of each consumer holds of it
 pub all_there : (P : Consumer → Type 0) (fs : List Following) (i : ℕ) (d : Following) → i < length fs → All P (consumers_of fs) → P (get_or fs i d).consumer
