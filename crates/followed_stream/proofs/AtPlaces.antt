@@ -1,6 +1,6 @@
 -- What a stream and its consumers come to if the one at a place is asked.
-use Rattle.std.proofs.Common.{◌≡◌, ℕ, ◌+◌, ◌<◌, Bool, true, false, List, [], ◌∷◌, ◌++◌, Option, Some, None, Result, Ok, Err, get_or, set, length, map, refl, sym, ap, subst, ◌∙◌}
-use Rattle.std.specs.Prelude.{All, Contains, IfOk, OnErr, OnOk, filter, not, slice_get}
+use Rattle.std.proofs.Common.{◌≡◌, ℕ, ◌+◌, ◌-◌, ◌^◌, ◌<◌, Bool, true, false, cond, List, [], ◌∷◌, ◌++◌, Option, Some, None, Result, Ok, Err, get_or, set, length, map, refl, sym, ap, subst, ◌∙◌}
+use Rattle.std.specs.Prelude.{All, Contains, IfOk, OnErr, OnOk, filter, nat_lt, not, slice_get}
 use Rattle.std.specs.List.{remove}
 use Rattle.std.proofs.lemmas.List.Elements.{All-get_or, All-weaker}
 use Rattle.js_base.specs.Bytes.{Bytes, same}
@@ -13,7 +13,7 @@ use Rattle.js_model.specs.declared.consumer.Consumer.{Consumer}
 use Rattle.js_model.specs.declared.consumer_config.ConsumerConfig.{ConsumerConfig}
 use Rattle.js_model.specs.declared.entry.Delivered.{Delivered}
 use Rattle.js_model.specs.declared.entry.Delivered.TheVariants.{Sent, TooSmall, Emptied}
-use Rattle.js_model.specs.Deliver.{candidates, Delivers}
+use Rattle.js_model.specs.Deliver.{candidates, due_messages, may_wait, next_message, or_next, Delivers}
 use Rattle.js_model.specs.Events.{farewells}
 use Rattle.js_model.specs.Pulls.{pulled, pull_outs}
 use Rattle.js_model.specs.Ready.{is_ready_with}
@@ -38,7 +38,15 @@ use Rattle.followed_stream.proofs.Makes.{dropped, followed_dropped}
 -- the other consumers have no part in it
 candidates_as : (s : Stream) (cs : List Consumer) (c : Consumer) → candidates (record s { consumers = cs }) c ≡ candidates s c
 unfolding candidates
-candidates_as s cs c = refl
+candidates_as s cs c = ap (λ (ms : List Message). cond (nat_lt c.dseq (2 ^ 62 - 1)) ms []) (or_same (due_messages s c))
+  where
+    next_same : (picks : List ℕ) → next_message picks (record s { consumers = cs }) c ≡ next_message picks s c
+    next_same [] = refl
+    next_same (pick ∷ picks) = refl
+
+    or_same : (ms : List Message) → or_next ms (record s { consumers = cs }) c ≡ or_next ms s c
+    or_same [] = ap (λ (ms : List Message). cond (may_wait c) ms []) (next_same c.picks)
+    or_same (m ∷ ms) = refl
 
 pub ready_as : (s : Stream) (cs : List Consumer) (listened : Bool) (c : Consumer) (ready : Bool) → IsReady s listened c ready → IsReady (record s { consumers = cs }) listened c ready
 ready_as s cs listened c ready h listening heard = h listening heard ∙ ap (λ (ms : List Message). is_ready_with ms listening c) (sym (candidates_as s cs c))
@@ -120,7 +128,7 @@ module _ (s : Stream) (fs : List Following) (h : AreFollowed s fs) (i : ℕ) (ol
   }
 
   -- it went well
-  goes : {T E : Type 0} (x : T) (P : T → Stream → Type 0) (new : Following) → Turns whole old new → P x (attended s (set fs i new)) → Follows {T} {E} (Ok x) P new
+  goes : {T E : Type 0} (x : T) (P : T → Stream → Type 0) (new : Following) → Turns whole old new → P x (attended s (set fs i new)) → Follows {T = T} {E = E} (Ok x) P new
   goes x P new turns holds = record {
     followed = followed_with new turns;
     ok = holds;

@@ -80,7 +80,7 @@ abbrev waits : Consumer → Message → Bool
 waits c x = takes c x && (has c.picks x.seq || nat_le c.cursor x.seq)
 
 module _ (a : Stream) (c : Consumer) (m : Message) (progress : IsProgress (progress_of c)) (order : IsInOrder a) (candidate : Contains (candidates a c) m) where
-  after : Consumer
+  abbrev pub after : Consumer
   after = sent_to a.moment m c
 
   waits_same : (x : Message) → (m.seq == x.seq) ≡ false → has (pending_seqs after) x.seq ≡ has (pending_seqs c) x.seq
@@ -100,7 +100,7 @@ module _ (a : Stream) (c : Consumer) (m : Message) (progress : IsProgress (progr
   by_parts true false false r s = refl
   by_parts false p q r s = refl
 
-  held_part : Consumer → Message → Bool
+  abbrev held_part : Consumer → Message → Bool
   held_part d x = takes d x && (has (pending_seqs d) x.seq || has d.given_up x.seq)
 
   pub sent_needs : (x : Message) → IsIn x a.messages → (m.seq == x.seq) ≡ false → needs after x ≡ needs c x

@@ -49,7 +49,7 @@ none_with (c ∷ cs) new name h e = go (is_before c.name new.name) (same c.name 
 
 named_with : (cs : List Consumer) (new : Consumer) → AreNamedApart cs → by_name cs new.name ≡ None → AreNamedApart (with_new cs new)
 named_with [] new a e = (refl, tt)
-named_with (c ∷ cs) new a e = first (same c.name new.name) refl e
+named_with (c ∷ cs) new a e = go (is_before c.name new.name) (apart (same c.name new.name) refl e) (named_with cs new a.1)
   where
     apart : (b : Bool) → same c.name new.name ≡ b → cond b (Some c) (by_name cs new.name) ≡ None → (same c.name new.name ≡ false) × (by_name cs new.name ≡ None)
     apart true q k = absurd (none_some (sym k))
@@ -58,9 +58,6 @@ named_with (c ∷ cs) new a e = first (same c.name new.name) refl e
     go : (b : Bool) → (same c.name new.name ≡ false) × (by_name cs new.name ≡ None) → (by_name cs new.name ≡ None → AreNamedApart (with_new cs new)) → AreNamedApart (cond b (c ∷ with_new cs new) (new ∷ c ∷ cs))
     go true w r = (none_with cs new c.name (same_flip new.name c.name ∙ w.0) a.0, r w.1)
     go false w r = (ap (λ (b : Bool). cond b (Some c) (by_name cs new.name)) w.0 ∙ w.1, a)
-
-    first : (b : Bool) → same c.name new.name ≡ b → cond b (Some c) (by_name cs new.name) ≡ None → AreNamedApart (with_new (c ∷ cs) new)
-    first b q k = go (is_before c.name new.name) (apart b q k) (named_with cs new a.1)
 
 all_with : (P : Consumer → Type 0) (cs : List Consumer) (new : Consumer) → All P cs → P new → All P (with_new cs new)
 all_with P [] new h k = All-cons P new [] k h
@@ -148,10 +145,10 @@ named_without (c ∷ cs) name a = go (same c.name name) refl (named_without cs n
     go false q r = (none_without cs name c.name a.0, r)
 
 module _ (s : Stream) (fs : List Following) (h : AreFollowed s fs) (i : ℕ) (d : Following) (within : i < length fs) where
-  name : Bytes
+  abbrev name : Bytes
   name = (get_or fs i d).consumer.name
 
-  left : List Consumer
+  abbrev left : List Consumer
   left = filter (λ e. not (same e.name name)) (consumers_of fs)
 
   pub dropped : attended s (remove fs i) ≡ record (attended s fs) { consumers = filter (λ e. not (same e.name (get_or fs i d).consumer.name)) (attended s fs).consumers }
