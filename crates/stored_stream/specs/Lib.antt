@@ -1,0 +1,5 @@
+pub mod Indexed
+pub mod Stored
+pub mod PushedOut
+pub mod Selecting
+pub mod Heads
