@@ -1,6 +1,8 @@
 -- What is seen of a stream at a later moment.
-use Rattle.std.proofs.Common.{◌≡◌, ℕ, ◌+◌, ◌<◌, ◌≤◌, ◌==◌, ◌&&◌, Bool, true, false, cond, not, List, [], ◌∷◌, Option, Some, None, length, max, refl, sym, ap, subst, ◌∙◌, arith, ◌⊎◌, inl, inr}
-use Rattle.std.specs.Prelude.{filter, find, nat_le, nat_lt, sum_by}
+use Rattle.std.proofs.Common.{◌≡◌, ℕ, ◌+◌, ◌*◌, ◌^◌, ◌<◌, ◌≤◌, ◌==◌, ◌&&◌, Bool, true, false, cond, not, List, [], ◌∷◌, Option, Some, None, length, max, refl, sym, ap, subst, ◌∙◌, arith, ◌⊎◌, inl, inr}
+use Rattle.std.specs.Prelude.{All, filter, find, nat_le, nat_lt, option_map, sum_by}
+use Rattle.std.proofs.lemmas.List.Elements.{All-head, All-tail}
+use Rattle.std.proofs.lemmas.List.Sums.{sum_by-cons}
 use Rattle.std.specs.List.{last_or}
 use Rattle.std.proofs.lemmas.Bool.Decides.{leb_tells}
 use Rattle.std.proofs.lemmas.Bool.{le-leb, lt-leb, leb-true, leb-false, lt-ltb, le-ltb, ltb-true, ltb-false, ne_eqb}
@@ -13,16 +15,33 @@ use Rattle.js_model.specs.Lists.{Between}
 use Rattle.js_model.specs.Streams.{seqs, size}
 use Rattle.js_model.proofs.Members.{found_in, in_bounds}
 use Rattle.js_model.proofs.Named.{some_is}
-use Rattle.js_model.proofs.Parts.{filter_part, part_between, young_part}
+use Rattle.js_model.proofs.Parts.{filter_part, part_between, part-length, part-sum, young_part}
+use Rattle.message_store.specs.Stored.{IsSmall}
 use Rattle.retention.proofs.Walking.{all_from_low, all_from_none, all_from_some}
 use Rattle.stream_view.specs.declared.counts.Counts.{Counts}
 use Rattle.stream_view.specs.Counting.{counts_of, last_from}
+use Rattle.stream_view.specs.Heads.{MessageHead, head_of}
 use Rattle.stream_view.specs.Order.{IsInOrder}
 use Rattle.stored_stream.specs.Later.{counted_all, counted_more, later, messages_from, IsSeenFrom}
-use Rattle.stored_stream.specs.Stored.{Rises}
+use Rattle.stored_stream.specs.Stored.{IsSound, Rises}
 use Rattle.stored_stream.proofs.Lists.{filter_swap}
 
 -- ---- walking on
+
+-- so many are counted from the first on, and the others come from a sequence on
+pub record IsCounting (ms : List Message) (first from count : ℕ) : Type 0 where
+  pub rest : count + length (messages_from from ms) ≡ length (messages_from first ms)
+
+-- so many bytes
+pub record IsSumming (ms : List Message) (first from bytes : ℕ) : Type 0 where
+  pub rest : bytes + sum_by size (messages_from from ms) ≡ sum_by size (messages_from first ms)
+
+-- so many of one subject
+abbrev own : List Message → Bytes → ℕ → List ℕ
+own ms subject from = seqs (filter (λ m. same m.subject subject) (messages_from from ms))
+
+pub record IsTelling (ms : List Message) (subject : Bytes) (first from : ℕ) (found : Option Counts) : Type 0 where
+  pub rest : counted_all found (own ms subject from) ≡ counted_all None (own ms subject first)
 
 module _ (high : ℕ) (ms : List Message) (ascends : Between (λ m. m.seq) 1 high ms) where
   pub from_some : (from : ℕ) (m : Message) → Some m ≡ find (λ x. nat_le from x.seq) ms → messages_from from ms ≡ m ∷ messages_from (m.seq + 1) ms
@@ -34,63 +53,48 @@ module _ (high : ℕ) (ms : List Message) (ascends : Between (λ m. m.seq) 1 hig
   pub from_start : messages_from 0 ms ≡ ms
   from_start = all_from_low 1 high 0 ms ascends (omega arith)
 
-  -- so many are counted from the first on, and the others come from a sequence on
-  pub record IsCounting (first from count : ℕ) : Type 0 where
-    pub rest : count + length (messages_from from ms) ≡ length (messages_from first ms)
-
-  pub counting_more : (first from count : ℕ) (m : Message) → IsCounting first from count → Some m ≡ find (λ x. nat_le from x.seq) ms → IsCounting first (m.seq + 1) (count + 1)
+  pub counting_more : (first from count : ℕ) (m : Message) → IsCounting ms first from count → Some m ≡ find (λ x. nat_le from x.seq) ms → IsCounting ms first (m.seq + 1) (count + 1)
   counting_more first from count m h e =
       let split : length (messages_from from ms) ≡ length (m ∷ messages_from (m.seq + 1) ms) = ap (λ (l : List Message). length l) (from_some from m e) in
       let before : count + length (messages_from from ms) ≡ length (messages_from first ms) = h.rest in
       record { rest = omega (arith, split, before) }
 
-  pub counting_all : (first from count : ℕ) → IsCounting first from count → None ≡ find (λ x. nat_le from x.seq) ms → count ≡ length (messages_from first ms)
+  pub counting_all : (first from count : ℕ) → IsCounting ms first from count → None ≡ find (λ x. nat_le from x.seq) ms → count ≡ length (messages_from first ms)
   counting_all first from count h e =
       let none : length (messages_from from ms) ≡ 0 = ap (λ (l : List Message). length l) (from_none from e) in
       let before : count + length (messages_from from ms) ≡ length (messages_from first ms) = h.rest in
       omega (arith, none, before)
 
-  -- so many bytes
-  pub record IsSumming (first from bytes : ℕ) : Type 0 where
-    pub rest : bytes + sum_by size (messages_from from ms) ≡ sum_by size (messages_from first ms)
-
-  pub summing_more : (first from bytes : ℕ) (m : Message) → IsSumming first from bytes → Some m ≡ find (λ x. nat_le from x.seq) ms → IsSumming first (m.seq + 1) (bytes + size m)
+  pub summing_more : (first from bytes : ℕ) (m : Message) → IsSumming ms first from bytes → Some m ≡ find (λ x. nat_le from x.seq) ms → IsSumming ms first (m.seq + 1) (bytes + size m)
   summing_more first from bytes m h e =
-      let split : sum_by size (messages_from from ms) ≡ size m + sum_by size (messages_from (m.seq + 1) ms) = ap (sum_by size) (from_some from m e) in
+      let split : sum_by size (messages_from from ms) ≡ size m + sum_by size (messages_from (m.seq + 1) ms) = ap (sum_by size) (from_some from m e) ∙ sum_by-cons size m (messages_from (m.seq + 1) ms) in
       let before : bytes + sum_by size (messages_from from ms) ≡ sum_by size (messages_from first ms) = h.rest in
       record { rest = omega (arith, split, before) }
 
-  pub summing_all : (first from bytes : ℕ) → IsSumming first from bytes → None ≡ find (λ x. nat_le from x.seq) ms → bytes ≡ sum_by size (messages_from first ms)
+  pub summing_all : (first from bytes : ℕ) → IsSumming ms first from bytes → None ≡ find (λ x. nat_le from x.seq) ms → bytes ≡ sum_by size (messages_from first ms)
   summing_all first from bytes h e =
       let none : sum_by size (messages_from from ms) ≡ 0 = ap (sum_by size) (from_none from e) in
       let before : bytes + sum_by size (messages_from from ms) ≡ sum_by size (messages_from first ms) = h.rest in
       omega (arith, none, before)
 
-  -- so many of one subject
   module _ (subject : Bytes) where
-    abbrev own : ℕ → List ℕ
-    own from = seqs (filter (λ m. same m.subject subject) (messages_from from ms))
-
-    pub record IsTelling (first from : ℕ) (found : Option Counts) : Type 0 where
-      pub rest : counted_all found (own from) ≡ counted_all None (own first)
-
-    pub telling_more : (first from : ℕ) (found : Option Counts) (m : Message) → IsTelling first from found → Some m ≡ find (λ x. nat_le from x.seq) ms → same m.subject subject ≡ true → IsTelling first (m.seq + 1) (Some (counted_more found m.seq))
+    pub telling_more : (first from : ℕ) (found : Option Counts) (m : Message) → IsTelling ms subject first from found → Some m ≡ find (λ x. nat_le from x.seq) ms → same m.subject subject ≡ true → IsTelling ms subject first (m.seq + 1) (Some (counted_more found m.seq))
     telling_more first from found m h e own_is =
-        let split : own from ≡ m.seq ∷ own (m.seq + 1) =
+        let split : own ms subject from ≡ m.seq ∷ own ms subject (m.seq + 1) =
         ap (λ (l : List Message). seqs (filter (λ x. same x.subject subject) l)) (from_some from m e)
         ∙ ap (λ b. seqs (cond b (m ∷ filter (λ x. same x.subject subject) (messages_from (m.seq + 1) ms)) (filter (λ x. same x.subject subject) (messages_from (m.seq + 1) ms)))) own_is in
         record { rest = ap (counted_all found) (sym split) ∙ h.rest }
 
-    pub telling_same : (first from : ℕ) (found : Option Counts) (m : Message) → IsTelling first from found → Some m ≡ find (λ x. nat_le from x.seq) ms → same m.subject subject ≡ false → IsTelling first (m.seq + 1) found
+    pub telling_same : (first from : ℕ) (found : Option Counts) (m : Message) → IsTelling ms subject first from found → Some m ≡ find (λ x. nat_le from x.seq) ms → same m.subject subject ≡ false → IsTelling ms subject first (m.seq + 1) found
     telling_same first from found m h e other =
-        let split : own from ≡ own (m.seq + 1) =
+        let split : own ms subject from ≡ own ms subject (m.seq + 1) =
         ap (λ (l : List Message). seqs (filter (λ x. same x.subject subject) l)) (from_some from m e)
         ∙ ap (λ b. seqs (cond b (m ∷ filter (λ x. same x.subject subject) (messages_from (m.seq + 1) ms)) (filter (λ x. same x.subject subject) (messages_from (m.seq + 1) ms)))) other in
         record { rest = ap (counted_all found) (sym split) ∙ h.rest }
 
-    pub telling_all : (first from : ℕ) (found : Option Counts) → IsTelling first from found → None ≡ find (λ x. nat_le from x.seq) ms → found ≡ counts_of (own first)
+    pub telling_all : (first from : ℕ) (found : Option Counts) → IsTelling ms subject first from found → None ≡ find (λ x. nat_le from x.seq) ms → found ≡ counts_of (own ms subject first)
     telling_all first from found h e =
-        ap (counted_all found) (sym (ap (λ (l : List Message). seqs (filter (λ x. same x.subject subject) l)) (from_none from e))) ∙ h.rest ∙ counted (own first)
+        ap (counted_all found) (sym (ap (λ (l : List Message). seqs (filter (λ x. same x.subject subject) l)) (from_none from e))) ∙ h.rest ∙ counted (own ms subject first)
       where
         later_on : (n first_one last_one : ℕ) (ns : List ℕ) → counted_all (Some (record { count = n; first = first_one; last = last_one })) ns ≡ Some (record { count = n + length ns; first = first_one; last = last_from last_one ns })
         later_on n first_one last_one [] = ap (λ k. Some (record { count = k; first = first_one; last = last_one })) (let e : n ≡ n + 0 = omega arith in e)
@@ -99,6 +103,44 @@ module _ (high : ℕ) (ms : List Message) (ascends : Between (λ m. m.seq) 1 hig
         counted : (ns : List ℕ) → counted_all None ns ≡ counts_of ns
         counted [] = refl
         counted (k ∷ ns) = later_on 1 k k ns ∙ ap (λ j. Some (record { count = j; first = k; last = last_from k ns })) (let e : 1 + length ns ≡ length (k ∷ ns) = omega arith in e)
+
+-- ---- how many bytes
+
+sizes_few : (ms : List Message) → All IsSmall ms → sum_by size ms ≤ length ms * 2 ^ 21
+sizes_few [] h = omega arith
+sizes_few (m ∷ ms) h =
+    let here : size m ≤ 2 ^ 21 = All-head IsSmall m ms h in
+    let rest : sum_by size ms ≤ length ms * 2 ^ 21 = sizes_few ms (All-tail IsSmall m ms h) in
+    let all : sum_by size (m ∷ ms) ≡ size m + sum_by size ms = sum_by-cons size m ms in
+    omega (arith, here, rest, all)
+
+pub sizes_from : (s : Stream) (first : ℕ) → IsSound s → sum_by size (messages_from first s.messages) ≤ 2 ^ 53
+sizes_from s first h =
+    let few : length s.messages < 2 ^ 32 = h.few in
+    let all : sum_by size s.messages ≤ length s.messages * 2 ^ 21 = sizes_few s.messages h.small in
+    let part : sum_by size (messages_from first s.messages) ≤ sum_by size s.messages = part-sum size (filter_part (λ m. nat_le first m.seq) s.messages) in
+    omega (arith, few, all, part)
+
+pub count_from : (s : Stream) (first : ℕ) → IsSound s → length (messages_from first s.messages) < 2 ^ 32
+count_from s first h =
+    let few : length s.messages < 2 ^ 32 = h.few in
+    let part : length (messages_from first s.messages) ≤ length s.messages = part-length (filter_part (λ m. nat_le first m.seq) s.messages) in
+    omega (arith, few, part)
+
+-- the message of a head
+pub head_is : (from : ℕ) (ms : List Message) (h : MessageHead) → Some h ≡ option_map head_of (find (λ x. nat_le from x.seq) ms) → (m : Message) × (Some m ≡ find (λ x. nat_le from x.seq) ms) × (h ≡ head_of m)
+head_is from ms h e = go (find (λ x. nat_le from x.seq) ms) refl e
+  where
+    go : (o : Option Message) → find (λ x. nat_le from x.seq) ms ≡ o → Some h ≡ option_map head_of o → (m : Message) × (Some m ≡ find (λ x. nat_le from x.seq) ms) × (h ≡ head_of m)
+    go None q k = absurd cc
+    go (Some m) q k = (m, sym q, some_is k)
+
+pub no_head : (from : ℕ) (ms : List Message) → None ≡ option_map head_of (find (λ x. nat_le from x.seq) ms) → None ≡ find (λ x. nat_le from x.seq) ms
+no_head from ms e = go (find (λ x. nat_le from x.seq) ms) e
+  where
+    go : (o : Option Message) → None ≡ option_map head_of o → None ≡ o
+    go None k = refl
+    go (Some m) k = absurd cc
 
 -- ---- the first that is not too old
 

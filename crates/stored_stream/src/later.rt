@@ -126,8 +126,6 @@ fn bytes_from(stored: &StoredStream, first: u64) -> u64
     requires sound { IsSound stored.now }
     ensures value { result ≡ sum_by size (messages_from first stored.now.messages) }
 {
-    // that all sizes together are no more than 2^53 is what the proof takes from this call
-    let _most = stored.bytes();
     let mut bytes = 0;
     let mut from = first;
     while let Some(head) = stored.at_or_after(from) {
