@@ -25,6 +25,7 @@ use Rattle.stream_view.specs.Order.{IsInOrder}
 use Rattle.stored_stream.specs.Later.{counted_all, counted_more, later, messages_from, IsSeenFrom}
 use Rattle.stored_stream.specs.Stored.{IsSound, Rises}
 use Rattle.stored_stream.proofs.Lists.{filter_swap}
+use Rattle.stored_stream.proofs.Young.{young_unlimited}
 
 -- ---- walking on
 
@@ -216,6 +217,24 @@ module _ (age now : ℕ) where
         where
           own : Some m ≡ find (λ x. nat_le m.seq x.seq) ms
           own = own_first 1 high from m ms h e
+
+module _ (s : Stream) (now : ℕ) (sound : IsSound s) where
+  pub young_from_start : s.config.max_age ≡ 0 → young s now ≡ messages_from 0 s.messages
+  young_from_start e = young_unlimited s now sound e ∙ sym (from_start (s.last + 1) s.messages sound.ascends)
+
+  limited : (s.config.max_age ≡ 0 → ⊥) → young s now ≡ filter (lasts s.config.max_age now) s.messages
+  limited h = ap (λ b. cond b s.messages (filter (lasts s.config.max_age now) s.messages)) (ne_eqb s.config.max_age 0 h)
+
+  module _ (from : ℕ) (h : s.config.max_age ≡ 0 → ⊥) (k : AreOldBefore s.config.max_age now s.messages from) where
+    pub young_from_found : (m : Message) → Some m ≡ find (λ x. nat_le from x.seq) s.messages → nat_lt now (plus m.at s.config.max_age) ≡ true → young s now ≡ messages_from m.seq s.messages
+    young_from_found m e l =
+        limited h ∙ young_found s.config.max_age now (s.last + 1) s.moment from m s.messages sound.ascends sound.messages k e (ltb-true now (plus m.at s.config.max_age) l)
+
+    pub young_from_end : None ≡ find (λ x. nat_le from x.seq) s.messages → young s now ≡ messages_from from s.messages
+    young_from_end e = limited h ∙ old_all s.config.max_age now (s.last + 1) from s.messages sound.ascends k e
+
+    pub old_next : (m : Message) → Some m ≡ find (λ x. nat_le from x.seq) s.messages → nat_lt now (plus m.at s.config.max_age) ≡ false → AreOldBefore s.config.max_age now s.messages (m.seq + 1)
+    old_next m e l = old_more s.config.max_age now (s.last + 1) from m s.messages sound.ascends k e (ltb-false now (plus m.at s.config.max_age) l)
 
 -- ---- looking
 

@@ -29,12 +29,19 @@ pub fn first_old(stream: &StoredStream, now: Moment) -> Option<u64>
 }
 
 /// The sequence of a message, if that many nanoseconds have passed since it was stored.
-pub(crate) fn if_old(message: &Message, age: u64, now: Moment) -> Option<u64>
+fn if_old(message: &Message, age: u64, now: Moment) -> Option<u64>
     ensures value { result ≡ (if nat_lt now (plus message.now.at age) then None else Some message.now.seq) }
 {
-    if now.as_nanos() < message.at.plus(age).as_nanos() {
+    if is_young(message, age, now) {
         None
     } else {
         Some(message.seq)
     }
+}
+
+/// Whether fewer nanoseconds than that have passed since the message was stored.
+pub(crate) fn is_young(message: &Message, age: u64, now: Moment) -> bool
+    ensures value { result ≡ nat_lt now (plus message.now.at age) }
+{
+    now.as_nanos() < message.at.plus(age).as_nanos()
 }

@@ -8,7 +8,7 @@ ghost use Rattle.stream_view.specs.Counting.{counts_of};
 ghost use Rattle.stored_stream.specs.Later.{counted_more, later, messages_from};
 ghost use Rattle.stored_stream.specs.Stored.{IsSound};
 
-use crate::ageing::if_old;
+use crate::ageing::is_young;
 use crate::stored::StoredStream;
 use js_base::Moment;
 use js_model::StreamConfig;
@@ -99,7 +99,7 @@ fn first_young(stored: &StoredStream, now: Moment) -> u64
     }
     let mut from = 0;
     while let Some(message) = stored.first_from(from) {
-        if if_old(message, max_age, now).is_none() {
+        if is_young(message, max_age, now) {
             return message.seq;
         }
         from = message.seq + 1;
