@@ -10,7 +10,7 @@ use Rattle.js_model.specs.declared.stream.Stream.{Stream}
 use Rattle.js_model.specs.Events.{is_below, all_but_last, purge_list}
 use Rattle.js_model.specs.Lists.{Between}
 use Rattle.js_model.specs.Streams.{passes_filter, seqs}
-use Rattle.stored_stream.specs.Selecting.{is_named, named, selects, selected}
+use Rattle.stored_stream.specs.Selecting.{is_named, named, selects, selected, next_passing}
 use Rattle.stored_stream.specs.declared.selector.Selector.{Selector}
 use Rattle.js_model.proofs.Parts.{filter_part, part-length}
 use Rattle.stored_stream.proofs.Lists.{and_true}
