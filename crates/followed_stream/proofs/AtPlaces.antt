@@ -1,27 +1,32 @@
 -- What a stream and its consumers come to if the one at a place is asked.
 use Rattle.std.proofs.Common.{◌≡◌, ℕ, ◌+◌, ◌-◌, ◌^◌, ◌<◌, Bool, true, false, cond, List, [], ◌∷◌, ◌++◌, Option, Some, None, Result, Ok, Err, get_or, set, length, map, refl, sym, ap, subst, ◌∙◌}
-use Rattle.std.specs.Prelude.{All, Contains, IfOk, OnErr, OnOk, filter, nat_lt, not, slice_get}
+use Rattle.std.specs.Prelude.{All, Contains, IfOk, OnErr, OnOk, filter, nat_lt, not, option_map, slice_get}
 use Rattle.std.specs.List.{remove}
+use Rattle.std.proofs.lemmas.Option.{slice_get-map}
 use Rattle.std.proofs.lemmas.List.Elements.{All-get_or, All-weaker}
 use Rattle.js_base.specs.Bytes.{Bytes, same}
 use Rattle.js_base.specs.declared.out.Out.{Out}
 use Rattle.js_model.specs.declared.ack.Ask.{Ask}
 use Rattle.js_model.specs.declared.ack.AckKind.{AckKind}
+use Rattle.js_model.specs.declared.stream.Id.{Id}
 use Rattle.js_model.specs.declared.stream.Message.{Message}
 use Rattle.js_model.specs.declared.stream.Stream.{Stream}
 use Rattle.js_model.specs.declared.consumer.Consumer.{Consumer}
 use Rattle.js_model.specs.declared.consumer_config.ConsumerConfig.{ConsumerConfig}
 use Rattle.js_model.specs.declared.entry.Delivered.{Delivered}
 use Rattle.js_model.specs.declared.entry.Delivered.TheVariants.{Sent, TooSmall, Emptied}
+use Rattle.js_model.specs.Advance.{aged, consumer_at, remembered, stream_at, young}
 use Rattle.js_model.specs.Deliver.{candidates, due_messages, may_wait, next_message, or_next, Delivers}
 use Rattle.js_model.specs.Events.{farewells}
 use Rattle.js_model.specs.Pulls.{pulled, pull_outs}
 use Rattle.js_model.specs.Ready.{is_ready_with}
 use Rattle.js_model.specs.Retention.{needs}
-use Rattle.js_model.specs.Streams.{passes_filter, takes, with_consumer}
+use Rattle.js_model.specs.Streams.{confined, passes_filter, seqs, takes, with_consumer}
 use Rattle.consumer_need.specs.Stored.{HoldsStored}
+use Rattle.consumer_state.specs.Before.{current_of}
 use Rattle.consumer_state.specs.Delivering.{IsReady}
 use Rattle.consumer_state.specs.Offering.{IsCurrent}
+use Rattle.stored_stream.specs.Later.{later}
 use Rattle.followed_stream.specs.Asked.{acked, acked_outs, AcksAt, DropsAt, IsAcked, PullsAt}
 use Rattle.followed_stream.specs.declared.answering.Acked.{Acked}
 use Rattle.followed_stream.specs.Attended.{IsAttended}
@@ -35,18 +40,24 @@ use Rattle.followed_stream.proofs.Makes.{dropped, followed_dropped}
 
 -- ---- of what candidates and readiness are told
 
--- the other consumers have no part in it
-candidates_as : (s : Stream) (cs : List Consumer) (c : Consumer) → candidates (record s { consumers = cs }) c ≡ candidates s c
+-- the ids and the other consumers have no part in it
+candidates_alike : (s : Stream) (ids : List Id) (cs : List Consumer) (c : Consumer) → candidates (record s { ids = ids; consumers = cs }) c ≡ candidates s c
 unfolding candidates
-candidates_as s cs c = ap (λ (ms : List Message). cond (nat_lt c.dseq (2 ^ 62 - 1)) ms []) (or_same (due_messages s c))
+candidates_alike s ids cs c = ap (λ (ms : List Message). cond (nat_lt c.dseq (2 ^ 62 - 1)) ms []) (or_same (due_messages s c))
   where
-    next_same : (picks : List ℕ) → next_message picks (record s { consumers = cs }) c ≡ next_message picks s c
+    next_same : (picks : List ℕ) → next_message picks (record s { ids = ids; consumers = cs }) c ≡ next_message picks s c
     next_same [] = refl
     next_same (pick ∷ picks) = refl
 
-    or_same : (ms : List Message) → or_next ms (record s { consumers = cs }) c ≡ or_next ms s c
+    or_same : (ms : List Message) → or_next ms (record s { ids = ids; consumers = cs }) c ≡ or_next ms s c
     or_same [] = ap (λ (ms : List Message). cond (may_wait c) ms []) (next_same c.picks)
     or_same (m ∷ ms) = refl
+
+candidates_as : (s : Stream) (cs : List Consumer) (c : Consumer) → candidates (record s { consumers = cs }) c ≡ candidates s c
+candidates_as s cs c = candidates_alike s s.ids cs c
+
+candidates_later : (s : Stream) (cs : List Consumer) (now : ℕ) (c : Consumer) → candidates (record (aged s now) { consumers = cs }) c ≡ candidates (later s now) c
+candidates_later s cs now c = candidates_alike (later s now) (remembered s now) cs c
 
 pub ready_as : (s : Stream) (cs : List Consumer) (listened : Bool) (c : Consumer) (ready : Bool) → IsReady s listened c ready → IsReady (record s { consumers = cs }) listened c ready
 ready_as s cs listened c ready h listening heard = h listening heard ∙ ap (λ (ms : List Message). is_ready_with ms listening c) (sym (candidates_as s cs c))
@@ -185,6 +196,20 @@ module _ (s : Stream) (fs : List Following) (h : AreFollowed s fs) (i : ℕ) (ol
 
   pub ready_there : (listened ready : Bool) → IsReady s listened old.consumer ready → IsReadyAt whole i listened ready
   ready_there listened ready r = subst (λ (o : Option Consumer). IsReadyIf whole o listened ready) (sym found) (ready_as s (consumers_of fs) listened old.consumer ready r)
+
+  -- the same at a later moment
+  pub ready_by_there : (now : ℕ) (listened ready : Bool) → IsReady (later s now) listened (current_of (later s now) old.consumer) ready → IsReadyAt (stream_at whole now) i listened ready
+  ready_by_there now listened ready r =
+      subst (λ (o : Option Consumer). IsReadyIf (stream_at whole now) o listened ready) (sym got_later)
+      (λ listening heard. r listening heard ∙ ap (λ (ms : List Message). is_ready_with ms listening (current_of (later s now) old.consumer)) (sym (candidates_later s (stream_at whole now).consumers now (current_of (later s now) old.consumer))))
+    where
+      confine : Consumer → Consumer
+      confine = confined (seqs (young s now))
+
+      got_later : slice_get (stream_at whole now).consumers i ≡ Some (consumer_at now (confine old.consumer))
+      got_later =
+          slice_get-map (consumer_at now) (map confine whole.consumers) i
+          ∙ ap (option_map (consumer_at now)) (slice_get-map confine whole.consumers i ∙ ap (option_map confine) found)
 
   pub hands_at : {E : Type 0} (result : Result (Option Delivered) E) (listened : Bool) (outs_old outs_new : List Out) (new : Following) → IfOk result (λ what. DeliversFor s listened old what outs_old outs_new new) → OnErr result (new ≡ old)
       → Follows result (λ what t. MayHandAt whole i listened what outs_old outs_new t) new
