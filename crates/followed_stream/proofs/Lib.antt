@@ -14,3 +14,4 @@ pub mod Hands
 pub mod Makes
 pub mod AtPlaces
 pub mod Nexts
+pub mod Getting
