@@ -12,7 +12,9 @@ pub record IsCountTo (t : Message → Bool) (ms : List Message) (from count : �
 
 module _ (t : Message → Bool) (high : ℕ) (ms : List Message) (ascends : Between (λ m. m.seq) 1 high ms) where
   pub counts_none : IsCountTo t ms 0 0
-  counts_none = record { rest = ap (λ (l : List Message). length (filter t l)) (all_from_low 1 high 0 ms ascends (omega arith)) }
+  counts_none =
+      let all : length (filter t (all_from 0 ms)) ≡ length (filter t ms) = ap (λ (l : List Message). length (filter t l)) (all_from_low 1 high 0 ms ascends (omega arith)) in
+      record { rest = omega (arith, all) }
 
   one_less : (first : Message) (l : List Message) → length (filter t (first ∷ l)) ≡ cond (t first) 1 0 + length (filter t l)
   one_less first l = go (t first)

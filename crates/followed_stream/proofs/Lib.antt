@@ -14,4 +14,8 @@ pub mod Hands
 pub mod Makes
 pub mod AtPlaces
 pub mod Nexts
+<<<<<<< HEAD
 pub mod Readying
+=======
+pub mod Getting
+>>>>>>> streams2

@@ -12,7 +12,6 @@ use Rattle.js_model.specs.Streams.{seqs, size}
 use Rattle.js_model.proofs.Candidates.{candidate_is}
 use Rattle.js_model.proofs.Members.{IsIn, all_in, contains_from_in, here, there}
 use Rattle.stream_view.specs.Order.{IsInOrder}
-use Rattle.message_store.specs.Stored.{IsSmall}
 use Rattle.consumer_state.specs.Offering.{IsNext}
 use Rattle.stored_stream.specs.Stored.{IsSound}
 use Rattle.stored_stream.proofs.Finding.{member_found}
@@ -36,4 +35,4 @@ next_is a c seq o order h e =
 -- it is no larger than a stored message may be
 pub next_small : (a : Stream) (c : Consumer) (o : Option Message) → IsSound a → IsNext a c o → IfSome o (λ m. size m < 2 ^ 64)
 next_small a c None h k = tt
-next_small a c (Some m) h k = let small : size m ≤ 2 ^ 21 = all_in IsSmall a.messages h.small (candidate_is a c m k).stored in omega arith
+next_small a c (Some m) h k = let small : size m ≤ 2 ^ 21 = all_in _ a.messages h.small (candidate_is a c m k).stored in omega arith

@@ -11,7 +11,8 @@ use Rattle.js_model.specs.Advance.{consumer_at, is_spent, placed}
 use Rattle.js_model.specs.Retention.{needs}
 use Rattle.js_model.specs.Streams.{pending_seqs, seqs, takes}
 use Rattle.js_model.proofs.Named.{none_some, some_is}
-use Rattle.consumer_progress.specs.GivingUp.{first_of, rest_of}
+use Rattle.consumer_progress.specs.GivingUp.{rest_of}
+use Rattle.consumer_progress.specs.Progresses.{first_of}
 use Rattle.consumer_need.specs.Stored.{HoldsStored}
 use Rattle.consumer_state.specs.Passing.{has_overflow, overflow_of, passed, without_overflow, within_overflow, LawOverflow, LawPassed}
 use Rattle.followed_stream.specs.Delivering.{IsCurrentAt}
