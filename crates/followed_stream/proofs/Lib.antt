@@ -14,8 +14,5 @@ pub mod Hands
 pub mod Makes
 pub mod AtPlaces
 pub mod Nexts
-<<<<<<< HEAD
 pub mod Readying
-=======
 pub mod Getting
->>>>>>> streams2
