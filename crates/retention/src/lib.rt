@@ -7,4 +7,4 @@ mod needing;
 
 pub use laws::{law_trimmed, law_within, law_without};
 pub use limits::{max_messages, over_limits, over_limits_on};
-pub use needing::is_kept;
+pub use needing::{is_kept, needed};

@@ -15,13 +15,13 @@ pub fn is_kept<N: Need>(policy: Retention, consumers: &[N], subject: &[u8], seq:
 {
     match policy {
         Retention::Limits => true,
-        Retention::Interest => is_needed(consumers, subject, seq),
-        Retention::WorkQueue => is_needed(consumers, subject, seq) || !is_taken(consumers, subject),
+        Retention::Interest => needed(consumers, subject, seq),
+        Retention::WorkQueue => needed(consumers, subject, seq) || !is_taken(consumers, subject),
     }
 }
 
-/// Whether one of the consumers needs it.
-fn is_needed<N: Need>(consumers: &[N], subject: &[u8], seq: u64) -> bool
+/// Whether one of the consumers needs the message of this subject and this sequence. It asks each of them until one does.
+pub fn needed<N: Need>(consumers: &[N], subject: &[u8], seq: u64) -> bool
     ensures value { result ≡ list_any (λ n. needs_at (N.consumer n) subject.now seq) consumers.now }
 {
     consumers
