@@ -1,10 +1,21 @@
 -- How many messages are awaited, counted one by one.
 use Rattle.std.proofs.Common.{◌≡◌, ℕ, ◌+◌, ◌^◌, ◌<◌, ◌≤◌, Bool, true, false, cond, List, [], ◌∷◌, Some, None, length, refl, sym, ap, ◌∙◌, arith}
 use Rattle.std.specs.Prelude.{filter, find, nat_le}
+use Rattle.js_base.specs.Bytes.{Bytes}
 use Rattle.js_model.specs.declared.stream.Message.{Message}
+use Rattle.js_model.specs.declared.consumer.Consumer.{Consumer}
 use Rattle.js_model.specs.Lists.{Between}
 use Rattle.js_model.proofs.Parts.{filter_part, part-length}
+use Rattle.consumer_need.specs.Needs.{awaits}
+use Rattle.followed_stream.specs.Followers.{awaited}
 use Rattle.retention.proofs.Walking.{all_from, all_from_low, all_from_none, all_from_some}
+
+pub at_most_one : (c : Consumer) (subject : Bytes) (seq : ℕ) → awaited c subject seq ≤ 1
+at_most_one c subject seq = go (awaits c subject seq)
+  where
+    go : (b : Bool) → cond b 1 0 ≤ 1
+    go true = omega arith
+    go false = omega arith
 
 -- so many are counted, and the others come from a sequence on
 pub record IsCountTo (t : Message → Bool) (ms : List Message) (from count : ℕ) : Type 0 where

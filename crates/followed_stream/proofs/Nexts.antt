@@ -35,4 +35,4 @@ next_is a c seq o order h e =
 -- it is no larger than a stored message may be
 pub next_small : (a : Stream) (c : Consumer) (o : Option Message) → IsSound a → IsNext a c o → IfSome o (λ m. size m < 2 ^ 64)
 next_small a c None h k = tt
-next_small a c (Some m) h k = let small : size m ≤ 2 ^ 21 = all_in _ a.messages h.small (candidate_is a c m k).stored in omega arith
+next_small a c (Some m) h k = let small : size m ≤ 2 ^ 21 = all_in (λ (x : Message). size x ≤ 2 ^ 21) a.messages h.small (candidate_is a c m k).stored in omega arith

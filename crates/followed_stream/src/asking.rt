@@ -33,8 +33,10 @@ impl FollowedStream {
     pub fn name_at(&self, place: usize) -> Option<&Blob>
         ensures value { option_copied result ≡ option_map (λ c. c.name) (slice_get self.now.consumers place) }
     {
-        let follower = self.followers.get(place)?;
-        Some(follower.name())
+        match self.followers.get(place) {
+            Some(follower) => Some(follower.name()),
+            None => None,
+        }
     }
 
     /// Adds a consumer of a name that none has, at its place in the order of names. An `Err` changes nothing. It goes through the messages once.

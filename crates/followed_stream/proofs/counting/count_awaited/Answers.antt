@@ -1,6 +1,6 @@
 use Rattle.std.proofs.Common.{◌≡◌, ℕ, ◌+◌, ◌^◌, ◌<◌, ap, ◌∙◌, arith}
 use Rattle.stored_stream.proofs.Finding.{found_from, found_within}
-use Rattle.followed_stream.proofs.Counts.{counts_all, counts_few, counts_more, counts_none}
+use Rattle.followed_stream.proofs.Counts.{at_most_one, counts_all, counts_few, counts_more, counts_none}
 use Rattle.followed_stream.proofs.Holding.{awaits_it}
 use Rattle.followed_stream.proofs.counting.count_awaited.Goals as goal
 
@@ -11,7 +11,8 @@ pub overflow_add-count : goal.overflow_add-count
 overflow_add-count c =
     let s = c.args.stored.now in
     let few = counts_few (awaits_it c.args.consumer.now) (s.last + 1) s.messages c.requires.sound.ascends c.loop-message.from c.loop-message.count c.loop-message.invariant c.requires.sound.few in
-    omega (arith, few, c.awaited.ensures.value)
+    let one = at_most_one c.args.consumer.now c.in-Some.message.now.subject c.in-Some.message.now.seq in
+    omega (arith, few, one, c.awaited-count.ensures.value)
 
 pub overflow_add-from : goal.overflow_add-from
 overflow_add-from c =
@@ -28,7 +29,7 @@ loop-message-smaller c =
 pub loop-message-preserved : goal.loop-message-preserved
 loop-message-preserved c =
     let s = c.args.stored.now in
-    rw c.awaited.ensures.value
+    rw c.awaited-count.ensures.value
     (counts_more (awaits_it c.args.consumer.now) (s.last + 1) s.messages c.requires.sound.ascends c.loop-message.from c.loop-message.count c.in-Some.message.now c.loop-message.invariant c.in-Some.ensures.value)
 
 pub returns : goal.returns

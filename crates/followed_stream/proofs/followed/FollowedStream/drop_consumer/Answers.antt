@@ -15,8 +15,8 @@ remove-requires c =
     let l = place_there i.stored c.args.self.now i.followers.items c.args.place c.self.view_is c.requires.within in
     omega (arith, l, i.followers.ok.0)
 
-pub invariant_of-self-2 : goal.invariant_of-self-2
-invariant_of-self-2 c =
+pub invariant_of-self : goal.invariant_of-self
+invariant_of-self c =
     let i = c.self.inside in
     let l = place_there i.stored c.args.self.now i.followers.items c.args.place c.self.view_is c.requires.within in
     rw c.remove.ensures.items (followed_without i.stored i.followers.items c.self.invariant c.args.place c.index.result.now l c.index.ensures)
@@ -29,4 +29,4 @@ returns-clause-dropped c =
     (rw c.remove.ensures.items (drops i.stored i.followers.items c.self.invariant c.args.place c.index.result.now l c.index.ensures _ _ c.in_ok-tell_dropped.ensures.ok))
 
 pub returns-clause-sound : goal.returns-clause-sound
-returns-clause-sound c = (invariant_of-self-2 c).attended
+returns-clause-sound c = (invariant_of-self c).attended
