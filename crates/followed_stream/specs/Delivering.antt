@@ -1,13 +1,11 @@
--- What may be delivered to a consumer of a stream for which time has passed, and what a delivery does, by JetStream's pull and push consumers.
-use Rattle.std.specs.Prelude.{◌≡◌, ℕ, Bool, true, false, List, ◌++◌, Option, Some, None, All, slice_get}
+-- Whether something can be delivered to a consumer of a stream for which time has passed, by JetStream's pull and push consumers.
+use Rattle.std.specs.Prelude.{◌≡◌, ℕ, Bool, false, List, Option, Some, None, All, slice_get}
 use Rattle.js_base.specs.Bytes.{Bytes}
 use Rattle.js_base.specs.declared.out.Out.{Out}
 use Rattle.js_model.specs.declared.stream.Stream.{Stream}
 use Rattle.js_model.specs.declared.consumer.Consumer.{Consumer}
-use Rattle.js_model.specs.declared.entry.Delivery.{Delivery}
-use Rattle.js_model.specs.Deliver.{is_listened, Delivers}
+use Rattle.js_model.specs.Deliver.{is_listened}
 use Rattle.js_model.specs.Ready.{is_ready}
-use Rattle.js_model.specs.Streams.{with_consumer}
 use Rattle.consumer_progress.specs.GivingUp.{IsUnspent}
 
 -- time has passed for the consumer up to a moment: no delivery that is due was made as often as it may be
@@ -31,23 +29,8 @@ IsReadyIf s (Some c) listened ready = (listening : List Bytes) → is_listened l
 abbrev pub IsReadyAt : Stream → ℕ → Bool → Bool → Type 0
 IsReadyAt s place listened ready = IsReadyIf s (slice_get s.consumers place) listened ready
 
--- a delivery is made to the consumer of a place, whoever else is listened to
-pub record IsMadeAt (s : Stream) (place : ℕ) (listened : Bool) (made : Delivery) (outs_old outs_new : List Out) (new : Stream) : Type 0 where
-  pub consumer : Consumer
-  pub after : Consumer
-  pub own : List Out
-  pub found : slice_get s.consumers place ≡ Some consumer
-  pub name : made.consumer ≡ consumer.name
-  pub delivers : (listening : List Bytes) → is_listened listening consumer ≡ listened → Delivers s listening consumer made.what own after
-  pub outs_are : outs_new ≡ outs_old ++ own
-  pub new_is : new ≡ with_consumer s after
-
 -- nothing is delivered, since nothing can be
 pub record IsIdleAt (s : Stream) (place : ℕ) (listened : Bool) (outs_old outs_new : List Out) (new : Stream) : Type 0 where
   pub unready : IsReadyAt s place listened false
   pub outs_same : outs_new ≡ outs_old
   pub same : new ≡ s
-
-abbrev pub DeliversAt : Stream → ℕ → Bool → Option Delivery → List Out → List Out → Stream → Type 0
-DeliversAt s place listened None outs_old outs_new new = IsIdleAt s place listened outs_old outs_new new
-DeliversAt s place listened (Some made) outs_old outs_new new = IsMadeAt s place listened made outs_old outs_new new
