@@ -7,7 +7,7 @@ use Rattle.followed_stream.proofs.Nexts.{next_small}
 use Rattle.followed_stream.proofs.follower.Follower.deliver.Goals as goal
 
 pub deliver_next-requires-clause-small : goal.deliver_next-requires-clause-small
-deliver_next-requires-clause-small c = next_small c.args.stored.now c.self.inside.consumer (option_copied c.next-message.result) c.requires.sound c.next-message.ensures.value
+deliver_next-requires-clause-small c = next_small c.args.stored.now c.args.self.now.consumer (option_copied c.next-message.result) c.requires.sound c.next-message.ensures.value
 
 pub returns-clause-delivered : goal.returns-clause-delivered
 returns-clause-delivered c =
