@@ -2,7 +2,7 @@
 use Rattle.std.proofs.Common.{◌≡◌, ℕ, Bool, true, false, cond, List, [], ◌∷◌, map, refl, sym, ap, ◌∙◌}
 use Rattle.std.specs.Prelude.{filter, All}
 use Rattle.std.proofs.lemmas.Bool.{true≢false}
-use Rattle.std.proofs.lemmas.List.Elements.{All-nil, All-cons, All-head, All-tail}
+use Rattle.std.proofs.lemmas.List.Elements.{All-nil, All-cons, All-head, All-tail, filter_passes}
 use Rattle.js_base.specs.Bytes.{has}
 use Rattle.js_model.specs.declared.stream.Message.{Message}
 use Rattle.js_model.specs.declared.stream.Stream.{Stream}
@@ -10,9 +10,9 @@ use Rattle.js_model.specs.declared.consumer.Pending.{Pending}
 use Rattle.js_model.specs.declared.consumer.Consumer.{Consumer}
 use Rattle.js_model.specs.Lists.{IsPart}
 use Rattle.js_model.specs.Streams.{only, confined, seqs}
-use Rattle.js_model.proofs.Parts.{all_part, part_map}
+use Rattle.js_model.proofs.Parts.{part_map}
 use Rattle.js_model.proofs.Lacking.{has-part}
-use Rattle.retention.specs.Laws.{HoldsStored}
+use Rattle.consumer_need.specs.Stored.{HoldsStored}
 
 -- what passes the second test passes the first
 pub filter_within : {X : Type 0} (t u : X → Bool) → ((x : X) → u x ≡ true → t x ≡ true) → (xs : List X) → filter u (filter t xs) ≡ filter u xs
@@ -48,14 +48,32 @@ module _ {ms ns : List Message} (p : IsPart ms ns) where
   only_within s = ap (λ (cs : List Consumer). record (only s ms) { consumers = cs }) (all_within s.consumers)
 
 -- consumers that were confined to some messages hold those alone
-pub holds_confined : (ms : List Message) (cs : List Consumer) → All (HoldsStored ms) (map (confined (seqs ms)) cs)
-holds_confined ms [] = All-nil (HoldsStored ms)
-holds_confined ms (c ∷ cs) = All-cons (HoldsStored ms) (confined (seqs ms) c) (map (confined (seqs ms)) cs) (confined_within (all_part ms) c) (holds_confined ms cs)
+pub holds_confined : (s : Stream) (ms : List Message) → All (HoldsStored (only s ms)) (only s ms).consumers
+holds_confined s ms = go s.consumers
+  where
+    holds : (c : Consumer) → HoldsStored (only s ms) (confined (seqs ms) c)
+    holds c = record {
+      picks = filter_passes (has (seqs ms)) c.picks;
+      pending = filter_passes (λ (p : Pending). has (seqs ms) p.seq) c.pending;
+      given_up = filter_passes (has (seqs ms)) c.given_up;
+    }
 
--- and stay as they are if they are confined to them again
-pub confined_same : (ms : List Message) (cs : List Consumer) → All (HoldsStored ms) cs → map (confined (seqs ms)) cs ≡ cs
-confined_same ms [] h = refl
-confined_same ms (c ∷ cs) h = rw (All-head (HoldsStored ms) c cs h, confined_same ms cs (All-tail (HoldsStored ms) c cs h)) refl
+    go : (cs : List Consumer) → All (HoldsStored (only s ms)) (map (confined (seqs ms)) cs)
+    go [] = All-nil (HoldsStored (only s ms))
+    go (c ∷ cs) = All-cons (HoldsStored (only s ms)) (confined (seqs ms) c) (map (confined (seqs ms)) cs) (holds c) (go cs)
 
-pub only_own : (s : Stream) → All (HoldsStored s.messages) s.consumers → only s s.messages ≡ s
-only_own s h = ap (λ (cs : List Consumer). record s { consumers = cs }) (confined_same s.messages s.consumers h)
+-- what all pass keeps all
+filter_all : {X : Type 0} (t : X → Bool) (xs : List X) → All (λ x. t x ≡ true) xs → filter t xs ≡ xs
+filter_all t [] h = refl
+filter_all t (x ∷ xs) h = rw (All-head (λ y. t y ≡ true) x xs h) (ap (λ l. x ∷ l) (filter_all t xs (All-tail (λ y. t y ≡ true) x xs h)))
+
+-- a consumer that holds stored messages alone stays as it is
+pub confined_same : (s : Stream) (c : Consumer) → HoldsStored s c → confined (seqs s.messages) c ≡ c
+confined_same s c h = rw (filter_all (has (seqs s.messages)) c.picks h.picks, filter_all (λ (p : Pending). has (seqs s.messages) p.seq) c.pending h.pending, filter_all (has (seqs s.messages)) c.given_up h.given_up) refl
+
+pub only_own : (s : Stream) → All (HoldsStored s) s.consumers → only s s.messages ≡ s
+only_own s h = ap (λ (cs : List Consumer). record s { consumers = cs }) (go s.consumers h)
+  where
+    go : (cs : List Consumer) → All (HoldsStored s) cs → map (confined (seqs s.messages)) cs ≡ cs
+    go [] k = refl
+    go (c ∷ cs) k = rw (confined_same s c (All-head (HoldsStored s) c cs k), go cs (All-tail (HoldsStored s) c cs k)) refl

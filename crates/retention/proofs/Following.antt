@@ -143,7 +143,7 @@ trimmed_coherent s coherent =
     subst IsCoherent (sym (trim_only s))
     (record {
       ascends = part_between (λ m. m.seq) 1 (s.last + 1) (limits_keep_part s.config.max_msgs_per_subject (max_messages s) s.config.max_bytes s.messages) coherent.ascends;
-      held = holds_confined (kept_of s s.messages) s.consumers;
+      held = holds_confined s (kept_of s s.messages);
     })
 
 pub law_trimmed : LawTrimmed

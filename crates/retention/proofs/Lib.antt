@@ -4,3 +4,4 @@ pub mod Confining
 pub mod Dropping
 pub mod Following
 pub mod Walking
+pub mod Asking

@@ -1,22 +1,17 @@
 -- What is left if the messages over the limits go one by one is what the limits keep.
-use Rattle.std.specs.Prelude.{◌≡◌, ℕ, ◌+◌, List, [], ◌∷◌, Some, None, All}
+use Rattle.std.specs.Prelude.{◌≡◌, ℕ, ◌+◌, [], ◌∷◌, Some, None, All}
 use Rattle.js_model.specs.declared.stream.Message.{Message}
 use Rattle.js_model.specs.declared.stream.Stream.{Stream}
-use Rattle.js_model.specs.declared.consumer.Consumer.{Consumer}
-use Rattle.js_model.specs.Streams.{confined, seqs}
 use Rattle.js_model.specs.Events.{message_at, without_messages}
 use Rattle.js_model.specs.Lists.{Between}
 use Rattle.js_model.specs.Trim.{trim}
+use Rattle.consumer_need.specs.Stored.{HoldsStored}
 use Rattle.retention.specs.Over.{next_over}
-
--- each sequence that the consumer holds is that of one of these messages: confined to them, it stays as it is
-abbrev pub HoldsStored : List Message → Consumer → Type 0
-HoldsStored messages c = confined (seqs messages) c ≡ c
 
 -- a stream whose sequences ascend, and whose consumers hold stored messages alone
 pub record IsCoherent (s : Stream) : Type 0 where
   pub ascends : Between (λ m. m.seq) 1 (s.last + 1) s.messages
-  pub held : All (HoldsStored s.messages) s.consumers
+  pub held : All (HoldsStored s) s.consumers
 
 -- a stream of which nothing is to go is as its limits keep it
 abbrev pub LawWithin : Type 0

@@ -15,10 +15,10 @@ use Rattle.js_model.specs.Streams.{over_limit}
 use Rattle.js_model.specs.Trim.{max_messages, trim}
 use Rattle.js_model.specs.Verdict.{known, early_checks, late_checks, first_of_all, verdict, message_of}
 use Rattle.retention.specs.Over.{is_over_on, next_over, IsOverOnlyOn}
-use Rattle.stream_state.specs.Stored.{IsSound}
-use Rattle.stream_state.proofs.Limiting.{not_over, subjects_within}
-use Rattle.stream_state.proofs.Lists.{same_flip}
-use Rattle.stream_state.proofs.Sounding.{with_message_is}
+use Rattle.stored_stream.specs.Stored.{IsSound}
+use Rattle.stored_stream.proofs.Limiting.{not_over, subjects_within}
+use Rattle.stored_stream.proofs.Lists.{same_flip}
+use Rattle.stored_stream.proofs.Sounding.{with_message_is}
 use Rattle.std.proofs.lemmas.Bool.{or_parts}
 
 all_none : (early : Option ApiError) (found : Option Id) (late : Option ApiError) → first_of_all early found late ≡ Take → (found ≡ None) × (late ≡ None)

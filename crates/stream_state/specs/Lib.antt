@@ -1,6 +1,2 @@
-pub mod Indexed
-pub mod Stored
 pub mod Settled
-pub mod PushedOut
-pub mod Selecting
-pub mod Heads
+pub mod Answering

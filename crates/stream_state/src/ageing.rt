@@ -1,51 +1,21 @@
 //! Messages that are too old.
 
-ghost use Rattle.std.specs.Prelude.{◌≡◌, None, Some, nat_lt, if◌then◌else◌, IfNone, IfSome, IsSome};
-ghost use Rattle.js_base.specs.Moments.{plus};
+ghost use Rattle.std.specs.Prelude.{◌≡◌};
 ghost use Rattle.js_model.specs.Advance.{young};
-ghost use Rattle.js_model.specs.Events.{message_at};
-ghost use Rattle.stream_state.specs.Stored.{IsSound, without};
+ghost use Rattle.js_model.specs.Streams.{only};
+ghost use Rattle.followed_stream.specs.Attended.{IsAttended};
 
-use crate::stored::StoredStream;
+use followed_stream::FollowedStream;
 use js_base::Moment;
-use js_model::Message;
-use stream_view::View;
+use stored_stream::first_old;
 
 /// Lets the messages go that are too old at a moment, by JetStream's `max_age`. It takes no memory, and costs what it removes.
-pub(crate) fn drop_old(stream: &mut StoredStream, now: Moment)
-    requires sound { IsSound stream.old }
-    ensures left { stream.new ≡ record stream.old { messages = young stream.old now } }
-    ensures sound { IsSound stream.new }
+pub(crate) fn drop_old(stream: &mut FollowedStream, now: Moment)
+    requires sound { IsAttended stream.old }
+    ensures left { stream.new ≡ only stream.old (young stream.old now) }
+    ensures sound { IsAttended stream.new }
 {
-    while let Some(seq) = first_old(stream, now) {
+    while let Some(seq) = first_old(stream.stored(), now) {
         stream.remove(seq);
-    }
-}
-
-/// The sequence of the first message, if that is too old. If it is not, no message is.
-fn first_old(stream: &StoredStream, now: Moment) -> Option<u64>
-    requires sound { IsSound stream.now }
-    ensures there { IfSome result (λ seq. IsSome (message_at stream.now seq)) }
-    ensures old { IfSome result (λ seq. young (without seq stream.now) now ≡ young stream.now now) }
-    ensures none { IfNone result (young stream.now now ≡ stream.now.messages) }
-{
-    let max_age = stream.config().max_age;
-    if max_age == 0 {
-        return None;
-    }
-    match stream.first() {
-        Some(first) => if_old(first, max_age, now),
-        None => None,
-    }
-}
-
-/// The sequence of a message, if that many nanoseconds have passed since it was stored.
-fn if_old(message: &Message, age: u64, now: Moment) -> Option<u64>
-    ensures value { result ≡ (if nat_lt now (plus message.now.at age) then None else Some message.now.seq) }
-{
-    if now.as_nanos() < message.at.plus(age).as_nanos() {
-        None
-    } else {
-        Some(message.seq)
     }
 }

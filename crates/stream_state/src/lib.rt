@@ -1,14 +1,14 @@
-//! A stream without its consumers: what is stored, which message ids are known, and what a publish comes to.
+//! A stream with its consumers, as its limits and its retention keep it, and what its consumers are asked.
 #![tactic(auto)]
 
 mod ageing;
-mod heads;
-mod indexed;
-mod purging;
-mod selector;
+mod calls;
+mod listing;
+mod releasing;
+mod removing;
+mod rules;
 mod state;
-mod stored;
+mod telling;
 mod trimming;
-mod verdicts;
 
 pub use state::StreamState;

@@ -1,6 +1,6 @@
 //! A stream whose limits hold.
 
-ghost use Rattle.std.specs.Prelude.{◌≡◌, ◌+◌, ◌^◌, ◌<◌, [], None, is_some, length, max, true, IfOk, IfSome, IsTrue, IsUtf8, OnOk, OnErr};
+ghost use Rattle.std.specs.Prelude.{◌≡◌, ◌+◌, ◌^◌, ◌<◌, None, is_some, length, max, true, All, IfOk, IfSome, IsTrue, IsUtf8, OnOk, OnErr};
 ghost use Rattle.std.specs.List.{last_or};
 ghost use Rattle.std.specs.Option.{option_copied, option_to_list};
 ghost use Rattle.js_model.specs.declared.reply.Verdict.TheVariants.{Take};
@@ -10,25 +10,30 @@ ghost use Rattle.js_model.specs.Consumers.{empty_stream};
 ghost use Rattle.js_model.specs.Counts.{first_message};
 ghost use Rattle.js_model.specs.Events.{message_at, purge_list, with_message, without_messages};
 ghost use Rattle.js_model.specs.Proper.{is_proper_publish};
+ghost use Rattle.js_model.specs.Retention.{kept};
 ghost use Rattle.js_model.specs.Trim.{trim};
 ghost use Rattle.js_model.specs.Verdict.{last_on, verdict};
+ghost use Rattle.followed_stream.specs.Delivering.{AreCurrent};
 
 use crate::ageing::drop_old;
-use crate::purging::{purge_seqs, remove_all};
-use crate::stored::StoredStream;
+use crate::releasing::release;
+use crate::removing::remove_all;
 use crate::trimming::{trim, trim_on};
-use crate::verdicts::verdict;
+use followed_stream::{FollowedStream, Span};
 use js_base::{Moment, NoMemory};
 use js_model::{Message, Publish, StreamConfig, Verdict};
 use std::alloc::Global;
 use std::marker::Model;
+use stored_stream::{purge_seqs, verdict};
 use stream_view::{Counts, Head, View};
 
-/// A stream without consumers, as its limits keep it.
+/// A stream with its consumers, as its limits keep it. The messages that its retention no longer keeps are there until `release`.
 #[derive(Drop)]
 pub struct StreamState {
-    alloc: Global,
-    stream: StoredStream,
+    pub(crate) alloc: Global,
+    pub(crate) stream: FollowedStream,
+    /// The retention keeps all messages outside it.
+    pub(crate) loose: Span,
 }
 
 impl Model for StreamState {
@@ -39,11 +44,11 @@ impl Model for StreamState {
 
     ghost view = { λ state. state.stream };
 
-    ghost invariant = { λ state. IsSettled state.stream };
+    ghost invariant = { λ state. IsSettled state.stream state.loose };
 }
 
 impl StreamState {
-    /// A stream without messages. It takes no memory.
+    /// A stream without messages and consumers. It takes no memory.
     pub fn make(alloc: Global, incarnation: u64, config: StreamConfig, now: Moment) -> StreamState
         requires valid { IsTrue (is_stream_config config) }
         requires incarnation { incarnation < 2 ^ 62 }
@@ -52,26 +57,26 @@ impl StreamState {
     {
         StreamState {
             alloc,
-            stream: StoredStream::make(alloc, incarnation, config, now),
+            stream: FollowedStream::make(alloc, incarnation, config, now),
+            loose: Span::none(),
         }
     }
 
-    /// The number of the stream among those of its place, below 2^62. There are no consumers.
+    /// The number of the stream among those of its place, below 2^62.
     pub fn incarnation(&self) -> u64
         ensures value { result ≡ self.now.incarnation }
         ensures bound { result < 2 ^ 62 }
         ensures config { IsTrue (is_stream_config self.now.config) }
-        ensures alone { self.now.consumers ≡ [] }
         ensures settled { trim self.now ≡ self.now }
     {
-        self.stream.incarnation()
+        self.stream.stored().incarnation()
     }
 
     /// The moment at which it was made.
     pub fn made(&self) -> Moment
         ensures value { result ≡ self.now.made }
     {
-        self.stream.made()
+        self.stream.stored().made()
     }
 
     /// The message of a sequence.
@@ -79,21 +84,21 @@ impl StreamState {
         ensures value { option_copied result ≡ message_at self.now seq }
         ensures utf8 { IfSome result (λ message. IsUtf8 message.now.subject) }
     {
-        self.stream.get(seq)
+        self.stream.stored().get(seq)
     }
 
     /// The first message.
     pub fn first(&self) -> Option<&Message>
         ensures value { option_copied result ≡ first_message self.now.messages }
     {
-        self.stream.first()
+        self.stream.stored().first()
     }
 
     /// The last message.
     pub fn last_message(&self) -> Option<&Message>
         ensures value { option_copied result ≡ last_or None self.now.messages }
     {
-        self.stream.messages().by_sequence().last()
+        self.stream.stored().last_message()
     }
 
     /// The last stored message of a subject.
@@ -101,7 +106,7 @@ impl StreamState {
         ensures value { option_copied result ≡ last_on self.now subject.now }
         ensures utf8 { IfSome result (λ message. IsUtf8 message.now.subject) }
     {
-        self.stream.last_on(subject)
+        self.stream.stored().last_on(subject)
     }
 
     /// What the stream answers a publish, by JetStream's publish headers, duplicate window and discard policy, if its store has a block for the
@@ -109,7 +114,7 @@ impl StreamState {
     pub fn verdict(&self, publish: &Publish) -> Result<Verdict, NoMemory>
         ensures value { IfOk result (λ said. said ≡ verdict self.now publish.now true) }
     {
-        verdict(self.alloc, &self.stream, publish)
+        verdict(self.alloc, self.stream.stored(), publish)
     }
 
     /// Stores the message of a publish that is to be taken, remembers its id, and lets the messages go that the limits drop. Gives the message's
@@ -124,7 +129,9 @@ impl StreamState {
     {
         self.stream.store(publish)?;
         trim_on(&mut self.stream, publish.subject.as_slice());
-        Ok(self.stream.last())
+        let seq = self.stream.last();
+        self.loose = self.loose.join(Span::one(seq));
+        Ok(seq)
     }
 
     /// Removes the messages that a purge names, by JetStream's stream purge: those that the filter matches, below a sequence, and all but a given
@@ -141,7 +148,7 @@ impl StreamState {
         ensures settled { trim self.new ≡ self.new }
         ensures err { OnErr result (self.new ≡ self.old) }
     {
-        let gone = purge_seqs(self.alloc, &self.stream, pattern, below, keep)?;
+        let gone = purge_seqs(self.alloc, self.stream.stored(), pattern, below, keep)?;
         remove_all(&mut self.stream, gone.as_slice());
         Ok(gone.len() as u64)
     }
@@ -163,17 +170,31 @@ impl StreamState {
     {
         self.stream.set_config(config);
         trim(&mut self.stream);
+        self.loose = Span::up_to(self.stream.last());
     }
 
-    /// Lets time pass until a moment, or until its own if that is later: messages and ids go that are too old. It takes no memory, and costs
-    /// what it removes.
+    /// Lets time pass until a moment, or until its own if that is later: messages and ids go that are too old, and the consumers stand at that
+    /// moment. It takes no memory, and costs what it removes and what the consumers give up.
     pub fn advance(&mut self, now: Moment)
         ensures value { self.new ≡ advance self.old now }
+        ensures current { AreCurrent self.new }
         ensures settled { trim self.new ≡ self.new }
     {
         let now = later(self.stream.moment(), now);
         drop_old(&mut self.stream, now);
         self.stream.pass_time(now);
+        let loose = self.stream.advance_consumers(now);
+        self.loose = self.loose.join(loose);
+    }
+
+    /// Lets the messages go that the retention does not keep, by JetStream's retention policies. What its consumers need is looked up for the messages
+    /// alone that they may have ceased to need since the last such call. It takes no memory.
+    pub fn release(&mut self)
+        ensures value { self.new ≡ kept self.old }
+        ensures settled { trim self.new ≡ self.new }
+    {
+        release(&mut self.stream, self.loose);
+        self.loose = Span::none();
     }
 }
 
@@ -214,7 +235,7 @@ impl View for StreamState {
 }
 
 /// The later of two moments.
-fn later(one: Moment, other: Moment) -> Moment
+pub(crate) fn later(one: Moment, other: Moment) -> Moment
     ensures value { result ≡ max one other }
 {
     if one.as_nanos() < other.as_nanos() {

@@ -2,7 +2,7 @@ use Rattle.std.proofs.Common.{sym, ◌∙◌, subst}
 use Rattle.std.proofs.lemmas.Bool.{OnTrue_at}
 use Rattle.js_model.specs.declared.stream.Stream.{Stream}
 use Rattle.retention.specs.Over.{IsOverOnlyOn}
-use Rattle.stream_state.proofs.Limiting.{over_only_less}
+use Rattle.followed_stream.proofs.Going.{over_only_less}
 use Rattle.retention.proofs.Following.{law_within, law_without}
 use Rattle.stream_state.proofs.Loops.{trims_none, trims_more, trims_all, over_found}
 use Rattle.stream_state.proofs.trimming.trim_on.Goals as goal

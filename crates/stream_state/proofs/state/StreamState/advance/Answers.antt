@@ -1,32 +1,54 @@
-use Rattle.std.proofs.Common.{◌≡◌, None, max, ap, sym, ◌∙◌}
+use Rattle.std.proofs.Common.{◌≡◌, ◌≤◌, None, max, map, ap, sym, ◌∙◌, arith}
 use Rattle.js_model.specs.declared.stream.Stream.{Stream}
-use Rattle.js_model.specs.Advance.{remembered, young}
+use Rattle.js_model.specs.Advance.{consumer_at, remembered, young}
+use Rattle.js_model.specs.Streams.{only}
 use Rattle.js_model.proofs.Parts.{young_part}
 use Rattle.retention.specs.Over.{next_over}
-use Rattle.retention.proofs.Following.{law_within}
-use Rattle.stream_state.proofs.Limiting.{coherent, within_less}
-use Rattle.stream_state.proofs.Young.{advanced}
+use Rattle.followed_stream.proofs.Going.{within_only}
+use Rattle.stream_state.proofs.Settling.{advanced, advanced_kept, trimmed}
 use Rattle.stream_state.proofs.state.StreamState.advance.Goals as goal
+
+pub pass_time-requires : goal.pass_time-requires
+pass_time-requires c =
+    let s = c.self.inside.stream in
+    let t = c.later-now.result in
+    let at : t ≡ max s.moment c.args.now = c.later-now.ensures.value ∙ ap (λ k. max k c.args.now) c.moment.ensures.value in
+    let later : s.moment ≤ t = omega (arith, at) in
+    record { later = rw c.drop_old.ensures.left later }
 
 pub invariant_of-self : goal.invariant_of-self
 invariant_of-self c =
     let s = c.self.inside.stream in
     let t = c.later-now.result in
-    let left : c.pass_time.new.self ≡ record s { messages = young s t; moment = t; ids = remembered s t } = c.pass_time.ensures.left ∙ ap (λ (x : Stream). record x { moment = t; ids = remembered x t }) c.drop_old.ensures.left in
-    record { sound = c.pass_time.ensures.sound; within = rw left (within_less s (young_part s t) c.self.invariant.within) }
+    let aged : c.pass_time.new.self ≡ record (only s (young s t)) { moment = t; ids = remembered s t } = c.pass_time.ensures.left ∙ ap (λ (x : Stream). record x { moment = t; ids = remembered x t }) c.drop_old.ensures.left in
+    let left = c.advance_consumers-loose.ensures.left ∙ ap (λ (x : Stream). record x { consumers = map (consumer_at t) x.consumers }) aged in
+    record {
+      attended = c.advance_consumers-loose.ensures.sound;
+      within = rw left (within_only s (young_part s t) c.self.invariant.within);
+      kept = rw c.join-self-inside.ensures.value
+          (advanced_kept c.self.inside.loose c.advance_consumers-loose.result s c.advance_consumers-loose.new.self t left
+          (λ m e. rw (← ap (λ (x : Stream). x.consumers) aged) (c.advance_consumers-loose.ensures.loose m e)) c.self.invariant.kept);
+    }
 
 pub returns-clause-value : goal.returns-clause-value
 returns-clause-value c =
     let s = c.self.inside.stream in
     let t = c.later-now.result in
-    let left : c.pass_time.new.self ≡ record s { messages = young s t; moment = t; ids = remembered s t } = c.pass_time.ensures.left ∙ ap (λ (x : Stream). record x { moment = t; ids = remembered x t }) c.drop_old.ensures.left in
+    let aged : c.pass_time.new.self ≡ record (only s (young s t)) { moment = t; ids = remembered s t } = c.pass_time.ensures.left ∙ ap (λ (x : Stream). record x { moment = t; ids = remembered x t }) c.drop_old.ensures.left in
+    let left = c.advance_consumers-loose.ensures.left ∙ ap (λ (x : Stream). record x { consumers = map (consumer_at t) x.consumers }) aged in
     let at : t ≡ max s.moment c.args.now = c.later-now.ensures.value ∙ ap (λ k. max k c.args.now) c.moment.ensures.value in
-    rw (← c.self.view_is) (left ∙ ap (λ k. record s { messages = young s k; moment = k; ids = remembered s k }) at ∙ sym (advanced s c.args.now c.self.invariant.sound.alone))
+    rw (← c.self.view_is) (left ∙ ap (λ k. record (only s (young s k)) { moment = k; ids = remembered s k; consumers = map (consumer_at k) (only s (young s k)).consumers }) at ∙ sym (advanced s c.args.now))
 
 pub returns-clause-settled : goal.returns-clause-settled
 returns-clause-settled c =
     let s = c.self.inside.stream in
     let t = c.later-now.result in
-    let left : c.pass_time.new.self ≡ record s { messages = young s t; moment = t; ids = remembered s t } = c.pass_time.ensures.left ∙ ap (λ (x : Stream). record x { moment = t; ids = remembered x t }) c.drop_old.ensures.left in
-    let within : next_over c.pass_time.new.self ≡ None = rw left (within_less s (young_part s t) c.self.invariant.within) in
-    law_within c.pass_time.new.self (coherent c.pass_time.new.self c.pass_time.ensures.sound) within
+    let aged : c.pass_time.new.self ≡ record (only s (young s t)) { moment = t; ids = remembered s t } = c.pass_time.ensures.left ∙ ap (λ (x : Stream). record x { moment = t; ids = remembered x t }) c.drop_old.ensures.left in
+    let left = c.advance_consumers-loose.ensures.left ∙ ap (λ (x : Stream). record x { consumers = map (consumer_at t) x.consumers }) aged in
+    let within : next_over c.advance_consumers-loose.new.self ≡ None = rw left (within_only s (young_part s t) c.self.invariant.within) in
+    trimmed c.advance_consumers-loose.new.self c.advance_consumers-loose.ensures.sound within
+
+pub returns-clause-current : goal.returns-clause-current
+returns-clause-current c =
+    let at = ap (λ (x : Stream). x.moment) (c.advance_consumers-loose.ensures.left ∙ ap (λ (x : Stream). record x { consumers = map (consumer_at c.later-now.result) x.consumers }) c.pass_time.ensures.left) in
+    rw at c.advance_consumers-loose.ensures.current

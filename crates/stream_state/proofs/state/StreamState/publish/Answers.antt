@@ -1,8 +1,7 @@
 use Rattle.std.proofs.Common.{true, ap, ◌∙◌}
 use Rattle.js_model.specs.declared.stream.Stream.{Stream}
 use Rattle.js_model.specs.Trim.{trim}
-use Rattle.retention.proofs.Following.{law_within}
-use Rattle.stream_state.proofs.Limiting.{coherent}
+use Rattle.stream_state.proofs.Settling.{published_kept, trimmed}
 use Rattle.stream_state.proofs.Taken.{taken, next_number, has_room, over_own, trimmed_last}
 use Rattle.stream_state.proofs.state.StreamState.publish.Goals as goal
 
@@ -12,7 +11,7 @@ store-requires c =
     let p = c.args.publish.now in
     let h = taken s p true (rw (← c.self.view_is) at c.requires.taken) in
     record {
-      numbers = next_number s p c.self.invariant.sound h;
+      numbers = next_number s p c.self.invariant.attended.sound h;
       room = has_room s c.self.invariant.within;
       proper = c.requires.proper;
       new_id = h.new_id;
@@ -24,19 +23,27 @@ trim_on-requires c =
     record { sound = c.in_ok-store.ensures.sound; others = rw (c.in_ok-store.ensures.ok, c.as_slice.ensures) (over_own c.self.inside.stream c.args.publish.now c.self.invariant.within) }
 
 pub invariant_of-self-2 : goal.invariant_of-self-2
-invariant_of-self-2 c = record { sound = c.trim_on.ensures.sound; within = c.trim_on.ensures.within }
+invariant_of-self-2 c =
+    let s = c.self.inside.stream in
+    let p = c.args.publish.now in
+    let left = c.trim_on.ensures.left ∙ ap trim c.in_ok-store.ensures.ok in
+    let own = c.last-seq.ensures.value ∙ ap (λ (x : Stream). x.last) left ∙ trimmed_last s p in
+    record {
+      attended = c.trim_on.ensures.sound;
+      within = c.trim_on.ensures.within;
+      kept = rw (c.join-self-inside.ensures.value, left) (published_kept c.self.inside.loose c.one.result s p c.last-seq.result c.one.ensures.value own c.self.invariant.kept);
+    }
 
 pub returns-clause-ok : goal.returns-clause-ok
 returns-clause-ok c = rw (← c.self.view_is) (c.trim_on.ensures.left ∙ ap trim c.in_ok-store.ensures.ok)
 
 pub returns-clause-settled : goal.returns-clause-settled
-returns-clause-settled c = law_within c.trim_on.new.stream (coherent c.trim_on.new.stream c.trim_on.ensures.sound) c.trim_on.ensures.within
+returns-clause-settled c = trimmed c.trim_on.new.stream c.trim_on.ensures.sound c.trim_on.ensures.within
 
 pub returns-clause-seq : goal.returns-clause-seq
 returns-clause-seq c =
     rw (← c.self.view_is)
-    (c.last.ensures.value ∙ ap (λ (s : Stream). s.last) (c.trim_on.ensures.left ∙ ap trim c.in_ok-store.ensures.ok) ∙ trimmed_last c.self.inside.stream c.args.publish.now)
+    (c.last-seq.ensures.value ∙ ap (λ (s : Stream). s.last) (c.trim_on.ensures.left ∙ ap trim c.in_ok-store.ensures.ok) ∙ trimmed_last c.self.inside.stream c.args.publish.now)
 
 pub returns-in_err-store-clause-settled : goal.returns-in_err-store-clause-settled
-returns-in_err-store-clause-settled c =
-    rw c.in_err-store.ensures.err (law_within c.self.inside.stream (coherent c.self.inside.stream c.self.invariant.sound) c.self.invariant.within)
+returns-in_err-store-clause-settled c = rw c.in_err-store.ensures.err (trimmed c.self.inside.stream c.self.invariant.attended c.self.invariant.within)

@@ -1,0 +1,9 @@
+pub mod Attended
+pub mod Followers
+pub mod Needing
+pub mod Spans
+pub mod Delivering
+pub mod Placing
+pub mod Asked
+pub mod Counting
+pub mod Handing

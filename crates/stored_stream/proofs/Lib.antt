@@ -1,0 +1,14 @@
+pub mod Lists
+pub mod Finding
+pub mod Indexing
+pub mod Sounding
+pub mod Young
+pub mod Limiting
+pub mod Pushing
+pub mod Selections
+pub mod Purges
+pub mod Gathering
+pub mod Merging
+pub mod Counted
+pub mod Merged
+pub mod Latest

@@ -1,0 +1,6 @@
+pub mod Indexed
+pub mod Stored
+pub mod PushedOut
+pub mod Selecting
+pub mod Heads
+pub mod Later

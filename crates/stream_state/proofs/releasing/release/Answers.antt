@@ -1,0 +1,8 @@
+use Rattle.std.proofs.Common.{ap, sym, ◌∙◌}
+use Rattle.js_model.specs.declared.stream_config.StreamConfig.{StreamConfig}
+use Rattle.stream_state.proofs.Unkept.{limits_keep_all}
+use Rattle.stream_state.proofs.releasing.release.Goals as goal
+
+pub returns-in-Limits-clause-left : goal.returns-in-Limits-clause-left
+returns-in-Limits-clause-left c =
+    sym (limits_keep_all c.args.stream.now c.requires.sound (ap (λ (config : StreamConfig). config.retention) (sym c.config.ensures.value) ∙ c.in-Limits.is))

@@ -1,0 +1,21 @@
+use Rattle.std.proofs.Common.{◌≡◌, None}
+use Rattle.retention.specs.Over.{next_over}
+use Rattle.stream_state.proofs.Settling.{outside_kept, trimmed, within_kept}
+use Rattle.stream_state.proofs.state.StreamState.release.Goals as goal
+
+pub invariant_of-self : goal.invariant_of-self
+invariant_of-self c =
+    let s = c.self.inside.stream in
+    record {
+      attended = c.release.ensures.sound;
+      within = rw c.release.ensures.left (within_kept s c.self.invariant.within);
+      kept = rw c.release.ensures.left (outside_kept _ s);
+    }
+
+pub returns-clause-value : goal.returns-clause-value
+returns-clause-value c = rw (← c.self.view_is) c.release.ensures.left
+
+pub returns-clause-settled : goal.returns-clause-settled
+returns-clause-settled c =
+    let within : next_over c.release.new.stream ≡ None = rw c.release.ensures.left (within_kept c.self.inside.stream c.self.invariant.within) in
+    trimmed c.release.new.stream c.release.ensures.sound within
