@@ -11,3 +11,4 @@ pub mod Gathering
 pub mod Merging
 pub mod Counted
 pub mod Merged
+pub mod Latest

@@ -3,3 +3,4 @@ pub mod Stored
 pub mod PushedOut
 pub mod Selecting
 pub mod Heads
+pub mod Later

@@ -29,7 +29,7 @@ pub fn first_old(stream: &StoredStream, now: Moment) -> Option<u64>
 }
 
 /// The sequence of a message, if that many nanoseconds have passed since it was stored.
-fn if_old(message: &Message, age: u64, now: Moment) -> Option<u64>
+pub(crate) fn if_old(message: &Message, age: u64, now: Moment) -> Option<u64>
     ensures value { result ≡ (if nat_lt now (plus message.now.at age) then None else Some message.now.seq) }
 {
     if now.as_nanos() < message.at.plus(age).as_nanos() {

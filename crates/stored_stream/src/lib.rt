@@ -5,6 +5,7 @@ mod ageing;
 mod crowding;
 mod heads;
 mod indexed;
+mod later;
 mod purging;
 mod selector;
 mod stored;
@@ -12,6 +13,7 @@ mod verdicts;
 
 pub use ageing::first_old;
 pub use crowding::first_crowded;
+pub use later::LaterStream;
 pub use purging::purge_seqs;
 pub use selector::Selector;
 pub use stored::StoredStream;
