@@ -1,7 +1,8 @@
 -- What a stream and its consumers come to if the one at a place is asked.
 use Rattle.std.proofs.Common.{◌≡◌, ℕ, ◌+◌, ◌-◌, ◌^◌, ◌<◌, Bool, true, false, cond, List, [], ◌∷◌, ◌++◌, Option, Some, None, Result, Ok, Err, get_or, set, length, map, refl, sym, ap, subst, ◌∙◌}
-use Rattle.std.specs.Prelude.{All, Contains, IfOk, OnErr, OnOk, filter, nat_lt, not, slice_get}
+use Rattle.std.specs.Prelude.{All, Contains, IfOk, OnErr, OnOk, filter, nat_lt, not, option_map, slice_get}
 use Rattle.std.specs.List.{remove}
+use Rattle.std.proofs.lemmas.Option.{slice_get-map}
 use Rattle.std.proofs.lemmas.List.Elements.{All-get_or, All-weaker}
 use Rattle.js_base.specs.Bytes.{Bytes, same}
 use Rattle.js_base.specs.declared.out.Out.{Out}
@@ -13,15 +14,18 @@ use Rattle.js_model.specs.declared.consumer.Consumer.{Consumer}
 use Rattle.js_model.specs.declared.consumer_config.ConsumerConfig.{ConsumerConfig}
 use Rattle.js_model.specs.declared.entry.Delivered.{Delivered}
 use Rattle.js_model.specs.declared.entry.Delivered.TheVariants.{Sent, TooSmall, Emptied}
+use Rattle.js_model.specs.Advance.{aged, consumer_at, stream_at, young}
 use Rattle.js_model.specs.Deliver.{candidates, due_messages, may_wait, next_message, or_next, Delivers}
 use Rattle.js_model.specs.Events.{farewells}
 use Rattle.js_model.specs.Pulls.{pulled, pull_outs}
 use Rattle.js_model.specs.Ready.{is_ready_with}
 use Rattle.js_model.specs.Retention.{needs}
-use Rattle.js_model.specs.Streams.{passes_filter, takes, with_consumer}
+use Rattle.js_model.specs.Streams.{confined, passes_filter, seqs, takes, with_consumer}
 use Rattle.consumer_need.specs.Stored.{HoldsStored}
+use Rattle.consumer_state.specs.Before.{current_of}
 use Rattle.consumer_state.specs.Delivering.{IsReady}
 use Rattle.consumer_state.specs.Offering.{IsCurrent}
+use Rattle.stored_stream.specs.Later.{later}
 use Rattle.followed_stream.specs.Asked.{acked, acked_outs, AcksAt, DropsAt, IsAcked, PullsAt}
 use Rattle.followed_stream.specs.declared.answering.Acked.{Acked}
 use Rattle.followed_stream.specs.Attended.{IsAttended}
@@ -47,6 +51,11 @@ candidates_as s cs c = ap (λ (ms : List Message). cond (nat_lt c.dseq (2 ^ 62 -
     or_same : (ms : List Message) → or_next ms (record s { consumers = cs }) c ≡ or_next ms s c
     or_same [] = ap (λ (ms : List Message). cond (may_wait c) ms []) (next_same c.picks)
     or_same (m ∷ ms) = refl
+
+-- nor have the ids
+candidates_later : (s : Stream) (cs : List Consumer) (now : ℕ) (c : Consumer) → candidates (record (aged s now) { consumers = cs }) c ≡ candidates (later s now) c
+unfolding candidates
+candidates_later s cs now c = refl
 
 pub ready_as : (s : Stream) (cs : List Consumer) (listened : Bool) (c : Consumer) (ready : Bool) → IsReady s listened c ready → IsReady (record s { consumers = cs }) listened c ready
 ready_as s cs listened c ready h listening heard = h listening heard ∙ ap (λ (ms : List Message). is_ready_with ms listening c) (sym (candidates_as s cs c))
@@ -185,6 +194,20 @@ module _ (s : Stream) (fs : List Following) (h : AreFollowed s fs) (i : ℕ) (ol
 
   pub ready_there : (listened ready : Bool) → IsReady s listened old.consumer ready → IsReadyAt whole i listened ready
   ready_there listened ready r = subst (λ (o : Option Consumer). IsReadyIf whole o listened ready) (sym found) (ready_as s (consumers_of fs) listened old.consumer ready r)
+
+  -- the same at a later moment
+  pub ready_by_there : (now : ℕ) (listened ready : Bool) → IsReady (later s now) listened (current_of (later s now) old.consumer) ready → IsReadyAt (stream_at whole now) i listened ready
+  ready_by_there now listened ready r =
+      subst (λ (o : Option Consumer). IsReadyIf (stream_at whole now) o listened ready) (sym got_later)
+      (λ listening heard. r listening heard ∙ ap (λ (ms : List Message). is_ready_with ms listening (current_of (later s now) old.consumer)) (sym (candidates_later s (stream_at whole now).consumers now (current_of (later s now) old.consumer))))
+    where
+      confine : Consumer → Consumer
+      confine = confined (seqs (young s now))
+
+      got_later : slice_get (stream_at whole now).consumers i ≡ Some (consumer_at now (confine old.consumer))
+      got_later =
+          slice_get-map (consumer_at now) (map confine whole.consumers) i
+          ∙ ap (option_map (consumer_at now)) (slice_get-map confine whole.consumers i ∙ ap (option_map confine) found)
 
   pub hands_at : {E : Type 0} (result : Result (Option Delivered) E) (listened : Bool) (outs_old outs_new : List Out) (new : Following) → IfOk result (λ what. DeliversFor s listened old what outs_old outs_new new) → OnErr result (new ≡ old)
       → Follows result (λ what t. MayHandAt whole i listened what outs_old outs_new t) new

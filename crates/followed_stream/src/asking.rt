@@ -2,7 +2,7 @@
 
 ghost use Rattle.std.specs.Prelude.{◌≡◌, ◌<◌, ◌≤◌, ◌++◌, Some, None, length, option_map, slice_get, IfOk, IfSome, OnOk, OnErr};
 ghost use Rattle.std.specs.Option.{option_copied};
-ghost use Rattle.js_model.specs.Advance.{advance_outs};
+ghost use Rattle.js_model.specs.Advance.{stream_at};
 ghost use Rattle.js_model.specs.Consumers.{with_new};
 ghost use Rattle.js_model.specs.Counts.{consumer_info};
 ghost use Rattle.js_model.specs.Streams.{by_name};
@@ -17,7 +17,7 @@ use crate::answering::Acked;
 use crate::followed::FollowedStream;
 use crate::follower::{Follower, place_before, place_of};
 use consumer_state::Consumer;
-use js_base::{Blob, NoMemory, Outs};
+use js_base::{Blob, Moment, NoMemory, Outs};
 use js_model::{Ack, Ask, ConsumerInfo, Delivered};
 use stream_view::View;
 
@@ -119,6 +119,16 @@ impl FollowedStream {
     {
         match self.followers.get(place) {
             Some(follower) => follower.is_ready(&self.stored, listened),
+            None => false,
+        }
+    }
+
+    /// Whether something can be delivered to the consumer at a place once time has passed up to a moment. It changes nothing, and takes no memory.
+    pub fn is_ready_by(&self, place: usize, now: Moment, listened: bool) -> bool
+        ensures value { IsReadyAt (stream_at self.now now) place listened result }
+    {
+        match self.followers.get(place) {
+            Some(follower) => follower.is_ready_by(&self.stored, now, listened),
             None => false,
         }
     }

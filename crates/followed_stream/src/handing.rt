@@ -2,16 +2,21 @@
 
 ghost use Rattle.std.specs.Prelude.{◌≡◌, IfOk, OnErr};
 ghost use Rattle.std.specs.Option.{option_copied};
+ghost use Rattle.consumer_need.specs.Stored.{HoldsStored};
+ghost use Rattle.consumer_state.specs.Before.{current_of};
 ghost use Rattle.consumer_state.specs.Delivering.{left_after, IsReady};
 ghost use Rattle.consumer_state.specs.Offering.{IsCurrent, IsNext};
+ghost use Rattle.stored_stream.specs.Later.{later};
 ghost use Rattle.stored_stream.specs.Stored.{IsSound};
 ghost use Rattle.followed_stream.specs.Counting.{left_if_sent, left_then};
+ghost use Rattle.followed_stream.specs.Followers.{IsCounted};
 ghost use Rattle.followed_stream.specs.Handing.{DeliversFor};
 
 use crate::follower::Follower;
-use js_base::{NoMemory, Outs};
+use consumer_state::law_at;
+use js_base::{Moment, NoMemory, Outs};
 use js_model::{Delivered, Message};
-use stored_stream::StoredStream;
+use stored_stream::{LaterStream, StoredStream, first_old};
 
 impl Follower {
     /// Whether something can be delivered at the stream's moment, if somebody listens to a push consumer's subject or nobody does.
@@ -20,6 +25,23 @@ impl Follower {
         ensures value { IsReady stored.now listened self.now.consumer result }
     {
         self.consumer.is_ready(stored, listened, self.undelivered)
+    }
+
+    /// Whether something can be delivered once time has passed up to a moment. It changes nothing, and takes no memory. Unless time changes something by
+    /// then, no message is looked for that is not there.
+    pub(crate) fn is_ready_by(&self, stored: &StoredStream, now: Moment, listened: bool) -> bool
+        requires sound { IsSound stored.now }
+        requires held { HoldsStored stored.now self.now.consumer }
+        requires counted { IsCounted stored.now.messages self.now }
+        ensures value { IsReady (later stored.now now) listened (current_of (later stored.now now) self.now.consumer) result }
+    {
+        law_at();
+        self.consumer.holds();
+        let seen = LaterStream::at(stored, now);
+        if first_old(stored, now).is_none() && self.consumer.is_at(now) {
+            return self.consumer.is_ready(&seen, listened, self.undelivered);
+        }
+        self.consumer.is_ready_by(&seen, listened)
     }
 
     /// Makes one delivery at the stream's moment. `None` exactly if the consumer is not ready. An `Err` changes nothing and adds nothing.

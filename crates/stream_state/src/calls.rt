@@ -2,7 +2,7 @@
 
 ghost use Rattle.std.specs.Prelude.{◌≡◌, ◌++◌, None, length, map, option_map, IfErr, IfOk, IsTrue, OnOk, OnErr};
 ghost use Rattle.std.specs.Option.{option_copied};
-ghost use Rattle.js_model.specs.Advance.{advance_outs};
+ghost use Rattle.js_model.specs.Advance.{advance, advance_outs};
 ghost use Rattle.js_model.specs.Configs.{is_consumer_config};
 ghost use Rattle.js_model.specs.Consumers.{making_checks, new_consumer, queue_checks, with_new};
 ghost use Rattle.js_model.specs.Counts.{consumer_info};
@@ -193,6 +193,16 @@ impl StreamState {
         ensures value { IsReadyAt self.now place listened result }
     {
         self.stream.is_ready(place, listened)
+    }
+
+    /// Whether something can be delivered to the consumer at a place once time has passed up to a moment, or up to the stream's own if that is later. It
+    /// changes nothing, and takes no memory. If messages become too old by then, deliveries are given up or pulls end, it goes through these and through what
+    /// the consumer holds.
+    pub fn ready(&self, place: usize, now: Moment, listened: bool) -> bool
+        ensures value { IsReadyAt (advance self.now now) place listened result }
+    {
+        let now = later(self.stream.moment(), now);
+        self.stream.is_ready_by(place, now, listened)
     }
 
     /// Makes one delivery to that consumer. `None` exactly if it is not ready. An `Err` changes nothing and adds nothing.
