@@ -4,7 +4,7 @@ ghost use Rattle.std.specs.Prelude.{◌≡◌, ◌++◌, IfOk, OnOk, OnErr};
 ghost use Rattle.std.specs.Option.{option_copied};
 ghost use Rattle.js_model.specs.declared.stream.Stream.{Stream};
 ghost use Rattle.js_model.specs.Advance.{consumer_outs};
-ghost use Rattle.js_model.specs.Counts.{consumer_info, pending_count};
+ghost use Rattle.js_model.specs.Counts.{consumer_info, info_of, pending_count};
 ghost use Rattle.js_model.specs.Events.{farewells};
 ghost use Rattle.js_model.specs.Pulls.{pulled, pull_outs};
 ghost use Rattle.followed_stream.specs.Asked.{IsAcked};
@@ -14,7 +14,7 @@ use crate::follower::Follower;
 use crate::span::Span;
 use consumer_state::{law_acknowledged, law_before_ending};
 use js_base::{Blob, Moment, NoMemory, Outs};
-use js_model::{Ack, Ask, ConsumerInfo, Reply, copy_consumer_config};
+use js_model::{Ack, Ask, ConsumerInfo, Info, Reply, copy_consumer_config};
 
 /// What came of an acknowledgement.
 #[derive(Drop)]
@@ -61,7 +61,7 @@ impl Follower {
     }
 
     /// Tells each waiting pull that the consumer is gone. An `Err` adds nothing.
-    pub(crate) fn tell_dropped(&self, outs: &mut Outs) -> Result<(), NoMemory>
+    pub fn tell_dropped(&self, outs: &mut Outs) -> Result<(), NoMemory>
         ensures ok { OnOk result (outs.new ≡ outs.old ++ farewells self.now.consumer) }
         ensures err { OnErr result (outs.new ≡ outs.old) }
     {
@@ -85,7 +85,14 @@ impl Follower {
             name: self.consumer.name().clone()?,
             made: self.consumer.made(),
             config: copy_consumer_config(self.consumer.config())?,
-            info: self.consumer.info(self.undelivered),
+            info: self.numbers(),
         })
+    }
+
+    /// The numbers of its information.
+    pub fn numbers(&self) -> Info
+        ensures value { (s : Stream) → self.now.undelivered ≡ pending_count s self.now.consumer → result ≡ info_of s self.now.consumer }
+    {
+        self.consumer.info(self.undelivered)
     }
 }

@@ -13,7 +13,10 @@ ghost use Rattle.js_model.specs.Proper.{is_proper_publish};
 ghost use Rattle.js_model.specs.Retention.{kept};
 ghost use Rattle.js_model.specs.Trim.{trim};
 ghost use Rattle.js_model.specs.Verdict.{last_on, verdict};
+ghost use Rattle.stream_view.specs.Order.{IsInOrder};
+ghost use Rattle.followed_stream.specs.Attended.{AreNamedApart};
 ghost use Rattle.followed_stream.specs.Delivering.{AreCurrent};
+ghost use Rattle.stream_state.specs.Settled.{AreProper};
 
 use crate::ageing::drop_old;
 use crate::releasing::release;
@@ -66,10 +69,19 @@ impl StreamState {
     pub fn incarnation(&self) -> u64
         ensures value { result ≡ self.now.incarnation }
         ensures bound { result < 2 ^ 62 }
-        ensures config { IsTrue (is_stream_config self.now.config) }
-        ensures settled { trim self.now ≡ self.now }
     {
         self.stream.stored().incarnation()
+    }
+
+    /// What holds of every stream. It does nothing.
+    pub fn holds(&self)
+        ensures config { IsTrue (is_stream_config self.now.config) }
+        ensures order { IsInOrder self.now }
+        ensures proper { AreProper self.now.consumers }
+        ensures named { AreNamedApart self.now.consumers }
+        ensures settled { trim self.now ≡ self.now }
+    {
+        let _incarnation = self.incarnation();
     }
 
     /// The moment at which it was made.

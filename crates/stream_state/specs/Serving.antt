@@ -1,0 +1,35 @@
+-- One delivery to a consumer of a stream for which time has passed, by JetStream's pull and push consumers.
+use Rattle.std.specs.Prelude.{◌≡◌, ℕ, Bool, false, List, ◌++◌, Option, Some, None, slice_get}
+use Rattle.js_base.specs.Bytes.{Bytes}
+use Rattle.js_base.specs.declared.out.Out.{Out}
+use Rattle.js_model.specs.declared.stream.Stream.{Stream}
+use Rattle.js_model.specs.declared.consumer.Consumer.{Consumer}
+use Rattle.js_model.specs.declared.entry.Delivery.{Delivery}
+use Rattle.js_model.specs.Deliver.{Delivers}
+use Rattle.js_model.specs.Ready.{is_ready}
+use Rattle.js_model.specs.Streams.{by_name, with_consumer}
+
+-- something can be delivered to the consumer, if there is one
+abbrev pub is_ready_if : Stream → List Bytes → Option Consumer → Bool
+is_ready_if s listening None = false
+is_ready_if s listening (Some c) = is_ready s listening c
+
+-- the delivery is made to the consumer that it names
+pub record Serves (s : Stream) (listening : List Bytes) (made : Delivery) (outs_old outs_new : List Out) (new : Stream) : Type 0 where
+  pub consumer : Consumer
+  pub after : Consumer
+  pub own : List Out
+  pub found : by_name s.consumers made.consumer ≡ Some consumer
+  pub delivers : Delivers s listening consumer made.what own after
+  pub outs_are : outs_new ≡ outs_old ++ own
+  pub new_is : new ≡ with_consumer s after
+
+-- nothing can be delivered to the consumer at the place, if there is one, and nothing is
+pub record ServesNone (s : Stream) (place : ℕ) (listening : List Bytes) (outs_old outs_new : List Out) (new : Stream) : Type 0 where
+  pub unready : is_ready_if s listening (slice_get s.consumers place) ≡ false
+  pub outs_same : outs_new ≡ outs_old
+  pub same : new ≡ s
+
+abbrev pub MayServe : Stream → ℕ → List Bytes → Option Delivery → List Out → List Out → Stream → Type 0
+MayServe s place listening None outs_old outs_new new = ServesNone s place listening outs_old outs_new new
+MayServe s place listening (Some made) outs_old outs_new new = Serves s listening made outs_old outs_new new

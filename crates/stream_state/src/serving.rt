@@ -1,0 +1,88 @@
+//! Time that passes for the consumers of a stream, and deliveries to them.
+
+ghost use Rattle.std.specs.Prelude.{◌≡◌, ◌++◌, slice_get, IfOk, OnOk, OnErr};
+ghost use Rattle.std.specs.List.{list_any, position};
+ghost use Rattle.js_base.specs.Bytes.{same};
+ghost use Rattle.js_model.specs.Advance.{advance, advance_outs};
+ghost use Rattle.js_model.specs.Ready.{is_ready};
+ghost use Rattle.js_model.specs.Trim.{trim};
+ghost use Rattle.followed_stream.specs.Delivering.{AreCurrent};
+ghost use Rattle.stream_state.specs.Serving.{MayServe, is_ready_if};
+
+use crate::state::{StreamState, later};
+use crate::telling::tell_all;
+use followed_stream::Span;
+use js_base::{Blob, Moment, NoMemory, Outs};
+use js_model::{Delivery, Listening};
+use stream_view::View;
+
+impl StreamState {
+    /// Adds what the consumers send by a moment, or by the stream's own if that is later. An `Err` adds nothing. It is called before `advance`.
+    pub fn tell_advance(&self, now: Moment, outs: &mut Outs) -> Result<(), NoMemory>
+        ensures ok { OnOk result (outs.new ≡ outs.old ++ advance_outs self.now now) }
+        ensures err { OnErr result (outs.new ≡ outs.old) }
+    {
+        let now = later(self.stream.moment(), now);
+        tell_all(self.alloc, self.stream.followers(), now, outs)
+    }
+
+    /// The place, in the order of names, of the first consumer to whom something can be delivered once time has passed up to a moment, or up to the stream's
+    /// own if that is later; `listening` are the names of the push consumers to whose deliver subjects somebody listens. It changes nothing, and takes no
+    /// memory. If messages become too old by then, deliveries are given up or pulls end, it goes through these and through what the consumer holds.
+    pub fn next_ready(&self, now: Moment, listening: &Listening) -> Option<usize>
+        ensures value { result ≡ position (is_ready (advance self.now now) listening.now) (advance self.now now).consumers }
+    {
+        for place in 0..self.stream.followers().len() {
+            if self.is_ready(place, now, listening.as_slice()) {
+                return Some(place);
+            }
+        }
+        None
+    }
+
+    /// Whether something can be delivered to the consumer at a place then.
+    fn is_ready(&self, place: usize, now: Moment, listening: &[Blob]) -> bool
+        ensures value { result ≡ is_ready_if (advance self.now now) listening.now (slice_get (advance self.now now).consumers place) }
+    {
+        let Some(name) = self.stream.name_at(place) else {
+            return false;
+        };
+        let now = later(self.stream.moment(), now);
+        self.stream.is_ready_by(place, now, is_listened(listening, name))
+    }
+
+    /// Makes one delivery to the consumer at a place, at the stream's moment. `None` exactly if it is not ready. An `Err` changes nothing and adds nothing.
+    /// Time has passed for the consumers up to that moment.
+    pub fn deliver(
+        &mut self,
+        place: usize,
+        listening: &Listening,
+        outs: &mut Outs,
+    ) -> Result<Option<Delivery>, NoMemory>
+        requires current { AreCurrent self.old }
+        ensures served { IfOk result (λ made. MayServe self.old place listening.now made outs.old outs.new self.new) }
+        ensures settled { trim self.new ≡ self.new }
+        ensures err { OnErr result (self.new ≡ self.old) }
+        ensures err_outs { OnErr result (outs.new ≡ outs.old) }
+    {
+        let Some(name) = self.stream.name_at(place) else {
+            return Ok(None);
+        };
+        let consumer = name.clone()?;
+        let listened = is_listened(listening.as_slice(), name);
+        let Some(what) = self.stream.deliver(place, listened, outs)? else {
+            return Ok(None);
+        };
+        self.loose = self.loose.join(Span::of(what));
+        Ok(Some(Delivery { consumer, what }))
+    }
+}
+
+/// Whether somebody listens to the deliver subject of the push consumer of a name.
+fn is_listened(listening: &[Blob], name: &Blob) -> bool
+    ensures value { result ≡ list_any (λ n. same n name.now) listening.now }
+{
+    listening
+        .iter()
+        .any(|listened| listened.as_slice() == name.as_slice())
+}
