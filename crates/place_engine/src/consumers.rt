@@ -145,9 +145,10 @@ impl LiveStream {
         ensures shown { IfOk result IsShown }
         ensures err { OnErr result (settled self.new ≡ settled self.old) }
     {
+        let total = self.state.consumer_count();
         self.release();
         Ok(Reply::Infos {
-            total: self.state.consumer_count(),
+            total,
             list: self.state.consumer_infos(offset)?,
         })
     }

@@ -3,6 +3,7 @@ pub mod Taken
 pub mod Unkept
 pub mod Settling
 pub mod Refusing
+pub mod Proper
 pub mod Calling
 pub mod Paging
 pub mod Walks

@@ -1,5 +1,6 @@
 -- One delivery to a consumer of a stream for which time has passed, by JetStream's pull and push consumers.
-use Rattle.std.specs.Prelude.{◌≡◌, ℕ, Bool, false, List, ◌++◌, Option, Some, None, slice_get}
+use Rattle.std.specs.Prelude.{◌≡◌, ℕ, Bool, true, false, List, ◌++◌, Option, Some, None, slice_get}
+use Rattle.std.specs.List.{list_any}
 use Rattle.js_base.specs.Bytes.{Bytes}
 use Rattle.js_base.specs.declared.out.Out.{Out}
 use Rattle.js_model.specs.declared.stream.Stream.{Stream}
@@ -13,6 +14,11 @@ use Rattle.js_model.specs.Streams.{by_name, with_consumer}
 abbrev pub is_ready_if : Stream → List Bytes → Option Consumer → Bool
 is_ready_if s listening None = false
 is_ready_if s listening (Some c) = is_ready s listening c
+
+-- it can to the consumer at the place, or to none of the consumers
+abbrev pub FindsReady : Stream → List Bytes → Option ℕ → Type 0
+FindsReady s listening None = list_any (is_ready s listening) s.consumers ≡ false
+FindsReady s listening (Some place) = is_ready_if s listening (slice_get s.consumers place) ≡ true
 
 -- the delivery is made to the consumer that it names
 pub record Serves (s : Stream) (listening : List Bytes) (made : Delivery) (outs_old outs_new : List Out) (new : Stream) : Type 0 where

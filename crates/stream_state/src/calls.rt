@@ -5,7 +5,7 @@ ghost use Rattle.std.specs.Option.{option_copied};
 ghost use Rattle.js_model.specs.Configs.{is_consumer_config, is_name};
 ghost use Rattle.js_model.specs.Consumers.{making_checks, new_consumer, queue_checks, with_new};
 ghost use Rattle.js_model.specs.Counts.{consumer_info};
-ghost use Rattle.js_model.specs.Events.{ack_answer, consumer_dropped, pull_answer};
+ghost use Rattle.js_model.specs.Events.{ack_answer, consumer_dropped, pull_answer, settled};
 ghost use Rattle.js_model.specs.Refusals.{first_refusal};
 ghost use Rattle.js_model.specs.Retention.{kept};
 ghost use Rattle.js_model.specs.Streams.{by_name};
@@ -53,7 +53,8 @@ impl StreamState {
         requires name { IsTrue (is_name name.now) }
         requires valid { IsTrue (is_consumer_config config.now) }
         requires absent { by_name self.old.consumers name.now ≡ None }
-        ensures made { OnOk result (self.new ≡ kept (record self.old { consumers = with_new self.old.consumers (new_consumer self.old name.now config.now) })) }
+        ensures made { OnOk result (self.new ≡ settled (record self.old { consumers = with_new self.old.consumers (new_consumer self.old name.now config.now) })) }
+        ensures again { OnOk result (kept self.new ≡ self.new) }
         ensures info { IfOk result (λ info. option_map (consumer_info self.new) (by_name self.new.consumers name.now) ≡ Some info) }
         ensures allowed { OnOk result (first_refusal (making_checks self.old name.now config.now) ≡ None) }
         ensures refused { IfErr result (IsRefusal (making_checks self.old name.now config.now)) }

@@ -1,13 +1,12 @@
 //! Time that passes for the consumers of a stream, and deliveries to them.
 
 ghost use Rattle.std.specs.Prelude.{◌≡◌, ◌++◌, slice_get, IfOk, OnOk, OnErr};
-ghost use Rattle.std.specs.List.{list_any, position};
+ghost use Rattle.std.specs.List.{list_any};
 ghost use Rattle.js_base.specs.Bytes.{same};
 ghost use Rattle.js_model.specs.Advance.{advance, advance_outs};
-ghost use Rattle.js_model.specs.Ready.{is_ready};
 ghost use Rattle.js_model.specs.Trim.{trim};
 ghost use Rattle.followed_stream.specs.Delivering.{AreCurrent};
-ghost use Rattle.stream_state.specs.Serving.{MayServe, is_ready_if};
+ghost use Rattle.stream_state.specs.Serving.{is_ready_if, FindsReady, MayServe};
 
 use crate::state::{StreamState, later};
 use crate::telling::tell_all;
@@ -26,11 +25,11 @@ impl StreamState {
         tell_all(self.alloc, self.stream.followers(), now, outs)
     }
 
-    /// The place, in the order of names, of the first consumer to whom something can be delivered once time has passed up to a moment, or up to the stream's
+    /// The place, in the order of names, of a consumer to whom something can be delivered once time has passed up to a moment, or up to the stream's
     /// own if that is later; `listening` are the names of the push consumers to whose deliver subjects somebody listens. It changes nothing, and takes no
     /// memory. If messages become too old by then, deliveries are given up or pulls end, it goes through these and through what the consumer holds.
     pub fn next_ready(&self, now: Moment, listening: &Listening) -> Option<usize>
-        ensures value { result ≡ position (is_ready (advance self.now now) listening.now) (advance self.now now).consumers }
+        ensures finds { FindsReady (advance self.now now) listening.now result }
     {
         for place in 0..self.stream.followers().len() {
             if self.is_ready(place, now, listening.as_slice()) {

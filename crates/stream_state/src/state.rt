@@ -1,6 +1,6 @@
 //! A stream whose limits hold.
 
-ghost use Rattle.std.specs.Prelude.{◌≡◌, ◌+◌, ◌^◌, ◌<◌, None, is_some, length, max, true, All, IfOk, IfSome, IsTrue, IsUtf8, OnOk, OnErr};
+ghost use Rattle.std.specs.Prelude.{◌≡◌, ◌+◌, ◌^◌, ◌<◌, None, is_some, length, max, false, true, All, IfOk, IfSome, IsTrue, IsUtf8, OnOk, OnErr};
 ghost use Rattle.std.specs.List.{last_or};
 ghost use Rattle.std.specs.Option.{option_copied, option_to_list};
 ghost use Rattle.js_model.specs.declared.reply.Verdict.TheVariants.{Take};
@@ -168,6 +168,7 @@ impl StreamState {
     /// Removes the message of a sequence, and tells whether there was one. It takes no memory.
     pub fn delete(&mut self, seq: u64) -> bool
         ensures there { result ≡ is_some (message_at self.old seq) }
+        ensures none { result ≡ false → self.new ≡ self.old }
         ensures left { self.new ≡ without_messages self.old (option_to_list (message_at self.old seq)) }
         ensures settled { trim self.new ≡ self.new }
     {
@@ -203,6 +204,7 @@ impl StreamState {
     /// alone that they may have ceased to need since the last such call. It takes no memory.
     pub fn release(&mut self)
         ensures value { self.new ≡ kept self.old }
+        ensures again { kept self.new ≡ self.new }
         ensures settled { trim self.new ≡ self.new }
     {
         release(&mut self.stream, self.loose);

@@ -1,5 +1,6 @@
 use Rattle.std.proofs.Common.{◌≡◌, None}
 use Rattle.retention.specs.Over.{next_over}
+use Rattle.stream_state.proofs.Proper.{proper_kept}
 use Rattle.stream_state.proofs.Settling.{outside_kept, trimmed, within_kept}
 use Rattle.stream_state.proofs.state.StreamState.release.Goals as goal
 
@@ -8,6 +9,7 @@ invariant_of-self c =
     let s = c.self.inside.stream in
     record {
       attended = c.release.ensures.sound;
+      proper = rw c.release.ensures.left (proper_kept s c.self.invariant.proper);
       within = rw c.release.ensures.left (within_kept s c.self.invariant.within);
       kept = rw c.release.ensures.left (outside_kept _ s);
     }
