@@ -13,3 +13,4 @@ pub mod Counts
 pub mod Hands
 pub mod Makes
 pub mod AtPlaces
+pub mod Nexts

@@ -76,6 +76,13 @@ impl Follower {
         self.consumer.tell_advance(now, outs)
     }
 
+    /// The numbers of its information.
+    pub fn numbers(&self) -> Info
+        ensures value { (s : Stream) → self.now.undelivered ≡ pending_count s self.now.consumer → result ≡ info_of s self.now.consumer }
+    {
+        self.consumer.info(self.undelivered)
+    }
+
     /// Its information as a consumer of the stream of this name.
     pub fn info(&self, stream: &Blob) -> Result<ConsumerInfo, NoMemory>
         ensures value { (s : Stream) → s.config.name ≡ stream.now → self.now.undelivered ≡ pending_count s self.now.consumer → IfOk result (λ info. info ≡ consumer_info s self.now.consumer) }

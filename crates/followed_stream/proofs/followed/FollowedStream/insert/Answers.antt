@@ -1,4 +1,4 @@
-use Rattle.std.proofs.Common.{◌≡◌, ℕ, List, ap, sym, subst, ◌∙◌, map, arith}
+use Rattle.std.proofs.Common.{◌≡◌, ℕ, List, None, ap, sym, subst, ◌∙◌, map, arith}
 use Rattle.std.specs.List.{insert}
 use Rattle.js_base.specs.Bytes.{Bytes}
 use Rattle.js_model.specs.declared.consumer.Consumer.{Consumer}
@@ -25,4 +25,6 @@ invariant_of-self-2 c =
     let items = c.in_ok-insert.ensures.items ∙ ap (λ (k : ℕ). insert i.followers.items k new) place in
     rw items
     (followed_made i.stored i.followers.items c.self.invariant new
-    (subst (λ (x : Consumer). HoldsStored (attended i.stored i.followers.items) x) (sym c.of-follower.ensures.value) (subst (λ (s : Stream). HoldsStored s c.args.consumer) (sym c.self.view_is) c.requires.holds)) ? c.of-follower.ensures.counted)
+    (subst (λ (x : Consumer). HoldsStored (attended i.stored i.followers.items) x) (sym c.of-follower.ensures.value) (subst (λ (s : Stream). HoldsStored s c.args.consumer) (sym c.self.view_is) c.requires.holds)) 
+    (subst (λ (x : Consumer). by_name (attended i.stored i.followers.items).consumers x.name ≡ None) (sym c.of-follower.ensures.value) (subst (λ (s : Stream). by_name s.consumers c.args.consumer.name ≡ None) (sym c.self.view_is) c.requires.absent))
+    c.of-follower.ensures.counted)
