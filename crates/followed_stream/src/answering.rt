@@ -95,11 +95,4 @@ impl Follower {
             info: self.numbers(),
         })
     }
-
-    /// The numbers of its information.
-    pub fn numbers(&self) -> Info
-        ensures value { (s : Stream) → self.now.undelivered ≡ pending_count s self.now.consumer → result ≡ info_of s self.now.consumer }
-    {
-        self.consumer.info(self.undelivered)
-    }
 }
