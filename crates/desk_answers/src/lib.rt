@@ -1,5 +1,5 @@
 //! What a desk answers, as values: the message that tells what a stream replied or why a call is refused, pages of lists, the sums of an account,
-//! and the block `NATS/1.0 503`. Nothing here knows a router, a catalog or a place.
+//! and the block `NATS/1.0 503`. Nothing here holds a router, a catalog or a place.
 #![tactic(auto)]
 
 mod account;

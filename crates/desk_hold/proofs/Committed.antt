@@ -12,7 +12,8 @@ use Rattle.js_model.specs.Firm.{Changes, IsChange, IsFirm, IsFirmStep, is_confir
 use Rattle.js_model.specs.Lasting.{lasting}
 use Rattle.model_laws.specs.Changed.{changes}
 use Rattle.model_laws.proofs.Changed.{changes_test}
-use Rattle.place_engine.specs.Stepping.{Image, IsKept, Seen, Steps}
+use Rattle.effects.specs.declared.effect.Effect.{Effect}
+use Rattle.place_engine.specs.Stepping.{Image, IsKept, MayPutOff, Seen, Steps}
 use Rattle.place_engine.specs.declared.faults.PlaceFault.{PlaceFault}
 use Rattle.place_engine.specs.declared.faults.PlaceFault.TheVariants.{NoMemory, StoreFault, Stopped, Gone, Worn}
 use Rattle.place_engine.specs.declared.faults.Left.TheVariants.{Nothing, Ticked, Unsaid}
@@ -75,18 +76,23 @@ outlasts_step holds old new kept keeps what reply commits firm goes e made leads
 
 -- ---- what a place promises
 
+-- whatever is committed, the base is as it was, or what outlives a crash of what stands
+pub base_of : {made : List Effect} {old new : Seen} → MayPutOff made old new → (new.base ≡ old.base) ⊎ (new.base ≡ lasting new.place.state)
+base_of (inl all) = inr all.base
+base_of (inr none) = inl none.base
+
 module _ (holds : Image → State → Type 0) (event : Event) (now : ℕ) (old new : Seen) (before after : List Out) where
   pub commits_told : (reply : Reply) (unsaid : Bool) → Steps holds (Ok reply) event now old new before after → CommitsStep holds (Ok (record { reply = reply; unsaid = unsaid })) event old new
-  commits_told reply unsaid h = record { commits = record { time = h.time; base = h.ends.commits.base }; firm = h.ends.commits.firm }
+  commits_told reply unsaid h = record { commits = record { time = h.time; base = base_of h.ends.commits.may }; firm = λ firm. (h.ends.commits.firm firm).base }
 
   pub commits_failed : (fault : PlaceFault) → Steps holds (Err fault) event now old new before after → CommitsStep holds (Err fault) event old new
   commits_failed fault h = record { commits = record { time = h.time; base = by fault h }; firm = tt }
     where
       by : (f : PlaceFault) → Steps holds (Err f) event now old new before after → (new.base ≡ old.base) ⊎ (new.base ≡ lasting new.place.state)
       by (NoMemory Nothing) h = inl h.ends.rests.base
-      by (NoMemory Ticked) h = h.ends.base
-      by (NoMemory (Unsaid refused)) h = inl h.ends.hides.base
+      by (NoMemory Ticked) h = base_of h.ends.may
+      by (NoMemory (Unsaid refused)) h = inl h.ends.hides.put_off.base
       by StoreFault h = inl h.ends.base
       by (Stopped count) h = inl h.ends.rests.base
       by (Gone kept) h = inl h.ends.rests.base
-      by (Worn refused) h = inl h.ends.withholds.hides.base
+      by (Worn refused) h = inl h.ends.withholds.hides.put_off.base

@@ -28,6 +28,7 @@ use Rattle.desk_hold.specs.declared.delivering.Ending.TheVariants.{Quiet, Broke,
 use Rattle.desk_hold.specs.Crashes.{MayCommit, Never, Outlasts}
 use Rattle.desk_hold.specs.Deliveries.{DeliversOn, EndsSo, GoesOn, IsSentAt, Led, ending_after, ending_by}
 use Rattle.desk_hold.specs.Steps.{EndsStep}
+use Rattle.desk_hold.proofs.Committed.{base_of}
 use Rattle.desk_hold.proofs.Beginnings.{outlasts_call}
 use Rattle.desk_hold.proofs.Chain.{none_firm}
 use Rattle.desk_hold.proofs.Stepped.{failed_step}
@@ -55,15 +56,15 @@ module _ (holds : Image → State → Type 0) (now : ℕ) (listening : List Byte
   commits_of told h = record { time = h.time; base = by told h }
     where
       by : (t : Result (Option Delivery) PlaceFault) → Delivers holds t now listening old new before after → (new.base ≡ old.base) ⊎ (new.base ≡ lasting new.place.state)
-      by (Ok (Some d)) h = h.ends.base
+      by (Ok (Some d)) h = base_of h.ends.may
       by (Ok None) h = inl h.ends.rests.base
       by (Err (NoMemory Nothing)) h = inl h.ends.rests.base
-      by (Err (NoMemory Ticked)) h = h.ends.base
-      by (Err (NoMemory (Unsaid refused))) h = inl h.ends.base
+      by (Err (NoMemory Ticked)) h = base_of h.ends.may
+      by (Err (NoMemory (Unsaid refused))) h = inl h.ends.put_off.base
       by (Err StoreFault) h = inl h.ends.base
       by (Err (Stopped count)) h = inl h.ends.rests.base
       by (Err (Gone other)) h = absurd h.ends
-      by (Err (Worn refused)) h = inl h.ends.hides.base
+      by (Err (Worn refused)) h = inl h.ends.hides.put_off.base
 
   outlasts_of : MayCommit holds old new → (entries : List PlaceEntry) (sent : List Out) → Led old.place entries sent new.place → Outlasts holds Never entries old new
   outlasts_of commits entries sent led = outlasts_call holds old new kept keeps commits entries (none_firm entries old.place sent new.place led)

@@ -4,6 +4,7 @@ ghost use Rattle.std.specs.Prelude.{◌≡◌, ◌≤◌, IfErr, IfOk, IsTrue, N
 ghost use Rattle.js_model.specs.Configs.{is_stream_subject};
 ghost use Rattle.js_model.specs.PlaceStates.{vacant_place};
 ghost use Rattle.stream_config.specs.Defaults.{default_config};
+ghost use Rattle.js_api.specs.Clients.{closed, new_client};
 ghost use Rattle.js_api.specs.Leading.{Leads, Makes, leads_more, leads_nothing};
 ghost use Rattle.js_api.specs.Making.{MakesStream};
 ghost use Rattle.js_api.specs.Worlds.{SoloStep, opening};
@@ -47,12 +48,12 @@ impl<V> Model for SoloDesk<V> {
 }
 
 impl<V> SoloDesk<V> {
-    /// Opens a place on each volume, at most 32, in their order. No stream is there, and no session is open. An `Err` gives the volumes back.
+    /// Opens a place on each volume, at most 32, in their order. No stream is there, and no session was opened. An `Err` gives the volumes back.
     pub fn open(alloc: Global, vols: Vec<V>) -> Result<SoloDesk<V>, HubFault<V>>
         requires few { length vols.items ≤ 32 }
         ensures scene { IfOk result (λ desk. desk.scene ≡ opening (replicate (length vols.items) vacant_place)) }
         ensures vols { IfOk result (λ desk. desk.vols ≡ vols.items) }
-        ensures closed { IfOk result (λ desk. desk.client.is_open ≡ false) }
+        ensures client { IfOk result (λ desk. desk.client ≡ closed (new_client 0)) }
         ensures err { IfErr result (GivesBack vols.items) }
     {
         let mut vols = vols;

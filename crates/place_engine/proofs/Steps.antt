@@ -1,5 +1,5 @@
 -- What a place in memory answers and delivers is a step and a delivery by the relations that each place keeps.
-use Rattle.std.proofs.Common.{◌≡◌, ◌++◌, ℕ, true, List, Option, Some, None, Ok, Err, ap, ◌∙◌, sym, refl, arith, inr}
+use Rattle.std.proofs.Common.{◌≡◌, ◌++◌, ℕ, true, List, Option, Some, None, Ok, Err, ap, ◌∙◌, sym, refl, arith, inl}
 use Rattle.std.proofs.lemmas.Option.{none-some}
 use Rattle.js_base.specs.Bytes.{Bytes}
 use Rattle.js_base.specs.declared.out.Out.{Out}
@@ -16,14 +16,18 @@ use Rattle.place_engine.specs.declared.faults.PlaceFault.TheVariants.{NoMemory}
 use Rattle.place_engine.specs.Answers.{DeliversNone, DeliversSome, Leaves, PlaceAnswers}
 use Rattle.place_engine.specs.Delivering.{Delivers}
 use Rattle.place_engine.specs.InMemory.{seen_of, holds_nothing}
-use Rattle.place_engine.specs.Stepping.{Elapses, IsUndone, Passes, Steps}
+use Rattle.place_engine.specs.Stepping.{Elapses, IsFlushed, IsUndone, Passes, Steps}
 
 elapses : (old new : State) → Elapses holds_nothing (seen_of old) (seen_of new)
 elapses old new = record { faults = omega arith; moments = omega arith; generations = omega arith; goes_on = λ t image le left. absurd left }
 
+-- nothing ever waits
+flushed : (state : State) → IsFlushed (seen_of state)
+flushed state = record { base = refl; waiting = refl }
+
 undone : (old new : State) (outs_old outs_new : List Out) → new ≡ old → outs_new ≡ outs_old → IsUndone (seen_of old) (seen_of new) outs_old outs_new
 undone old new outs_old outs_new same outs = record {
-  rests = record { state = same; stored = refl; stopped = refl; base = ap (λ (s : State). (seen_of s).base) same; outs = outs };
+  rests = record { state = same; stored = refl; stopped = refl; base = ap (λ (s : State). (seen_of s).base) same; waiting = refl; outs = outs };
   volume = λ count stopped. absurd (none-some count stopped);
 }
 
@@ -31,7 +35,7 @@ passes : (old : State) (e : Event) (now : ℕ) (new : State) (outs_old outs_new 
     → Passes e now (seen_of old) (seen_of new) outs_old outs_new
 passes old e now new outs_old outs_new kept ticks =
     let given = ticks e.incarnation in
-    record { does = record { going = refl; kept = kept; state = given.state_is }; goes = refl; outs = given.outs_are; base = inr refl }
+    record { does = record { going = refl; kept = kept; state = given.state_is }; goes = refl; outs = given.outs_are; may = inl (flushed new) }
 
 -- ---- steps
 
@@ -46,7 +50,7 @@ tells old e now reply new outs_old outs_new kept answers =
         goes = refl;
         reply_is = given.reply_is;
         outs = given.outs_are;
-        commits = record { firm = λ firm. refl; base = inr refl };
+        commits = record { firm = λ firm. flushed new; may = inl (flushed new) };
       };
       stored = omega arith;
       time = elapses old new;
@@ -64,7 +68,7 @@ starves old e now (Unsaid refused) new outs_old outs_new kept h = absurd h
 pub delivers_some : (old : State) (now : ℕ) (listening : List Bytes) (made : Delivery) (new : State) (outs_old outs_new : List Out) → DeliversSome old now listening made outs_old outs_new new
     → Delivers holds_nothing (Ok (Some made)) now listening (seen_of old) (seen_of new) outs_old outs_new
 delivers_some old now listening made new outs_old outs_new h = record {
-  ends = record { sent = h.sent; makes = record { going = refl; delivered = h.delivered }; goes = refl; outs = h.outs_are; base = inr refl };
+  ends = record { sent = h.sent; makes = record { going = refl; delivered = h.delivered }; goes = refl; outs = h.outs_are; may = inl (flushed new) };
   stored = omega arith;
   time = elapses old new;
 }
@@ -75,7 +79,7 @@ delivers_none old now listening new outs_old outs_new h = record {
   ends = record {
     going = refl;
     none = h.none;
-    rests = record { state = h.same; stored = refl; stopped = refl; base = ap (λ (s : State). (seen_of s).base) h.same; outs = h.outs_same };
+    rests = record { state = h.same; stored = refl; stopped = refl; base = ap (λ (s : State). (seen_of s).base) h.same; waiting = refl; outs = h.outs_same };
     volume = refl;
   };
   stored = omega arith;

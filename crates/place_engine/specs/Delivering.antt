@@ -1,5 +1,5 @@
 -- What a place promises of each delivery, in memory and on a volume alike.
-use Rattle.std.specs.Prelude.{◌≡◌, ◌⊎◌, ◌≤◌, ◌-◌, ◌^◌, ℕ, false, List, ◌++◌, Option, None, Some, Result, Ok, Err}
+use Rattle.std.specs.Prelude.{◌≡◌, ◌≤◌, ◌-◌, ◌^◌, ℕ, false, List, ◌++◌, Option, None, Some, Result, Ok, Err}
 use Rattle.js_base.specs.Bytes.{Bytes}
 use Rattle.js_base.specs.Causes.{Rose}
 use Rattle.js_base.specs.declared.out.Out.{Out}
@@ -9,9 +9,9 @@ use Rattle.js_model.specs.declared.event.What.TheVariants.{Tick}
 use Rattle.js_model.specs.declared.entry.Delivery.{Delivery}
 use Rattle.js_model.specs.Deliver.{IsDelivered}
 use Rattle.js_model.specs.Events.{kept_incarnation}
-use Rattle.js_model.specs.Lasting.{lasting}
 use Rattle.js_model.specs.Ready.{some_ready}
-use Rattle.place_engine.specs.Stepping.{Image, Seen, Elapses, IsStopped, IsUndone, Passes, Rests}
+use Rattle.effects.specs.Effects.{delivery_effects}
+use Rattle.place_engine.specs.Stepping.{Image, Seen, Elapses, IsPutOff, IsStopped, IsUndone, MayPutOff, Passes, Rests}
 use Rattle.place_engine.specs.declared.faults.PlaceFault.{PlaceFault}
 use Rattle.place_engine.specs.declared.faults.PlaceFault.TheVariants.{NoMemory, StoreFault, Stopped, Gone, Worn}
 use Rattle.place_engine.specs.declared.faults.Left.TheVariants.{Nothing, Ticked, Unsaid}
@@ -27,7 +27,7 @@ pub record TellsDelivery (delivery : Delivery) (now : ℕ) (listening : List Byt
   pub makes : Makes now listening delivery sent old new
   pub goes : new.place.stopped ≡ None
   pub outs : after ≡ before ++ sent
-  pub base : (new.base ≡ old.base) ⊎ (new.base ≡ lasting new.place.state)
+  pub may : MayPutOff (delivery_effects old.place.state now delivery new.place.state) old new
 
 -- no consumer is ready, and all is as it was
 pub record TellsNone (now : ℕ) (listening : List Bytes) (old new : Seen) (before after : List Out) : Type 0 where
@@ -47,7 +47,7 @@ pub record HidesDelivery (now : ℕ) (listening : List Bytes) (old new : Seen) (
   pub makes : Makes now listening delivery sent old new
   pub goes : new.place.stopped ≡ None
   pub outs : after ≡ before ++ sent
-  pub base : new.base ≡ old.base
+  pub put_off : IsPutOff (delivery_effects old.place.state now delivery new.place.state) old new
 
 -- it is made and not committed, since the numbers of the store's generations are used up
 pub record WearsDelivery (now : ℕ) (listening : List Bytes) (old new : Seen) (before after : List Out) : Type 0 where

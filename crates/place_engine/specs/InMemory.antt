@@ -1,5 +1,5 @@
 -- A place in memory: what is seen of it, and why a call fails there.
-use Rattle.std.specs.Prelude.{◌≡◌, ◌≢◌, true}
+use Rattle.std.specs.Prelude.{◌≡◌, ◌≢◌, true, []}
 use Rattle.js_model.specs.declared.stream.State.{State}
 use Rattle.js_model.specs.declared.stream.State.TheVariants.{Vacant, Live}
 use Rattle.js_model.specs.declared.event.Event.{Event}
@@ -19,9 +19,9 @@ pub record Contents (V : Type 0) : Type 0 where
   pub state : State
   pub vol : V
 
--- it has a block for each message, what outlives a crash is kept at once, and of crashes nothing is said
+-- it has a block for each message, what outlives a crash is kept at once, so that nothing waits, and of crashes nothing is said
 abbrev pub seen_of : State → Seen
-seen_of state = record { place = in_memory state; base = lasting state; room = λ what. true; left_since = λ t image. ⊥ }
+seen_of state = record { place = in_memory state; base = lasting state; waiting = []; room = λ what. true; left_since = λ t image. ⊥ }
 
 -- no image of a volume holds a state
 abbrev pub holds_nothing : Image → State → Type 0

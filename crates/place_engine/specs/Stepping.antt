@@ -1,5 +1,5 @@
 -- What a place promises of each step, in memory and on a volume alike.
-use Rattle.std.specs.Prelude.{◌≡◌, ◌≢◌, ◌⊎◌, ◌≤◌, ◌+◌, ◌-◌, ◌^◌, ℕ, Bool, true, List, ◌++◌, length, Option, None, Some, Result, Ok, Err}
+use Rattle.std.specs.Prelude.{◌≡◌, ◌≢◌, ◌⊎◌, ◌≤◌, ◌+◌, ◌-◌, ◌^◌, ℕ, Bool, true, List, [], ◌++◌, length, Option, None, Some, Result, Ok, Err}
 use Rattle.js_base.specs.Bytes.{Bytes}
 use Rattle.js_base.specs.Causes.{Rose}
 use Rattle.js_base.specs.declared.out.Out.{Out}
@@ -13,6 +13,9 @@ use Rattle.js_model.specs.Firm.{IsFirmStep}
 use Rattle.js_model.specs.Runs.{is_few, new_messages}
 use Rattle.js_model.specs.Lasting.{lasting}
 use Rattle.js_model.specs.PlaceStates.{PlaceIn}
+use Rattle.effects.specs.Effects.{event_effects}
+use Rattle.effects.specs.Laws.{Leads}
+use Rattle.effects.specs.declared.effect.Effect.{Effect}
 use Rattle.place_engine.specs.declared.faults.PlaceFault.{PlaceFault}
 use Rattle.place_engine.specs.declared.faults.PlaceFault.TheVariants.{NoMemory, StoreFault, Stopped, Gone, Worn}
 use Rattle.place_engine.specs.declared.faults.Left.TheVariants.{Nothing, Ticked, Unsaid}
@@ -21,11 +24,12 @@ use Rattle.place_engine.specs.declared.faults.Left.TheVariants.{Nothing, Ticked,
 abbrev pub Image : Type 0
 Image = ℕ → Bytes
 
--- A place as it is seen: what stands there; the state that its volume holds; whether the store has a block for what is asked; and what a
--- crash at some moment of the volume from one on may have left, which is nothing in memory.
+-- A place as it is seen: what stands there; the state that its volume holds; the records of what was made since, which wait for a commit; whether
+-- the store has a block for what is asked; and what a crash at some moment of the volume from one on may have left, which is nothing in memory.
 pub record Seen : Type 1 where
   pub place : PlaceIn
   pub base : State
+  pub waiting : List Effect
   pub room : What → Bool
   pub left_since : ℕ → Image → Type 0
 
@@ -40,8 +44,14 @@ abbrev pub HoldsNow : Option ℕ → State → State → State → Type 0
 HoldsNow None base state d = d ≡ base
 HoldsNow (Some count) base state d = (d ≡ base) ⊎ (d ≡ lasting state)
 
+-- what waits leads from the base to what outlives a crash of what stands; of a stopped place it says nothing
+abbrev pub Waits : Option ℕ → State → List Effect → State → Type 0
+Waits None base waiting state = Leads base waiting (lasting state)
+Waits (Some count) base waiting state = Unit {0}
+
 -- between two calls; a store has a block for one more message if few count against it
 pub record IsKept (holds : Image → State → Type 0) (s : Seen) : Type 0 where
+  pub waits : Waits s.place.stopped s.base s.waiting s.place.state
   pub now : Leaves holds s s.place.volume.moment (HoldsNow s.place.stopped s.base s.place.state)
   pub free : is_few s.place.stored ≡ true → (what : What) → s.room what ≡ true
   pub earlier : (t u : ℕ) (image : Image) → t ≤ u → s.left_since u image → s.left_since t image
@@ -54,6 +64,26 @@ pub record Elapses (holds : Image → State → Type 0) (old new : Seen) : Type 
   pub goes_on : (t : ℕ) (image : Image) → t ≤ old.place.volume.moment → new.left_since t image
       → old.left_since t image ⊎ ((d : State) × holds image d × ((d ≡ old.base) ⊎ (d ≡ lasting new.place.state)))
 
+-- ---- what a call commits
+
+-- all that was made is on the volume, and nothing waits
+pub record IsFlushed (new : Seen) : Type 0 where
+  pub base : new.base ≡ lasting new.place.state
+  pub waiting : new.waiting ≡ []
+
+-- nothing is committed, and the records of what was made wait behind those from before
+pub record IsPutOff (made : List Effect) (old new : Seen) : Type 0 where
+  pub base : new.base ≡ old.base
+  pub waiting : new.waiting ≡ old.waiting ++ made
+
+-- one of the two
+abbrev pub MayPutOff : List Effect → Seen → Seen → Type 0
+MayPutOff made old new = IsFlushed new ⊎ IsPutOff made old new
+
+-- the records of an event at a place
+abbrev pub effects_of : Event → ℕ → Seen → List Effect
+effects_of event now old = event_effects old.place.state event.what now (old.room event.what)
+
 -- ---- what became of the event
 
 -- all but where the volume stands is as it was
@@ -62,6 +92,7 @@ pub record Rests (old new : Seen) (before after : List Out) : Type 0 where
   pub stored : new.place.stored ≡ old.place.stored
   pub stopped : new.place.stopped ≡ old.place.stopped
   pub base : new.base ≡ old.base
+  pub waiting : new.waiting ≡ old.waiting
   pub outs : after ≡ before
 
 -- the machine makes the event, whatever is told of it
@@ -71,9 +102,9 @@ pub record Does (event : Event) (now : ℕ) (old new : Seen) : Type 0 where
   pub state : new.place.state ≡ (answered old.place.state event now (old.room event.what)).state
 
 -- a confirmed step is on the volume with all before it; another one may be
-pub record Commits (event : Event) (reply : Reply) (old new : Seen) : Type 0 where
-  pub firm : IsFirmStep old.place.state event.what reply new.place.state → new.base ≡ lasting new.place.state
-  pub base : (new.base ≡ old.base) ⊎ (new.base ≡ lasting new.place.state)
+pub record Commits (event : Event) (now : ℕ) (reply : Reply) (old new : Seen) : Type 0 where
+  pub firm : IsFirmStep old.place.state event.what reply new.place.state → IsFlushed new
+  pub may : MayPutOff (effects_of event now old) old new
 
 -- it is made, and told with its reply and its outputs
 pub record Tells (reply : Reply) (event : Event) (now : ℕ) (old new : Seen) (before after : List Out) : Type 0 where
@@ -81,7 +112,7 @@ pub record Tells (reply : Reply) (event : Event) (now : ℕ) (old new : Seen) (b
   pub goes : new.place.stopped ≡ None
   pub reply_is : reply ≡ (answered old.place.state event now (old.room event.what)).reply
   pub outs : after ≡ before ++ (answered old.place.state event now (old.room event.what)).outs
-  pub commits : Commits event reply old new
+  pub commits : Commits event now reply old new
 
 abbrev pub tick_of : Event → Event
 tick_of event = record event { what = Tick }
@@ -91,14 +122,14 @@ pub record Passes (event : Event) (now : ℕ) (old new : Seen) (before after : L
   pub does : Does (tick_of event) now old new
   pub goes : new.place.stopped ≡ None
   pub outs : after ≡ before ++ (answered old.place.state (tick_of event) now (old.room Tick)).outs
-  pub base : (new.base ≡ old.base) ⊎ (new.base ≡ lasting new.place.state)
+  pub may : MayPutOff (effects_of (tick_of event) now old) old new
 
--- it is made, and its reply is told to nobody
+-- it is made and not committed, and its reply is told to nobody
 pub record Hides (event : Event) (now : ℕ) (old new : Seen) (before after : List Out) : Type 0 where
   pub does : Does event now old new
   pub goes : new.place.stopped ≡ None
   pub outs : after ≡ before ++ (answered old.place.state event now (old.room event.what)).outs
-  pub base : new.base ≡ old.base
+  pub put_off : IsPutOff (effects_of event now old) old new
 
 -- it is made, and of its reply only whether it is a refusal is told
 pub record Withholds (refused : Bool) (event : Event) (now : ℕ) (old new : Seen) (before after : List Out) : Type 0 where

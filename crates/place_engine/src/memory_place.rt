@@ -127,7 +127,9 @@ impl<V> Place for MemoryPlace<V> {
         vol
     }
 
-    ghost kept = { λ place. record { free = λ few what. refl; now = λ image left. absurd left; earlier = λ t u image le left. absurd left } };
+    ghost kept = { λ place. record { waits = refl; free = λ few what. refl; now = λ image left. absurd left; earlier = λ t u image le left. absurd left } };
+
+    ghost holds_one = { λ image a b one other. absurd one };
 
     ghost keeps_none = { λ vol. refl };
 

@@ -95,6 +95,9 @@ pub trait Place {
     /// What holds between any two calls.
     ghost kept: { (place : Self) → IsKept holds (seen place) };
 
+    /// An image holds one state, or none.
+    ghost holds_one: { (image : Image) → (a b : State) → holds image a → holds image b → a ≡ b };
+
     /// A call may leave the volume as it is.
     ghost keeps_none: { (v : Self.Vol) → keeps_vol v v };
 

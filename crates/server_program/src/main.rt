@@ -1,7 +1,8 @@
 //! The program: the server over standard input and output.
 #![tactic(auto)]
 
-ghost use Rattle.std.specs.Prelude.{◌≤◌, IfOk, vec_len};
+ghost use Rattle.std.specs.Prelude.{◌≤◌, ◌≡◌, IfOk, None, vec_len};
+ghost use Rattle.server.specs.Words.{command_of, texts};
 
 use link_edge::{OpenGate, PipeDoor, SystemClock, WriterSink};
 use server::{Finish, WordsFault, read_words, run};
@@ -70,6 +71,7 @@ fn print(rt: &HostRuntime, text: &[u8]) -> u8 {
 /// The volumes for the command line. One that is refused has none.
 fn volumes_for(alloc: Global, words: &[String]) -> Result<Vec<()>, AllocError>
     ensures few { IfOk result (λ vols. vec_len vols ≤ 32) }
+    ensures none { command_of (texts words.now) ≡ None → IfOk result (λ vols. vec_len vols ≡ 0) }
 {
     match read_words(alloc, words) {
         Ok(_) => vec![in alloc; (); VOLUMES],

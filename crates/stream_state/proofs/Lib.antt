@@ -7,3 +7,4 @@ pub mod Proper
 pub mod Calling
 pub mod Paging
 pub mod Walks
+pub mod Serving

@@ -65,9 +65,7 @@ impl StreamState {
         let mut info = self.info_of_new(&consumer)?;
         self.insert(consumer)?;
         self.release();
-        if let Some(numbers) = self.numbers(name) {
-            info.info = numbers;
-        }
+        info.info = self.numbers(name).unwrap_or(info.info);
         Ok(info)
     }
 
@@ -78,6 +76,7 @@ impl StreamState {
         requires holds { HoldsStored self.old consumer }
         requires absent { by_name self.old.consumers consumer.name ≡ None }
         ensures ok { OnOk result (self.new ≡ record self.old { consumers = with_new self.old.consumers consumer }) }
+        ensures settled { OnOk result (trim self.new ≡ self.new) }
         ensures err { OnErr result (self.new ≡ self.old) }
     {
         self.stream.insert(consumer)?;
