@@ -8,3 +8,4 @@ pub mod Calling
 pub mod Paging
 pub mod Walks
 pub mod Serving
+pub mod Making
