@@ -25,7 +25,7 @@ use Rattle.js_model.specs.declared.reply.StreamInfo.{StreamInfo}
 use Rattle.js_model.specs.Configs.{same_consumer_config, same_retention, same_stream_config}
 use Rattle.js_model.specs.Consumers.{making_checks, new_consumer, queue_checks, with_new}
 use Rattle.js_model.specs.Counts.{consumer_info, stream_info}
-use Rattle.js_model.specs.Events.{changed, consumer_asked, consumer_made, consumer_told, deleted, infos_told, made_again, message_at, message_by, message_told, names_told, page_of, published, quietly, refused, settled, settled_state, stream_told, told_of, with_message, without_messages}
+use Rattle.js_model.specs.Events.{changed, completed, consumer_asked, consumer_made, consumer_told, deleted, infos_told, made_again, message_at, message_by, message_told, names_told, page_of, published, purged, quietly, refused, settled, settled_state, stream_told, told_of, with_message, without_messages}
 use Rattle.js_model.specs.Refusals.{consumer_absent, consumer_exists, first_refusal, no_consumer, no_message, other_config, retention_cannot_change}
 use Rattle.js_model.specs.Retention.{kept}
 use Rattle.js_model.specs.Streams.{by_name}
@@ -33,7 +33,8 @@ use Rattle.js_model.specs.Trim.{trim}
 use Rattle.js_model.specs.Verdict.{verdict}
 use Rattle.js_model.proofs.Named.{some_is, none_some}
 use Rattle.stream_state.specs.Answering.{Answers}
-use Rattle.place_engine.specs.Answers.{Acts, ActsQuietly}
+use Rattle.place_engine.specs.Answers.{Acts, ActsQuietly, Gives}
+use Rattle.place_engine.specs.Shown.{IsShown}
 
 -- ---- answers
 
@@ -59,6 +60,14 @@ acts_as answer other reply new is h = subst (λ (a : Answer). ActsQuietly a repl
 pub acts_of : (answer : Answer) (told : Reply) (outs_old outs_new : List Out) (new : Stream) → Answers answer told outs_old outs_new new → Acts answer told outs_old outs_new new
 acts_of answer told outs_old outs_new new h = record { reply_is = h.reply; outs_are = h.outs; leaves = sym (ap settled_state h.state) }
 
+pub told_shown : (answer : Answer) (told : Reply) (outs_old outs_new : List Out) (new : Stream) → Answers answer told outs_old outs_new new → IsShown answer.reply → IsShown told
+told_shown answer told outs_old outs_new new h shown = subst IsShown (sym h.reply) shown
+
+-- once the limits and the retention have let messages go
+pub answered_by : (answer : Answer) (reply : Reply) (outs_old outs_new : List Out) (mid new : Stream) → Acts answer reply outs_old outs_new mid → new ≡ settled mid
+    → Gives (completed [] answer) reply outs_old outs_new (Live new)
+answered_by answer reply outs_old outs_new mid new h is = record { reply_is = h.reply_is; outs_are = h.outs_are; state_is = ap Live is ∙ h.leaves }
+
 -- ---- what is kept
 
 -- of what the limits keep the same is kept
@@ -69,6 +78,9 @@ settled_trimmed x y is same = ap kept (same ∙ is)
 pub record Released (old new : Stream) : Type 0 where
   pub value : new ≡ settled old
   pub again : settled new ≡ new
+
+pub released_by : (x new : Stream) → new ≡ settled x → kept new ≡ new → trim new ≡ new → Released x new
+released_by x new value again same = record { value = value; again = ap kept same ∙ again }
 
 released_same : (old new : Stream) → Released old new → settled new ≡ settled old
 released_same old new h = h.again ∙ h.value
@@ -109,6 +121,9 @@ publish_repeated s p n said = quiet s (published s p (verdict s p true)) (Duplic
 
 pub publish_refused : (s : Stream) (p : Publish) (e : ApiError) → verdict s p true ≡ RefusedBy e → ActsQuietly (published s p (verdict s p true)) (Refused e) s
 publish_refused s p e said = quiet s (published s p (verdict s p true)) (Refused e) (ap (published s p) said)
+
+pub purges : (s new : Stream) (gone : List Message) (n : ℕ) → n ≡ length gone → new ≡ without_messages s gone → ActsQuietly (purged s gone) (Purged n) new
+purges s new gone n number is = acts_as (purged s gone) (quietly (Purged n) new) (Purged n) new (ap (λ (k : ℕ). quietly (Purged k) (without_messages s gone)) (sym number) ∙ ap (quietly (Purged n)) (sym is)) (quiet new (quietly (Purged n) new) (Purged n) refl)
 
 -- a message was there, and is deleted
 pub deletes : (s new : Stream) (n : ℕ) → is_some (message_at s n) ≡ true → new ≡ without_messages s (option_to_list (message_at s n)) → ActsQuietly (deleted s (message_at s n)) Done new

@@ -1,5 +1,5 @@
 -- Which consumer is ready, and what a delivery to it leaves.
-use Rattle.std.proofs.Common.{◌≡◌, ℕ, ◌<◌, ◌≤◌, Bool, true, false, cond, List, [], ◌∷◌, ◌++◌, Option, Some, None, get_or, length, map, max, refl, sym, ap, subst, ◌∙◌, ◌==◌, arith}
+use Rattle.std.proofs.Common.{◌≡◌, ℕ, ◌<◌, ◌≤◌, Bool, true, false, cond, List, [], ◌∷◌, ◌++◌, Option, Some, None, get_or, length, map, max, refl, sym, ap, subst, ◌∙◌, ◌==◌, ◌||◌, arith}
 use Rattle.std.specs.Prelude.{All, option_map, slice_get}
 use Rattle.std.specs.List.{list_any}
 use Rattle.std.proofs.lemmas.Bool.{eqb-false, eqb-true}
@@ -17,10 +17,16 @@ use Rattle.js_model.specs.Deliver.{is_listened}
 use Rattle.js_model.specs.Ready.{is_ready}
 use Rattle.js_model.specs.Streams.{by_name, confined, seqs}
 use Rattle.js_model.proofs.Named.{none_some, same_is, same_self, some_is}
-use Rattle.followed_stream.specs.Attended.{AreNamedApart}
+use Rattle.retention.specs.Over.{next_over}
+use Rattle.followed_stream.specs.Attended.{AreNamedApart, IsAttended}
 use Rattle.followed_stream.specs.Delivering.{IsReadyAt, IsReadyIf}
-use Rattle.followed_stream.specs.Handing.{HandsAt}
-use Rattle.stream_state.specs.Serving.{is_ready_if, FindsReady, Serves, ServesNone}
+use Rattle.followed_stream.specs.Handing.{HandsAt, MayHandAt}
+use Rattle.followed_stream.specs.Spans.{joined, spans}
+use Rattle.followed_stream.specs.declared.span.Span.{Span}
+use Rattle.stream_state.specs.Serving.{is_of_some, is_ready_if, FindsReady, Serves, ServesNone}
+use Rattle.stream_state.specs.Settled.{AreProper, IsSettled}
+use Rattle.stream_state.proofs.Calling.{outside_acked, outside_handed}
+use Rattle.stream_state.proofs.Proper.{delivered_kin, proper_with}
 
 -- ---- the one at a place
 
@@ -158,3 +164,35 @@ serves s new place listened listening name what outs_old outs_new apart e heard 
 
 pub serves_none : (s : Stream) (place : ℕ) (listening : List Bytes) (outs : List Out) → None ≡ option_map (λ c. c.name) (slice_get s.consumers place) → ServesNone s place listening outs outs s
 serves_none s place listening outs e = record { unready = none_at s listening place e; outs_same = refl; same = refl }
+
+pub within_at : (s : Stream) (place : ℕ) (name : Bytes) → Some name ≡ option_map (λ c. c.name) (slice_get s.consumers place) → place < length s.consumers
+within_at s place name e = go (slice_get s.consumers place) refl e
+  where
+    go : (o : Option Consumer) → slice_get s.consumers place ≡ o → Some name ≡ option_map (λ c. c.name) o → place < length s.consumers
+    go None f e = absurd (none_some (sym e))
+    go (Some c) f e = (stands s.consumers place c f).within
+
+-- somebody listens, or nobody
+heard : (c : Consumer) (listened : Bool) → (listening : List Bytes) × (is_listened listening c ≡ listened)
+heard c true = (c.name ∷ [], ap (λ (b : Bool). b || false) (same_self c.name))
+heard c false = ([], refl)
+
+-- a stream goes on being settled
+pub settled_handed : (loose other : Span) (s t : Stream) (place : ℕ) (listened : Bool) (what : Option Delivered) (outs_old outs_new : List Out) → IsAttended t → MayHandAt s place listened what outs_old outs_new t
+    → ((n : ℕ) → spans other n ≡ false → is_of_some what n ≡ false) → IsSettled s loose → IsSettled t (joined loose other)
+settled_handed loose other s t place listened None outs_old outs_new attended p out h = subst (λ (x : Stream). IsSettled x (joined loose other)) (sym p.same) (record {
+  attended = h.attended;
+  proper = h.proper;
+  within = h.within;
+  kept = outside_acked loose s s refl refl h.kept other (λ m e. record { needed = refl; taken = refl });
+})
+settled_handed loose other s t place listened (Some what) outs_old outs_new attended p out h = record {
+  attended = attended;
+  proper = subst (λ (x : Stream). AreProper x.consumers) (sym p.left)
+      (proper_with s.consumers place p.after p.consumer p.found (delivered_kin s listens.0 p.consumer what p.own p.after (p.delivers listens.0 listens.1)) h.proper);
+  within = ap (λ (x : Stream). next_over x) p.left ∙ h.within;
+  kept = outside_handed loose s t (ap (λ (x : Stream). x.messages) p.left) (ap (λ (x : Stream). x.config.retention) p.left) h.kept other what out p.needed;
+}
+  where
+    listens : (listening : List Bytes) × (is_listened listening p.consumer ≡ listened)
+    listens = heard p.consumer listened

@@ -5,10 +5,17 @@ use Rattle.js_base.specs.Bytes.{Bytes}
 use Rattle.js_base.specs.declared.out.Out.{Out}
 use Rattle.js_model.specs.declared.stream.Stream.{Stream}
 use Rattle.js_model.specs.declared.consumer.Consumer.{Consumer}
+use Rattle.js_model.specs.declared.entry.Delivered.{Delivered}
 use Rattle.js_model.specs.declared.entry.Delivery.{Delivery}
 use Rattle.js_model.specs.Deliver.{Delivers}
 use Rattle.js_model.specs.Ready.{is_ready}
 use Rattle.js_model.specs.Streams.{by_name, with_consumer}
+use Rattle.followed_stream.specs.Handing.{is_of}
+
+-- the delivery, if one is made, is of the message of this sequence
+abbrev pub is_of_some : Option Delivered → ℕ → Bool
+is_of_some None seq = false
+is_of_some (Some what) seq = is_of what seq
 
 -- something can be delivered to the consumer, if there is one
 abbrev pub is_ready_if : Stream → List Bytes → Option Consumer → Bool

@@ -1,18 +1,20 @@
 //! Time that passes for the consumers of a stream, and deliveries to them.
 
-ghost use Rattle.std.specs.Prelude.{◌≡◌, ◌++◌, slice_get, IfOk, OnOk, OnErr};
+ghost use Rattle.std.specs.Prelude.{◌≡◌, ◌++◌, ◌<◌, ℕ, false, length, slice_get, IfOk, OnOk, OnErr};
 ghost use Rattle.std.specs.List.{list_any};
 ghost use Rattle.js_base.specs.Bytes.{same};
 ghost use Rattle.js_model.specs.Advance.{advance, advance_outs};
 ghost use Rattle.js_model.specs.Trim.{trim};
 ghost use Rattle.followed_stream.specs.Delivering.{AreCurrent};
-ghost use Rattle.stream_state.specs.Serving.{is_ready_if, FindsReady, MayServe};
+ghost use Rattle.followed_stream.specs.Handing.{MayHandAt};
+ghost use Rattle.followed_stream.specs.Spans.{spans};
+ghost use Rattle.stream_state.specs.Serving.{is_of_some, is_ready_if, FindsReady, MayServe};
 
 use crate::state::{StreamState, later};
 use crate::telling::tell_all;
 use followed_stream::Span;
 use js_base::{Blob, Moment, NoMemory, Outs};
-use js_model::{Delivery, Listening};
+use js_model::{Delivered, Delivery, Listening};
 use stream_view::View;
 
 impl StreamState {
@@ -69,11 +71,39 @@ impl StreamState {
         };
         let consumer = name.clone()?;
         let listened = is_listened(listening.as_slice(), name);
-        let Some(what) = self.stream.deliver(place, listened, outs)? else {
-            return Ok(None);
-        };
-        self.loose = self.loose.join(Span::of(what));
-        Ok(Some(Delivery { consumer, what }))
+        match self.hand(place, listened, outs)? {
+            Some(what) => Ok(Some(Delivery { consumer, what })),
+            None => Ok(None),
+        }
+    }
+
+    /// The same, if it is known whether somebody listens to its deliver subject.
+    fn hand(
+        &mut self,
+        place: usize,
+        listened: bool,
+        outs: &mut Outs,
+    ) -> Result<Option<Delivered>, NoMemory>
+        requires within { place < length self.old.consumers }
+        requires current { AreCurrent self.old }
+        ensures handed { IfOk result (λ what. MayHandAt self.old place listened what outs.old outs.new self.new) }
+        ensures settled { trim self.new ≡ self.new }
+        ensures err { OnErr result (self.new ≡ self.old) }
+        ensures err_outs { OnErr result (outs.new ≡ outs.old) }
+    {
+        let what = self.stream.deliver(place, listened, outs)?;
+        self.loose = self.loose.join(span_of(what));
+        Ok(what)
+    }
+}
+
+/// That of the message that is sent, if one is.
+fn span_of(what: Option<Delivered>) -> Span
+    ensures outside { (seq : ℕ) → spans result seq ≡ false → is_of_some what seq ≡ false }
+{
+    match what {
+        Some(what) => Span::of(what),
+        None => Span::none(),
     }
 }
 

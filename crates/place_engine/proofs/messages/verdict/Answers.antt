@@ -1,6 +1,6 @@
 use Rattle.std.proofs.lemmas.Result.{IfOk-weaker}
 use Rattle.place_engine.proofs.VerdictTexts.{verdict_text}
-use Rattle.place_engine.proofs.live_stream.verdict.Goals as goal
+use Rattle.place_engine.proofs.messages.verdict.Goals as goal
 
 pub returns-clause-shown : goal.returns-clause-shown
 returns-clause-shown c =
