@@ -1,21 +1,21 @@
 -- A consumer that is made: that there is room for it, and what is told of it.
 use Rattle.std.proofs.Common.{◌≡◌, ℕ, ◌+◌, ◌<◌, ◌≤◌, List, [], ◌∷◌, Option, Some, None, IsTrue, length, map, min, refl, sym, ap, subst, ◌∙◌, arith}
-use Rattle.std.specs.Prelude.{option_map, slice_get, unwrap_or}
+use Rattle.std.specs.Prelude.{filter, option_map, unwrap_or}
 use Rattle.std.proofs.lemmas.Bool.{leb-false}
 use Rattle.js_base.specs.Bytes.{Bytes}
 use Rattle.js_model.specs.declared.consumer.Consumer.{Consumer}
 use Rattle.js_model.specs.declared.consumer_config.ConsumerConfig.{ConsumerConfig}
+use Rattle.js_model.specs.declared.stream_config.StreamConfig.{StreamConfig}
 use Rattle.js_model.specs.declared.reply.ConsumerInfo.{ConsumerInfo}
 use Rattle.js_model.specs.declared.reply.Info.{Info}
-use Rattle.js_model.specs.declared.stream.Message.{Message}
 use Rattle.js_model.specs.declared.stream.Stream.{Stream}
 use Rattle.js_model.specs.Configs.{is_consumer_config, is_name}
 use Rattle.js_model.specs.Consumers.{making_checks, new_consumer, with_new}
 use Rattle.js_model.specs.Counts.{consumer_info, info_of}
 use Rattle.js_model.specs.Refusals.{first_refusal}
-use Rattle.js_model.specs.Retention.{kept}
-use Rattle.js_model.specs.Streams.{by_name, confined, only, seqs}
-use Rattle.js_model.proofs.Named.{by_name-made, by_name-map, KeepsNames}
+use Rattle.js_model.specs.Retention.{is_kept, kept}
+use Rattle.js_model.specs.Streams.{by_name, confined, seqs}
+use Rattle.js_model.proofs.Named.{by_name-made, by_name-map}
 use Rattle.stream_state.specs.Settled.{IsProperConsumer}
 use Rattle.stream_state.proofs.Taken.{all_passed}
 
@@ -54,19 +54,23 @@ made_kept s mid new name config absent is left = subst (IsMade s name config) (s
     c = new_consumer s name config
 
     ns : List ℕ
-    ns = seqs (kept (record s { consumers = with_new s.consumers c })).messages
+    ns = seqs (filter (is_kept s.config.retention (with_new s.consumers c)) s.messages)
 
 -- what is told of it
+abbrev telling : Bytes → Bytes → ℕ → ConsumerConfig → Info → ConsumerInfo
+telling stream name made config info = record { stream = stream; name = name; made = made; config = config; info = info }
+
 pub made_told : (s mid new : Stream) (name : Bytes) (config : ConsumerConfig) (told : ConsumerInfo) (numbers : Option Info) (info : Info) → by_name s.consumers name ≡ None
     → mid ≡ record s { consumers = with_new s.consumers (new_consumer s name config) } → new ≡ kept mid → numbers ≡ option_map (info_of new) (by_name new.consumers name)
     → told.stream ≡ s.config.name → told.name ≡ name → told.made ≡ s.moment → told.config ≡ config → info ≡ unwrap_or numbers told.info
     → option_map (consumer_info new) (by_name new.consumers name) ≡ Some (record told { info = info })
 made_told s mid new name config told numbers info absent is left numbers_are stream named made configured info_is =
-    let m = made_kept s mid new name config absent is left in
-    let n : info ≡ info_of new m.consumer = info_is ∙ ap (λ (o : Option Info). unwrap_or o told.info) (numbers_are ∙ ap (option_map (info_of new)) m.found) in
+    let m : IsMade s name config new = made_kept s mid new name config absent is left in
+    let c : Consumer = m.consumer in
+    let n : info ≡ info_of new c = info_is ∙ ap (λ (o : Option Info). unwrap_or o told.info) (numbers_are ∙ ap (option_map (info_of new)) m.found) in
     ap (option_map (consumer_info new)) m.found
-    ∙ ap (λ (k : Bytes). Some (record { stream = k; name = m.consumer.name; made = m.consumer.made; config = m.consumer.config; info = info_of new m.consumer })) (ap (λ c. c.name) m.stream_is ∙ sym stream)
-    ∙ ap (λ (k : Bytes). Some (record { stream = told.stream; name = k; made = m.consumer.made; config = m.consumer.config; info = info_of new m.consumer })) (m.name_is ∙ sym named)
-    ∙ ap (λ (k : ℕ). Some (record { stream = told.stream; name = told.name; made = k; config = m.consumer.config; info = info_of new m.consumer })) (m.made_is ∙ sym made)
-    ∙ ap (λ (k : ConsumerConfig). Some (record { stream = told.stream; name = told.name; made = told.made; config = k; info = info_of new m.consumer })) (m.config_is ∙ sym configured)
-    ∙ ap (λ (k : Info). Some (record { stream = told.stream; name = told.name; made = told.made; config = told.config; info = k })) (sym n)
+    ∙ ap (λ (k : Bytes). Some (telling k c.name c.made c.config (info_of new c))) (ap (λ (x : StreamConfig). x.name) m.stream_is ∙ sym stream)
+    ∙ ap (λ (k : Bytes). Some (telling told.stream k c.made c.config (info_of new c))) (m.name_is ∙ sym named)
+    ∙ ap (λ (k : ℕ). Some (telling told.stream told.name k c.config (info_of new c))) (m.made_is ∙ sym made)
+    ∙ ap (λ (k : ConsumerConfig). Some (telling told.stream told.name told.made k (info_of new c))) (m.config_is ∙ sym configured)
+    ∙ ap (λ (k : Info). Some (telling told.stream told.name told.made told.config k)) (sym n)

@@ -1,6 +1,6 @@
 -- The consumers of a stream go on having names and configurations that readers give, and no more of them than there may be.
-use Rattle.std.proofs.Common.{◌≡◌, ℕ, ◌+◌, ◌<◌, ◌≤◌, Bool, true, false, cond, List, [], ◌∷◌, Option, Some, None, IsTrue, get_or, length, map, refl, sym, ap, subst, ◌∙◌, arith}
-use Rattle.std.specs.Prelude.{All, filter, slice_get}
+use Rattle.std.proofs.Common.{◌≡◌, ℕ, ◌+◌, ◌<◌, ◌≤◌, Bool, true, false, cond, List, [], ◌∷◌, Option, Some, None, IsTrue, get_or, length, map, refl, sym, ap, subst, ◌∙◌, arith, inl, inr}
+use Rattle.std.specs.Prelude.{◌⊎◌, All, filter, slice_get}
 use Rattle.std.proofs.lemmas.List.{length-map}
 use Rattle.std.proofs.lemmas.List.Elements.{All-cons, All-filter, All-get_or, All-head, All-map, All-nil, All-tail, All-weaker}
 use Rattle.std.proofs.lemmas.Option.{slice_get_cases}
@@ -98,7 +98,7 @@ pub proper_new : (cs : List Consumer) (new : Consumer) → length cs < 256 → I
 proper_new cs new room p h = record { few = let l : length (with_new cs new) ≡ length cs + 1 = longer cs in omega (arith, l, room); each = each cs h.each }
   where
     longer : (ds : List Consumer) → length (with_new ds new) ≡ length ds + 1
-    longer [] = refl
+    longer [] = omega arith
     longer (d ∷ ds) = go (is_before d.name new.name) (longer ds)
       where
         go : (b : Bool) → length (with_new ds new) ≡ length ds + 1 → length (cond b (d ∷ with_new ds new) (new ∷ d ∷ ds)) ≡ length (d ∷ ds) + 1
@@ -142,7 +142,7 @@ after_ack_kin now reply n kind c = go (next_ask kind)
 
     go : (ask : Option Ask) → IsKin (pulled_next now reply ask (acknowledged now n kind c)) c
     go None = first
-    go (Some ask) = let then = pulled_kin now reply (Some ask) (acknowledged now n kind c) in record { name = then.name ∙ first.name; config = then.config ∙ first.config }
+    go (Some ask) = let second : IsKin (pulled now reply (Some ask) (acknowledged now n kind c)) (acknowledged now n kind c) = pulled_kin now reply (Some ask) (acknowledged now n kind c) in record { name = second.name ∙ first.name; config = second.config ∙ first.config }
 
 pub acked_kin : (now : ℕ) (reply : Option Bytes) (n : ℕ) (kind : AckKind) (c : Consumer) → IsKin (acked now reply n kind c) c
 acked_kin now reply n kind c = go (is_no_delivery c n)

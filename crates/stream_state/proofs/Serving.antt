@@ -1,6 +1,6 @@
 -- Which consumer is ready, and what a delivery to it leaves.
-use Rattle.std.proofs.Common.{◌≡◌, ℕ, ◌<◌, ◌≤◌, Bool, true, false, cond, List, [], ◌∷◌, ◌++◌, Option, Some, None, get_or, length, map, max, refl, sym, ap, subst, ◌∙◌, ◌==◌, ◌||◌, arith}
-use Rattle.std.specs.Prelude.{All, option_map, slice_get}
+use Rattle.std.proofs.Common.{◌≡◌, ℕ, zero, suc, ◌+◌, ◌<◌, ◌≤◌, Bool, true, false, cond, List, [], ◌∷◌, ◌++◌, Option, Some, None, get_or, length, map, max, refl, sym, ap, subst, ◌∙◌, ◌==◌, ◌||◌, arith, inl, inr}
+use Rattle.std.specs.Prelude.{◌⊎◌, All, option_map, slice_get}
 use Rattle.std.specs.List.{list_any}
 use Rattle.std.proofs.lemmas.Bool.{eqb-false, eqb-true}
 use Rattle.std.proofs.lemmas.List.{length-map}
@@ -112,7 +112,7 @@ none_by s now listening place e = none_at (advance s now) listening place (e ∙
 -- ---- which one
 
 -- none is ready before a place
-pub AreUnready : Stream → List Bytes → ℕ → Type 0
+abbrev pub AreUnready : Stream → List Bytes → ℕ → Type 0
 AreUnready a listening end = (place : ℕ) → place < end → is_ready_if a listening (slice_get a.consumers place) ≡ false
 
 pub none_ready : (a : Stream) (listening : List Bytes) (end : ℕ) → length a.consumers ≤ end → AreUnready a listening end → list_any (is_ready a listening) a.consumers ≡ false
@@ -131,7 +131,7 @@ none_ready a listening end l h = go a.consumers refl
     go [] e = ap (list_any (is_ready a listening)) e
     go (d ∷ ds) e = list_any_none (is_ready a listening) a.consumers (All-from_get_or (λ c. is_ready a listening c ≡ false) a.consumers d (each d))
 
-pub unready_more : (a : Stream) (listening : List Bytes) (end : ℕ) (ready : Bool) → AreUnready a listening end → ready ≡ is_ready_if a listening (slice_get a.consumers end) → ready ≡ false → AreUnready a listening (suc end)
+pub unready_more : (a : Stream) (listening : List Bytes) (end : ℕ) (ready : Bool) → AreUnready a listening end → ready ≡ is_ready_if a listening (slice_get a.consumers end) → ready ≡ false → AreUnready a listening (end + 1)
 unready_more a listening end ready h e no place l = go (place == end) refl
   where
     go : (b : Bool) → (place == end) ≡ b → is_ready_if a listening (slice_get a.consumers place) ≡ false
