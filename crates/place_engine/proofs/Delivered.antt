@@ -35,9 +35,9 @@ ready_is a listening None h = sym h
 ready_is a listening (Some place) h = sym (ready_among a listening place h)
 
 -- what was delivered at the moment, and what the retention then keeps
-pub delivered : (s new mid : Stream) (now : ℕ) (listening : List Bytes) (made : Delivery) (outs_old outs_mid outs_new : List Out) → outs_mid ≡ outs_old ++ advance_outs s now
-    → Serves (advance s now) listening made outs_mid outs_new mid → trim mid ≡ mid → new ≡ settled mid → DeliversSome (Live s) now listening made outs_old outs_new (Live new)
-delivered s new mid now listening made outs_old outs_mid outs_new passed h same is = record {
+pub delivered : (s new mid : Stream) (now place : ℕ) (listening : List Bytes) (made : Delivery) (outs_old outs_mid outs_new : List Out) → outs_mid ≡ outs_old ++ advance_outs s now
+    → Serves (advance s now) place listening made outs_mid outs_new mid → trim mid ≡ mid → new ≡ settled mid → DeliversSome (Live s) now listening made outs_old outs_new (Live new)
+delivered s new mid now place listening made outs_old outs_mid outs_new passed h same is = record {
   sent = advance_outs s now ++ h.own;
   delivered = record {
     consumer = h.consumer;

@@ -13,7 +13,7 @@ use Rattle.js_model.specs.declared.reply.Reply.TheVariants.{Silent}
 use Rattle.js_model.specs.Advance.{advance, advance_outs}
 use Rattle.js_model.specs.Events.{answered, settled, settled_state}
 use Rattle.js_model.specs.StateMoments.{state_at}
-use Rattle.place_engine.specs.Answers.{outs_by, AnswersThen, Gives, Leaves, PlaceAnswers}
+use Rattle.place_engine.specs.Answers.{outs_by, AnswersThen, Gives, LeftBy, PlaceAnswers}
 use Rattle.place_engine.specs.InMemory.{left_of}
 
 -- a stream is left as a tick leaves it
@@ -22,7 +22,7 @@ unfolding answered
 ticked s now outs new is incarnation = record { reply_is = refl; outs_are = ap (λ (more : List Out). outs ++ more) (sym (append-nil (advance_outs s now))); state_is = is }
 
 -- a place is, and says so if there is a stream
-pub left_behind : (old new : State) (now : ℕ) (outs_old outs_new : List Out) → new ≡ settled_state (state_at old now) → outs_new ≡ outs_old ++ outs_by old now → Leaves (left_of old) old now outs_old outs_new new
+pub left_behind : (old new : State) (now : ℕ) (outs_old outs_new : List Out) → new ≡ settled_state (state_at old now) → outs_new ≡ outs_old ++ outs_by old now → LeftBy (left_of old) old now outs_old outs_new new
 left_behind (Vacant i) new now outs_old outs_new is sent = (is, sent ∙ append-nil outs_old)
 left_behind (Live s) new now outs_old outs_new is sent = subst (λ (outs : List Out). PlaceAnswers (Live s) Tick now Silent outs_old outs new) (sym sent) (ticked s now outs_old new is)
 

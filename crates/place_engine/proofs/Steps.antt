@@ -13,7 +13,7 @@ use Rattle.js_model.specs.Events.{kept_incarnation}
 use Rattle.place_engine.specs.declared.faults.Left.{Left}
 use Rattle.place_engine.specs.declared.faults.Left.TheVariants.{Nothing, Ticked, Unsaid}
 use Rattle.place_engine.specs.declared.faults.PlaceFault.TheVariants.{NoMemory}
-use Rattle.place_engine.specs.Answers.{DeliversNone, DeliversSome, Leaves, PlaceAnswers}
+use Rattle.place_engine.specs.Answers.{DeliversNone, DeliversSome, LeftBy, PlaceAnswers}
 use Rattle.place_engine.specs.Delivering.{Delivers}
 use Rattle.place_engine.specs.InMemory.{seen_of, holds_nothing}
 use Rattle.place_engine.specs.Stepping.{Elapses, IsFlushed, IsUndone, Passes, Steps}
@@ -57,7 +57,7 @@ tells old e now reply new outs_old outs_new kept answers =
     }
 
 -- memory ran out
-pub starves : (old : State) (e : Event) (now : ℕ) (left : Left) (new : State) (outs_old outs_new : List Out) → e.incarnation ≡ kept_incarnation old → Leaves left old now outs_old outs_new new
+pub starves : (old : State) (e : Event) (now : ℕ) (left : Left) (new : State) (outs_old outs_new : List Out) → e.incarnation ≡ kept_incarnation old → LeftBy left old now outs_old outs_new new
     → Steps holds_nothing (Err (NoMemory left)) e now (seen_of old) (seen_of new) outs_old outs_new
 starves old e now Nothing new outs_old outs_new kept h = record { ends = undone old new outs_old outs_new h.0 h.1; stored = omega arith; time = elapses old new }
 starves old e now Ticked new outs_old outs_new kept h = record { ends = passes old e now new outs_old outs_new kept h; stored = omega arith; time = elapses old new }
@@ -87,7 +87,7 @@ delivers_none old now listening new outs_old outs_new h = record {
 }
 
 -- memory ran out
-pub delivery_starves : (old : State) (now : ℕ) (listening : List Bytes) (left : Left) (new : State) (outs_old outs_new : List Out) → Leaves left old now outs_old outs_new new
+pub delivery_starves : (old : State) (now : ℕ) (listening : List Bytes) (left : Left) (new : State) (outs_old outs_new : List Out) → LeftBy left old now outs_old outs_new new
     → Delivers holds_nothing (Err (NoMemory left)) now listening (seen_of old) (seen_of new) outs_old outs_new
 delivery_starves old now listening Nothing new outs_old outs_new h = record { ends = undone old new outs_old outs_new h.0 h.1; stored = omega arith; time = elapses old new }
 delivery_starves old now listening Ticked new outs_old outs_new h =

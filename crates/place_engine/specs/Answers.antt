@@ -53,10 +53,10 @@ outs_by (Vacant last) now = []
 outs_by (Live s) now = advance_outs s now
 
 -- what a call leaves that finds no memory: all as it was, or what a tick leaves
-abbrev pub Leaves : Left → State → ℕ → List Out → List Out → State → Type 0
-Leaves Nothing old now outs_old outs_new new = (new ≡ old) × (outs_new ≡ outs_old)
-Leaves Ticked old now outs_old outs_new new = PlaceAnswers old Tick now Silent outs_old outs_new new
-Leaves (Unsaid refused) old now outs_old outs_new new = ⊥
+abbrev pub LeftBy : Left → State → ℕ → List Out → List Out → State → Type 0
+LeftBy Nothing old now outs_old outs_new new = (new ≡ old) × (outs_new ≡ outs_old)
+LeftBy Ticked old now outs_old outs_new new = PlaceAnswers old Tick now Silent outs_old outs_new new
+LeftBy (Unsaid refused) old now outs_old outs_new new = ⊥
 
 -- a delivery is made
 pub record DeliversSome (old : State) (now : ℕ) (listening : List Bytes) (delivery : Delivery) (outs_old outs_new : List Out) (new : State) : Type 0 where
@@ -73,4 +73,4 @@ pub record DeliversNone (old : State) (now : ℕ) (listening : List Bytes) (outs
 abbrev pub MayDeliver : Result (Option Delivery) Left → State → ℕ → List Bytes → List Out → List Out → State → Type 0
 MayDeliver (Ok (Some delivery)) old now listening outs_old outs_new new = DeliversSome old now listening delivery outs_old outs_new new
 MayDeliver (Ok None) old now listening outs_old outs_new new = DeliversNone old now listening outs_old outs_new new
-MayDeliver (Err left) old now listening outs_old outs_new new = Leaves left old now outs_old outs_new new
+MayDeliver (Err left) old now listening outs_old outs_new new = LeftBy left old now outs_old outs_new new

@@ -10,7 +10,7 @@ ghost use Rattle.js_model.specs.Events.{kept_incarnation, settled_state};
 ghost use Rattle.js_model.specs.Proper.{is_proper_what};
 ghost use Rattle.js_model.specs.Ready.{some_ready};
 ghost use Rattle.js_model.specs.StateMoments.{state_at};
-ghost use Rattle.place_engine.specs.Answers.{outs_by, AnswersThen, Leaves, MayDeliver, PlaceAnswers};
+ghost use Rattle.place_engine.specs.Answers.{outs_by, AnswersThen, LeftBy, MayDeliver, PlaceAnswers};
 ghost use Rattle.place_engine.specs.InMemory.{left_of, MayLeave};
 ghost use Rattle.place_engine.specs.Places.{IsTold, IsVacant, name_in, subjects_in};
 ghost use Rattle.place_engine.specs.Pushes.{push_of, pushes_in};
@@ -129,7 +129,7 @@ impl Slot {
         ensures answers { IfOk result (λ reply. PlaceAnswers self.old what.now now reply outs.old outs.new self.new) }
         ensures shown { IfOk result IsShown }
         ensures cause { IfErr result (MayLeave self.old what.now) }
-        ensures err { IfErr result (λ left. Leaves left self.old now outs.old outs.new self.new) }
+        ensures err { IfErr result (λ left. LeftBy left self.old now outs.old outs.new self.new) }
     {
         if self.pass(now, outs).is_err() {
             return Err(Left::Nothing);

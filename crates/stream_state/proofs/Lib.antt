@@ -7,5 +7,5 @@ pub mod Proper
 pub mod Calling
 pub mod Paging
 pub mod Walks
-pub mod Serving
+pub mod Handed
 pub mod Making

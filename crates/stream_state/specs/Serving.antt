@@ -1,5 +1,5 @@
 -- One delivery to a consumer of a stream for which time has passed, by JetStream's pull and push consumers.
-use Rattle.std.specs.Prelude.{◌≡◌, ℕ, Bool, true, false, List, ◌++◌, Option, Some, None, slice_get}
+use Rattle.std.specs.Prelude.{◌≡◌, ◌≤◌, ◌<◌, ℕ, Bool, true, false, List, ◌++◌, Option, Some, None, slice_get}
 use Rattle.std.specs.List.{list_any}
 use Rattle.js_base.specs.Bytes.{Bytes}
 use Rattle.js_base.specs.declared.out.Out.{Out}
@@ -22,16 +22,22 @@ abbrev pub is_ready_if : Stream → List Bytes → Option Consumer → Bool
 is_ready_if s listening None = false
 is_ready_if s listening (Some c) = is_ready s listening c
 
--- it can to the consumer at the place, or to none of the consumers
+-- it can to the consumer at the place, or to none of those from a place on and before another
+abbrev pub FindsAmong : Stream → List Bytes → ℕ → ℕ → Option ℕ → Type 0
+FindsAmong s listening from end None = (place : ℕ) → from ≤ place → place < end → is_ready_if s listening (slice_get s.consumers place) ≡ false
+FindsAmong s listening from end (Some place) = is_ready_if s listening (slice_get s.consumers place) ≡ true
+
+-- or to none of all
 abbrev pub FindsReady : Stream → List Bytes → Option ℕ → Type 0
 FindsReady s listening None = list_any (is_ready s listening) s.consumers ≡ false
 FindsReady s listening (Some place) = is_ready_if s listening (slice_get s.consumers place) ≡ true
 
--- the delivery is made to the consumer that it names
-pub record Serves (s : Stream) (listening : List Bytes) (made : Delivery) (outs_old outs_new : List Out) (new : Stream) : Type 0 where
+-- the delivery is made to the consumer at the place, which it names
+pub record Serves (s : Stream) (place : ℕ) (listening : List Bytes) (made : Delivery) (outs_old outs_new : List Out) (new : Stream) : Type 0 where
   pub consumer : Consumer
   pub after : Consumer
   pub own : List Out
+  pub at : slice_get s.consumers place ≡ Some consumer
   pub found : by_name s.consumers made.consumer ≡ Some consumer
   pub delivers : Delivers s listening consumer made.what own after
   pub outs_are : outs_new ≡ outs_old ++ own
@@ -45,4 +51,4 @@ pub record ServesNone (s : Stream) (place : ℕ) (listening : List Bytes) (outs_
 
 abbrev pub MayServe : Stream → ℕ → List Bytes → Option Delivery → List Out → List Out → Stream → Type 0
 MayServe s place listening None outs_old outs_new new = ServesNone s place listening outs_old outs_new new
-MayServe s place listening (Some made) outs_old outs_new new = Serves s listening made outs_old outs_new new
+MayServe s place listening (Some made) outs_old outs_new new = Serves s place listening made outs_old outs_new new

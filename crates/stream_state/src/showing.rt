@@ -107,7 +107,7 @@ fn push_among(followers: &[Follower], at: usize) -> Option<&Follower>
 }
 
 /// Whether its messages go to a subject of its own.
-fn is_push(follower: &Follower) -> bool
+pub(crate) fn is_push(follower: &Follower) -> bool
     ensures value { result ≡ is_push follower.now.consumer }
 {
     !follower.config().deliver_subject.is_empty()

@@ -37,6 +37,8 @@ pub struct StreamState {
     pub(crate) stream: FollowedStream,
     /// The retention keeps all messages outside it.
     pub(crate) loose: Span,
+    /// The place of the consumer at which the search for one that is ready begins.
+    pub(crate) turn: usize,
 }
 
 impl Model for StreamState {
@@ -62,6 +64,7 @@ impl StreamState {
             alloc,
             stream: FollowedStream::make(alloc, incarnation, config, now),
             loose: Span::none(),
+            turn: 0,
         }
     }
 

@@ -1,4 +1,4 @@
-use Rattle.stream_state.proofs.Serving.{settled_handed}
+use Rattle.stream_state.proofs.Handed.{settled_handed}
 use Rattle.stream_state.proofs.Settling.{trimmed}
 use Rattle.stream_state.proofs.state.StreamState.hand.Goals as goal
 
