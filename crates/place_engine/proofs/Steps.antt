@@ -1,5 +1,5 @@
 -- What a place in memory answers and delivers is a step and a delivery by the relations that each place keeps.
-use Rattle.std.proofs.Common.{◌≡◌, ◌++◌, ℕ, true, List, Option, Some, None, Ok, Err, ap, ◌∙◌, sym, refl, arith, inl}
+use Rattle.std.proofs.Common.{◌≡◌, ◌++◌, ℕ, true, List, Option, Some, None, Result, Ok, Err, ap, ◌∙◌, sym, refl, arith, inl}
 use Rattle.std.proofs.lemmas.Option.{none-some}
 use Rattle.js_base.specs.Bytes.{Bytes}
 use Rattle.js_base.specs.declared.out.Out.{Out}
@@ -12,8 +12,9 @@ use Rattle.js_model.specs.declared.reply.Reply.TheVariants.{Silent}
 use Rattle.js_model.specs.Events.{kept_incarnation}
 use Rattle.place_engine.specs.declared.faults.Left.{Left}
 use Rattle.place_engine.specs.declared.faults.Left.TheVariants.{Nothing, Ticked, Unsaid}
+use Rattle.place_engine.specs.declared.faults.PlaceFault.{PlaceFault}
 use Rattle.place_engine.specs.declared.faults.PlaceFault.TheVariants.{NoMemory}
-use Rattle.place_engine.specs.Answers.{DeliversNone, DeliversSome, LeftBy, PlaceAnswers}
+use Rattle.place_engine.specs.Answers.{DeliversNone, DeliversSome, LeftBy, MayDeliver, PlaceAnswers}
 use Rattle.place_engine.specs.Delivering.{Delivers}
 use Rattle.place_engine.specs.InMemory.{seen_of, holds_nothing}
 use Rattle.place_engine.specs.Stepping.{Elapses, IsFlushed, IsUndone, Passes, Steps}
@@ -93,3 +94,14 @@ delivery_starves old now listening Nothing new outs_old outs_new h = record { en
 delivery_starves old now listening Ticked new outs_old outs_new h =
     record { ends = passes old (record { incarnation = kept_incarnation old; what = Tick }) now new outs_old outs_new refl h; stored = omega arith; time = elapses old new }
 delivery_starves old now listening (Unsaid refused) new outs_old outs_new h = absurd h
+
+-- in each case
+abbrev pub told_fault : Result (Option Delivery) Left → Result (Option Delivery) PlaceFault
+told_fault (Ok made) = Ok made
+told_fault (Err left) = Err (NoMemory left)
+
+pub delivers_of : (old : State) (now : ℕ) (listening : List Bytes) (result : Result (Option Delivery) Left) (new : State) (outs_old outs_new : List Out) → MayDeliver result old now listening outs_old outs_new new
+    → Delivers holds_nothing (told_fault result) now listening (seen_of old) (seen_of new) outs_old outs_new
+delivers_of old now listening (Ok (Some made)) new outs_old outs_new h = delivers_some old now listening made new outs_old outs_new h
+delivers_of old now listening (Ok None) new outs_old outs_new h = delivers_none old now listening new outs_old outs_new h
+delivers_of old now listening (Err left) new outs_old outs_new h = delivery_starves old now listening left new outs_old outs_new h

@@ -203,9 +203,9 @@ impl LiveStream {
         let Some(place) = self.state.next_ready(now, listening) else {
             return Ok(None);
         };
-        if self.pass(now, outs).is_err() {
+        let Ok(()) = self.pass(now, outs) else {
             return Err(Left::Nothing);
-        }
+        };
         let made = self.state.deliver(place, listening, outs);
         self.release();
         match made {

@@ -131,9 +131,9 @@ impl Slot {
         ensures cause { IfErr result (MayLeave self.old what.now) }
         ensures err { IfErr result (λ left. LeftBy left self.old now outs.old outs.new self.new) }
     {
-        if self.pass(now, outs).is_err() {
+        let Ok(()) = self.pass(now, outs) else {
             return Err(Left::Nothing);
-        }
+        };
         let left = self.left();
         match self.answer_then(what, now, outs) {
             Ok(reply) => Ok(reply),
@@ -248,10 +248,10 @@ impl Slot {
             Held::Nothing(_) => Ok(Reply::Refused(no_stream(self.alloc)?)),
             Held::Stream(stream) => {
                 let last = stream.incarnation();
-                if stream.tell_dropped(outs).is_err() {
+                let Ok(()) = stream.tell_dropped(outs) else {
                     stream.release();
                     return Err(NoMemory);
-                }
+                };
                 self.held = Held::Nothing(last);
                 Ok(Reply::Done)
             }
