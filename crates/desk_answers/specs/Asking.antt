@@ -1,9 +1,30 @@
 -- What a place may be asked.
-use Rattle.std.specs.Prelude.{IsTrue}
+use Rattle.std.specs.Prelude.{IfSome, IsTrue, IsUtf8}
 use Rattle.js_base.specs.Subjects.{is_subject_text}
 use Rattle.js_model.specs.declared.event.What.{What}
+use Rattle.js_model.specs.declared.event.What.TheVariants as whats
 use Rattle.js_model.specs.Proper.{if_given, reply_of, is_proper_what}
-use Rattle.place_engine.specs.Places.{IsBuilt}
+use Rattle.js_model.specs.Served.{IsServed}
+
+-- What a desk asks of its places so far: all but what is asked of consumers, and of streams whose retention is `limits`. The name of a header with a
+-- bad number is UTF-8, since it is told
+abbrev pub IsBuilt : What → Type 0
+IsBuilt (whats.Make reply config) = IsServed config
+IsBuilt (whats.Change reply config) = IsServed config
+IsBuilt (whats.Drop reply) = Unit {0}
+IsBuilt (whats.Publish publish) = IfSome publish.wants.bad IsUtf8
+IsBuilt (whats.Purge reply filter below keep) = Unit {0}
+IsBuilt (whats.Delete reply seq) = Unit {0}
+IsBuilt (whats.MakeConsumer reply name config update) = ⊥
+IsBuilt (whats.DropConsumer reply name) = ⊥
+IsBuilt (whats.Ack reply ack) = ⊥
+IsBuilt (whats.Pull reply consumer ask) = ⊥
+IsBuilt whats.Tick = Unit {0}
+IsBuilt (whats.StreamInfo reply) = Unit {0}
+IsBuilt (whats.MessageGet reply by) = Unit {0}
+IsBuilt (whats.ConsumerInfo reply name) = ⊥
+IsBuilt (whats.ConsumerNames reply offset) = ⊥
+IsBuilt (whats.ConsumerList reply offset) = ⊥
 
 -- a reader gives what is asked so, and a place does it
 pub record MayAsk (what : What) : Type 0 where

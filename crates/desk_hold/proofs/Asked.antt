@@ -25,7 +25,8 @@ use Rattle.place_engine.specs.Shown.{IsShown}
 use Rattle.place_engine.specs.declared.faults.PlaceFault.{PlaceFault}
 use Rattle.place_engine.specs.declared.faults.PlaceFault.TheVariants as places
 use Rattle.place_engine.specs.declared.faults.Left.TheVariants as left
-use Rattle.desk_answers.specs.Asking.{MayAsk}
+use Rattle.place_engine.specs.Places.{IsTold}
+use Rattle.desk_answers.specs.Asking.{IsBuilt, MayAsk}
 use Rattle.desk_answers.specs.Became.{CanBeShown, IsExplained, NumbersDropped, is_dropped}
 use Rattle.desk_hold.specs.Outcomes.{failed_by}
 use Rattle.desk_hold.specs.Steps.{EndsStep, IsNumbered, WithholdsStep}
@@ -35,6 +36,10 @@ pub proper_event : (at : PlaceAt) (what : What) → at.incarnation ≤ 2 ^ 62 �
 proper_event at what small may =
     and_from (nat_le at.incarnation (2 ^ 62) && if_given is_subject_text (reply_of what)) (is_proper_what what)
     (and_from (nat_le at.incarnation (2 ^ 62)) (if_given is_subject_text (reply_of what)) (le-leb at.incarnation (2 ^ 62) small) may.reply) may.proper
+
+-- and what it tells is UTF-8
+pub told_by : (what : What) → MayAsk what → IsTold what
+told_by what may publish is = subst IsBuilt is may.built
 
 -- ---- what was made
 

@@ -3,7 +3,7 @@
 ghost use Rattle.std.specs.Prelude.{◌≡◌, ◌<◌, ◌^◌, ◌++◌, IfOk, IsTrue, IsUtf8};
 ghost use Rattle.js_api.specs.Outputs.{answer_of, said, stream_name};
 ghost use Rattle.js_model.specs.Proper.{is_proper};
-ghost use Rattle.place_engine.specs.Places.{IsBuilt};
+ghost use Rattle.place_engine.specs.Places.{IsTold};
 ghost use Rattle.place_engine.specs.Shown.{IsShown};
 ghost use Rattle.desk_hold.specs.Crashes.{CommitsStep};
 ghost use Rattle.desk_hold.specs.Steps.{EndsStep, IsNumbered};
@@ -65,7 +65,7 @@ pub fn make<P: Place>(
 ) -> Result<MadeStep, PlaceFault>
     requires stream { stream.now ≡ stream_name (P.seen place.old).place.state }
     requires utf8 { IsUtf8 stream.now }
-    requires built { IsBuilt event.now.what }
+    requires told { IsTold event.now.what }
     requires proper { IsTrue (is_proper event.now) }
     ensures ends { EndsStep result event.now now (P.seen place.old).place (P.seen place.new).place outs.old outs.new }
     ensures commits { CommitsStep P.holds result event.now (P.seen place.old) (P.seen place.new) }

@@ -14,7 +14,7 @@ use Rattle.js_model.specs.Events.{kept_incarnation}
 use Rattle.js_model.specs.PlaceStates.{PlaceIn}
 use Rattle.js_model.specs.Router.{Router, IsRoute}
 use Rattle.place_engine.specs.InMemory.{Contents, holds_nothing, seen_of}
-use Rattle.place_engine.specs.Places.{IsBuilt}
+use Rattle.desk_answers.specs.Asking.{IsBuilt}
 use Rattle.js_api.specs.declared.outcome.Became.{Became}
 use Rattle.js_api.specs.declared.outcome.Became.TheVariants as became
 use Rattle.js_api.specs.declared.outcome.Outcome.{Outcome}

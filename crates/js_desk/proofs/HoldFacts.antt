@@ -19,7 +19,7 @@ use Rattle.js_model.specs.Events.{IsEvent, answered, is_refused, kept_incarnatio
 use Rattle.js_model.specs.PlaceStates.{PlaceIn}
 use Rattle.js_model.specs.Router.{Router, IsRoute}
 use Rattle.js_model.specs.Runs.{RunFrom, new_messages}
-use Rattle.place_engine.specs.Places.{IsBuilt}
+use Rattle.desk_answers.specs.Asking.{IsBuilt}
 use Rattle.js_api.specs.declared.fault.DeskFault.{DeskFault}
 use Rattle.js_api.specs.declared.fault.DeskFault.TheVariants as faults
 use Rattle.js_api.specs.declared.outcome.Became.{Became}

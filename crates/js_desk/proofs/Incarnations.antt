@@ -25,7 +25,7 @@ use Rattle.js_model.specs.Refusals.{other_config, retention_cannot_change, numbe
 use Rattle.js_model.specs.Retention.{kept}
 use Rattle.js_model.specs.Trim.{trim}
 use Rattle.js_model.specs.Verdict.{verdict}
-use Rattle.place_engine.specs.Places.{IsBuilt}
+use Rattle.desk_answers.specs.Asking.{IsBuilt}
 use Rattle.js_desk.specs.Dropping.{is_drop}
 
 -- ---- one event

@@ -1,7 +1,7 @@
-pub mod Settled
-pub mod Passing
 pub mod Answering
+pub mod Passing
 pub mod VerdictTexts
-pub mod Places
 pub mod Shown
+pub mod Places
+pub mod Delivered
 pub mod Steps

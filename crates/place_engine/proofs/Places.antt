@@ -1,6 +1,7 @@
--- What a place answers.
-use Rattle.std.proofs.Common.{◌≡◌, ◌≢◌, ℕ, ◌+◌, ◌^◌, true, List, [], append-nil, Bool, if◌then◌else◌, Option, ap, subst, sym, ◌∙◌, refl}
+-- What a place answers if there is no stream, and if its stream goes.
+use Rattle.std.proofs.Common.{◌≡◌, ◌≢◌, ℕ, ◌+◌, ◌^◌, true, List, [], ◌++◌, append-nil, Bool, if◌then◌else◌, Option, ap, subst, sym, ◌∙◌, refl}
 use Rattle.std.proofs.lemmas.Bool.{eq-eqb, ne_eqb}
+use Rattle.std.specs.List.{flat_map}
 use Rattle.js_base.specs.Bytes.{Bytes}
 use Rattle.js_base.specs.declared.out.Out.{Out}
 use Rattle.js_model.specs.declared.stream_config.StreamConfig.{StreamConfig}
@@ -12,77 +13,76 @@ use Rattle.js_model.specs.declared.event.What.TheVariants.{Make, Change, Drop as
 use Rattle.js_model.specs.declared.reply.Answer.{Answer}
 use Rattle.js_model.specs.declared.reply.Reply.{Reply}
 use Rattle.js_model.specs.declared.reply.Reply.TheVariants.{Info, Done, Silent, Refused}
-use Rattle.js_model.specs.Advance.{advance, advance_outs}
+use Rattle.js_model.specs.declared.reply.StreamInfo.{StreamInfo}
 use Rattle.js_model.specs.Refusals.{numbers_used_up, no_stream}
 use Rattle.js_model.specs.Consumers.{empty_stream}
 use Rattle.js_model.specs.Counts.{stream_info}
-use Rattle.js_model.specs.Events.{answered, kept_incarnation, completed, vacantly, stream_answer, stream_told, settled}
-use Rattle.js_model.specs.StateMoments.{state_at}
-use Rattle.place_engine.specs.Answers.{AnswersThen, PlaceAnswers}
+use Rattle.js_model.specs.Events.{completed, farewells, kept_incarnation, quietly, settled, settled_state, stream_told, vacant_answer, vacantly}
+use Rattle.place_engine.specs.Answers.{AnswersThen, Gives}
 use Rattle.place_engine.specs.Places.{IsVacant}
+
+-- an answer that sends nothing
+gives : (answer : Answer) (reply : Reply) (new : State) (outs : List Out) → answer ≡ record { reply = reply; outs = []; state = new } → Gives answer reply outs outs new
+gives answer reply new outs is = record {
+  reply_is = sym (ap (λ (a : Answer). a.reply) is);
+  outs_are = sym (append-nil outs) ∙ ap (λ (a : Answer). outs ++ a.outs) (sym is);
+  state_is = sym (ap (λ (a : Answer). a.state) is);
+}
 
 -- ---- no stream
 
 -- the stream is made
-pub makes : (old : State) (subject : Option Bytes) (config : StreamConfig) (now : ℕ) → IsVacant old → kept_incarnation old ≢ 2 ^ 62
-    → let stream = empty_stream (kept_incarnation old) config now in settled stream ≡ stream → AnswersThen old (Make subject config) now (Info (stream_info stream)) (Live stream)
-makes (Vacant i) subject config now vacant free same =
-    ap (λ (b : Bool). completed [] (if b then vacantly (Refused numbers_used_up) i else stream_told (empty_stream (i + 1) config now))) (ne_eqb (i + 1) (2 ^ 62) free)
-    ∙ ap (λ (x : Stream). record { reply = Info (stream_info x); outs = []; state = Live x }) same
-makes (Live s) subject config now vacant free same = absurd vacant
+pub makes : (old : State) (subject : Option Bytes) (config : StreamConfig) (now : ℕ) (outs : List Out) → IsVacant old → kept_incarnation old ≢ 2 ^ 62
+    → let stream = empty_stream (kept_incarnation old) config now in AnswersThen old (Make subject config) now (Info (stream_info (settled stream))) outs outs (Live (settled stream))
+makes (Vacant i) subject config now outs vacant free =
+    gives _ (Info (stream_info (settled (empty_stream (i + 1) config now)))) (Live (settled (empty_stream (i + 1) config now))) outs
+    (ap (λ (b : Bool). completed [] (if b then vacantly (Refused numbers_used_up) i else stream_told (empty_stream (i + 1) config now))) (ne_eqb (i + 1) (2 ^ 62) free))
+makes (Live s) subject config now outs vacant free = absurd vacant
 
 -- the last incarnation is used up
-pub makes_none : (old : State) (subject : Option Bytes) (config : StreamConfig) (now : ℕ) → IsVacant old → kept_incarnation old ≡ 2 ^ 62
-    → AnswersThen old (Make subject config) now (Refused numbers_used_up) old
-makes_none (Vacant i) subject config now vacant used =
-    ap (λ (b : Bool). completed [] (if b then vacantly (Refused numbers_used_up) i else stream_told (empty_stream (i + 1) config now))) (eq-eqb (i + 1) (2 ^ 62) used)
-makes_none (Live s) subject config now vacant used = absurd vacant
+pub makes_none : (old : State) (subject : Option Bytes) (config : StreamConfig) (now : ℕ) (outs : List Out) → IsVacant old → kept_incarnation old ≡ 2 ^ 62
+    → AnswersThen old (Make subject config) now (Refused numbers_used_up) outs outs old
+makes_none (Vacant i) subject config now outs vacant used =
+    gives _ (Refused numbers_used_up) (Vacant i) outs
+    (ap (λ (b : Bool). completed [] (if b then vacantly (Refused numbers_used_up) i else stream_told (empty_stream (i + 1) config now))) (eq-eqb (i + 1) (2 ^ 62) used))
+makes_none (Live s) subject config now outs vacant used = absurd vacant
+
+refused_is : (i : ℕ) (what : What) (now : ℕ) → ((subject : Option Bytes) (config : StreamConfig) → what ≢ Make subject config) → what ≢ Tick → vacant_answer i what now ≡ vacantly (Refused no_stream) i
+refused_is i (Make subject config) now other more = absurd (other subject config refl)
+refused_is i (Change subject config) now other more = refl
+refused_is i (DropStream subject) now other more = refl
+refused_is i (PublishIt p) now other more = refl
+refused_is i (Purge subject pattern below keep) now other more = refl
+refused_is i (Delete subject seq) now other more = refl
+refused_is i (MakeConsumer subject name config update) now other more = refl
+refused_is i (DropConsumer subject name) now other more = refl
+refused_is i (AckIt subject ack) now other more = refl
+refused_is i (PullIt subject consumer ask) now other more = refl
+refused_is i Tick now other more = absurd (more refl)
+refused_is i (AskStream subject) now other more = refl
+refused_is i (MessageGet subject by) now other more = refl
+refused_is i (AskConsumer subject name) now other more = refl
+refused_is i (ConsumerNames subject offset) now other more = refl
+refused_is i (ConsumerList subject offset) now other more = refl
 
 -- nothing else can be asked of a place without a stream, but that time passes
-pub refuses : (old : State) (what : What) (now : ℕ) → IsVacant old → ((subject : Option Bytes) (config : StreamConfig) → what ≢ Make subject config) → what ≢ Tick
-    → AnswersThen old what now (Refused no_stream) old
-refuses (Live s) what now vacant other more = absurd vacant
-refuses (Vacant i) (Make subject config) now vacant other more = absurd (other subject config refl)
-refuses (Vacant i) (Change subject config) now vacant other more = refl
-refuses (Vacant i) (DropStream subject) now vacant other more = refl
-refuses (Vacant i) (PublishIt p) now vacant other more = refl
-refuses (Vacant i) (Purge subject pattern below keep) now vacant other more = refl
-refuses (Vacant i) (Delete subject seq) now vacant other more = refl
-refuses (Vacant i) (MakeConsumer subject name config update) now vacant other more = refl
-refuses (Vacant i) (DropConsumer subject name) now vacant other more = refl
-refuses (Vacant i) (AckIt subject ack) now vacant other more = refl
-refuses (Vacant i) (PullIt subject consumer ask) now vacant other more = refl
-refuses (Vacant i) Tick now vacant other more = absurd (more refl)
-refuses (Vacant i) (AskStream subject) now vacant other more = refl
-refuses (Vacant i) (MessageGet subject by) now vacant other more = refl
-refuses (Vacant i) (AskConsumer subject name) now vacant other more = refl
-refuses (Vacant i) (ConsumerNames subject offset) now vacant other more = refl
-refuses (Vacant i) (ConsumerList subject offset) now vacant other more = refl
+pub refuses : (old : State) (what : What) (now : ℕ) (outs : List Out) → IsVacant old → ((subject : Option Bytes) (config : StreamConfig) → what ≢ Make subject config) → what ≢ Tick
+    → AnswersThen old what now (Refused no_stream) outs outs old
+refuses (Vacant i) what now outs vacant other more = gives _ (Refused no_stream) (Vacant i) outs (ap (completed []) (refused_is i what now other more))
+refuses (Live s) what now outs vacant other more = absurd vacant
 
 -- there is no stream that could be dropped
-pub drops_nothing : (last : ℕ) (subject : Option Bytes) (now : ℕ) → AnswersThen (Vacant last) (DropStream subject) now (Refused no_stream) (Vacant last)
-drops_nothing last subject now = refl
+pub drops_nothing : (last : ℕ) (subject : Option Bytes) (now : ℕ) (outs : List Out) → AnswersThen (Vacant last) (DropStream subject) now (Refused no_stream) outs outs (Vacant last)
+drops_nothing last subject now outs = gives _ (Refused no_stream) (Vacant last) outs refl
 
--- time passes there
-pub ticks_nowhere : (last : ℕ) (now : ℕ) → PlaceAnswers (Vacant last) Tick now Silent (Vacant last)
-unfolding answered
-ticks_nowhere last now incarnation = refl
+-- ---- ticks and drops
 
--- ---- a stream
+-- time has passed
+pub ticks : (old : State) (now : ℕ) (outs : List Out) → AnswersThen old Tick now Silent outs outs (settled_state old)
+ticks (Vacant i) now outs = gives _ Silent (Vacant i) outs refl
+ticks (Live s) now outs = gives _ Silent (Live (settled s)) outs refl
 
--- it is dropped
-pub drops : (s : Stream) (subject : Option Bytes) (now last : ℕ) → s.consumers ≡ [] → last ≡ s.incarnation → AnswersThen (Live s) (DropStream subject) now Done (Vacant last)
-drops s subject now last none same = rw (none, same) refl
-
--- time came, sent nothing, and what was asked then is answered
-pub answers_after : (old mid : State) (what : What) (now : ℕ) (reply : Reply) (new : State) → mid ≡ state_at old now → PlaceAnswers old Tick now Silent mid
-    → AnswersThen mid what now reply new → PlaceAnswers old what now reply new
-unfolding answered
-answers_after (Vacant i) mid what now reply new passed ticks answers incarnation =
-    subst (λ (m : State). AnswersThen m what now reply new) passed answers
-answers_after (Live s) mid what now reply new passed ticks answers incarnation =
-    ap (λ (outs : List Out). completed outs (stream_answer (advance s now) what true)) silent
-    ∙ subst (λ (m : State). AnswersThen m what now reply new) passed answers
-  where
-    silent : advance_outs s now ≡ []
-    silent = sym (append-nil (advance_outs s now)) ∙ ap (λ (a : Answer). a.outs) (ticks incarnation)
+-- the stream is dropped
+pub drops : (s : Stream) (subject : Option Bytes) (now last : ℕ) (outs_old outs_new : List Out) → last ≡ s.incarnation → outs_new ≡ outs_old ++ flat_map farewells s.consumers
+    → AnswersThen (Live s) (DropStream subject) now Done outs_old outs_new (Vacant last)
+drops s subject now last outs_old outs_new same sent = record { reply_is = refl; outs_are = sent; state_is = ap Vacant same }

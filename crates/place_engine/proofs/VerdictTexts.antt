@@ -20,15 +20,15 @@ use Rattle.place_engine.specs.Shown.{IsShownVerdict}
 
 -- ---- checks whose refusals are UTF-8
 
-abbrev AreTexts : List Check → Type 0
+abbrev pub AreTexts : List Check → Type 0
 AreTexts [] = Unit {0}
 AreTexts (check ∷ checks) = IsUtf8 check.1.text × AreTexts checks
 
 -- the refusal of the first check that fails
-abbrev IfText : Option ApiError → Type 0
+abbrev pub IfText : Option ApiError → Type 0
 IfText o = IfSome o (λ e. IsUtf8 e.text)
 
-first_text : (checks : List Check) → AreTexts checks → IfText (first_refusal checks)
+pub first_text : (checks : List Check) → AreTexts checks → IfText (first_refusal checks)
 first_text [] texts = tt
 first_text (check ∷ checks) texts = go check.0 (first_text checks texts.1)
   where

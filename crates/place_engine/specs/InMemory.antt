@@ -3,13 +3,14 @@ use Rattle.std.specs.Prelude.{◌≡◌, ◌≢◌, true, []}
 use Rattle.js_model.specs.declared.stream.State.{State}
 use Rattle.js_model.specs.declared.stream.State.TheVariants.{Vacant, Live}
 use Rattle.js_model.specs.declared.event.Event.{Event}
+use Rattle.js_model.specs.declared.event.What.{What}
 use Rattle.js_model.specs.declared.event.What.TheVariants.{Tick}
 use Rattle.js_model.specs.Events.{kept_incarnation}
 use Rattle.js_model.specs.Lasting.{lasting}
 use Rattle.js_model.specs.PlaceStates.{in_memory}
 use Rattle.place_engine.specs.Stepping.{Image, Seen}
 use Rattle.place_engine.specs.declared.faults.Left.{Left}
-use Rattle.place_engine.specs.declared.faults.Left.TheVariants.{Nothing, Ticked}
+use Rattle.place_engine.specs.declared.faults.Left.TheVariants.{Nothing, Ticked, Unsaid}
 use Rattle.place_engine.specs.declared.faults.PlaceFault.{PlaceFault}
 use Rattle.place_engine.specs.declared.faults.PlaceFault.TheVariants.{NoMemory, StoreFault, Stopped, Gone, Worn}
 
@@ -26,16 +27,33 @@ seen_of state = record { place = in_memory state; base = lasting state; waiting 
 abbrev pub holds_nothing : Image → State → Type 0
 holds_nothing image state = ⊥
 
--- what a call leaves of the place if it finds no memory: time has passed if there is a stream
+-- what a step leaves that finds no memory once time has passed: the latter if there is a stream
 abbrev pub left_of : State → Left
 left_of (Vacant last) = Nothing
 left_of (Live stream) = Ticked
 
--- It is gone exactly if the event is for another incarnation. Memory is asked for only if it is for this one and no tick. In memory no store fails,
--- stops a place or wears out.
+-- A step that finds no memory does nothing, or lets time pass if there is a stream; a tick does nothing then
+abbrev pub MayLeave : State → What → Left → Type 0
+MayLeave old what Nothing = Unit {0}
+MayLeave (Vacant last) what Ticked = ⊥
+MayLeave (Live s) what Ticked = what ≢ Tick
+MayLeave old what (Unsaid refused) = ⊥
+
+-- It is gone exactly if the event is for another incarnation. Memory is asked for only if it is for this one. In memory no store fails, stops a place
+-- or wears out.
 abbrev pub HasCause : State → Event → PlaceFault → Type 0
-HasCause old event (NoMemory left) = (event.incarnation ≡ kept_incarnation old) × (event.what ≢ Tick) × (left ≡ left_of old)
+HasCause old event (NoMemory left) = (event.incarnation ≡ kept_incarnation old) × MayLeave old event.what left
 HasCause old event StoreFault = ⊥
 HasCause old event (Stopped count) = ⊥
 HasCause old event (Gone kept) = (event.incarnation ≢ kept_incarnation old) × (kept ≡ kept_incarnation old)
 HasCause old event (Worn refused) = ⊥
+
+-- of a delivery: memory ran out, and nothing was delivered
+abbrev pub IsWantOfMemory : PlaceFault → Type 0
+IsWantOfMemory (NoMemory Nothing) = Unit {0}
+IsWantOfMemory (NoMemory Ticked) = Unit {0}
+IsWantOfMemory (NoMemory (Unsaid refused)) = ⊥
+IsWantOfMemory StoreFault = ⊥
+IsWantOfMemory (Stopped count) = ⊥
+IsWantOfMemory (Gone kept) = ⊥
+IsWantOfMemory (Worn refused) = ⊥

@@ -1,6 +1,4 @@
-pub mod LiveStreams
 pub mod Answers
-pub mod Standing
 pub mod Held
 pub mod Shown
 pub mod Places

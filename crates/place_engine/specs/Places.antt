@@ -1,30 +1,15 @@
 -- What may be asked of a place, and what is told of its stream.
-use Rattle.std.specs.Prelude.{List, [], Option, None, Some, IfSome, IsUtf8}
+use Rattle.std.specs.Prelude.{◌≡◌, List, [], Option, None, Some, IfSome, IsUtf8}
 use Rattle.js_base.specs.Bytes.{Bytes}
 use Rattle.js_model.specs.declared.stream.State.{State}
 use Rattle.js_model.specs.declared.stream.State.TheVariants.{Vacant, Live}
+use Rattle.js_model.specs.declared.event.Publish.{Publish}
 use Rattle.js_model.specs.declared.event.What.{What}
 use Rattle.js_model.specs.declared.event.What.TheVariants as whats
-use Rattle.js_model.specs.Served.{IsServed}
 
--- What a place is asked so far: all but what is asked of consumers. The name of a header with a bad number is UTF-8, since it is told
-abbrev pub IsBuilt : What → Type 0
-IsBuilt (whats.Make reply config) = IsServed config
-IsBuilt (whats.Change reply config) = IsServed config
-IsBuilt (whats.Drop reply) = Unit {0}
-IsBuilt (whats.Publish publish) = IfSome publish.wants.bad IsUtf8
-IsBuilt (whats.Purge reply filter below keep) = Unit {0}
-IsBuilt (whats.Delete reply seq) = Unit {0}
-IsBuilt (whats.MakeConsumer reply name config update) = ⊥
-IsBuilt (whats.DropConsumer reply name) = ⊥
-IsBuilt (whats.Ack reply ack) = ⊥
-IsBuilt (whats.Pull reply consumer ask) = ⊥
-IsBuilt whats.Tick = Unit {0}
-IsBuilt (whats.StreamInfo reply) = Unit {0}
-IsBuilt (whats.MessageGet reply by) = Unit {0}
-IsBuilt (whats.ConsumerInfo reply name) = ⊥
-IsBuilt (whats.ConsumerNames reply offset) = ⊥
-IsBuilt (whats.ConsumerList reply offset) = ⊥
+-- the name of a header with a bad number is UTF-8, since it is told
+abbrev pub IsTold : What → Type 0
+IsTold what = (publish : Publish) → what ≡ whats.Publish publish → IfSome publish.wants.bad IsUtf8
 
 -- there is no stream
 abbrev pub IsVacant : State → Type 0

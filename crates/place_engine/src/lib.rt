@@ -1,9 +1,12 @@
 //! A place for one stream: each event makes one step of the stream's rules. There is one that keeps its stream in memory.
 #![tactic(auto)]
 
+mod consumers;
 mod faults;
+mod informing;
 mod live_stream;
 mod memory_place;
+mod messages;
 mod place;
 mod push;
 mod sameness;

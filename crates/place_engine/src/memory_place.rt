@@ -1,22 +1,21 @@
 //! A place in memory.
 
-ghost use Rattle.std.specs.Prelude.{◌≡◌, IfOk, IfErr, OnOk, IsTrue, refl};
+ghost use Rattle.std.specs.Prelude.{◌≡◌, IfOk, IfErr, IsTrue, refl};
 ghost use Rattle.std.proofs.Common.{◌∙◌};
 ghost use Rattle.js_model.specs.declared.stream.State.TheVariants.{Vacant};
-ghost use Rattle.js_model.specs.declared.event.What.TheVariants as whats;
 ghost use Rattle.js_model.specs.Proper.{is_proper};
 ghost use Rattle.place_engine.specs.declared.faults.OpenFault.TheVariants as opening;
-ghost use Rattle.place_engine.specs.InMemory.{HasCause, holds_nothing, seen_of};
-ghost use Rattle.place_engine.specs.Places.{IsBuilt};
+ghost use Rattle.place_engine.specs.Delivering.{Delivers};
+ghost use Rattle.place_engine.specs.InMemory.{HasCause, IsWantOfMemory, holds_nothing, seen_of};
+ghost use Rattle.place_engine.specs.Places.{IsTold};
 ghost use Rattle.place_engine.specs.Shown.{IsShown};
-ghost use Rattle.place_engine.specs.Standing.{StandsAt};
 ghost use Rattle.place_engine.specs.Stepping.{Steps};
 
 use crate::faults::{OpenFault, PlaceFault};
 use crate::place::Place;
 use crate::push::Push;
 use crate::slot::Slot;
-use js_base::{Blob, Moment, NoMemory, Outs};
+use js_base::{Blob, Moment, Outs};
 use js_model::{Delivery, Event, Listening, Reply};
 use std::alloc::Global;
 use std::marker::Model;
@@ -79,7 +78,6 @@ impl<V> Place for MemoryPlace<V> {
         None
     }
 
-    /// There are no consumers.
     fn push(&self, at: usize) -> Option<Push<'_>> {
         self.slot.push(at)
     }
@@ -88,38 +86,40 @@ impl<V> Place for MemoryPlace<V> {
         self.slot.ready(now, listening)
     }
 
-    /// An `Err` is `Gone` or `NoMemory`, and the latter leaves `Left::Ticked` if there is a stream and else `Left::Nothing`. A tick takes no memory;
-    /// a second one at the same moment changes nothing.
+    /// An `Err` is `Gone` or `NoMemory`, and the latter leaves `Left::Nothing`, or `Left::Ticked` if there is a stream and no tick was asked for.
     fn step(&mut self, event: &Event, now: Moment, outs: &mut Outs) -> Result<Reply, PlaceFault>
-        requires built { IsBuilt event.now.what }
+        requires told { IsTold event.now.what }
         requires proper { IsTrue (is_proper event.now) }
         ensures steps { Steps holds_nothing result event.now now (seen_of self.old.state) (seen_of self.new.state) outs.old outs.new }
         ensures shown { IfOk result IsShown }
         ensures vol { self.new.vol ≡ self.old.vol }
         ensures cause { IfErr result (HasCause self.old.state event.now) }
-        ensures stands { OnOk result (event.now.what ≡ whats.Tick → StandsAt self.new.state now) }
     {
         let kept = self.slot.incarnation();
         if event.incarnation != kept {
             return Err(PlaceFault::Gone(kept));
         }
-        let left = self.slot.left();
-        match self.slot.answer(&event.what, now) {
+        match self.slot.answer(&event.what, now, outs) {
             Ok(reply) => Ok(reply),
-            Err(NoMemory) => Err(PlaceFault::NoMemory(left)),
+            Err(left) => Err(PlaceFault::NoMemory(left)),
         }
     }
 
-    /// There are no consumers, so none is ready.
+    /// An `Err` is `NoMemory`, and leaves `Left::Nothing` or `Left::Ticked`.
     fn deliver_one(
         &mut self,
         now: Moment,
         listening: &Listening,
         outs: &mut Outs,
-    ) -> Result<Option<Delivery>, PlaceFault> {
-        let _ready = self.slot.ready(now, listening);
-        let _sent = outs.as_slice();
-        Ok(None)
+    ) -> Result<Option<Delivery>, PlaceFault>
+        ensures delivers { Delivers holds_nothing result now listening.now (seen_of self.old.state) (seen_of self.new.state) outs.old outs.new }
+        ensures vol { self.new.vol ≡ self.old.vol }
+        ensures cause { IfErr result IsWantOfMemory }
+    {
+        match self.slot.deliver_one(now, listening, outs) {
+            Ok(made) => Ok(made),
+            Err(left) => Err(PlaceFault::NoMemory(left)),
+        }
     }
 
     fn into_vol(self) -> V {

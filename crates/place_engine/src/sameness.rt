@@ -1,11 +1,11 @@
-//! Whether two configurations of streams are the same.
+//! Whether two configurations are the same.
 
 ghost use Rattle.std.specs.Prelude.{◌≡◌};
 ghost use Rattle.js_base.specs.Bytes.{same};
-ghost use Rattle.js_model.specs.Configs.{same_number, same_texts, same_retention, same_discard, same_stream_config};
+ghost use Rattle.js_model.specs.Configs.{same_number, same_texts, same_retention, same_discard, same_stream_config, same_ack_policy, same_deliver_policy, same_consumer_config};
 
 use js_base::Blob;
-use js_model::{Discard, Retention, StreamConfig};
+use js_model::{AckPolicy, ConsumerConfig, DeliverPolicy, Discard, Retention, StreamConfig};
 
 fn same(text: &Blob, other: &Blob) -> bool
     ensures value { result ≡ same text.now other.now }
@@ -41,7 +41,8 @@ fn same_texts(texts: &[Blob], others: &[Blob]) -> bool
     others.is_empty()
 }
 
-fn same_retention(policy: Retention, other: Retention) -> bool
+/// Whether the two are the same.
+pub fn same_retention(policy: Retention, other: Retention) -> bool
     ensures value { result ≡ same_retention policy other }
 {
     match (policy, other) {
@@ -78,4 +79,47 @@ pub fn same_stream_config(config: &StreamConfig, other: &StreamConfig) -> bool
         && same_number(config.max_consumers, other.max_consumers)
         && config.max_age == other.max_age
         && config.duplicate_window == other.duplicate_window
+}
+
+fn same_ack_policy(policy: AckPolicy, other: AckPolicy) -> bool
+    ensures value { result ≡ same_ack_policy policy other }
+{
+    match (policy, other) {
+        (AckPolicy::None, AckPolicy::None) => true,
+        (AckPolicy::All, AckPolicy::All) => true,
+        (AckPolicy::Explicit, AckPolicy::Explicit) => true,
+        _ => false,
+    }
+}
+
+fn same_deliver_policy(policy: DeliverPolicy, other: DeliverPolicy) -> bool
+    ensures value { result ≡ same_deliver_policy policy other }
+{
+    match (policy, other) {
+        (DeliverPolicy::All, DeliverPolicy::All) => true,
+        (DeliverPolicy::Last, DeliverPolicy::Last) => true,
+        (DeliverPolicy::New, DeliverPolicy::New) => true,
+        (DeliverPolicy::ByStartSequence(seq), DeliverPolicy::ByStartSequence(other)) => seq == other,
+        (DeliverPolicy::ByStartTime(at), DeliverPolicy::ByStartTime(other)) => at == other,
+        (DeliverPolicy::LastPerSubject, DeliverPolicy::LastPerSubject) => true,
+        _ => false,
+    }
+}
+
+/// Whether the two are the same, field by field.
+pub fn same_consumer_config(config: &ConsumerConfig, other: &ConsumerConfig) -> bool
+    ensures value { result ≡ same_consumer_config config.now other.now }
+{
+    same(&config.name, &other.name)
+        && same(&config.description, &other.description)
+        && same_deliver_policy(config.deliver_policy, other.deliver_policy)
+        && same_ack_policy(config.ack_policy, other.ack_policy)
+        && config.ack_wait == other.ack_wait
+        && same_number(config.max_deliver, other.max_deliver)
+        && same_number(config.max_ack_pending, other.max_ack_pending)
+        && config.max_waiting == other.max_waiting
+        && same(&config.filter_subject, &other.filter_subject)
+        && same(&config.deliver_subject, &other.deliver_subject)
+        && same(&config.deliver_group, &other.deliver_group)
+        && config.idle_heartbeat == other.idle_heartbeat
 }

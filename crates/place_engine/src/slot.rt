@@ -1,28 +1,27 @@
 //! What a place holds, in memory.
 
-ghost use Rattle.std.specs.Prelude.{◌≡◌, ◌≢◌, ◌≤◌, ◌<◌, ◌^◌, ℕ, false, length, option_map, slice_get, IfOk, IfSome, OnOk, OnErr, Option, IsTrue, IsUtf8};
+ghost use Rattle.std.specs.Prelude.{◌≡◌, ◌≢◌, ◌≤◌, ◌<◌, ◌++◌, ◌^◌, ℕ, List, length, option_map, slice_get, IfErr, IfOk, IfSome, OnErr, OnOk, Option, IsTrue, IsUtf8};
 ghost use Rattle.std.specs.Option.{option_copied};
 ghost use Rattle.js_base.specs.Bytes.{Bytes};
+ghost use Rattle.js_base.specs.declared.out.Out.{Out};
 ghost use Rattle.js_model.specs.declared.stream.State.TheVariants.{Vacant};
 ghost use Rattle.js_model.specs.Configs.{is_stream_config};
-ghost use Rattle.js_model.specs.Events.{kept_incarnation};
+ghost use Rattle.js_model.specs.Events.{kept_incarnation, settled_state};
 ghost use Rattle.js_model.specs.Proper.{is_proper_what};
 ghost use Rattle.js_model.specs.Ready.{some_ready};
-ghost use Rattle.js_model.specs.Served.{IsServed};
 ghost use Rattle.js_model.specs.StateMoments.{state_at};
-ghost use Rattle.place_engine.specs.Answers.{AnswersThen, PlaceAnswers};
-ghost use Rattle.place_engine.specs.InMemory.{left_of};
-ghost use Rattle.place_engine.specs.Places.{IsBuilt, IsVacant, name_in, subjects_in};
+ghost use Rattle.place_engine.specs.Answers.{outs_by, AnswersThen, LeftBy, MayDeliver, PlaceAnswers};
+ghost use Rattle.place_engine.specs.InMemory.{left_of, MayLeave};
+ghost use Rattle.place_engine.specs.Places.{IsTold, IsVacant, name_in, subjects_in};
 ghost use Rattle.place_engine.specs.Pushes.{push_of, pushes_in};
 ghost use Rattle.place_engine.specs.Shown.{IsShown};
-ghost use Rattle.place_engine.specs.Standing.{StandsAt};
 
 use crate::faults::Left;
 use crate::live_stream::LiveStream;
 use crate::push::Push;
-use js_base::{Blob, Moment, NoMemory};
+use js_base::{Blob, Moment, NoMemory, Outs};
 use js_model::refusals::{no_stream, numbers_used_up};
-use js_model::{Listening, Reply, StreamConfig, What};
+use js_model::{Delivery, Listening, Reply, StreamConfig, What};
 use std::alloc::Global;
 use std::marker::Model;
 
@@ -102,7 +101,7 @@ impl Slot {
         }
     }
 
-    /// The push consumer at a place in the order of their names. There are none.
+    /// The push consumer at a place in the order of their names.
     pub fn push(&self, at: usize) -> Option<Push<'_>>
         ensures value { result ≡ option_map push_of (slice_get (pushes_in self.now) at) }
         ensures few { length (pushes_in self.now) ≤ 256 }
@@ -113,10 +112,9 @@ impl Slot {
         }
     }
 
-    /// Whether a consumer is ready at a moment. There are none.
+    /// Whether a consumer is ready at a moment.
     pub fn ready(&self, now: Moment, listening: &Listening) -> bool
         ensures value { result ≡ some_ready self.now now listening.now }
-        ensures none { result ≡ false }
     {
         match &self.held {
             Held::Nothing(_) => false,
@@ -124,8 +122,55 @@ impl Slot {
         }
     }
 
-    /// What a call leaves that finds no memory: time has passed if there is a stream.
-    pub fn left(&self) -> Left
+    /// Lets time pass until a moment, does what is asked, answers it, and adds what is sent. An `Err` says what is left.
+    pub fn answer(&mut self, what: &What, now: Moment, outs: &mut Outs) -> Result<Reply, Left>
+        requires told { IsTold what.now }
+        requires proper { IsTrue (is_proper_what what.now) }
+        ensures answers { IfOk result (λ reply. PlaceAnswers self.old what.now now reply outs.old outs.new self.new) }
+        ensures shown { IfOk result IsShown }
+        ensures cause { IfErr result (MayLeave self.old what.now) }
+        ensures err { IfErr result (λ left. LeftBy left self.old now outs.old outs.new self.new) }
+    {
+        let Ok(()) = self.pass(now, outs) else {
+            return Err(Left::Nothing);
+        };
+        let left = self.left();
+        match self.answer_then(what, now, outs) {
+            Ok(reply) => Ok(reply),
+            Err(NoMemory) => Err(left),
+        }
+    }
+
+    /// Makes one delivery at a moment, and adds what it sends. `None` exactly if no consumer is ready, and then nothing changes. An `Err` says what is left.
+    pub fn deliver_one(
+        &mut self,
+        now: Moment,
+        listening: &Listening,
+        outs: &mut Outs,
+    ) -> Result<Option<Delivery>, Left>
+        ensures delivers { MayDeliver result self.old now listening.now outs.old outs.new self.new }
+    {
+        match &mut self.held {
+            Held::Nothing(_) => Ok(None),
+            Held::Stream(stream) => stream.deliver_one(now, listening, outs),
+        }
+    }
+
+    /// Lets time pass until a moment, and adds what is sent by then. An `Err` changes nothing and adds nothing.
+    fn pass(&mut self, now: Moment, outs: &mut Outs) -> Result<(), NoMemory>
+        ensures passed { OnOk result (self.new ≡ state_at self.old now) }
+        ensures outs { OnOk result (outs.new ≡ outs.old ++ outs_by self.old now) }
+        ensures err { OnErr result (self.new ≡ self.old) }
+        ensures err_outs { OnErr result (outs.new ≡ outs.old) }
+    {
+        match &mut self.held {
+            Held::Nothing(_) => Ok(()),
+            Held::Stream(stream) => stream.pass(now, outs),
+        }
+    }
+
+    /// What a step leaves that finds no memory once time has passed.
+    fn left(&self) -> Left
         ensures value { result ≡ left_of self.now }
     {
         match &self.held {
@@ -134,77 +179,91 @@ impl Slot {
         }
     }
 
-    /// Lets time pass until a moment, does what is asked, and answers it. An `Err` leaves what a tick leaves. A tick takes no memory, and a second
-    /// one at the same moment changes nothing.
-    pub fn answer(&mut self, what: &What, now: Moment) -> Result<Reply, NoMemory>
-        requires built { IsBuilt what.now }
+    /// Does what is asked at a moment to which time has come, answers it, adds what it sends, and lets the messages go that the retention then does not keep,
+    /// also if it finds no memory.
+    fn answer_then(
+        &mut self,
+        what: &What,
+        now: Moment,
+        outs: &mut Outs,
+    ) -> Result<Reply, NoMemory>
+        requires told { IsTold what.now }
         requires proper { IsTrue (is_proper_what what.now) }
-        ensures answers { IfOk result (λ reply. PlaceAnswers self.old what.now now reply self.new) }
+        ensures answers { IfOk result (λ reply. AnswersThen self.old what.now now reply outs.old outs.new self.new) }
         ensures shown { IfOk result IsShown }
-        ensures stands { OnOk result (what.now ≡ What.Tick → StandsAt self.new now) }
         ensures takes_none { OnErr result (what.now ≢ What.Tick) }
-        ensures err { OnErr result (PlaceAnswers self.old What.Tick now Reply.Silent self.new) }
+        ensures err { OnErr result (self.new ≡ settled_state self.old) }
+        ensures err_outs { OnErr result (outs.new ≡ outs.old) }
     {
-        self.tick(now);
         match what {
-            What::Tick => Ok(Reply::Silent),
-            _ => self.answer_then(what, now),
+            What::Tick => {
+                self.settle();
+                Ok(Reply::Silent)
+            }
+            What::Drop { reply: _ } => self.drop_stream(outs),
+            _ => self.answer_other(what, now, outs),
         }
     }
 
-    /// Lets time pass until a moment. A second time at the same moment nothing changes.
-    fn tick(&mut self, now: Moment)
-        ensures passed { self.new ≡ state_at self.old now }
-        ensures answers { PlaceAnswers self.old What.Tick now Reply.Silent self.new }
-        ensures stands { StandsAt self.new now }
+    /// The same, of all but ticks and drops.
+    fn answer_other(
+        &mut self,
+        what: &What,
+        now: Moment,
+        outs: &mut Outs,
+    ) -> Result<Reply, NoMemory>
+        requires told { IsTold what.now }
+        requires proper { IsTrue (is_proper_what what.now) }
+        requires more { what.now ≢ What.Tick }
+        requires stays { (reply : Option Bytes) → what.now ≢ What.Drop reply }
+        ensures answers { IfOk result (λ reply. AnswersThen self.old what.now now reply outs.old outs.new self.new) }
+        ensures shown { IfOk result IsShown }
+        ensures err { OnErr result (self.new ≡ settled_state self.old) }
+        ensures err_outs { OnErr result (outs.new ≡ outs.old) }
+    {
+        match &mut self.held {
+            Held::Nothing(_) => self.answer_vacant(what, now),
+            Held::Stream(stream) => stream.answer(what, outs),
+        }
+    }
+
+    /// Lets the messages go that the retention does not keep.
+    fn settle(&mut self)
+        ensures value { self.new ≡ settled_state self.old }
     {
         match &mut self.held {
             Held::Nothing(_) => {}
-            Held::Stream(stream) => stream.tick(now),
+            Held::Stream(stream) => stream.release(),
         }
     }
 
-    /// Does what is asked at a moment to which time has come, and answers it. An `Err` changes nothing.
-    fn answer_then(&mut self, what: &What, now: Moment) -> Result<Reply, NoMemory>
-        requires built { IsBuilt what.now }
-        requires proper { IsTrue (is_proper_what what.now) }
-        requires more { what.now ≢ What.Tick }
-        ensures answers { IfOk result (λ reply. AnswersThen self.old what.now now reply self.new) }
+    /// Drops the stream with its messages and consumers, and tells the waiting pulls. The next one will have the next incarnation.
+    fn drop_stream(&mut self, outs: &mut Outs) -> Result<Reply, NoMemory>
+        ensures answers { (subject : Option Bytes) (now : ℕ) → IfOk result (λ reply. AnswersThen self.old (What.Drop subject) now reply outs.old outs.new self.new) }
         ensures shown { IfOk result IsShown }
-        ensures err { OnErr result (self.new ≡ self.old) }
+        ensures err { OnErr result (self.new ≡ settled_state self.old) }
+        ensures err_outs { OnErr result (outs.new ≡ outs.old) }
     {
-        match what {
-            What::Drop { reply: _ } => self.drop_stream(),
-            _ => match &mut self.held {
-                Held::Nothing(_) => self.answer_vacant(what, now),
-                Held::Stream(stream) => stream.answer(what),
-            },
-        }
-    }
-
-    /// Drops the stream with its messages. The next one will have the next incarnation.
-    fn drop_stream(&mut self) -> Result<Reply, NoMemory>
-        ensures answers { (subject : Option Bytes) (now : ℕ) → IfOk result (λ reply. AnswersThen self.old (What.Drop subject) now reply self.new) }
-        ensures shown { IfOk result IsShown }
-        ensures err { OnErr result (self.new ≡ self.old) }
-    {
-        match &self.held {
+        match &mut self.held {
             Held::Nothing(_) => Ok(Reply::Refused(no_stream(self.alloc)?)),
             Held::Stream(stream) => {
                 let last = stream.incarnation();
+                let Ok(()) = stream.tell_dropped(outs) else {
+                    stream.release();
+                    return Err(NoMemory);
+                };
                 self.held = Held::Nothing(last);
                 Ok(Reply::Done)
             }
         }
     }
 
-    /// Makes a stream if there is none. Whatever else is asked is refused.
+    /// Makes a stream if there is none. Whatever else is asked is refused. An `Err` changes nothing.
     fn answer_vacant(&mut self, what: &What, now: Moment) -> Result<Reply, NoMemory>
         requires vacant { IsVacant self.old }
-        requires built { IsBuilt what.now }
         requires proper { IsTrue (is_proper_what what.now) }
         requires more { what.now ≢ What.Tick }
-        ensures answers { IfOk result (λ reply. AnswersThen self.old what.now now reply self.new) }
+        ensures answers { (outs : List Out) → IfOk result (λ reply. AnswersThen self.old what.now now reply outs outs self.new) }
         ensures shown { IfOk result IsShown }
         ensures err { OnErr result (self.new ≡ self.old) }
     {
@@ -214,12 +273,11 @@ impl Slot {
         }
     }
 
-    /// Makes a stream if there is none.
+    /// Makes a stream. An `Err` changes nothing.
     fn make(&mut self, config: &StreamConfig, now: Moment) -> Result<Reply, NoMemory>
         requires vacant { IsVacant self.old }
-        requires served { IsServed config.now }
         requires valid { IsTrue (is_stream_config config.now) }
-        ensures answers { (subject : Option Bytes) → IfOk result (λ reply. AnswersThen self.old (What.Make subject config.now) now reply self.new) }
+        ensures answers { (subject : Option Bytes) (outs : List Out) → IfOk result (λ reply. AnswersThen self.old (What.Make subject config.now) now reply outs outs self.new) }
         ensures shown { IfOk result IsShown }
         ensures err { OnErr result (self.new ≡ self.old) }
     {
@@ -227,7 +285,8 @@ impl Slot {
         if incarnation == NUMBERS_END {
             return Ok(Reply::Refused(numbers_used_up(self.alloc)?));
         }
-        let stream = LiveStream::make(self.alloc, incarnation, config, now)?;
+        let mut stream = LiveStream::make(self.alloc, incarnation, config, now)?;
+        stream.release();
         let info = stream.info()?;
         self.held = Held::Stream(stream);
         Ok(Reply::Info(info))

@@ -25,8 +25,7 @@ use Rattle.stream_state.specs.Answering.{Answers}
 use Rattle.followed_stream.specs.Asked.{AcksAt, DropsAt, PullsAt}
 use Rattle.followed_stream.specs.declared.answering.Acked.{Acked}
 use Rattle.followed_stream.specs.Attended.{AreNamedApart}
-use Rattle.followed_stream.specs.Delivering.{DeliversAt}
-use Rattle.followed_stream.specs.Handing.{is_of, HandsAt}
+use Rattle.followed_stream.specs.Handing.{is_of}
 use Rattle.followed_stream.specs.Needing.{NeedSame}
 use Rattle.followed_stream.specs.Placing.{IsNamedAt}
 use Rattle.followed_stream.specs.Spans.{joined, spans, IsKeptOutside}
@@ -94,21 +93,6 @@ module _ (s : Stream) (name : Bytes) where
           → Answers (cond b (quietly Silent s) (ack_done s reply n kind c)) told.reply outs_old outs_new new
       go true replied outs left = record { reply = replied; outs = outs; state = ap Live (sym (left ∙ own_same c apart named)) }
       go false replied outs left = record { reply = replied; outs = outs; state = ap Live (sym left) }
-
--- ---- a delivery
-
-pub handed_told : (s : Stream) (place : ℕ) (listened : Bool) (name : Bytes) (what : Delivered) (outs_old outs_new : List Out) (new : Stream) → Some name ≡ option_map (λ c. c.name) (slice_get s.consumers place) → HandsAt s place listened what outs_old outs_new new
-    → DeliversAt s place listened (Some (record { consumer = name; what = what })) outs_old outs_new new
-handed_told s place listened name what outs_old outs_new new named p = record {
-  consumer = p.consumer;
-  after = p.after;
-  own = p.own;
-  found = p.found;
-  name = some_is (named ∙ ap (option_map (λ (c : Consumer). c.name)) p.found);
-  delivers = p.delivers;
-  outs_are = p.outs_are;
-  new_is = p.left;
-}
 
 -- ---- what is kept
 

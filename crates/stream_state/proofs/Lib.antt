@@ -3,6 +3,9 @@ pub mod Taken
 pub mod Unkept
 pub mod Settling
 pub mod Refusing
+pub mod Proper
 pub mod Calling
 pub mod Paging
 pub mod Walks
+pub mod Handed
+pub mod Making

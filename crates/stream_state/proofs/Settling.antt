@@ -13,7 +13,7 @@ use Rattle.js_model.specs.Retention.{is_kept, kept}
 use Rattle.js_model.specs.Streams.{only}
 use Rattle.js_model.specs.Trim.{max_messages, trim}
 use Rattle.js_model.specs.Verdict.{message_of}
-use Rattle.js_model.proofs.Members.{in_bounds, in_filter}
+use Rattle.js_model.proofs.Members.{in_bounds, in_filter, IsIn}
 use Rattle.js_model.proofs.Parts.{filter_part, young_part}
 use Rattle.retention.specs.Over.{next_over}
 use Rattle.retention.proofs.Dropping.{limits_keep_part, trim_only}
@@ -28,7 +28,7 @@ use Rattle.followed_stream.proofs.Attending.{coherent}
 use Rattle.followed_stream.proofs.Needing.{kept_alike}
 use Rattle.followed_stream.proofs.Spanning.{outside_first, outside_second, spans_all, spans_one, spans_second}
 use Rattle.followed_stream.proofs.Holding.{all_from_in}
-use Rattle.stream_state.proofs.Unkept.{keeps, keeps_less, outside_less}
+use Rattle.stream_state.proofs.Unkept.{all_kept, keeps, keeps_less, outside_less}
 
 pub trimmed : (s : Stream) → IsAttended s → next_over s ≡ None → trim s ≡ s
 trimmed s h within = law_within s (coherent s h) within
@@ -72,6 +72,14 @@ outside_kept span s = record {
   where
     left : List Message
     left = filter (keeps s) s.messages
+
+keeps_all : (s : Stream) (m : Message) → IsIn m (kept s).messages → keeps (kept s) m ≡ true
+unfolding kept
+keeps_all s m i = keeps_less s (filter_part (keeps s) s.messages) m i ∙ (in_filter (keeps s) m s.messages i).1
+
+-- and stays so
+pub kept_again : (s : Stream) → IsAttended (kept s) → kept (kept s) ≡ kept s
+kept_again s attended = all_kept (kept s) attended (keeps_all s)
 
 pub within_kept : (s : Stream) → next_over s ≡ None → next_over (kept s) ≡ None
 unfolding kept

@@ -28,11 +28,11 @@ all_none None None (Some e) h = absurd cc
 all_none None None None h = (refl, refl)
 
 -- no check fails
-abbrev ArePassed : List Check → Type 0
+abbrev pub ArePassed : List Check → Type 0
 ArePassed [] = Unit {0}
 ArePassed (check ∷ checks) = (check.0 ≡ false) × ArePassed checks
 
-all_passed : (checks : List Check) → first_refusal checks ≡ None → ArePassed checks
+pub all_passed : (checks : List Check) → first_refusal checks ≡ None → ArePassed checks
 all_passed [] h = tt
 all_passed (check ∷ checks) h = go check.0 h (all_passed checks)
   where

@@ -1,36 +1,28 @@
 //! What the consumers of a stream are asked.
 
-ghost use Rattle.std.specs.Prelude.{◌≡◌, ◌++◌, None, length, map, option_map, IfErr, IfOk, IsTrue, OnOk, OnErr};
+ghost use Rattle.std.specs.Prelude.{◌≡◌, ◌<◌, None, Some, length, option_map, IfErr, IfOk, IsTrue, OnOk, OnErr};
 ghost use Rattle.std.specs.Option.{option_copied};
-ghost use Rattle.js_model.specs.Advance.{advance, advance_outs};
-ghost use Rattle.js_model.specs.Configs.{is_consumer_config};
+ghost use Rattle.js_model.specs.Configs.{is_consumer_config, is_name};
 ghost use Rattle.js_model.specs.Consumers.{making_checks, new_consumer, queue_checks, with_new};
 ghost use Rattle.js_model.specs.Counts.{consumer_info};
-ghost use Rattle.js_model.specs.Events.{ack_answer, consumer_dropped, page_of, pull_answer};
+ghost use Rattle.js_model.specs.Events.{ack_answer, consumer_dropped, pull_answer, settled};
 ghost use Rattle.js_model.specs.Refusals.{first_refusal};
+ghost use Rattle.js_model.specs.Retention.{kept};
 ghost use Rattle.js_model.specs.Streams.{by_name};
 ghost use Rattle.js_model.specs.Trim.{trim};
 ghost use Rattle.consumer_need.specs.Stored.{HoldsStored};
 ghost use Rattle.consumer_state.specs.Making.{IsRefusal};
 ghost use Rattle.stream_state.specs.Answering.{Answers};
-ghost use Rattle.followed_stream.specs.Delivering.{AreCurrent, DeliversAt, IsReadyAt};
+ghost use Rattle.stream_state.specs.Settled.{IsProperConsumer};
 
-use crate::listing::{infos, names, page};
 use crate::rules::{has_rival, is_work_queue, max_consumers};
-use crate::state::{StreamState, later};
-use crate::telling::tell_all;
+use crate::state::StreamState;
 use consumer_state::{Consumer, MakeFault, policy_refusal};
 use followed_stream::{Acked, Span};
-use js_base::{ApiError, Blob, List, Moment, NoMemory, Outs};
+use js_base::{ApiError, Blob, NoMemory, Outs};
 use js_model::refusals::{max_consumers_reached, no_consumer, work_queue_rule};
-use js_model::{Ack, Ask, ConsumerConfig, ConsumerInfo, Delivery, Reply};
+use js_model::{Ack, Ask, ConsumerConfig, ConsumerInfo, Reply, copy_consumer_config};
 use stream_view::View;
-
-/// How many names of consumers a page has at most.
-const NAMES_PAGE: u64 = 1024;
-
-/// How many informations of consumers a page has at most.
-const INFOS_PAGE: u64 = 256;
 
 impl StreamState {
     /// The refusal of a work queue's rules, if they forbid a consumer of this name and configuration.
@@ -51,21 +43,61 @@ impl StreamState {
         Ok(None)
     }
 
-    /// Makes a consumer of a name that none has. It is refused exactly if a rule forbids it, by the first one that does. An `Err` changes nothing. It goes
-    /// through the messages.
-    pub fn make_consumer(&mut self, name: &Blob, config: &ConsumerConfig) -> Result<(), MakeFault>
+    /// Makes a consumer of a name that none has, and lets the messages go that the retention then does not keep. Gives its information after that. It is
+    /// refused exactly if a rule forbids it, by the first one that does. An `Err` changes nothing. It goes through the messages.
+    pub fn make_consumer(
+        &mut self,
+        name: &Blob,
+        config: &ConsumerConfig,
+    ) -> Result<ConsumerInfo, MakeFault>
+        requires name { IsTrue (is_name name.now) }
         requires valid { IsTrue (is_consumer_config config.now) }
         requires absent { by_name self.old.consumers name.now ≡ None }
-        ensures made { OnOk result (self.new ≡ record self.old { consumers = with_new self.old.consumers (new_consumer self.old name.now config.now) }) }
+        ensures made { OnOk result (self.new ≡ settled (record self.old { consumers = with_new self.old.consumers (new_consumer self.old name.now config.now) })) }
+        ensures again { OnOk result (kept self.new ≡ self.new) }
+        ensures info { IfOk result (λ info. option_map (consumer_info self.new) (by_name self.new.consumers name.now) ≡ Some info) }
         ensures allowed { OnOk result (first_refusal (making_checks self.old name.now config.now) ≡ None) }
         ensures refused { IfErr result (IsRefusal (making_checks self.old name.now config.now)) }
         ensures settled { trim self.new ≡ self.new }
         ensures err { OnErr result (self.new ≡ self.old) }
     {
         let consumer = self.new_consumer(name, config)?;
+        let mut info = self.info_of_new(&consumer)?;
+        self.insert(consumer)?;
+        self.release();
+        info.info = self.numbers(name).unwrap_or(info.info);
+        Ok(info)
+    }
+
+    /// Adds a consumer of a name that none has. An `Err` changes nothing. It goes through the messages.
+    fn insert(&mut self, consumer: Consumer) -> Result<(), NoMemory>
+        requires proper { IsProperConsumer consumer }
+        requires room { length self.old.consumers < 256 }
+        requires holds { HoldsStored self.old consumer }
+        requires absent { by_name self.old.consumers consumer.name ≡ None }
+        ensures ok { OnOk result (self.new ≡ record self.old { consumers = with_new self.old.consumers consumer }) }
+        ensures settled { OnOk result (trim self.new ≡ self.new) }
+        ensures err { OnErr result (self.new ≡ self.old) }
+    {
         self.stream.insert(consumer)?;
         self.loose = Span::up_to(self.stream.last());
         Ok(())
+    }
+
+    /// What is told of a new consumer, before it has its place.
+    fn info_of_new(&self, consumer: &Consumer) -> Result<ConsumerInfo, NoMemory>
+        ensures stream { IfOk result (λ told. told.stream ≡ self.now.config.name) }
+        ensures name { IfOk result (λ told. told.name ≡ consumer.now.name) }
+        ensures made { IfOk result (λ told. told.made ≡ consumer.now.made) }
+        ensures config { IfOk result (λ told. told.config ≡ consumer.now.config) }
+    {
+        Ok(ConsumerInfo {
+            stream: self.stream.config().name.clone()?,
+            name: consumer.name().clone()?,
+            made: consumer.made(),
+            config: copy_consumer_config(consumer.config())?,
+            info: consumer.info(0),
+        })
     }
 
     /// The consumer that would be made.
@@ -140,92 +172,5 @@ impl StreamState {
         };
         self.stream.pull(place, reply, ask, outs)?;
         Ok(Reply::Silent)
-    }
-
-    /// The information of the consumer of a name, as the stream stands.
-    pub fn consumer_info(&self, name: &Blob) -> Result<Option<ConsumerInfo>, NoMemory>
-        ensures value { IfOk result (λ info. info ≡ option_map (consumer_info self.now) (by_name self.now.consumers name.now)) }
-    {
-        match self.stream.place(name) {
-            Some(place) => self.stream.info_at(place),
-            None => Ok(None),
-        }
-    }
-
-    /// How many consumers there are.
-    pub fn consumer_count(&self) -> u64
-        ensures value { result ≡ length self.now.consumers }
-    {
-        self.stream.followers().len() as u64
-    }
-
-    /// The names of the consumers from a place on in their order, at most 1,024.
-    pub fn consumer_names(&self, offset: u64) -> Result<List<Blob>, NoMemory>
-        ensures value { IfOk result (λ names. names ≡ page_of 1024 offset (map (λ c. c.name) self.now.consumers)) }
-    {
-        names(
-            self.alloc,
-            page(self.stream.followers(), NAMES_PAGE, offset),
-        )
-    }
-
-    /// The information of the consumers from a place on in their order, at most 256.
-    pub fn consumer_infos(&self, offset: u64) -> Result<List<ConsumerInfo>, NoMemory>
-        ensures value { IfOk result (λ infos. infos ≡ page_of 256 offset (map (consumer_info self.now) self.now.consumers)) }
-    {
-        let followers = page(self.stream.followers(), INFOS_PAGE, offset);
-        infos(self.alloc, followers, &self.stream.config().name)
-    }
-
-    /// Adds what the consumers send by a moment, or by the stream's own if that is later. An `Err` adds nothing. It is called before `advance`.
-    pub fn tell_advance(&self, now: Moment, outs: &mut Outs) -> Result<(), NoMemory>
-        ensures ok { OnOk result (outs.new ≡ outs.old ++ advance_outs self.now now) }
-        ensures err { OnErr result (outs.new ≡ outs.old) }
-    {
-        let now = later(self.stream.moment(), now);
-        tell_all(self.alloc, self.stream.followers(), now, outs)
-    }
-
-    /// Whether something can be delivered to the consumer at a place in the order of names, if somebody listens to a push consumer's subject or nobody does.
-    /// Time has passed for the consumers up to the stream's moment.
-    pub fn is_ready(&self, place: usize, listened: bool) -> bool
-        requires current { AreCurrent self.now }
-        ensures value { IsReadyAt self.now place listened result }
-    {
-        self.stream.is_ready(place, listened)
-    }
-
-    /// Whether something can be delivered to the consumer at a place once time has passed up to a moment, or up to the stream's own if that is later. It
-    /// changes nothing, and takes no memory. If messages become too old by then, deliveries are given up or pulls end, it goes through these and through what
-    /// the consumer holds.
-    pub fn ready(&self, place: usize, now: Moment, listened: bool) -> bool
-        ensures value { IsReadyAt (advance self.now now) place listened result }
-    {
-        let now = later(self.stream.moment(), now);
-        self.stream.is_ready_by(place, now, listened)
-    }
-
-    /// Makes one delivery to that consumer. `None` exactly if it is not ready. An `Err` changes nothing and adds nothing.
-    pub fn deliver(
-        &mut self,
-        place: usize,
-        listened: bool,
-        outs: &mut Outs,
-    ) -> Result<Option<Delivery>, NoMemory>
-        requires current { AreCurrent self.old }
-        ensures delivered { IfOk result (λ made. DeliversAt self.old place listened made outs.old outs.new self.new) }
-        ensures settled { trim self.new ≡ self.new }
-        ensures err { OnErr result (self.new ≡ self.old) }
-        ensures err_outs { OnErr result (outs.new ≡ outs.old) }
-    {
-        let Some(name) = self.stream.name_at(place) else {
-            return Ok(None);
-        };
-        let consumer = name.clone()?;
-        let Some(what) = self.stream.deliver(place, listened, outs)? else {
-            return Ok(None);
-        };
-        self.loose = self.loose.join(Span::of(what));
-        Ok(Some(Delivery { consumer, what }))
     }
 }

@@ -7,6 +7,8 @@ mod listing;
 mod releasing;
 mod removing;
 mod rules;
+mod serving;
+mod showing;
 mod state;
 mod telling;
 mod trimming;

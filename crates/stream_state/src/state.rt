@@ -1,6 +1,6 @@
 //! A stream whose limits hold.
 
-ghost use Rattle.std.specs.Prelude.{◌≡◌, ◌+◌, ◌^◌, ◌<◌, None, is_some, length, max, true, All, IfOk, IfSome, IsTrue, IsUtf8, OnOk, OnErr};
+ghost use Rattle.std.specs.Prelude.{◌≡◌, ◌+◌, ◌^◌, ◌<◌, None, is_some, length, max, false, true, All, IfOk, IfSome, IsTrue, IsUtf8, OnOk, OnErr};
 ghost use Rattle.std.specs.List.{last_or};
 ghost use Rattle.std.specs.Option.{option_copied, option_to_list};
 ghost use Rattle.js_model.specs.declared.reply.Verdict.TheVariants.{Take};
@@ -13,7 +13,10 @@ ghost use Rattle.js_model.specs.Proper.{is_proper_publish};
 ghost use Rattle.js_model.specs.Retention.{kept};
 ghost use Rattle.js_model.specs.Trim.{trim};
 ghost use Rattle.js_model.specs.Verdict.{last_on, verdict};
+ghost use Rattle.stream_view.specs.Order.{IsInOrder};
+ghost use Rattle.followed_stream.specs.Attended.{AreNamedApart};
 ghost use Rattle.followed_stream.specs.Delivering.{AreCurrent};
+ghost use Rattle.stream_state.specs.Settled.{AreProper};
 
 use crate::ageing::drop_old;
 use crate::releasing::release;
@@ -34,6 +37,8 @@ pub struct StreamState {
     pub(crate) stream: FollowedStream,
     /// The retention keeps all messages outside it.
     pub(crate) loose: Span,
+    /// The place of the consumer at which the search for one that is ready begins.
+    pub(crate) turn: usize,
 }
 
 impl Model for StreamState {
@@ -59,6 +64,7 @@ impl StreamState {
             alloc,
             stream: FollowedStream::make(alloc, incarnation, config, now),
             loose: Span::none(),
+            turn: 0,
         }
     }
 
@@ -66,10 +72,19 @@ impl StreamState {
     pub fn incarnation(&self) -> u64
         ensures value { result ≡ self.now.incarnation }
         ensures bound { result < 2 ^ 62 }
-        ensures config { IsTrue (is_stream_config self.now.config) }
-        ensures settled { trim self.now ≡ self.now }
     {
         self.stream.stored().incarnation()
+    }
+
+    /// What holds of every stream. It does nothing.
+    pub fn holds(&self)
+        ensures config { IsTrue (is_stream_config self.now.config) }
+        ensures order { IsInOrder self.now }
+        ensures proper { AreProper self.now.consumers }
+        ensures named { AreNamedApart self.now.consumers }
+        ensures settled { trim self.now ≡ self.now }
+    {
+        let _incarnation = self.incarnation();
     }
 
     /// The moment at which it was made.
@@ -156,6 +171,7 @@ impl StreamState {
     /// Removes the message of a sequence, and tells whether there was one. It takes no memory.
     pub fn delete(&mut self, seq: u64) -> bool
         ensures there { result ≡ is_some (message_at self.old seq) }
+        ensures none { result ≡ false → self.new ≡ self.old }
         ensures left { self.new ≡ without_messages self.old (option_to_list (message_at self.old seq)) }
         ensures settled { trim self.new ≡ self.new }
     {
@@ -191,6 +207,7 @@ impl StreamState {
     /// alone that they may have ceased to need since the last such call. It takes no memory.
     pub fn release(&mut self)
         ensures value { self.new ≡ kept self.old }
+        ensures again { kept self.new ≡ self.new }
         ensures settled { trim self.new ≡ self.new }
     {
         release(&mut self.stream, self.loose);

@@ -4,12 +4,12 @@ use Rattle.js_model.specs.Proper.{is_proper}
 use Rattle.js_api.specs.Holding.{event_at}
 use Rattle.desk_hold.specs.Crashes.{CommitsStep}
 use Rattle.desk_hold.specs.Steps.{EndsStep}
-use Rattle.desk_hold.proofs.Asked.{proper_event, number_made, number_told}
+use Rattle.desk_hold.proofs.Asked.{proper_event, number_made, number_told, told_by}
 use Rattle.desk_hold.proofs.Held.{ends_at, held_made, held_failed}
 use Rattle.desk_hold.proofs.holding.hold_named.Goals as goal
 
-pub make-requires-clause-built : goal.make-requires-clause-built
-make-requires-clause-built g c = c.requires.asked.built
+pub make-requires-clause-told : goal.make-requires-clause-told
+make-requires-clause-told g c = told_by c.args.event.now.what c.requires.asked
 
 pub make-requires-clause-proper : goal.make-requires-clause-proper
 make-requires-clause-proper g c =

@@ -1,19 +1,10 @@
+use Rattle.std.proofs.Common.{◌∙◌}
+use Rattle.std.proofs.lemmas.Result.{IfOk-weaker, on_err_weaker}
+use Rattle.place_engine.proofs.Answering.{answered_by}
 use Rattle.place_engine.proofs.live_stream.LiveStream.answer.Goals as goal
 
-pub returns-in-Make-clause-answers : goal.returns-in-Make-clause-answers
-returns-in-Make-clause-answers c = rw c.in-Make.is (c.make_again.ensures.answers c.in-Make.reply)
+pub returns-clause-answers : goal.returns-clause-answers
+returns-clause-answers c = IfOk-weaker c.act-said.result _ _ (λ reply h. answered_by _ reply c.args.outs.now _ _ _ h c.release.ensures.value) c.act-said.ensures.acts
 
-pub returns-in-Change-clause-answers : goal.returns-in-Change-clause-answers
-returns-in-Change-clause-answers c = rw c.in-Change.is (c.change.ensures.answers c.in-Change.reply)
-
-pub returns-in-Purge-clause-answers : goal.returns-in-Purge-clause-answers
-returns-in-Purge-clause-answers c = rw c.in-Purge.is (rw c.as_slice.ensures at (c.purge.ensures.answers c.in-Purge.reply))
-
-pub returns-in-Delete-clause-answers : goal.returns-in-Delete-clause-answers
-returns-in-Delete-clause-answers c = rw c.in-Delete.is (c.delete.ensures.answers c.in-Delete.reply)
-
-pub returns-in-StreamInfo-clause-answers : goal.returns-in-StreamInfo-clause-answers
-returns-in-StreamInfo-clause-answers c = rw c.in-StreamInfo.is (c.show.ensures.answers c.in-StreamInfo.reply)
-
-pub returns-in-MessageGet-clause-answers : goal.returns-in-MessageGet-clause-answers
-returns-in-MessageGet-clause-answers c = rw c.in-MessageGet.is (c.read.ensures.answers c.in-MessageGet.reply)
+pub returns-clause-err : goal.returns-clause-err
+returns-clause-err c = on_err_weaker c.act-said.result (λ same. c.release.ensures.value ∙ same) c.act-said.ensures.err

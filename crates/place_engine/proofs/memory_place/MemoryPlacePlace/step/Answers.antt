@@ -14,8 +14,8 @@ returns-clause-steps g c =
     elim c.match-answer.branch [
       | in-Ok w ↦
           rw (w.result-is, ← c.self.view_is)
-          (tells old c.args.event.now c.args.now w.in-Ok.reply c.answer.new.self c.args.outs.now kept w.in-Ok.ensures.answers)
+          (tells old c.args.event.now c.args.now w.in-Ok.reply c.answer.new.self c.args.outs.now c.answer.new.outs kept w.in-Ok.ensures.answers)
       | in-Err w ↦
-          rw (w.result-is, ← c.self.view_is, c.left-left.ensures.value)
-          (starves old c.args.event.now c.args.now c.answer.new.self c.args.outs.now kept w.in-Err.ensures.err)
+          rw (w.result-is, ← c.self.view_is)
+          (starves old c.args.event.now c.args.now w.in-Err.left c.answer.new.self c.args.outs.now c.answer.new.outs kept w.in-Err.ensures.err)
     ]

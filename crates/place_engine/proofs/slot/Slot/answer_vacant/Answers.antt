@@ -3,12 +3,13 @@ use Rattle.place_engine.proofs.Shown.{no_stream_utf8}
 use Rattle.place_engine.proofs.slot.Slot.answer_vacant.Goals as goal
 
 pub returns-in-Make-clause-answers : goal.returns-in-Make-clause-answers
-returns-in-Make-clause-answers c = rw c.in-Make.is (c.make.ensures.answers c.in-Make.reply)
+returns-in-Make-clause-answers c = λ outs. rw c.in-Make.is (c.make.ensures.answers c.in-Make.reply outs)
 
 pub returns-in_ok-no_stream-in_default : goal.returns-in_ok-no_stream-in_default
 returns-in_ok-no_stream-in_default c = record {
-  answers = rw c.in_ok-no_stream-in_default.ensures.value
-      (refuses c.args.self.now c.args.what.now c.args.now c.requires.vacant c.in_default.not-Make c.requires.more);
+  answers = λ outs.
+      rw c.in_ok-no_stream-in_default.ensures.value
+      (refuses c.args.self.now c.args.what.now c.args.now outs c.requires.vacant c.in_default.not-Make c.requires.more);
   shown = no_stream_utf8 _ c.in_ok-no_stream-in_default.ensures.value;
   err = tt;
 }

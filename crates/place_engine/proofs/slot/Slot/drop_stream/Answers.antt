@@ -1,3 +1,5 @@
+use Rattle.std.proofs.Common.{ap}
+use Rattle.js_model.specs.declared.stream.State.TheVariants.{Live}
 use Rattle.place_engine.proofs.Places.{drops_nothing, drops}
 use Rattle.place_engine.proofs.Shown.{no_stream_utf8}
 use Rattle.place_engine.proofs.slot.Slot.drop_stream.Goals as goal
@@ -5,12 +7,7 @@ use Rattle.place_engine.proofs.slot.Slot.drop_stream.Goals as goal
 pub returns-in_ok-no_stream-in-Nothing-clause-answers :
     goal.returns-in_ok-no_stream-in-Nothing-clause-answers
 returns-in_ok-no_stream-in-Nothing-clause-answers c = λ subject. λ now.
-    rw (← c.self.view_is, c.in-Nothing.is, c.in_ok-no_stream-in-Nothing.ensures.value) (drops_nothing c.in-Nothing.field-0 subject now)
-
-pub returns-in-Stream-clause-answers : goal.returns-in-Stream-clause-answers
-returns-in-Stream-clause-answers c = λ subject. λ now.
-    rw (← c.self.view_is, c.in-Stream.is)
-    (drops c.in-Stream.stream subject now c.incarnation-last.result c.incarnation-last.ensures.alone c.incarnation-last.ensures.value)
+    rw (← c.self.view_is, c.in-Nothing.is, c.in_ok-no_stream-in-Nothing.ensures.value) (drops_nothing c.in-Nothing.field-0 subject now c.args.outs.now)
 
 pub returns-in_ok-no_stream-in-Nothing-clause-shown :
     goal.returns-in_ok-no_stream-in-Nothing-clause-shown

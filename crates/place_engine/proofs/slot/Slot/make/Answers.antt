@@ -1,18 +1,18 @@
+use Rattle.std.proofs.Common.{◌∙◌}
 use Rattle.place_engine.proofs.Places.{makes, makes_none}
 use Rattle.place_engine.proofs.Shown.{numbers_used_up_utf8}
 use Rattle.place_engine.proofs.slot.Slot.make.Goals as goal
 
 pub returns-then-incarnation-eq-NUMBERS_END-clause-answers :
     goal.returns-then-incarnation-eq-NUMBERS_END-clause-answers
-returns-then-incarnation-eq-NUMBERS_END-clause-answers c = λ subject.
+returns-then-incarnation-eq-NUMBERS_END-clause-answers c = λ subject. λ outs.
     rw c.in_ok-numbers_used_up.ensures.value
-    (makes_none c.args.self.now subject c.args.config.now c.args.now c.requires.vacant (rw c.incarnation-incarnation.ensures.value at c.if-incarnation-eq-NUMBERS_END.true))
+    (makes_none c.args.self.now subject c.args.config.now c.args.now outs c.requires.vacant (rw c.incarnation-incarnation.ensures.value at c.if-incarnation-eq-NUMBERS_END.true))
 
 pub returns-clause-answers : goal.returns-clause-answers
-returns-clause-answers c = λ subject.
-    rw (c.in_ok-info.ensures.value, c.in_ok-stream.ensures.made, c.incarnation-incarnation.ensures.value)
-    (makes c.args.self.now subject c.args.config.now c.args.now c.requires.vacant (rw c.incarnation-incarnation.ensures.value at c.if-incarnation-eq-NUMBERS_END.false)
-    (rw (c.in_ok-stream.ensures.made, c.incarnation-incarnation.ensures.value) at c.in_ok-info.ensures.settled))
+returns-clause-answers c = λ subject. λ outs.
+    rw (c.in_ok-info.ensures.value, c.release.ensures.value, c.in_ok-stream.ensures.made, c.incarnation-incarnation.ensures.value)
+    (makes c.args.self.now subject c.args.config.now c.args.now outs c.requires.vacant (rw c.incarnation-incarnation.ensures.value at c.if-incarnation-eq-NUMBERS_END.false))
 
 pub returns-then-incarnation-eq-NUMBERS_END-clause-shown : goal.returns-then-incarnation-eq-NUMBERS_END-clause-shown
 returns-then-incarnation-eq-NUMBERS_END-clause-shown c = numbers_used_up_utf8 _ c.in_ok-numbers_used_up.ensures.value

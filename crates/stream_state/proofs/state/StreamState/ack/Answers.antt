@@ -2,6 +2,7 @@ use Rattle.std.proofs.Common.{◌≡◌, None, ap, sym, ◌∙◌}
 use Rattle.js_model.specs.declared.stream.Stream.{Stream}
 use Rattle.retention.specs.Over.{next_over}
 use Rattle.stream_state.proofs.Calling.{ack_told, nobody_acks, outside_acked}
+use Rattle.stream_state.proofs.Proper.{acked_kin, proper_with}
 use Rattle.stream_state.proofs.Settling.{trimmed}
 use Rattle.stream_state.proofs.state.StreamState.ack.Goals as goal
 
@@ -20,6 +21,7 @@ invariant_of-self-2 c =
     let p = c.in_ok-ack.ensures.acked in
     record {
       attended = c.in_ok-ack.ensures.sound;
+      proper = rw p.left (proper_with s.consumers _ _ p.consumer p.found (acked_kin s.moment _ c.args.ack.now.seq c.args.ack.now.kind p.consumer) c.self.invariant.proper);
       within = ap (λ (x : Stream). next_over x) p.left ∙ c.self.invariant.within;
       kept = rw c.join-self-inside.ensures.value
           (outside_acked c.self.inside.loose s c.ack.new.self (ap (λ (x : Stream). x.messages) p.left) (ap (λ (x : Stream). x.config.retention) p.left) c.self.invariant.kept _ p.loose);

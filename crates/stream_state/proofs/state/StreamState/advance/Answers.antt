@@ -5,6 +5,7 @@ use Rattle.js_model.specs.Streams.{only}
 use Rattle.js_model.proofs.Parts.{young_part}
 use Rattle.retention.specs.Over.{next_over}
 use Rattle.followed_stream.proofs.Going.{within_only}
+use Rattle.stream_state.proofs.Proper.{proper_at, proper_only}
 use Rattle.stream_state.proofs.Settling.{advanced, advanced_kept, trimmed}
 use Rattle.stream_state.proofs.state.StreamState.advance.Goals as goal
 
@@ -24,6 +25,7 @@ invariant_of-self c =
     let left = c.advance_consumers-loose.ensures.left ∙ ap (λ (x : Stream). record x { consumers = map (consumer_at t) x.consumers }) aged in
     record {
       attended = c.advance_consumers-loose.ensures.sound;
+      proper = rw left (proper_at t (only s (young s t)).consumers (proper_only s (young s t) c.self.invariant.proper));
       within = rw left (within_only s (young_part s t) c.self.invariant.within);
       kept = rw c.join-self-inside.ensures.value
           (advanced_kept c.self.inside.loose c.advance_consumers-loose.result s c.advance_consumers-loose.new.self t left

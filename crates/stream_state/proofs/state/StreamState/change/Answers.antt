@@ -1,11 +1,13 @@
 use Rattle.std.proofs.Common.{ap, ◌∙◌}
 use Rattle.js_model.specs.Trim.{trim}
+use Rattle.stream_state.proofs.Proper.{proper_trim}
 use Rattle.stream_state.proofs.Settling.{outside_all, trimmed}
 use Rattle.stream_state.proofs.state.StreamState.change.Goals as goal
 
 pub invariant_of-self : goal.invariant_of-self
 invariant_of-self c = record {
   attended = c.trim.ensures.sound;
+  proper = rw (c.trim.ensures.left, c.set_config.ensures.value) (proper_trim (record c.self.inside.stream { config = c.args.config }) c.self.invariant.proper);
   within = c.trim.ensures.within;
   kept = rw (c.up_to-self-inside.ensures.value, c.last.ensures.value) (outside_all c.trim.new.stream c.trim.ensures.sound);
 }

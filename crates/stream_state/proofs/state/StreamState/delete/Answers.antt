@@ -2,6 +2,7 @@ use Rattle.std.proofs.Common.{◌≡◌, None, refl, ◌∙◌}
 use Rattle.js_model.proofs.Parts.{filter_part}
 use Rattle.retention.specs.Over.{next_over}
 use Rattle.followed_stream.proofs.Going.{deleted_is, within_only}
+use Rattle.stream_state.proofs.Proper.{proper_only}
 use Rattle.stream_state.proofs.Unkept.{outside_less}
 use Rattle.stream_state.proofs.Settling.{trimmed}
 use Rattle.stream_state.proofs.state.StreamState.delete.Goals as goal
@@ -11,6 +12,7 @@ invariant_of-self c =
     let s = c.self.inside.stream in
     record {
       attended = c.remove.ensures.sound;
+      proper = rw c.remove.ensures.left (proper_only s _ c.self.invariant.proper);
       within = rw c.remove.ensures.left (within_only s (filter_part _ s.messages) c.self.invariant.within);
       kept = rw c.remove.ensures.left (outside_less c.self.inside.loose s (filter_part _ s.messages) c.self.invariant.kept);
     }

@@ -2,6 +2,7 @@ use Rattle.std.proofs.Common.{◌≡◌, None, ap, sym, ◌∙◌}
 use Rattle.js_model.specs.declared.stream.Stream.{Stream}
 use Rattle.retention.specs.Over.{next_over}
 use Rattle.stream_state.proofs.Calling.{drop_told, nobody_drops}
+use Rattle.stream_state.proofs.Proper.{proper_without}
 use Rattle.stream_state.proofs.Settling.{outside_all, trimmed}
 use Rattle.stream_state.proofs.state.StreamState.drop_consumer.Goals as goal
 
@@ -16,9 +17,11 @@ drop_consumer-requires c = record { within = c.in-Some.ensures.value.within }
 
 pub invariant_of-self-2 : goal.invariant_of-self-2
 invariant_of-self-2 c =
+    let s = c.self.inside.stream in
     let p = c.in_ok-drop_consumer.ensures.dropped in
     record {
       attended = c.in_ok-drop_consumer.ensures.sound;
+      proper = rw p.left (proper_without s.consumers _ c.self.invariant.proper);
       within = ap (λ (x : Stream). next_over x) p.left ∙ c.self.invariant.within;
       kept = rw (c.up_to-self-inside.ensures.value, c.last-last.ensures.value, ← ap (λ (x : Stream). x.last) p.left) (outside_all c.drop_consumer.new.self c.in_ok-drop_consumer.ensures.sound);
     }

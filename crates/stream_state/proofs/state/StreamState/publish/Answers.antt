@@ -1,6 +1,8 @@
 use Rattle.std.proofs.Common.{true, ap, ◌∙◌}
 use Rattle.js_model.specs.declared.stream.Stream.{Stream}
+use Rattle.js_model.specs.Events.{with_message}
 use Rattle.js_model.specs.Trim.{trim}
+use Rattle.stream_state.proofs.Proper.{proper_message, proper_trim}
 use Rattle.stream_state.proofs.Settling.{published_kept, trimmed}
 use Rattle.stream_state.proofs.Taken.{taken, next_number, has_room, over_own, trimmed_last}
 use Rattle.stream_state.proofs.state.StreamState.publish.Goals as goal
@@ -30,6 +32,7 @@ invariant_of-self-2 c =
     let own = c.last-seq.ensures.value ∙ ap (λ (x : Stream). x.last) left ∙ trimmed_last s p in
     record {
       attended = c.trim_on.ensures.sound;
+      proper = rw left (proper_trim (with_message s p) (proper_message s p c.self.invariant.proper));
       within = c.trim_on.ensures.within;
       kept = rw (c.join-self-inside.ensures.value, left) (published_kept c.self.inside.loose c.one.result s p c.last-seq.result c.one.ensures.value own c.self.invariant.kept);
     }

@@ -3,6 +3,7 @@ use Rattle.js_model.specs.declared.stream.Stream.{Stream}
 use Rattle.js_model.specs.Trim.{trim}
 use Rattle.retention.specs.Over.{next_over}
 use Rattle.stream_state.proofs.Calling.{nobody_pulls, outside_asked, pull_told}
+use Rattle.stream_state.proofs.Proper.{proper_with, pulled_kin}
 use Rattle.stream_state.proofs.Settling.{trimmed}
 use Rattle.stream_state.proofs.state.StreamState.pull.Goals as goal
 
@@ -21,6 +22,7 @@ invariant_of-self-2 c =
     let p = c.in_ok-pull.ensures.pulled in
     record {
       attended = c.in_ok-pull.ensures.sound;
+      proper = rw p.left (proper_with s.consumers _ _ p.consumer p.found (pulled_kin s.moment _ c.args.ask p.consumer) c.self.invariant.proper);
       within = ap (λ (x : Stream). next_over x) p.left ∙ c.self.invariant.within;
       kept = outside_asked c.self.inside.loose s c.pull.new.self (ap (λ (x : Stream). x.messages) p.left) (ap (λ (x : Stream). x.config.retention) p.left) c.self.invariant.kept p.needed;
     }

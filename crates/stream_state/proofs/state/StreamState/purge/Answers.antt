@@ -8,6 +8,7 @@ use Rattle.retention.specs.Over.{next_over}
 use Rattle.followed_stream.specs.Attended.{without_seqs}
 use Rattle.followed_stream.proofs.Followings.{sound_as}
 use Rattle.followed_stream.proofs.Going.{within_only, without_messages_part}
+use Rattle.stream_state.proofs.Proper.{proper_only}
 use Rattle.stream_state.proofs.Unkept.{outside_less}
 use Rattle.stream_state.proofs.Settling.{trimmed}
 use Rattle.stream_state.proofs.state.StreamState.purge.Goals as goal
@@ -23,6 +24,7 @@ invariant_of-self c =
     let left : c.remove_all.new.stream ≡ without_seqs (seqs list) s = c.remove_all.ensures.left ∙ ap (λ (ns : List ℕ). without_seqs ns s) (c.as_slice.ensures.value ∙ gone) in
     record {
       attended = c.remove_all.ensures.sound;
+      proper = rw left (proper_only s _ c.self.invariant.proper);
       within = rw left (within_only s (without_messages_part s list) c.self.invariant.within);
       kept = rw left (outside_less c.self.inside.loose s (without_messages_part s list) c.self.invariant.kept);
     }

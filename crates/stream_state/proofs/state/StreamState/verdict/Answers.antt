@@ -11,4 +11,4 @@ pub verdict-requires-clause-within : goal.verdict-requires-clause-within
 verdict-requires-clause-within c = ap (λ (x : Stream). next_over x) c.stored.ensures.value ∙ c.self.invariant.within
 
 pub returns : goal.returns
-returns c = record { value = rw (← c.self.view_is) (rw (← verdict_as c.self.inside.stream c.stored.result.now c.args.publish.now c.args.room c.stored.ensures.value) c.verdict.ensures.value) }
+returns c = record { value = rw (← c.self.view_is) (rw (← verdict_as c.self.inside.stream c.stored.result.now c.args.publish.now true c.stored.ensures.value) c.verdict.ensures.value) }

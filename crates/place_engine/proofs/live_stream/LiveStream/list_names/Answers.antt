@@ -1,0 +1,6 @@
+use Rattle.place_engine.proofs.Answering.{names_listed}
+use Rattle.place_engine.proofs.Shown.{names_sound}
+use Rattle.place_engine.proofs.live_stream.LiveStream.list_names.Goals as goal
+
+pub returns-clause-acts : goal.returns-clause-acts
+returns-clause-acts c = names_listed c.args.self.now c.args.offset _ _ c.consumer_count.ensures.value c.in_ok-consumer_names.ensures.value

@@ -1,0 +1,11 @@
+//! Tests of a place in memory with consumers, which is asked one thing after the other, as JetStream's documentation has it.
+#![tactic(auto)]
+
+#[cfg(test)]
+mod asked;
+#[cfg(test)]
+mod deliveries;
+#[cfg(test)]
+mod driven;
+#[cfg(test)]
+mod retentions;
