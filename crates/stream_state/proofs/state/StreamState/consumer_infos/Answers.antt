@@ -1,10 +1,9 @@
-use Rattle.std.proofs.Common.{◌≡◌, ◌==◌, List, drop, map, ap, sym, subst, ◌∙◌}
+use Rattle.std.proofs.Common.{◌≡◌, List, drop, map, ap, sym, subst, ◌∙◌}
 use Rattle.std.specs.Prelude.{All, IfOk}
 use Rattle.std.proofs.lemmas.List.Elements.{All-drop, All-take}
 use Rattle.js_model.specs.declared.stream_config.StreamConfig.{StreamConfig}
-use Rattle.js_model.specs.declared.consumer.Consumer.{Consumer}
 use Rattle.js_model.specs.declared.reply.ConsumerInfo.{ConsumerInfo}
-use Rattle.js_model.specs.Counts.{consumer_info, pending_count}
+use Rattle.js_model.specs.Counts.{consumer_info}
 use Rattle.js_model.specs.Events.{page_of}
 use Rattle.followed_stream.specs.Followers.{Following, IsCounted}
 use Rattle.stream_state.proofs.Paging.{map_both, page_map}
