@@ -82,6 +82,11 @@ pub record Released (old new : Stream) : Type 0 where
 pub released_by : (x new : Stream) → new ≡ settled x → kept new ≡ new → trim new ≡ new → Released x new
 released_by x new value again same = record { value = value; again = ap kept same ∙ again }
 
+-- the configuration stays
+pub settled_trim_config : (s : Stream) → (settled (trim s)).config ≡ s.config
+unfolding kept trim
+settled_trim_config s = refl
+
 released_same : (old new : Stream) → Released old new → settled new ≡ settled old
 released_same old new h = h.again ∙ h.value
 

@@ -1,5 +1,5 @@
 -- What a tick leaves, and what is answered once time has passed.
-use Rattle.std.proofs.Common.{◌≡◌, ◌∙◌, ℕ, true, List, [], ◌++◌, append-nil, refl, sym, ap, subst}
+use Rattle.std.proofs.Common.{◌≡◌, ◌≢◌, ◌∙◌, ℕ, true, List, [], ◌++◌, append-nil, refl, sym, ap, subst}
 use Rattle.std.proofs.lemmas.List.{append_assoc}
 use Rattle.js_base.specs.Bytes.{Bytes}
 use Rattle.js_base.specs.declared.out.Out.{Out}
@@ -14,7 +14,7 @@ use Rattle.js_model.specs.Advance.{advance, advance_outs}
 use Rattle.js_model.specs.Events.{answered, settled, settled_state}
 use Rattle.js_model.specs.StateMoments.{state_at}
 use Rattle.place_engine.specs.Answers.{outs_by, AnswersThen, Gives, LeftBy, PlaceAnswers}
-use Rattle.place_engine.specs.InMemory.{left_of}
+use Rattle.place_engine.specs.InMemory.{left_of, MayLeave}
 
 -- a stream is left as a tick leaves it
 pub ticked : (s : Stream) (now : ℕ) (outs : List Out) (new : State) → new ≡ Live (settled (advance s now)) → PlaceAnswers (Live s) Tick now Silent outs (outs ++ advance_outs s now) new
@@ -22,9 +22,21 @@ unfolding answered
 ticked s now outs new is incarnation = record { reply_is = refl; outs_are = ap (λ (more : List Out). outs ++ more) (sym (append-nil (advance_outs s now))); state_is = is }
 
 -- a place is, and says so if there is a stream
-pub left_behind : (old new : State) (now : ℕ) (outs_old outs_new : List Out) → new ≡ settled_state (state_at old now) → outs_new ≡ outs_old ++ outs_by old now → LeftBy (left_of old) old now outs_old outs_new new
-left_behind (Vacant i) new now outs_old outs_new is sent = (is, sent ∙ append-nil outs_old)
-left_behind (Live s) new now outs_old outs_new is sent = subst (λ (outs : List Out). PlaceAnswers (Live s) Tick now Silent outs_old outs new) (sym sent) (ticked s now outs_old new is)
+pub left_behind : (old mid new : State) (now : ℕ) (outs_old outs_new : List Out) → mid ≡ state_at old now → new ≡ settled_state mid → outs_new ≡ outs_old ++ outs_by old now
+    → LeftBy (left_of mid) old now outs_old outs_new new
+left_behind old mid new now outs_old outs_new passed is sent = subst (λ (m : State). LeftBy (left_of m) old now outs_old outs_new new) (sym passed) (go old sent (is ∙ ap settled_state passed))
+  where
+    go : (o : State) → outs_new ≡ outs_old ++ outs_by o now → new ≡ settled_state (state_at o now) → LeftBy (left_of (state_at o now)) o now outs_old outs_new new
+    go (Vacant i) sent is = (is, sent ∙ append-nil outs_old)
+    go (Live s) sent is = subst (λ (outs : List Out). PlaceAnswers (Live s) Tick now Silent outs_old outs new) (sym sent) (ticked s now outs_old new is)
+
+-- and it may, but for a tick
+pub may_leave : (old mid : State) (what : What) (now : ℕ) → mid ≡ state_at old now → what ≢ Tick → MayLeave old what (left_of mid)
+may_leave old mid what now passed more = subst (λ (m : State). MayLeave old what (left_of m)) (sym passed) (go old)
+  where
+    go : (o : State) → MayLeave o what (left_of (state_at o now))
+    go (Vacant i) = tt
+    go (Live s) = more
 
 -- what was asked once time had passed is answered
 pub answers_after : (old mid : State) (what : What) (now : ℕ) (reply : Reply) (outs_old outs_mid outs_new : List Out) (new : State) → mid ≡ state_at old now → outs_mid ≡ outs_old ++ outs_by old now

@@ -100,7 +100,9 @@ fn same_deliver_policy(policy: DeliverPolicy, other: DeliverPolicy) -> bool
         (DeliverPolicy::Last, DeliverPolicy::Last) => true,
         (DeliverPolicy::New, DeliverPolicy::New) => true,
         (DeliverPolicy::ByStartSequence(seq), DeliverPolicy::ByStartSequence(other)) => seq == other,
-        (DeliverPolicy::ByStartTime(at), DeliverPolicy::ByStartTime(other)) => at == other,
+        (DeliverPolicy::ByStartTime(at), DeliverPolicy::ByStartTime(other)) => {
+            at.as_nanos() == other.as_nanos()
+        }
         (DeliverPolicy::LastPerSubject, DeliverPolicy::LastPerSubject) => true,
         _ => false,
     }
