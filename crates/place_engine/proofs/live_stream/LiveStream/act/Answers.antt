@@ -1,8 +1,12 @@
+use Rattle.std.proofs.lemmas.Bool.{and_parts}
 use Rattle.std.proofs.lemmas.Result.{IfOk-weaker}
 use Rattle.place_engine.proofs.live_stream.LiveStream.act.Goals as goal
 
 pub publish-requires-clause-told : goal.publish-requires-clause-told
-publish-requires-clause-told c = c.requires.told c.in-Publish.publish.now c.in-Publish.is
+publish-requires-clause-told c = c.requires.told c.in-Publish.publish c.in-Publish.is
+
+pub ask_consumer-requires-clause-valid : goal.ask_consumer-requires-clause-valid
+ask_consumer-requires-clause-valid c = (and_parts _ _ (and_parts _ _ (rw c.in-MakeConsumer.is at c.requires.proper)).0).1
 
 pub returns-in-Make-clause-acts : goal.returns-in-Make-clause-acts
 returns-in-Make-clause-acts c = rw c.in-Make.is (IfOk-weaker c.make_again.result _ _ (λ reply h. h c.args.outs.now) c.make_again.ensures.acts)
@@ -26,10 +30,10 @@ pub returns-in-DropConsumer-clause-acts : goal.returns-in-DropConsumer-clause-ac
 returns-in-DropConsumer-clause-acts c = rw c.in-DropConsumer.is c.drop_consumer.ensures.acts
 
 pub returns-in-Ack-clause-acts : goal.returns-in-Ack-clause-acts
-returns-in-Ack-clause-acts c = rw c.in-Ack.is (rw c.as_ref.ensures at c.ack.ensures.acts)
+returns-in-Ack-clause-acts c = rw c.in-Ack.is (rw c.as_ref.ensures.value at c.ack.ensures.acts)
 
 pub returns-in-Pull-clause-acts : goal.returns-in-Pull-clause-acts
-returns-in-Pull-clause-acts c = rw c.in-Pull.is (rw c.as_ref-in-Pull.ensures at c.pull.ensures.acts)
+returns-in-Pull-clause-acts c = rw c.in-Pull.is (rw c.as_ref-in-Pull.ensures.value at c.pull.ensures.acts)
 
 pub returns-in-StreamInfo-clause-acts : goal.returns-in-StreamInfo-clause-acts
 returns-in-StreamInfo-clause-acts c = rw c.in-StreamInfo.is (IfOk-weaker c.show.result _ _ (λ reply h. h c.args.outs.now) c.show.ensures.acts)

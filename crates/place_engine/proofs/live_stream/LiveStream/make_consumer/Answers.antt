@@ -1,4 +1,4 @@
-use Rattle.std.proofs.Common.{◌∙◌, ap, subst, sym}
+use Rattle.std.proofs.Common.{ap, subst, sym}
 use Rattle.js_model.specs.declared.stream.Stream.{Stream}
 use Rattle.js_model.specs.declared.reply.Reply.TheVariants.{Refused}
 use Rattle.js_model.specs.Consumers.{making_checks}
@@ -24,7 +24,7 @@ returns-clause-acts c =
           rw (w.result-is, ← c.self.view_is)
           (subst (λ (left : Stream). ActsQuietly (consumer_made s c.args.name.now c.args.config.now (first_refusal (making_checks s c.args.name.now c.args.config.now))) (Refused w.in-Err-Refused.refusal) left)
           (sym (rw w.in-Err-Refused.is at c.make_consumer-made.ensures.err))
-          (consumer_is_refused s c.args.name.now c.args.config.now w.in-Err-Refused.refusal (rw w.in-Err-Refused.is at c.make_consumer-made.ensures.refused)))
+          (consumer_is_refused s c.args.name.now c.args.config.now w.in-Err-Refused.refusal (rw (w.in-Err-Refused.is, w.in-Err-Refused.field-0-is) at c.make_consumer-made.ensures.refused)))
       | in-Err-NoMemory w ↦ rw w.result-is tt
     ]
 
@@ -33,7 +33,7 @@ returns-clause-shown c =
     elim c.match-made.branch [
       | in-Ok w ↦ rw w.result-is (consumer_sound c.make_consumer-made.new.self c.args.name.now _ c.holds.ensures.config c.holds.ensures.proper (sym (rw w.in-Ok.is at c.make_consumer-made.ensures.info)))
       | in-Err-Refused w ↦
-          rw w.result-is (forbidden_utf8 c.self.inside.state c.args.name.now c.args.config.now w.in-Err-Refused.refusal (rw w.in-Err-Refused.is at c.make_consumer-made.ensures.refused))
+          rw w.result-is (forbidden_utf8 c.self.inside.state c.args.name.now c.args.config.now w.in-Err-Refused.refusal (rw (w.in-Err-Refused.is, w.in-Err-Refused.field-0-is) at c.make_consumer-made.ensures.refused))
       | in-Err-NoMemory w ↦ rw w.result-is tt
     ]
 

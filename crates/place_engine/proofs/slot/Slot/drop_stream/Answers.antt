@@ -1,6 +1,4 @@
-use Rattle.std.proofs.Common.{ap}
-use Rattle.js_model.specs.declared.stream.State.TheVariants.{Live}
-use Rattle.place_engine.proofs.Places.{drops_nothing, drops}
+use Rattle.place_engine.proofs.Places.{drops_nothing}
 use Rattle.place_engine.proofs.Shown.{no_stream_utf8}
 use Rattle.place_engine.proofs.slot.Slot.drop_stream.Goals as goal
 
@@ -12,8 +10,3 @@ returns-in_ok-no_stream-in-Nothing-clause-answers c = λ subject. λ now.
 pub returns-in_ok-no_stream-in-Nothing-clause-shown :
     goal.returns-in_ok-no_stream-in-Nothing-clause-shown
 returns-in_ok-no_stream-in-Nothing-clause-shown c = no_stream_utf8 _ c.in_ok-no_stream-in-Nothing.ensures.value
-
-pub returns-in-Stream-clause-answers : goal.returns-in-Stream-clause-answers
-returns-in-Stream-clause-answers c = λ subject. λ now.
-    rw (← c.self.view_is, c.in-Stream.is)
-    (drops c.in-Stream.stream subject now c.incarnation-last.result c.args.outs.now c.tell_dropped.new.outs c.incarnation-last.ensures.value c.in-Ok-in-Stream.ensures.ok)
