@@ -181,12 +181,7 @@ impl Slot {
 
     /// Does what is asked at a moment to which time has come, answers it, adds what it sends, and lets the messages go that the retention then does not keep,
     /// also if it finds no memory.
-    fn answer_then(
-        &mut self,
-        what: &What,
-        now: Moment,
-        outs: &mut Outs,
-    ) -> Result<Reply, NoMemory>
+    fn answer_then(&mut self, what: &What, now: Moment, outs: &mut Outs) -> Result<Reply, NoMemory>
         requires told { IsTold what.now }
         requires proper { IsTrue (is_proper_what what.now) }
         ensures answers { IfOk result (λ reply. AnswersThen self.old what.now now reply outs.old outs.new self.new) }
@@ -206,12 +201,7 @@ impl Slot {
     }
 
     /// The same, of all but ticks and drops.
-    fn answer_other(
-        &mut self,
-        what: &What,
-        now: Moment,
-        outs: &mut Outs,
-    ) -> Result<Reply, NoMemory>
+    fn answer_other(&mut self, what: &What, now: Moment, outs: &mut Outs) -> Result<Reply, NoMemory>
         requires told { IsTold what.now }
         requires proper { IsTrue (is_proper_what what.now) }
         requires more { what.now ≢ What.Tick }
