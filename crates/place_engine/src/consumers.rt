@@ -18,8 +18,8 @@ use js_model::refusals::{consumer_absent, consumer_exists as exists_already, no_
 use js_model::{Ack, Ask, ConsumerConfig, Reply};
 
 impl LiveStream {
-    /// Makes a consumer, if there is none of the name. One that is there is shown if it has this configuration, and else refused; an update of one that is
-    /// not there is refused.
+    /// Makes a consumer, if there is none of the name. One that is there is shown if it has this configuration, and else refused; an update of one
+    /// that is not there is refused.
     pub(crate) fn ask_consumer(
         &mut self,
         name: &Blob,
