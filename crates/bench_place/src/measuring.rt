@@ -1,5 +1,9 @@
 //! A place is led to a state, and makes its steps.
 
+ghost use Rattle.std.specs.Prelude.{◌≤◌, ◌<◌, ◌^◌, IsTrue};
+ghost use Rattle.js_model.specs.Configs.{is_name};
+ghost use Rattle.js_model.specs.Proper.{is_proper_ask};
+
 use crate::measurement::{Kind, Measurement};
 use js_base::NoMemory;
 use js_model::{AckKind, Ask, Retention, What};
@@ -25,7 +29,10 @@ pub(crate) struct Held {
 }
 
 /// A pull of so many messages that waits for ever.
-fn wanting(batch: u64) -> Ask {
+fn wanting(batch: u64) -> Ask
+    requires batch { batch < 2 ^ 62 }
+    ensures proper { IsTrue (is_proper_ask result) }
+{
     Ask {
         batch,
         expires: 0,
@@ -36,7 +43,9 @@ fn wanting(batch: u64) -> Ask {
 }
 
 /// A name of two letters for each number.
-fn name_of(number: u8) -> [u8; 2] {
+fn name_of(number: u8) -> [u8; 2]
+    ensures name { IsTrue (is_name result) }
+{
     [b'a' + number / 16, b'a' + number % 16]
 }
 
@@ -64,7 +73,9 @@ fn deliver_all(place: &mut Driven, count: u32) -> Result<(), NoMemory> {
 }
 
 /// How many deliveries the consumer's pull wants: those that are made before the steps, and those by steps.
-fn wanted(measurement: Measurement) -> u64 {
+fn wanted(measurement: Measurement) -> u64
+    ensures small { result < 2 ^ 62 }
+{
     let before = u64::from(measurement.pending);
     match measurement.kind {
         Kind::Deliver => before + u64::from(measurement.steps),
@@ -84,7 +95,9 @@ fn prepared(alloc: Global, measurement: Measurement) -> Result<Driven, NoMemory>
 }
 
 /// The sequence of a pending message, another one at each step.
-fn pending_at(measurement: Measurement, step: u32) -> u64 {
+fn pending_at(measurement: Measurement, step: u32) -> u64
+    ensures small { result ≤ 2 ^ 32 }
+{
     match step.checked_rem(measurement.pending) {
         Some(at) => u64::from(at) + 1,
         None => 1,

@@ -1,6 +1,6 @@
 -- What is made to be asked of a place is what readers give.
-use Rattle.std.proofs.Common.{◌≡◌, ◌≤◌, ◌+◌, ◌-◌, ◌^◌, ℕ, Bool, true, false, List, [], ◌∷◌, length, Option, None, Some, refl, arith, IsTrue}
-use Rattle.std.specs.Prelude.{codes, nat_le}
+use Rattle.std.proofs.Common.{◌≡◌, ◌≤◌, ◌+◌, ◌-◌, ◌^◌, ℕ, true, false, [], ◌∷◌, length, Option, None, Some, refl, subst, arith, IsTrue}
+use Rattle.std.specs.Prelude.{codes, nat_le, IfSome, IsUtf8}
 use Rattle.std.specs.Str.{is_utf8, chars}
 use Rattle.std.proofs.lemmas.Bool.{and_from, le-leb}
 use lib.Utf8.{encode}
@@ -11,16 +11,12 @@ use Rattle.js_model.specs.declared.stream_config.Retention.{Retention}
 use Rattle.js_model.specs.declared.consumer_config.ConsumerConfig.{ConsumerConfig}
 use Rattle.js_model.specs.declared.consumer_config.AckPolicy.TheVariants.{Explicit}
 use Rattle.js_model.specs.declared.consumer_config.DeliverPolicy.TheVariants.{All}
-use Rattle.js_model.specs.declared.ack.Ack.{Ack}
-use Rattle.js_model.specs.declared.ack.AckKind.{AckKind}
 use Rattle.js_model.specs.declared.ack.Ask.{Ask}
-use Rattle.js_model.specs.declared.event.Event.{Event}
 use Rattle.js_model.specs.declared.event.Publish.{Publish}
-use Rattle.js_model.specs.declared.event.Wants.{Wants}
 use Rattle.js_model.specs.declared.event.What.{What}
 use Rattle.js_model.specs.declared.event.What.TheVariants as whats
-use Rattle.js_model.specs.Configs.{is_consumer_config, is_limit, is_name, is_number, is_stream_config}
-use Rattle.js_model.specs.Proper.{if_given, is_proper, is_proper_ask, is_proper_kind, is_proper_publish, is_proper_what, reply_of}
+use Rattle.js_model.specs.Configs.{is_consumer_config, is_limit, is_name, is_stream_config}
+use Rattle.js_model.specs.Proper.{if_given, is_proper, is_proper_ask, reply_of}
 use Rattle.js_model.proofs.Named.{same_self}
 use Rattle.js_base.specs.Subjects.{is_subject_text}
 use Rattle.place_drive.specs.Asked.{IsAsked}
@@ -81,7 +77,7 @@ consumer_asked name often pending n o p = record {
   told = λ publish is. let no : ⊥ = cc in absurd no;
 }
 
--- ---- messages, pulls and acknowledgements
+-- ---- messages and pulls
 
 abbrev message : Bytes → Publish
 message payload = record {
@@ -99,12 +95,12 @@ subject_is = refl
 pub publish_asked : (payload : Bytes) → length payload ≤ 100 → IsAsked (whats.Publish (message payload))
 publish_asked payload small = record {
   reply = refl;
-  proper = and_from _ _ (and_from _ _ (and_from _ _ (and_from _ _ subject_is refl) (le-leb (length payload) 1048576 (omega (arith, small)))) refl) refl;
-  told = λ publish is. told publish is;
+  proper = and_from _ _ (and_from _ _ (and_from _ _ (and_from _ _ subject_is refl) (le-leb (0 + length payload) 1048576 (omega (arith, small)))) refl) refl;
+  told = told;
 }
   where
-    told : (publish : Publish) → whats.Publish (message payload) ≡ whats.Publish publish → Rattle.std.specs.Prelude.IfSome publish.wants.bad Rattle.std.specs.Prelude.IsUtf8
-    told publish is = let same : message payload ≡ publish = cc in Rattle.std.proofs.Common.subst (λ (p : Publish). Rattle.std.specs.Prelude.IfSome p.wants.bad Rattle.std.specs.Prelude.IsUtf8) same tt
+    told : (publish : Publish) → whats.Publish (message payload) ≡ whats.Publish publish → IfSome publish.wants.bad IsUtf8
+    told publish is = let same : message payload ≡ publish = cc in subst (λ (p : Publish). IfSome p.wants.bad IsUtf8) same tt
 
 inbox_is : is_subject_text (codes "_P") ≡ true
 unfolding is_utf8 chars encode
@@ -112,25 +108,6 @@ inbox_is = refl
 
 pub pull_asked : (name : Bytes) (ask : Ask) → is_name name ≡ true → is_proper_ask ask ≡ true → IsAsked (whats.Pull (Some (codes "_P")) name (Some ask))
 pull_asked name ask n a = record { reply = inbox_is; proper = and_from _ _ n a; told = λ publish is. let no : ⊥ = cc in absurd no }
-
-orders_name : is_name (codes "ORDERS") ≡ true
-orders_name = refl
-
-pub ack_asked : (name : Bytes) (seq : ℕ) (kind : AckKind) → is_name name ≡ true → is_number seq ≡ true → is_proper_kind kind ≡ true
-    → IsAsked (whats.Ack None (record { stream = codes "ORDERS"; consumer = name; seq = seq; kind = kind }))
-ack_asked name seq kind n s k = record {
-  reply = refl;
-  proper = and_from _ _ (and_from _ _ (and_from _ _ orders_name n) s) k;
-  told = λ publish is. let no : ⊥ = cc in absurd no;
-}
-
--- ---- questions
-
-pub info_asked : (name : Bytes) → is_name name ≡ true → IsAsked (whats.ConsumerInfo None name)
-info_asked name n = record { reply = refl; proper = n; told = λ publish is. let no : ⊥ = cc in absurd no }
-
-pub stream_info_asked : IsAsked (whats.StreamInfo None)
-stream_info_asked = record { reply = refl; proper = refl; told = λ publish is. let no : ⊥ = cc in absurd no }
 
 -- ---- an event
 

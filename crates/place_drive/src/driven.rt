@@ -23,18 +23,41 @@ pub struct Driven {
     now: Moment,
 }
 
+/// What is looked at in an answer.
+#[derive(Clone, Copy)]
+struct Told {
+    /// The messages of the stream, in its information.
+    messages: Option<u64>,
+    /// The pending deliveries of the consumer, in its information.
+    pending: Option<u64>,
+}
+
+impl Told {
+    fn of(reply: Reply) -> Told {
+        let (messages, pending) = match &reply {
+            Reply::Info(told) => (Some(told.messages), None),
+            Reply::ConsumerInfo(told) => (None, Some(told.info.ack_pending)),
+            _ => (None, None),
+        };
+        Told { messages, pending }
+    }
+}
+
 impl Driven {
     /// A place that never had a stream, at [`START`].
     pub fn open(alloc: Global) -> Result<Driven, NoMemory> {
-        match (MemoryPlace::open(alloc, ()), Moment::of(START)) {
-            (Ok(place), Some(now)) => Ok(Driven {
+        let Some(now) = Moment::of(START) else {
+            return Err(NoMemory);
+        };
+        match MemoryPlace::open(alloc, ()) {
+            Ok(place) => Ok(Driven {
                 alloc,
                 place,
                 nobody: List::new(alloc),
                 outs: List::new(alloc),
                 now,
             }),
-            _ => Err(NoMemory),
+            Err(_) => Err(NoMemory),
         }
     }
 
@@ -43,24 +66,25 @@ impl Driven {
         self.now = self.now.plus(nanos);
     }
 
-    /// Asks the place, and gives its answer. Out of memory, time may have passed for its stream.
-    pub fn ask(&mut self, what: What) -> Result<Reply, NoMemory>
+    /// Asks the place, and tells of its answer. Out of memory, time may have passed for its stream.
+    fn ask(&mut self, what: What) -> Result<Told, NoMemory>
         requires asked { IsAsked what }
     {
         let event = Event {
             incarnation: self.place.incarnation(),
             what,
         };
-        self.place
-            .step(&event, self.now, &mut self.outs)
-            .map_err(|_| NoMemory)
+        match self.place.step(&event, self.now, &mut self.outs) {
+            Ok(reply) => Ok(Told::of(reply)),
+            Err(_) => Err(NoMemory),
+        }
     }
 
     /// Asks the place, whatever it answers.
     pub fn make(&mut self, what: What) -> Result<(), NoMemory>
         requires asked { IsAsked what }
     {
-        let _ = self.ask(what)?;
+        self.ask(what)?;
         Ok(())
     }
 
@@ -78,16 +102,15 @@ impl Driven {
 
     /// How many messages the stream has, if there is one.
     pub fn messages(&mut self) -> Result<Option<u64>, NoMemory> {
-        let reply = self.ask(stream_info())?;
-        Ok(messages_in(&reply))
+        Ok(self.ask(stream_info())?.messages)
     }
 
     /// How many deliveries of a consumer are pending, if there is such a consumer.
     pub fn pending(&mut self, name: &[u8]) -> Result<Option<u64>, NoMemory>
         requires name { IsTrue (is_name name.now) }
     {
-        let reply = self.ask(info(self.alloc, name)?)?;
-        Ok(pending_in(&reply))
+        let what = info(self.alloc, name)?;
+        Ok(self.ask(what)?.pending)
     }
 
     /// The last output that it has not forgotten.
@@ -98,19 +121,5 @@ impl Driven {
     /// Forgets what the place has sent.
     pub fn forget(&mut self) {
         self.outs = List::new(self.alloc);
-    }
-}
-
-fn messages_in(reply: &Reply) -> Option<u64> {
-    match reply {
-        Reply::Info(told) => Some(told.messages),
-        _ => None,
-    }
-}
-
-fn pending_in(reply: &Reply) -> Option<u64> {
-    match reply {
-        Reply::ConsumerInfo(told) => Some(told.info.ack_pending),
-        _ => None,
     }
 }

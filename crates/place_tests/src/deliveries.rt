@@ -7,16 +7,32 @@ use place_drive::{Driven, ack, consumer, publish, pull, stream};
 use std::alloc::Global;
 use std::test::Fail;
 
-/// A pull of so many messages that waits for ever.
-fn wanting(batch: u64) -> Ask {
-    Ask {
-        batch,
-        expires: 0,
-        no_wait: false,
-        max_bytes: None,
-        heartbeat: 0,
-    }
-}
+/// A pull of two messages that waits for ever.
+const TWO: Ask = Ask {
+    batch: 2,
+    expires: 0,
+    no_wait: false,
+    max_bytes: None,
+    heartbeat: 0,
+};
+
+/// A pull of three messages that does not wait.
+const AT_ONCE: Ask = Ask {
+    batch: 3,
+    expires: 0,
+    no_wait: true,
+    max_bytes: None,
+    heartbeat: 0,
+};
+
+/// A pull of three messages that waits for a second.
+const FOR_A_SECOND: Ask = Ask {
+    batch: 3,
+    expires: 1_000_000_000,
+    no_wait: false,
+    max_bytes: None,
+    heartbeat: 0,
+};
 
 /// A stream with one message and the consumer `W`.
 fn with_worker(alloc: Global) -> Result<Driven, NoMemory> {
@@ -31,11 +47,7 @@ fn with_worker(alloc: Global) -> Result<Driven, NoMemory> {
 fn pull_that_does_not_wait_gets_what_is_there(rt: HostRuntime) -> Result<(), Fail> {
     let alloc = rt.alloc();
     let mut place = with_worker(alloc)?;
-    let ask = Ask {
-        no_wait: true,
-        ..wanting(3)
-    };
-    place.make(pull(alloc, b"W", ask)?)?;
+    place.make(pull(alloc, b"W", AT_ONCE)?)?;
     assert!(rt; matches!(place.deliver()?, Some(Delivered::Sent { seq: 1, count: 1, dseq: 1 })));
     assert!(rt; is_delivery(place.last(), b"$JS.ACK.ORDERS.W.1.1.1.1700000000000000000.0"));
     assert!(rt; matches!(place.deliver()?, Some(Delivered::Emptied)));
@@ -50,11 +62,7 @@ fn pull_ends_at_its_moment(rt: HostRuntime) -> Result<(), Fail> {
     let mut place = Driven::open(alloc)?;
     place.make(stream(alloc, Retention::Limits)?)?;
     place.make(consumer(alloc, b"W", None, None)?)?;
-    let ask = Ask {
-        expires: 1_000_000_000,
-        ..wanting(3)
-    };
-    place.make(pull(alloc, b"W", ask)?)?;
+    place.make(pull(alloc, b"W", FOR_A_SECOND)?)?;
     place.wait(999_999_999);
     place.make(What::Tick)?;
     assert!(rt; place.last().is_none());
@@ -73,7 +81,7 @@ fn delivery_waits_for_the_one_before(rt: HostRuntime) -> Result<(), Fail> {
     place.make(consumer(alloc, b"W", None, Some(1))?)?;
     place.make(publish(alloc, b"a")?)?;
     place.make(publish(alloc, b"b")?)?;
-    place.make(pull(alloc, b"W", wanting(2))?)?;
+    place.make(pull(alloc, b"W", TWO)?)?;
     assert!(rt; place.deliver()?.is_some());
     assert!(rt; is_delivery(place.last(), b"$JS.ACK.ORDERS.W.1.1.1.1700000000000000000.1"));
     assert!(rt; place.deliver()?.is_none());
@@ -87,7 +95,7 @@ fn delivery_waits_for_the_one_before(rt: HostRuntime) -> Result<(), Fail> {
 fn message_comes_again_after_its_wait(rt: HostRuntime) -> Result<(), Fail> {
     let alloc = rt.alloc();
     let mut place = with_worker(alloc)?;
-    place.make(pull(alloc, b"W", wanting(2))?)?;
+    place.make(pull(alloc, b"W", TWO)?)?;
     assert!(rt; place.deliver()?.is_some());
     place.wait(29_999_999_999);
     assert!(rt; place.deliver()?.is_none());

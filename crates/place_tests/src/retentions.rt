@@ -1,5 +1,8 @@
 //! Messages that go once nobody needs them.
 
+ghost use Rattle.std.specs.Prelude.{IsTrue};
+ghost use Rattle.js_model.specs.Configs.{is_name};
+
 use js_base::NoMemory;
 use js_model::{AckKind, Ask, Retention};
 use place_drive::{Driven, ack, consumer, publish, pull, stream};
@@ -15,25 +18,28 @@ const ONE: Ask = Ask {
     heartbeat: 0,
 };
 
-/// A stream of a retention with these consumers and one message, which each consumer got once.
-fn delivered(alloc: Global, retention: Retention, names: &[&[u8]]) -> Result<Driven, NoMemory> {
+/// A stream of a retention.
+fn kept_by(alloc: Global, retention: Retention) -> Result<Driven, NoMemory> {
     let mut place = Driven::open(alloc)?;
     place.make(stream(alloc, retention)?)?;
-    for name in names {
-        place.make(consumer(alloc, name, Some(1), None)?)?;
-        place.make(pull(alloc, name, ONE)?)?;
-    }
-    place.make(publish(alloc, b"hello")?)?;
-    for _ in 0..names.len() {
-        place.deliver()?;
-    }
     Ok(place)
+}
+
+/// Adds a consumer that waits for one message, and gets each message once.
+fn add(place: &mut Driven, alloc: Global, name: &[u8]) -> Result<(), NoMemory>
+    requires name { IsTrue (is_name name.now) }
+{
+    place.make(consumer(alloc, name, Some(1), None)?)?;
+    place.make(pull(alloc, name, ONE)?)
 }
 
 #[test]
 fn message_of_a_work_queue_goes_once_it_is_acknowledged(rt: HostRuntime) -> Result<(), Fail> {
     let alloc = rt.alloc();
-    let mut place = delivered(alloc, Retention::WorkQueue, &[b"W"])?;
+    let mut place = kept_by(alloc, Retention::WorkQueue)?;
+    add(&mut place, alloc, b"W")?;
+    place.make(publish(alloc, b"hello")?)?;
+    assert!(rt; place.deliver()?.is_some());
     place.make(ack(alloc, b"W", 1, AckKind::Nak(0))?)?;
     assert!(rt; place.deliver()?.is_none());
     assert_eq!(rt; place.messages()?, Some(1));
@@ -45,7 +51,8 @@ fn message_of_a_work_queue_goes_once_it_is_acknowledged(rt: HostRuntime) -> Resu
 #[test]
 fn message_that_nobody_wants_is_not_kept(rt: HostRuntime) -> Result<(), Fail> {
     let alloc = rt.alloc();
-    let mut place = delivered(alloc, Retention::Interest, &[])?;
+    let mut place = kept_by(alloc, Retention::Interest)?;
+    place.make(publish(alloc, b"hello")?)?;
     assert_eq!(rt; place.messages()?, Some(0));
     Ok(())
 }
@@ -53,7 +60,12 @@ fn message_that_nobody_wants_is_not_kept(rt: HostRuntime) -> Result<(), Fail> {
 #[test]
 fn message_goes_at_the_second_acknowledgement(rt: HostRuntime) -> Result<(), Fail> {
     let alloc = rt.alloc();
-    let mut place = delivered(alloc, Retention::Interest, &[b"V", b"W"])?;
+    let mut place = kept_by(alloc, Retention::Interest)?;
+    add(&mut place, alloc, b"V")?;
+    add(&mut place, alloc, b"W")?;
+    place.make(publish(alloc, b"hello")?)?;
+    assert!(rt; place.deliver()?.is_some());
+    assert!(rt; place.deliver()?.is_some());
     place.make(ack(alloc, b"V", 1, AckKind::Ack)?)?;
     assert_eq!(rt; place.messages()?, Some(1));
     place.make(ack(alloc, b"W", 1, AckKind::Ack)?)?;
