@@ -1,4 +1,4 @@
-//! A place in memory that is asked one thing after the other, as time passes: what tests and a bench drive.
+//! A place in memory that is asked one thing after the other, as time passes: what tests drive.
 #![tactic(auto)]
 
 mod asked;
