@@ -1,5 +1,5 @@
 -- Laws of desk calls whose entries are fit: none answers that numbers are used up.
-use Rattle.std.proofs.Common.{◌≡◌, ◌-◌, ◌^◌, ◌<◌, ℕ, Bool, true, false, List, [], ◌∷◌, ◌++◌, Option, Some, None, Result, Ok, Err, inl, inr, refl, sym, subst, arith}
+use Rattle.std.proofs.Common.{◌≡◌, ◌-◌, ◌^◌, ◌<◌, ℕ, Bool, true, false, ◌&&◌, List, [], ◌∷◌, ◌++◌, Option, Some, None, Result, Ok, Err, inl, inr, refl, sym, subst, arith}
 use Rattle.std.proofs.lemmas.Bool.{false≢true}
 use Rattle.std.specs.Prelude.{IfSome, MatchOption, MatchBool}
 use Rattle.js_base.specs.Bytes.{Bytes}
@@ -8,10 +8,12 @@ use Rattle.js_base.specs.declared.out.Out.{Out}
 use Rattle.js_base.specs.declared.out.ApiError.{ApiError}
 use Rattle.js_model.specs.PlaceStates.{VolumeAt}
 use Rattle.js_model.specs.declared.stream_config.StreamConfig.{StreamConfig}
+use Rattle.js_model.specs.declared.ack.Ask.{Ask}
 use Rattle.js_model.specs.declared.event.What.{What}
 use Rattle.js_model.specs.declared.event.What.TheVariants as whats
 use Rattle.js_model.specs.declared.desk.PlaceAt.{PlaceAt}
 use Rattle.js_model.specs.declared.desk.Taken.{Taken}
+use Rattle.js_model.specs.Configs.{is_name}
 use Rattle.js_model.specs.Proper.{reply_of}
 use Rattle.js_model.specs.Catalog as catalog
 use Rattle.js_model.specs.Router as router
@@ -33,6 +35,7 @@ use Rattle.js_api.specs.Holding.{Holds, HoldsBy, Explains, IsLastGeneration, Unm
 use Rattle.js_api.specs.Stages.{Then, Gives, IsWorn, LooksUp, SendsOne, Sends, Reads, Ending}
 use Rattle.js_api.specs.Publishing as publishing
 use Rattle.js_api.specs.OneStream as one
+use Rattle.js_api.specs.OneConsumer as consumers
 use Rattle.js_api.specs.AllStreams as all
 use Rattle.js_api.specs.Api as api
 use Rattle.js_api.specs.Making as making
@@ -237,6 +240,34 @@ asking_keeps : (name stream : Bytes) (what : What) (now : ℕ) → Keeps (one.Is
 asking_keeps name stream what now =
     named_keeps stream (one.IsAbsent name (reply_of what)) (λ at. one.IsOnStream name at what now one.unchanged) (absent_keeps name (reply_of what)) (λ at. on_stream_keeps name at what now one.unchanged)
 
+-- ---- what only the stream answers
+
+heard_keeps : (became : Became) → Keeps (consumers.IsHeard became)
+heard_keeps (Made reply) = gives_keeps (consumers.is_heard reply)
+heard_keeps (Unsaid refused) = λ result entries h fit. absurd h
+heard_keeps Ticked = λ result entries h fit. absurd h
+heard_keeps Nothing = λ result entries h fit. absurd h
+heard_keeps (Broke stream) = gives_keeps true
+heard_keeps (Stopped stream) = gives_keeps true
+heard_keeps Gone = gives_keeps false
+
+told_at_keeps : (what : What) (now : ℕ) (at : PlaceAt) → Keeps (consumers.IsToldAt what now at)
+told_at_keeps what now at result entries h fit =
+    ending_keeps h.outcome.fault (consumers.IsHeard h.outcome.became) (holds_numbered at what now h.outcome entries h.holds fit) (heard_keeps h.outcome.became) result [] h.ends tt
+
+told_keeps : (stream : Bytes) (what : What) (now : ℕ) → Keeps (consumers.IsTold stream what now)
+told_keeps stream what now = named_keeps stream (Gives false) (consumers.IsToldAt what now) (gives_keeps false) (told_at_keeps what now)
+
+by_test : {X : Type 0} (b : Bool) (P Q : Result X DeskFault → List DeskEntry → Type 0) → Keeps P → Keeps Q → Keeps (λ result entries. MatchBool b (P result entries) (Q result entries))
+by_test true P Q p q result entries h fit = p result entries h fit
+by_test false P Q p q result entries h fit = q result entries h fit
+
+pulling_keeps : (stream consumer : Bytes) (ask : Option Ask) (to : Option Bytes) (now : ℕ) → Keeps (consumers.IsPulling stream consumer ask to now)
+pulling_keeps stream consumer ask to now =
+    by_test (is_name stream && is_name consumer) (consumers.IsTold stream (whats.Pull to consumer ask) now) (Gives false) (told_keeps stream (whats.Pull to consumer ask) now) (gives_keeps false)
+
+-- ---- each call
+
 performs_keeps : (request : ApiRequest) (to : Option Bytes) (now : ℕ) → Keeps (api.Performs request to now)
 performs_keeps requests.AccountInfo to now = over_all_keeps _ to now _
 performs_keeps (requests.StreamCreate stream config) to now =
@@ -253,13 +284,15 @@ performs_keeps (requests.StreamNames offset pattern) to now = over_all_keeps _ t
 performs_keeps (requests.StreamList offset pattern) to now = over_all_keeps _ to now _
 performs_keeps (requests.StreamMsgGet stream by) to now = asking_keeps (name_of calls.StreamMsgGet) stream (whats.MessageGet to by) now
 performs_keeps (requests.StreamMsgDelete stream seq) to now = asking_keeps (name_of calls.StreamMsgDelete) stream (whats.Delete to seq) now
-performs_keeps (requests.ConsumerCreate stream consumer config update) to now = λ result entries h fit. absurd h
-performs_keeps (requests.ConsumerDurableCreate stream consumer config update) to now = λ result entries h fit. absurd h
-performs_keeps (requests.ConsumerInfo stream consumer) to now = λ result entries h fit. absurd h
-performs_keeps (requests.ConsumerDelete stream consumer) to now = λ result entries h fit. absurd h
-performs_keeps (requests.ConsumerNames stream offset) to now = λ result entries h fit. absurd h
-performs_keeps (requests.ConsumerList stream offset) to now = λ result entries h fit. absurd h
-performs_keeps (requests.ConsumerMsgNext stream consumer ask) to now = λ result entries h fit. absurd h
+performs_keeps (requests.ConsumerCreate stream consumer config update) to now =
+    asking_keeps (name_of calls.ConsumerCreate) stream (whats.MakeConsumer to consumer config update) now
+performs_keeps (requests.ConsumerDurableCreate stream consumer config update) to now =
+    asking_keeps (name_of calls.ConsumerCreate) stream (whats.MakeConsumer to consumer config update) now
+performs_keeps (requests.ConsumerInfo stream consumer) to now = asking_keeps (name_of calls.ConsumerInfo) stream (whats.ConsumerInfo to consumer) now
+performs_keeps (requests.ConsumerDelete stream consumer) to now = asking_keeps (name_of calls.ConsumerDelete) stream (whats.DropConsumer to consumer) now
+performs_keeps (requests.ConsumerNames stream offset) to now = asking_keeps (name_of calls.ConsumerNames) stream (whats.ConsumerNames to offset) now
+performs_keeps (requests.ConsumerList stream offset) to now = asking_keeps (name_of calls.ConsumerList) stream (whats.ConsumerList to offset) now
+performs_keeps (requests.ConsumerMsgNext stream consumer ask) to now = pulling_keeps stream consumer ask to now
 
 carries_out_keeps : (reading : Result ApiRequest ApiError) (message : Out) (now : ℕ) → Keeps (api.CarriesOut reading message now)
 carries_out_keeps (Ok request) message now = performs_keeps request message.reply now
@@ -317,14 +350,10 @@ plain_keeps client message now =
     (λ found. then_keeps (publishing.Stores message now found) _ (stores_keeps message now found)
     (λ other. tells_keeps client message (publishing.taken_by count other))))
 
-by_subject : {X : Type 0} (b : Bool) (P Q : Result X DeskFault → List DeskEntry → Type 0) → Keeps P → Keeps Q → Keeps (λ result entries. MatchBool b (P result entries) (Q result entries))
-by_subject true P Q p q result entries h fit = p result entries h fit
-by_subject false P Q p q result entries h fit = q result entries h fit
-
 publishes_keeps : (client : Client) (message : Out) (now : ℕ) → Keeps (does.Publishes client message now)
 publishes_keeps client message now =
-    by_subject (is_api message.to) (api.PublishesToApi client message now) _ (to_api_keeps client message now)
-    (by_subject (is_acknowledgement message.to) (publishing.PublishesToNobody client message) (publishing.PublishesPlain client message now)
+    by_test (is_api message.to) (api.PublishesToApi client message now) _ (to_api_keeps client message now)
+    (by_test (is_acknowledgement message.to) (publishing.PublishesToNobody client message) (publishing.PublishesPlain client message now)
     (tells_keeps client message publishing.nobody) (plain_keeps client message now))
 
 -- ---- letting time pass
