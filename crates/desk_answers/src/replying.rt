@@ -29,7 +29,11 @@ pub fn message_to(to: &Blob, payload: Blob) -> Result<Out, NoMemory>
 }
 
 /// The refusal of this call.
-pub(crate) fn refused(alloc: Global, call: ApiCall, refusal: &ApiError) -> Result<ApiReply, NoMemory>
+pub(crate) fn refused(
+    alloc: Global,
+    call: ApiCall,
+    refusal: &ApiError,
+) -> Result<ApiReply, NoMemory>
     requires text { IsUtf8 refusal.now.text }
     ensures value { IfOk result (λ told. told ≡ replies.Refused (name_of call) refusal.now) }
     ensures texts { IfOk result IsText }
