@@ -84,7 +84,7 @@ checked_plain config refusal e =
 
 told_plain : (read : Result (Option Members) JsonFault) (refusal : ApiError) → config_told read ≡ Err refusal → Plain refusal
 told_plain (Ok None) refusal e = object_plain (codes "{}") refusal e
-told_plain (Ok (Some members)) refusal e = absurd (cc)
+told_plain (Ok (Some _)) refusal e = absurd (cc)
 told_plain (Err fault) refusal e = told _ refusal e (wrong_plain (codes "config") refl)
 
 config_plain : (fields : Members) (refusal : ApiError) → config_in fields ≡ Err refusal → Plain refusal

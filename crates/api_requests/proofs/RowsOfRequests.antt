@@ -12,6 +12,7 @@ use Rattle.js_model.specs.Refusals.{invalid_json, invalid_value, not_supported}
 use Rattle.api_requests.specs.declared.request.ApiRequest.{ApiRequest}
 use Rattle.api_requests.specs.declared.request.ApiRequest.TheVariants as requests
 use Rattle.api_requests.specs.Fields.{number_in, positive_in, text_in, pattern_in, subject_in}
+use Rattle.api_requests.specs.ConsumerCalls.{tokens_behind}
 use Rattle.api_requests.specs.Bodies.{object_in, token_name}
 use Rattle.api_requests.specs.Messages.{purge_in, message_in, sequence_in}
 use Rattle.api_requests.specs.Requests.{stream_request, request_of}
@@ -148,9 +149,9 @@ delete_nothing = refl
 -- ---- what is no call
 
 more_tokens : request_of (codes "$JS.API.STREAM.MSG.GET.S.T") (codes "{\"seq\":7}") ≡ None
-unfolding request_of
+unfolding request_of tokens_behind
 more_tokens = refl
 
 no_message_call : request_of (codes "$JS.API.STREAM.MSG.S") (codes "{\"seq\":7}") ≡ None
-unfolding request_of
+unfolding request_of tokens_behind
 no_message_call = refl

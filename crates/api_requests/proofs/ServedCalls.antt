@@ -29,7 +29,7 @@ use Rattle.api_requests.proofs.SpelledConsumers.{on_consumer_spelled}
 
 -- ---- requests
 
-is_of_consumers : ApiRequest → Bool
+abbrev is_of_consumers : ApiRequest → Bool
 is_of_consumers requests.AccountInfo = false
 is_of_consumers (requests.StreamCreate stream config) = false
 is_of_consumers (requests.StreamUpdate stream config) = false

@@ -44,8 +44,8 @@ record IfAllowed (call : ConsumerCall) (subject : Bytes) (tokens : Tokens) : Typ
 
 if_allowed : (call : ConsumerCall) (subject : Bytes) (found tokens : Tokens) (may : Bool) → is_allowed call found ≡ may → IfAllowed call subject found
     → ◌≡◌ {A = Option Tokens} (if may then Some found else None) (Some tokens) → IsCallOnConsumer call tokens subject
-if_allowed call subject found tokens true e then is = let same : found ≡ tokens = cc in subst (λ (t : Tokens). IsCallOnConsumer call t subject) same (then.made e)
-if_allowed call subject found tokens false e then is = absurd (cc)
+if_allowed call subject found tokens true e spells is = let same : found ≡ tokens = cc in subst (λ (t : Tokens). IsCallOnConsumer call t subject) same (spells.made e)
+if_allowed call subject found tokens false e spells is = absurd (cc)
 
 by_tokens : (call : ConsumerCall) (subject rest : Bytes) (tokens : Tokens) (found : Option Tokens) → subject ≡ consumer_words call ++ rest → tokens_of rest ≡ found
     → option_and_then (allowed call) found ≡ Some tokens → IsCallOnConsumer call tokens subject

@@ -1,6 +1,6 @@
 //! Which subjects are calls on a consumer.
 
-ghost use Rattle.std.specs.Prelude.{◌≡◌, option_map, IsUtf8};
+ghost use Rattle.std.specs.Prelude.{◌≡◌, ◌==◌, option_map, position, IsUtf8};
 ghost use Rattle.api_requests.specs.Words.{consumer_words};
 ghost use Rattle.api_requests.specs.ConsumerCalls.{around_dot, tokens_of, may_filter, is_allowed, tokens_behind, called, creation_call, consumer_call};
 ghost use Rattle.api_requests.specs.Names.{api_on_consumer, name_or_empty};
@@ -87,12 +87,21 @@ impl ConsumerCall {
     }
 }
 
+/// The place of the first dot.
+fn first_dot(text: &[u8]) -> Option<usize>
+    ensures value { result ≡ position (λ byte. byte == 46) text.now }
+{
+    text.iter().position(|byte| *byte == b'.')
+}
+
 /// What stands before the first dot, and behind it.
 fn around_dot(text: &[u8]) -> Option<(&[u8], &[u8])>
     ensures value { option_map (λ parts. (parts.0.now, parts.1.now)) result ≡ around_dot text.now }
 {
-    let at = text.iter().position(|byte| *byte == b'.')?;
-    Some((&text[..at], &text[at + 1..]))
+    match first_dot(text) {
+        Some(at) => Some((&text[..at], &text[at + 1..])),
+        None => None,
+    }
 }
 
 /// The tokens that the text is, if there are two at least.

@@ -152,7 +152,7 @@ impl Settings {
 
     /// Whether the filter of the subject, if there is one, is theirs.
     fn agrees_on_filter(&self, filter: Option<&[u8]>) -> bool
-        ensures value { result ≡ agrees (option_map (λ text. text.now) filter) self.now.config.filter_subject }
+        ensures value { result ≡ agrees (option_map (λ text. text.now) filter.entry) self.now.config.filter_subject }
     {
         match filter {
             Some(other) => other == self.config.filter_subject.as_slice(),
@@ -168,7 +168,7 @@ fn agreeing(
     filter: Option<&[u8]>,
     settings: &Settings,
 ) -> Result<(), ApiFault>
-    ensures reading { Reads result (agreeing stream.now (option_map (λ text. text.now) filter) settings.now) }
+    ensures reading { Reads result (agreeing stream.now (option_map (λ text. text.now) filter.entry) settings.now) }
 {
     if settings.agrees_on_stream(stream) && settings.agrees_on_filter(filter) {
         Ok(())

@@ -23,3 +23,13 @@ returns-in-Some-stream_call-clause-request c = read_is c.args.subject.now c.args
 
 pub returns-in-Some-stream_call-clause-refusal : goal.returns-in-Some-stream_call-clause-refusal
 returns-in-Some-stream_call-clause-refusal c = refused_is c.args.subject.now c.args.body.now c.map-in-Some-stream_call.result (returns-in-Some-stream_call-clause-reading c)
+
+pub returns-in-Some-consumer_call-clause-reading : goal.returns-in-Some-consumer_call-clause-reading
+unfolding request_of
+returns-in-Some-consumer_call-clause-reading c = grind (arith, common_steps)
+
+pub returns-in-Some-consumer_call-clause-request : goal.returns-in-Some-consumer_call-clause-request
+returns-in-Some-consumer_call-clause-request c = read_is c.args.subject.now c.args.body.now c.map-in-Some-consumer_call.result (returns-in-Some-consumer_call-clause-reading c)
+
+pub returns-in-Some-consumer_call-clause-refusal : goal.returns-in-Some-consumer_call-clause-refusal
+returns-in-Some-consumer_call-clause-refusal c = refused_is c.args.subject.now c.args.body.now c.map-in-Some-consumer_call.result (returns-in-Some-consumer_call-clause-reading c)
