@@ -20,7 +20,7 @@ use Rattle.js_api.specs.declared.outcome.Became.{Became}
 use Rattle.js_api.specs.declared.outcome.Became.TheVariants.{Made, Unsaid, Ticked, Nothing, Broke, Stopped, Gone}
 use Rattle.js_api.specs.declared.outcome.Outcome.{Outcome}
 use Rattle.js_api.specs.Entries.{DeskEntry}
-use Rattle.js_api.specs.Stages.{Gives, Ending}
+use Rattle.js_api.specs.Stages.{Then, Gives, Reads, Ending}
 use Rattle.js_api.specs.Holding.{Holds}
 use Rattle.js_api.specs.OneStream.{IsNamed, IsAsking}
 
@@ -81,10 +81,15 @@ pub record IsToldAt (what : What) (now : ℕ) (at : PlaceAt) (result : Result Bo
 abbrev pub IsTold : Bytes → What → ℕ → Result Bool DeskFault → List DeskEntry → Type 0
 IsTold stream what now result entries = IsNamed stream (Gives false) (IsToldAt what now) result entries
 
--- a question for messages. A text that is no name is that of no stream or consumer, and is not looked up
+-- the texts are names, or they are those of no stream or consumer, and are not looked up
+abbrev pub IsPullingBy : Bool → Bytes → Bytes → Option Ask → Option Bytes → ℕ → Result Bool DeskFault → List DeskEntry → Type 0
+IsPullingBy named stream consumer ask to now result entries =
+    MatchBool named (IsTold stream (whats.Pull to consumer ask) now result entries) (Gives false result entries)
+
+-- a question for messages. Its texts are read as names first
 abbrev pub IsPulling : Bytes → Bytes → Option Ask → Option Bytes → ℕ → Result Bool DeskFault → List DeskEntry → Type 0
 IsPulling stream consumer ask to now result entries =
-    MatchBool (is_name stream && is_name consumer) (IsTold stream (whats.Pull to consumer ask) now result entries) (Gives false result entries)
+    Then (Reads (is_name stream && is_name consumer)) (λ named. IsPullingBy named stream consumer ask to now) result entries
 
 -- An acknowledgement, as it was read. One whose body is of no form is taken and does nothing; one whose subject is wrong reaches nobody. What is read is
 -- never that memory ran out.

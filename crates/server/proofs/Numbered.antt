@@ -264,7 +264,8 @@ by_test false P Q p q result entries h fit = q result entries h fit
 
 pulling_keeps : (stream consumer : Bytes) (ask : Option Ask) (to : Option Bytes) (now : ℕ) → Keeps (consumers.IsPulling stream consumer ask to now)
 pulling_keeps stream consumer ask to now =
-    by_test (is_name stream && is_name consumer) (consumers.IsTold stream (whats.Pull to consumer ask) now) (Gives false) (told_keeps stream (whats.Pull to consumer ask) now) (gives_keeps false)
+    then_keeps (Reads (is_name stream && is_name consumer)) (λ named. consumers.IsPullingBy named stream consumer ask to now) (reads_keeps (is_name stream && is_name consumer))
+    (λ named. by_test named (consumers.IsTold stream (whats.Pull to consumer ask) now) (Gives false) (told_keeps stream (whats.Pull to consumer ask) now) (gives_keeps false))
 
 -- ---- each call
 
