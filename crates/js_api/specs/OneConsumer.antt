@@ -1,7 +1,9 @@
 -- Calls of the JetStream API on the consumers of one stream, and acknowledgements. A question for messages and an acknowledgement have no answer but what
 -- the stream itself sends; somebody took them if their stream is there, and for a question its consumer too.
-use Rattle.std.specs.Prelude.{◌≡◌, ℕ, Bool, true, false, ◌&&◌, List, [], MatchBool, Option, Result, Ok, Err}
+use Rattle.std.specs.Prelude.{◌≡◌, ℕ, Bool, true, false, List, [], MatchBool, Option, Result, Ok, Err}
 use Rattle.js_base.specs.Bytes.{Bytes}
+use Rattle.js_base.specs.Names.{name_of}
+use Rattle.js_base.specs.declared.name.NameFault.{NameFault}
 use Rattle.js_model.specs.declared.ack.Ack.{Ack}
 use Rattle.js_model.specs.declared.ack.Ask.{Ask}
 use Rattle.js_model.specs.declared.consumer_config.ConsumerConfig.{ConsumerConfig}
@@ -10,11 +12,10 @@ use Rattle.js_model.specs.declared.event.What.{What}
 use Rattle.js_model.specs.declared.event.What.TheVariants as whats
 use Rattle.js_model.specs.declared.reply.Reply.{Reply}
 use Rattle.js_model.specs.declared.reply.Reply.TheVariants.{Info, Done, Published, Duplicate, Purged, ConsumerInfo, Message, Names, Infos, Confirmed, Silent, Nobody, Refused}
-use Rattle.js_model.specs.Configs.{is_name}
 use Rattle.ack_parse.specs.declared.fault.AckFault.{AckFault}
 use Rattle.ack_parse.specs.declared.fault.AckFault.TheVariants.{NotAck, BadToken, BadBody, NoMemory}
 use Rattle.api_calls.specs.declared.call.ApiCall.TheVariants as calls
-use Rattle.api_calls.specs.Names.{name_of}
+use Rattle.api_calls.specs.Names.{name_of as call_name}
 use Rattle.js_api.specs.declared.fault.DeskFault.{DeskFault}
 use Rattle.js_api.specs.declared.outcome.Became.{Became}
 use Rattle.js_api.specs.declared.outcome.Became.TheVariants.{Made, Unsaid, Ticked, Nothing, Broke, Stopped, Gone}
@@ -29,19 +30,19 @@ use Rattle.js_api.specs.OneStream.{IsNamed, IsAsking}
 -- by either subject that asks for it
 abbrev pub IsMakingConsumer : Bytes → Bytes → ConsumerConfig → Bool → Option Bytes → ℕ → Result Bool DeskFault → List DeskEntry → Type 0
 IsMakingConsumer stream consumer config update to now result entries =
-    IsAsking (name_of calls.ConsumerCreate) stream (whats.MakeConsumer to consumer config update) now result entries
+    IsAsking (call_name calls.ConsumerCreate) stream (whats.MakeConsumer to consumer config update) now result entries
 
 abbrev pub IsShowingConsumer : Bytes → Bytes → Option Bytes → ℕ → Result Bool DeskFault → List DeskEntry → Type 0
-IsShowingConsumer stream consumer to now result entries = IsAsking (name_of calls.ConsumerInfo) stream (whats.ConsumerInfo to consumer) now result entries
+IsShowingConsumer stream consumer to now result entries = IsAsking (call_name calls.ConsumerInfo) stream (whats.ConsumerInfo to consumer) now result entries
 
 abbrev pub IsDroppingConsumer : Bytes → Bytes → Option Bytes → ℕ → Result Bool DeskFault → List DeskEntry → Type 0
-IsDroppingConsumer stream consumer to now result entries = IsAsking (name_of calls.ConsumerDelete) stream (whats.DropConsumer to consumer) now result entries
+IsDroppingConsumer stream consumer to now result entries = IsAsking (call_name calls.ConsumerDelete) stream (whats.DropConsumer to consumer) now result entries
 
 abbrev pub IsNamingConsumers : Bytes → ℕ → Option Bytes → ℕ → Result Bool DeskFault → List DeskEntry → Type 0
-IsNamingConsumers stream offset to now result entries = IsAsking (name_of calls.ConsumerNames) stream (whats.ConsumerNames to offset) now result entries
+IsNamingConsumers stream offset to now result entries = IsAsking (call_name calls.ConsumerNames) stream (whats.ConsumerNames to offset) now result entries
 
 abbrev pub IsListingConsumers : Bytes → ℕ → Option Bytes → ℕ → Result Bool DeskFault → List DeskEntry → Type 0
-IsListingConsumers stream offset to now result entries = IsAsking (name_of calls.ConsumerList) stream (whats.ConsumerList to offset) now result entries
+IsListingConsumers stream offset to now result entries = IsAsking (call_name calls.ConsumerList) stream (whats.ConsumerList to offset) now result entries
 
 -- ---- what only the stream answers
 
@@ -81,6 +82,12 @@ pub record IsToldAt (what : What) (now : ℕ) (at : PlaceAt) (result : Result Bo
 abbrev pub IsTold : Bytes → What → ℕ → Result Bool DeskFault → List DeskEntry → Type 0
 IsTold stream what now result entries = IsNamed stream (Gives false) (IsToldAt what now) result entries
 
+-- both texts were read as names
+abbrev pub are_names : Result Bytes NameFault → Result Bytes NameFault → Bool
+are_names (Ok stream) (Ok consumer) = true
+are_names (Ok stream) (Err fault) = false
+are_names (Err fault) consumer = false
+
 -- the texts are names, or they are those of no stream or consumer, and are not looked up
 abbrev pub IsPullingBy : Bool → Bytes → Bytes → Option Ask → Option Bytes → ℕ → Result Bool DeskFault → List DeskEntry → Type 0
 IsPullingBy named stream consumer ask to now result entries =
@@ -89,7 +96,7 @@ IsPullingBy named stream consumer ask to now result entries =
 -- a question for messages. Its texts are read as names first
 abbrev pub IsPulling : Bytes → Bytes → Option Ask → Option Bytes → ℕ → Result Bool DeskFault → List DeskEntry → Type 0
 IsPulling stream consumer ask to now result entries =
-    Then (Reads (is_name stream && is_name consumer)) (λ named. IsPullingBy named stream consumer ask to now) result entries
+    Then (Reads (are_names (name_of stream) (name_of consumer))) (λ named. IsPullingBy named stream consumer ask to now) result entries
 
 -- An acknowledgement, as it was read. One whose body is of no form is taken and does nothing; one whose subject is wrong reaches nobody. What is read is
 -- never that memory ran out.

@@ -1,8 +1,9 @@
 -- Laws of desk calls whose entries are fit: none answers that numbers are used up.
-use Rattle.std.proofs.Common.{◌≡◌, ◌-◌, ◌^◌, ◌<◌, ℕ, Bool, true, false, ◌&&◌, List, [], ◌∷◌, ◌++◌, Option, Some, None, Result, Ok, Err, inl, inr, refl, sym, subst, arith}
+use Rattle.std.proofs.Common.{◌≡◌, ◌-◌, ◌^◌, ◌<◌, ℕ, Bool, true, false, List, [], ◌∷◌, ◌++◌, Option, Some, None, Result, Ok, Err, inl, inr, refl, sym, subst, arith}
 use Rattle.std.proofs.lemmas.Bool.{false≢true}
 use Rattle.std.specs.Prelude.{IfSome, MatchOption, MatchBool}
 use Rattle.js_base.specs.Bytes.{Bytes}
+use Rattle.js_base.specs.Names.{name_of as read_name}
 use Rattle.js_base.specs.ServerSubjects.{is_api, is_acknowledgement}
 use Rattle.js_base.specs.declared.out.Out.{Out}
 use Rattle.js_base.specs.declared.out.ApiError.{ApiError}
@@ -13,7 +14,6 @@ use Rattle.js_model.specs.declared.event.What.{What}
 use Rattle.js_model.specs.declared.event.What.TheVariants as whats
 use Rattle.js_model.specs.declared.desk.PlaceAt.{PlaceAt}
 use Rattle.js_model.specs.declared.desk.Taken.{Taken}
-use Rattle.js_model.specs.Configs.{is_name}
 use Rattle.js_model.specs.Proper.{reply_of}
 use Rattle.js_model.specs.Catalog as catalog
 use Rattle.js_model.specs.Router as router
@@ -264,7 +264,8 @@ by_test false P Q p q result entries h fit = q result entries h fit
 
 pulling_keeps : (stream consumer : Bytes) (ask : Option Ask) (to : Option Bytes) (now : ℕ) → Keeps (consumers.IsPulling stream consumer ask to now)
 pulling_keeps stream consumer ask to now =
-    then_keeps (Reads (is_name stream && is_name consumer)) (λ named. consumers.IsPullingBy named stream consumer ask to now) (reads_keeps (is_name stream && is_name consumer))
+    then_keeps (Reads (consumers.are_names (read_name stream) (read_name consumer))) (λ named. consumers.IsPullingBy named stream consumer ask to now)
+    (reads_keeps (consumers.are_names (read_name stream) (read_name consumer)))
     (λ named. by_test named (consumers.IsTold stream (whats.Pull to consumer ask) now) (Gives false) (told_keeps stream (whats.Pull to consumer ask) now) (gives_keeps false))
 
 -- ---- each call
