@@ -2,9 +2,12 @@
 
 ghost use Rattle.std.specs.Prelude.{◌≡◌, ℕ, Err, IsUtf8, Ok, Some, true};
 ghost use Rattle.api_requests.specs.Read.{IsRead};
+ghost use Rattle.ack_parse.specs.Reading.{ack_of};
+ghost use Rattle.js_model.specs.declared.event.What.TheVariants as whats;
+ghost use Rattle.desk_answers.specs.Asking.{MayAsk};
 ghost use Rattle.js_base.specs.ServerSubjects.{is_acknowledgement, is_api};
 ghost use Rattle.js_api.specs.Answering.{Publish as PublishIt, took};
-ghost use Rattle.js_api.specs.Api.{IsAsked, PublishesToApi, TakesByApi};
+ghost use Rattle.js_api.specs.Api.{IsAsked, PublishesAck, PublishesToApi, TakesByApi};
 ghost use Rattle.js_api.specs.Calls.{Does, Publishes};
 ghost use Rattle.js_api.specs.Leading.{Makes};
 ghost use Rattle.js_api.specs.Publishing.{IsMessage};
@@ -12,12 +15,13 @@ ghost use Rattle.desk_ground.specs.Callers.{client_of};
 ghost use Rattle.desk_ground.specs.Grounds.{Outside};
 
 use crate::api::carry_out;
+use ack_parse::{AckFault, read_ack};
 use desk_answers::NOBODY;
 use desk_ground::{Caller, Ground, refuse};
-use desk_messaging::{publish_plain, tell_untaken};
+use desk_messaging::{acknowledge, publish_plain, tell_untaken};
 use js_api::{ApiFault, ApiRequest, DeskFault, call_name, read_request};
-use js_base::{ApiError, Moment, Out};
-use js_model::Taken;
+use js_base::{ApiError, Moment, Name, Out};
+use js_model::{Ack, Taken};
 use subject_match::{is_acknowledgement, is_api};
 
 /// A message that the API took.
@@ -115,9 +119,9 @@ fn hand_on<G: Ground>(
     now: Moment,
 ) -> Result<Taken, DeskFault>
     requires outside { G.phase ground.old ≡ Outside }
-    requires message { IsMessage message.now }
-    requires ack { IsProperAck ack.now }
-    ensures made { Makes G.made (IsHandedOn (client_of caller) message.now now ack.now result) ground.old ground.new }
+    requires read { ack_of message.now.to message.now.payload ≡ Ok ack.now }
+    requires asked { MayAsk (whats.Ack message.now.reply ack.now) }
+    ensures made { Makes G.made (PublishesAck (client_of caller) message.now now result) ground.old ground.new }
     ensures setting { G.setting ground.new ≡ G.setting ground.old }
     ensures phase { G.phase ground.new ≡ Outside }
 {

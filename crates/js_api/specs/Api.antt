@@ -10,7 +10,7 @@ use Rattle.api_calls.specs.Names.{name_of}
 use Rattle.api_requests.specs.declared.request.ApiRequest.{ApiRequest}
 use Rattle.api_requests.specs.declared.request.ApiRequest.TheVariants as requests
 use Rattle.api_requests.specs.Names.{call_name}
-use Rattle.api_requests.specs.Served.{served_of}
+use Rattle.api_requests.specs.Requests.{request_of}
 use Rattle.js_api.specs.declared.fault.DeskFault.{DeskFault}
 use Rattle.js_api.specs.Clients.{Client}
 use Rattle.js_api.specs.Entries.{DeskEntry}
@@ -50,18 +50,18 @@ abbrev pub TakesByApi : Client → Out → Bool → Result Taken DeskFault → L
 TakesByApi client message taken result entries =
     MatchBool taken (Gives (taken_by 0 true) result entries) (PublishesToNobody client message result entries)
 
--- a subject of the API that is no call, or none that is served, reaches nobody
+-- a subject of the API that is no call reaches nobody
 abbrev pub IsAsked : Client → Out → ℕ → Option (Result ApiRequest ApiError) → Result Taken DeskFault → List DeskEntry → Type 0
 IsAsked client message now None result entries = PublishesToNobody client message result entries
 IsAsked client message now (Some reading) result entries = Then (CarriesOut reading message now) (TakesByApi client message) result entries
 
 -- the call is read, and then carried out
 abbrev pub PublishesToApi : Client → Out → ℕ → Result Taken DeskFault → List DeskEntry → Type 0
-PublishesToApi client message now result entries = Then (Reads (served_of message.to message.payload)) (IsAsked client message now) result entries
+PublishesToApi client message now result entries = Then (Reads (request_of message.to message.payload)) (IsAsked client message now) result entries
 
 -- ---- acknowledgements
 
--- The acknowledgement is read, and its stream told. No call of the desk does it yet: as no consumer is served, such a publish reaches nobody.
+-- the acknowledgement is read, and its stream told
 abbrev pub PublishesAck : Client → Out → ℕ → Result Taken DeskFault → List DeskEntry → Type 0
 PublishesAck client message now result entries =
     Then (Reads (ack_of message.to message.payload))

@@ -19,7 +19,7 @@ use Rattle.js_model.specs.Catalog as catalog
 use Rattle.js_model.specs.Router as router
 use Rattle.api_calls.specs.declared.call.ApiCall.TheVariants as calls
 use Rattle.api_calls.specs.Names.{name_of}
-use Rattle.api_requests.specs.Served.{served_of}
+use Rattle.api_requests.specs.Requests.{request_of}
 use Rattle.api_requests.specs.declared.request.ApiRequest.{ApiRequest}
 use Rattle.api_requests.specs.declared.request.ApiRequest.TheVariants as requests
 use Rattle.js_api.specs.declared.fault.DeskFault.{DeskFault}
@@ -317,7 +317,7 @@ asked_keeps client message now (Some reading) =
 
 to_api_keeps : (client : Client) (message : Out) (now : ℕ) → Keeps (api.PublishesToApi client message now)
 to_api_keeps client message now =
-    then_keeps (Reads (served_of message.to message.payload)) (api.IsAsked client message now) (reads_keeps (served_of message.to message.payload)) (asked_keeps client message now)
+    then_keeps (Reads (request_of message.to message.payload)) (api.IsAsked client message now) (reads_keeps (request_of message.to message.payload)) (asked_keeps client message now)
 
 offers_keeps : (client : Client) (message : Out) → Keeps (publishing.Offers client message)
 offers_keeps client message (Ok count) entries h fit = tt
