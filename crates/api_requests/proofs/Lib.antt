@@ -7,6 +7,7 @@ pub mod ReadMessages
 pub mod Parts
 pub mod ReadAsks
 pub mod ReadConsumers
+pub mod Disagreeing
 pub mod Requested
 pub mod Plain
 pub mod PlainFields
