@@ -13,7 +13,7 @@ ghost use Rattle.place_engine.specs.Shown.{IsShown};
 ghost use Rattle.desk_answers.specs.InfoCalls.{answer_by, call_of, done_call_of, success_of};
 
 use crate::consumer_answers::{
-    ConsumerCall, ack_text, consumer_informed, consumers_listed, consumers_named,
+    ConsumerCall, consumer_informed, consumers_listed, consumers_named,
 };
 use crate::copying::copy_info;
 use crate::replying::{message_to, refused};

@@ -3,14 +3,14 @@
 ghost use Rattle.std.specs.Prelude.{◌≡◌, IfOk, IfSome};
 ghost use Rattle.api_calls.specs.Names.{name_of};
 ghost use Rattle.api_replies.specs.Printed.{ConsumerIsText, IsText};
-ghost use Rattle.js_api.specs.Outputs.{ack_text, consumer_informed, consumers_listed, consumers_named};
+ghost use Rattle.js_api.specs.Outputs.{consumer_informed, consumers_listed, consumers_named};
 ghost use Rattle.place_engine.specs.Shown.{IsShown};
 ghost use Rattle.desk_answers.specs.InfoCalls.{consumer_answer_by, consumer_call_of};
 
 use crate::copying::{copy_consumer_info, copy_consumer_infos};
 use crate::replying::refused;
 use js_api::{ApiCall, ApiReply};
-use js_base::{Blob, NoMemory};
+use js_base::NoMemory;
 use js_model::{ConsumerInfo, Reply, copy_texts};
 use std::alloc::Global;
 
@@ -131,26 +131,5 @@ pub(crate) fn consumers_listed(
         | Reply::Confirmed
         | Reply::Silent
         | Reply::Nobody => Ok(None),
-    }
-}
-
-/// The text of the answer to an acknowledgement: the empty one if it was taken.
-pub(crate) fn ack_text(reply: &Reply) -> Option<Blob>
-    ensures value { result ≡ ack_text reply.now }
-{
-    match reply {
-        Reply::Confirmed => Some(Blob::empty()),
-        Reply::Info(_)
-        | Reply::Done
-        | Reply::Published(_)
-        | Reply::Duplicate(_)
-        | Reply::Purged(_)
-        | Reply::ConsumerInfo(_)
-        | Reply::Message(_)
-        | Reply::Names { .. }
-        | Reply::Infos { .. }
-        | Reply::Silent
-        | Reply::Nobody
-        | Reply::Refused(_) => None,
     }
 }
