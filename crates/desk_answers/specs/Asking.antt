@@ -4,12 +4,11 @@ use Rattle.js_base.specs.Subjects.{is_subject_text}
 use Rattle.js_model.specs.declared.event.What.{What}
 use Rattle.js_model.specs.declared.event.What.TheVariants as whats
 use Rattle.js_model.specs.Proper.{if_given, reply_of, is_proper_what}
-use Rattle.js_model.specs.Served.{IsServed}
 
--- What a desk asks of its places so far: of a stream as it is served. The name of a header with a bad number is UTF-8, since it is told
+-- The name of a header with a bad number is UTF-8, since it is told.
 abbrev pub IsBuilt : What → Type 0
-IsBuilt (whats.Make reply config) = IsServed config
-IsBuilt (whats.Change reply config) = IsServed config
+IsBuilt (whats.Make reply config) = Unit {0}
+IsBuilt (whats.Change reply config) = Unit {0}
 IsBuilt (whats.Drop reply) = Unit {0}
 IsBuilt (whats.Publish publish) = IfSome publish.wants.bad IsUtf8
 IsBuilt (whats.Purge reply filter below keep) = Unit {0}

@@ -12,9 +12,7 @@ ghost use Rattle.js_model.specs.Proper.{reply_of};
 ghost use Rattle.place_engine.specs.Shown.{IsShown};
 ghost use Rattle.desk_answers.specs.InfoCalls.{answer_by, call_of, done_call_of, success_of};
 
-use crate::consumer_answers::{
-    ConsumerCall, consumer_informed, consumers_listed, consumers_named,
-};
+use crate::consumer_answers::{ConsumerCall, consumer_informed, consumers_listed, consumers_named};
 use crate::copying::copy_info;
 use crate::replying::{message_to, refused};
 use js_api::{ApiCall, ApiReply, publish_text, reply_text};

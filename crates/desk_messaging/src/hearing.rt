@@ -23,7 +23,10 @@ use std::alloc::Global;
 /// What a stream is told.
 #[derive(Clone, Copy)]
 enum Telling<'a> {
-    Pull { consumer: &'a Name, ask: Option<Ask> },
+    Pull {
+        consumer: &'a Name,
+        ask: Option<Ask>,
+    },
     Ack(&'a Ack),
 }
 

@@ -12,10 +12,10 @@ use Rattle.api_requests.specs.Read.{IsSetup, IsCreation}
 use Rattle.desk_answers.specs.Asking.{MayAsk}
 
 pub may_make : (stream : Bytes) (config : StreamConfig) (to : Option Bytes) → IsSetup stream config → IsTrue (if_given is_subject_text to) → MayAsk (whats.Make to config)
-may_make stream config to s h = record { reply = h; proper = s.valid; built = s.served }
+may_make stream config to s h = record { reply = h; proper = s.valid; built = tt }
 
 pub may_change : (stream : Bytes) (config : StreamConfig) (to : Option Bytes) → IsSetup stream config → IsTrue (if_given is_subject_text to) → MayAsk (whats.Change to config)
-may_change stream config to s h = record { reply = h; proper = s.valid; built = s.served }
+may_change stream config to s h = record { reply = h; proper = s.valid; built = tt }
 
 -- ---- consumers
 
