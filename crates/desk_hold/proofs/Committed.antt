@@ -13,7 +13,7 @@ use Rattle.js_model.specs.Lasting.{lasting}
 use Rattle.model_laws.specs.Changed.{changes}
 use Rattle.model_laws.proofs.Changed.{changes_test}
 use Rattle.effects.specs.declared.effect.Effect.{Effect}
-use Rattle.place_engine.specs.Stepping.{Image, IsKept, MayPutOff, Seen, Steps}
+use Rattle.place_engine.specs.Stepping.{Image, IsKept, MayKeepBase, MayPutOff, Seen, Steps}
 use Rattle.place_engine.specs.declared.faults.PlaceFault.{PlaceFault}
 use Rattle.place_engine.specs.declared.faults.PlaceFault.TheVariants.{NoMemory, StoreFault, Stopped, Gone, Worn}
 use Rattle.place_engine.specs.declared.faults.Left.TheVariants.{Nothing, Ticked, Unsaid}
@@ -64,22 +64,24 @@ firm_or_not old (ConsumerList asked offset) reply new = change_or_not old reply 
 
 -- one that was told outlasts a crash, if it is confirmed
 pub outlasts_step : (holds : Image → State → Type 0) (old new : Seen) → IsKept holds old → IsKept holds new → (what : What) (reply : Reply) → MayCommit holds old new
-    → (IsFirmStep old.place.state what reply new.place.state → new.base ≡ lasting new.place.state) → new.place.stopped ≡ None → (e : PlaceEntry) → IsEntry old.place.state e new.place.state
+    → (IsFirmStep old.place.state what reply new.place.state → (b : State) → new.is_base b → b ≡ lasting new.place.state) → (e : PlaceEntry) → IsEntry old.place.state e new.place.state
     → (IsFirm old.place.state e new.place.state → IsFirmStep old.place.state what reply new.place.state) → Outlasts holds (λ t. t < new.place.volume.moment) (e ∷ []) old new
-outlasts_step holds old new kept keeps what reply commits firm goes e made leads =
-    outlasts_firm holds old new kept keeps commits (e ∷ []) (by (firm_or_not old.place.state what reply new.place.state)) goes
+outlasts_step holds old new kept keeps what reply commits firm e made leads =
+    outlasts_firm holds old new kept keeps commits (e ∷ []) (one_entry (Unit {0}) e old.place.state new.place.state made (λ f. tt))
+    (by (firm_or_not old.place.state what reply new.place.state))
   where
     by : IsFirmStep old.place.state what reply new.place.state ⊎ (IsFirmStep old.place.state what reply new.place.state → ⊥)
-        → IsLeftOf ⊥ old.base old.place.state (e ∷ []) new.place.state new.base
-    by (inl is) = all_left old.base old.place.state (e ∷ []) new.place.state ⊥ new.base (one_entry (Unit {0}) e old.place.state new.place.state made (λ f. tt)) (firm is)
-    by (inr not) = either_left holds old new kept keeps commits (e ∷ []) ⊥ new.base (one_entry ⊥ e old.place.state new.place.state made (λ f. not (leads f))) commits.base
+        → (b : State) → new.is_base b → IsLeftOf ⊥ old.is_base old.place.state (e ∷ []) new.place.state b
+    by (inl is) b held = all_left old.is_base old.place.state (e ∷ []) new.place.state ⊥ b (one_entry (Unit {0}) e old.place.state new.place.state made (λ f. tt)) (firm is b held)
+    by (inr not) b held =
+        either_left holds old new kept keeps commits (e ∷ []) ⊥ b (one_entry ⊥ e old.place.state new.place.state made (λ f. not (leads f))) (commits.base b held)
 
 -- ---- what a place promises
 
--- whatever is committed, the base is as it was, or what outlives a crash of what stands
-pub base_of : {made : List Effect} {old new : Seen} → MayPutOff made old new → (new.base ≡ old.base) ⊎ (new.base ≡ lasting new.place.state)
-base_of (inl all) = inr all.base
-base_of (inr none) = inl none.base
+-- whatever is committed, a base is one from before, or what outlives a crash of what stands
+pub base_of : {made : List Effect} {old new : Seen} → MayPutOff made old new → MayKeepBase old new
+base_of (inl all) b is = inr (all.base b is)
+base_of (inr none) b is = inl (none.base b is)
 
 module _ (holds : Image → State → Type 0) (event : Event) (now : ℕ) (old new : Seen) (before after : List Out) where
   pub commits_told : (reply : Reply) (unsaid : Bool) → Steps holds (Ok reply) event now old new before after → CommitsStep holds (Ok (record { reply = reply; unsaid = unsaid })) event old new
@@ -88,11 +90,11 @@ module _ (holds : Image → State → Type 0) (event : Event) (now : ℕ) (old n
   pub commits_failed : (fault : PlaceFault) → Steps holds (Err fault) event now old new before after → CommitsStep holds (Err fault) event old new
   commits_failed fault h = record { commits = record { time = h.time; base = by fault h }; firm = tt }
     where
-      by : (f : PlaceFault) → Steps holds (Err f) event now old new before after → (new.base ≡ old.base) ⊎ (new.base ≡ lasting new.place.state)
-      by (NoMemory Nothing) h = inl h.ends.rests.base
+      by : (f : PlaceFault) → Steps holds (Err f) event now old new before after → MayKeepBase old new
+      by (NoMemory Nothing) h = λ b is. inl (h.ends.rests.base b is)
       by (NoMemory Ticked) h = base_of h.ends.may
-      by (NoMemory (Unsaid refused)) h = inl h.ends.hides.put_off.base
-      by StoreFault h = inl h.ends.base
-      by (Stopped count) h = inl h.ends.rests.base
-      by (Gone kept) h = inl h.ends.rests.base
-      by (Worn refused) h = inl h.ends.withholds.hides.put_off.base
+      by (NoMemory (Unsaid refused)) h = λ b is. inl (h.ends.hides.put_off.base b is)
+      by StoreFault h = h.ends.base
+      by (Stopped count) h = λ b is. inl (h.ends.rests.base b is)
+      by (Gone kept) h = λ b is. inl (h.ends.rests.base b is)
+      by (Worn refused) h = λ b is. inl (h.ends.withholds.hides.put_off.base b is)

@@ -242,7 +242,7 @@ module _ {R : Type 0} (routes : R → RouteCall → RouteTold → R → Type 0) 
   -- a step that was made and told is on the volume, if it is confirmed
   outlasts_told : (made : MadeStep) (old new : Seen) (outs : List Out) → IsKept holds old → IsKept holds new → CommitsStep holds (Ok made) (event_at at what) old new
       → (h : EndsStep (Ok made) (event_at at what) now old.place new.place [] outs) → Outlasts holds (λ t. t < new.place.volume.moment) (step seat at what now made.reply h.outs made.unsaid) old new
-  outlasts_told made old new outs kept keeps c h = outlasts_step holds old new kept keeps what made.reply c.commits c.firm h.goes
+  outlasts_told made old new outs kept keeps c h = outlasts_step holds old new kept keeps what made.reply c.commits c.firm
       (Step seat (event_at at what) now made.reply h.outs made.unsaid) (made_step old new made.reply h.outs made.unsaid h.made) (λ firm. firm.1)
 
   -- who listens was read, consumers were served, and all was sent

@@ -19,7 +19,7 @@ use Rattle.js_model.specs.Proper.{is_proper}
 use Rattle.js_model.specs.Ready.{some_ready}
 use Rattle.js_api.specs.Worlds.{IsLater}
 use Rattle.place_engine.specs.Delivering.{Delivers, Makes, tick_at}
-use Rattle.place_engine.specs.Stepping.{Elapses, Image, IsKept, Seen, Steps}
+use Rattle.place_engine.specs.Stepping.{Elapses, Image, IsKept, MayKeepBase, Seen, Steps}
 use Rattle.place_engine.specs.declared.faults.PlaceFault.{PlaceFault}
 use Rattle.place_engine.specs.declared.faults.PlaceFault.TheVariants.{NoMemory, StoreFault, Stopped, Gone, Worn}
 use Rattle.place_engine.specs.declared.faults.Left.TheVariants.{Nothing, Ticked, Unsaid}
@@ -55,16 +55,16 @@ module _ (holds : Image → State → Type 0) (now : ℕ) (listening : List Byte
   commits_of : (told : Result (Option Delivery) PlaceFault) → Delivers holds told now listening old new before after → MayCommit holds old new
   commits_of told h = record { time = h.time; base = by told h }
     where
-      by : (t : Result (Option Delivery) PlaceFault) → Delivers holds t now listening old new before after → (new.base ≡ old.base) ⊎ (new.base ≡ lasting new.place.state)
+      by : (t : Result (Option Delivery) PlaceFault) → Delivers holds t now listening old new before after → MayKeepBase old new
       by (Ok (Some d)) h = base_of h.ends.may
-      by (Ok None) h = inl h.ends.rests.base
-      by (Err (NoMemory Nothing)) h = inl h.ends.rests.base
+      by (Ok None) h = λ b is. inl (h.ends.rests.base b is)
+      by (Err (NoMemory Nothing)) h = λ b is. inl (h.ends.rests.base b is)
       by (Err (NoMemory Ticked)) h = base_of h.ends.may
-      by (Err (NoMemory (Unsaid refused))) h = inl h.ends.put_off.base
-      by (Err StoreFault) h = inl h.ends.base
-      by (Err (Stopped count)) h = inl h.ends.rests.base
+      by (Err (NoMemory (Unsaid refused))) h = λ b is. inl (h.ends.put_off.base b is)
+      by (Err StoreFault) h = h.ends.base
+      by (Err (Stopped count)) h = λ b is. inl (h.ends.rests.base b is)
       by (Err (Gone other)) h = absurd h.ends
-      by (Err (Worn refused)) h = inl h.ends.hides.put_off.base
+      by (Err (Worn refused)) h = λ b is. inl (h.ends.hides.put_off.base b is)
 
   outlasts_of : MayCommit holds old new → (entries : List PlaceEntry) (sent : List Out) → Led old.place entries sent new.place → Outlasts holds Never entries old new
   outlasts_of commits entries sent led = outlasts_call holds old new kept keeps commits entries (none_firm entries old.place sent new.place led)

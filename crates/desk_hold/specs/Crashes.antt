@@ -7,7 +7,7 @@ use Rattle.js_model.specs.Firm.{IsFirm, IsFirmStep}
 use Rattle.js_model.specs.Lasting.{lasting}
 use Rattle.js_model.specs.Runs.{RunFrom}
 use Rattle.js_api.specs.Entries.{entries_in, DeskEntry, Routed, Looked, Turned, Resumed, Held, Stirred, Halted, Missed, Spent}
-use Rattle.place_engine.specs.Stepping.{Elapses, Image, Seen}
+use Rattle.place_engine.specs.Stepping.{Elapses, Image, MayKeepBase, Seen}
 use Rattle.place_engine.specs.declared.faults.PlaceFault.{PlaceFault}
 use Rattle.desk_hold.specs.declared.stepping.MadeStep.{MadeStep}
 
@@ -22,16 +22,16 @@ abbrev pub Chain : Type 0 → State → List PlaceEntry → State → Type 0
 Chain may old [] new = old ≡ new
 Chain may old (e ∷ more) new = (mid : State) × IsEntry old e mid × (IsFirm old e mid → may) × Chain may mid more new
 
--- What is left of them is what outlives a crash of the state behind the first ones; or, if there are no first ones, what the volume held before. Of the
--- others, which are lost, one is confirmed only if it may be.
-pub record IsLeftOf (may : Type 0) (base old : State) (entries : List PlaceEntry) (new left : State) : Type 0 where
+-- What is left of them is what outlives a crash of the state behind the first ones; or, if there are no first ones, what the volume may have held before.
+-- Of the others, which are lost, one is confirmed only if it may be.
+pub record IsLeftOf (may : Type 0) (is_base : State → Type 0) (old : State) (entries : List PlaceEntry) (new left : State) : Type 0 where
   pub first : List PlaceEntry
   pub more : List PlaceEntry
   pub entries_are : entries ≡ first ++ more
   pub mid : State
   pub stays : Chain (Unit {0}) old first mid
   pub lost : Chain may mid more new
-  pub left_is : (left ≡ lasting mid) ⊎ ((first ≡ []) × (left ≡ base))
+  pub left_is : (left ≡ lasting mid) ⊎ ((first ≡ []) × is_base left)
 
 -- ---- at any moment
 
@@ -40,12 +40,13 @@ abbrev pub Never : ℕ → Type 0
 Never t = ⊥
 
 -- The entries led a place from old to new. Each image of a crash at some moment from t on was left before them if t was before them, or holds what is
--- left of them; and a confirmed one is lost only if t is early. The volume then holds what is left of them, with all that are confirmed.
+-- left of them; and a confirmed one is lost only if t is early. Whatever the volume may hold then is left of them, with all that are confirmed.
 pub record Outlasts (holds : Image → State → Type 0) (IsEarly : ℕ → Type 0) (entries : List PlaceEntry) (old new : Seen) : Type 0 where
+  pub led : Chain (Unit {0}) old.place.state entries new.place.state
   pub crash : (t : ℕ) (image : Image) → new.left_since t image
       → ((t < old.place.volume.moment) × old.left_since t image)
-      ⊎ ((left : State) × holds image left × IsLeftOf (IsEarly t) old.base old.place.state entries new.place.state left)
-  pub base : IsLeftOf ⊥ old.base old.place.state entries new.place.state new.base
+      ⊎ ((left : State) × holds image left × IsLeftOf (IsEarly t) old.is_base old.place.state entries new.place.state left)
+  pub base : (b : State) → new.is_base b → IsLeftOf ⊥ old.is_base old.place.state entries new.place.state b
 
 -- ---- a hold
 
@@ -77,14 +78,14 @@ IsEarlyIn (Spent number ∷ more) t = IsEarlyIn more t
 
 -- ---- one call of the place
 
--- what a crash may leave within it; and the volume then holds what it held before, or what outlives a crash of what stands then
+-- what a crash may leave within it; and the volume then holds what it may have held before, or what outlives a crash of what stands then
 pub record MayCommit (holds : Image → State → Type 0) (old new : Seen) : Type 0 where
   pub time : Elapses holds old new
-  pub base : (new.base ≡ old.base) ⊎ (new.base ≡ lasting new.place.state)
+  pub base : MayKeepBase old new
 
 -- a confirmed step is on the volume
 abbrev pub IsCommitted : Result MadeStep PlaceFault → Event → Seen → Seen → Type 0
-IsCommitted (Ok step) event old new = IsFirmStep old.place.state event.what step.reply new.place.state → new.base ≡ lasting new.place.state
+IsCommitted (Ok step) event old new = IsFirmStep old.place.state event.what step.reply new.place.state → (b : State) → new.is_base b → b ≡ lasting new.place.state
 IsCommitted (Err fault) event old new = Unit {0}
 
 pub record CommitsStep (holds : Image → State → Type 0) (result : Result MadeStep PlaceFault) (event : Event) (old new : Seen) : Type 0 where

@@ -1,7 +1,7 @@
 -- What an acknowledgement and a pull leave of a consumer.
 use Rattle.std.proofs.Common.{◌≡◌, ℕ, ◌==◌, Bool, true, false, ◌&&◌, ◌||◌, cond, not, List, [], ◌∷◌, ◌++◌, Option, Some, None, map, refl, sym, ap, subst, ◌∙◌}
-use Rattle.std.specs.Prelude.{All, filter, nat_le}
-use Rattle.std.proofs.lemmas.List.Elements.{All-nil, All-cons, All-filter, All-head, All-map, All-tail, All-weaker, filter_agree}
+use Rattle.std.specs.Prelude.{All, nat_le}
+use Rattle.std.proofs.lemmas.List.Elements.{All-filter, All-map, All-weaker, filter_agree}
 use Rattle.js_base.specs.Bytes.{Bytes, has}
 use Rattle.js_base.specs.declared.out.Out.{Out}
 use Rattle.js_model.specs.declared.ack.Ask.{Ask}
@@ -10,14 +10,12 @@ use Rattle.js_model.specs.declared.ack.AckKind.TheVariants.{Ack as Acknowledge, 
 use Rattle.js_model.specs.declared.stream.Message.{Message}
 use Rattle.js_model.specs.declared.stream.Stream.{Stream}
 use Rattle.js_model.specs.declared.consumer.Pending.{Pending}
-use Rattle.js_model.specs.declared.consumer.Pull.{Pull}
 use Rattle.js_model.specs.declared.consumer.Consumer.{Consumer}
 use Rattle.js_model.specs.Acknowledge.{acknowledged, ends, is_no_delivery, moved, with_due, without}
 use Rattle.js_model.specs.Events.{after_ack, next_ask, next_outs}
-use Rattle.js_model.specs.Pulls.{pull_refusal, pulled, pulled_unless, with_pull}
+use Rattle.js_model.specs.Pulls.{pull_refusal, pulled, pulled_unless}
 use Rattle.js_model.specs.Retention.{needs}
-use Rattle.js_model.specs.Streams.{pending_seqs, seqs, takes}
-use Rattle.consumer_need.specs.Stored.{HoldsStored}
+use Rattle.js_model.specs.Streams.{seqs, takes}
 use Rattle.consumer_state.specs.Ending.{ack_ends, before_ending, begun, kind_ends, outs_to, reply_to, LawAcknowledged, LawBeforeEnding}
 use Rattle.consumer_state.proofs.Endings.{without_none}
 use Rattle.followed_stream.specs.Asked.{acked, acked_outs, IsAcked}

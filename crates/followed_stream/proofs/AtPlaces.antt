@@ -1,6 +1,6 @@
 -- What a stream and its consumers come to if the one at a place is asked.
-use Rattle.std.proofs.Common.{◌≡◌, ℕ, ◌+◌, ◌-◌, ◌^◌, ◌<◌, Bool, true, false, cond, List, [], ◌∷◌, ◌++◌, Option, Some, None, Result, Ok, Err, get_or, set, length, map, refl, sym, ap, subst, ◌∙◌}
-use Rattle.std.specs.Prelude.{All, Contains, IfOk, OnErr, OnOk, filter, nat_lt, not, option_map, slice_get}
+use Rattle.std.proofs.Common.{◌≡◌, ℕ, ◌-◌, ◌^◌, ◌<◌, Bool, false, cond, List, [], ◌∷◌, ◌++◌, Option, Some, None, Result, Ok, Err, get_or, set, length, map, refl, sym, ap, subst, ◌∙◌}
+use Rattle.std.specs.Prelude.{Contains, IfOk, OnErr, OnOk, filter, nat_lt, not, option_map, slice_get}
 use Rattle.std.specs.List.{remove}
 use Rattle.std.proofs.lemmas.Option.{slice_get-map}
 use Rattle.std.proofs.lemmas.List.Elements.{All-get_or, All-weaker}
@@ -185,13 +185,22 @@ module _ (s : Stream) (fs : List Following) (h : AreFollowed s fs) (i : ℕ) (ol
 
   -- ---- a delivery
 
+  -- it holds stored messages alone, and is counted
+  pub held_there : HoldsStored s old.consumer
+  held_there =
+      let k = subst (λ (f : Following). HoldsStored whole f.consumer) (sym at) (all_there (HoldsStored whole) fs i old within h.attended.held) in
+      record { picks = k.picks; pending = k.pending; given_up = k.given_up }
+
+  pub counted_there : IsCounted s.messages old
+  counted_there = subst (IsCounted s.messages) (sym at) (All-get_or (IsCounted s.messages) fs i old within h.counted)
+
   -- it stands at the stream's moment
   pub current_there : AreCurrent whole → IsCurrent s old.consumer old.undelivered
   current_there current = record {
     order = record { ascends = h.attended.sound.ascends; bound = h.attended.sound.last };
-    stored = let k = subst (λ (f : Following). HoldsStored whole f.consumer) (sym at) (all_there (HoldsStored whole) fs i old within h.attended.held) in record { picks = k.picks; pending = k.pending; given_up = k.given_up };
+    stored = held_there;
     unspent = subst (λ (f : Following). IsCurrentAt s.moment f.consumer) (sym at) (all_there (IsCurrentAt s.moment) fs i old within current.unspent);
-    count = subst (IsCounted s.messages) (sym at) (All-get_or (IsCounted s.messages) fs i old within h.counted);
+    count = counted_there;
   }
 
   pub ready_there : (listened ready : Bool) → IsReady s listened old.consumer ready → IsReadyAt whole i listened ready

@@ -1,7 +1,6 @@
 -- Deliveries that an acknowledgement ends, one by one.
-use Rattle.std.proofs.Common.{◌≡◌, ℕ, ◌==◌, Bool, true, false, ◌&&◌, ◌||◌, not, List, map, refl, sym, ap, ◌∙◌}
-use Rattle.std.specs.Prelude.{filter, nat_le}
-use Rattle.std.proofs.lemmas.List.Elements.{filter_agree}
+use Rattle.std.proofs.Common.{◌≡◌, ℕ, ◌==◌, true, false, not, List, map, refl, sym, ap, ◌∙◌}
+use Rattle.std.specs.Prelude.{filter}
 use Rattle.js_base.specs.Bytes.{has}
 use Rattle.js_model.specs.declared.ack.AckKind.{AckKind}
 use Rattle.js_model.specs.declared.stream.Message.{Message}
@@ -9,7 +8,7 @@ use Rattle.js_model.specs.declared.consumer.Pending.{Pending}
 use Rattle.js_model.specs.declared.consumer.Consumer.{Consumer}
 use Rattle.js_model.specs.Acknowledge.{without}
 use Rattle.js_model.specs.Retention.{needs}
-use Rattle.js_model.specs.Streams.{pending_seqs, takes}
+use Rattle.js_model.specs.Streams.{pending_seqs}
 use Rattle.consumer_state.specs.Ending.{ack_ends, EndsNone, EndsOne, LawEndsOne}
 use Rattle.stored_stream.proofs.Lists.{eq_flip, filter-map}
 use Rattle.followed_stream.specs.Spans.{joined, spans}

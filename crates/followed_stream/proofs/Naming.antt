@@ -4,8 +4,7 @@ use Rattle.std.specs.Prelude.{nat_lt}
 use Rattle.std.specs.List.{position, position_or_len}
 use Rattle.std.proofs.lemmas.Bool.{ltb-true, ltb-false}
 use Rattle.std.proofs.lemmas.List.{length-map}
-use Rattle.js_base.specs.Bytes.{Bytes, same}
-use Rattle.js_model.specs.declared.consumer.Consumer.{Consumer}
+use Rattle.js_base.specs.Bytes.{Bytes}
 use Rattle.js_model.specs.Streams.{by_name}
 use Rattle.js_model.proofs.Named.{none_some, some_is}
 use Rattle.followed_stream.specs.Followers.{is_named, Following}

@@ -1,5 +1,5 @@
 -- Fields that are read exactly where they are spelled.
-use Rattle.std.proofs.Common.{◌≡◌, ℕ, zero, suc, ◌+◌, ◌≤◌, ◌<◌, ◌^◌, Bool, true, false, List, [], ◌∷◌, ◌++◌, length, take, drop, get_or, Option, Some, None, Ok, Err, IsTrue, nat_le, nat_lt, refl, sym, ap, subst, ◌∙◌, if◌then◌else◌, arith, inl, inr, length-take, length-drop}
+use Rattle.std.proofs.Common.{◌≡◌, ℕ, ◌+◌, ◌≤◌, ◌<◌, ◌^◌, Bool, true, false, List, [], ◌∷◌, length, take, drop, get_or, Some, None, Ok, nat_le, nat_lt, refl, sym, ap, subst, ◌∙◌, if◌then◌else◌, arith, inl, inr, length-take, length-drop}
 use Rattle.std.specs.Prelude.{◌⊎◌}
 use Rattle.std.specs.Int.{Width, w8, w16, w32, w64, byte_len, from_be_bytes, to_be_bytes}
 use Rattle.std.proofs.lemmas.Bool.{cases_lt}
@@ -7,8 +7,7 @@ use Rattle.std.proofs.lemmas.Bool.Decides.{nat_tests}
 use Rattle.std.proofs.lemmas.List.{get_or_past, get_or-take, get_or-drop}
 use Rattle.std.proofs.lemmas.Nat.{be_bytes_2, be_bytes_4, be_bytes_8, from_be_bytes-to_be_bytes_2, from_be_bytes-to_be_bytes_4, from_be_bytes-to_be_bytes_8}
 use Rattle.js_base.specs.Bytes.{Bytes}
-use Rattle.js_base.specs.Numbers.{number_at}
-use Rattle.op_records.specs.Steps.{Reading, Reader}
+use Rattle.op_records.specs.Steps.{Reader}
 use Rattle.op_records.specs.Fields.{number_told, word}
 use Rattle.op_records.proofs.Spans.{Spans, span_of, span_is}
 use Rattle.op_records.proofs.Steps.{value_is, place_is}

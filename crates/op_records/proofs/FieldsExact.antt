@@ -1,6 +1,6 @@
 -- The fields of records are read exactly where they are spelled.
-use Rattle.std.proofs.Common.{◌≡◌, ℕ, zero, suc, ◌+◌, ◌≤◌, ◌<◌, ◌^◌, Bool, true, false, ◌&&◌, List, [], ◌∷◌, ◌++◌, length, take, drop, Option, Some, None, is_none, nat_lt, Result, Ok, Err, IsTrue, nat_le, refl, sym, ap, subst, ◌∙◌, if◌then◌else◌, arith, length-append, length-take, length-drop}
-use Rattle.std.specs.Int.{Width, w8, w16, w32, w64, byte_len, to_be_bytes}
+use Rattle.std.proofs.Common.{◌≡◌, ℕ, zero, suc, ◌+◌, ◌≤◌, ◌<◌, ◌^◌, Bool, true, false, ◌&&◌, List, [], ◌∷◌, ◌++◌, length, take, drop, Option, Some, None, is_none, nat_lt, Result, Ok, Err, IsTrue, nat_le, refl, sym, ap, subst, ◌∙◌, if◌then◌else◌, arith, length-take, length-drop}
+use Rattle.std.specs.Int.{Width, w8, w16, w32, w64, to_be_bytes}
 use Rattle.std.specs.List.{flat_map, list_all}
 use Rattle.std.proofs.lemmas.Bool.{and_parts, and_from}
 use Rattle.std.proofs.lemmas.Bool.Decides.{nat_tests}
@@ -16,15 +16,14 @@ use Rattle.js_model.proofs.NameTexts.{name_parts}
 use Rattle.config_texts.specs.Reading.{allowed}
 use Rattle.config_texts.proofs.Entries.{allowed_back}
 use Rattle.config_texts.proofs.Names.{name_back, same_name}
-use Rattle.op_records.specs.Steps.{Reading, Reader, ◌>>=◌, continued, done}
+use Rattle.op_records.specs.Steps.{Reading, ◌>>=◌, continued, done}
 use Rattle.op_records.specs.Fields.{only, word, part, piece, some_or_bad, number_field, cursor_field, number_fields, numbers_field, name_field, text_field, subject_field, in_order, range_field}
 use Rattle.op_records.specs.Allowed.{is_text, is_cursor, are_picks, is_range}
 use Rattle.op_records.specs.Spelling.{number, short, text, numbers}
-use Rattle.op_records.specs.declared.fault.RecordFault.{RecordFault}
 use Rattle.op_records.specs.declared.fault.RecordFault.TheVariants.{Cut}
 use Rattle.op_records.proofs.Spans.{Spans, span_none, span_of, span_then, span_front, span_back, span_is}
 use Rattle.op_records.proofs.Steps.{both, value_is, place_is, passed, given}
-use Rattle.op_records.proofs.Exact.{AreBytes, Batch, Exact, IsWide, wide8, wide16, wide32, wide64, word_took, word_again, le_is, is_le, lt_is, is_lt}
+use Rattle.op_records.proofs.Exact.{Batch, Exact, IsWide, wide8, wide16, wide32, wide64, word_took, word_again, le_is, is_le, lt_is, is_lt}
 
 -- ---- numbers
 

@@ -5,7 +5,7 @@ use Rattle.js_base.specs.Bytes.{Bytes}
 use Rattle.effects.specs.declared.effect.Effect.{Effect}
 use Rattle.op_records.specs.Steps.{Reading, continued, done}
 use Rattle.op_records.specs.Fields.{word, number_field, number_fields, numbers_field}
-use Rattle.op_records.specs.Reading.{record_at, Stand, IsWrong}
+use Rattle.op_records.specs.Reading.{record_at, Stand}
 use Rattle.op_records.specs.Answers.{IsFaultOf, IsWrongBy}
 use Rattle.op_records.specs.declared.fault.RecordFault.{RecordFault}
 use Rattle.op_records.specs.declared.fault.RecordFault.TheVariants.{Cut, BadKind, BadField, NoMemory as OutOfMemory}

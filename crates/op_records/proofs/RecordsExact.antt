@@ -58,9 +58,10 @@ drop_took bytes at e behind b within eq =
 take_all : Take table
 take_all = (kinds.make_stream_took, (kinds.change_stream_took, (drop_took, (kinds.put_here_took, (kinds.skip_took, (kinds.remove_took, (kinds.make_consumer_took, (kinds.drop_consumer_took, (kinds.deliver_took, (kinds.acked_took, (kinds.due_took, (kinds.given_up_took, (kinds.now_took, tt)))))))))))))
 
-record Record (bytes : Bytes) (begin : ℕ) (e : Effect) (behind : ℕ) : Type 0 where
-  allowed : IsTrue (is_record e)
-  there : Spans bytes begin (spelled e) behind
+-- it may stand in a log, and is spelled here
+pub record Record (bytes : Bytes) (begin : ℕ) (e : Effect) (behind : ℕ) : Type 0 where
+  pub allowed : IsTrue (is_record e)
+  pub there : Spans bytes begin (spelled e) behind
 
 byte_is : (n : ℕ) → n < 256 → to_be_bytes w8 n ≡ n ∷ []
 byte_is n small = ap (λ (k : ℕ). k ∷ []) (omega arith)
@@ -69,7 +70,7 @@ kind_again : (bytes : Bytes) (begin kind : ℕ) (fields : Bytes) (behind : ℕ) 
 kind_again bytes begin kind fields behind small s =
     word_again w8 (2 ^ 8) wide8 bytes begin kind (begin + 1) small (subst (λ (l : Bytes). Spans bytes begin l (begin + 1)) (sym (byte_is kind small)) (span_front bytes begin (kind ∷ []) fields behind s))
 
-record_took : (bytes : Bytes) (begin : ℕ) (e : Effect) (behind : ℕ) → Batch bytes → record_at bytes begin ≡ Ok (e, behind) → Record bytes begin e behind
+pub record_took : (bytes : Bytes) (begin : ℕ) (e : Effect) (behind : ℕ) → Batch bytes → record_at bytes begin ≡ Ok (e, behind) → Record bytes begin e behind
 unfolding record_at
 record_took bytes begin e behind b eq =
     let p = both bytes (fields_in table begin) (word w8 bytes begin) e behind eq in

@@ -1,5 +1,5 @@
 -- Worked rows of records as they are spelled and read, and of bytes that are none.
-use Rattle.std.specs.Prelude.{◌≡◌, ℕ, List, [], ◌∷◌, ◌++◌, Ok, Err, refl}
+use Rattle.std.specs.Prelude.{◌≡◌, ℕ, [], ◌∷◌, ◌++◌, Ok, Err, refl}
 use Rattle.js_base.specs.Bytes.{Bytes}
 use Rattle.effects.specs.declared.effect.Effect.TheVariants.{DropStream, Remove, Now}
 use Rattle.op_records.specs.declared.fault.RecordFault.TheVariants.{Cut, BadKind, BadField}

@@ -1,5 +1,5 @@
 -- Configurations and messages are read exactly where they are spelled.
-use Rattle.std.proofs.Common.{◌≡◌, ℕ, ◌+◌, ◌<◌, ◌^◌, Bool, true, false, List, [], ◌∷◌, ◌++◌, length, Option, Some, None, Ok, Err, IsTrue, nat_le, refl, sym, ap, subst, ◌∙◌, arith, length-append}
+use Rattle.std.proofs.Common.{◌≡◌, ℕ, ◌+◌, ◌<◌, ◌^◌, Bool, true, ◌++◌, length, Ok, IsTrue, refl, sym, ap, subst, ◌∙◌, arith, length-append}
 use Rattle.std.specs.Int.{w32, to_be_bytes}
 use Rattle.std.proofs.lemmas.Bool.{and_parts, and_from}
 use Rattle.js_base.specs.Bytes.{Bytes}
@@ -10,7 +10,7 @@ use Rattle.config_texts.specs.Reading.{stream_of, consumer_of}
 use Rattle.config_texts.specs.Texts.{stream_text, consumer_text}
 use Rattle.config_texts.proofs.StreamTexts.{law_stream_text}
 use Rattle.config_texts.proofs.ConsumerTexts.{law_consumer_text}
-use Rattle.op_records.specs.Steps.{Reader, ◌>>=◌, done, place}
+use Rattle.op_records.specs.Steps.{◌>>=◌, done, place}
 use Rattle.op_records.specs.Fields.{only, word, part, piece, some_or_bad, stream_field, consumer_field, is_small, is_small_header, sized_part, fit, message_field}
 use Rattle.op_records.specs.Allowed.{is_header, fits_block}
 use Rattle.op_records.specs.Spelling.{long}

@@ -1,8 +1,8 @@
 -- The fields of records as they are read. A field that does not end within the bytes is cut, and one that holds what it may not hold is bad; both are told
 -- with the place at which the field begins.
-use Rattle.std.specs.Prelude.{ℕ, zero, suc, ◌+◌, ◌^◌, nat_le, Bool, ◌&&◌, List, [], ◌∷◌, take, drop, length, Option, Some, None, Ok, Err, if◌then◌else◌}
+use Rattle.std.specs.Prelude.{ℕ, zero, suc, ◌+◌, nat_le, Bool, ◌&&◌, List, [], ◌∷◌, take, drop, length, Option, Some, None, Ok, Err, if◌then◌else◌}
 use Rattle.std.specs.Int.{Width, w8, w16, w32, w64, byte_len}
-use Rattle.js_base.specs.Bytes.{Bytes, is_empty}
+use Rattle.js_base.specs.Bytes.{Bytes}
 use Rattle.js_base.specs.Names.{name_of}
 use Rattle.js_base.specs.Numbers.{number_at}
 use Rattle.js_base.specs.Subjects.{is_subject_text}
@@ -12,7 +12,6 @@ use Rattle.js_model.specs.declared.consumer_config.ConsumerConfig.{ConsumerConfi
 use Rattle.config_texts.specs.Reading.{allowed, stream_of, consumer_of}
 use Rattle.op_records.specs.Steps.{Reading, Reader, ◌>>=◌, done, place}
 use Rattle.op_records.specs.Allowed.{is_cursor, is_header}
-use Rattle.op_records.specs.declared.fault.RecordFault.{RecordFault}
 use Rattle.op_records.specs.declared.fault.RecordFault.TheVariants.{Cut, BadField}
 
 -- a value that is bad unless it may stand there

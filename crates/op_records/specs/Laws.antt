@@ -1,5 +1,5 @@
 -- The laws of records: what a batch can have is read as records exactly if these may stand in a log and are spelled so.
-use Rattle.std.specs.Prelude.{◌≡◌, ◌<◌, ◌^◌, ◌↔◌, ℕ, length, IsTrue, List, [], ◌∷◌, All, Ok}
+use Rattle.std.specs.Prelude.{◌≡◌, ◌<◌, ◌^◌, ◌↔◌, ℕ, length, IsTrue, List, All, Ok}
 use Rattle.std.specs.List.{flat_map, list_all}
 use Rattle.js_base.specs.Bytes.{Bytes}
 use Rattle.effects.specs.declared.effect.Effect.{Effect}

@@ -43,8 +43,8 @@ pub fn read_records(alloc: Global, bytes: &[u8]) -> Result<Vec<Effect>, RecordFa
     Ok(effects.into_vec())
 }
 
-/// The incarnation of the vacant place with which a log begins: its first batch is the one record of that. `BadField` tells a record of another kind, a
-/// number of 2^62 or more, and what stands behind the record. It takes no memory.
+/// The incarnation of the vacant place with which a log begins: its first batch is the one record of that. `Cut` tells a field that does not end, `BadKind`
+/// a record of no kind, and `BadField` a record of another kind, a number of 2^62 or more, and what stands behind the record.
 #[tactic(auto, unfolding(crate::specs::Reading::vacant_field))]
 pub fn read_vacant(alloc: Global, bytes: &[u8]) -> Result<u64, RecordFault>
     ensures reading { ReadsVacant result bytes.now (vacant_field bytes.now 0) }

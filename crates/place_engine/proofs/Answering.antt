@@ -1,7 +1,6 @@
 -- What a live stream answers at its own moment, and what it leaves once its limits and its retention have let messages go.
-use Rattle.std.proofs.Common.{◌≡◌, ◌∙◌, ℕ, ◌+◌, Bool, true, false, cond, List, [], ◌∷◌, ◌++◌, append-nil, length, if◌then◌else◌, Option, Some, None, is_some, refl, sym, ap, subst}
+use Rattle.std.proofs.Common.{◌≡◌, ◌∙◌, ℕ, ◌+◌, Bool, true, false, List, [], ◌++◌, append-nil, length, if◌then◌else◌, Option, Some, None, refl, sym, ap, subst}
 use Rattle.std.proofs.lemmas.Bool.{true≢false}
-use Rattle.std.specs.Option.{option_to_list}
 use Rattle.std.specs.Prelude.{map, option_map, unwrap_or}
 use Rattle.js_base.specs.Bytes.{Bytes}
 use Rattle.js_base.specs.declared.out.Out.{Out}
@@ -11,22 +10,21 @@ use Rattle.js_model.specs.declared.consumer_config.ConsumerConfig.{ConsumerConfi
 use Rattle.js_model.specs.declared.consumer.Consumer.{Consumer}
 use Rattle.js_model.specs.declared.stream.Message.{Message}
 use Rattle.js_model.specs.declared.stream.Stream.{Stream}
-use Rattle.js_model.specs.declared.stream.State.{State}
 use Rattle.js_model.specs.declared.stream.State.TheVariants.{Live}
 use Rattle.js_model.specs.declared.event.GetBy.{GetBy}
 use Rattle.js_model.specs.declared.event.Publish.{Publish}
 use Rattle.js_model.specs.declared.reply.Verdict.{Verdict}
 use Rattle.js_model.specs.declared.reply.Verdict.TheVariants.{Take, Duplicate as TakenBefore, Refused as RefusedBy}
 use Rattle.js_model.specs.declared.reply.Reply.{Reply}
-use Rattle.js_model.specs.declared.reply.Reply.TheVariants.{Info as StreamTold, Done, Published, Duplicate, Purged, Message as MessageTold, ConsumerInfo as ConsumerTold, Names, Infos, Refused}
+use Rattle.js_model.specs.declared.reply.Reply.TheVariants.{Info as StreamTold, Published, Duplicate, Purged, Message as MessageTold, ConsumerInfo as ConsumerTold, Names, Infos, Refused}
 use Rattle.js_model.specs.declared.reply.Answer.{Answer}
 use Rattle.js_model.specs.declared.reply.ConsumerInfo.{ConsumerInfo}
 use Rattle.js_model.specs.declared.reply.StreamInfo.{StreamInfo}
 use Rattle.js_model.specs.Configs.{same_consumer_config, same_retention, same_stream_config}
 use Rattle.js_model.specs.Consumers.{making_checks, new_consumer, queue_checks, with_new}
 use Rattle.js_model.specs.Counts.{consumer_info, stream_info}
-use Rattle.js_model.specs.Events.{changed, completed, consumer_asked, consumer_made, consumer_told, deleted, infos_told, made_again, message_at, message_by, message_told, names_told, page_of, published, purged, quietly, refused, settled, settled_state, stream_told, told_of, with_message, without_messages}
-use Rattle.js_model.specs.Refusals.{consumer_absent, consumer_exists, first_refusal, no_consumer, no_message, other_config, retention_cannot_change}
+use Rattle.js_model.specs.Events.{changed, completed, consumer_asked, consumer_made, consumer_told, infos_told, made_again, message_by, message_told, names_told, page_of, published, purged, quietly, refused, settled, settled_state, stream_told, told_of, with_message, without_messages}
+use Rattle.js_model.specs.Refusals.{consumer_exists, first_refusal, no_consumer, no_message, other_config, retention_cannot_change}
 use Rattle.js_model.specs.Retention.{kept}
 use Rattle.js_model.specs.Streams.{by_name}
 use Rattle.js_model.specs.Trim.{trim}
@@ -82,6 +80,11 @@ pub record Released (old new : Stream) : Type 0 where
 pub released_by : (x new : Stream) → new ≡ settled x → kept new ≡ new → trim new ≡ new → Released x new
 released_by x new value again same = record { value = value; again = ap kept same ∙ again }
 
+-- the configuration stays
+pub settled_trim_config : (s : Stream) → (settled (trim s)).config ≡ s.config
+unfolding kept trim
+settled_trim_config s = refl
+
 released_same : (old new : Stream) → Released old new → settled new ≡ settled old
 released_same old new h = h.again ∙ h.value
 
@@ -99,9 +102,6 @@ made_other s config other = ap (λ (b : Bool). if b then stream_told s else refu
 
 pub changed_same : (s : Stream) (config : StreamConfig) → same_retention config.retention s.config.retention ≡ true → changed s config ≡ stream_told (record s { config = config })
 changed_same s config same = ap (λ (b : Bool). if b then stream_told (record s { config = config }) else refused retention_cannot_change s) same
-
-pub changed_other : (s : Stream) (config : StreamConfig) → same_retention config.retention s.config.retention ≡ false → changed s config ≡ refused retention_cannot_change s
-changed_other s config other = ap (λ (b : Bool). if b then stream_told (record s { config = config }) else refused retention_cannot_change s) other
 
 -- what is let go of what the limits keep
 pub released_trimmed : (x y new : Stream) → y ≡ trim x → trim y ≡ y → Released y new → Released x new
@@ -124,22 +124,6 @@ publish_refused s p e said = quiet s (published s p (verdict s p true)) (Refused
 
 pub purges : (s new : Stream) (gone : List Message) (n : ℕ) → n ≡ length gone → new ≡ without_messages s gone → ActsQuietly (purged s gone) (Purged n) new
 purges s new gone n number is = acts_as (purged s gone) (quietly (Purged n) new) (Purged n) new (ap (λ (k : ℕ). quietly (Purged k) (without_messages s gone)) (sym number) ∙ ap (quietly (Purged n)) (sym is)) (quiet new (quietly (Purged n) new) (Purged n) refl)
-
--- a message was there, and is deleted
-pub deletes : (s new : Stream) (n : ℕ) → is_some (message_at s n) ≡ true → new ≡ without_messages s (option_to_list (message_at s n)) → ActsQuietly (deleted s (message_at s n)) Done new
-deletes s new n there is = go (message_at s n) there is
-  where
-    go : (o : Option Message) → is_some o ≡ true → new ≡ without_messages s (option_to_list o) → ActsQuietly (deleted s o) Done new
-    go None there is = absurd (true≢false (sym there))
-    go (Some m) there is = acts_as (deleted s (Some m)) (quietly Done new) Done new (ap (quietly Done) (sym is)) (quiet new (quietly Done new) Done refl)
-
--- it was not there
-pub deletes_none : (s : Stream) (n : ℕ) → is_some (message_at s n) ≡ false → ActsQuietly (deleted s (message_at s n)) (Refused no_message) s
-deletes_none s n absent = go (message_at s n) absent
-  where
-    go : (o : Option Message) → is_some o ≡ false → ActsQuietly (deleted s o) (Refused no_message) s
-    go None absent = quiet s (deleted s None) (Refused no_message) refl
-    go (Some m) absent = absurd (true≢false absent)
 
 pub reads : (s : Stream) (by : GetBy) (m : Message) → Some m ≡ message_by s by → ActsQuietly (message_told s (message_by s by)) (MessageTold m) s
 reads s by m found = quiet s (message_told s (message_by s by)) (MessageTold m) (ap (message_told s) (sym found))
@@ -193,14 +177,6 @@ module _ (s : Stream) (name : Bytes) (config : ConsumerConfig) (update : Bool) w
   abbrev is_same : Consumer → Bool
   is_same c = same_consumer_config config c.config
 
-  pub asked_absent : update ≡ true → None ≡ option_map is_same (by_name s.consumers name) → consumer_asked s name config update (by_name s.consumers name) ≡ refused consumer_absent s
-  asked_absent is found = go (by_name s.consumers name) update is found
-    where
-      go : (o : Option Consumer) (b : Bool) → b ≡ true → None ≡ option_map is_same o → consumer_asked s name config b o ≡ refused consumer_absent s
-      go None true e f = refl
-      go None false e f = absurd (true≢false (sym e))
-      go (Some c) b e f = absurd (none_some f)
-
   pub asked_new : update ≡ false → None ≡ option_map is_same (by_name s.consumers name)
       → consumer_asked s name config update (by_name s.consumers name) ≡ consumer_made s name config (first_refusal (making_checks s name config))
   asked_new is found = go (by_name s.consumers name) update is found
@@ -210,26 +186,10 @@ module _ (s : Stream) (name : Bytes) (config : ConsumerConfig) (update : Bool) w
       go None false e f = refl
       go (Some c) b e f = absurd (none_some f)
 
-  pub asked_none : None ≡ option_map is_same (by_name s.consumers name) → by_name s.consumers name ≡ None
-  asked_none found = go (by_name s.consumers name) found
-    where
-      go : (o : Option Consumer) → None ≡ option_map is_same o → o ≡ None
-      go None f = refl
-      go (Some c) f = absurd (none_some f)
-
   pub asked_same : Some true ≡ option_map is_same (by_name s.consumers name) → consumer_asked s name config update (by_name s.consumers name) ≡ consumer_told s name
   asked_same found = go (by_name s.consumers name) update found
     where
       go : (o : Option Consumer) (b : Bool) → Some true ≡ option_map is_same o → consumer_asked s name config b o ≡ consumer_told s name
-      go None b f = absurd (none_some (sym f))
-      go (Some c) true f = ap (λ (x : Bool). if x then consumer_told s name else refused (unwrap_or (first_refusal (queue_checks s name config)) consumer_exists) s) (sym (some_is f))
-      go (Some c) false f = ap (λ (x : Bool). if x then consumer_told s name else refused (unwrap_or (first_refusal (queue_checks s name config)) consumer_exists) s) (sym (some_is f))
-
-  pub asked_other : (e : ApiError) → e ≡ unwrap_or (first_refusal (queue_checks s name config)) consumer_exists → Some false ≡ option_map is_same (by_name s.consumers name)
-      → consumer_asked s name config update (by_name s.consumers name) ≡ refused e s
-  asked_other e is found = go (by_name s.consumers name) update found ∙ ap (λ (x : ApiError). refused x s) (sym is)
-    where
-      go : (o : Option Consumer) (b : Bool) → Some false ≡ option_map is_same o → consumer_asked s name config b o ≡ refused (unwrap_or (first_refusal (queue_checks s name config)) consumer_exists) s
       go None b f = absurd (none_some (sym f))
       go (Some c) true f = ap (λ (x : Bool). if x then consumer_told s name else refused (unwrap_or (first_refusal (queue_checks s name config)) consumer_exists) s) (sym (some_is f))
       go (Some c) false f = ap (λ (x : Bool). if x then consumer_told s name else refused (unwrap_or (first_refusal (queue_checks s name config)) consumer_exists) s) (sym (some_is f))

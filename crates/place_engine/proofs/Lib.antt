@@ -3,5 +3,5 @@ pub mod Passing
 pub mod VerdictTexts
 pub mod Shown
 pub mod Places
-pub mod Delivered
+pub mod Readiness
 pub mod Steps

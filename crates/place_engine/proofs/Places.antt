@@ -1,7 +1,6 @@
--- What a place answers if there is no stream, and if its stream goes.
-use Rattle.std.proofs.Common.{◌≡◌, ◌≢◌, ℕ, ◌+◌, ◌^◌, true, List, [], ◌++◌, append-nil, Bool, if◌then◌else◌, Option, ap, subst, sym, ◌∙◌, refl}
+-- What a place answers if there is no stream, and as time passes.
+use Rattle.std.proofs.Common.{◌≡◌, ◌≢◌, ℕ, ◌+◌, ◌^◌, List, [], ◌++◌, append-nil, Bool, if◌then◌else◌, Option, ap, sym, ◌∙◌, refl}
 use Rattle.std.proofs.lemmas.Bool.{eq-eqb, ne_eqb}
-use Rattle.std.specs.List.{flat_map}
 use Rattle.js_base.specs.Bytes.{Bytes}
 use Rattle.js_base.specs.declared.out.Out.{Out}
 use Rattle.js_model.specs.declared.stream_config.StreamConfig.{StreamConfig}
@@ -12,12 +11,12 @@ use Rattle.js_model.specs.declared.event.What.{What}
 use Rattle.js_model.specs.declared.event.What.TheVariants.{Make, Change, Drop as DropStream, Publish as PublishIt, Purge, Delete, MakeConsumer, DropConsumer, Ack as AckIt, Pull as PullIt, Tick, StreamInfo as AskStream, MessageGet, ConsumerInfo as AskConsumer, ConsumerNames, ConsumerList}
 use Rattle.js_model.specs.declared.reply.Answer.{Answer}
 use Rattle.js_model.specs.declared.reply.Reply.{Reply}
-use Rattle.js_model.specs.declared.reply.Reply.TheVariants.{Info, Done, Silent, Refused}
+use Rattle.js_model.specs.declared.reply.Reply.TheVariants.{Info, Silent, Refused}
 use Rattle.js_model.specs.declared.reply.StreamInfo.{StreamInfo}
 use Rattle.js_model.specs.Refusals.{numbers_used_up, no_stream}
 use Rattle.js_model.specs.Consumers.{empty_stream}
 use Rattle.js_model.specs.Counts.{stream_info}
-use Rattle.js_model.specs.Events.{completed, farewells, kept_incarnation, quietly, settled, settled_state, stream_told, vacant_answer, vacantly}
+use Rattle.js_model.specs.Events.{completed, kept_incarnation, settled, settled_state, stream_told, vacant_answer, vacantly}
 use Rattle.place_engine.specs.Answers.{AnswersThen, Gives}
 use Rattle.place_engine.specs.Places.{IsVacant}
 
@@ -32,12 +31,17 @@ gives answer reply new outs is = record {
 -- ---- no stream
 
 -- the stream is made
-pub makes : (old : State) (subject : Option Bytes) (config : StreamConfig) (now : ℕ) (outs : List Out) → IsVacant old → kept_incarnation old ≢ 2 ^ 62
-    → let stream = empty_stream (kept_incarnation old) config now in AnswersThen old (Make subject config) now (Info (stream_info (settled stream))) outs outs (Live (settled stream))
-makes (Vacant i) subject config now outs vacant free =
-    gives _ (Info (stream_info (settled (empty_stream (i + 1) config now)))) (Live (settled (empty_stream (i + 1) config now))) outs
-    (ap (λ (b : Bool). completed [] (if b then vacantly (Refused numbers_used_up) i else stream_told (empty_stream (i + 1) config now))) (ne_eqb (i + 1) (2 ^ 62) free))
-makes (Live s) subject config now outs vacant free = absurd vacant
+pub makes : (old : State) (subject : Option Bytes) (config : StreamConfig) (now incarnation : ℕ) (made new : Stream) (info : StreamInfo) (outs : List Out) → IsVacant old
+    → incarnation ≡ kept_incarnation old → incarnation ≢ 2 ^ 62 → made ≡ empty_stream incarnation config now → new ≡ settled made → info ≡ stream_info new
+    → AnswersThen old (Make subject config) now (Info info) outs outs (Live new)
+makes (Vacant i) subject config now incarnation made new info outs vacant next free made_is new_is info_is =
+    gives _ (Info info) (Live new) outs
+    (ap (λ (b : Bool). completed [] (if b then vacantly (Refused numbers_used_up) i else stream_told (empty_stream (i + 1) config now)))
+    (ne_eqb (i + 1) (2 ^ 62) (λ used. free (next ∙ used)))
+    ∙ ap (λ (s : Stream). record { reply = Info (stream_info (settled s)); outs = []; state = Live (settled s) }) (ap (λ (n : ℕ). empty_stream n config now) (sym next) ∙ sym made_is)
+    ∙ ap (λ (s : Stream). record { reply = Info (stream_info s); outs = []; state = Live s }) (sym new_is)
+    ∙ ap (λ (told : StreamInfo). record { reply = Info told; outs = []; state = Live new }) (sym info_is))
+makes (Live s) subject config now incarnation made new info outs vacant next free made_is new_is info_is = absurd vacant
 
 -- the last incarnation is used up
 pub makes_none : (old : State) (subject : Option Bytes) (config : StreamConfig) (now : ℕ) (outs : List Out) → IsVacant old → kept_incarnation old ≡ 2 ^ 62
@@ -75,14 +79,9 @@ refuses (Live s) what now outs vacant other more = absurd vacant
 pub drops_nothing : (last : ℕ) (subject : Option Bytes) (now : ℕ) (outs : List Out) → AnswersThen (Vacant last) (DropStream subject) now (Refused no_stream) outs outs (Vacant last)
 drops_nothing last subject now outs = gives _ (Refused no_stream) (Vacant last) outs refl
 
--- ---- ticks and drops
+-- ---- ticks
 
 -- time has passed
 pub ticks : (old : State) (now : ℕ) (outs : List Out) → AnswersThen old Tick now Silent outs outs (settled_state old)
 ticks (Vacant i) now outs = gives _ Silent (Vacant i) outs refl
 ticks (Live s) now outs = gives _ Silent (Live (settled s)) outs refl
-
--- the stream is dropped
-pub drops : (s : Stream) (subject : Option Bytes) (now last : ℕ) (outs_old outs_new : List Out) → last ≡ s.incarnation → outs_new ≡ outs_old ++ flat_map farewells s.consumers
-    → AnswersThen (Live s) (DropStream subject) now Done outs_old outs_new (Vacant last)
-drops s subject now last outs_old outs_new same sent = record { reply_is = refl; outs_are = sent; state_is = ap Vacant same }

@@ -1,5 +1,5 @@
 -- What replies show.
-use Rattle.std.proofs.Common.{◌≡◌, ◌≤◌, ℕ, Bool, true, false, cond, if◌then◌else◌, List, [], ◌∷◌, Option, Some, None, IfSome, IsTrue, IsUtf8, drop, filter, length, map, refl, sym, ap, subst, arith}
+use Rattle.std.proofs.Common.{◌≡◌, ◌≤◌, ℕ, Bool, true, false, cond, if◌then◌else◌, List, [], ◌∷◌, Option, Some, None, IfSome, IsTrue, IsUtf8, drop, filter, length, map, refl, sym, subst, arith}
 use Rattle.std.specs.Prelude.{All, codes, option_map, unwrap_or}
 use Rattle.std.specs.Str.{is_utf8, chars}
 use lib.Utf8.{encode}
@@ -27,9 +27,8 @@ use Rattle.js_model.proofs.ConfigParts.{config_parts}
 use Rattle.js_model.proofs.Members.{all_in, found_in}
 use Rattle.js_model.proofs.Named.{none_some, some_is}
 use Rattle.js_model.proofs.NameTexts.{name_utf8}
-use Rattle.followed_stream.specs.Followers.{Following}
 use Rattle.stream_state.specs.Settled.{AreProper, IsProperConsumer}
-use Rattle.place_engine.specs.Pushes.{push_of, pushes_in}
+use Rattle.place_engine.specs.Pushes.{pushes_in}
 use Rattle.place_engine.specs.Shown.{IsShown, IsSoundConsumerInfo}
 use Rattle.place_engine.proofs.VerdictTexts.{first_text, AreTexts}
 
@@ -165,10 +164,6 @@ acked_shown s reply n kind (Some c) = either (is_no_delivery c n) kind
     either false k = of k
 
 -- ---- push consumers
-
-pub push_shown : (o : Option Following) (p : Option Consumer) → option_map (λ f. f.consumer) o ≡ p → option_map (λ f. push_of f.consumer) o ≡ option_map push_of p
-push_shown None p is = ap (option_map push_of) is
-push_shown (Some f) p is = ap (option_map push_of) is
 
 pub few_pushes : (s : Stream) → AreProper s.consumers → length (pushes_in (Live s)) ≤ 256
 few_pushes s h = let l : length (filter is_push s.consumers) ≤ length s.consumers = shorter s.consumers in omega (arith, l, h.few)

@@ -1,5 +1,5 @@
 -- What a place in memory answers and delivers is a step and a delivery by the relations that each place keeps.
-use Rattle.std.proofs.Common.{◌≡◌, ◌++◌, ℕ, true, List, Option, Some, None, Result, Ok, Err, ap, ◌∙◌, sym, refl, arith, inl}
+use Rattle.std.proofs.Common.{◌≡◌, ◌∙◌, ℕ, List, Option, Some, None, Result, Ok, Err, ap, refl, arith, inl}
 use Rattle.std.proofs.lemmas.Option.{none-some}
 use Rattle.js_base.specs.Bytes.{Bytes}
 use Rattle.js_base.specs.declared.out.Out.{Out}
@@ -10,6 +10,7 @@ use Rattle.js_model.specs.declared.event.What.TheVariants.{Tick}
 use Rattle.js_model.specs.declared.reply.Reply.{Reply}
 use Rattle.js_model.specs.declared.reply.Reply.TheVariants.{Silent}
 use Rattle.js_model.specs.Events.{kept_incarnation}
+use Rattle.js_model.specs.Lasting.{lasting}
 use Rattle.place_engine.specs.declared.faults.Left.{Left}
 use Rattle.place_engine.specs.declared.faults.Left.TheVariants.{Nothing, Ticked, Unsaid}
 use Rattle.place_engine.specs.declared.faults.PlaceFault.{PlaceFault}
@@ -17,18 +18,22 @@ use Rattle.place_engine.specs.declared.faults.PlaceFault.TheVariants.{NoMemory}
 use Rattle.place_engine.specs.Answers.{DeliversNone, DeliversSome, LeftBy, MayDeliver, PlaceAnswers}
 use Rattle.place_engine.specs.Delivering.{Delivers}
 use Rattle.place_engine.specs.InMemory.{seen_of, holds_nothing}
-use Rattle.place_engine.specs.Stepping.{Elapses, IsFlushed, IsUndone, Passes, Steps}
+use Rattle.place_engine.specs.Stepping.{Elapses, IsFlushed, IsUndone, KeepsBase, Passes, Steps}
 
 elapses : (old new : State) → Elapses holds_nothing (seen_of old) (seen_of new)
 elapses old new = record { faults = omega arith; moments = omega arith; generations = omega arith; goes_on = λ t image le left. absurd left }
 
 -- nothing ever waits
 flushed : (state : State) → IsFlushed (seen_of state)
-flushed state = record { base = refl; waiting = refl }
+flushed state = record { base = λ b is. is; waiting = refl }
+
+-- what is as it was keeps its base
+kept_base : (old new : State) → new ≡ old → KeepsBase (seen_of old) (seen_of new)
+kept_base old new same b is = is ∙ ap lasting same
 
 undone : (old new : State) (outs_old outs_new : List Out) → new ≡ old → outs_new ≡ outs_old → IsUndone (seen_of old) (seen_of new) outs_old outs_new
 undone old new outs_old outs_new same outs = record {
-  rests = record { state = same; stored = refl; stopped = refl; base = ap (λ (s : State). (seen_of s).base) same; waiting = refl; outs = outs };
+  rests = record { state = same; stored = refl; stopped = refl; base = kept_base old new same; waiting = refl; outs = outs };
   volume = λ count stopped. absurd (none-some count stopped);
 }
 
@@ -80,7 +85,7 @@ delivers_none old now listening new outs_old outs_new h = record {
   ends = record {
     going = refl;
     none = h.none;
-    rests = record { state = h.same; stored = refl; stopped = refl; base = ap (λ (s : State). (seen_of s).base) h.same; waiting = refl; outs = h.outs_same };
+    rests = record { state = h.same; stored = refl; stopped = refl; base = kept_base old new h.same; waiting = refl; outs = h.outs_same };
     volume = refl;
   };
   stored = omega arith;

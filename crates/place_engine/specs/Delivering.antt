@@ -11,7 +11,7 @@ use Rattle.js_model.specs.Deliver.{IsDelivered}
 use Rattle.js_model.specs.Events.{kept_incarnation}
 use Rattle.js_model.specs.Ready.{some_ready}
 use Rattle.effects.specs.Effects.{delivery_effects}
-use Rattle.place_engine.specs.Stepping.{Image, Seen, Elapses, IsPutOff, IsStopped, IsUndone, MayPutOff, Passes, Rests}
+use Rattle.place_engine.specs.Stepping.{Image, Seen, Elapses, IsPutOff, IsStopped, IsUndone, MayKeepBase, MayPutOff, Passes, Rests}
 use Rattle.place_engine.specs.declared.faults.PlaceFault.{PlaceFault}
 use Rattle.place_engine.specs.declared.faults.PlaceFault.TheVariants.{NoMemory, StoreFault, Stopped, Gone, Worn}
 use Rattle.place_engine.specs.declared.faults.Left.TheVariants.{Nothing, Ticked, Unsaid}
@@ -61,7 +61,7 @@ pub record BreaksDelivery (now : ℕ) (listening : List Bytes) (old new : Seen) 
   pub makes : Makes now listening delivery sent old new
   pub stops : new.place.stopped ≡ Some new.place.volume.faults
   pub cause : Rose old.place.volume.faults new.place.volume.faults
-  pub base : new.base ≡ old.base
+  pub base : MayKeepBase old new
   pub outs : after ≡ before
 
 abbrev pub EndsDelivery : Result (Option Delivery) PlaceFault → ℕ → List Bytes → Seen → Seen → List Out → List Out → Type 0

@@ -21,7 +21,7 @@ pub record Contents (V : Type 0) : Type 0 where
 
 -- it has a block for each message, what outlives a crash is kept at once, so that nothing waits, and of crashes nothing is said
 abbrev pub seen_of : State → Seen
-seen_of state = record { place = in_memory state; base = lasting state; waiting = []; room = λ what. true; left_since = λ t image. ⊥ }
+seen_of state = record { place = in_memory state; is_base = λ b. b ≡ lasting state; waiting = []; room = λ what. true; left_since = λ t image. ⊥ }
 
 -- no image of a volume holds a state
 abbrev pub holds_nothing : Image → State → Type 0

@@ -24,56 +24,54 @@ use Rattle.place_engine.specs.declared.faults.Left.TheVariants.{Nothing, Ticked,
 abbrev pub Image : Type 0
 Image = ℕ → Bytes
 
--- A place as it is seen: what stands there; the state that its volume holds; the records of what was made since, which wait for a commit; whether
--- the store has a block for what is asked; and what a crash at some moment of the volume from one on may have left, which is nothing in memory.
+-- A place as it is seen: what stands there; which states its volume may hold, its bases; the records of what was made since, which wait for a commit;
+-- whether the store has a block for what is asked; and what a crash at some moment of the volume from one on may have left, which is nothing in memory.
+-- A base is told by a predicate and is no value: once records wait, the bytes of the volume alone have it, and of a volume of which nothing is known there
+-- is none. The commit that stopped a place may have been made or not, so that a stopped place can have two.
 pub record Seen : Type 1 where
   pub place : PlaceIn
-  pub base : State
+  pub is_base : State → Type 0
   pub waiting : List Effect
   pub room : What → Bool
   pub left_since : ℕ → Image → Type 0
 
 -- ---- crashes
 
--- each image of a crash from a moment on holds a state that has P
-abbrev pub Leaves : (Image → State → Type 0) → Seen → ℕ → (State → Type 0) → Type 0
-Leaves holds s t P = (image : Image) → s.left_since t image → (d : State) × holds image d × P d
+-- what waits leads from each base to what outlives a crash of what stands; of a stopped place it says nothing
+abbrev pub Waits : Option ℕ → (State → Type 0) → List Effect → State → Type 0
+Waits None is_base waiting state = (b : State) → is_base b → Leads b waiting (lasting state)
+Waits (Some count) is_base waiting state = Unit {0}
 
--- what an image of now holds: the base, or on a stopped place maybe what outlives a crash of what stands
-abbrev pub HoldsNow : Option ℕ → State → State → State → Type 0
-HoldsNow None base state d = d ≡ base
-HoldsNow (Some count) base state d = (d ≡ base) ⊎ (d ≡ lasting state)
-
--- what waits leads from the base to what outlives a crash of what stands; of a stopped place it says nothing
-abbrev pub Waits : Option ℕ → State → List Effect → State → Type 0
-Waits None base waiting state = Leads base waiting (lasting state)
-Waits (Some count) base waiting state = Unit {0}
-
--- between two calls; a store has a block for one more message if few count against it
+-- between two calls: each image of a crash now holds a base, so that there is one wherever a crash may leave anything. A store has a block for one more
+-- message if few count against it
 pub record IsKept (holds : Image → State → Type 0) (s : Seen) : Type 0 where
-  pub waits : Waits s.place.stopped s.base s.waiting s.place.state
-  pub now : Leaves holds s s.place.volume.moment (HoldsNow s.place.stopped s.base s.place.state)
+  pub waits : Waits s.place.stopped s.is_base s.waiting s.place.state
+  pub now : (image : Image) → s.left_since s.place.volume.moment image → (b : State) × holds image b × s.is_base b
   pub free : is_few s.place.stored ≡ true → (what : What) → s.room what ≡ true
   pub earlier : (t u : ℕ) (image : Image) → t ≤ u → s.left_since u image → s.left_since t image
 
--- within a call: a crash leaves what it could leave before, or the base from before, or what outlives a crash of the state after it
+-- within a call: a crash leaves what it could leave before, or a base from before, or what outlives a crash of the state after it
 pub record Elapses (holds : Image → State → Type 0) (old new : Seen) : Type 0 where
   pub faults : old.place.volume.faults ≤ new.place.volume.faults
   pub moments : old.place.volume.moment ≤ new.place.volume.moment
   pub generations : old.place.volume.generation ≤ new.place.volume.generation
   pub goes_on : (t : ℕ) (image : Image) → t ≤ old.place.volume.moment → new.left_since t image
-      → old.left_since t image ⊎ ((d : State) × holds image d × ((d ≡ old.base) ⊎ (d ≡ lasting new.place.state)))
+      → old.left_since t image ⊎ ((d : State) × holds image d × (old.is_base d ⊎ (d ≡ lasting new.place.state)))
 
 -- ---- what a call commits
 
+-- each base is one from before
+abbrev pub KeepsBase : Seen → Seen → Type 0
+KeepsBase old new = (b : State) → new.is_base b → old.is_base b
+
 -- all that was made is on the volume, and nothing waits
 pub record IsFlushed (new : Seen) : Type 0 where
-  pub base : new.base ≡ lasting new.place.state
+  pub base : (b : State) → new.is_base b → b ≡ lasting new.place.state
   pub waiting : new.waiting ≡ []
 
 -- nothing is committed, and the records of what was made wait behind those from before
 pub record IsPutOff (made : List Effect) (old new : Seen) : Type 0 where
-  pub base : new.base ≡ old.base
+  pub base : KeepsBase old new
   pub waiting : new.waiting ≡ old.waiting ++ made
 
 -- one of the two
@@ -91,7 +89,7 @@ pub record Rests (old new : Seen) (before after : List Out) : Type 0 where
   pub state : new.place.state ≡ old.place.state
   pub stored : new.place.stored ≡ old.place.stored
   pub stopped : new.place.stopped ≡ old.place.stopped
-  pub base : new.base ≡ old.base
+  pub base : KeepsBase old new
   pub waiting : new.waiting ≡ old.waiting
   pub outs : after ≡ before
 
@@ -136,12 +134,16 @@ pub record Withholds (refused : Bool) (event : Event) (now : ℕ) (old new : See
   pub hides : Hides event now old new before after
   pub refused_is : refused ≡ is_refused (answered old.place.state event now (old.room event.what)).reply
 
+-- on the volume is what was there, or all that was made
+abbrev pub MayKeepBase : Seen → Seen → Type 0
+MayKeepBase old new = (b : State) → new.is_base b → old.is_base b ⊎ (b ≡ lasting new.place.state)
+
 -- it is made, the volume failed, and the place is stopped at the count that its volume has then
 pub record Breaks (event : Event) (now : ℕ) (old new : Seen) (before after : List Out) : Type 0 where
   pub does : Does event now old new
   pub stops : new.place.stopped ≡ Some new.place.volume.faults
   pub cause : Rose old.place.volume.faults new.place.volume.faults
-  pub base : new.base ≡ old.base
+  pub base : MayKeepBase old new
   pub outs : after ≡ before
 
 -- no call on it changes its volume

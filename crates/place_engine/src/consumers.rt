@@ -18,8 +18,8 @@ use js_model::refusals::{consumer_absent, consumer_exists as exists_already, no_
 use js_model::{Ack, Ask, ConsumerConfig, Reply};
 
 impl LiveStream {
-    /// Makes a consumer, if there is none of the name. One that is there is shown if it has this configuration, and else refused; an update of one that is
-    /// not there is refused.
+    /// Makes a consumer, if there is none of the name. One that is there is shown if it has this configuration, and else refused; an update of one
+    /// that is not there is refused.
     pub(crate) fn ask_consumer(
         &mut self,
         name: &Blob,
@@ -57,7 +57,9 @@ impl LiveStream {
         ensures shown { IfOk result IsShown }
         ensures err { OnErr result (settled self.new ≡ settled self.old) }
     {
-        match self.state.make_consumer(name, config) {
+        let made = self.state.make_consumer(name, config);
+        self.state.holds();
+        match made {
             Ok(info) => Ok(Reply::ConsumerInfo(info)),
             Err(MakeFault::Refused(refusal)) => Ok(Reply::Refused(refusal)),
             Err(MakeFault::NoMemory) => Err(NoMemory),
@@ -122,6 +124,7 @@ impl LiveStream {
         ensures err { OnErr result (settled self.new ≡ settled self.old) }
     {
         self.release();
+        self.state.holds();
         match self.state.consumer_info(name)? {
             Some(info) => Ok(Reply::ConsumerInfo(info)),
             None => Ok(Reply::Refused(no_consumer(self.alloc)?)),
@@ -133,6 +136,7 @@ impl LiveStream {
         ensures acts { IfOk result (λ reply. ActsQuietly (names_told self.now offset) reply self.now) }
         ensures shown { IfOk result IsShown }
     {
+        self.state.holds();
         Ok(Reply::Names {
             total: self.state.consumer_count(),
             list: self.state.consumer_names(offset)?,
@@ -147,6 +151,7 @@ impl LiveStream {
     {
         let total = self.state.consumer_count();
         self.release();
+        self.state.holds();
         Ok(Reply::Infos {
             total,
             list: self.state.consumer_infos(offset)?,

@@ -100,7 +100,8 @@ impl LiveStream {
         self.state.next_ready(now, listening).is_some()
     }
 
-    /// Lets time pass until a moment, or until its own if that is later, and adds what the consumers send by then. An `Err` changes nothing and adds nothing.
+    /// Lets time pass until a moment, or until its own if that is later, and adds what the consumers send by then. An `Err` changes nothing and adds
+    /// nothing.
     pub fn pass(&mut self, now: Moment, outs: &mut Outs) -> Result<(), NoMemory>
         ensures passed { OnOk result (self.new ≡ advance self.old now) }
         ensures outs { OnOk result (outs.new ≡ outs.old ++ advance_outs self.old now) }
@@ -122,8 +123,8 @@ impl LiveStream {
         self.state.release();
     }
 
-    /// Does what is asked at the stream's moment, answers it, and lets the messages go that the retention then does not keep, also if it finds no memory. Its
-    /// place drops it, and lets time pass for it.
+    /// Does what is asked at the stream's moment, answers it, and lets the messages go that the retention then does not keep, also if it finds no
+    /// memory. Its place drops it, and lets time pass for it.
     pub fn answer(&mut self, what: &What, outs: &mut Outs) -> Result<Reply, NoMemory>
         requires told { IsTold what.now }
         requires proper { IsTrue (is_proper_what what.now) }
@@ -191,7 +192,8 @@ impl LiveStream {
         self.state.tell_dropped(outs)
     }
 
-    /// Makes one delivery at a moment, and adds what it sends. `None` exactly if no consumer is ready, and then nothing changes. An `Err` says what is left.
+    /// Makes one delivery at a moment, and adds what it sends. `None` exactly if no consumer is ready, and then nothing changes. An `Err` says what
+    /// is left.
     pub fn deliver_one(
         &mut self,
         now: Moment,

@@ -1,9 +1,11 @@
 //! A place in memory.
 
-ghost use Rattle.std.specs.Prelude.{◌≡◌, IfOk, IfErr, IsTrue, refl};
-ghost use Rattle.std.proofs.Common.{◌∙◌};
+ghost use Rattle.std.specs.Prelude.{◌≡◌, IfOk, IfErr, IsTrue, Some, refl};
+ghost use Rattle.std.proofs.Common.{◌∙◌, ap};
+ghost use Rattle.js_model.specs.declared.stream.State.{State};
 ghost use Rattle.js_model.specs.declared.stream.State.TheVariants.{Vacant};
 ghost use Rattle.js_model.specs.Proper.{is_proper};
+ghost use Rattle.effects.specs.Durables.{durable_of};
 ghost use Rattle.place_engine.specs.declared.faults.OpenFault.TheVariants as opening;
 ghost use Rattle.place_engine.specs.Delivering.{Delivers};
 ghost use Rattle.place_engine.specs.InMemory.{HasCause, IsWantOfMemory, holds_nothing, seen_of};
@@ -127,7 +129,7 @@ impl<V> Place for MemoryPlace<V> {
         vol
     }
 
-    ghost kept = { λ place. record { waits = refl; free = λ few what. refl; now = λ image left. absurd left; earlier = λ t u image le left. absurd left } };
+    ghost kept = { λ place. record { waits = λ b is. ap (λ (s : State). Some (durable_of s)) is; free = λ few what. refl; now = λ image left. absurd left; earlier = λ t u image le left. absurd left } };
 
     ghost holds_one = { λ image a b one other. absurd one };
 

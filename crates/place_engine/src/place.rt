@@ -66,9 +66,9 @@ pub trait Place {
     /// Makes an event at a moment, answers it, and adds what it sends to the outputs. What each fault leaves of the place and of the outputs is
     /// said at [`PlaceFault`]; if a place is stopped, the event's incarnation is not looked at.
     ///
-    /// If a publish has a header with a bad number, the header's name is UTF-8. What a reply shows can be printed: the configurations of informations are
-    /// valid, and the text of a refusal, the subject of a message and the names of consumers are UTF-8; and the numbers of a stream's information are so
-    /// small that those of 32 streams can be added.
+    /// If a publish has a header with a bad number, the header's name is UTF-8. What a reply shows can be printed: the configurations of informations
+    /// are valid, and the text of a refusal, the subject of a message and the names of consumers are UTF-8; and the numbers of a stream's information
+    /// are so small that those of 32 streams can be added.
     fn step(&mut self, event: &Event, now: Moment, outs: &mut Outs) -> Result<Reply, PlaceFault>
         requires told { IsTold event.now.what }
         requires proper { IsTrue (is_proper event.now) }
@@ -76,9 +76,9 @@ pub trait Place {
         ensures shown { IfOk result IsShown }
         ensures vol { keeps_vol (vol self.old) (vol self.new) };
 
-    /// Makes one delivery at a moment to a consumer that is ready, if somebody listens to these push consumers, and adds what it sends to the outputs.
-    /// Which of them it is, and which of its messages, is left open as far as the machine leaves it so. `None` comes exactly if none is ready, and changes
-    /// nothing. What each fault leaves of the place and of the outputs is said at [`PlaceFault`]; `Gone` does not come.
+    /// Makes one delivery at a moment to a consumer that is ready, if somebody listens to these push consumers, and adds what it sends to the
+    /// outputs. Which of them it is, and which of its messages, is left open as far as the machine leaves it so. `None` comes exactly if none is
+    /// ready, and changes nothing. What each fault leaves of the place and of the outputs is said at [`PlaceFault`]; `Gone` does not come.
     fn deliver_one(
         &mut self,
         now: Moment,

@@ -92,17 +92,20 @@ fn same_ack_policy(policy: AckPolicy, other: AckPolicy) -> bool
     }
 }
 
-fn same_deliver_policy(policy: DeliverPolicy, other: DeliverPolicy) -> bool
-    ensures value { result ≡ same_deliver_policy policy other }
+fn same_deliver_policy(policy: &DeliverPolicy, other: &DeliverPolicy) -> bool
+    ensures value { result ≡ same_deliver_policy policy.now other.now }
 {
-    match (policy, other) {
-        (DeliverPolicy::All, DeliverPolicy::All) => true,
-        (DeliverPolicy::Last, DeliverPolicy::Last) => true,
-        (DeliverPolicy::New, DeliverPolicy::New) => true,
-        (DeliverPolicy::ByStartSequence(seq), DeliverPolicy::ByStartSequence(other)) => seq == other,
-        (DeliverPolicy::ByStartTime(at), DeliverPolicy::ByStartTime(other)) => at == other,
-        (DeliverPolicy::LastPerSubject, DeliverPolicy::LastPerSubject) => true,
-        _ => false,
+    match policy {
+        DeliverPolicy::All => matches!(other, DeliverPolicy::All),
+        DeliverPolicy::Last => matches!(other, DeliverPolicy::Last),
+        DeliverPolicy::New => matches!(other, DeliverPolicy::New),
+        DeliverPolicy::ByStartSequence(seq) => {
+            matches!(other, DeliverPolicy::ByStartSequence(start) if *start == *seq)
+        }
+        DeliverPolicy::ByStartTime(at) => {
+            matches!(other, DeliverPolicy::ByStartTime(start) if *start == *at)
+        }
+        DeliverPolicy::LastPerSubject => matches!(other, DeliverPolicy::LastPerSubject),
     }
 }
 
@@ -112,7 +115,7 @@ pub fn same_consumer_config(config: &ConsumerConfig, other: &ConsumerConfig) -> 
 {
     same(&config.name, &other.name)
         && same(&config.description, &other.description)
-        && same_deliver_policy(config.deliver_policy, other.deliver_policy)
+        && same_deliver_policy(&config.deliver_policy, &other.deliver_policy)
         && same_ack_policy(config.ack_policy, other.ack_policy)
         && config.ack_wait == other.ack_wait
         && same_number(config.max_deliver, other.max_deliver)

@@ -141,7 +141,8 @@ impl Slot {
         }
     }
 
-    /// Makes one delivery at a moment, and adds what it sends. `None` exactly if no consumer is ready, and then nothing changes. An `Err` says what is left.
+    /// Makes one delivery at a moment, and adds what it sends. `None` exactly if no consumer is ready, and then nothing changes. An `Err` says what
+    /// is left.
     pub fn deliver_one(
         &mut self,
         now: Moment,
@@ -179,14 +180,9 @@ impl Slot {
         }
     }
 
-    /// Does what is asked at a moment to which time has come, answers it, adds what it sends, and lets the messages go that the retention then does not keep,
-    /// also if it finds no memory.
-    fn answer_then(
-        &mut self,
-        what: &What,
-        now: Moment,
-        outs: &mut Outs,
-    ) -> Result<Reply, NoMemory>
+    /// Does what is asked at a moment to which time has come, answers it, adds what it sends, and lets the messages go that the retention then does
+    /// not keep, also if it finds no memory.
+    fn answer_then(&mut self, what: &What, now: Moment, outs: &mut Outs) -> Result<Reply, NoMemory>
         requires told { IsTold what.now }
         requires proper { IsTrue (is_proper_what what.now) }
         ensures answers { IfOk result (λ reply. AnswersThen self.old what.now now reply outs.old outs.new self.new) }
@@ -206,12 +202,7 @@ impl Slot {
     }
 
     /// The same, of all but ticks and drops.
-    fn answer_other(
-        &mut self,
-        what: &What,
-        now: Moment,
-        outs: &mut Outs,
-    ) -> Result<Reply, NoMemory>
+    fn answer_other(&mut self, what: &What, now: Moment, outs: &mut Outs) -> Result<Reply, NoMemory>
         requires told { IsTold what.now }
         requires proper { IsTrue (is_proper_what what.now) }
         requires more { what.now ≢ What.Tick }

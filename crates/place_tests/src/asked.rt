@@ -7,8 +7,8 @@ ghost use Rattle.place_tests.specs.Asked.{IsAsked};
 
 use js_base::{Blob, List, NoMemory};
 use js_model::{
-    Ack, AckKind, AckPolicy, Ask, ConsumerConfig, DeliverPolicy, Discard, GetBy, Publish, Retention,
-    StreamConfig, Wants, What,
+    Ack, AckKind, AckPolicy, Ask, ConsumerConfig, DeliverPolicy, Discard, GetBy, Publish,
+    Retention, StreamConfig, Wants, What,
 };
 use std::alloc::Global;
 

@@ -36,8 +36,22 @@ fn pull_that_does_not_wait_gets_what_is_there(rt: HostRuntime) -> Result<(), Fai
         ..wanting(3)
     };
     place.ask(pull(alloc, b"W", ask)?)?;
-    assert!(rt; matches!(place.deliver()?, Some(Delivered::Sent { seq: 1, count: 1, dseq: 1 })));
-    assert!(rt; is_delivery(place.last(), b"$JS.ACK.ORDERS.W.1.1.1.1700000000000000000.0"));
+    assert!(rt;
+        matches!(
+            place.deliver()?,
+            Some(Delivered::Sent {
+                seq: 1,
+                count: 1,
+                dseq: 1
+            })
+        )
+    );
+    assert!(rt;
+        is_delivery(
+            place.last(),
+            b"$JS.ACK.ORDERS.W.1.1.1.1700000000000000000.0"
+        )
+    );
     assert!(rt; matches!(place.deliver()?, Some(Delivered::Emptied)));
     assert!(rt; is_status(place.last(), b"NATS/1.0 404 No Messages\r\n\r\n"));
     assert!(rt; place.deliver()?.is_none());
@@ -60,7 +74,8 @@ fn pull_ends_at_its_moment(rt: HostRuntime) -> Result<(), Fail> {
     assert!(rt; place.last().is_none());
     place.wait(1);
     place.ask(What::Tick)?;
-    let block = b"NATS/1.0 408 Request Timeout\r\nNats-Pending-Messages: 3\r\nNats-Pending-Bytes: 0\r\n\r\n";
+    let block =
+        b"NATS/1.0 408 Request Timeout\r\nNats-Pending-Messages: 3\r\nNats-Pending-Bytes: 0\r\n\r\n";
     assert!(rt; is_status(place.last(), block));
     Ok(())
 }
@@ -75,11 +90,21 @@ fn delivery_waits_for_the_one_before(rt: HostRuntime) -> Result<(), Fail> {
     place.ask(publish(alloc, b"b")?)?;
     place.ask(pull(alloc, b"W", wanting(2))?)?;
     assert!(rt; place.deliver()?.is_some());
-    assert!(rt; is_delivery(place.last(), b"$JS.ACK.ORDERS.W.1.1.1.1700000000000000000.1"));
+    assert!(rt;
+        is_delivery(
+            place.last(),
+            b"$JS.ACK.ORDERS.W.1.1.1.1700000000000000000.1"
+        )
+    );
     assert!(rt; place.deliver()?.is_none());
     place.ask(ack(alloc, b"W", 1, AckKind::Ack)?)?;
     assert!(rt; place.deliver()?.is_some());
-    assert!(rt; is_delivery(place.last(), b"$JS.ACK.ORDERS.W.1.2.2.1700000000000000000.0"));
+    assert!(rt;
+        is_delivery(
+            place.last(),
+            b"$JS.ACK.ORDERS.W.1.2.2.1700000000000000000.0"
+        )
+    );
     Ok(())
 }
 
@@ -92,8 +117,22 @@ fn message_comes_again_after_its_wait(rt: HostRuntime) -> Result<(), Fail> {
     place.wait(29_999_999_999);
     assert!(rt; place.deliver()?.is_none());
     place.wait(1);
-    assert!(rt; matches!(place.deliver()?, Some(Delivered::Sent { seq: 1, count: 2, dseq: 2 })));
-    assert!(rt; matches!(place.ask(ack(alloc, b"W", 1, AckKind::Ack)?)?, Reply::Confirmed));
+    assert!(rt;
+        matches!(
+            place.deliver()?,
+            Some(Delivered::Sent {
+                seq: 1,
+                count: 2,
+                dseq: 2
+            })
+        )
+    );
+    assert!(rt;
+        matches!(
+            place.ask(ack(alloc, b"W", 1, AckKind::Ack)?)?,
+            Reply::Confirmed
+        )
+    );
     match place.ask(info(alloc, b"W")?)? {
         Reply::ConsumerInfo(told) => assert_eq!(rt; told.info.ack_pending, 0),
         _ => assert!(rt; false),

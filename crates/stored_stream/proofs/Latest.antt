@@ -1,11 +1,12 @@
 -- What is seen of a stream at a later moment.
-use Rattle.std.proofs.Common.{◌≡◌, ℕ, ◌+◌, ◌*◌, ◌^◌, ◌<◌, ◌≤◌, ◌==◌, ◌&&◌, Bool, true, false, cond, not, List, [], ◌∷◌, Option, Some, None, length, max, refl, sym, ap, subst, ◌∙◌, arith, ◌⊎◌, inl, inr}
-use Rattle.std.specs.Prelude.{All, filter, find, nat_le, nat_lt, option_map, sum_by}
+use Rattle.std.proofs.Common.{◌≡◌, ℕ, ◌+◌, ◌*◌, ◌^◌, ◌<◌, ◌≤◌, ◌&&◌, Bool, true, false, cond, List, [], ◌∷◌, Option, Some, None, length, max, refl, sym, ap, subst, ◌∙◌, arith, ◌⊎◌, inl, inr}
+use Rattle.std.specs.Prelude.{All, filter, find, nat_le, nat_lt, option_map, sum_by, unwrap_or, IfSome}
 use Rattle.std.proofs.lemmas.List.Elements.{All-head, All-tail}
+use Rattle.std.proofs.lemmas.List.{length-map}
 use Rattle.std.proofs.lemmas.List.Sums.{sum_by-cons}
 use Rattle.std.specs.List.{last_or}
 use Rattle.std.proofs.lemmas.Bool.Decides.{leb_tells}
-use Rattle.std.proofs.lemmas.Bool.{le-leb, lt-leb, leb-true, leb-false, lt-ltb, le-ltb, ltb-true, ltb-false, ne_eqb}
+use Rattle.std.proofs.lemmas.Bool.{le-leb, lt-leb, lt-ltb, le-ltb, ltb-true, ltb-false, ne_eqb}
 use Rattle.js_base.specs.Bytes.{Bytes, same}
 use Rattle.js_base.specs.Moments.{plus}
 use Rattle.js_model.specs.declared.stream.Message.{Message}
@@ -43,6 +44,19 @@ own ms subject from = seqs (filter (λ m. same m.subject subject) (messages_from
 
 pub record IsTelling (ms : List Message) (subject : Bytes) (first from : ℕ) (found : Option Counts) : Type 0 where
   pub rest : counted_all found (own ms subject from) ≡ counted_all None (own ms subject first)
+
+-- what is counted of them together
+counted_on : (n first_one last_one : ℕ) (ns : List ℕ) → counted_all (Some (record { count = n; first = first_one; last = last_one })) ns ≡ Some (record { count = n + length ns; first = first_one; last = last_from last_one ns })
+counted_on n first_one last_one [] = ap (λ k. Some (record { count = k; first = first_one; last = last_one })) (let e : n ≡ n + 0 = omega arith in e)
+counted_on n first_one last_one (k ∷ ns) = counted_on (n + 1) first_one k ns ∙ ap (λ j. Some (record { count = j; first = first_one; last = last_from k ns })) (let e : n + 1 + length ns ≡ n + length (k ∷ ns) = omega arith in e)
+
+counted : (ns : List ℕ) → counted_all None ns ≡ counts_of ns
+counted [] = refl
+counted (k ∷ ns) = counted_on 1 k k ns ∙ ap (λ j. Some (record { count = j; first = k; last = last_from k ns })) (let e : 1 + length ns ≡ length (k ∷ ns) = omega arith in e)
+
+count_is : (c : Counts) (ns : List ℕ) → Some c ≡ counts_of ns → c.count ≡ length ns
+count_is c [] e = absurd cc
+count_is c (k ∷ ns) e = ap (λ (o : Option Counts). unwrap_or (option_map (λ (x : Counts). x.count) o) 0) e
 
 module _ (high : ℕ) (ms : List Message) (ascends : Between (λ m. m.seq) 1 high ms) where
   pub from_some : (from : ℕ) (m : Message) → Some m ≡ find (λ x. nat_le from x.seq) ms → messages_from from ms ≡ m ∷ messages_from (m.seq + 1) ms
@@ -96,16 +110,8 @@ module _ (high : ℕ) (ms : List Message) (ascends : Between (λ m. m.seq) 1 hig
     pub telling_all : (first from : ℕ) (found : Option Counts) → IsTelling ms subject first from found → None ≡ find (λ x. nat_le from x.seq) ms → found ≡ counts_of (own ms subject first)
     telling_all first from found h e =
         ap (counted_all found) (sym (ap (λ (l : List Message). seqs (filter (λ x. same x.subject subject) l)) (from_none from e))) ∙ h.rest ∙ counted (own ms subject first)
-      where
-        later_on : (n first_one last_one : ℕ) (ns : List ℕ) → counted_all (Some (record { count = n; first = first_one; last = last_one })) ns ≡ Some (record { count = n + length ns; first = first_one; last = last_from last_one ns })
-        later_on n first_one last_one [] = ap (λ k. Some (record { count = k; first = first_one; last = last_one })) (let e : n ≡ n + 0 = omega arith in e)
-        later_on n first_one last_one (k ∷ ns) = later_on (n + 1) first_one k ns ∙ ap (λ j. Some (record { count = j; first = first_one; last = last_from k ns })) (let e : n + 1 + length ns ≡ n + length (k ∷ ns) = omega arith in e)
 
-        counted : (ns : List ℕ) → counted_all None ns ≡ counts_of ns
-        counted [] = refl
-        counted (k ∷ ns) = later_on 1 k k ns ∙ ap (λ j. Some (record { count = j; first = k; last = last_from k ns })) (let e : 1 + length ns ≡ length (k ∷ ns) = omega arith in e)
-
--- ---- how many bytes
+-- ---- how many bytes, and how many
 
 sizes_few : (ms : List Message) → All IsSmall ms → sum_by size ms ≤ length ms * 2 ^ 21
 sizes_few [] h = omega arith
@@ -127,6 +133,18 @@ count_from s first h =
     let few : length s.messages < 2 ^ 32 = h.few in
     let part : length (messages_from first s.messages) ≤ length s.messages = part-length (filter_part (λ m. nat_le first m.seq) s.messages) in
     omega (arith, few, part)
+
+-- no more are counted of a subject than there are
+pub telling_room : (s : Stream) → IsSound s → (subject : Bytes) (first from : ℕ) (found : Option Counts) → IsTelling s.messages subject first from found → IfSome found (λ counts. counts.count < 2 ^ 32)
+telling_room s sound subject first from None h = tt
+telling_room s sound subject first from (Some c) h =
+    let is : c.count + length (own s.messages subject from) ≡ length (own s.messages subject first) =
+    count_is (record { count = c.count + length (own s.messages subject from); first = c.first; last = last_from c.last (own s.messages subject from) }) (own s.messages subject first)
+    (sym (counted_on c.count c.first c.last (own s.messages subject from)) ∙ h.rest ∙ counted (own s.messages subject first)) in
+    let number : length (own s.messages subject first) ≡ length (filter (λ m. same m.subject subject) (messages_from first s.messages)) = length-map (filter (λ m. same m.subject subject) (messages_from first s.messages)) (λ (m : Message). m.seq) in
+    let part : length (filter (λ m. same m.subject subject) (messages_from first s.messages)) ≤ length (messages_from first s.messages) = part-length (filter_part (λ m. same m.subject subject) (messages_from first s.messages)) in
+    let few : length (messages_from first s.messages) < 2 ^ 32 = count_from s first sound in
+    omega (arith, is, number, part, few)
 
 -- the message of a head
 pub head_is : (from : ℕ) (ms : List Message) (h : MessageHead) → Some h ≡ option_map head_of (find (λ x. nat_le from x.seq) ms) → (m : Message) × (Some m ≡ find (λ x. nat_le from x.seq) ms) × (h ≡ head_of m)
@@ -291,11 +309,33 @@ module _ (first : ℕ) where
       go (inr w) r =
           ap (λ c. last_or (unless_before d) (cond c (x ∷ rest) rest)) w.0 ∙ ap (λ o. last_or o rest) (nothing w.1 d refl) ∙ ap (λ c. last_or (cond c (Some x) None) rest) (sym w.0) ∙ r
 
-pub last_seen : (s : Stream) (now first seq : ℕ) → IsSeenFrom s now first → last_or None (filter (λ m. nat_le m.seq seq) (young s now)) ≡ unless_before first (last_or None (filter (λ m. nat_le m.seq seq) s.messages))
+last_seen : (s : Stream) (now first seq : ℕ) → IsSeenFrom s now first → last_or None (filter (λ m. nat_le m.seq seq) (young s now)) ≡ unless_before first (last_or None (filter (λ m. nat_le m.seq seq) s.messages))
 last_seen s now first seq h =
     ap (λ (ms : List Message). last_or None (filter (λ m. nat_le m.seq seq) ms)) h.seen
     ∙ ap (last_or None) (filter_swap (λ m. nat_le m.seq seq) (λ m. nat_le first m.seq) s.messages)
     ∙ last_kept first 1 (s.last + 1) None (filter (λ m. nat_le m.seq seq) s.messages) (λ m e. absurd cc) (part_between (λ m. m.seq) 1 (s.last + 1) (filter_part (λ m. nat_le m.seq seq) s.messages) h.sound.ascends)
+
+-- its head
+pub last_head_seen : (s : Stream) (now first seq : ℕ) → IsSeenFrom s now first
+    → option_map head_of (last_or None (filter (λ m. nat_le m.seq seq) (young s now))) ≡ option_map head_of (unless_before first (last_or None (filter (λ m. nat_le m.seq seq) s.messages)))
+last_head_seen s now first seq h = ap (option_map head_of) (last_seen s now first seq h)
+
+module _ (first : ℕ) where
+  pub no_head_before : (o : Option Message) → None ≡ option_map head_of o → None ≡ option_map head_of (unless_before first o)
+  no_head_before None e = refl
+  no_head_before (Some m) e = absurd cc
+
+  pub head_too_early : (h : MessageHead) (o : Option Message) → Some h ≡ option_map head_of o → h.seq < first → None ≡ option_map head_of (unless_before first o)
+  head_too_early h None e l = absurd cc
+  head_too_early h (Some m) e l =
+      let is : h.seq ≡ m.seq = ap (λ (x : MessageHead). x.seq) (some_is e) in
+      sym (ap (λ b. option_map head_of (cond b (Some m) None)) (lt-leb first m.seq (omega arith)))
+
+  pub head_still_there : (h : MessageHead) (o : Option Message) → Some h ≡ option_map head_of o → first ≤ h.seq → Some h ≡ option_map head_of (unless_before first o)
+  head_still_there h None e l = absurd cc
+  head_still_there h (Some m) e l =
+      let is : h.seq ≡ m.seq = ap (λ (x : MessageHead). x.seq) (some_is e) in
+      e ∙ sym (ap (λ b. option_map head_of (cond b (Some m) None)) (le-leb first m.seq (omega arith)))
 
 -- ---- order
 

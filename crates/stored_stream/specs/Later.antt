@@ -1,10 +1,9 @@
 -- What is stored of a stream as it is seen at a later moment: without the messages that are too old by then, by JetStream's max_age.
-use Rattle.std.specs.Prelude.{◌≡◌, ℕ, ◌+◌, nat_le, List, [], ◌∷◌, Option, Some, None, filter, length}
+use Rattle.std.specs.Prelude.{◌≡◌, ℕ, ◌+◌, nat_le, List, [], ◌∷◌, Option, Some, None, filter}
 use Rattle.js_model.specs.declared.stream.Message.{Message}
 use Rattle.js_model.specs.declared.stream.Stream.{Stream}
 use Rattle.js_model.specs.Advance.{young}
 use Rattle.stream_view.specs.declared.counts.Counts.{Counts}
-use Rattle.stream_view.specs.Counting.{last_from}
 use Rattle.stored_stream.specs.Stored.{IsSound}
 
 -- the stream at the moment

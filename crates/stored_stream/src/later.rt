@@ -1,6 +1,6 @@
 //! What is stored of a stream, as it is seen at a later moment.
 
-ghost use Rattle.std.specs.Prelude.{◌≡◌, filter, length, sum_by};
+ghost use Rattle.std.specs.Prelude.{◌≡◌, ◌^◌, ◌<◌, filter, length, sum_by, IfSome};
 ghost use Rattle.js_base.specs.Bytes.{same};
 ghost use Rattle.js_model.specs.Advance.{young};
 ghost use Rattle.js_model.specs.Streams.{seqs, size};
@@ -153,6 +153,7 @@ fn counts_from(stored: &StoredStream, first: u64, subject: &[u8]) -> Option<Coun
 
 /// What is counted with one sequence more.
 fn counted_more(found: Option<Counts>, seq: u64) -> Counts
+    requires room { IfSome found (λ counts. counts.count < 2 ^ 32) }
     ensures value { result ≡ counted_more found seq }
 {
     match found {

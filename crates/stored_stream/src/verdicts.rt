@@ -33,11 +33,7 @@ const LONGEST_ID: usize = 256;
 /// What a stream answers a publish, by JetStream's publish headers, duplicate window and discard policy, if its store has a block for the
 /// message.
 #[tactic(auto, unfolding(js_model::specs::Verdict::verdict))]
-pub fn verdict(
-    alloc: Global,
-    stream: &StoredStream,
-    publish: &Publish,
-) -> Result<Verdict, NoMemory>
+pub fn verdict(alloc: Global, stream: &StoredStream, publish: &Publish) -> Result<Verdict, NoMemory>
     requires sound { IsSound stream.now }
     requires within { next_over stream.now ≡ None }
     ensures value { IfOk result (λ said. said ≡ verdict stream.now publish.now true) }

@@ -1,7 +1,6 @@
 -- What the calls on consumers answer, and which messages they leave kept.
-use Rattle.std.proofs.Common.{◌≡◌, ℕ, ◌+◌, ◌<◌, ◌≤◌, Bool, true, false, cond, List, [], ◌∷◌, ◌++◌, Option, Some, None, append-nil, length, map, refl, sym, ap, subst, ◌∙◌}
-use Rattle.std.specs.Prelude.{All, option_map, slice_get}
-use Rattle.std.specs.Option.{option_copied}
+use Rattle.std.proofs.Common.{◌≡◌, ℕ, Bool, true, false, cond, List, [], ◌∷◌, ◌++◌, Option, Some, None, append-nil, map, refl, sym, ap, subst, ◌∙◌}
+use Rattle.std.specs.Prelude.{All, slice_get}
 use Rattle.js_base.specs.Bytes.{Bytes, same}
 use Rattle.js_base.specs.declared.out.Out.{Out}
 use Rattle.js_base.specs.declared.out.ApiError.{ApiError}
@@ -12,7 +11,6 @@ use Rattle.js_model.specs.declared.stream.Stream.{Stream}
 use Rattle.js_model.specs.declared.stream.State.TheVariants.{Live}
 use Rattle.js_model.specs.declared.consumer.Consumer.{Consumer}
 use Rattle.js_model.specs.declared.entry.Delivered.{Delivered}
-use Rattle.js_model.specs.declared.reply.Reply.{Reply}
 use Rattle.js_model.specs.declared.reply.Reply.TheVariants.{Done, Nobody, Refused, Silent}
 use Rattle.js_model.specs.Acknowledge.{acknowledged, is_no_delivery}
 use Rattle.js_model.specs.Events.{ack_answer, ack_done, ack_reply, after_ack, consumer_dropped, next_ask, next_outs, pull_answer, quietly}
@@ -20,7 +18,7 @@ use Rattle.js_model.specs.Refusals.{no_consumer}
 use Rattle.js_model.specs.Retention.{is_kept}
 use Rattle.js_model.specs.Streams.{by_name, in_place_of, with_consumer}
 use Rattle.js_model.proofs.Members.{all_in}
-use Rattle.js_model.proofs.Named.{found_named, none_some, same_is, some_is}
+use Rattle.js_model.proofs.Named.{found_named, same_is, some_is}
 use Rattle.stream_state.specs.Answering.{Answers}
 use Rattle.followed_stream.specs.Asked.{AcksAt, DropsAt, PullsAt}
 use Rattle.followed_stream.specs.declared.answering.Acked.{Acked}

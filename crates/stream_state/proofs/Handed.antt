@@ -1,6 +1,6 @@
 -- Which consumer is ready, and what a delivery to it leaves.
-use Rattle.std.proofs.Common.{◌≡◌, ℕ, zero, suc, ◌+◌, ◌<◌, ◌≤◌, Bool, true, false, cond, List, [], ◌∷◌, ◌++◌, Option, Some, None, get_or, length, map, max, refl, sym, ap, subst, ◌∙◌, ◌==◌, ◌&&◌, ◌||◌, not, IsTrue, arith, inl, inr}
-use Rattle.std.specs.Prelude.{◌⊎◌, All, nat_lt, option_map, slice_get}
+use Rattle.std.proofs.Common.{◌≡◌, ℕ, zero, suc, ◌+◌, ◌<◌, ◌≤◌, Bool, true, false, cond, List, [], ◌∷◌, Option, Some, None, get_or, length, map, max, refl, sym, ap, subst, ◌∙◌, ◌==◌, ◌&&◌, ◌||◌, not, IsTrue, arith, inl, inr}
+use Rattle.std.specs.Prelude.{◌⊎◌, nat_lt, option_map, slice_get}
 use Rattle.std.specs.List.{list_any}
 use Rattle.std.proofs.lemmas.Bool.{eqb-false, eqb-true, ltb-false, ltb-true}
 use Rattle.std.proofs.lemmas.List.{length-map}
@@ -25,7 +25,7 @@ use Rattle.followed_stream.specs.Delivering.{IsIdleAt, IsReadyAt, IsReadyIf}
 use Rattle.followed_stream.specs.Handing.{HandsAt, MayHandAt}
 use Rattle.followed_stream.specs.Spans.{joined, spans}
 use Rattle.followed_stream.specs.declared.span.Span.{Span}
-use Rattle.stream_state.specs.Serving.{is_of_some, is_ready_if, FindsReady, Serves, ServesNone}
+use Rattle.stream_state.specs.Serving.{is_of_some, is_ready_if, FindsAmong, FindsReady, Serves, ServesNone}
 use Rattle.stream_state.specs.Settled.{AreProper, IsSettled}
 use Rattle.stream_state.proofs.Calling.{outside_acked, outside_handed}
 use Rattle.stream_state.proofs.Proper.{delivered_kin, proper_with}
@@ -131,14 +131,14 @@ unready_none a listening from place k l = absurd (omega (arith, k, l))
 
 pub unready_more : (a : Stream) (listening : List Bytes) (from end : ℕ) (ready : Bool) → AreUnready a listening from end → ready ≡ is_ready_if a listening (slice_get a.consumers end) → ready ≡ false
     → AreUnready a listening from (end + 1)
-unready_more a listening from end ready h e no place k l = go (place == end) refl
+unready_more a listening from end ready h e unready place k l = go (place == end) refl
   where
     go : (b : Bool) → (place == end) ≡ b → is_ready_if a listening (slice_get a.consumers place) ≡ false
-    go true q = ap (λ (n : ℕ). is_ready_if a listening (slice_get a.consumers n)) (eqb-true place end q) ∙ sym e ∙ no
+    go true q = ap (λ (n : ℕ). is_ready_if a listening (slice_get a.consumers n)) (eqb-true place end q) ∙ sym e ∙ unready
     go false q = let n : place ≡ end → ⊥ = eqb-false place end q in h place k (omega (arith, l, n))
 
 -- none at all is, if none is on either side of a place
-pub none_ready : (a : Stream) (listening : List Bytes) (turn end : ℕ) → length a.consumers ≤ end → AreUnready a listening turn end → AreUnready a listening 0 turn → list_any (is_ready a listening) a.consumers ≡ false
+none_ready : (a : Stream) (listening : List Bytes) (turn end : ℕ) → length a.consumers ≤ end → AreUnready a listening turn end → AreUnready a listening 0 turn → list_any (is_ready a listening) a.consumers ≡ false
 none_ready a listening turn end l behind before = go a.consumers refl
   where
     unready : (i : ℕ) → i < length a.consumers → is_ready_if a listening (slice_get a.consumers i) ≡ false
@@ -159,6 +159,11 @@ none_ready a listening turn end l behind before = go a.consumers refl
     go : (cs : List Consumer) → a.consumers ≡ cs → list_any (is_ready a listening) a.consumers ≡ false
     go [] e = ap (list_any (is_ready a listening)) e
     go (d ∷ ds) e = list_any_none (is_ready a listening) a.consumers (All-from_get_or (λ c. is_ready a listening c ≡ false) a.consumers d (each d))
+
+-- the search from a place on, and then up to it
+pub finds_all : (a : Stream) (listening : List Bytes) (turn end : ℕ) (found : Option ℕ) → length a.consumers ≤ end → AreUnready a listening turn end → FindsAmong a listening 0 turn found → FindsReady a listening found
+finds_all a listening turn end None l behind before = none_ready a listening turn end l behind before
+finds_all a listening turn end (Some place) l behind found = found
 
 -- as many stand there as before
 pub as_many : (s : Stream) (now : ℕ) → length (advance s now).consumers ≡ length s.consumers

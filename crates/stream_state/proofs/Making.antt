@@ -1,5 +1,5 @@
 -- A consumer that is made: that there is room for it, and what is told of it.
-use Rattle.std.proofs.Common.{◌≡◌, ℕ, ◌+◌, ◌<◌, ◌≤◌, List, [], ◌∷◌, Option, Some, None, IsTrue, length, map, min, refl, sym, ap, subst, ◌∙◌, arith}
+use Rattle.std.proofs.Common.{◌≡◌, ℕ, ◌<◌, List, Option, Some, None, IsTrue, length, min, refl, sym, ap, subst, ◌∙◌, arith}
 use Rattle.std.specs.Prelude.{filter, option_map, unwrap_or}
 use Rattle.std.proofs.lemmas.Bool.{leb-false}
 use Rattle.js_base.specs.Bytes.{Bytes}

@@ -2,6 +2,7 @@
 use Rattle.std.proofs.Common.{◌≡◌, ℕ, List, [], ◌∷◌, ◌++◌, drop, map, take, max, refl, sym, ap, ◌∙◌}
 use Rattle.std.specs.List.{flat_map}
 use Rattle.std.proofs.lemmas.List.{drop-map, take-map}
+use Rattle.std.proofs.lemmas.List.Folds.{flat_map-map}
 use Rattle.js_base.specs.declared.out.Out.{Out}
 use Rattle.js_model.specs.declared.stream.Stream.{Stream}
 use Rattle.js_model.specs.declared.consumer.Consumer.{Consumer}
@@ -13,15 +14,7 @@ use Rattle.followed_stream.specs.Followers.{Following}
 pub page_map : {X Y : Type 0} (f : X → Y) (most offset : ℕ) (xs : List X) → map f (page_of most offset xs) ≡ page_of most offset (map f xs)
 page_map f most offset xs = sym (take-map f most (drop offset xs)) ∙ ap (take most) (sym (drop-map f offset xs))
 
-pub map_both : {X Y Z : Type 0} (g : Y → Z) (f : X → Y) (xs : List X) → map g (map f xs) ≡ map (λ x. g (f x)) xs
-map_both g f [] = refl
-map_both g f (x ∷ xs) = ap (λ l. g (f x) ∷ l) (map_both g f xs)
-
 -- ---- what is sent
-
-outs_of : (now : ℕ) (fs : List Following) → flat_map (λ f. consumer_outs now f.consumer) fs ≡ flat_map (consumer_outs now) (map (λ f. f.consumer) fs)
-outs_of now [] = refl
-outs_of now (f ∷ fs) = ap (λ (outs : List Out). consumer_outs now f.consumer ++ outs) (outs_of now fs)
 
 -- what a consumer holds has no part in it
 outs_confined : (now : ℕ) (ns : List ℕ) (cs : List Consumer) → flat_map (consumer_outs now) (map (confined ns) cs) ≡ flat_map (consumer_outs now) cs
@@ -31,4 +24,4 @@ outs_confined now ns (c ∷ cs) = ap (λ (outs : List Out). consumer_outs now c 
 pub told_by : (s : Stream) (now : ℕ) (fs : List Following) → map (λ f. f.consumer) fs ≡ s.consumers → flat_map (λ f. consumer_outs (max s.moment now) f.consumer) fs ≡ advance_outs s now
 unfolding advance_outs
 told_by s now fs is =
-    outs_of (max s.moment now) fs ∙ ap (flat_map (consumer_outs (max s.moment now))) is ∙ sym (outs_confined (max s.moment now) (seqs (young s (max s.moment now))) s.consumers)
+    sym (flat_map-map (consumer_outs (max s.moment now)) (λ (f : Following). f.consumer) fs) ∙ ap (flat_map (consumer_outs (max s.moment now))) is ∙ sym (outs_confined (max s.moment now) (seqs (young s (max s.moment now))) s.consumers)

@@ -1,7 +1,8 @@
 -- Which check of a new consumer refuses it.
-use Rattle.std.proofs.Common.{◌≡◌, ℕ, Bool, true, false, ◌&&◌, not, cond, List, [], ◌∷◌, ◌++◌, Option, Some, None, length, map, refl, sym, ap, ◌∙◌}
-use Rattle.std.specs.Prelude.{codes, min, nat_le, nat_lt, unwrap_or}
+use Rattle.std.proofs.Common.{◌≡◌, ℕ, ◌<◌, ◌≤◌, Bool, true, false, ◌&&◌, cond, List, [], ◌∷◌, ◌++◌, Some, None, Result, Ok, Err, IsErrAnd, length, map, refl, sym, ap, subst, ◌∙◌, arith}
+use Rattle.std.specs.Prelude.{IfErr, codes, min, nat_le, nat_lt, unwrap_or}
 use Rattle.std.specs.List.{list_any}
+use Rattle.std.proofs.lemmas.Bool.{le-leb, lt-leb}
 use Rattle.js_base.specs.Bytes.{Bytes}
 use Rattle.js_base.specs.declared.out.ApiError.{ApiError}
 use Rattle.js_model.specs.declared.stream.Stream.{Stream}
@@ -13,6 +14,8 @@ use Rattle.js_model.proofs.Named.{none_some}
 use Rattle.consumer_state.specs.Making.{own_checks, policy_checks, IsRefusal}
 use Rattle.consumer_state.specs.declared.fault.MakeFault.{MakeFault}
 use Rattle.consumer_state.specs.declared.fault.MakeFault.TheVariants.{Refused, NoMemory}
+use Rattle.consumer_state.proofs.Filters.{any_map}
+use Rattle.followed_stream.specs.Followers.{Following}
 
 -- ---- the first of several checks
 
@@ -40,11 +43,20 @@ none_before (x ∷ xs) ys h = go x.0 h (none_before xs ys)
     go true k r = absurd (none_some (sym k))
     go false k r = r k
 
+-- the fault that is passed on
+pub refused_as : {X : Type 0} (checks : List Check) (fault : MakeFault) (result : Result X MakeFault) → IsErrAnd result (λ made. made ≡ fault) → IsRefusal checks fault → IfErr result (IsRefusal checks)
+refused_as checks fault (Ok x) e h = tt
+refused_as checks fault (Err made) e h = subst (IsRefusal checks) (sym e) h
+
 -- ---- the rules of a work queue
 
 module _ (s : Stream) (name : Bytes) (config : ConsumerConfig) where
   abbrev rivals : Check
   rivals = (is_work_queue s && list_any (is_rival name config) s.consumers, work_queue_rule (codes "filter_subject"))
+
+  -- what is asked of the followers
+  pub rivals_as : (fs : List Following) → map (λ f. f.consumer) fs ≡ s.consumers → list_any (λ f. is_rival name config f.consumer) fs ≡ list_any (is_rival name config) s.consumers
+  rivals_as fs is = sym (any_map (is_rival name config) (λ (f : Following). f.consumer) fs) ∙ ap (list_any (is_rival name config)) is
 
   pub policy_refused : (e : ApiError) → first_refusal (policy_checks s config) ≡ Some e → first_refusal (queue_checks s name config) ≡ Some e
   policy_refused e h = refused_before (policy_checks s config) (rivals ∷ []) e h
@@ -62,6 +74,12 @@ module _ (s : Stream) (name : Bytes) (config : ConsumerConfig) where
 
   abbrev full : Check
   full = (nat_le (min (unwrap_or s.config.max_consumers 256) 256) (length s.consumers), max_consumers_reached)
+
+  pub is_full : (most count : ℕ) → most ≡ min (unwrap_or s.config.max_consumers 256) 256 → count ≡ length s.consumers → most ≤ count → full.0 ≡ true
+  is_full most count m n l = le-leb (min (unwrap_or s.config.max_consumers 256) 256) (length s.consumers) (omega (arith, m, n, l))
+
+  pub has_place : (most count : ℕ) → most ≡ min (unwrap_or s.config.max_consumers 256) 256 → count ≡ length s.consumers → count < most → full.0 ≡ false
+  has_place most count m n l = lt-leb (min (unwrap_or s.config.max_consumers 256) 256) (length s.consumers) (omega (arith, m, n, l))
 
   pub by_queue : (e : ApiError) → Some e ≡ first_refusal (queue_checks s name config) → first_refusal (making_checks s name config) ≡ Some e
   by_queue e h = refused_before (queue_checks s name config) (many ∷ full ∷ []) e (sym h)

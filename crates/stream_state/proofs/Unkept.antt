@@ -1,8 +1,7 @@
 -- Messages that the retention does not keep go one by one.
 use Rattle.std.proofs.Common.{◌≡◌, ℕ, ◌+◌, ◌<◌, ◌==◌, ◌&&◌, Bool, true, false, cond, not, List, [], ◌∷◌, Option, Some, None, refl, sym, ap, subst, ◌∙◌, arith}
-use Rattle.std.specs.Prelude.{All, filter, find, is_some, nat_le, option_map}
+use Rattle.std.specs.Prelude.{filter, find, is_some, nat_le, option_map}
 use Rattle.std.proofs.lemmas.Bool.{true≢false, and_parts, eqb-true, leb-false, lt-leb}
-use Rattle.std.proofs.lemmas.List.Elements.{All-nil, All-cons}
 use Rattle.js_model.specs.declared.stream_config.Retention.TheVariants.{Limits}
 use Rattle.js_model.specs.declared.stream.Message.{Message}
 use Rattle.js_model.specs.declared.stream.Stream.{Stream}

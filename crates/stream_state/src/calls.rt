@@ -61,6 +61,7 @@ impl StreamState {
         ensures settled { trim self.new ≡ self.new }
         ensures err { OnErr result (self.new ≡ self.old) }
     {
+        self.holds();
         let consumer = self.new_consumer(name, config)?;
         let mut info = self.info_of_new(&consumer)?;
         self.insert(consumer)?;

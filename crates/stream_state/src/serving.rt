@@ -46,13 +46,7 @@ impl StreamState {
     }
 
     /// The first of the places from one on and before another to whose consumer something can be delivered then.
-    fn ready_among(
-        &self,
-        from: usize,
-        end: usize,
-        now: Moment,
-        listening: &[Blob],
-    ) -> Option<usize>
+    fn ready_among(&self, from: usize, end: usize, now: Moment, listening: &[Blob]) -> Option<usize>
         ensures finds { FindsAmong (advance self.now now) listening.now from end result }
     {
         for place in from..end {

@@ -103,7 +103,10 @@ impl StreamState {
 fn push_among(followers: &[Follower], at: usize) -> Option<&Follower>
     ensures value { option_copied result ≡ slice_get (filter (λ f. is_push f.consumer) followers.now) at }
 {
-    followers.iter().filter(|follower| is_push(follower)).nth(at)
+    followers
+        .iter()
+        .filter(|follower| is_push(follower))
+        .nth(at)
 }
 
 /// Whether its messages go to a subject of its own.

@@ -84,7 +84,7 @@ impl StreamState {
         ensures named { AreNamedApart self.now.consumers }
         ensures settled { trim self.now ≡ self.now }
     {
-        let _incarnation = self.incarnation();
+        let _stream = &self.stream;
     }
 
     /// The moment at which it was made.

@@ -1,4 +1,4 @@
-use Rattle.std.proofs.Common.{◌≡◌, ℕ, ◌+◌, ◌^◌, ◌<◌, ap, ◌∙◌, arith}
+use Rattle.std.proofs.Common.{◌+◌, arith}
 use Rattle.stored_stream.proofs.Finding.{found_from, found_within}
 use Rattle.followed_stream.proofs.Counts.{at_most_one, counts_all, counts_few, counts_more, counts_none}
 use Rattle.followed_stream.proofs.Holding.{awaits_it}

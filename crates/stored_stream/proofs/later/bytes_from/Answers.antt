@@ -1,6 +1,5 @@
-use Rattle.std.proofs.Common.{◌≡◌, ℕ, ◌+◌, ◌^◌, ◌<◌, ◌≤◌, ap, sym, subst, arith}
+use Rattle.std.proofs.Common.{◌≡◌, ◌+◌, ◌^◌, ◌≤◌, ap, sym, subst, ◌∙◌, arith}
 use Rattle.std.specs.Prelude.{sum_by}
-use Rattle.js_model.specs.declared.stream.Message.{Message}
 use Rattle.js_model.specs.Streams.{size}
 use Rattle.stream_view.specs.Heads.{MessageHead}
 use Rattle.stored_stream.specs.Later.{messages_from}
@@ -18,7 +17,7 @@ overflow_add-bytes c =
     let more = summing_more (s.last + 1) s.messages c.requires.sound.ascends c.args.first c.loop-head.from c.loop-head.bytes w.0 c.loop-head.invariant w.1 in
     let all : c.loop-head.bytes + size w.0 + sum_by size (messages_from (w.0.seq + 1) s.messages) ≡ sum_by size (messages_from c.args.first s.messages) = more.rest in
     let few : sum_by size (messages_from c.args.first s.messages) ≤ 2 ^ 53 = sizes_from s c.args.first c.requires.sound in
-    let is : c.in-Some.head.size ≡ size w.0 = ap (λ (h : MessageHead). h.size) w.2 in
+    let is : c.head.inside.size ≡ size w.0 = ap (λ (h : MessageHead). h.size) (c.head.view_is ∙ w.2) in
     omega (arith, all, few, is)
 
 pub overflow_add-from : goal.overflow_add-from
@@ -26,7 +25,7 @@ overflow_add-from c =
     let s = c.args.stored.now in
     let w = head_is c.loop-head.from s.messages c.in-Some.head c.in-Some.ensures.value in
     let within = found_within s _ w.0 c.requires.sound w.1 in
-    let is : c.in-Some.head.seq ≡ w.0.seq = ap (λ (h : MessageHead). h.seq) w.2 in
+    let is : c.head.inside.seq ≡ w.0.seq = ap (λ (h : MessageHead). h.seq) (c.head.view_is ∙ w.2) in
     omega (arith, within, is, c.requires.sound.last)
 
 pub loop-head-smaller : goal.loop-head-smaller
@@ -35,14 +34,14 @@ loop-head-smaller c =
     let w = head_is c.loop-head.from s.messages c.in-Some.head c.in-Some.ensures.value in
     let within = found_within s _ w.0 c.requires.sound w.1 in
     let from = found_from s.messages c.loop-head.from w.0 w.1 in
-    let is : c.in-Some.head.seq ≡ w.0.seq = ap (λ (h : MessageHead). h.seq) w.2 in
+    let is : c.head.inside.seq ≡ w.0.seq = ap (λ (h : MessageHead). h.seq) (c.head.view_is ∙ w.2) in
     omega (arith, within, from, is)
 
 pub loop-head-preserved : goal.loop-head-preserved
 loop-head-preserved c =
     let s = c.args.stored.now in
     let w = head_is c.loop-head.from s.messages c.in-Some.head c.in-Some.ensures.value in
-    subst (λ (h : MessageHead). IsSumming s.messages c.args.first (h.seq + 1) (c.loop-head.bytes + h.size)) (sym w.2)
+    subst (λ (h : MessageHead). IsSumming s.messages c.args.first (h.seq + 1) (c.loop-head.bytes + h.size)) (sym (c.head.view_is ∙ w.2))
     (summing_more (s.last + 1) s.messages c.requires.sound.ascends c.args.first c.loop-head.from c.loop-head.bytes w.0 c.loop-head.invariant w.1)
 
 pub returns : goal.returns

@@ -1,7 +1,7 @@
-use Rattle.std.proofs.Common.{◌≡◌, ℕ, ◌+◌, ◌^◌, ◌<◌, ◌≤◌, length, arith}
+use Rattle.std.proofs.Common.{◌≡◌, ◌+◌, ◌^◌, ◌<◌, length, arith}
 use Rattle.stored_stream.specs.Later.{messages_from}
 use Rattle.stored_stream.proofs.Finding.{found_from, found_within}
-use Rattle.stored_stream.proofs.Latest.{count_from, counting_all, counting_more, from_some}
+use Rattle.stored_stream.proofs.Latest.{count_from, counting_all, counting_more}
 use Rattle.stored_stream.proofs.later.count_from.Goals as goal
 
 pub loop-message-init : goal.loop-message-init

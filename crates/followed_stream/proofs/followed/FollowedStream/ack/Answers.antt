@@ -1,5 +1,5 @@
-use Rattle.std.proofs.Common.{◌≡◌, ◌<◌, length, ap, sym, subst, ◌∙◌, arith}
-use Rattle.followed_stream.proofs.AtPlaces.{acks_at, Follows}
+use Rattle.std.proofs.Common.{arith}
+use Rattle.followed_stream.proofs.AtPlaces.{acks_at}
 use Rattle.followed_stream.proofs.Changing.{place_there}
 use Rattle.followed_stream.proofs.followed.FollowedStream.ack.Goals as goal
 

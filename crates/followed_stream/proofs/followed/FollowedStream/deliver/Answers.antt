@@ -1,9 +1,8 @@
-use Rattle.std.proofs.Common.{◌≡◌, ◌<◌, length, ap, sym, subst, ◌∙◌, arith}
-use Rattle.js_model.specs.declared.stream.Stream.{Stream}
+use Rattle.std.proofs.Common.{sym, subst, arith}
 use Rattle.followed_stream.specs.Delivering.{AreCurrent}
 use Rattle.followed_stream.specs.Followers.{attended}
 use Rattle.followed_stream.proofs.Attending.{sound_with}
-use Rattle.followed_stream.proofs.AtPlaces.{current_there, hands_at, Follows}
+use Rattle.followed_stream.proofs.AtPlaces.{current_there, hands_at}
 use Rattle.followed_stream.proofs.Changing.{place_there}
 use Rattle.followed_stream.proofs.followed.FollowedStream.deliver.Goals as goal
 

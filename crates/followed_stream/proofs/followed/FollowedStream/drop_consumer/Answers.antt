@@ -1,4 +1,4 @@
-use Rattle.std.proofs.Common.{◌<◌, length, arith}
+use Rattle.std.proofs.Common.{arith}
 use Rattle.followed_stream.proofs.AtPlaces.{drops, followed_without}
 use Rattle.followed_stream.proofs.Changing.{place_there}
 use Rattle.followed_stream.proofs.followed.FollowedStream.drop_consumer.Goals as goal

@@ -1,4 +1,4 @@
-use Rattle.std.proofs.Common.{◌≡◌, ℕ, List, None, length, ap, sym, subst, ◌∙◌, map, arith}
+use Rattle.std.proofs.Common.{◌≡◌, ℕ, List, None, length, ap, sym, subst, ◌∙◌, arith}
 use Rattle.std.specs.List.{insert}
 use Rattle.js_base.specs.Bytes.{Bytes}
 use Rattle.js_model.specs.declared.consumer.Consumer.{Consumer}
@@ -6,7 +6,7 @@ use Rattle.js_model.specs.declared.stream.Stream.{Stream}
 use Rattle.js_model.specs.Consumers.{with_new}
 use Rattle.js_model.specs.Streams.{by_name}
 use Rattle.consumer_need.specs.Stored.{HoldsStored}
-use Rattle.followed_stream.specs.Followers.{attended, AreFollowed, Following}
+use Rattle.followed_stream.specs.Followers.{attended, Following}
 use Rattle.followed_stream.proofs.Attending.{sound_with}
 use Rattle.followed_stream.proofs.Makes.{before_name, followed_made, made}
 use Rattle.followed_stream.proofs.followed.FollowedStream.insert.Goals as goal

@@ -1,8 +1,6 @@
 use Rattle.std.proofs.Common.{ap, ◌∙◌}
 use Rattle.std.specs.List.{position}
-use Rattle.js_model.specs.declared.stream.Stream.{Stream}
 use Rattle.followed_stream.specs.Followers.{is_named}
-use Rattle.followed_stream.specs.Placing.{IsPlaceOf}
 use Rattle.followed_stream.proofs.Naming.{place_is_of}
 use Rattle.followed_stream.proofs.followed.FollowedStream.place.Goals as goal
 

@@ -4,7 +4,7 @@ use Rattle.place_engine.proofs.Shown.{acked_shown}
 use Rattle.place_engine.proofs.live_stream.LiveStream.ack.Goals as goal
 
 pub returns-clause-acts : goal.returns-clause-acts
-returns-clause-acts c = IfOk-weaker c.ack.result _ _ (λ told h. acts_of _ told c.args.outs.now _ _ h) c.ack.ensures.answers
+returns-clause-acts c = rw (← c.self.view_is) (IfOk-weaker c.ack.result _ _ (λ told h. acts_of _ told c.args.outs.now _ _ h) c.ack.ensures.answers)
 
 pub returns-clause-shown : goal.returns-clause-shown
 returns-clause-shown c = IfOk-weaker c.ack.result _ _ (λ told h. told_shown _ told _ _ _ h (acked_shown _ _ c.args.ack.now.seq c.args.ack.now.kind _)) c.ack.ensures.answers

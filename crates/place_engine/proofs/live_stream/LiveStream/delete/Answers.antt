@@ -1,5 +1,3 @@
-use Rattle.std.proofs.Common.{◌∙◌, sym}
-use Rattle.place_engine.proofs.Answering.{deletes, deletes_none}
 use Rattle.place_engine.proofs.Shown.{no_message_utf8}
 use Rattle.place_engine.proofs.live_stream.LiveStream.delete.Goals.{then-delete, else-delete+in_ok-no_message}
 use Rattle.place_engine.proofs.live_stream.LiveStream.delete.Goals as goal

@@ -1,5 +1,3 @@
-use Rattle.std.proofs.Common.{ap, sym, ◌∙◌}
-use Rattle.js_model.specs.Events.{settled}
 use Rattle.place_engine.proofs.Answering.{purges}
 use Rattle.place_engine.proofs.live_stream.LiveStream.purge.Goals as goal
 

@@ -1,6 +1,4 @@
-use Rattle.std.proofs.Common.{ap}
-use Rattle.js_model.specs.declared.stream.State.TheVariants.{Live}
-use Rattle.place_engine.proofs.Places.{drops_nothing, drops}
+use Rattle.place_engine.proofs.Places.{drops_nothing}
 use Rattle.place_engine.proofs.Shown.{no_stream_utf8}
 use Rattle.place_engine.proofs.slot.Slot.drop_stream.Goals as goal
 

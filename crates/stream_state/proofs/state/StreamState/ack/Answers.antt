@@ -1,4 +1,4 @@
-use Rattle.std.proofs.Common.{◌≡◌, None, ap, sym, ◌∙◌}
+use Rattle.std.proofs.Common.{◌≡◌, None, ap, ◌∙◌}
 use Rattle.js_model.specs.declared.stream.Stream.{Stream}
 use Rattle.retention.specs.Over.{next_over}
 use Rattle.stream_state.proofs.Calling.{ack_told, nobody_acks, outside_acked}
@@ -18,9 +18,9 @@ ack-requires c = record { within = c.in-Some.ensures.value.within }
 pub invariant_of-self-2 : goal.invariant_of-self-2
 invariant_of-self-2 c =
     let s = c.self.inside.stream in
-    let p = c.in_ok-ack.ensures.acked in
+    let p = c.in_ok-told.ensures.acked in
     record {
-      attended = c.in_ok-ack.ensures.sound;
+      attended = c.in_ok-told.ensures.sound;
       proper = rw p.left (proper_with s.consumers _ _ p.consumer p.found (acked_kin s.moment _ c.args.ack.now.seq c.args.ack.now.kind p.consumer) c.self.invariant.proper);
       within = ap (λ (x : Stream). next_over x) p.left ∙ c.self.invariant.within;
       kept = rw c.join-self-inside.ensures.value
@@ -30,12 +30,12 @@ invariant_of-self-2 c =
 pub returns-clause-answers : goal.returns-clause-answers
 returns-clause-answers c =
     rw (← c.self.view_is)
-    (ack_told c.self.inside.stream c.args.ack.now.consumer c.in-Some.place _ c.args.ack.now.seq c.args.ack.now.kind _ c.args.outs.now _ c.ack.new.self c.self.invariant.attended.named c.in-Some.ensures.value c.in_ok-ack.ensures.acked)
+    (ack_told c.self.inside.stream c.args.ack.now.consumer c.in-Some.place _ c.args.ack.now.seq c.args.ack.now.kind _ c.args.outs.now _ c.ack.new.self c.self.invariant.attended.named c.in-Some.ensures.value c.in_ok-told.ensures.acked)
 
 pub returns-clause-settled : goal.returns-clause-settled
 returns-clause-settled c =
-    let within : next_over c.ack.new.self ≡ None = ap (λ (x : Stream). next_over x) c.in_ok-ack.ensures.acked.left ∙ c.self.invariant.within in
-    trimmed c.ack.new.self c.in_ok-ack.ensures.sound within
+    let within : next_over c.ack.new.self ≡ None = ap (λ (x : Stream). next_over x) c.in_ok-told.ensures.acked.left ∙ c.self.invariant.within in
+    trimmed c.ack.new.self c.in_ok-told.ensures.sound within
 
-pub returns-in_err-ack-clause-settled : goal.returns-in_err-ack-clause-settled
-returns-in_err-ack-clause-settled c = rw c.in_err-ack.ensures.err (trimmed c.self.inside.stream c.self.invariant.attended c.self.invariant.within)
+pub returns-in_err-told-clause-settled : goal.returns-in_err-told-clause-settled
+returns-in_err-told-clause-settled c = rw c.in_err-told.ensures.err (trimmed c.self.inside.stream c.self.invariant.attended c.self.invariant.within)

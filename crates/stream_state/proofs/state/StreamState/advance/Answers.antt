@@ -1,9 +1,10 @@
-use Rattle.std.proofs.Common.{◌≡◌, ◌≤◌, None, max, map, ap, sym, ◌∙◌, arith}
+use Rattle.std.proofs.Common.{◌≡◌, ℕ, ◌≤◌, None, max, map, ap, subst, sym, ◌∙◌, arith}
 use Rattle.js_model.specs.declared.stream.Stream.{Stream}
 use Rattle.js_model.specs.Advance.{consumer_at, remembered, young}
 use Rattle.js_model.specs.Streams.{only}
 use Rattle.js_model.proofs.Parts.{young_part}
 use Rattle.retention.specs.Over.{next_over}
+use Rattle.followed_stream.specs.Delivering.{AreCurrentAt}
 use Rattle.followed_stream.proofs.Going.{within_only}
 use Rattle.stream_state.proofs.Proper.{proper_at, proper_only}
 use Rattle.stream_state.proofs.Settling.{advanced, advanced_kept, trimmed}
@@ -53,4 +54,4 @@ returns-clause-settled c =
 pub returns-clause-current : goal.returns-clause-current
 returns-clause-current c =
     let at = ap (λ (x : Stream). x.moment) (c.advance_consumers-loose.ensures.left ∙ ap (λ (x : Stream). record x { consumers = map (consumer_at c.later-now.result) x.consumers }) c.pass_time.ensures.left) in
-    rw at c.advance_consumers-loose.ensures.current
+    subst (λ (now : ℕ). AreCurrentAt now c.advance_consumers-loose.new.self) (sym at) c.advance_consumers-loose.ensures.current

@@ -1,4 +1,4 @@
-use Rattle.std.proofs.Common.{◌≡◌, None, ap, sym, ◌∙◌}
+use Rattle.std.proofs.Common.{◌≡◌, None, ap, ◌∙◌}
 use Rattle.js_model.specs.declared.stream.Stream.{Stream}
 use Rattle.retention.specs.Over.{next_over}
 use Rattle.stream_state.proofs.Calling.{drop_told, nobody_drops}
@@ -33,3 +33,9 @@ pub returns-clause-settled : goal.returns-clause-settled
 returns-clause-settled c =
     let within : next_over c.drop_consumer.new.self ≡ None = ap (λ (x : Stream). next_over x) c.in_ok-drop_consumer.ensures.dropped.left ∙ c.self.invariant.within in
     trimmed c.drop_consumer.new.self c.in_ok-drop_consumer.ensures.sound within
+
+pub returns-in_err-no_consumer-clause-settled : goal.returns-in_err-no_consumer-clause-settled
+returns-in_err-no_consumer-clause-settled c = rw (← c.self.view_is) (trimmed c.self.inside.stream c.self.invariant.attended c.self.invariant.within)
+
+pub returns-in_err-drop_consumer-clause-settled : goal.returns-in_err-drop_consumer-clause-settled
+returns-in_err-drop_consumer-clause-settled c = rw c.in_err-drop_consumer.ensures.err (trimmed c.self.inside.stream c.self.invariant.attended c.self.invariant.within)

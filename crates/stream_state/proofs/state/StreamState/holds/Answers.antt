@@ -9,3 +9,9 @@ returns-clause-proper c = rw (← c.self.view_is) c.self.invariant.proper
 
 pub returns-clause-named : goal.returns-clause-named
 returns-clause-named c = rw (← c.self.view_is) c.self.invariant.attended.named
+
+pub returns-clause-config : goal.returns-clause-config
+returns-clause-config c = rw (← c.self.view_is) c.self.invariant.attended.sound.config
+
+pub returns-clause-order : goal.returns-clause-order
+returns-clause-order c = rw (← c.self.view_is) (record { ascends = c.self.invariant.attended.sound.ascends; bound = c.self.invariant.attended.sound.last })

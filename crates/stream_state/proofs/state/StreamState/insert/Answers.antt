@@ -1,4 +1,4 @@
-use Rattle.std.proofs.Common.{◌≡◌, None, ap, ◌∙◌}
+use Rattle.std.proofs.Common.{◌≡◌, ◌<◌, None, ap, length, subst, sym, ◌∙◌}
 use Rattle.js_model.specs.declared.stream.Stream.{Stream}
 use Rattle.retention.specs.Over.{next_over}
 use Rattle.stream_state.proofs.Proper.{proper_new}
@@ -9,9 +9,10 @@ pub invariant_of-self-2 : goal.invariant_of-self-2
 invariant_of-self-2 c =
     let s = c.self.inside.stream in
     let left = c.in_ok-insert.ensures.ok in
+    let room : length s.consumers < 256 = subst (λ (x : Stream). length x.consumers < 256) (sym c.self.view_is) c.requires.room in
     record {
       attended = c.in_ok-insert.ensures.sound;
-      proper = rw left (proper_new s.consumers c.args.consumer c.requires.room c.requires.proper c.self.invariant.proper);
+      proper = rw left (proper_new s.consumers c.args.consumer room c.requires.proper c.self.invariant.proper);
       within = ap (λ (x : Stream). next_over x) left ∙ c.self.invariant.within;
       kept = rw (c.up_to-self-inside.ensures.value, c.last.ensures.value) (outside_all c.insert.new.self c.in_ok-insert.ensures.sound);
     }

@@ -1,6 +1,5 @@
-use Rattle.std.proofs.Common.{◌≡◌, None, ap, sym, ◌∙◌}
+use Rattle.std.proofs.Common.{◌≡◌, None, ap, ◌∙◌}
 use Rattle.js_model.specs.declared.stream.Stream.{Stream}
-use Rattle.js_model.specs.Trim.{trim}
 use Rattle.retention.specs.Over.{next_over}
 use Rattle.stream_state.proofs.Calling.{nobody_pulls, outside_asked, pull_told}
 use Rattle.stream_state.proofs.Proper.{proper_with, pulled_kin}

@@ -1,4 +1,4 @@
-use Rattle.std.proofs.Common.{ap, ◌∙◌}
+use Rattle.std.proofs.Common.{true, ap, ◌∙◌}
 use Rattle.js_model.specs.declared.stream.Stream.{Stream}
 use Rattle.retention.specs.Over.{next_over}
 use Rattle.followed_stream.proofs.Followings.{sound_as, verdict_as}

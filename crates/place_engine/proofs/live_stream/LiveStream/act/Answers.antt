@@ -1,0 +1,51 @@
+use Rattle.std.proofs.lemmas.Bool.{and_parts}
+use Rattle.std.proofs.lemmas.Result.{IfOk-weaker}
+use Rattle.place_engine.proofs.live_stream.LiveStream.act.Goals as goal
+
+pub publish-requires-clause-told : goal.publish-requires-clause-told
+publish-requires-clause-told c = c.requires.told c.in-Publish.publish c.in-Publish.is
+
+pub ask_consumer-requires-clause-valid : goal.ask_consumer-requires-clause-valid
+ask_consumer-requires-clause-valid c = (and_parts _ _ (and_parts _ _ (rw c.in-MakeConsumer.is at c.requires.proper)).0).1
+
+pub returns-in-Make-clause-acts : goal.returns-in-Make-clause-acts
+returns-in-Make-clause-acts c = rw c.in-Make.is (IfOk-weaker c.make_again.result _ _ (λ reply h. h c.args.outs.now) c.make_again.ensures.acts)
+
+pub returns-in-Change-clause-acts : goal.returns-in-Change-clause-acts
+returns-in-Change-clause-acts c = rw c.in-Change.is (IfOk-weaker c.change.result _ _ (λ reply h. h c.args.outs.now) c.change.ensures.acts)
+
+pub returns-in-Publish-clause-acts : goal.returns-in-Publish-clause-acts
+returns-in-Publish-clause-acts c = rw c.in-Publish.is (IfOk-weaker c.publish.result _ _ (λ reply h. h c.args.outs.now) c.publish.ensures.acts)
+
+pub returns-in-Purge-clause-acts : goal.returns-in-Purge-clause-acts
+returns-in-Purge-clause-acts c = rw c.in-Purge.is (IfOk-weaker c.purge.result _ _ (λ reply h. h c.args.outs.now) (rw c.as_slice.ensures at c.purge.ensures.acts))
+
+pub returns-in-Delete-clause-acts : goal.returns-in-Delete-clause-acts
+returns-in-Delete-clause-acts c = rw c.in-Delete.is (IfOk-weaker c.delete.result _ _ (λ reply h. h c.args.outs.now) c.delete.ensures.acts)
+
+pub returns-in-MakeConsumer-clause-acts : goal.returns-in-MakeConsumer-clause-acts
+returns-in-MakeConsumer-clause-acts c = rw c.in-MakeConsumer.is (IfOk-weaker c.ask_consumer.result _ _ (λ reply h. h c.args.outs.now) c.ask_consumer.ensures.acts)
+
+pub returns-in-DropConsumer-clause-acts : goal.returns-in-DropConsumer-clause-acts
+returns-in-DropConsumer-clause-acts c = rw c.in-DropConsumer.is c.drop_consumer.ensures.acts
+
+pub returns-in-Ack-clause-acts : goal.returns-in-Ack-clause-acts
+returns-in-Ack-clause-acts c = rw c.in-Ack.is (rw c.as_ref.ensures.value at c.ack.ensures.acts)
+
+pub returns-in-Pull-clause-acts : goal.returns-in-Pull-clause-acts
+returns-in-Pull-clause-acts c = rw c.in-Pull.is (rw c.as_ref-in-Pull.ensures.value at c.pull.ensures.acts)
+
+pub returns-in-StreamInfo-clause-acts : goal.returns-in-StreamInfo-clause-acts
+returns-in-StreamInfo-clause-acts c = rw c.in-StreamInfo.is (IfOk-weaker c.show.result _ _ (λ reply h. h c.args.outs.now) c.show.ensures.acts)
+
+pub returns-in-MessageGet-clause-acts : goal.returns-in-MessageGet-clause-acts
+returns-in-MessageGet-clause-acts c = rw c.in-MessageGet.is (IfOk-weaker c.read.result _ _ (λ reply h. h c.args.outs.now) c.read.ensures.acts)
+
+pub returns-in-ConsumerInfo-clause-acts : goal.returns-in-ConsumerInfo-clause-acts
+returns-in-ConsumerInfo-clause-acts c = rw c.in-ConsumerInfo.is (IfOk-weaker c.show_consumer.result _ _ (λ reply h. h c.args.outs.now) c.show_consumer.ensures.acts)
+
+pub returns-in-ConsumerNames-clause-acts : goal.returns-in-ConsumerNames-clause-acts
+returns-in-ConsumerNames-clause-acts c = rw c.in-ConsumerNames.is (IfOk-weaker c.list_names.result _ _ (λ reply h. h c.args.outs.now) c.list_names.ensures.acts)
+
+pub returns-in-ConsumerList-clause-acts : goal.returns-in-ConsumerList-clause-acts
+returns-in-ConsumerList-clause-acts c = rw c.in-ConsumerList.is (IfOk-weaker c.list_consumers.result _ _ (λ reply h. h c.args.outs.now) c.list_consumers.ensures.acts)
