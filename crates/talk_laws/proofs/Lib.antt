@@ -1,3 +1,4 @@
 mod Cutting
 mod EachPart
 mod TalkLaws
+mod Confirmed

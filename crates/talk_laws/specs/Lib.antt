@@ -1,3 +1,4 @@
 pub mod Parts
 pub mod Talks
 pub mod TalkLaws
+pub mod Confirming
