@@ -1,4 +1,4 @@
--- What was acknowledged for good stays so in a whole run.
+-- What was acknowledged for good, and what was confirmed, stays so in a whole run.
 use Rattle.std.proofs.Common.{◌≡◌, ℕ, List, Option, Some, None, refl, sym, subst, ◌∙◌}
 use Rattle.js_model.specs.PlaceStates.{PlaceIn, vacant_place}
 use Rattle.js_api.specs.Entries.{DeskEntry}
@@ -7,9 +7,10 @@ use Rattle.js_api.specs.Machines.{steps_at}
 use Rattle.js_api.specs.Worlds.{Scene, SoloStep, opening}
 use Rattle.talk_laws.specs.Parts.{Part, IsPartOf}
 use Rattle.talk_laws.specs.Talks.{InEachTalk}
+use Rattle.talk_laws.specs.Confirming.{StaysConfirmed, LawTalkConfirmed}
 use Rattle.talk_laws.specs.TalkLaws.{LawOpening, LawTalkAcked, LawTalkEnds}
 use Rattle.run_laws.specs.Runs.{run_entries}
-use Rattle.run_laws.specs.Laws.{StaysAcked, LawRunAcked}
+use Rattle.run_laws.specs.Laws.{StaysAcked, InEachRun, LawRunAcked, LawRunConfirmed}
 use Rattle.run_laws.proofs.Runs.{run_led}
 
 some_is : (a b : PlaceIn) (found : Option PlaceIn) → found ≡ Some a → found ≡ Some b → a ≡ b
@@ -32,7 +33,12 @@ stays_acked ends acked old new entries led place before there sound =
       };
     }
 
+in_each_run : (Holds : Part → Type 0) → LawOpening → InEachTalk Holds → InEachRun Holds
+in_each_run Holds opens talk volumes stream after status old new attends place before there =
+    talk (opening _) after (run_entries _ stream after status old new attends) (run_led _ stream after status old new attends) place before there (opens volumes place before there).0
+
 pub law_run_acked : LawOpening → LawTalkEnds → LawTalkAcked → LawRunAcked
-law_run_acked opens ends acked volumes stream after status old new attends place before there =
-    stays_acked ends acked (opening _) after (run_entries _ stream after status old new attends) (run_led _ stream after status old new attends) place before there
-    (opens volumes place before there).0
+law_run_acked opens ends acked = in_each_run StaysAcked opens (stays_acked ends acked)
+
+pub law_run_confirmed : LawOpening → LawTalkConfirmed → LawRunConfirmed
+law_run_confirmed opens confirmed = in_each_run StaysConfirmed opens confirmed

@@ -11,6 +11,7 @@ use Rattle.model_laws.specs.Acked.{has_entry, IsToEnd, NeverSent}
 use Rattle.js_api.specs.Worlds.{Scene, opening}
 use Rattle.talk_laws.specs.Parts.{Part, IsStepOf}
 use Rattle.talk_laws.specs.Talks.{HoldsAt}
+use Rattle.talk_laws.specs.Confirming.{StaysConfirmed}
 use Rattle.server.specs.declared.words.NamedStream.{NamedStream}
 use Rattle.server.specs.Outside.{Outside}
 use Rattle.server.specs.Running.{Attends}
@@ -22,9 +23,15 @@ abbrev pub StaysAcked : Part → Type 0
 StaysAcked p = (name : Bytes) (n : ℕ) (e : Event) (now : ℕ) (reply : Reply) (outs : List Out)
     → IsStepOf p e now reply outs → has_entry n (consumer_of name (state_at p.old now)) ≡ true → IsToEnd (state_at p.old now) e name n → NeverSent name n p.later
 
--- a run over so many volumes that never had a stream, whatever stands outside
-abbrev pub LawRunAcked : Type 0
-LawRunAcked = (volumes : ℕ) (stream : Option NamedStream) (after : Scene) (status : ℕ) (old new : Outside)
+-- Of a run over so many volumes that never had a stream, whatever stands outside: this holds of each part of all that it made at any of its places.
+abbrev pub InEachRun : (Part → Type 0) → Type 0
+InEachRun Holds = (volumes : ℕ) (stream : Option NamedStream) (after : Scene) (status : ℕ) (old new : Outside)
     → (attends : Attends (replicate volumes vacant_place) stream after status old new)
     → (place : ℕ) (before : PlaceIn) → slice_get (opening (replicate volumes vacant_place)).world.places place ≡ Some before
-    → HoldsAt StaysAcked place (run_entries (replicate volumes vacant_place) stream after status old new attends) after before
+    → HoldsAt Holds place (run_entries (replicate volumes vacant_place) stream after status old new attends) after before
+
+abbrev pub LawRunAcked : Type 0
+LawRunAcked = InEachRun StaysAcked
+
+abbrev pub LawRunConfirmed : Type 0
+LawRunConfirmed = InEachRun StaysConfirmed

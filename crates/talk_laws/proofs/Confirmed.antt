@@ -87,10 +87,10 @@ ends_itself AckAll n = itself_or_below n
 ends_itself Explicit n = itself n
 
 other_than : (m n : ℕ) (ended : ℕ → Bool) → ended n ≡ true → ended m ≡ false → (m == n) ≡ false
-other_than m n ended its no = by (m == n) refl
+other_than m n ended its spared = by (m == n) refl
   where
     by : (b : Bool) → (m == n) ≡ b → (m == n) ≡ false
-    by true e = let same : m ≡ n = grind (arith, nat_tests, e) in absurd (true≢false (sym its ∙ subst (λ (k : ℕ). ended k ≡ false) same no))
+    by true e = let same : m ≡ n = grind (arith, nat_tests, e) in absurd (true≢false (sym its ∙ subst (λ (k : ℕ). ended k ≡ false) same spared))
     by false e = e
 
 -- what ended is not pending
