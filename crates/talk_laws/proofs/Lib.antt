@@ -2,3 +2,4 @@ mod Cutting
 mod EachPart
 mod TalkLaws
 mod Confirmed
+mod Replied

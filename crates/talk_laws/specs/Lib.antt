@@ -2,3 +2,4 @@ pub mod Parts
 pub mod Talks
 pub mod TalkLaws
 pub mod Confirming
+pub mod Replying

@@ -5,6 +5,7 @@
 //! between which the middle part stands; and the law holds of each such part.
 
 ghost use Rattle.talk_laws.specs.Confirming.{LawTalkConfirmed};
+ghost use Rattle.talk_laws.specs.Replying.{LawReplyRead};
 ghost use Rattle.talk_laws.specs.TalkLaws.{LawOpening, LawTalkSound, LawTalkBounded, LawTalkWritable, LawTalkTick, LawTalkAcked, LawTalkEnds, LawTalkStays, LawTalkDuplicate, LawTalkKept, LawTalkOrder, LawTalkStart, LawTalkMade, LawTalkRedelivery, LawTalkLimits};
 
 use js_api::laws::law_runs;
@@ -127,4 +128,12 @@ pub fn law_talk_limits()
     law_runs();
     model_laws::law_sound();
     model_laws::law_limits();
+}
+
+/// The reply subject of a delivery is read as an acknowledgement of its message, to its consumer and its stream.
+pub fn law_reply_read()
+    ensures law { LawReplyRead }
+{
+    js_base::laws::law_decimal();
+    ack_parse::law_spelled();
 }
