@@ -1,5 +1,5 @@
 -- What a place promises of a delivery is one of the deliveries of a hold, or their end.
-use Rattle.std.proofs.Common.{◌⊎◌, inl, ◌≡◌, ◌≤◌, ◌<◌, ◌^◌, ◌++◌, ◌&&◌, ℕ, true, false, List, [], ◌∷◌, append-nil, Option, None, Some, Result, Ok, Err, refl, sym, subst, ◌∙◌, arith, IsTrue}
+use Rattle.std.proofs.Common.{inl, ◌≡◌, ◌≤◌, ◌<◌, ◌^◌, ◌++◌, ◌&&◌, ℕ, true, false, List, [], ◌∷◌, append-nil, Option, None, Some, Result, Ok, Err, refl, sym, subst, ◌∙◌, arith, IsTrue}
 use Rattle.std.specs.Prelude.{nat_le}
 use Rattle.std.proofs.lemmas.Bool.{and_from, le-leb}
 use Rattle.js_base.specs.Bytes.{Bytes}
@@ -13,7 +13,6 @@ use Rattle.js_model.specs.declared.entry.PlaceEntry.TheVariants.{Step, Deliver, 
 use Rattle.js_model.specs.declared.entry.Call.TheVariants.{Deliver as DeliverOf}
 use Rattle.js_model.specs.declared.desk.PlaceAt.{PlaceAt}
 use Rattle.js_model.specs.Events.{kept_incarnation}
-use Rattle.js_model.specs.Lasting.{lasting}
 use Rattle.js_model.specs.PlaceStates.{PlaceIn}
 use Rattle.js_model.specs.Proper.{is_proper}
 use Rattle.js_model.specs.Ready.{some_ready}
