@@ -1,5 +1,5 @@
 -- A sequence whose acknowledgement was confirmed is not sent again, whether its entry still stood by then or not.
-use Rattle.std.proofs.Common.{◌≡◌, ◌<◌, ℕ, Bool, true, false, not, ◌||◌, List, [], ◌∷◌, filter, length, Option, Some, None, refl, sym, ap, subst, ◌∙◌, if◌then◌else◌, arith}
+use Rattle.std.proofs.Common.{◌≡◌, ℕ, Bool, true, false, not, ◌||◌, List, [], ◌∷◌, filter, Option, Some, None, refl, sym, ap, subst, ◌∙◌, if◌then◌else◌, arith}
 use Rattle.std.specs.Prelude.{nat_le, ◌==◌}
 use Rattle.std.proofs.lemmas.Bool.{true≢false, or_parts, leb-false}
 use Rattle.std.proofs.lemmas.Bool.Decides.{nat_tests}
@@ -20,9 +20,8 @@ use Rattle.js_model.specs.declared.event.Event.{Event}
 use Rattle.js_model.specs.declared.event.What.{What}
 use Rattle.js_model.specs.declared.event.What.TheVariants as whats
 use Rattle.js_model.specs.declared.reply.Answer.{Answer}
-use Rattle.js_model.specs.declared.reply.Reply.{Reply}
 use Rattle.js_model.specs.declared.reply.Reply.TheVariants.{Confirmed, Silent, Refused}
-use Rattle.js_model.specs.Acknowledge.{acknowledged, ends, is_no_delivery}
+use Rattle.js_model.specs.Acknowledge.{ends, is_no_delivery}
 use Rattle.js_model.specs.Advance.{advance, advance_outs}
 use Rattle.js_model.specs.Events.{ack_answer, ack_done, after_ack, answered, completed, quietly, settled_state, stream_answer, vacant_answer, IsEvent}
 use Rattle.js_model.specs.Refusals.{no_stream}
@@ -35,7 +34,6 @@ use Rattle.model_laws.proofs.ConsumerFacts.{InState, InStream, after_ack-name, i
 use Rattle.model_laws.proofs.Facts.{at_settled}
 use Rattle.model_laws.proofs.Settled.{IsPassed, IsSettled, passed_kept, settled_kept}
 use Rattle.js_api.specs.Machines.{LawRuns}
-use Rattle.talk_laws.specs.Parts.{Part, count_before}
 use Rattle.talk_laws.specs.Confirming.{is_final, LawTalkConfirmed}
 use Rattle.talk_laws.proofs.EachPart.{in_each_talk, step_of}
 use Rattle.talk_laws.proofs.TalkLaws.{count_after}

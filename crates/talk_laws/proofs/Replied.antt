@@ -1,28 +1,24 @@
 -- The reply subject of a delivery is spelled as an acknowledgement of its message.
-use Rattle.std.proofs.Common.{◌≡◌, ◌<◌, ◌^◌, ℕ, true, false, List, [], ◌∷◌, ◌++◌, Ok, codes, refl, sym, ap, ◌∙◌, IsTrue, IsOk, subst, arith, rules}
+use Rattle.std.proofs.Common.{◌≡◌, ◌<◌, ◌^◌, ℕ, Bool, true, false, cond, append_assoc, List, [], ◌∷◌, ◌++◌, Ok, codes, refl, sym, ap, ◌∙◌, IsOk, subst, arith, rules}
 use Rattle.std.specs.Prelude.{decimal, ◌==◌, is_none, nat_le, nat_lt, length, Option, Some, None, Result}
 use Rattle.std.specs.Char.{is_ascii_digit}
-use Rattle.std.specs.List.{All, list_all, slice_split}
+use Rattle.std.specs.List.{All, list_all, onto_first}
 use Rattle.std.proofs.lemmas.Bool.{and_parts, true≢false}
 use Rattle.std.proofs.lemmas.Bool.Decides.{nat_tests}
 use Rattle.std.proofs.lemmas.Fmt.{digits_decimal}
 use Rattle.std.proofs.lemmas.List.Elements.{All-cons}
-use Rattle.std.proofs.lemmas.List.Splits.{slice_split_at, slice_split_none}
+use Rattle.std.proofs.lemmas.List.Splits.{length-slice_split, slice_split_none}
 use Rattle.std.proofs.lemmas.Str.Parse.{IsNumeralModel, numerals_by_weight}
 use Rattle.js_base.specs.Bytes.{Bytes}
-use Rattle.js_base.specs.Decimal.{LawDecimal, number_of, value_of}
+use Rattle.js_base.specs.Decimal.{LawDecimal, value_of}
 use Rattle.js_base.specs.Names.{first_bad, is_name_byte, name_of, unless_bad}
 use Rattle.js_base.specs.Subjects.{tokens}
 use Rattle.js_base.specs.declared.decimal.DecFault.{DecFault}
-use Rattle.js_model.specs.declared.stream.Stream.{Stream}
-use Rattle.js_model.specs.declared.stream.Message.{Message}
-use Rattle.js_model.specs.declared.consumer.Consumer.{Consumer}
 use Rattle.js_model.specs.Configs.{is_name}
 use Rattle.js_model.specs.Counts.{pending_count}
 use Rattle.js_model.specs.Deliver.{ack_subject}
 use Rattle.js_base.proofs.Places.{none_fails}
 use Rattle.js_model.proofs.NameTexts.{name_byte, name_parts}
-use Rattle.ack_parse.specs.Grammar.{SpellsSubject}
 use Rattle.ack_parse.specs.Laws.{LawSubject}
 use Rattle.talk_laws.specs.Replying.{LawReplyRead}
 
@@ -72,43 +68,52 @@ name_is_read (byte ∷ more) h =
 
 -- ---- the tokens
 
--- a token, a dot, and what stands behind it
-token_then : (token rest : Bytes) → NoDot token → tokens (token ++ codes "." ++ rest) ≡ token ∷ tokens rest
-token_then token rest h = slice_split_at (λ byte. byte == 46) token 46 rest h refl
+some_tokens : (text : Bytes) → 0 < length (tokens text)
+some_tokens text = omega (arith, length-slice_split (λ byte. byte == 46) text)
 
-last_token : (token : Bytes) → NoDot token → tokens token ≡ token ∷ []
-last_token token h = slice_split_none (λ byte. byte == 46) token h
+pushed : (dot : Bool) (byte : ℕ) (front back : List Bytes) → 0 < length front
+    → cond dot ([] ∷ (front ++ back)) (onto_first byte (front ++ back)) ≡ cond dot ([] ∷ front) (onto_first byte front) ++ back
+pushed true byte front back h = refl
+pushed false byte [] back h = absurd (omega (arith, h))
+pushed false byte (token ∷ front) back h = refl
 
--- the seven tokens behind the first two
-abbrev behind : (stream consumer count seq dseq at left : Bytes) → Bytes
-behind stream consumer count seq dseq at left =
-    stream ++ codes "." ++ consumer ++ codes "." ++ count ++ codes "." ++ seq ++ codes "." ++ dseq ++ codes "." ++ at ++ codes "." ++ left
+-- those before a dot, and those behind it
+split_at : (text rest : Bytes) → tokens (text ++ 46 ∷ rest) ≡ tokens text ++ tokens rest
+split_at [] rest = refl
+split_at (byte ∷ text) rest =
+    ap (λ (l : List Bytes). cond (byte == 46) ([] ∷ l) (onto_first byte l)) (split_at text rest) ∙ pushed (byte == 46) byte (tokens text) (tokens rest) (some_tokens text)
 
-seven_tokens : (stream consumer count seq dseq at left : Bytes) → NoDot stream → NoDot consumer → NoDot count → NoDot seq → NoDot dseq → NoDot at → NoDot left
-    → tokens (behind stream consumer count seq dseq at left) ≡ stream ∷ consumer ∷ count ∷ seq ∷ dseq ∷ at ∷ left ∷ []
-seven_tokens stream consumer count seq dseq at left a b c d e f g =
-    token_then stream _ a
-    ∙ ap (λ (l : List Bytes). stream ∷ l) (token_then consumer _ b
-    ∙ ap (λ (l : List Bytes). consumer ∷ l) (token_then count _ c
-    ∙ ap (λ (l : List Bytes). count ∷ l) (token_then seq _ d
-    ∙ ap (λ (l : List Bytes). seq ∷ l) (token_then dseq _ e
-    ∙ ap (λ (l : List Bytes). dseq ∷ l) (token_then at _ f
-    ∙ ap (λ (l : List Bytes). at ∷ l) (last_token left g))))))
+-- one more token
+with_token : (text token : Bytes) → NoDot token → tokens ((text ++ codes ".") ++ token) ≡ tokens text ++ token ∷ []
+with_token text token h =
+    ap tokens (append_assoc text (codes ".") token) ∙ split_at text token ∙ ap (λ (l : List Bytes). tokens text ++ l) (slice_split_none (λ byte. byte == 46) token h)
 
-first_tokens : (rest : Bytes) → tokens (codes "$JS.ACK." ++ rest) ≡ codes "$JS" ∷ codes "ACK" ∷ tokens rest
-first_tokens rest = refl
+first_tokens : (stream : Bytes) → NoDot stream → tokens (codes "$JS.ACK." ++ stream) ≡ codes "$JS" ∷ codes "ACK" ∷ stream ∷ []
+first_tokens stream h = ap (λ (l : List Bytes). codes "$JS" ∷ codes "ACK" ∷ l) (slice_split_none (λ byte. byte == 46) stream h)
+
+-- one more token behind these
+then_token : (text token : Bytes) (front : List Bytes) → NoDot token → tokens text ≡ front → tokens ((text ++ codes ".") ++ token) ≡ front ++ token ∷ []
+then_token text token front h e = with_token text token h ∙ ap (λ (l : List Bytes). l ++ token ∷ []) e
 
 is_ok : (n : ℕ) (r : Result ℕ DecFault) → r ≡ Ok n → IsOk r
-is_ok n r e = subst (λ (x : Result ℕ DecFault). IsOk x) (sym e) tt
+is_ok n r e = subst (λ (x : Result ℕ DecFault). IsOk x) (sym e) refl
 
 pub law_reply_read : LawDecimal → LawSubject → LawReplyRead
 law_reply_read decimals subjects a c m count stream consumer n_count n_seq n_dseq n_at n_left =
     let s = a.config.name in
-    let spelled = first_tokens (behind s c.name (decimal count) (decimal m.seq) (decimal c.dseq) (decimal m.at) (decimal (pending_count a c)))
-    ∙ ap (λ (l : List Bytes). codes "$JS" ∷ codes "ACK" ∷ l)
-    (seven_tokens s c.name (decimal count) (decimal m.seq) (decimal c.dseq) (decimal m.at) (decimal (pending_count a c))
-    (name_has_none s (name_parts s stream).bytes) (name_has_none c.name (name_parts c.name consumer).bytes)
-    (number_has_none count n_count) (number_has_none m.seq n_seq) (number_has_none c.dseq n_dseq) (number_has_none m.at n_at) (number_has_none (pending_count a c) n_left)) in
+    let first : Bytes = codes "$JS.ACK." ++ s in
+    let second : Bytes = (first ++ codes ".") ++ c.name in
+    let third : Bytes = (second ++ codes ".") ++ decimal count in
+    let fourth : Bytes = (third ++ codes ".") ++ decimal m.seq in
+    let fifth : Bytes = (fourth ++ codes ".") ++ decimal c.dseq in
+    let sixth : Bytes = (fifth ++ codes ".") ++ decimal m.at in
+    let one = first_tokens s (name_has_none s (name_parts s stream).bytes) in
+    let two = then_token first c.name _ (name_has_none c.name (name_parts c.name consumer).bytes) one in
+    let three = then_token second (decimal count) _ (number_has_none count n_count) two in
+    let four = then_token third (decimal m.seq) _ (number_has_none m.seq n_seq) three in
+    let five = then_token fourth (decimal c.dseq) _ (number_has_none c.dseq n_dseq) four in
+    let six = then_token fifth (decimal m.at) _ (number_has_none m.at n_at) five in
+    let spelled = then_token sixth (decimal (pending_count a c)) _ (number_has_none (pending_count a c) n_left) six in
     (subjects (ack_subject a c m count) (record { stream = s; consumer = c.name; seq = m.seq })).1 (record {
       count = decimal count;
       sequence = decimal m.seq;
