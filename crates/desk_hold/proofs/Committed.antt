@@ -1,5 +1,5 @@
 -- A confirmed step is among what the volume holds at its end.
-use Rattle.std.proofs.Common.{◌≡◌, ◌⊎◌, inl, inr, ℕ, ◌<◌, Bool, true, false, None, List, [], ◌∷◌, Ok, Err, refl, IsTrue}
+use Rattle.std.proofs.Common.{◌≡◌, ◌⊎◌, inl, inr, ℕ, ◌<◌, Bool, true, false, List, [], ◌∷◌, Ok, Err, refl, IsTrue}
 use Rattle.std.specs.Prelude.{Decides, is_some}
 use Rattle.js_base.specs.declared.out.Out.{Out}
 use Rattle.js_model.specs.declared.stream.State.{State}
