@@ -5,6 +5,7 @@ ghost use Rattle.api_requests.specs.Read.{IsRead};
 ghost use Rattle.ack_parse.specs.Reading.{ack_of};
 ghost use Rattle.js_model.specs.declared.event.What.TheVariants as whats;
 ghost use Rattle.desk_answers.specs.Asking.{MayAsk};
+ghost use Rattle.js_base.specs.Names.{name_of};
 ghost use Rattle.js_base.specs.ServerSubjects.{is_acknowledgement, is_api};
 ghost use Rattle.js_api.specs.Answering.{Publish as PublishIt, took};
 ghost use Rattle.js_api.specs.Api.{IsAsked, PublishesAck, PublishesToApi, TakesByApi};
@@ -120,6 +121,7 @@ fn hand_on<G: Ground>(
 ) -> Result<Taken, DeskFault>
     requires outside { G.phase ground.old ≡ Outside }
     requires read { ack_of message.now.to message.now.payload ≡ Ok ack.now }
+    requires named { name_of ack.now.stream ≡ Ok ack.now.stream }
     requires asked { MayAsk (whats.Ack message.now.reply ack.now) }
     ensures made { Makes G.made (PublishesAck (client_of caller) message.now now result) ground.old ground.new }
     ensures setting { G.setting ground.new ≡ G.setting ground.old }
@@ -150,9 +152,8 @@ fn publish_ack<G: Ground>(
     match read_ack(ground.alloc(), to, message.payload.as_slice()) {
         Ok(ack) => hand_on(ground, caller, message, &ack, now),
         Err(AckFault::BadBody) => taken_by_api(ground, caller, message, true),
-        Err(AckFault::NotAck) | Err(AckFault::BadToken(_)) => {
-            taken_by_api(ground, caller, message, false)
-        }
+        Err(AckFault::NotAck) => taken_by_api(ground, caller, message, false),
+        Err(AckFault::BadToken(_)) => taken_by_api(ground, caller, message, false),
         Err(AckFault::NoMemory) => Err(DeskFault::NoMemory),
     }
 }

@@ -1,3 +1,3 @@
-mod Published
+pub mod Published
 mod Publishes
 pub mod Told

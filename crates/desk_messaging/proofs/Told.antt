@@ -1,6 +1,5 @@
 -- What a stream is told that it alone answers.
-use Rattle.std.proofs.Common.{◌≡◌, ℕ, Bool, true, false, ◌&&◌, List, [], ◌++◌, Option, None, Some, Result, Ok, Err, refl, sym, subst, IsTrue}
-use Rattle.std.specs.Prelude.{MatchBool}
+use Rattle.std.proofs.Common.{◌≡◌, ℕ, Bool, true, false, List, [], ◌++◌, Option, Some, Result, Ok, Err, refl, IsTrue}
 use Rattle.std.proofs.lemmas.Bool.{and_from}
 use Rattle.js_base.specs.Bytes.{Bytes}
 use Rattle.js_base.specs.Names.{name_of}
@@ -11,7 +10,7 @@ use Rattle.js_model.specs.declared.desk.PlaceAt.{PlaceAt}
 use Rattle.js_model.specs.declared.event.What.{What}
 use Rattle.js_model.specs.declared.event.What.TheVariants as whats
 use Rattle.js_model.specs.Proper.{if_given, is_proper_ask}
-use Rattle.js_model.proofs.NameTexts.{read_name}
+use Rattle.stream_config.proofs.Named.{read_name}
 use Rattle.js_api.specs.declared.fault.DeskFault.{DeskFault}
 use Rattle.js_api.specs.declared.outcome.Became.{Became}
 use Rattle.js_api.specs.declared.outcome.Outcome.{Outcome}
@@ -26,7 +25,7 @@ use Rattle.desk_ground.specs.Outcomes.{MayHold, phase_after}
 use Rattle.desk_ground.proofs.Stages.{as_such, goes_on, if_not, if_so, nothing}
 use Rattle.desk_messaging.specs.declared.hearing.Telling.{Telling}
 use Rattle.desk_messaging.specs.declared.hearing.Telling.TheVariants.{Pull, Ack}
-use Rattle.desk_messaging.specs.Tellings.{what_of, ReadsName, ReadsNames}
+use Rattle.desk_messaging.specs.Tellings.{what_of, ReadsNames}
 
 -- ---- a hold
 

@@ -1,6 +1,6 @@
 //! What only the stream answers: questions for messages, and acknowledgements.
 
-ghost use Rattle.std.specs.Prelude.{◌≡◌, IfOk, IfSome, IsTrue, None, Ok, []};
+ghost use Rattle.std.specs.Prelude.{◌≡◌, false, IfOk, IfSome, IsTrue, None, Ok, []};
 ghost use Rattle.js_base.specs.Subjects.{is_subject_text};
 ghost use Rattle.js_model.specs.Proper.{if_given, is_proper_ask};
 ghost use Rattle.js_model.specs.declared.event.What.TheVariants as whats;
