@@ -4,8 +4,6 @@ use Rattle.std.specs.Int.{w32, to_be_bytes}
 use Rattle.std.proofs.lemmas.Bool.{and_parts, and_from}
 use Rattle.js_base.specs.Bytes.{Bytes}
 use Rattle.js_model.specs.Configs.{is_stream_config, is_consumer_config}
-use Rattle.js_model.specs.declared.stream_config.StreamConfig.{StreamConfig}
-use Rattle.js_model.specs.declared.consumer_config.ConsumerConfig.{ConsumerConfig}
 use Rattle.config_texts.specs.Reading.{stream_of, consumer_of}
 use Rattle.config_texts.specs.Texts.{stream_text, consumer_text}
 use Rattle.config_texts.proofs.StreamTexts.{law_stream_text}
