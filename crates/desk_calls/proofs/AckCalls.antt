@@ -1,5 +1,5 @@
 -- A message to a subject of acknowledgements is read as one, and its stream is told.
-use Rattle.std.proofs.Common.{◌≡◌, ℕ, Bool, List, [], ◌++◌, Option, Result, Ok, Err, refl, sym, inl, inr, IsTrue}
+use Rattle.std.proofs.Common.{◌≡◌, ℕ, List, [], Option, Result, Ok, Err, refl, sym, inr, IsTrue}
 use Rattle.std.specs.Prelude.{IfSome}
 use Rattle.std.proofs.lemmas.Bool.{and_from}
 use Rattle.js_base.specs.Bytes.{Bytes}
@@ -16,7 +16,6 @@ use Rattle.stream_config.proofs.Named.{read_name}
 use Rattle.ack_parse.specs.Reading.{ack_of}
 use Rattle.ack_parse.specs.declared.fault.AckFault.{AckFault}
 use Rattle.js_api.specs.declared.fault.DeskFault.{DeskFault}
-use Rattle.js_api.specs.declared.fault.DeskFault.TheVariants as faults
 use Rattle.js_api.specs.Api.{PublishesAck, TakesByApi}
 use Rattle.js_api.specs.Clients.{Client}
 use Rattle.js_api.specs.Entries.{DeskEntry}
