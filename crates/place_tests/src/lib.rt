@@ -2,10 +2,8 @@
 #![tactic(auto)]
 
 #[cfg(test)]
-mod asked;
-#[cfg(test)]
 mod deliveries;
 #[cfg(test)]
-mod driven;
+mod outputs;
 #[cfg(test)]
 mod retentions;

@@ -1,12 +1,11 @@
 //! Messages that go once nobody needs them.
 
 ghost use Rattle.std.specs.Prelude.{IsTrue};
-ghost use Rattle.js_model.specs.Configs.{is_number};
+ghost use Rattle.js_model.specs.Configs.{is_name};
 
-use crate::asked::{ack, consumer, get, publish, pull, stream};
-use crate::driven::Driven;
 use js_base::NoMemory;
-use js_model::{AckKind, Ask, Reply, Retention};
+use js_model::{AckKind, Ask, Retention};
+use place_drive::{Driven, ack, consumer, publish, pull, stream};
 use std::alloc::Global;
 use std::test::Fail;
 
@@ -19,55 +18,57 @@ const ONE: Ask = Ask {
     heartbeat: 0,
 };
 
-/// Whether the message of a sequence is there.
-fn is_there(place: &mut Driven, seq: u64) -> Result<bool, NoMemory>
-    requires seq { IsTrue (is_number seq) }
-{
-    Ok(matches!(place.ask(get(seq))?, Reply::Message(_)))
+/// A stream of a retention.
+fn kept_by(alloc: Global, retention: Retention) -> Result<Driven, NoMemory> {
+    let mut place = Driven::open(alloc)?;
+    place.make(stream(alloc, retention)?)?;
+    Ok(place)
 }
 
-/// A stream of a retention with these consumers and one message, which each consumer got once.
-fn delivered(alloc: Global, retention: Retention, names: &[&[u8]]) -> Result<Driven, NoMemory> {
-    let mut place = Driven::open(alloc)?;
-    place.ask(stream(alloc, retention)?)?;
-    for name in names {
-        place.ask(consumer(alloc, name, Some(1), None)?)?;
-        place.ask(pull(alloc, name, ONE)?)?;
-    }
-    place.ask(publish(alloc, b"hello")?)?;
-    for _ in 0..names.len() {
-        place.deliver()?;
-    }
-    Ok(place)
+/// Adds a consumer that waits for one message, and gets each message once.
+fn add(place: &mut Driven, alloc: Global, name: &[u8]) -> Result<(), NoMemory>
+    requires name { IsTrue (is_name name.now) }
+{
+    place.make(consumer(alloc, name, Some(1), None)?)?;
+    place.make(pull(alloc, name, ONE)?)
 }
 
 #[test]
 fn message_of_a_work_queue_goes_once_it_is_acknowledged(rt: HostRuntime) -> Result<(), Fail> {
     let alloc = rt.alloc();
-    let mut place = delivered(alloc, Retention::WorkQueue, &[b"W"])?;
-    place.ask(ack(alloc, b"W", 1, AckKind::Nak(0))?)?;
+    let mut place = kept_by(alloc, Retention::WorkQueue)?;
+    add(&mut place, alloc, b"W")?;
+    place.make(publish(alloc, b"hello")?)?;
+    assert!(rt; place.deliver()?.is_some());
+    place.make(ack(alloc, b"W", 1, AckKind::Nak(0))?)?;
     assert!(rt; place.deliver()?.is_none());
-    assert!(rt; is_there(&mut place, 1)?);
-    place.ask(ack(alloc, b"W", 1, AckKind::Ack)?)?;
-    assert!(rt; !is_there(&mut place, 1)?);
+    assert_eq!(rt; place.messages()?, Some(1));
+    place.make(ack(alloc, b"W", 1, AckKind::Ack)?)?;
+    assert_eq!(rt; place.messages()?, Some(0));
     Ok(())
 }
 
 #[test]
 fn message_that_nobody_wants_is_not_kept(rt: HostRuntime) -> Result<(), Fail> {
     let alloc = rt.alloc();
-    let mut place = delivered(alloc, Retention::Interest, &[])?;
-    assert!(rt; !is_there(&mut place, 1)?);
+    let mut place = kept_by(alloc, Retention::Interest)?;
+    place.make(publish(alloc, b"hello")?)?;
+    assert_eq!(rt; place.messages()?, Some(0));
     Ok(())
 }
 
 #[test]
 fn message_goes_at_the_second_acknowledgement(rt: HostRuntime) -> Result<(), Fail> {
     let alloc = rt.alloc();
-    let mut place = delivered(alloc, Retention::Interest, &[b"V", b"W"])?;
-    place.ask(ack(alloc, b"V", 1, AckKind::Ack)?)?;
-    assert!(rt; is_there(&mut place, 1)?);
-    place.ask(ack(alloc, b"W", 1, AckKind::Ack)?)?;
-    assert!(rt; !is_there(&mut place, 1)?);
+    let mut place = kept_by(alloc, Retention::Interest)?;
+    add(&mut place, alloc, b"V")?;
+    add(&mut place, alloc, b"W")?;
+    place.make(publish(alloc, b"hello")?)?;
+    assert!(rt; place.deliver()?.is_some());
+    assert!(rt; place.deliver()?.is_some());
+    place.make(ack(alloc, b"V", 1, AckKind::Ack)?)?;
+    assert_eq!(rt; place.messages()?, Some(1));
+    place.make(ack(alloc, b"W", 1, AckKind::Ack)?)?;
+    assert_eq!(rt; place.messages()?, Some(0));
     Ok(())
 }

@@ -3,12 +3,12 @@
 ghost use Rattle.std.specs.Prelude.{◌≤◌, ◌-◌, ◌^◌, length, IfOk, IsTrue};
 ghost use Rattle.js_model.specs.Configs.{is_limit, is_name, is_number};
 ghost use Rattle.js_model.specs.Proper.{is_proper_ask, is_proper_kind};
-ghost use Rattle.place_tests.specs.Asked.{IsAsked};
+ghost use Rattle.place_drive.specs.Asked.{IsAsked};
 
 use js_base::{Blob, List, NoMemory};
 use js_model::{
-    Ack, AckKind, AckPolicy, Ask, ConsumerConfig, DeliverPolicy, Discard, GetBy, Publish,
-    Retention, StreamConfig, Wants, What,
+    Ack, AckKind, AckPolicy, Ask, ConsumerConfig, DeliverPolicy, Discard, Publish, Retention,
+    StreamConfig, Wants, What,
 };
 use std::alloc::Global;
 
@@ -40,7 +40,8 @@ pub fn stream(alloc: Global, retention: Retention) -> Result<What, NoMemory>
     })
 }
 
-/// The making of a pull consumer that gets each message at most so often, if there is a limit.
+/// The making of a pull consumer with explicit acknowledgements, which gets each message at most so often, and has at most so many pending, if there are
+/// such limits.
 pub fn consumer(
     alloc: Global,
     name: &[u8],
@@ -125,17 +126,6 @@ pub fn ack(alloc: Global, name: &[u8], seq: u64, kind: AckKind) -> Result<What, 
     })
 }
 
-/// The message of a sequence.
-pub fn get(seq: u64) -> What
-    requires seq { IsTrue (is_number seq) }
-    ensures asked { IsAsked result }
-{
-    What::MessageGet {
-        reply: None,
-        by: GetBy::Seq(seq),
-    }
-}
-
 /// The information of a consumer.
 pub fn info(alloc: Global, name: &[u8]) -> Result<What, NoMemory>
     requires name { IsTrue (is_name name.now) }
@@ -145,4 +135,11 @@ pub fn info(alloc: Global, name: &[u8]) -> Result<What, NoMemory>
         reply: None,
         name: Blob::of(alloc, name)?,
     })
+}
+
+/// The information of the stream.
+pub fn stream_info() -> What
+    ensures asked { IsAsked result }
+{
+    What::StreamInfo { reply: None }
 }
