@@ -7,6 +7,7 @@ use js_base::NoMemory;
 use js_model::{AckKind, Ask, Retention};
 use place_drive::{Driven, ack, consumer, publish, pull, stream};
 use std::alloc::Global;
+use std::process::Abort;
 use std::test::Fail;
 
 /// A pull of one message that waits for ever.
@@ -18,11 +19,9 @@ const ONE: Ask = Ask {
     heartbeat: 0,
 };
 
-/// A stream of a retention.
-fn kept_by(alloc: Global, retention: Retention) -> Result<Driven, NoMemory> {
-    let mut place = Driven::open(alloc)?;
-    place.make(stream(alloc, retention)?)?;
-    Ok(place)
+/// Makes a stream of a retention.
+fn keep_by(place: &mut Driven, alloc: Global, retention: Retention) -> Result<(), NoMemory> {
+    place.make(stream(alloc, retention)?)
 }
 
 /// Adds a consumer that waits for one message, and gets each message once.
@@ -33,11 +32,8 @@ fn add(place: &mut Driven, alloc: Global, name: &[u8]) -> Result<(), NoMemory>
     place.make(pull(alloc, name, ONE)?)
 }
 
-#[test]
-fn message_of_a_work_queue_goes_once_it_is_acknowledged(rt: HostRuntime) -> Result<(), Fail> {
-    let alloc = rt.alloc();
-    let mut place = kept_by(alloc, Retention::WorkQueue)?;
-    add(&mut place, alloc, b"W")?;
+fn check_work_queue(rt: &impl Abort, place: &mut Driven, alloc: Global) -> Result<(), Fail> {
+    add(place, alloc, b"W")?;
     place.make(publish(alloc, b"hello")?)?;
     assert!(rt; place.deliver()?.is_some());
     place.make(ack(alloc, b"W", 1, AckKind::Nak(0))?)?;
@@ -49,20 +45,32 @@ fn message_of_a_work_queue_goes_once_it_is_acknowledged(rt: HostRuntime) -> Resu
 }
 
 #[test]
-fn message_that_nobody_wants_is_not_kept(rt: HostRuntime) -> Result<(), Fail> {
-    let alloc = rt.alloc();
-    let mut place = kept_by(alloc, Retention::Interest)?;
+fn message_of_a_work_queue_goes_once_it_is_acknowledged(rt: HostRuntime) -> Result<(), Fail> {
+    let mut place = Driven::open(rt.alloc())?;
+    keep_by(&mut place, rt.alloc(), Retention::WorkQueue)?;
+    check_work_queue(&rt, &mut place, rt.alloc())
+}
+
+fn check_unwanted(rt: &impl Abort, place: &mut Driven, alloc: Global) -> Result<(), Fail> {
     place.make(publish(alloc, b"hello")?)?;
     assert_eq!(rt; place.messages()?, Some(0));
     Ok(())
 }
 
 #[test]
-fn message_goes_at_the_second_acknowledgement(rt: HostRuntime) -> Result<(), Fail> {
-    let alloc = rt.alloc();
-    let mut place = kept_by(alloc, Retention::Interest)?;
-    add(&mut place, alloc, b"V")?;
-    add(&mut place, alloc, b"W")?;
+fn message_that_nobody_wants_is_not_kept(rt: HostRuntime) -> Result<(), Fail> {
+    let mut place = Driven::open(rt.alloc())?;
+    keep_by(&mut place, rt.alloc(), Retention::Interest)?;
+    check_unwanted(&rt, &mut place, rt.alloc())
+}
+
+fn check_two_acknowledgements(
+    rt: &impl Abort,
+    place: &mut Driven,
+    alloc: Global,
+) -> Result<(), Fail> {
+    add(place, alloc, b"V")?;
+    add(place, alloc, b"W")?;
     place.make(publish(alloc, b"hello")?)?;
     assert!(rt; place.deliver()?.is_some());
     assert!(rt; place.deliver()?.is_some());
@@ -71,4 +79,11 @@ fn message_goes_at_the_second_acknowledgement(rt: HostRuntime) -> Result<(), Fai
     place.make(ack(alloc, b"W", 1, AckKind::Ack)?)?;
     assert_eq!(rt; place.messages()?, Some(0));
     Ok(())
+}
+
+#[test]
+fn message_goes_at_the_second_acknowledgement(rt: HostRuntime) -> Result<(), Fail> {
+    let mut place = Driven::open(rt.alloc())?;
+    keep_by(&mut place, rt.alloc(), Retention::Interest)?;
+    check_two_acknowledgements(&rt, &mut place, rt.alloc())
 }
