@@ -16,6 +16,5 @@ pub mod PlainBodies
 pub mod PlainConsumers
 pub mod Refused
 pub mod Answered
-pub mod ServedCalls
 mod RowsOfRequests
 mod RowsOfConsumers

@@ -14,7 +14,7 @@ use Rattle.stream_config.specs.Reading.{reading, config_in, config_unless, refus
 use Rattle.js_model.proofs.NameTexts.{name_utf8}
 use Rattle.stream_config.proofs.Named.{read_name}
 use Rattle.stream_config.proofs.Parts.{printable}
-use Rattle.stream_config.proofs.Valid.{read_valid, read_served}
+use Rattle.stream_config.proofs.Valid.{read_valid}
 use Rattle.api_requests.specs.Fields.{number_in, pattern_in}
 use Rattle.api_requests.specs.Bodies.{or_no_name, token_name, fields_of, listing_of, setup_of, page_of}
 use Rattle.api_requests.specs.Read.{IsStream, IsSetup, IsListing}
@@ -67,7 +67,7 @@ setup_by : (token name : Bytes) (fields : Members) (config : StreamConfig) → t
 setup_by token name fields config is read =
     let stream = named token name is in
     let valid = read_valid name fields config stream.again read in
-    record { name = stream.stream; named = config_named name fields config read; valid = valid; served = read_served name fields config read; printed = printable config valid }
+    record { name = stream.stream; named = config_named name fields config read; valid = valid; printed = printable config valid }
 
 pub setup_is : (token body : Bytes) (setup : Bytes × StreamConfig) → setup_of token body ≡ Ok setup → IsSetup setup.0 setup.1
 unfolding setup_of

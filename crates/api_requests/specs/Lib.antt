@@ -11,5 +11,4 @@ pub mod Consumers
 pub mod Seen
 pub mod Requests
 pub mod Laws
-pub mod Served
 pub mod Read

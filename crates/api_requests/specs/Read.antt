@@ -9,7 +9,6 @@ use Rattle.js_model.specs.declared.event.GetBy.{GetBy}
 use Rattle.js_model.specs.declared.event.GetBy.TheVariants.{Seq, LastBySubject}
 use Rattle.js_model.specs.declared.consumer_config.ConsumerConfig.{ConsumerConfig}
 use Rattle.js_model.specs.declared.stream_config.StreamConfig.{StreamConfig}
-use Rattle.js_model.specs.Served.{IsServed}
 use Rattle.stream_config.specs.Printing.{IsPrinted}
 use Rattle.consumer_config.specs.Printing.{IsPrinted as IsPrintedConsumer}
 use Rattle.api_requests.specs.declared.fault.ApiFault.{ApiFault}
@@ -27,7 +26,6 @@ pub record IsSetup (stream : Bytes) (config : StreamConfig) : Type 0 where
   pub name : IsStream stream
   pub named : config.name ≡ stream
   pub valid : IsTrue (is_stream_config config)
-  pub served : IsServed config
   pub printed : IsPrinted config
 
 -- the names of a stream and of its consumer

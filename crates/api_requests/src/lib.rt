@@ -12,10 +12,8 @@ mod messages;
 mod name;
 mod reading;
 mod request;
-mod served;
 
 pub use fault::ApiFault;
 pub use name::call_name;
 pub use reading::read_request;
 pub use request::ApiRequest;
-pub use served::read_served;

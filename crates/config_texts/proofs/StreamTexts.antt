@@ -21,7 +21,7 @@ use Rattle.stream_config.specs.Printing.{retention_text, discard_text, printed a
 use Rattle.stream_config.proofs.Limits.{limit_parts}
 use Rattle.stream_config.proofs.Parts.{printable}
 use Rattle.stream_config.proofs.Printed.{printed_read}
-use Rattle.stream_config.proofs.Valid.{read_valid, read_served}
+use Rattle.stream_config.proofs.Valid.{read_valid}
 use Rattle.config_texts.specs.Laws.{IsStreamText, LawStreamText}
 use Rattle.config_texts.specs.Reading.{allowed, name_in, stream_in, if_stream_text, stream_of}
 use Rattle.config_texts.specs.Texts.{stream_text}
@@ -116,7 +116,7 @@ from_text : (text : Bytes) (c : StreamConfig) → IsStreamText text c → stream
 unfolding stream_of
 from_text text c t =
     ap (λ (r : Result Members JsonFault). option_and_then (if_stream_text text) (option_and_then stream_in (allowed r))) (ap object_of t.spelled ∙ back c t.valid)
-    ∙ ap (option_and_then (if_stream_text text)) (is_in c t.valid (printed_read c t.valid t.served)) ∙ own_text text c t.spelled
+    ∙ ap (option_and_then (if_stream_text text)) (is_in c t.valid (printed_read c t.valid)) ∙ own_text text c t.spelled
 
 -- ---- and what is read has this text
 
@@ -139,7 +139,7 @@ to_text text c h =
     let name = then_some (λ (name : Bytes). allowed (reading name fields.value)) (name_in fields.value) whole.value fields.then_is in
     let read = allowed_back (reading name.value fields.value) whole.value name.then_is in
     let own = same_text text whole.value c whole.then_is in
-    subst (IsStreamText text) own.config_is (record { valid = read_valid name.value fields.value whole.value (name_is fields.value name.value name.first_is) read; served = read_served name.value fields.value whole.value read; spelled = own.spelled })
+    subst (IsStreamText text) own.config_is (record { valid = read_valid name.value fields.value whole.value (name_is fields.value name.value name.first_is) read; spelled = own.spelled })
 
 pub law_stream_text : LawStreamText
 law_stream_text text c = (to_text text c, from_text text c)

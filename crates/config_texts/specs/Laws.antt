@@ -2,16 +2,14 @@
 use Rattle.std.specs.Prelude.{◌≡◌, ◌↔◌, IsTrue, Some}
 use Rattle.js_base.specs.Bytes.{Bytes}
 use Rattle.js_model.specs.Configs.{is_stream_config, is_consumer_config}
-use Rattle.js_model.specs.Served.{IsServed}
 use Rattle.js_model.specs.declared.stream_config.StreamConfig.{StreamConfig}
 use Rattle.js_model.specs.declared.consumer_config.ConsumerConfig.{ConsumerConfig}
 use Rattle.config_texts.specs.Reading.{stream_of, consumer_of}
 use Rattle.config_texts.specs.Texts.{stream_text, consumer_text}
 
--- the text is that of a valid configuration that is served
+-- the text is that of a valid configuration
 pub record IsStreamText (text : Bytes) (config : StreamConfig) : Type 0 where
   pub valid : IsTrue (is_stream_config config)
-  pub served : IsServed config
   pub spelled : text ≡ stream_text config
 
 abbrev pub LawStreamText : Type 0

@@ -68,7 +68,7 @@ fn said(alloc: Global, text: &[u8]) -> Result<Option<StreamConfig>, NoMemory>
     }
 }
 
-/// The stream's configuration whose text this is, if it is that of a valid one that is served.
+/// The stream's configuration whose text this is, if it is that of a valid one.
 #[tactic(auto, unfolding(crate::specs::Reading::stream_of))]
 pub fn read_stream_text(alloc: Global, text: &[u8]) -> Result<Option<StreamConfig>, NoMemory>
     ensures value { IfOk result (λ config. config ≡ stream_of text.now) }

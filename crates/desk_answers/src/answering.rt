@@ -12,26 +12,13 @@ ghost use Rattle.js_model.specs.Proper.{reply_of};
 ghost use Rattle.place_engine.specs.Shown.{IsShown};
 ghost use Rattle.desk_answers.specs.InfoCalls.{answer_by, call_of, done_call_of, success_of};
 
+use crate::consumer_answers::{ConsumerCall, consumer_informed, consumers_listed, consumers_named};
 use crate::copying::copy_info;
-use crate::replying::message_to;
+use crate::replying::{message_to, refused};
 use js_api::{ApiCall, ApiReply, publish_text, reply_text};
-use js_base::{ApiError, Blob, NoMemory, Out};
+use js_base::{Blob, NoMemory, Out};
 use js_model::{Publish, Reply, StreamInfo, What, copy_message};
 use std::alloc::Global;
-
-/// The refusal of this call.
-fn refused(alloc: Global, call: ApiCall, refusal: &ApiError) -> Result<ApiReply, NoMemory>
-    requires text { IsUtf8 refusal.now.text }
-    ensures value { IfOk result (λ told. told ≡ replies.Refused (name_of call) refusal.now) }
-    ensures texts { IfOk result IsText }
-{
-    let copy = ApiError {
-        code: refusal.code,
-        err_code: refusal.err_code,
-        text: refusal.text.clone()?,
-    };
-    Ok(ApiReply::Refused(Blob::of(alloc, call.name())?, copy))
-}
 
 /// A call that a stream answers by its information.
 #[derive(Clone, Copy)]
@@ -95,6 +82,7 @@ fn informed(alloc: Global, call: InfoCall, reply: &Reply) -> Result<Option<ApiRe
 enum DoneCall {
     Delete,
     MsgDelete,
+    ConsumerDelete,
 }
 
 impl DoneCall {
@@ -105,6 +93,7 @@ impl DoneCall {
         match self {
             DoneCall::Delete => ApiCall::StreamDelete,
             DoneCall::MsgDelete => ApiCall::StreamMsgDelete,
+            DoneCall::ConsumerDelete => ApiCall::ConsumerDelete,
         }
     }
 
@@ -116,6 +105,7 @@ impl DoneCall {
         match self {
             DoneCall::Delete => ApiReply::StreamDelete,
             DoneCall::MsgDelete => ApiReply::StreamMsgDelete,
+            DoneCall::ConsumerDelete => ApiReply::ConsumerDelete,
         }
     }
 }
@@ -203,15 +193,12 @@ fn api_reply(alloc: Global, what: &What, reply: &Reply) -> Result<Option<ApiRepl
         What::Delete { .. } => finished(alloc, DoneCall::MsgDelete, reply),
         What::StreamInfo { .. } => informed(alloc, InfoCall::Info, reply),
         What::MessageGet { .. } => read(alloc, reply),
-        What::Publish(_)
-        | What::MakeConsumer { .. }
-        | What::DropConsumer { .. }
-        | What::Ack { .. }
-        | What::Pull { .. }
-        | What::Tick
-        | What::ConsumerInfo { .. }
-        | What::ConsumerNames { .. }
-        | What::ConsumerList { .. } => Ok(None),
+        What::MakeConsumer { .. } => consumer_informed(alloc, ConsumerCall::Create, reply),
+        What::DropConsumer { .. } => finished(alloc, DoneCall::ConsumerDelete, reply),
+        What::ConsumerInfo { .. } => consumer_informed(alloc, ConsumerCall::Info, reply),
+        What::ConsumerNames { offset, .. } => consumers_named(alloc, *offset, reply),
+        What::ConsumerList { offset, .. } => consumers_listed(alloc, *offset, reply),
+        What::Publish(_) | What::Ack { .. } | What::Pull { .. } | What::Tick => Ok(None),
     }
 }
 

@@ -2,8 +2,8 @@
 
 ghost use Rattle.std.specs.Prelude.{◌≡◌, IfOk};
 
-use js_base::{Blob, NoMemory};
-use js_model::{GetBy, StreamInfo, copy_stream_config};
+use js_base::{Blob, List, NoMemory};
+use js_model::{ConsumerInfo, GetBy, StreamInfo, copy_consumer_config, copy_stream_config};
 use std::alloc::Global;
 
 /// A copy of a stream's information. Its texts are shared.
@@ -21,6 +21,33 @@ pub fn copy_info(alloc: Global, info: &StreamInfo) -> Result<StreamInfo, NoMemor
         last_at: info.last_at,
         consumers: info.consumers,
     })
+}
+
+/// A copy of a consumer's information. Its texts are shared.
+pub fn copy_consumer_info(info: &ConsumerInfo) -> Result<ConsumerInfo, NoMemory>
+    ensures copy { IfOk result (λ copy. copy ≡ info.now) }
+{
+    Ok(ConsumerInfo {
+        stream: info.stream.clone()?,
+        name: info.name.clone()?,
+        made: info.made,
+        config: copy_consumer_config(&info.config)?,
+        info: info.info,
+    })
+}
+
+/// Copies of the informations of consumers.
+pub fn copy_consumer_infos(
+    alloc: Global,
+    infos: &[ConsumerInfo],
+) -> Result<List<ConsumerInfo>, NoMemory>
+    ensures copy { IfOk result (λ copies. copies ≡ infos.now) }
+{
+    let mut copies = List::new(alloc);
+    for info in infos {
+        copies.push(copy_consumer_info(info)?)?;
+    }
+    Ok(copies)
 }
 
 /// A copy of a reply subject, if there is one. Its text is shared.

@@ -4,6 +4,7 @@
 
 mod account;
 mod answering;
+mod consumer_answers;
 mod copying;
 mod ordering;
 mod paging;

@@ -1,14 +1,16 @@
 //! Messages from the server itself.
 
 ghost use Rattle.std.specs.Prelude.{◌≡◌, ◌<◌, IfOk, IsUtf8, OnErr, length};
+ghost use Rattle.api_calls.specs.Names.{name_of};
 ghost use Rattle.api_replies.specs.Printed.{IsText};
 ghost use Rattle.api_replies.specs.PubAcks.{publish_text};
+ghost use Rattle.api_replies.specs.declared.reply.ApiReply.TheVariants as replies;
 ghost use Rattle.js_api.specs.OneStream.{answer};
 ghost use Rattle.js_api.specs.Outputs.{message_to};
 ghost use Rattle.js_api.specs.Publishing.{publish_refusal};
 ghost use Rattle.js_model.specs.declared.reply.Reply.TheVariants.{Refused};
 
-use js_api::{ApiReply, publish_text, reply_text};
+use js_api::{ApiCall, ApiReply, publish_text, reply_text};
 use js_base::{ApiError, Blob, List, NoMemory, Out, Outs};
 use js_model::Reply;
 use std::alloc::Global;
@@ -24,6 +26,24 @@ pub fn message_to(to: &Blob, payload: Blob) -> Result<Out, NoMemory>
         headers: Blob::empty(),
         payload,
     })
+}
+
+/// The refusal of this call.
+pub(crate) fn refused(
+    alloc: Global,
+    call: ApiCall,
+    refusal: &ApiError,
+) -> Result<ApiReply, NoMemory>
+    requires text { IsUtf8 refusal.now.text }
+    ensures value { IfOk result (λ told. told ≡ replies.Refused (name_of call) refusal.now) }
+    ensures texts { IfOk result IsText }
+{
+    let copy = ApiError {
+        code: refusal.code,
+        err_code: refusal.err_code,
+        text: refusal.text.clone()?,
+    };
+    Ok(ApiReply::Refused(Blob::of(alloc, call.name())?, copy))
 }
 
 /// The message with this answer, or no message if there is no subject for it. An `Err` comes only if there is one.

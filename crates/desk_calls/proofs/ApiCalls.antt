@@ -4,7 +4,7 @@ use Rattle.js_base.specs.declared.out.Out.{Out}
 use Rattle.js_base.specs.declared.out.ApiError.{ApiError}
 use Rattle.js_model.specs.declared.desk.Taken.{Taken}
 use Rattle.api_requests.specs.declared.request.ApiRequest.{ApiRequest}
-use Rattle.api_requests.specs.Served.{served_of}
+use Rattle.api_requests.specs.Requests.{request_of}
 use Rattle.js_api.specs.declared.fault.DeskFault.{DeskFault}
 use Rattle.js_api.specs.declared.fault.DeskFault.TheVariants as faults
 use Rattle.js_api.specs.Api.{IsAsked, PublishesToApi}
@@ -15,7 +15,7 @@ use Rattle.desk_ground.proofs.Stages.{as_such}
 
 module _ {D : Type 0} (made : D → List DeskEntry → D → Type 0) (client : Client) (message : Out) (now : ℕ) where
   -- the call was read
-  pub read : (given : Option (Result ApiRequest ApiError)) (result : Result Taken DeskFault) (a b : D) → served_of message.to message.payload ≡ given → Makes made (IsAsked client message now given result) a b
+  pub read : (given : Option (Result ApiRequest ApiError)) (result : Result Taken DeskFault) (a b : D) → request_of message.to message.payload ≡ given → Makes made (IsAsked client message now given result) a b
       → Makes made (PublishesToApi client message now result) a b
   read given result a b is h = as_such made (IsAsked client message now given result) (PublishesToApi client message now result) a b h
       (λ entries asked. inr (record { given = given; before = []; more = entries; entries_are = refl; first_is = (sym is, refl); next_is = asked }))

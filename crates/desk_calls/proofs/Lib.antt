@@ -1,1 +1,2 @@
+mod AckCalls
 mod ApiCalls

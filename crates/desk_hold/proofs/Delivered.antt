@@ -94,11 +94,12 @@ ends_behind Short now listening first tail new outs same h = tt
 ends_behind WornOut now listening first tail new outs same h = (not_none first tail h.0, h.1)
 
 -- what ended there ends all
-pub ended_there : (holds : Image → State → Type 0) (seat : ℕ) (at : PlaceAt) (now : ℕ) (listening : List Bytes) (made : ℕ) (ending : Ending) (old here new : Seen) (before outs after : List Out)
-    → SoFar holds seat now listening made old here before outs → DeliversOn holds seat at now listening ending here new outs after → DeliversOn holds seat at now listening ending old new before after
-ended_there holds seat at now listening made ending old here new before outs after h k = record {
+pub ended_there : (holds : Image → State → Type 0) (seat : ℕ) (at : PlaceAt) (now : ℕ) (listening : List Bytes) (made : ℕ) (ending : Ending) (old here new : Seen) (before outs after : List Out) → made < most_deliveries
+    → SoFar holds seat now listening made old here before outs → DeliversOn holds 1 seat at now listening ending here new outs after → DeliversOn holds most_deliveries seat at now listening ending old new before after
+ended_there holds seat at now listening made ending old here new before outs after less h k = record {
   entries = h.first ++ k.entries;
   sent = h.sent ++ k.sent;
+  few = omega (arith, length-append h.first k.entries, h.count, k.few, less);
   are = h.are at (fault_by ending) k.entries k.are;
   led = h.led k.entries k.sent new.place k.led;
   outlasts = outlasts_more holds Never h.first k.entries old here new h.outlasts k.outlasts (none_firm k.entries here.place k.sent new.place k.led);
@@ -110,11 +111,12 @@ same_volume : (p : PlaceIn) → IsLater p.volume p.volume
 same_volume p = record { faults = omega arith; moments = omega arith; generations = omega arith }
 
 -- it is full
-pub full_there : (holds : Image → State → Type 0) (seat : ℕ) (at : PlaceAt) (now : ℕ) (listening : List Bytes) (made : ℕ) (old here : Seen) (before outs : List Out) → SoFar holds seat now listening made old here before outs
-    → (most_deliveries ≤ made) ⊎ (most_bytes ≤ sum_by bytes_of outs) → DeliversOn holds seat at now listening Full old here before outs
-full_there holds seat at now listening made old here before outs h full = record {
+pub full_there : (holds : Image → State → Type 0) (seat : ℕ) (at : PlaceAt) (now : ℕ) (listening : List Bytes) (made : ℕ) (old here : Seen) (before outs : List Out) → made ≤ most_deliveries → SoFar holds seat now listening made old here before outs
+    → (most_deliveries ≤ made) ⊎ (most_bytes ≤ sum_by bytes_of outs) → DeliversOn holds most_deliveries seat at now listening Full old here before outs
+full_there holds seat at now listening made old here before outs no_more h full = record {
   entries = h.first ++ [];
   sent = h.sent ++ [];
+  few = omega (arith, length-append h.first [], h.count, no_more);
   are = h.are at None [] tt;
   led = h.led [] [] here.place (record { going = h.goes; state = refl; stored = refl; stopped = h.goes; later = same_volume here.place }, refl);
   outlasts = subst (λ (es : List PlaceEntry). Outlasts holds Never es old here) (sym (append-nil h.first)) h.outlasts;

@@ -9,7 +9,7 @@ use Rattle.js_model.specs.PlaceStates.{PlaceIn}
 use Rattle.js_model.specs.Ready.{some_ready}
 use Rattle.js_model.specs.Router.{RouteCall, RouteTold}
 use Rattle.js_api.specs.declared.fault.DeskFault.TheVariants as faults
-use Rattle.js_api.specs.Holding.{AreFirstReadings, delivery_broke, listening_of, push_consumers}
+use Rattle.js_api.specs.Holding.{AreFirstReadings, delivery_broke, listening_of, most_deliveries, push_consumers}
 use Rattle.js_api.specs.Worlds.{IsLater}
 use Rattle.js_model.specs.declared.stream.State.{State}
 use Rattle.place_engine.specs.Stepping.{Image, IsKept, Seen}
@@ -44,7 +44,7 @@ module _ {R : Type 0} (routes : R → RouteCall → RouteTold → R → Type 0) 
     led = pauses place.place goes;
     outlasts = outlasts_nothing holds place kept;
     added = sym (append-nil outs);
-    followed = record { heard = refl; asked = inr (no_first (push_consumers place.place.state), refl); are = tt; left = tt };
+    followed = record { heard = refl; asked = inr (no_first (push_consumers place.place.state), refl); few = omega arith; are = tt; left = tt };
   })
 
   -- memory ran out as it was asked who listens
@@ -57,7 +57,7 @@ module _ {R : Type 0} (routes : R → RouteCall → RouteTold → R → Type 0) 
     led = pauses place.place goes;
     outlasts = outlasts_nothing holds place kept;
     added = sym (append-nil outs);
-    followed = record { heard = h.reads.1; asked = inr (h.reads.0, refl); are = tt; left = tt };
+    followed = record { heard = h.reads.1; asked = inr (h.reads.0, refl); few = omega arith; are = tt; left = tt };
   })
 
   -- no turn of the router was left for that
@@ -75,14 +75,14 @@ module _ {R : Type 0} (routes : R → RouteCall → RouteTold → R → Type 0) 
 
   module _ (now : ℕ) (listening : List Bytes) (old new : Seen) (r s : R) (before after : List Out) (h : Hears routes worn (Ok listening) old.place.state r s) where
     -- the ending that was told
-    pub as_told : (ending told : Ending) → told ≡ ending → DeliversOn holds seat at now listening told old new before after → DeliversOn holds seat at now listening ending old new before after
-    as_told ending told is d = subst (λ (e : Ending). DeliversOn holds seat at now listening e old new before after) is d
+    pub as_told : (ending told : Ending) → told ≡ ending → DeliversOn holds most_deliveries seat at now listening told old new before after → DeliversOn holds most_deliveries seat at now listening ending old new before after
+    as_told ending told is d = subst (λ (e : Ending). DeliversOn holds most_deliveries seat at now listening e old new before after) is d
 
     -- with who was read to listen
-    read : (ending : Ending) → DeliversOn holds seat at now listening ending old new before after → DeliversOn holds seat at now (listening_of h.readings) ending old new before after
-    read ending d = subst (λ (l : List Bytes). DeliversOn holds seat at now l ending old new before after) h.reads.1 d
+    read : (ending : Ending) → DeliversOn holds most_deliveries seat at now listening ending old new before after → DeliversOn holds most_deliveries seat at now (listening_of h.readings) ending old new before after
+    read ending d = subst (λ (l : List Bytes). DeliversOn holds most_deliveries seat at now l ending old new before after) h.reads.1 d
 
-    pub quiet : DeliversOn holds seat at now listening Quiet old new before after → Follows routes worn seat at now holds (Heard false None) old new r s before after
+    pub quiet : DeliversOn holds most_deliveries seat at now listening Quiet old new before after → Follows routes worn seat at now holds (Heard false None) old new r s before after
     quiet d =
         let k = read Quiet d in
         record {
@@ -95,6 +95,7 @@ module _ {R : Type 0} (routes : R → RouteCall → RouteTold → R → Type 0) 
           followed = record {
             heard = h.reads.2;
             asked = h.reads.0;
+            few = k.few;
             are = k.are;
             left = record {
               ready_is = by (delivery_broke k.entries) (some_ready new.place.state now (listening_of h.readings)) k.ends.1;
@@ -107,7 +108,7 @@ module _ {R : Type 0} (routes : R → RouteCall → RouteTold → R → Type 0) 
         by true ready none = refl
         by false ready none = sym none
 
-    pub broke : DeliversOn holds seat at now listening Broke old new before after → Follows routes worn seat at now holds (Heard false None) old new r s before after
+    pub broke : DeliversOn holds most_deliveries seat at now listening Broke old new before after → Follows routes worn seat at now holds (Heard false None) old new r s before after
     broke d =
         let k = read Broke d in
         record {
@@ -120,6 +121,7 @@ module _ {R : Type 0} (routes : R → RouteCall → RouteTold → R → Type 0) 
           followed = record {
             heard = h.reads.2;
             asked = h.reads.0;
+            few = k.few;
             are = k.are;
             left = record {
               ready_is = ap (λ (b : Bool). if b then false else some_ready new.place.state now (listening_of h.readings)) (sym k.ends);
@@ -128,7 +130,7 @@ module _ {R : Type 0} (routes : R → RouteCall → RouteTold → R → Type 0) 
           };
         }
 
-    pub full : (ready : Bool) → ready ≡ some_ready new.place.state now listening → DeliversOn holds seat at now listening Full old new before after → Follows routes worn seat at now holds (Heard ready None) old new r s before after
+    pub full : (ready : Bool) → ready ≡ some_ready new.place.state now listening → DeliversOn holds most_deliveries seat at now listening Full old new before after → Follows routes worn seat at now holds (Heard ready None) old new r s before after
     full ready is d =
         let k = read Full d in
         record {
@@ -141,6 +143,7 @@ module _ {R : Type 0} (routes : R → RouteCall → RouteTold → R → Type 0) 
           followed = record {
             heard = h.reads.2;
             asked = h.reads.0;
+            few = k.few;
             are = k.are;
             left = record {
               ready_is = is ∙ ap (λ (l : List Bytes). some_ready new.place.state now l) h.reads.1
@@ -150,7 +153,7 @@ module _ {R : Type 0} (routes : R → RouteCall → RouteTold → R → Type 0) 
           };
         }
 
-    pub ran_short : (following : Following) → following ≡ Heard false (Some faults.NoMemory) → DeliversOn holds seat at now listening Short old new before after → Follows routes worn seat at now holds following old new r s before after
+    pub ran_short : (following : Following) → following ≡ Heard false (Some faults.NoMemory) → DeliversOn holds most_deliveries seat at now listening Short old new before after → Follows routes worn seat at now holds following old new r s before after
     ran_short following is d =
         let k = read Short d in
         subst (λ (f : Following). Follows routes worn seat at now holds f old new r s before after) (sym is) (record {
@@ -160,10 +163,10 @@ module _ {R : Type 0} (routes : R → RouteCall → RouteTold → R → Type 0) 
           led = k.led;
           outlasts = k.outlasts;
           added = k.added;
-          followed = record { heard = h.reads.2; asked = inl h.reads.0; are = k.are; left = tt };
+          followed = record { heard = h.reads.2; asked = inl h.reads.0; few = k.few; are = k.are; left = tt };
         })
 
-    pub worn_out : (following : Following) → following ≡ Heard false (Some (faults.Worn (2 ^ 62 - 1))) → DeliversOn holds seat at now listening WornOut old new before after
+    pub worn_out : (following : Following) → following ≡ Heard false (Some (faults.Worn (2 ^ 62 - 1))) → DeliversOn holds most_deliveries seat at now listening WornOut old new before after
         → Follows routes worn seat at now holds following old new r s before after
     worn_out following is d =
         let k = read WornOut d in
@@ -174,5 +177,5 @@ module _ {R : Type 0} (routes : R → RouteCall → RouteTold → R → Type 0) 
           led = k.led;
           outlasts = k.outlasts;
           added = k.added;
-          followed = record { heard = h.reads.2; asked = inl h.reads.0; are = k.are; left = ((sym k.ends.1, refl), k.ends.0) };
+          followed = record { heard = h.reads.2; asked = inl h.reads.0; few = k.few; are = k.are; left = ((sym k.ends.1, refl), k.ends.0) };
         })

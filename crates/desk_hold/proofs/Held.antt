@@ -268,6 +268,7 @@ module _ {R : Type 0} (routes : R → RouteCall → RouteTold → R → Type 0) 
           steps = refl;
           asked = asked_or fault next f.readings f.entries hold refl refl f.followed.asked;
           deliveries = deliveries_or seat at now (listening_of f.readings) fault next f.entries f.followed.are;
+          few = f.followed.few;
           ready_is = ready_or fault next ready now hold new.place all refl f.followed.left;
           explained = explains_or fault sending made.unsaid ready now hold new.place all refl refl f.followed.left;
           ends = ends_or fault next ready now hold new.place all whole f.followed.left;
@@ -302,6 +303,7 @@ module _ {R : Type 0} (routes : R → RouteCall → RouteTold → R → Type 0) 
           steps = refl;
           asked = inr (f.followed.first, f.followed.none);
           deliveries = subst (λ (es : List PlaceEntry). AreDeliveries seat at now (listening_of f.readings) (Some (faults.Worn number)) es) (sym f.followed.none) tt;
+          few = subst (λ (es : List PlaceEntry). length es ≤ most_deliveries) (sym f.followed.none) (omega arith);
           ready_is = tt;
           explained = inl refl;
           ends = tt;
@@ -459,6 +461,7 @@ module _ {R : Type 0} (routes : R → RouteCall → RouteTold → R → Type 0) 
               steps = refl;
               asked = inr (none_read (push_consumers new.place.state), refl);
               deliveries = tt;
+              few = omega arith;
               ready_is = tt;
               explained = tt;
               ends = tt;
@@ -509,6 +512,7 @@ module _ {R : Type 0} (routes : R → RouteCall → RouteTold → R → Type 0) 
               steps = refl;
               asked = inr (none_read (push_consumers new.place.state), refl);
               deliveries = tt;
+              few = omega arith;
               ready_is = tt;
               explained = explained;
               ends = tt;

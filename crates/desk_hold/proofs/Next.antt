@@ -75,12 +75,13 @@ module _ (holds : Image → State → Type 0) (now : ℕ) (listening : List Byte
 
   -- nothing more was made
   paused : (ending : Ending) → new.place.state ≡ old.place.state → new.place.stored ≡ old.place.stored → new.place.stopped ≡ old.place.stopped → MayCommit holds old new → after ≡ before
-      → EndsSo ending now listening [] new.place after → (seat : ℕ) (at : PlaceAt) → DeliversOn holds seat at now listening ending old new before after
+      → EndsSo ending now listening [] new.place after → (seat : ℕ) (at : PlaceAt) → DeliversOn holds 1 seat at now listening ending old new before after
   paused ending state stored stopped commits same ends seat at =
       let led : Led old.place [] [] new.place = (record { going = going; state = state; stored = stored; stopped = stopped ∙ going; later = later commits.time }, refl) in
       record {
         entries = [];
         sent = [];
+        few = omega arith;
         are = tt;
         led = led;
         outlasts = outlasts_of commits [] [] led;
@@ -96,13 +97,14 @@ module _ (holds : Image → State → Type 0) (now : ℕ) (listening : List Byte
   -- one was made and told, and it was the last one
   last_sent : (ending : Ending) (d : Delivery) (os : List Out) → MayCommit holds old new → IsSentAt now listening d os old.place new.place → new.place.stopped ≡ None → after ≡ before ++ os
       → ((seat : ℕ) (es : List PlaceEntry) → es ≡ Deliver seat now listening d os ∷ [] → EndsSo ending now listening es new.place after)
-      → (seat : ℕ) (at : PlaceAt) → DeliversOn holds seat at now listening ending old new before after
+      → (seat : ℕ) (at : PlaceAt) → DeliversOn holds 1 seat at now listening ending old new before after
   last_sent ending d os commits step goes outs ends seat at =
       let led : Led old.place (Deliver seat now listening d os ∷ []) os new.place =
       (new.place, [], step, goes, sym (append-nil os), (record { going = goes; state = refl; stored = refl; stopped = goes; later = same_volume new.place }, refl)) in
       record {
         entries = Deliver seat now listening d os ∷ [];
         sent = os;
+        few = omega arith;
         are = (refl, refl, refl, tt);
         led = led;
         outlasts = outlasts_of commits (Deliver seat now listening d os ∷ []) os led;
@@ -111,7 +113,7 @@ module _ (holds : Image → State → Type 0) (now : ℕ) (listening : List Byte
       }
 
   -- time passed in its place
-  ticked : Delivers holds (Err (NoMemory Ticked)) now listening old new before after → (seat : ℕ) (at : PlaceAt) → DeliversOn holds seat at now listening Short old new before after
+  ticked : Delivers holds (Err (NoMemory Ticked)) now listening old new before after → (seat : ℕ) (at : PlaceAt) → DeliversOn holds 1 seat at now listening Short old new before after
   ticked h seat at =
       let event : Event = tick_at old.place.state in
       let as_step : Steps holds (Err (NoMemory Ticked)) event now old new before after = record {
@@ -126,6 +128,7 @@ module _ (holds : Image → State → Type 0) (now : ℕ) (listening : List Byte
       record {
         entries = Step seat event now Silent step.outs false ∷ [];
         sent = step.outs;
+        few = omega arith;
         are = (refl, refl, refl, refl, refl);
         led = led;
         outlasts = outlasts_of (commits_of (Err (NoMemory Ticked)) h) (Step seat event now Silent step.outs false ∷ []) step.outs led;
@@ -134,13 +137,14 @@ module _ (holds : Image → State → Type 0) (now : ℕ) (listening : List Byte
       }
 
   -- the volume failed in it
-  broke : Delivers holds (Err StoreFault) now listening old new before after → (seat : ℕ) (at : PlaceAt) → DeliversOn holds seat at now listening Broke old new before after
+  broke : Delivers holds (Err StoreFault) now listening old new before after → (seat : ℕ) (at : PlaceAt) → DeliversOn holds 1 seat at now listening Broke old new before after
   broke h seat at =
       let led : Led old.place (Broken seat now (DeliverOf listening h.ends.delivery) ∷ []) [] new.place =
       (h.ends.sent, sent_at h.ends.delivery h.ends.sent h.ends.makes h.stored h.time, (h.ends.stops, h.ends.cause), refl, refl) in
       record {
         entries = Broken seat now (DeliverOf listening h.ends.delivery) ∷ [];
         sent = [];
+        few = omega arith;
         are = (refl, refl, refl, refl);
         led = led;
         outlasts = outlasts_of (commits_of (Err StoreFault) h) (Broken seat now (DeliverOf listening h.ends.delivery) ∷ []) [] led;

@@ -88,11 +88,12 @@ EndsSo Short now listening entries new outs = Unit {0}
 EndsSo WornOut now listening entries new outs = (entries ≢ []) × (new.volume.generation ≡ 2 ^ 62 - 1)
 
 module _ (holds : Image → State → Type 0) where
-  -- they were made by this seat at the moment to whom somebody listens, led from the one place to the other, and what they sent was added; none is
-  -- confirmed
-  pub record DeliversOn (seat : ℕ) (at : PlaceAt) (now : ℕ) (listening : List Bytes) (ending : Ending) (old new : Seen) (before after : List Out) : Type 0 where
+  -- they were made by this seat at the moment to whom somebody listens, at most so many, led from the one place to the other, and what they sent was
+  -- added; none is confirmed
+  pub record DeliversOn (most seat : ℕ) (at : PlaceAt) (now : ℕ) (listening : List Bytes) (ending : Ending) (old new : Seen) (before after : List Out) : Type 0 where
     pub entries : List PlaceEntry
     pub sent : List Out
+    pub few : length entries ≤ most
     pub are : AreDeliveries seat at now listening (fault_by ending) entries
     pub led : Led old.place entries sent new.place
     pub outlasts : Outlasts holds Never entries old new
@@ -104,4 +105,4 @@ module _ (holds : Image → State → Type 0) where
   GoesOn now listening None old new before after =
       (d : Delivery) × (outs : List Out)
       × IsSentAt now listening d outs old.place new.place × (new.place.stopped ≡ None) × (after ≡ before ++ outs) × MayCommit holds old new
-  GoesOn now listening (Some ending) old new before after = (seat : ℕ) (at : PlaceAt) → DeliversOn seat at now listening ending old new before after
+  GoesOn now listening (Some ending) old new before after = (seat : ℕ) (at : PlaceAt) → DeliversOn 1 seat at now listening ending old new before after

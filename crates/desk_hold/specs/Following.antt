@@ -44,6 +44,7 @@ module _ {R : Type 0} (routes : R → RouteCall → RouteTold → R → Type 0) 
   pub record IsHeard (ready : Bool) (fault : Option DeskFault) (readings : List Reading) (entries : List PlaceEntry) (old new : PlaceIn) (r s : R) (outs : List Out) : Type 0 where
     pub heard : AreHeard routes worn r readings s
     pub asked : AskedSo fault old.state readings entries
+    pub few : length entries ≤ most_deliveries
     pub are : AreDeliveries seat at now (listening_of readings) fault entries
     pub left : LeftSo fault ready now readings entries new outs
 

@@ -1,7 +1,7 @@
 //! The deliveries of a hold.
 
 ghost use Rattle.std.specs.Prelude.{◌≡◌, ◌≤◌, ℕ, sum_by, None};
-ghost use Rattle.js_api.specs.Holding.{bytes_of};
+ghost use Rattle.js_api.specs.Holding.{bytes_of, most_deliveries};
 ghost use Rattle.js_model.specs.declared.desk.PlaceAt.{PlaceAt};
 ghost use Rattle.desk_hold.specs.Deliveries.{DeliversOn, GoesOn, ending_after, ending_by};
 
@@ -40,7 +40,7 @@ pub fn deliver_all<P: Place>(
     outs: &mut Outs,
 ) -> Ending
     requires going { (P.seen place.old).place.stopped ≡ None }
-    ensures delivers { (seat : ℕ) (at : PlaceAt) → DeliversOn P.holds seat at now listening.now result (P.seen place.old) (P.seen place.new) outs.old outs.new }
+    ensures delivers { (seat : ℕ) (at : PlaceAt) → DeliversOn P.holds most_deliveries seat at now listening.now result (P.seen place.old) (P.seen place.new) outs.old outs.new }
     ensures vol { P.keeps_vol (P.vol place.old) (P.vol place.new) }
 {
     let mut size = size_of(outs.as_slice());

@@ -1,2 +1,3 @@
-mod Published
+pub mod Published
 mod Publishes
+pub mod Told

@@ -51,5 +51,5 @@ may_make_default config name subject is named s =
     subst (λ (c : StreamConfig). MayAsk (whats.Make None c)) (sym is) (record {
       reply = refl;
       proper = default_is name subject (name_is name n) s;
-      built = record { retention = refl };
+      built = tt;
     })

@@ -19,7 +19,7 @@ use Rattle.desk_ground.specs.Named.{GoesOnNamed}
 use Rattle.desk_ground.specs.Outcomes.{MayHold, phase_after}
 use Rattle.desk_ground.proofs.OneStream.{named, on_stream}
 use Rattle.desk_streams.specs.declared.asking.Asking.{Asking}
-use Rattle.desk_streams.specs.declared.asking.Asking.TheVariants.{Info, Purge, Get, Delete}
+use Rattle.desk_streams.specs.declared.asking.Asking.TheVariants.{Info, Purge, Get, Delete, MakeConsumer, ConsumerInfo, DropConsumer, ConsumerNames, ConsumerList}
 use Rattle.desk_streams.specs.Asking.{call_of, what_of}
 
 -- ---- a hold
@@ -29,6 +29,11 @@ replies_to Info to = refl
 replies_to (Purge filter below keep) to = refl
 replies_to (Get by) to = refl
 replies_to (Delete seq) to = refl
+replies_to (MakeConsumer name config update) to = refl
+replies_to (ConsumerInfo name) to = refl
+replies_to (DropConsumer name) to = refl
+replies_to (ConsumerNames offset) to = refl
+replies_to (ConsumerList offset) to = refl
 
 -- it is asked in any phase, and leaves it
 pub may_hold : (asking : Asking) (to : Option Bytes) (phase : Phase) → MayHold (what_of asking to) phase
@@ -36,12 +41,22 @@ may_hold Info to phase = tt
 may_hold (Purge filter below keep) to phase = tt
 may_hold (Get by) to phase = tt
 may_hold (Delete seq) to phase = tt
+may_hold (MakeConsumer name config update) to phase = tt
+may_hold (ConsumerInfo name) to phase = tt
+may_hold (DropConsumer name) to phase = tt
+may_hold (ConsumerNames offset) to phase = tt
+may_hold (ConsumerList offset) to phase = tt
 
 pub same_phase : (asking : Asking) (to : Option Bytes) (at : PlaceAt) (became : Became) (phase : Phase) → phase_after (what_of asking to) at became phase ≡ phase
 same_phase Info to at became phase = refl
 same_phase (Purge filter below keep) to at became phase = refl
 same_phase (Get by) to at became phase = refl
 same_phase (Delete seq) to at became phase = refl
+same_phase (MakeConsumer name config update) to at became phase = refl
+same_phase (ConsumerInfo name) to at became phase = refl
+same_phase (DropConsumer name) to at became phase = refl
+same_phase (ConsumerNames offset) to at became phase = refl
+same_phase (ConsumerList offset) to at became phase = refl
 
 -- ---- the call
 

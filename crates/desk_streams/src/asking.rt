@@ -1,4 +1,5 @@
-//! The calls that ask one stream, and change nothing of the catalog: they show it, purge it, and read or delete one of its messages.
+//! The calls that ask one stream, and change nothing of the catalog: they show it, purge it, read or delete one of its messages, or concern its
+//! consumers.
 
 ghost use Rattle.std.specs.Prelude.{◌≡◌, IfOk, IfSome, IsTrue};
 ghost use Rattle.api_calls.specs.Names.{name_of};
@@ -19,11 +20,11 @@ use desk_answers::{copy_by, copy_reply};
 use desk_ground::{Ground, Reason, end_call, let_go, refuse_for, unmade};
 use js_api::{ApiCall, DeskFault, Outcome};
 use js_base::{Blob, Moment, Name, NoMemory};
-use js_model::{GetBy, PlaceAt, What};
+use js_model::{ConsumerConfig, GetBy, PlaceAt, What, copy_consumer_config};
 
 /// What a stream is asked.
 #[derive(Clone, Copy)]
-enum Asking<'a> {
+pub(crate) enum Asking<'a> {
     Info,
     Purge {
         filter: &'a Blob,
@@ -32,6 +33,15 @@ enum Asking<'a> {
     },
     Get(&'a GetBy),
     Delete(u64),
+    MakeConsumer {
+        name: &'a Name,
+        config: &'a ConsumerConfig,
+        update: bool,
+    },
+    ConsumerInfo(&'a Name),
+    DropConsumer(&'a Name),
+    ConsumerNames(u64),
+    ConsumerList(u64),
 }
 
 impl Asking<'_> {
@@ -44,6 +54,11 @@ impl Asking<'_> {
             Asking::Purge { .. } => ApiCall::StreamPurge,
             Asking::Get(_) => ApiCall::StreamMsgGet,
             Asking::Delete(_) => ApiCall::StreamMsgDelete,
+            Asking::MakeConsumer { .. } => ApiCall::ConsumerCreate,
+            Asking::ConsumerInfo(_) => ApiCall::ConsumerInfo,
+            Asking::DropConsumer(_) => ApiCall::ConsumerDelete,
+            Asking::ConsumerNames(_) => ApiCall::ConsumerNames,
+            Asking::ConsumerList(_) => ApiCall::ConsumerList,
         }
     }
 
@@ -69,6 +84,26 @@ impl Asking<'_> {
                 by: copy_by(by)?,
             }),
             Asking::Delete(seq) => Ok(What::Delete { reply, seq }),
+            Asking::MakeConsumer {
+                name,
+                config,
+                update,
+            } => Ok(What::MakeConsumer {
+                reply,
+                name: name.as_blob().clone()?,
+                config: copy_consumer_config(config)?,
+                update,
+            }),
+            Asking::ConsumerInfo(name) => Ok(What::ConsumerInfo {
+                reply,
+                name: name.as_blob().clone()?,
+            }),
+            Asking::DropConsumer(name) => Ok(What::DropConsumer {
+                reply,
+                name: name.as_blob().clone()?,
+            }),
+            Asking::ConsumerNames(offset) => Ok(What::ConsumerNames { reply, offset }),
+            Asking::ConsumerList(offset) => Ok(What::ConsumerList { reply, offset }),
         }
     }
 }
@@ -122,7 +157,7 @@ fn ask_found<G: Ground>(
 }
 
 /// Asks the stream of this name.
-fn ask_stream<G: Ground>(
+pub(crate) fn ask_stream<G: Ground>(
     ground: &mut G,
     stream: &Name,
     asking: Asking<'_>,

@@ -14,8 +14,8 @@ use Rattle.js_api.specs.Clients.{Client}
 use Rattle.js_api.specs.Entries.{DeskEntry, Routed, Turned, Resumed}
 use Rattle.js_api.specs.Stages.{Then, Gives, IsWorn, Ending}
 use Rattle.js_api.specs.Holding.{Holds}
-use Rattle.js_api.specs.Publishing.{PublishesPlain, PublishesToNobody}
-use Rattle.js_api.specs.Api.{PublishesToApi}
+use Rattle.js_api.specs.Publishing.{PublishesPlain}
+use Rattle.js_api.specs.Api.{PublishesToApi, PublishesAck}
 
 -- ---- one call of the router
 
@@ -83,7 +83,7 @@ IfOpen client IsDone result entries = MatchBool client.is_open (IsDone result en
 abbrev pub Publishes : Client → Out → ℕ → Result Taken DeskFault → List DeskEntry → Type 0
 Publishes client message now result entries =
     MatchBool (is_api message.to) (PublishesToApi client message now result entries)
-    (MatchBool (is_acknowledgement message.to) (PublishesToNobody client message result entries) (PublishesPlain client message now result entries))
+    (MatchBool (is_acknowledgement message.to) (PublishesAck client message now result entries) (PublishesPlain client message now result entries))
 
 -- ---- letting time pass
 

@@ -153,6 +153,7 @@ pub record IsHoldOf (at : PlaceAt) (first : List What) (what : What) (now : ℕ)
   pub steps : hold.steps ≡ before ++ step seat at what now reply outs unsaid
   pub asked : AreAsked fault hold
   pub deliveries : AreDeliveries seat at now (listening_of hold.readings) fault hold.deliveries
+  pub few : length hold.deliveries ≤ most_deliveries
   pub ready_is : MatchOption fault (ready ≡ is_ready_at now hold) (λ f. Unit {0})
   pub explained : Explains fault unsaid hold
   pub ends : MayEnd fault ready hold

@@ -8,6 +8,7 @@ pub mod Clients
 pub mod Holding
 pub mod Publishing
 pub mod OneStream
+pub mod OneConsumer
 pub mod AllStreams
 pub mod Api
 pub mod Making

@@ -1,6 +1,6 @@
 -- What the entries of a place send: their outputs, and the answer to the reply subject of what was asked, as JetStream's PubAck and the JetStream
 -- API reference have it.
-use Rattle.std.specs.Prelude.{Bool, true, false, List, [], ◌∷◌, ◌++◌, Option, Some, None, option_map}
+use Rattle.std.specs.Prelude.{ℕ, Bool, true, false, List, [], ◌∷◌, ◌++◌, Option, Some, None, option_map}
 use Rattle.js_base.specs.Bytes.{Bytes}
 use Rattle.js_base.specs.declared.out.Out.{Out}
 use Rattle.js_model.specs.declared.stream.State.{State}
@@ -9,6 +9,7 @@ use Rattle.js_model.specs.declared.event.What.{What}
 use Rattle.js_model.specs.declared.event.What.TheVariants as whats
 use Rattle.js_model.specs.declared.reply.Reply.{Reply}
 use Rattle.js_model.specs.declared.reply.Reply.TheVariants as told
+use Rattle.js_model.specs.declared.reply.ConsumerInfo.{ConsumerInfo}
 use Rattle.js_model.specs.declared.reply.StreamInfo.{StreamInfo}
 use Rattle.js_model.specs.declared.entry.PlaceEntry.{PlaceEntry}
 use Rattle.js_model.specs.declared.entry.PlaceEntry.TheVariants.{Step, Deliver, Broken}
@@ -95,7 +96,55 @@ read told.Silent = None
 read told.Nobody = None
 read (told.Refused e) = Some (replies.Refused (name_of calls.StreamMsgGet) e)
 
--- how a stream answers a call of the API
+-- a call that a stream answered by the information of a consumer, or refused under this name
+abbrev pub consumer_informed : (ConsumerInfo → ApiReply) → Bytes → Reply → Option ApiReply
+consumer_informed shown name (told.Info info) = None
+consumer_informed shown name told.Done = None
+consumer_informed shown name (told.Published seq) = None
+consumer_informed shown name (told.Duplicate seq) = None
+consumer_informed shown name (told.Purged purged) = None
+consumer_informed shown name (told.ConsumerInfo info) = Some (shown info)
+consumer_informed shown name (told.Message message) = None
+consumer_informed shown name (told.Names total list) = None
+consumer_informed shown name (told.Infos total list) = None
+consumer_informed shown name told.Confirmed = None
+consumer_informed shown name told.Silent = None
+consumer_informed shown name told.Nobody = None
+consumer_informed shown name (told.Refused e) = Some (replies.Refused name e)
+
+-- the names of the consumers from this place on
+abbrev pub consumers_named : ℕ → Reply → Option ApiReply
+consumers_named offset (told.Info info) = None
+consumers_named offset told.Done = None
+consumers_named offset (told.Published seq) = None
+consumers_named offset (told.Duplicate seq) = None
+consumers_named offset (told.Purged purged) = None
+consumers_named offset (told.ConsumerInfo info) = None
+consumers_named offset (told.Message message) = None
+consumers_named offset (told.Names total list) = Some (replies.ConsumerNames list offset total)
+consumers_named offset (told.Infos total list) = None
+consumers_named offset told.Confirmed = None
+consumers_named offset told.Silent = None
+consumers_named offset told.Nobody = None
+consumers_named offset (told.Refused e) = Some (replies.Refused (name_of calls.ConsumerNames) e)
+
+-- their informations
+abbrev pub consumers_listed : ℕ → Reply → Option ApiReply
+consumers_listed offset (told.Info info) = None
+consumers_listed offset told.Done = None
+consumers_listed offset (told.Published seq) = None
+consumers_listed offset (told.Duplicate seq) = None
+consumers_listed offset (told.Purged purged) = None
+consumers_listed offset (told.ConsumerInfo info) = None
+consumers_listed offset (told.Message message) = None
+consumers_listed offset (told.Names total list) = None
+consumers_listed offset (told.Infos total list) = Some (replies.ConsumerList list offset total)
+consumers_listed offset told.Confirmed = None
+consumers_listed offset told.Silent = None
+consumers_listed offset told.Nobody = None
+consumers_listed offset (told.Refused e) = Some (replies.Refused (name_of calls.ConsumerList) e)
+
+-- How a stream answers a call of the API. A question for messages, an acknowledgement and time that passes have no such answer.
 abbrev pub api_reply : What → Reply → Option ApiReply
 api_reply (whats.Make to config) reply = informed replies.StreamCreate (name_of calls.StreamCreate) reply
 api_reply (whats.Change to config) reply = informed replies.StreamUpdate (name_of calls.StreamUpdate) reply
@@ -103,16 +152,16 @@ api_reply (whats.Drop to) reply = finished replies.StreamDelete (name_of calls.S
 api_reply (whats.Publish publish) reply = None
 api_reply (whats.Purge to filter below keep) reply = purged reply
 api_reply (whats.Delete to seq) reply = finished replies.StreamMsgDelete (name_of calls.StreamMsgDelete) reply
-api_reply (whats.MakeConsumer to name config update) reply = None
-api_reply (whats.DropConsumer to name) reply = None
+api_reply (whats.MakeConsumer to name config update) reply = consumer_informed replies.ConsumerCreate (name_of calls.ConsumerCreate) reply
+api_reply (whats.DropConsumer to name) reply = finished replies.ConsumerDelete (name_of calls.ConsumerDelete) reply
 api_reply (whats.Ack to ack) reply = None
 api_reply (whats.Pull to consumer ask) reply = None
 api_reply whats.Tick reply = None
 api_reply (whats.StreamInfo to) reply = informed replies.StreamInfo (name_of calls.StreamInfo) reply
 api_reply (whats.MessageGet to by) reply = read reply
-api_reply (whats.ConsumerInfo to name) reply = None
-api_reply (whats.ConsumerNames to offset) reply = None
-api_reply (whats.ConsumerList to offset) reply = None
+api_reply (whats.ConsumerInfo to name) reply = consumer_informed replies.ConsumerInfo (name_of calls.ConsumerInfo) reply
+api_reply (whats.ConsumerNames to offset) reply = consumers_named offset reply
+api_reply (whats.ConsumerList to offset) reply = consumers_listed offset reply
 
 -- the text of such an answer
 abbrev pub api_text : What → Reply → Option Bytes

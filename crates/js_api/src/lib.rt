@@ -8,7 +8,7 @@ mod outcome;
 
 pub use api_calls::ApiCall;
 pub use api_replies::{ApiReply, publish_text, reply_text};
-pub use api_requests::{ApiFault, ApiRequest, call_name, read_served};
+pub use api_requests::{ApiFault, ApiRequest, call_name, read_request};
 pub use desk::Desk;
 pub use fault::DeskFault;
 pub use outcome::{Became, Outcome};

@@ -14,7 +14,6 @@ use Rattle.js_model.specs.Events.{kept_incarnation}
 use Rattle.js_model.specs.PlaceStates.{PlaceIn}
 use Rattle.js_model.specs.Router.{Router, IsRoute}
 use Rattle.place_engine.specs.InMemory.{Contents, holds_nothing, seen_of}
-use Rattle.desk_answers.specs.Asking.{IsBuilt}
 use Rattle.js_api.specs.declared.outcome.Became.{Became}
 use Rattle.js_api.specs.declared.outcome.Became.TheVariants as became
 use Rattle.js_api.specs.declared.outcome.Outcome.{Outcome}
@@ -186,9 +185,9 @@ module _ {V : Type 0} (c : Catalog) (places : List (Contents V)) (last : Option 
 -- ---- the entries
 
 module _ {V : Type 0} (r router : Router) (c : Catalog) (places : List (Contents V)) (ticked : ℕ) (last : Option PlaceAt) (turn : Turn) (at : PlaceAt) (old new : Contents V) (there : slice_get places at.place ≡ Some old)
-    (what : What) (now : ℕ) (outcome : Outcome) (built : IsBuilt what) (h : HoldsOn IsRoute never at holds_nothing 0 what now outcome (seen_of old.state) (seen_of new.state) r router) where
+    (what : What) (now : ℕ) (outcome : Outcome) (h : HoldsOn IsRoute never at holds_nothing 0 what now outcome (seen_of old.state) (seen_of new.state) r router) where
   pub facts_of : Facts at what outcome.became h.entries (place_in old) (place_in new)
-  facts_of = hold_facts at what now built outcome h.entries (on (place_in old) r) (on (place_in new) router) h.holds h.led refl
+  facts_of = hold_facts at what now outcome h.entries (on (place_in old) r) (on (place_in new) router) h.holds h.led refl
 
   last_so : (told : Became) → last_of at told last ≡ (if is_held told then Some at else last)
   last_so (became.Made reply) = refl

@@ -19,7 +19,6 @@ use Rattle.js_model.specs.Events.{IsEvent, answered, is_refused, kept_incarnatio
 use Rattle.js_model.specs.PlaceStates.{PlaceIn}
 use Rattle.js_model.specs.Router.{Router, IsRoute}
 use Rattle.js_model.specs.Runs.{RunFrom, new_messages}
-use Rattle.desk_answers.specs.Asking.{IsBuilt}
 use Rattle.js_api.specs.declared.fault.DeskFault.{DeskFault}
 use Rattle.js_api.specs.declared.fault.DeskFault.TheVariants as faults
 use Rattle.js_api.specs.declared.outcome.Became.{Became}
@@ -53,7 +52,7 @@ tick_keeps : (count : ℕ) (old : State) (seat : ℕ) (e : Event) (now : ℕ) (r
     → RunFrom count old (Step seat e now reply outs unsaid ∷ []) new → kept_incarnation new ≡ kept_incarnation old
 tick_keeps count old seat e now reply outs unsaid new tick h =
     let made = event_is count old seat e now reply outs unsaid new h in
-    sym (ap kept_incarnation (state_of old e now reply outs new made)) ∙ event_keeps old e now made.room (subst IsBuilt (sym tick) tt) (ap is_drop tick)
+    sym (ap kept_incarnation (state_of old e now reply outs new made)) ∙ event_keeps old e now made.room (ap is_drop tick)
 
 -- deliveries keep it
 deliveries_keep : (seat : ℕ) (at : PlaceAt) (now : ℕ) (listening : List Bytes) (fault : Option DeskFault) (entries : List PlaceEntry) (count : ℕ) (old new : State)
@@ -86,8 +85,8 @@ module _ (at : PlaceAt) (what : What) (now : ℕ) (reply : Reply) (ready : Bool)
   before_is : kept_incarnation hold.before ≡ kept_incarnation old.state
   before_is = ap kept_incarnation (sym held.was)
 
-  pub made_keeps : IsBuilt what → is_drop what ≡ false → kept_incarnation new.state ≡ kept_incarnation old.state
-  made_keeps built other = then_kept ∙ ap kept_incarnation (sym between_is) ∙ event_keeps hold.before (event_at at what) now the_event.room built other ∙ before_is
+  pub made_keeps : is_drop what ≡ false → kept_incarnation new.state ≡ kept_incarnation old.state
+  made_keeps other = then_kept ∙ ap kept_incarnation (sym between_is) ∙ event_keeps hold.before (event_at at what) now the_event.room other ∙ before_is
 
   pub made_counts : is_drop what ≡ true → reply ≡ Done → kept_incarnation new.state ≡ kept_incarnation old.state + 1
   made_counts is done =
@@ -133,7 +132,7 @@ abbrev is_gone : Became → Bool
 is_gone became.Gone = true
 is_gone _ = false
 
-module _ (at : PlaceAt) (what : What) (now : ℕ) (built : IsBuilt what) where
+module _ (at : PlaceAt) (what : What) (now : ℕ) where
   -- a hold of one entry
   one_held : (hold : Hold) (old new : OnPlace Router) → Leads (PlaceStep IsRoute never at) old (Held hold ∷ []) new → IsHeld hold old.place new.place
   one_held hold old new l = subst (λ (o : OnPlace Router). IsHeld hold old.place o.place) l.2 l.1.held
@@ -147,7 +146,7 @@ module _ (at : PlaceAt) (what : What) (now : ℕ) (built : IsBuilt what) where
   }
     where
       keeps_if : (b : Bool) → is_drop what ≡ b → (is_drop what ≡ true → is_done reply ≡ false) → kept_incarnation new.state ≡ kept_incarnation old.state
-      keeps_if false e other = made_keeps at what now reply ready fault hold h old new held built e
+      keeps_if false e other = made_keeps at what now reply ready fault hold h old new held e
       keeps_if true e other = made_undropped at what now reply ready fault hold h old new held e (λ done. absurd (let yes : is_done reply ≡ true = ap is_done done in cc (yes, other e)))
 
   unsaid_facts : (refused : Bool) (reply : Reply) (ready : Bool) (fault : Option DeskFault) (hold : Hold) → IsHold at what now reply ready fault hold → refused ≡ is_refused reply → (old new : PlaceIn) → IsHeld hold old new
@@ -163,7 +162,7 @@ module _ (at : PlaceAt) (what : What) (now : ℕ) (built : IsBuilt what) where
       unrefused false e = refl
 
       keeps_if : (b : Bool) → is_drop what ≡ b → (is_drop what ≡ true → not refused ≡ false) → kept_incarnation new.state ≡ kept_incarnation old.state
-      keeps_if false e other = made_keeps at what now reply ready fault hold h old new held built e
+      keeps_if false e other = made_keeps at what now reply ready fault hold h old new held e
       keeps_if true e other =
           made_undropped at what now reply ready fault hold h old new held e
           (λ done. absurd (let no : not refused ≡ true = ap not (is_so ∙ ap is_refused done) in cc (no, other e)))
@@ -188,7 +187,7 @@ module _ (at : PlaceAt) (what : What) (now : ℕ) (built : IsBuilt what) where
   by_became became.Ticked ready fault entries old new h l going =
       let led = subst (λ (es : List DeskEntry). Leads (PlaceStep IsRoute never at) old es new) h.1 l in
       let held = one_held h.0 old new led in
-      let same : kept_incarnation new.place.state ≡ kept_incarnation old.place.state = made_keeps at whats.Tick now Silent ready fault h.0 h.2 old.place new.place held tt refl in
+      let same : kept_incarnation new.place.state ≡ kept_incarnation old.place.state = made_keeps at whats.Tick now Silent ready fault h.0 h.2 old.place new.place held refl in
       subst (λ (es : List DeskEntry). Facts at what became.Ticked es old.place new.place) (sym h.1) (record {
         keeps = λ other. same;
         counts = λ is done. absurd (cc);

@@ -1,31 +1,37 @@
 -- An event keeps the incarnation of its place, unless it drops the stream; and so does a delivery.
 use Rattle.std.proofs.Common.{◌≡◌, ◌+◌, ◌^◌, ℕ, Bool, true, false, List, [], ◌∷◌, Option, Some, None, refl, ap, ◌∙◌, if◌then◌else◌}
-use Rattle.std.specs.Prelude.{◌==◌}
+use Rattle.std.specs.Prelude.{◌==◌, unwrap_or}
 use Rattle.js_base.specs.Bytes.{Bytes}
 use Rattle.js_model.specs.declared.stream.State.{State}
 use Rattle.js_model.specs.declared.stream.State.TheVariants.{Vacant, Live}
 use Rattle.js_model.specs.declared.stream.Stream.{Stream}
 use Rattle.js_model.specs.declared.stream.Message.{Message}
+use Rattle.js_model.specs.declared.consumer.Consumer.{Consumer}
+use Rattle.js_model.specs.declared.consumer_config.ConsumerConfig.{ConsumerConfig}
+use Rattle.js_model.specs.declared.ack.Ask.{Ask}
+use Rattle.js_model.specs.declared.ack.AckKind.{AckKind}
 use Rattle.js_model.specs.declared.event.Event.{Event}
 use Rattle.js_model.specs.declared.event.Publish.{Publish}
 use Rattle.js_model.specs.declared.event.What.{What}
 use Rattle.js_model.specs.declared.event.What.TheVariants as whats
 use Rattle.js_model.specs.declared.entry.Delivery.{Delivery}
 use Rattle.js_model.specs.declared.reply.Answer.{Answer}
-use Rattle.js_model.specs.declared.reply.Reply.TheVariants.{Done, Refused}
+use Rattle.js_model.specs.declared.reply.Reply.TheVariants.{Done, Refused, Silent}
 use Rattle.js_model.specs.declared.reply.Verdict.{Verdict}
 use Rattle.js_model.specs.declared.reply.Verdict.TheVariants.{Take, Duplicate as TakenBefore, Refused as RefusedBy}
 use Rattle.js_base.specs.declared.out.Out.{Out}
+use Rattle.js_base.specs.declared.out.ApiError.{ApiError}
 use Rattle.js_model.specs.Advance.{advance}
-use Rattle.js_model.specs.Configs.{same_stream_config, same_retention}
+use Rattle.js_model.specs.Configs.{same_consumer_config, same_stream_config, same_retention}
 use Rattle.js_model.specs.Deliver.{IsDelivered}
-use Rattle.js_model.specs.Events.{answered, deleted, is_refused, kept_incarnation, message_at, message_by, message_told, published, settled_state, stream_answer, stream_told, refused, vacant_answer, vacantly, with_id}
-use Rattle.js_model.specs.Consumers.{empty_stream}
-use Rattle.js_model.specs.Refusals.{other_config, retention_cannot_change, numbers_used_up}
+use Rattle.js_model.specs.Events.{ack_answer, ack_done, answered, consumer_asked, consumer_dropped, consumer_made, consumer_told, deleted, is_refused, kept_incarnation, message_at, message_by, message_told, published, pull_answer, quietly, settled, settled_state, stream_answer, stream_told, told_of, refused, vacant_answer, vacantly, with_id}
+use Rattle.js_model.specs.Acknowledge.{is_no_delivery}
+use Rattle.js_model.specs.Consumers.{empty_stream, making_checks, new_consumer, queue_checks, with_new}
+use Rattle.js_model.specs.Refusals.{consumer_exists, first_refusal, other_config, retention_cannot_change, numbers_used_up}
 use Rattle.js_model.specs.Retention.{kept}
+use Rattle.js_model.specs.Streams.{by_name}
 use Rattle.js_model.specs.Trim.{trim}
 use Rattle.js_model.specs.Verdict.{verdict}
-use Rattle.desk_answers.specs.Asking.{IsBuilt}
 use Rattle.js_desk.specs.Dropping.{is_drop}
 
 -- ---- one event
@@ -60,24 +66,57 @@ told_keeps : (s : Stream) (found : Option Message) → kept_incarnation (message
 told_keeps s None = refl
 told_keeps s (Some m) = refl
 
-stream_keeps : (s : Stream) (what : What) (room : Bool) → IsBuilt what → is_drop what ≡ false → kept_incarnation (stream_answer s what room).state ≡ s.incarnation
-stream_keeps s (whats.Make reply config) room b d = either_keeps (same_stream_config config s.config) s.incarnation (stream_told s) (refused other_config s) refl refl
-stream_keeps s (whats.Change reply config) room b d =
+-- ---- of its consumers
+
+consumer_told_keeps : (s : Stream) (found : Option Consumer) → kept_incarnation (told_of s found).state ≡ s.incarnation
+consumer_told_keeps s None = refl
+consumer_told_keeps s (Some c) = refl
+
+made_keeps : (s : Stream) (name : Bytes) (config : ConsumerConfig) (refusal : Option ApiError) → kept_incarnation (consumer_made s name config refusal).state ≡ s.incarnation
+made_keeps s name config None =
+    let made = record s { consumers = with_new s.consumers (new_consumer s name config) } in consumer_told_keeps made (by_name (settled made).consumers name)
+made_keeps s name config (Some e) = refl
+
+asked_keeps : (s : Stream) (name : Bytes) (config : ConsumerConfig) (update : Bool) (found : Option Consumer)
+    → kept_incarnation (consumer_asked s name config update found).state ≡ s.incarnation
+asked_keeps s name config true None = refl
+asked_keeps s name config false None = made_keeps s name config (first_refusal (making_checks s name config))
+asked_keeps s name config update (Some c) =
+    either_keeps (same_consumer_config config c.config) s.incarnation (consumer_told s name) (refused (unwrap_or (first_refusal (queue_checks s name config)) consumer_exists) s)
+    (consumer_told_keeps s (by_name (settled s).consumers name)) refl
+
+dropped_keeps : (s : Stream) (found : Option Consumer) → kept_incarnation (consumer_dropped s found).state ≡ s.incarnation
+dropped_keeps s None = refl
+dropped_keeps s (Some c) = refl
+
+pull_keeps : (s : Stream) (reply : Option Bytes) (ask : Option Ask) (found : Option Consumer) → kept_incarnation (pull_answer s reply ask found).state ≡ s.incarnation
+pull_keeps s reply ask None = refl
+pull_keeps s reply ask (Some c) = refl
+
+ack_keeps : (s : Stream) (reply : Option Bytes) (n : ℕ) (kind : AckKind) (found : Option Consumer) → kept_incarnation (ack_answer s reply n kind found).state ≡ s.incarnation
+ack_keeps s reply n kind None = refl
+ack_keeps s reply n kind (Some c) = either_keeps (is_no_delivery c n) s.incarnation (quietly Silent s) (ack_done s reply n kind c) refl refl
+
+-- ---- any event
+
+stream_keeps : (s : Stream) (what : What) (room : Bool) → is_drop what ≡ false → kept_incarnation (stream_answer s what room).state ≡ s.incarnation
+stream_keeps s (whats.Make reply config) room d = either_keeps (same_stream_config config s.config) s.incarnation (stream_told s) (refused other_config s) refl refl
+stream_keeps s (whats.Change reply config) room d =
     either_keeps (same_retention config.retention s.config.retention) s.incarnation (stream_told (record s { config = config })) (refused retention_cannot_change s) refl refl
-stream_keeps s (whats.Drop reply) room b d = absurd (cc)
-stream_keeps s (whats.Publish p) room b d = published_keeps s p (verdict s p room)
-stream_keeps s (whats.Purge reply filter below keep) room b d = refl
-stream_keeps s (whats.Delete reply seq) room b d = deleted_keeps s (message_at s seq)
-stream_keeps s (whats.MakeConsumer reply name config update) room b d = absurd b
-stream_keeps s (whats.DropConsumer reply name) room b d = absurd b
-stream_keeps s (whats.Ack reply ack) room b d = absurd b
-stream_keeps s (whats.Pull reply consumer ask) room b d = absurd b
-stream_keeps s whats.Tick room b d = refl
-stream_keeps s (whats.StreamInfo reply) room b d = refl
-stream_keeps s (whats.MessageGet reply by) room b d = told_keeps s (message_by s by)
-stream_keeps s (whats.ConsumerInfo reply name) room b d = absurd b
-stream_keeps s (whats.ConsumerNames reply offset) room b d = absurd b
-stream_keeps s (whats.ConsumerList reply offset) room b d = absurd b
+stream_keeps s (whats.Drop reply) room d = absurd (cc)
+stream_keeps s (whats.Publish p) room d = published_keeps s p (verdict s p room)
+stream_keeps s (whats.Purge reply filter below keep) room d = refl
+stream_keeps s (whats.Delete reply seq) room d = deleted_keeps s (message_at s seq)
+stream_keeps s (whats.MakeConsumer reply name config update) room d = asked_keeps s name config update (by_name s.consumers name)
+stream_keeps s (whats.DropConsumer reply name) room d = dropped_keeps s (by_name s.consumers name)
+stream_keeps s (whats.Ack reply ack) room d = ack_keeps s reply ack.seq ack.kind (by_name s.consumers ack.consumer)
+stream_keeps s (whats.Pull reply consumer ask) room d = pull_keeps s reply ask (by_name s.consumers consumer)
+stream_keeps s whats.Tick room d = refl
+stream_keeps s (whats.StreamInfo reply) room d = refl
+stream_keeps s (whats.MessageGet reply by) room d = told_keeps s (message_by s by)
+stream_keeps s (whats.ConsumerInfo reply name) room d = consumer_told_keeps s (by_name (settled s).consumers name)
+stream_keeps s (whats.ConsumerNames reply offset) room d = refl
+stream_keeps s (whats.ConsumerList reply offset) room d = refl
 
 vacant_keeps : (i : ℕ) (what : What) (now : ℕ) → kept_incarnation (vacant_answer i what now).state ≡ i + 1
 vacant_keeps i (whats.Make reply config) now =
@@ -98,11 +137,11 @@ vacant_keeps i (whats.ConsumerInfo reply name) now = refl
 vacant_keeps i (whats.ConsumerNames reply offset) now = refl
 vacant_keeps i (whats.ConsumerList reply offset) now = refl
 
-pub event_keeps : (old : State) (e : Event) (now : ℕ) (room : Bool) → IsBuilt e.what → is_drop e.what ≡ false → kept_incarnation (answered old e now room).state ≡ kept_incarnation old
+pub event_keeps : (old : State) (e : Event) (now : ℕ) (room : Bool) → is_drop e.what ≡ false → kept_incarnation (answered old e now room).state ≡ kept_incarnation old
 unfolding answered
-event_keeps (Vacant i) e now room b d = settled_keeps (vacant_answer i e.what now).state ∙ vacant_keeps i e.what now
-event_keeps (Live s) e now room b d =
-    settled_keeps (stream_answer (advance s now) e.what room).state ∙ stream_keeps (advance s now) e.what room b d ∙ advance_keeps s now
+event_keeps (Vacant i) e now room d = settled_keeps (vacant_answer i e.what now).state ∙ vacant_keeps i e.what now
+event_keeps (Live s) e now room d =
+    settled_keeps (stream_answer (advance s now) e.what room).state ∙ stream_keeps (advance s now) e.what room d ∙ advance_keeps s now
 
 -- a stream that was dropped leaves the next one
 pub drop_counts : (old : State) (e : Event) (now : ℕ) (room : Bool) → is_drop e.what ≡ true → (answered old e now room).reply ≡ Done → kept_incarnation (answered old e now room).state ≡ kept_incarnation old + 1

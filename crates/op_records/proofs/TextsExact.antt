@@ -3,16 +3,14 @@ use Rattle.std.proofs.Common.{◌≡◌, ℕ, ◌+◌, ◌<◌, ◌^◌, Bool, t
 use Rattle.std.specs.Int.{w32, to_be_bytes}
 use Rattle.std.proofs.lemmas.Bool.{and_parts, and_from}
 use Rattle.js_base.specs.Bytes.{Bytes}
-use Rattle.js_model.specs.Configs.{is_stream_config, is_consumer_config, same_retention}
-use Rattle.js_model.specs.declared.stream_config.Retention.{Retention}
-use Rattle.js_model.specs.declared.stream_config.Retention.TheVariants.{Limits, Interest, WorkQueue}
+use Rattle.js_model.specs.Configs.{is_stream_config, is_consumer_config}
 use Rattle.config_texts.specs.Reading.{stream_of, consumer_of}
 use Rattle.config_texts.specs.Texts.{stream_text, consumer_text}
 use Rattle.config_texts.proofs.StreamTexts.{law_stream_text}
 use Rattle.config_texts.proofs.ConsumerTexts.{law_consumer_text}
 use Rattle.op_records.specs.Steps.{◌>>=◌, done, place}
 use Rattle.op_records.specs.Fields.{only, word, part, piece, some_or_bad, stream_field, consumer_field, is_small, is_small_header, sized_part, fit, message_field}
-use Rattle.op_records.specs.Allowed.{is_header, fits_block, is_served_config}
+use Rattle.op_records.specs.Allowed.{is_header, fits_block}
 use Rattle.op_records.specs.Spelling.{long}
 use Rattle.op_records.proofs.Spans.{Spans, span_then, span_front, span_back}
 use Rattle.op_records.proofs.Steps.{both, value_is, place_is, passed, given}
@@ -25,25 +23,17 @@ short_text bytes at text behind b s = omega (arith, b.short, s.ends, s.within, l
 
 -- ---- configurations
 
-limits_is : (policy : Retention) → same_retention policy Limits ≡ true → policy ≡ Limits
-limits_is Limits h = refl
-limits_is Interest h = absurd (cc)
-limits_is WorkQueue h = absurd (cc)
-
-pub stream_exact : Exact stream_field (λ config. long (stream_text config)) (λ config. IsTrue (is_served_config config))
+pub stream_exact : Exact stream_field (λ config. long (stream_text config)) (λ config. IsTrue (is_stream_config config))
 unfolding stream_field
 stream_exact = record {
   took = λ bytes at config behind b e.
       let p = both bytes (λ (text : Bytes). some_or_bad at (stream_of text)) (piece w32 bytes at) config behind e in
       let q = given at (stream_of p.value) bytes p.mid config behind p.second in
       let t = piece_took w32 (2 ^ 32) wide32 bytes at p.value p.mid b p.first in
-      let is = (law_stream_text p.value config).0 q.some in (
-        and_from _ _ is.valid (ap (λ (r : Retention). same_retention r Limits) is.served.retention),
-        subst (λ (l : Bytes). Spans bytes at (long l) behind) is.spelled (subst (λ (k : ℕ). Spans bytes at (long p.value) k) q.place t.1),
-      );
+      let is = (law_stream_text p.value config).0 q.some in
+      (is.valid, subst (λ (l : Bytes). Spans bytes at (long l) behind) is.spelled (subst (λ (k : ℕ). Spans bytes at (long p.value) k) q.place t.1));
   again = λ bytes at config behind b is s.
-      let parts = and_parts (is_stream_config config) (same_retention config.retention Limits) is in
-      let read = (law_stream_text (stream_text config) config).1 (record { valid = parts.0; served = record { retention = limits_is config.retention parts.1 }; spelled = refl }) in
+      let read = (law_stream_text (stream_text config) config).1 (record { valid = is; spelled = refl }) in
       rw (piece_again w32 (2 ^ 32) wide32 bytes at (stream_text config) behind (short_text bytes at (stream_text config) behind b s) s, read) refl;
 }
 

@@ -5,9 +5,7 @@ use Rattle.std.specs.List.{list_all}
 use Rattle.js_base.specs.Bytes.{Bytes, is_empty, same}
 use Rattle.js_base.specs.Subjects.{is_subject_text}
 use Rattle.js_base.specs.Headers.{is_block}
-use Rattle.js_model.specs.declared.stream_config.StreamConfig.{StreamConfig}
-use Rattle.js_model.specs.declared.stream_config.Retention.TheVariants.{Limits}
-use Rattle.js_model.specs.Configs.{is_name, is_number, same_retention, is_stream_config, is_consumer_config}
+use Rattle.js_model.specs.Configs.{is_name, is_number, is_stream_config, is_consumer_config}
 use Rattle.effects.specs.declared.effect.Effect.{Effect}
 use Rattle.effects.specs.declared.effect.Effect.TheVariants as effects
 
@@ -31,14 +29,10 @@ are_picks picks = nat_lt (length picks) (2 ^ 32) && list_all is_number picks
 abbrev pub is_range : ℕ → ℕ → Bool
 is_range low high = is_number low && is_number high && nat_le low high
 
--- a valid configuration that is served so far: its retention is `limits`
-abbrev pub is_served_config : StreamConfig → Bool
-is_served_config config = is_stream_config config && same_retention config.retention Limits
-
 -- the name of a consumer is that of its configuration
 abbrev pub is_record : Effect → Bool
-is_record (effects.MakeStream incarnation made config) = is_number incarnation && is_number made && is_served_config config
-is_record (effects.ChangeStream config) = is_served_config config
+is_record (effects.MakeStream incarnation made config) = is_number incarnation && is_number made && is_stream_config config
+is_record (effects.ChangeStream config) = is_stream_config config
 is_record effects.DropStream = true
 is_record (effects.PutHere seq at id subject headers payload) =
     is_number seq && is_number at && is_text id && is_subject_text subject && is_header headers && fits_block headers payload

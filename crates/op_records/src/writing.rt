@@ -3,7 +3,8 @@
 ghost use Rattle.std.specs.Prelude.{◌≡◌, ◌<◌, ◌^◌, ◌++◌, ◌∷◌, IsTrue, OnOk, OnErr};
 ghost use Rattle.js_base.specs.Subjects.{is_subject_text};
 ghost use Rattle.js_model.specs.Configs.{is_name, is_consumer_config};
-ghost use Rattle.op_records.specs.Allowed.{is_text, is_served_config, is_record};
+ghost use Rattle.js_model.specs.Configs.{is_stream_config};
+ghost use Rattle.op_records.specs.Allowed.{is_text, is_record};
 ghost use Rattle.op_records.specs.Spelling.{number, short, text, long, numbers, spelled, spelled_vacant};
 ghost use Rattle.config_texts.specs.Texts.{stream_text, consumer_text};
 
@@ -52,7 +53,7 @@ fn put_make_stream(
     made: Moment,
     config: &StreamConfig,
 ) -> Result<(), NoMemory>
-    requires config { IsTrue (is_served_config config.now) }
+    requires config { IsTrue (is_stream_config config.now) }
     ensures ok { OnOk result (into.new.items ≡ into.old.items ++ 1 ∷ (number incarnation ++ (number made ++ long (stream_text config.now)))) }
 {
     put_kind(into, MAKE_STREAM)?;
@@ -65,7 +66,7 @@ fn put_change_stream(
     into: &mut Vec<u8>,
     config: &StreamConfig,
 ) -> Result<(), NoMemory>
-    requires config { IsTrue (is_served_config config.now) }
+    requires config { IsTrue (is_stream_config config.now) }
     ensures ok { OnOk result (into.new.items ≡ into.old.items ++ 2 ∷ long (stream_text config.now)) }
 {
     put_kind(into, CHANGE_STREAM)?;

@@ -40,8 +40,8 @@ pub fn stream(alloc: Global, retention: Retention) -> Result<What, NoMemory>
     })
 }
 
-/// The making of a pull consumer with explicit acknowledgements, which gets each message at most so often, and has at most so many pending, if there are
-/// such limits.
+/// The making of a pull consumer with explicit acknowledgements, which gets each message at most so often and has at most so many pending, if there
+/// are such limits.
 pub fn consumer(
     alloc: Global,
     name: &[u8],

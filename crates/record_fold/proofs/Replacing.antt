@@ -1,14 +1,14 @@
 -- The one consumer of a name is changed at its place.
 use Rattle.std.proofs.Common.{◌≡◌, ℕ, ◌+◌, ◌<◌, ◌≤◌, Bool, true, false, cond, not, List, [], ◌∷◌, length, get_or, set, map, Option, Some, None, nat_lt, refl, sym, ap, subst, ◌∙◌, arith}
 use Rattle.std.specs.Prelude.{All, is_some}
-use Rattle.std.specs.List.{position, position_or_len, find}
+use Rattle.std.specs.List.{position, position_or_len}
 use Rattle.std.proofs.lemmas.Bool.Decides.{nat_tests}
 use Rattle.std.proofs.lemmas.List.Elements.{All-head, All-tail}
 use Rattle.js_base.specs.Bytes.{Bytes, same}
 use Rattle.js_model.specs.declared.consumer.Consumer.{Consumer}
 use Rattle.js_model.specs.Streams.{by_name, in_place_of}
 use Rattle.js_model.specs.Consumers.{is_before}
-use Rattle.js_model.proofs.Named.{same_is, same_self, placed_same, placed_other}
+use Rattle.js_model.proofs.Named.{same_is, placed_same, placed_other}
 use Rattle.model_laws.specs.Sound.{AreOrdered}
 use Rattle.effects.proofs.Passing.{differ_back}
 use Rattle.record_fold.proofs.Placing.{one_more}

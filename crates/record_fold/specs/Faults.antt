@@ -1,5 +1,5 @@
 -- Why a record is not folded: it does not fit and this field is wrong, or memory ran out.
-use Rattle.std.specs.Prelude.{◌≡◌, ℕ, false, Option, Some, None}
+use Rattle.std.specs.Prelude.{◌≡◌, ℕ, false, Option, None}
 use Rattle.js_base.specs.Bytes.{Bytes}
 use Rattle.js_model.specs.declared.consumer.Consumer.{Consumer}
 use Rattle.effects.specs.declared.durable.Body.{Body}

@@ -3,11 +3,13 @@ use Rattle.std.proofs.Common.{◌≡◌, ◌-◌, ◌^◌, ◌<◌, ℕ, Bool, t
 use Rattle.std.proofs.lemmas.Bool.{false≢true}
 use Rattle.std.specs.Prelude.{IfSome, MatchOption, MatchBool}
 use Rattle.js_base.specs.Bytes.{Bytes}
+use Rattle.js_base.specs.Names.{name_of as read_name}
 use Rattle.js_base.specs.ServerSubjects.{is_api, is_acknowledgement}
 use Rattle.js_base.specs.declared.out.Out.{Out}
 use Rattle.js_base.specs.declared.out.ApiError.{ApiError}
 use Rattle.js_model.specs.PlaceStates.{VolumeAt}
 use Rattle.js_model.specs.declared.stream_config.StreamConfig.{StreamConfig}
+use Rattle.js_model.specs.declared.ack.Ask.{Ask}
 use Rattle.js_model.specs.declared.event.What.{What}
 use Rattle.js_model.specs.declared.event.What.TheVariants as whats
 use Rattle.js_model.specs.declared.desk.PlaceAt.{PlaceAt}
@@ -17,7 +19,7 @@ use Rattle.js_model.specs.Catalog as catalog
 use Rattle.js_model.specs.Router as router
 use Rattle.api_calls.specs.declared.call.ApiCall.TheVariants as calls
 use Rattle.api_calls.specs.Names.{name_of}
-use Rattle.api_requests.specs.Served.{served_of}
+use Rattle.api_requests.specs.Requests.{request_of}
 use Rattle.api_requests.specs.declared.request.ApiRequest.{ApiRequest}
 use Rattle.api_requests.specs.declared.request.ApiRequest.TheVariants as requests
 use Rattle.js_api.specs.declared.fault.DeskFault.{DeskFault}
@@ -33,6 +35,7 @@ use Rattle.js_api.specs.Holding.{Holds, HoldsBy, Explains, IsLastGeneration, Unm
 use Rattle.js_api.specs.Stages.{Then, Gives, IsWorn, LooksUp, SendsOne, Sends, Reads, Ending}
 use Rattle.js_api.specs.Publishing as publishing
 use Rattle.js_api.specs.OneStream as one
+use Rattle.js_api.specs.OneConsumer as consumers
 use Rattle.js_api.specs.AllStreams as all
 use Rattle.js_api.specs.Api as api
 use Rattle.js_api.specs.Making as making
@@ -237,6 +240,36 @@ asking_keeps : (name stream : Bytes) (what : What) (now : ℕ) → Keeps (one.Is
 asking_keeps name stream what now =
     named_keeps stream (one.IsAbsent name (reply_of what)) (λ at. one.IsOnStream name at what now one.unchanged) (absent_keeps name (reply_of what)) (λ at. on_stream_keeps name at what now one.unchanged)
 
+-- ---- what only the stream answers
+
+heard_keeps : (became : Became) → Keeps (consumers.IsHeard became)
+heard_keeps (Made reply) = gives_keeps (consumers.is_heard reply)
+heard_keeps (Unsaid refused) = λ result entries h fit. absurd h
+heard_keeps Ticked = λ result entries h fit. absurd h
+heard_keeps Nothing = λ result entries h fit. absurd h
+heard_keeps (Broke stream) = gives_keeps true
+heard_keeps (Stopped stream) = gives_keeps true
+heard_keeps Gone = gives_keeps false
+
+told_at_keeps : (what : What) (now : ℕ) (at : PlaceAt) → Keeps (consumers.IsToldAt what now at)
+told_at_keeps what now at result entries h fit =
+    ending_keeps h.outcome.fault (consumers.IsHeard h.outcome.became) (holds_numbered at what now h.outcome entries h.holds fit) (heard_keeps h.outcome.became) result [] h.ends tt
+
+told_keeps : (stream : Bytes) (what : What) (now : ℕ) → Keeps (consumers.IsTold stream what now)
+told_keeps stream what now = named_keeps stream (Gives false) (consumers.IsToldAt what now) (gives_keeps false) (told_at_keeps what now)
+
+by_test : {X : Type 0} (b : Bool) (P Q : Result X DeskFault → List DeskEntry → Type 0) → Keeps P → Keeps Q → Keeps (λ result entries. MatchBool b (P result entries) (Q result entries))
+by_test true P Q p q result entries h fit = p result entries h fit
+by_test false P Q p q result entries h fit = q result entries h fit
+
+pulling_keeps : (stream consumer : Bytes) (ask : Option Ask) (to : Option Bytes) (now : ℕ) → Keeps (consumers.IsPulling stream consumer ask to now)
+pulling_keeps stream consumer ask to now =
+    then_keeps (Reads (consumers.are_names (read_name stream) (read_name consumer))) (λ named. consumers.IsPullingBy named stream consumer ask to now)
+    (reads_keeps (consumers.are_names (read_name stream) (read_name consumer)))
+    (λ named. by_test named (consumers.IsTold stream (whats.Pull to consumer ask) now) (Gives false) (told_keeps stream (whats.Pull to consumer ask) now) (gives_keeps false))
+
+-- ---- each call
+
 performs_keeps : (request : ApiRequest) (to : Option Bytes) (now : ℕ) → Keeps (api.Performs request to now)
 performs_keeps requests.AccountInfo to now = over_all_keeps _ to now _
 performs_keeps (requests.StreamCreate stream config) to now =
@@ -253,13 +286,15 @@ performs_keeps (requests.StreamNames offset pattern) to now = over_all_keeps _ t
 performs_keeps (requests.StreamList offset pattern) to now = over_all_keeps _ to now _
 performs_keeps (requests.StreamMsgGet stream by) to now = asking_keeps (name_of calls.StreamMsgGet) stream (whats.MessageGet to by) now
 performs_keeps (requests.StreamMsgDelete stream seq) to now = asking_keeps (name_of calls.StreamMsgDelete) stream (whats.Delete to seq) now
-performs_keeps (requests.ConsumerCreate stream consumer config update) to now = λ result entries h fit. absurd h
-performs_keeps (requests.ConsumerDurableCreate stream consumer config update) to now = λ result entries h fit. absurd h
-performs_keeps (requests.ConsumerInfo stream consumer) to now = λ result entries h fit. absurd h
-performs_keeps (requests.ConsumerDelete stream consumer) to now = λ result entries h fit. absurd h
-performs_keeps (requests.ConsumerNames stream offset) to now = λ result entries h fit. absurd h
-performs_keeps (requests.ConsumerList stream offset) to now = λ result entries h fit. absurd h
-performs_keeps (requests.ConsumerMsgNext stream consumer ask) to now = λ result entries h fit. absurd h
+performs_keeps (requests.ConsumerCreate stream consumer config update) to now =
+    asking_keeps (name_of calls.ConsumerCreate) stream (whats.MakeConsumer to consumer config update) now
+performs_keeps (requests.ConsumerDurableCreate stream consumer config update) to now =
+    asking_keeps (name_of calls.ConsumerCreate) stream (whats.MakeConsumer to consumer config update) now
+performs_keeps (requests.ConsumerInfo stream consumer) to now = asking_keeps (name_of calls.ConsumerInfo) stream (whats.ConsumerInfo to consumer) now
+performs_keeps (requests.ConsumerDelete stream consumer) to now = asking_keeps (name_of calls.ConsumerDelete) stream (whats.DropConsumer to consumer) now
+performs_keeps (requests.ConsumerNames stream offset) to now = asking_keeps (name_of calls.ConsumerNames) stream (whats.ConsumerNames to offset) now
+performs_keeps (requests.ConsumerList stream offset) to now = asking_keeps (name_of calls.ConsumerList) stream (whats.ConsumerList to offset) now
+performs_keeps (requests.ConsumerMsgNext stream consumer ask) to now = pulling_keeps stream consumer ask to now
 
 carries_out_keeps : (reading : Result ApiRequest ApiError) (message : Out) (now : ℕ) → Keeps (api.CarriesOut reading message now)
 carries_out_keeps (Ok request) message now = performs_keeps request message.reply now
@@ -282,7 +317,7 @@ asked_keeps client message now (Some reading) =
 
 to_api_keeps : (client : Client) (message : Out) (now : ℕ) → Keeps (api.PublishesToApi client message now)
 to_api_keeps client message now =
-    then_keeps (Reads (served_of message.to message.payload)) (api.IsAsked client message now) (reads_keeps (served_of message.to message.payload)) (asked_keeps client message now)
+    then_keeps (Reads (request_of message.to message.payload)) (api.IsAsked client message now) (reads_keeps (request_of message.to message.payload)) (asked_keeps client message now)
 
 offers_keeps : (client : Client) (message : Out) → Keeps (publishing.Offers client message)
 offers_keeps client message (Ok count) entries h fit = tt
@@ -317,14 +352,10 @@ plain_keeps client message now =
     (λ found. then_keeps (publishing.Stores message now found) _ (stores_keeps message now found)
     (λ other. tells_keeps client message (publishing.taken_by count other))))
 
-by_subject : {X : Type 0} (b : Bool) (P Q : Result X DeskFault → List DeskEntry → Type 0) → Keeps P → Keeps Q → Keeps (λ result entries. MatchBool b (P result entries) (Q result entries))
-by_subject true P Q p q result entries h fit = p result entries h fit
-by_subject false P Q p q result entries h fit = q result entries h fit
-
 publishes_keeps : (client : Client) (message : Out) (now : ℕ) → Keeps (does.Publishes client message now)
 publishes_keeps client message now =
-    by_subject (is_api message.to) (api.PublishesToApi client message now) _ (to_api_keeps client message now)
-    (by_subject (is_acknowledgement message.to) (publishing.PublishesToNobody client message) (publishing.PublishesPlain client message now)
+    by_test (is_api message.to) (api.PublishesToApi client message now) _ (to_api_keeps client message now)
+    (by_test (is_acknowledgement message.to) (publishing.PublishesToNobody client message) (publishing.PublishesPlain client message now)
     (tells_keeps client message publishing.nobody) (plain_keeps client message now))
 
 -- ---- letting time pass

@@ -1,8 +1,7 @@
 -- Numbers above 0: what they are as limits and as times.
-use Rattle.std.proofs.Common.{◌≡◌, ℕ, suc, ◌-◌, ◌^◌, pos, true, false, ◌==◌, Some, nat_lt, nat_le, refl, if◌then◌else◌, arith}
+use Rattle.std.proofs.Common.{◌≡◌, ℕ, suc, ◌-◌, ◌^◌, pos, true, false, ◌==◌, Some, nat_lt, nat_le, refl, arith}
 use Rattle.std.proofs.lemmas.Bool.Decides.{nat_tests}
-use Rattle.stream_config.specs.declared.rule.Standing.TheVariants.{Other, Invalid}
-use Rattle.stream_config.specs.Standings.{nanos_standing, limit_standing}
+use Rattle.stream_config.specs.Standings.{allowed, nanos_standing, limit_standing}
 use Rattle.stream_config.specs.Reading.{limit_of, window_of}
 
 pub some : (n : ℕ) → nat_lt 0 (suc n) ≡ true
@@ -11,20 +10,14 @@ some n = grind (arith, nat_tests)
 not_0 : (n : ℕ) → nat_lt 0 n ≡ true → (n == 0) ≡ false
 not_0 n h = grind (arith, nat_tests)
 
-over_0 : (n : ℕ) → nat_lt 0 n ≡ true → nat_le n 0 ≡ false
-over_0 n h = grind (arith, nat_tests)
-
 from_0 : (n : ℕ) → nat_le 0 n ≡ true
 from_0 n = grind (arith, nat_tests)
 
-from_1 : (n : ℕ) → nat_lt 0 n ≡ true → nat_le 1 n ≡ true
-from_1 n h = grind (arith, nat_tests)
+pub nanos_is : (n : ℕ) → nanos_standing (pos n) ≡ allowed (nat_le n (2 ^ 62 - 1))
+nanos_is n = rw (from_0 n) refl
 
-pub nanos_is : (n : ℕ) → nat_lt 0 n ≡ true → nanos_standing (pos n) ≡ (if nat_le n (2 ^ 62 - 1) then Other else Invalid)
-nanos_is n h = rw (from_0 n, over_0 n h, from_1 n h) refl
-
-pub limit_is : (greatest n : ℕ) → nat_lt 0 n ≡ true → limit_standing greatest (pos n) ≡ (if nat_le n greatest then Other else Invalid)
-limit_is greatest n h = rw (over_0 n h, from_1 n h) refl
+pub limit_is : (greatest n : ℕ) → limit_standing greatest (pos n) ≡ allowed (nat_le n greatest)
+limit_is greatest n = refl
 
 pub limit_kept : (n : ℕ) → nat_lt 0 n ≡ true → limit_of n ≡ Some n
 limit_kept n h = rw (not_0 n h) refl

@@ -7,12 +7,8 @@ use Rattle.js_base.specs.Bytes.{Bytes}
 use Rattle.js_base.specs.declared.out.ApiError.{ApiError}
 use Rattle.js_model.specs.Refusals.{Check, first_refusal, name_mismatch}
 use Rattle.js_model.specs.declared.stream_config.StreamConfig.{StreamConfig}
-use Rattle.stream_config.specs.declared.table.Served.{Served}
-use Rattle.stream_config.specs.declared.table.Served.TheVariants.{Later}
-use Rattle.stream_config.specs.declared.rule.Standing.{Standing}
-use Rattle.stream_config.specs.declared.rule.Standing.TheVariants.{Usual, Other, Invalid, LeftOut}
 use Rattle.stream_config.specs.Table.{Line, table}
-use Rattle.stream_config.specs.Reading.{check, checks, is_refused, config_in, refusal_in, config_unless, reading, names_another}
+use Rattle.stream_config.specs.Reading.{check, checks, config_in, refusal_in, config_unless, reading, names_another}
 
 -- ---- none is refused if each passes
 
@@ -68,23 +64,3 @@ unfolding reading
 read_passes name fields config e =
     let parts = unless_read (refusal_in name fields) (config_in name fields) config e in
     (each_passes fields table (first_none (checks fields table) ((names_another name fields, name_mismatch) ∷ []) parts.0), parts.1)
-
--- ---- standings that pass
-
-abbrev pub fits : Standing → Bool
-fits Usual = true
-fits Other = true
-fits Invalid = false
-fits LeftOut = false
-
-pub passes_now : (since : Served) (is : Standing) → is_refused since is ≡ false → fits is ≡ true
-passes_now since Usual h = refl
-passes_now since Other h = refl
-passes_now since Invalid h = absurd (cc)
-passes_now since LeftOut h = absurd (cc)
-
-pub passes_later : (is : Standing) → is_refused Later is ≡ false → is ≡ Usual
-passes_later Usual h = refl
-passes_later Other h = absurd (cc)
-passes_later Invalid h = absurd (cc)
-passes_later LeftOut h = absurd (cc)

@@ -13,18 +13,16 @@ use Rattle.js_json.specs.Fields.{taken, unless_null, flag_in, number_in, text_in
 use Rattle.js_model.specs.Configs.{is_limit, is_number, is_description, is_stream_subject, is_stream_config}
 use Rattle.js_model.specs.Refusals.{first_refusal, name_mismatch}
 use Rattle.js_model.specs.declared.stream_config.Retention.{Retention}
-use Rattle.js_model.specs.declared.stream_config.Retention.TheVariants.{Limits}
+use Rattle.js_model.specs.declared.stream_config.Retention.TheVariants.{Limits, Interest, WorkQueue}
 use Rattle.js_model.specs.declared.stream_config.Discard.{Discard}
 use Rattle.js_model.specs.declared.stream_config.Discard.TheVariants.{Old, New as DiscardNew}
 use Rattle.js_model.specs.declared.stream_config.StreamConfig.{StreamConfig}
-use Rattle.stream_config.specs.declared.rule.TextRule.TheVariants.{Description, Discard as Discarding}
+use Rattle.stream_config.specs.declared.rule.TextRule.TheVariants.{Description, Discard as Discarding, Retention as Retaining}
 use Rattle.stream_config.specs.declared.rule.NumberRule.TheVariants.{Window}
-use Rattle.stream_config.specs.declared.table.Served.TheVariants.{Now}
 use Rattle.stream_config.specs.Standings.{limit_standing, nanos_standing, text_standing, number_standing, subjects_standing, are_subjects, is_subject}
 use Rattle.stream_config.specs.Table.{table, most}
-use Rattle.stream_config.specs.Reading.{found, judged, is_refused, is_other, names_another, natural_or_0, limit_of, discard_of, window_of, reading, standing, config_in, subjects_or}
-use Rattle.stream_config.specs.Printing.{discard_text, printed}
-use Rattle.js_model.specs.Served.{IsServed}
+use Rattle.stream_config.specs.Reading.{found, judged, is_refused, is_other, names_another, natural_or_0, limit_of, discard_of, retention_of, window_of, reading, standing, config_in, subjects_or}
+use Rattle.stream_config.specs.Printing.{discard_text, retention_text, printed}
 use Rattle.stream_config.proofs.Numbers.{some, nanos_is, limit_is, limit_kept, window_kept}
 use Rattle.stream_config.proofs.Limits.{LimitParts, limit_parts}
 use Rattle.stream_config.proofs.Passing.{Passing, none_refused, passing_from}
@@ -41,7 +39,7 @@ texts_back (text ∷ more) = rw (texts_back more) refl
 below : (n : ℕ) → is_number n ≡ true → nat_le n (2 ^ 62 - 1) ≡ true
 below n h = grind (arith, nat_tests)
 
-discard_stands : (policy : Discard) → is_refused Now (text_standing Discarding (discard_text policy)) ≡ false
+discard_stands : (policy : Discard) → is_refused (text_standing Discarding (discard_text policy)) ≡ false
 discard_stands Old = refl
 discard_stands DiscardNew = refl
 
@@ -49,9 +47,18 @@ discard_back : (policy : Discard) → discard_of (discard_text policy) ≡ polic
 discard_back Old = refl
 discard_back DiscardNew = refl
 
-age_stands : (age : ℕ) → is_number age ≡ true → is_refused Now (nanos_standing (pos age)) ≡ false
-age_stands zero h = refl
-age_stands (suc n) h = rw (nanos_is (suc n) (some n), below (suc n) h) refl
+retention_stands : (policy : Retention) → is_refused (text_standing Retaining (retention_text policy)) ≡ false
+retention_stands Limits = refl
+retention_stands Interest = refl
+retention_stands WorkQueue = refl
+
+retention_back : (policy : Retention) → retention_of (retention_text policy) ≡ policy
+retention_back Limits = refl
+retention_back Interest = refl
+retention_back WorkQueue = refl
+
+age_stands : (age : ℕ) → is_number age ≡ true → is_refused (nanos_standing (pos age)) ≡ false
+age_stands n h = rw (nanos_is n, below n h) refl
 
 -- an age that is shown is that of the stream
 age_shown : (age : ℕ) → is_number age ≡ true → (if nat_lt age (2 ^ 62) then age else 0) ≡ age
@@ -61,18 +68,18 @@ not_above : (age window : ℕ) → ((age == 0) || nat_le window age) ≡ true �
 not_above age window h = grind (arith, nat_tests)
 
 window_fits : (age window : ℕ) → nat_lt 0 window ≡ true → is_number window ≡ true → ((age == 0) || nat_le window age) ≡ true
-    → is_refused Now (number_standing Window age (pos window)) ≡ false
-window_fits age window some number within = rw (not_above age window within, nanos_is window some, below window number) refl
+    → is_refused (number_standing Window age (pos window)) ≡ false
+window_fits age window some number within = rw (not_above age window within, nanos_is window, below window number) refl
 
 window_stands : (age window : ℕ) → nat_lt 0 window ≡ true → is_number window ≡ true → is_number age ≡ true → ((age == 0) || nat_le window age) ≡ true
-    → is_refused Now (number_standing Window (if nat_lt age (2 ^ 62) then age else 0) (pos window)) ≡ false
+    → is_refused (number_standing Window (if nat_lt age (2 ^ 62) then age else 0) (pos window)) ≡ false
 window_stands age window some number small within =
-    subst (λ (n : ℕ). is_refused Now (number_standing Window n (pos window)) ≡ false) (sym (age_shown age small)) (window_fits age window some number within)
+    subst (λ (n : ℕ). is_refused (number_standing Window n (pos window)) ≡ false) (sym (age_shown age small)) (window_fits age window some number within)
 
 limit_stands : (name : Bytes) (greatest : ℕ) (most : Option ℕ) → is_limit greatest most ≡ true
-    → is_refused Now (judged (limit_standing greatest) (taken as_whole name (unless_null (limit most)))) ≡ false
+    → is_refused (judged (limit_standing greatest) (taken as_whole name (unless_null (limit most)))) ≡ false
 limit_stands name greatest None h = refl
-limit_stands name greatest (Some n) h = let parts = and_parts (nat_lt 0 n) (nat_le n greatest) h in rw (limit_is greatest n parts.0, parts.1) refl
+limit_stands name greatest (Some n) h = let parts = and_parts (nat_lt 0 n) (nat_le n greatest) h in rw (limit_is greatest n, parts.1) refl
 
 -- the limit that is read of what is printed of one
 abbrev read_limit : Bytes → Option ℕ → Option ℕ
@@ -82,33 +89,28 @@ limit_back : (name : Bytes) (greatest : ℕ) (most : Option ℕ) → is_limit gr
 limit_back name greatest None h = refl
 limit_back name greatest (Some n) h = limit_kept n (and_parts (nat_lt 0 n) (nat_le n greatest) h).0
 
--- ---- a configuration that is served
-
--- this one, with another description and with the retention that is served
-abbrev with_limits : Bytes → StreamConfig → StreamConfig
-with_limits description c = record c { description = description; retention = Limits }
-
-retention_is : (c : StreamConfig) (policy : Retention) → policy ≡ c.retention → record c { retention = policy } ≡ c
-retention_is c policy e = rw e refl
+-- this configuration, with another description
+abbrev described_by : Bytes → StreamConfig → StreamConfig
+described_by description c = record c { description = description }
 
 -- ---- none of its fields is refused
 
-described_stands : (text : Bytes) → is_description text ≡ true → is_refused Now (text_standing Description text) ≡ false
+described_stands : (text : Bytes) → is_description text ≡ true → is_refused (text_standing Description text) ≡ false
 described_stands text h = rw h refl
 
-stand : (subjects : List Bytes) → not (is_empty subjects) ≡ true → nat_le (length subjects) 256 ≡ true → list_all is_stream_subject subjects ≡ true → is_refused Now (subjects_standing subjects) ≡ false
+stand : (subjects : List Bytes) → not (is_empty subjects) ≡ true → nat_le (length subjects) 256 ≡ true → list_all is_stream_subject subjects ≡ true → is_refused (subjects_standing subjects) ≡ false
 unfolding is_subject
 stand [] filled few each = absurd (cc)
 stand (subject ∷ more) filled few each = let are : are_subjects (subject ∷ more) ≡ true = and_from _ _ few each in rw are refl
 
 pub subjects_stand : (subjects : List Bytes) → not (is_empty subjects) ≡ true → nat_le (length subjects) 256 ≡ true → list_all is_stream_subject subjects ≡ true
-    → is_refused Now (judged subjects_standing (taken as_texts (codes "subjects") (Some (array (texts subjects))))) ≡ false
+    → is_refused (judged subjects_standing (taken as_texts (codes "subjects") (Some (array (texts subjects))))) ≡ false
 subjects_stand subjects filled few each = rw (texts_back subjects) (stand subjects filled few each)
 
-passing : (description : Bytes) (c : StreamConfig) → is_description description ≡ true → ConfigParts c → LimitParts c → Passing (printed (with_limits description c)) table
+passing : (description : Bytes) (c : StreamConfig) → is_description description ≡ true → ConfigParts c → LimitParts c → Passing (printed (described_by description c)) table
 unfolding printed standing table flag_in number_in text_in texts_in part_in is_numeral is_given
 passing [] c described p l =
-    let fields = printed (with_limits [] c) in
+    let fields = printed (described_by [] c) in
     passing_from fields 8 table refl (
       discard_stands c.discard,
       passing_from fields 1 (drop 9 table) refl (
@@ -125,7 +127,7 @@ passing [] c described p l =
                   limit_stands _ most c.max_msgs l.msgs,
                   (
                     limit_stands _ most c.max_msgs_per_subject l.for_each,
-                    passing_from fields 12 (drop 18 table) refl (subjects_stand c.subjects p.filled p.few p.subjects, (refl, tt)),
+                    passing_from fields 7 (drop 18 table) refl (retention_stands c.retention, passing_from fields 4 (drop 26 table) refl (subjects_stand c.subjects p.filled p.few p.subjects, (refl, tt))),
                   ),
                 ),
               ),
@@ -135,7 +137,7 @@ passing [] c described p l =
       ),
     )
 passing (byte ∷ bytes) c described p l =
-    let fields = printed (with_limits (byte ∷ bytes) c) in
+    let fields = printed (described_by (byte ∷ bytes) c) in
     passing_from fields 7 table refl (
       described_stands (byte ∷ bytes) described,
       (
@@ -154,7 +156,7 @@ passing (byte ∷ bytes) c described p l =
                     limit_stands _ most c.max_msgs l.msgs,
                     (
                       limit_stands _ most c.max_msgs_per_subject l.for_each,
-                      passing_from fields 12 (drop 18 table) refl (subjects_stand c.subjects p.filled p.few p.subjects, (refl, tt)),
+                      passing_from fields 7 (drop 18 table) refl (retention_stands c.retention, passing_from fields 4 (drop 26 table) refl (subjects_stand c.subjects p.filled p.few p.subjects, (refl, tt))),
                     ),
                   ),
                 ),
@@ -168,7 +170,7 @@ passing (byte ∷ bytes) c described p l =
 named : (name : Bytes) → first_refusal ((is_other name (Some name), name_mismatch) ∷ []) ≡ None
 named name = rw (same_self name) refl
 
-same_name : (description : Bytes) (c : StreamConfig) → first_refusal ((names_another c.name (printed (with_limits description c)), name_mismatch) ∷ []) ≡ None
+same_name : (description : Bytes) (c : StreamConfig) → first_refusal ((names_another c.name (printed (described_by description c)), name_mismatch) ∷ []) ≡ None
 unfolding printed text_in
 same_name [] c = named c.name
 same_name (byte ∷ bytes) c = named c.name
@@ -187,8 +189,9 @@ subjects_back name subjects filled = rw (texts_back subjects) (some_are subjects
     some_are (subject ∷ more) filled = refl
 
 -- each of these values is that of the configuration
-record AreBack (c : StreamConfig) (policy : Discard) (window : ℕ) (bytes consumers size msgs for_each : Option ℕ) (subjects : List Bytes) : Type 0 where
+record AreBack (c : StreamConfig) (policy : Discard) (retention : Retention) (window : ℕ) (bytes consumers size msgs for_each : Option ℕ) (subjects : List Bytes) : Type 0 where
   policy_is : policy ≡ c.discard
+  retention_is : retention ≡ c.retention
   window_is : window ≡ c.duplicate_window
   bytes_are : bytes ≡ c.max_bytes
   consumers_are : consumers ≡ c.max_consumers
@@ -197,9 +200,9 @@ record AreBack (c : StreamConfig) (policy : Discard) (window : ℕ) (bytes consu
   for_each_is : for_each ≡ c.max_msgs_per_subject
   subjects_are : subjects ≡ c.subjects
 
-all_back : (description : Bytes) (c : StreamConfig) (policy : Discard) (window : ℕ) (bytes consumers size msgs for_each : Option ℕ) (subjects : List Bytes)
-    → AreBack c policy window bytes consumers size msgs for_each subjects
-    → with_limits description c ≡ record {
+all_back : (description : Bytes) (c : StreamConfig) (policy : Discard) (retention : Retention) (window : ℕ) (bytes consumers size msgs for_each : Option ℕ) (subjects : List Bytes)
+    → AreBack c policy retention window bytes consumers size msgs for_each subjects
+    → described_by description c ≡ record {
       description = description;
       discard = policy;
       duplicate_window = window;
@@ -210,18 +213,19 @@ all_back : (description : Bytes) (c : StreamConfig) (policy : Discard) (window :
       max_msgs = msgs;
       max_msgs_per_subject = for_each;
       name = c.name;
-      retention = Limits;
+      retention = retention;
       subjects = subjects;
     }
-all_back description c policy window bytes consumers size msgs for_each subjects b =
-    rw (b.policy_is, b.window_is, b.bytes_are, b.consumers_are, b.size_is, b.msgs_are, b.for_each_is, b.subjects_are) refl
+all_back description c policy retention window bytes consumers size msgs for_each subjects b =
+    rw (b.policy_is, b.retention_is, b.window_is, b.bytes_are, b.consumers_are, b.size_is, b.msgs_are, b.for_each_is, b.subjects_are) refl
 
 parts_back : (c : StreamConfig) → ConfigParts c → LimitParts c
-    → AreBack c (discard_of (discard_text c.discard)) (window_of c.max_age c.duplicate_window) (read_limit (codes "max_bytes") c.max_bytes)
+    → AreBack c (discard_of (discard_text c.discard)) (retention_of (retention_text c.retention)) (window_of c.max_age c.duplicate_window) (read_limit (codes "max_bytes") c.max_bytes)
     (read_limit (codes "max_consumers") c.max_consumers) (read_limit (codes "max_msg_size") c.max_msg_size) (read_limit (codes "max_msgs") c.max_msgs)
     (read_limit (codes "max_msgs_per_subject") c.max_msgs_per_subject) (read_subjects c.name c.subjects)
 parts_back c p l = record {
   policy_is = discard_back c.discard;
+  retention_is = retention_back c.retention;
   window_is = window_kept c.max_age c.duplicate_window p.some;
   bytes_are = limit_back (codes "max_bytes") most c.max_bytes l.bytes;
   consumers_are = limit_back (codes "max_consumers") 256 c.max_consumers p.consumers;
@@ -231,19 +235,16 @@ parts_back c p l = record {
   subjects_are = subjects_back c.name c.subjects p.filled;
 }
 
-config_back : (description : Bytes) (c : StreamConfig) → ConfigParts c → LimitParts c → with_limits description c ≡ config_in c.name (printed (with_limits description c))
+config_back : (description : Bytes) (c : StreamConfig) → ConfigParts c → LimitParts c → described_by description c ≡ config_in c.name (printed (described_by description c))
 unfolding printed config_in number_in text_in texts_in
-config_back [] c p l = all_back [] c _ _ _ _ _ _ _ _ (parts_back c p l)
-config_back (byte ∷ bytes) c p l = all_back (byte ∷ bytes) c _ _ _ _ _ _ _ _ (parts_back c p l)
+config_back [] c p l = all_back [] c _ _ _ _ _ _ _ _ _ (parts_back c p l)
+config_back (byte ∷ bytes) c p l = all_back (byte ∷ bytes) c _ _ _ _ _ _ _ _ _ (parts_back c p l)
 
 read_back : (description : Bytes) (c : StreamConfig) → is_description description ≡ true → ConfigParts c → LimitParts c
-    → reading c.name (printed (with_limits description c)) ≡ Ok (with_limits description c)
+    → reading c.name (printed (described_by description c)) ≡ Ok (described_by description c)
 read_back description c described p l =
-    let config = with_limits description c in
+    let config = described_by description c in
     read_whole c.name (printed config) config (none_refused (printed config) table (passing description c described p l)) (same_name description c) (config_back description c p l)
 
-pub printed_read : (c : StreamConfig) → IsTrue (is_stream_config c) → IsServed c → reading c.name (printed c) ≡ Ok c
-printed_read c is served =
-    let p = config_parts c is in
-    subst (λ (config : StreamConfig). reading c.name (printed config) ≡ Ok config) (retention_is c Limits (sym served.retention))
-    (read_back c.description c p.description p (limit_parts c is))
+pub printed_read : (c : StreamConfig) → IsTrue (is_stream_config c) → reading c.name (printed c) ≡ Ok c
+printed_read c is = let p = config_parts c is in read_back c.description c p.description p (limit_parts c is)

@@ -8,7 +8,7 @@ use Rattle.js_base.specs.declared.out.ApiError.{ApiError}
 use Rattle.js_json.specs.declared.fault.JsonFault.{JsonFault}
 use Rattle.js_json.specs.Objects.{object_of}
 use Rattle.js_json.specs.Fields.{flag_in, number_in, text_in, texts_in, part_in, is_number as is_numeral, is_given}
-use Rattle.js_model.specs.declared.stream_config.Retention.TheVariants.{Limits}
+use Rattle.js_model.specs.declared.stream_config.Retention.TheVariants.{Limits, Interest, WorkQueue}
 use Rattle.js_model.specs.declared.stream_config.Discard.TheVariants.{New as DiscardNew}
 use Rattle.js_model.specs.declared.stream_config.StreamConfig.{StreamConfig}
 use Rattle.js_model.specs.Refusals.{invalid_value, not_supported}
@@ -73,6 +73,19 @@ no_policy : read (codes "{\"discard\":\"none\"}") ≡ Err (invalid_value (codes 
 unfolding reading standing table config_in flag_in number_in text_in texts_in part_in is_numeral is_given object_of serde_json_on_literals is_utf8 chars
 no_policy = refl
 
-interest : read (codes "{\"retention\":\"interest\"}") ≡ Err (not_supported (codes "retention"))
-unfolding reading standing table config_in flag_in number_in text_in texts_in part_in is_numeral is_given object_of serde_json_on_literals is_utf8 chars
+interest : read (codes "{\"retention\":\"interest\"}") ≡ Ok (record (default_config (codes "S") (codes "S")) { retention = Interest })
+unfolding reading standing table config_in default_config flag_in number_in text_in texts_in part_in is_numeral is_given object_of serde_json_on_literals is_utf8 chars
 interest = refl
+
+work_queue : read (codes "{\"retention\":\"workqueue\"}") ≡ Ok (record (default_config (codes "S") (codes "S")) { retention = WorkQueue })
+unfolding reading standing table config_in default_config flag_in number_in text_in texts_in part_in is_numeral is_given object_of serde_json_on_literals is_utf8 chars
+work_queue = refl
+
+no_retention : read (codes "{\"retention\":\"all\"}") ≡ Err (invalid_value (codes "retention"))
+unfolding reading standing table config_in flag_in number_in text_in texts_in part_in is_numeral is_given object_of serde_json_on_literals is_utf8 chars
+no_retention = refl
+
+-- an expiry of each message is left out
+own_expiry : read (codes "{\"allow_msg_ttl\":true}") ≡ Err (not_supported (codes "allow_msg_ttl"))
+unfolding reading standing table config_in flag_in number_in text_in texts_in part_in is_numeral is_given object_of serde_json_on_literals is_utf8 chars
+own_expiry = refl

@@ -12,12 +12,10 @@ use Rattle.js_model.specs.declared.stream_config.Retention.TheVariants.{Limits, 
 use Rattle.js_model.specs.declared.stream_config.Discard.{Discard}
 use Rattle.js_model.specs.declared.stream_config.Discard.TheVariants.{Old, New as DiscardNew}
 use Rattle.js_model.specs.declared.stream_config.StreamConfig.{StreamConfig}
-use Rattle.stream_config.specs.declared.table.Served.{Served}
-use Rattle.stream_config.specs.declared.table.Served.TheVariants.{Now, Later}
 use Rattle.stream_config.specs.declared.rule.Rule.{Rule}
 use Rattle.stream_config.specs.declared.rule.Rule.TheVariants.{Flag, Text, Number, Count, NoParts, Nothing, Subjects}
 use Rattle.stream_config.specs.declared.rule.Standing.{Standing}
-use Rattle.stream_config.specs.declared.rule.Standing.TheVariants.{Usual, Other, Invalid, LeftOut}
+use Rattle.stream_config.specs.declared.rule.Standing.TheVariants.{Held, Invalid, LeftOut}
 use Rattle.stream_config.specs.Standings.{flag_standing, number_standing, count_standing, text_standing, subjects_standing}
 use Rattle.stream_config.specs.Table.{Line, table}
 
@@ -51,19 +49,19 @@ age_in fields = let age = natural_in (codes "max_age") fields in if nat_lt age (
 
 -- ---- the standing of a field
 
--- an absent field has the usual value, and a value of another type is invalid
+-- an absent field may be absent, and a value of another type is invalid
 abbrev pub judged : {X : Type 0} → (X → Standing) → Result (Option X) JsonFault → Standing
-judged rule (Ok None) = Usual
+judged rule (Ok None) = Held
 judged rule (Ok (Some x)) = rule x
 judged rule (Err fault) = Invalid
 
 abbrev pub parts_standing : Members → Standing
-parts_standing no_members = Usual
+parts_standing no_members = Held
 parts_standing (member _ _ _) = LeftOut
 
 -- a number of another kind is left out as one above the greatest is
 abbrev pub counted : ℕ → Bool → Result (Option ℤ) JsonFault → Standing
-counted greatest is_number (Ok None) = Usual
+counted greatest is_number (Ok None) = Held
 counted greatest is_number (Ok (Some z)) = count_standing greatest z
 counted greatest is_number (Err fault) = if is_number then LeftOut else Invalid
 
@@ -74,34 +72,27 @@ standing (Text rule) name fields = judged (text_standing rule) (text_in name fie
 standing (Number rule) name fields = judged (number_standing rule (age_in fields)) (number_in name fields)
 standing (Count greatest) name fields = counted greatest (is_number name fields) (number_in name fields)
 standing NoParts name fields = judged parts_standing (part_in name fields)
-standing Nothing name fields = if is_given name fields then LeftOut else Usual
+standing Nothing name fields = if is_given name fields then LeftOut else Held
 standing Subjects name fields = judged subjects_standing (texts_in name fields)
 
 -- ---- the refusals
 
--- what is not served yet is left out, but for the usual value
-abbrev pub awaits : Served → Bool
-awaits Now = false
-awaits Later = true
-
-abbrev pub is_refused : Served → Standing → Bool
-is_refused since Usual = false
-is_refused since Other = awaits since
-is_refused since Invalid = true
-is_refused since LeftOut = true
+abbrev pub is_refused : Standing → Bool
+is_refused Held = false
+is_refused Invalid = true
+is_refused LeftOut = true
 
 abbrev pub refusal_of : Bytes → Standing → ApiError
-refusal_of name Usual = not_supported name
-refusal_of name Other = not_supported name
+refusal_of name Held = not_supported name
 refusal_of name Invalid = invalid_value name
 refusal_of name LeftOut = not_supported name
 
-abbrev pub judgement : Bytes → Served → Standing → Check
-judgement name since is = (is_refused since is, refusal_of name is)
+abbrev pub judgement : Bytes → Standing → Check
+judgement name is = (is_refused is, refusal_of name is)
 
 -- whether a field is refused, and how
 abbrev pub check : Members → Line → Check
-check fields row = judgement row.name row.since (standing row.rule row.name fields)
+check fields row = judgement row.name (standing row.rule row.name fields)
 
 abbrev pub checks : Members → List Line → List Check
 checks fields rows = map (check fields) rows

@@ -4,7 +4,7 @@ ghost use Rattle.std.specs.Prelude.{◌≡◌, [], ◌∷◌, map, IfOk, if◌th
 ghost use Rattle.js_json.specs.Members.{members};
 ghost use Rattle.js_json.specs.Fields.{flag_in, number_in, text_in, texts_in, part_in, is_number, is_given};
 ghost use Rattle.js_model.specs.Refusals.{first_refusal, name_mismatch};
-ghost use Rattle.stream_config.specs.declared.rule.Standing.TheVariants.{LeftOut, Usual};
+ghost use Rattle.stream_config.specs.declared.rule.Standing.TheVariants.{Held, LeftOut};
 ghost use Rattle.stream_config.specs.Standings.{flag_standing, number_standing, text_standing, subjects_standing};
 ghost use Rattle.stream_config.specs.Table.{line, table};
 ghost use Rattle.stream_config.specs.Reading.{judged, counted, age_in, parts_standing, standing, judgement, checks, names_another};
@@ -15,7 +15,7 @@ use crate::lookup::{age, text};
 use crate::rule::{
     NumberRule, Rule, Standing, TextRule, count_standing, flag_standing, subjects_standing,
 };
-use crate::table::{Row, Served, rows};
+use crate::table::{Row, rows};
 use js_base::NoMemory;
 use js_json::{Fields, JsonFault};
 use js_model::refusals::{invalid_value, name_mismatch, not_supported};
@@ -27,7 +27,7 @@ fn flag_field(fields: &Fields, name: &str) -> Standing
 {
     match fields.flag(name) {
         Ok(Some(flag)) => flag_standing(flag),
-        Ok(None) => Standing::Usual,
+        Ok(None) => Standing::Held,
         Err(_) => Standing::Invalid,
     }
 }
@@ -38,7 +38,7 @@ fn number_field(rule: NumberRule, fields: &Fields, name: &str) -> Standing
 {
     match fields.number(name) {
         Ok(Some(number)) => rule.standing(age(fields), number),
-        Ok(None) => Standing::Usual,
+        Ok(None) => Standing::Held,
         Err(_) => Standing::Invalid,
     }
 }
@@ -49,7 +49,7 @@ fn text_field(rule: TextRule, fields: &Fields, name: &str) -> Result<Standing, N
 {
     match fields.text(name) {
         Ok(Some(text)) => Ok(rule.standing(text.as_slice())),
-        Ok(None) => Ok(Standing::Usual),
+        Ok(None) => Ok(Standing::Held),
         Err(JsonFault::NoMemory) => Err(NoMemory),
         Err(_) => Ok(Standing::Invalid),
     }
@@ -61,7 +61,7 @@ fn count_field(greatest: u64, fields: &Fields, name: &str) -> Standing
 {
     match fields.number(name) {
         Ok(Some(number)) => count_standing(greatest, number),
-        Ok(None) => Standing::Usual,
+        Ok(None) => Standing::Held,
         Err(_) if fields.is_number(name) => Standing::LeftOut,
         Err(_) => Standing::Invalid,
     }
@@ -72,7 +72,7 @@ fn parts_standing(part: &Fields) -> Standing
     ensures value { result ≡ parts_standing (members part.now) }
 {
     if part.is_empty() {
-        Standing::Usual
+        Standing::Held
     } else {
         Standing::LeftOut
     }
@@ -84,7 +84,7 @@ fn part_field(fields: &Fields, name: &str) -> Result<Standing, NoMemory>
 {
     match fields.part(name) {
         Ok(Some(part)) => Ok(parts_standing(&part)),
-        Ok(None) => Ok(Standing::Usual),
+        Ok(None) => Ok(Standing::Held),
         Err(JsonFault::NoMemory) => Err(NoMemory),
         Err(_) => Ok(Standing::Invalid),
     }
@@ -96,7 +96,7 @@ fn subjects_field(fields: &Fields, name: &str) -> Result<Standing, NoMemory>
 {
     match fields.texts(name) {
         Ok(Some(subjects)) => Ok(subjects_standing(subjects.as_slice())),
-        Ok(None) => Ok(Standing::Usual),
+        Ok(None) => Ok(Standing::Held),
         Err(JsonFault::NoMemory) => Err(NoMemory),
         Err(_) => Ok(Standing::Invalid),
     }
@@ -104,12 +104,12 @@ fn subjects_field(fields: &Fields, name: &str) -> Result<Standing, NoMemory>
 
 /// The standing of a field that should say nothing.
 fn given_field(fields: &Fields, name: &str) -> Standing
-    ensures value { result ≡ (if is_given name.now (members fields.now) then LeftOut else Usual) }
+    ensures value { result ≡ (if is_given name.now (members fields.now) then LeftOut else Held) }
 {
     if fields.given(name) {
         Standing::LeftOut
     } else {
-        Standing::Usual
+        Standing::Held
     }
 }
 
@@ -131,38 +131,31 @@ impl Rule {
     }
 }
 
-/// Refuses the field if it is served so and stands so.
-fn judge(alloc: Global, name: &str, since: Served, standing: Standing) -> Result<(), ConfigFault>
-    ensures passes { Passes result (first_refusal (judgement name.now since standing ∷ [])) }
+/// Refuses the field if it stands so.
+fn judge(alloc: Global, name: &str, standing: Standing) -> Result<(), ConfigFault>
+    ensures passes { Passes result (first_refusal (judgement name.now standing ∷ [])) }
 {
     match standing {
-        Standing::Usual => Ok(()),
-        Standing::Other if since == Served::Now => Ok(()),
+        Standing::Held => Ok(()),
         Standing::Invalid => Err(ConfigFault::Refused(invalid_value(alloc, name.as_bytes())?)),
-        _ => Err(ConfigFault::Refused(not_supported(alloc, name.as_bytes())?)),
+        Standing::LeftOut => Err(ConfigFault::Refused(not_supported(alloc, name.as_bytes())?)),
     }
 }
 
 /// Refuses the field if it holds what it may not hold.
-fn check_field(
-    alloc: Global,
-    fields: &Fields,
-    name: &str,
-    rule: Rule,
-    since: Served,
-) -> Result<(), ConfigFault>
-    ensures passes { Passes result (first_refusal (judgement name.now since (standing rule name.now (members fields.now)) ∷ [])) }
+fn check_field(alloc: Global, fields: &Fields, name: &str, rule: Rule) -> Result<(), ConfigFault>
+    ensures passes { Passes result (first_refusal (judgement name.now (standing rule name.now (members fields.now)) ∷ [])) }
 {
     let standing = rule.field(fields, name)?;
-    judge(alloc, name, since, standing)
+    judge(alloc, name, standing)
 }
 
 /// Refuses the first field of these that holds what it may not hold.
 fn check_rows(alloc: Global, fields: &Fields, rows: &[Row]) -> Result<(), ConfigFault>
     ensures passes { Passes result (first_refusal (checks (members fields.now) (map line rows.now))) }
 {
-    for (name, rule, since) in rows {
-        match check_field(alloc, fields, name, *rule, *since) {
+    for (name, rule) in rows {
+        match check_field(alloc, fields, name, *rule) {
             Ok(()) => {}
             Err(fault) => return Err(fault),
         }

@@ -7,7 +7,7 @@ pub fn law_printable()
     ensures printable { LawPrintable }
 {}
 
-/// What is printed of a configuration is read as the same one, if it is served.
+/// What is printed of a configuration is read as the same one.
 pub fn law_printed_read()
     ensures same { LawPrintedRead }
 {}

@@ -7,7 +7,6 @@ ghost use Rattle.js_model.specs.Configs.{is_stream_config};
 ghost use Rattle.stream_config.specs.Reading.{limit_in, retention_of, discard_of, window_of, subjects_or, found, word_in, config_in, reading};
 ghost use Rattle.stream_config.specs.Answers.{ReadsConfig};
 ghost use Rattle.stream_config.specs.Printing.{IsPrinted};
-ghost use Rattle.js_model.specs.Served.{IsServed};
 
 use crate::fault::ConfigFault;
 use crate::judging::{check_fields, check_name};
@@ -128,13 +127,12 @@ fn config(alloc: Global, fields: &Fields, name: &Name) -> Result<StreamConfig, N
 ///
 /// The fields are looked at in ascending order of their names. The first that has a wrong type or is out of its range is refused with 20001, and
 /// one that asks for what the server leaves out with 20002. Another name than the stream's is refused with 20022, after all of them.
-/// What is read is a valid configuration and can be printed. Its retention is `limits`, since the other policies are not served yet.
+/// What is read is a valid configuration and can be printed.
 #[tactic(auto, using(crate::proofs::Refusing::refused_field, crate::proofs::Refusing::refused_name, crate::proofs::Refusing::read_whole))]
 pub fn read(alloc: Global, fields: &Fields, name: &Name) -> Result<StreamConfig, ConfigFault>
     ensures reading { ReadsConfig result (reading name.now (members fields.now)) }
     ensures config { IfOk result (λ config. IsTrue (is_stream_config config)) }
     ensures printable { IfOk result IsPrinted }
-    ensures served { IfOk result IsServed }
 {
     match check_fields(alloc, fields) {
         Ok(()) => {}

@@ -1,7 +1,7 @@
 //! What the fields of a stream's configuration may hold.
 
 ghost use Rattle.std.specs.Prelude.{◌≡◌, ◌+◌, pos, IsUtf8};
-ghost use Rattle.stream_config.specs.Standings.{flag_standing, limit_standing, nanos_standing, window_standing, count_standing, description_standing, retention_standing, discard_standing, storage_standing, compression_standing, text_standing, number_standing, within, is_subject, subjects_standing};
+ghost use Rattle.stream_config.specs.Standings.{allowed, flag_standing, limit_standing, nanos_standing, window_standing, count_standing, description_standing, retention_standing, discard_standing, storage_standing, compression_standing, text_standing, number_standing, within, is_subject, subjects_standing};
 ghost use Rattle.std.specs.List.{list_all};
 
 use js_base::Blob;
@@ -10,10 +10,8 @@ use subject_match::is_stream_subject;
 /// What the value of a field is.
 #[derive(Clone, Copy, Debug, PartialEq, Eq)]
 pub(crate) enum Standing {
-    /// What an absent one means.
-    Usual,
-    /// Another one that the field may hold.
-    Other,
+    /// One that the field may hold.
+    Held,
     /// None that the field may hold.
     Invalid,
     /// One that the server leaves out.
@@ -65,6 +63,17 @@ pub(crate) enum Rule {
     Subjects,
 }
 
+/// The standing of a value that is wrong unless the field may hold it.
+fn allowed(may: bool) -> Standing
+    ensures value { result ≡ allowed may }
+{
+    if may {
+        Standing::Held
+    } else {
+        Standing::Invalid
+    }
+}
+
 /// The standing of a flag.
 pub(crate) fn flag_standing(flag: bool) -> Standing
     ensures value { result ≡ flag_standing flag }
@@ -72,7 +81,7 @@ pub(crate) fn flag_standing(flag: bool) -> Standing
     if flag {
         Standing::LeftOut
     } else {
-        Standing::Usual
+        Standing::Held
     }
 }
 
@@ -87,13 +96,7 @@ fn within(low: i128, high: i128, number: i128) -> bool
 fn limit_standing(greatest: u64, number: i128) -> Standing
     ensures value { result ≡ limit_standing greatest number }
 {
-    if within(-1, 0, number) {
-        Standing::Usual
-    } else if within(1, i128::from(greatest), number) {
-        Standing::Other
-    } else {
-        Standing::Invalid
-    }
+    allowed(within(-1, i128::from(greatest), number))
 }
 
 /// The standing of a number that is left out above `greatest`.
@@ -101,7 +104,7 @@ pub(crate) fn count_standing(greatest: u64, number: i128) -> Standing
     ensures value { result ≡ count_standing greatest number }
 {
     if within(0, i128::from(greatest), number) {
-        Standing::Usual
+        Standing::Held
     } else {
         Standing::LeftOut
     }
@@ -114,13 +117,7 @@ const MOST_NANOS: i128 = (1 << 62) - 1;
 fn nanos_standing(number: i128) -> Standing
     ensures value { result ≡ nanos_standing number }
 {
-    if within(0, 0, number) {
-        Standing::Usual
-    } else if within(1, MOST_NANOS, number) {
-        Standing::Other
-    } else {
-        Standing::Invalid
-    }
+    allowed(within(0, MOST_NANOS, number))
 }
 
 /// The standing of a duplicate window if messages stay that long, 0 for ever.
@@ -153,37 +150,25 @@ fn description_standing(text: &[u8]) -> Standing
     requires utf8 { IsUtf8 text.now }
     ensures value { result ≡ description_standing text.now }
 {
-    if text.len() <= 4096 {
-        Standing::Other
-    } else {
-        Standing::Invalid
-    }
+    allowed(text.len() <= 4096)
 }
 
 /// The standing of a retention policy.
 fn retention_standing(text: &[u8]) -> Standing
     ensures value { result ≡ retention_standing text.now }
 {
-    if text == b"limits".as_slice() {
-        Standing::Usual
-    } else if text == b"interest".as_slice() || text == b"workqueue".as_slice() {
-        Standing::Other
-    } else {
-        Standing::Invalid
-    }
+    allowed(
+        text == b"limits".as_slice()
+            || text == b"interest".as_slice()
+            || text == b"workqueue".as_slice(),
+    )
 }
 
 /// The standing of a discard policy.
 fn discard_standing(text: &[u8]) -> Standing
     ensures value { result ≡ discard_standing text.now }
 {
-    if text == b"old".as_slice() {
-        Standing::Usual
-    } else if text == b"new".as_slice() {
-        Standing::Other
-    } else {
-        Standing::Invalid
-    }
+    allowed(text == b"old".as_slice() || text == b"new".as_slice())
 }
 
 /// The standing of a kind of storage.
@@ -191,7 +176,7 @@ fn storage_standing(text: &[u8]) -> Standing
     ensures value { result ≡ storage_standing text.now }
 {
     if text == b"file".as_slice() {
-        Standing::Usual
+        Standing::Held
     } else if text == b"memory".as_slice() {
         Standing::LeftOut
     } else {
@@ -204,7 +189,7 @@ fn compression_standing(text: &[u8]) -> Standing
     ensures value { result ≡ compression_standing text.now }
 {
     if text == b"none".as_slice() {
-        Standing::Usual
+        Standing::Held
     } else {
         Standing::LeftOut
     }
@@ -222,7 +207,7 @@ impl TextRule {
             TextRule::Discard => discard_standing(text),
             TextRule::Storage => storage_standing(text),
             TextRule::Compression => compression_standing(text),
-            TextRule::Name => Standing::Other,
+            TextRule::Name => Standing::Held,
         }
     }
 }
@@ -251,11 +236,5 @@ fn each_is_subject(texts: &[Blob]) -> bool
 pub(crate) fn subjects_standing(subjects: &[Blob]) -> Standing
     ensures value { result ≡ subjects_standing subjects.now }
 {
-    if subjects.is_empty() {
-        Standing::Usual
-    } else if subjects.len() <= 256 && each_is_subject(subjects) {
-        Standing::Other
-    } else {
-        Standing::Invalid
-    }
+    allowed(subjects.len() <= 256 && each_is_subject(subjects))
 }

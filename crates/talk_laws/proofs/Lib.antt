@@ -1,3 +1,5 @@
 mod Cutting
 mod EachPart
 mod TalkLaws
+mod Confirmed
+mod Replied

@@ -31,7 +31,7 @@ law_opening (suc count) (suc place) before there = law_opening count place befor
 -- ---- the laws
 
 -- how many messages stood at first or were stored, after the part
-abbrev count_after : Part → ℕ
+abbrev pub count_after : Part → ℕ
 count_after p = total_of (count_before p) p.old p.entries p.new p.during
 
 pub law_talk_sound : LawRuns → LawSound → LawTalkSound

@@ -4,6 +4,8 @@
 //! first, as every place is when the desk opens. However the steps and deliveries that they made there are cut in three, there are states
 //! between which the middle part stands; and the law holds of each such part.
 
+ghost use Rattle.talk_laws.specs.Confirming.{LawTalkConfirmed};
+ghost use Rattle.talk_laws.specs.Replying.{LawReplyRead};
 ghost use Rattle.talk_laws.specs.TalkLaws.{LawOpening, LawTalkSound, LawTalkBounded, LawTalkWritable, LawTalkTick, LawTalkAcked, LawTalkEnds, LawTalkStays, LawTalkDuplicate, LawTalkKept, LawTalkOrder, LawTalkStart, LawTalkMade, LawTalkRedelivery, LawTalkLimits};
 
 use js_api::laws::law_runs;
@@ -63,6 +65,14 @@ pub fn law_talk_acked()
     model_laws::law_acked();
 }
 
+/// A sequence whose acknowledgement was confirmed is not sent again to its consumer, until it or the stream is dropped: an acknowledgement by which the
+/// message is done, or is never to come again. It may have ended before, by an acknowledgement that had no reply subject.
+pub fn law_talk_confirmed()
+    ensures law { LawTalkConfirmed }
+{
+    law_runs();
+}
+
 /// After a publish was stored with an id, another publish of that id is told the first sequence, as long as the window
 /// has not passed, the configuration stays and the stream is not dropped. It may be refused first for its size, its
 /// headers or the expected stream.
@@ -118,4 +128,12 @@ pub fn law_talk_limits()
     law_runs();
     model_laws::law_sound();
     model_laws::law_limits();
+}
+
+/// The reply subject of a delivery is read as an acknowledgement of its message, to its consumer and its stream.
+pub fn law_reply_read()
+    ensures law { LawReplyRead }
+{
+    js_base::laws::law_decimal();
+    ack_parse::law_spelled();
 }

@@ -1,6 +1,6 @@
 use Rattle.std.proofs.Common.{sym, ◌∙◌}
-use Rattle.js_api.specs.Api.{PublishesToApi}
-use Rattle.js_api.specs.Publishing.{PublishesPlain, PublishesToNobody}
+use Rattle.js_api.specs.Api.{PublishesAck, PublishesToApi}
+use Rattle.js_api.specs.Publishing.{PublishesPlain}
 use Rattle.desk_ground.specs.Callers.{client_of}
 use Rattle.desk_ground.proofs.Stages.{if_not, if_so}
 use Rattle.desk_calls.proofs.publishing.publish_open.Goals as goal
@@ -15,7 +15,7 @@ returns-then-is_acknowledgement-clause-made g c =
     let other = rw c.as_slice-to.ensures at (sym c.is_api.ensures.value ∙ c.if-is_api.false) in
     let acknowledgement = rw c.as_slice-to.ensures at (sym c.is_acknowledgement.ensures.value ∙ c.if-is_acknowledgement.true) in
     if_not g.G.Ground.made _ _ _ _ _ other
-    (if_so g.G.Ground.made _ (PublishesToNobody (client_of c.args.caller) c.args.message.now c.tell_untaken.result) _ _ _ acknowledgement c.tell_untaken.ensures.made)
+    (if_so g.G.Ground.made _ (PublishesAck (client_of c.args.caller) c.args.message.now c.args.now c.publish_ack.result) _ _ _ acknowledgement c.publish_ack.ensures.made)
 
 pub returns-else-is_acknowledgement-clause-made : goal.returns-else-is_acknowledgement-clause-made
 returns-else-is_acknowledgement-clause-made g c =

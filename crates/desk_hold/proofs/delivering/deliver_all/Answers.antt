@@ -6,16 +6,16 @@ use Rattle.desk_hold.proofs.delivering.deliver_all.Goals as goal
 
 pub returns-then-size-ge-MOST_BYTES-clause-delivers :
     goal.returns-then-size-ge-MOST_BYTES-clause-delivers
-returns-then-size-ge-MOST_BYTES-clause-delivers g c = λ seat at. full_there g.P.Place.holds seat at _ _ _ _ _ _ _ (c.loop.invariant.so_far seat) (inr (omega (arith, c.loop.invariant.size)))
+returns-then-size-ge-MOST_BYTES-clause-delivers g c = λ seat at. full_there g.P.Place.holds seat at _ _ _ _ _ _ _ (omega arith) (c.loop.invariant.so_far seat) (inr (omega (arith, c.loop.invariant.size)))
 
 pub deliver_next-requires : goal.deliver_next-requires
 deliver_next-requires g c = record { going = (c.loop.invariant.so_far 0).goes }
 
 pub returns-in-Some-clause-delivers : goal.returns-in-Some-clause-delivers
-returns-in-Some-clause-delivers g c = λ seat at. ended_there g.P.Place.holds seat at _ _ _ _ _ _ _ _ _ _ (c.loop.invariant.so_far seat) (c.in-Some.ensures.goes_on seat at)
+returns-in-Some-clause-delivers g c = λ seat at. ended_there g.P.Place.holds seat at _ _ _ _ _ _ _ _ _ _ (omega arith) (c.loop.invariant.so_far seat) (c.in-Some.ensures.goes_on seat at)
 
 pub returns-clause-delivers : goal.returns-clause-delivers
-returns-clause-delivers g c = λ seat at. full_there g.P.Place.holds seat at _ _ _ _ _ _ _ (c.loop.invariant.so_far seat) (inl (omega arith))
+returns-clause-delivers g c = λ seat at. full_there g.P.Place.holds seat at _ _ _ _ _ _ _ (omega arith) (c.loop.invariant.so_far seat) (inl (omega arith))
 
 pub loop-init : goal.loop-init
 loop-init g c = record {

@@ -1,14 +1,8 @@
 use Rattle.std.proofs.Common.{◌∷◌, [], ◌++◌}
-use Rattle.std.proofs.lemmas.Bool.{and_parts}
-use Rattle.js_model.specs.declared.stream_config.Retention.TheVariants.{Limits}
-use Rattle.js_model.specs.Configs.{same_retention, is_stream_config}
 use Rattle.config_texts.specs.Texts.{stream_text}
 use Rattle.op_records.specs.Spelling.{number, long}
 use Rattle.op_records.proofs.Written.{at_ok, three_parts}
 use Rattle.op_records.proofs.writing.put_make_stream.Goals as goal
-
-pub put_stream_config-requires : goal.put_stream_config-requires
-put_stream_config-requires c = record { valid = (and_parts (is_stream_config c.args.config.now) (same_retention c.args.config.now.retention Limits) c.requires.config).0 }
 
 pub returns : goal.returns
 returns c =

@@ -1,4 +1,4 @@
-use Rattle.std.proofs.Common.{◌≡◌, List, Some, not, refl, sym, ap, ◌∙◌}
+use Rattle.std.proofs.Common.{List, Some, not, refl, sym, ap, ◌∙◌}
 use Rattle.std.specs.Prelude.{filter, is_some}
 use Rattle.std.specs.List.{position}
 use Rattle.js_base.specs.Bytes.{Bytes, same}

@@ -1,8 +1,7 @@
-use Rattle.std.proofs.Common.{◌≡◌, List, Some, refl, sym, ap, ◌∙◌}
+use Rattle.std.proofs.Common.{List, Some, refl, sym, ap, ◌∙◌}
 use Rattle.std.specs.List.{position}
 use Rattle.js_model.specs.declared.consumer.Consumer.{Consumer}
 use Rattle.js_model.specs.Consumers.{with_new}
-use Rattle.effects.specs.declared.durable.Body.{Body}
 use Rattle.effects.specs.Folding.{with_made}
 use Rattle.record_fold.proofs.Replacing.{has_name, some_found, none_found}
 use Rattle.record_fold.proofs.streams.make_consumer.Goals as goal

@@ -1,0 +1,4 @@
+pub mod Storable
+pub mod Parts
+pub mod Known
+pub mod Limits
