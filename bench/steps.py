@@ -49,14 +49,19 @@ def work(program, before, script, is_right):
     return nanoseconds, wrote
 
 
+def count_instructions(words, source):
+    """Returns how many instructions a program takes for its input, as valgrind counts them."""
+    valgrind = ["valgrind", "--tool=cachegrind", "--cache-sim=no", "--cachegrind-out-file=/dev/null"]
+    run = subprocess.run(valgrind + words, stdin=source, stdout=subprocess.DEVNULL, stderr=subprocess.PIPE, check=True)
+    return int(re.search(rb"I\s+refs:\s+([0-9,]+)", run.stderr)[1].replace(b",", b""))
+
+
 def instructions(program, script):
-    """Returns how many instructions the program takes for a script, as valgrind counts them."""
+    """Returns how many instructions the program takes for a script."""
     with tempfile.TemporaryFile() as source:
         source.write(script)
         source.seek(0)
-        words = ["valgrind", "--tool=cachegrind", "--cache-sim=no", "--cachegrind-out-file=/dev/null", program, *WORDS]
-        run = subprocess.run(words, stdin=source, stdout=subprocess.DEVNULL, stderr=subprocess.PIPE, check=True)
-    return int(re.search(rb"I\s+refs:\s+([0-9,]+)", run.stderr)[1].replace(b",", b""))
+        return count_instructions([program, *WORDS], source)
 
 
 def factor(costs):
