@@ -1,10 +1,8 @@
 -- What was acknowledged for good, and what was confirmed, stays so in a whole run.
-use Rattle.std.proofs.Common.{◌≡◌, ℕ, List, Option, Some, None, refl, sym, subst, ◌∙◌}
-use Rattle.js_model.specs.PlaceStates.{PlaceIn, vacant_place}
-use Rattle.js_api.specs.Entries.{DeskEntry}
-use Rattle.js_api.specs.Leading.{Leads}
+use Rattle.std.proofs.Common.{◌≡◌, Option, Some, subst}
+use Rattle.js_model.specs.PlaceStates.{PlaceIn}
 use Rattle.js_api.specs.Machines.{steps_at}
-use Rattle.js_api.specs.Worlds.{Scene, SoloStep, opening}
+use Rattle.js_api.specs.Worlds.{opening}
 use Rattle.talk_laws.specs.Parts.{Part, IsPartOf}
 use Rattle.talk_laws.specs.Talks.{InEachTalk}
 use Rattle.talk_laws.specs.Confirming.{StaysConfirmed, LawTalkConfirmed}

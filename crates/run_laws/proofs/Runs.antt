@@ -1,5 +1,5 @@
 -- The entries of a run lead its desk from the opening on.
-use Rattle.std.proofs.Common.{◌≡◌, ℕ, List, [], ◌++◌, Option, Some, None, Result, Ok, refl, sym}
+use Rattle.std.proofs.Common.{ℕ, List, Option, Some, None, Result, Ok, sym}
 use mathlib.Core.Logic.{inl, inr}
 use Rattle.js_base.specs.declared.out.ApiError.{ApiError}
 use Rattle.js_model.specs.PlaceStates.{PlaceIn}
@@ -14,7 +14,7 @@ use Rattle.run_laws.specs.Runs.{prepared_entries, session_entries, run_entries}
 
 prepared_led : (opened : List PlaceIn) (stream : Option NamedStream) (result : Result (Option ApiError) DeskFault) (clock_old clock_new : Option (List ℕ)) (after : Scene)
     → (p : Prepares opened stream result clock_old clock_new after) → Leads SoloStep (opening opened) (prepared_entries opened stream result clock_old clock_new after p) after
-prepared_led opened None result clock_old clock_new after p = sym p.1.0
+prepared_led opened None result clock_old clock_new after p = sym p.1
 prepared_led opened (Some stream) result clock_old clock_new after p = p.led
 
 session_led : (scene after : Scene) (status : ℕ) (old new : DoorTold) (clock_old clock_new : Option (List ℕ))

@@ -9,6 +9,7 @@ use Rattle.js_base.specs.declared.out.Out.{Out}
 use Rattle.js_base.specs.declared.out.ApiError.{ApiError}
 use Rattle.js_model.specs.PlaceStates.{VolumeAt}
 use Rattle.js_model.specs.declared.stream_config.StreamConfig.{StreamConfig}
+use Rattle.js_model.specs.declared.ack.Ack.{Ack}
 use Rattle.js_model.specs.declared.ack.Ask.{Ask}
 use Rattle.js_model.specs.declared.event.What.{What}
 use Rattle.js_model.specs.declared.event.What.TheVariants as whats
@@ -17,6 +18,9 @@ use Rattle.js_model.specs.declared.desk.Taken.{Taken}
 use Rattle.js_model.specs.Proper.{reply_of}
 use Rattle.js_model.specs.Catalog as catalog
 use Rattle.js_model.specs.Router as router
+use Rattle.ack_parse.specs.Reading.{ack_of}
+use Rattle.ack_parse.specs.declared.fault.AckFault.{AckFault}
+use Rattle.ack_parse.specs.declared.fault.AckFault.TheVariants as misread
 use Rattle.api_calls.specs.declared.call.ApiCall.TheVariants as calls
 use Rattle.api_calls.specs.Names.{name_of}
 use Rattle.api_requests.specs.Requests.{request_of}
@@ -352,11 +356,23 @@ plain_keeps client message now =
     (λ found. then_keeps (publishing.Stores message now found) _ (stores_keeps message now found)
     (λ other. tells_keeps client message (publishing.taken_by count other))))
 
+acknowledging_keeps : (reading : Result Ack AckFault) (to : Option Bytes) (now : ℕ) → Keeps (consumers.IsAcknowledging reading to now)
+acknowledging_keeps (Ok ack) to now = told_keeps ack.stream (whats.Ack to ack) now
+acknowledging_keeps (Err misread.NotAck) to now = gives_keeps false
+acknowledging_keeps (Err (misread.BadToken place)) to now = gives_keeps false
+acknowledging_keeps (Err misread.BadBody) to now = gives_keeps true
+acknowledging_keeps (Err misread.NoMemory) to now = λ result entries h fit. absurd h
+
+ack_keeps : (client : Client) (message : Out) (now : ℕ) → Keeps (api.PublishesAck client message now)
+ack_keeps client message now =
+    then_keeps (Reads (ack_of message.to message.payload)) _ (reads_keeps (ack_of message.to message.payload))
+    (λ reading. then_keeps (consumers.IsAcknowledging reading message.reply now) (api.TakesByApi client message) (acknowledging_keeps reading message.reply now) (takes_keeps client message))
+
 publishes_keeps : (client : Client) (message : Out) (now : ℕ) → Keeps (does.Publishes client message now)
 publishes_keeps client message now =
     by_test (is_api message.to) (api.PublishesToApi client message now) _ (to_api_keeps client message now)
-    (by_test (is_acknowledgement message.to) (publishing.PublishesToNobody client message) (publishing.PublishesPlain client message now)
-    (tells_keeps client message publishing.nobody) (plain_keeps client message now))
+    (by_test (is_acknowledgement message.to) (api.PublishesAck client message now) (publishing.PublishesPlain client message now)
+    (ack_keeps client message now) (plain_keeps client message now))
 
 -- ---- letting time pass
 
