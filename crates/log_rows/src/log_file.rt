@@ -1,0 +1,134 @@
+//! A log file as its fields.
+
+use crate::line::{LineFault, spelled_bytes, split_word};
+use js_base::Blob;
+use std::alloc::Global;
+
+/// What a part of a log file is.
+#[derive(Clone, Copy, PartialEq, Eq)]
+pub(crate) enum Role {
+    /// A gate, before a batch.
+    Gate,
+    /// The length of the batch behind it.
+    Length,
+    Field,
+}
+
+/// A part of a log file.
+#[derive(Drop)]
+pub(crate) struct Part {
+    pub(crate) name: Blob,
+    pub(crate) role: Role,
+    /// `None` for a length that is counted.
+    pub(crate) bytes: Option<Blob>,
+}
+
+impl Part {
+    /// How many bytes it has: a counted length has four.
+    pub(crate) fn len(&self) -> usize {
+        match &self.bytes {
+            Some(bytes) => bytes.len(),
+            None => 4,
+        }
+    }
+
+    pub(crate) fn try_clone(&self) -> Result<Part, LineFault> {
+        let bytes = match &self.bytes {
+            Some(bytes) => Some(bytes.clone()?),
+            None => None,
+        };
+        Ok(Part {
+            name: self.name.clone()?,
+            role: self.role,
+            bytes,
+        })
+    }
+}
+
+/// The parts of a log file, in their order.
+#[derive(Drop)]
+pub(crate) struct LogFile {
+    pub(crate) parts: Vec<Part>,
+}
+
+impl LogFile {
+    /// A file without parts.
+    pub(crate) fn new(alloc: Global) -> LogFile {
+        LogFile {
+            parts: Vec::new(alloc),
+        }
+    }
+
+    /// Adds the part that a line tells, with the line's first word and what stands behind it.
+    pub(crate) fn read(
+        &mut self,
+        alloc: Global,
+        word: &[u8],
+        rest: &[u8],
+    ) -> Result<(), LineFault> {
+        let (name, text) = split_word(rest);
+        let name = Blob::of(alloc, name)?;
+        match word {
+            b"field" => self.add(name, Role::Field, Some(spelled_bytes(alloc, text)?)),
+            b"text" => self.add(name, Role::Field, Some(Blob::of(alloc, text)?)),
+            b"gate" => self.add(name, Role::Gate, Some(spelled_bytes(alloc, text)?)),
+            b"length" if text.is_empty() => self.add(name, Role::Length, None),
+            _ => Err(LineFault::Bad),
+        }
+    }
+
+    fn add(&mut self, name: Blob, role: Role, bytes: Option<Blob>) -> Result<(), LineFault> {
+        Ok(self.parts.push(Part { name, role, bytes })?)
+    }
+
+    /// The place of the part with this name.
+    pub(crate) fn place(&self, name: &[u8]) -> Option<usize> {
+        self.parts
+            .iter()
+            .position(|part| part.name.as_slice() == name)
+    }
+
+    pub(crate) fn try_clone(&self, alloc: Global) -> Result<LogFile, LineFault> {
+        let mut parts = Vec::new(alloc);
+        for part in &self.parts {
+            parts.push(part.try_clone()?)?;
+        }
+        Ok(LogFile { parts })
+    }
+
+    /// The bytes of the file, in which a counted length tells the bytes from behind it to the next gate.
+    pub(crate) fn bytes(&self, alloc: Global) -> Result<Vec<u8>, LineFault> {
+        let mut bytes = Vec::new(alloc);
+        for (place, part) in self.parts.iter().enumerate() {
+            match &part.bytes {
+                Some(own) => bytes.extend_from_slice(own.as_slice())?,
+                None => bytes.extend_from_slice(&batch_len(&self.parts, place).to_be_bytes())?,
+            }
+        }
+        Ok(bytes)
+    }
+
+    /// How many bytes stand before the part with this name.
+    pub(crate) fn offset(&self, name: &[u8]) -> Option<usize> {
+        let mut offset: usize = 0;
+        for part in &self.parts {
+            if part.name.as_slice() == name {
+                return Some(offset);
+            }
+            offset = offset.saturating_add(part.len());
+        }
+        None
+    }
+}
+
+/// How many bytes stand from behind the part at the place to the next gate.
+fn batch_len(parts: &[Part], place: usize) -> u32 {
+    let mut len: u32 = 0;
+    for part in parts.iter().skip(place.saturating_add(1)) {
+        if part.role == Role::Gate {
+            return len;
+        }
+        len = len.saturating_add(u32::try_from(part.len()).unwrap_or(u32::MAX));
+    }
+    len
+}
