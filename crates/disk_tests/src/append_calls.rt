@@ -1,0 +1,44 @@
+//! `gate_log`: what an append asks of the volume, whatever the log holds.
+
+use gate_log::GateLog;
+use std::test::Fail;
+use vol_disk::{Call, Deed, MemVol};
+
+/// How many bytes a call writes, or `None` for another call than a write.
+fn write_len(call: &Call) -> Option<usize> {
+    match &call.deed {
+        Deed::Write { at: _, bytes } => Some(bytes.len()),
+        Deed::Len | Deed::Read { at: _, count: _ } | Deed::Cut { to: _ } | Deed::Sync => None,
+    }
+}
+
+/// Whether the calls write a batch of so many bytes of records with its length and a closed gate, and then open its gate, each with a sync.
+fn are_an_append(calls: &[Call], records: usize) -> bool {
+    match calls {
+        [batch, batch_sync, gate, gate_sync] => {
+            write_len(batch) == Some(records.saturating_add(5))
+                && write_len(gate) == Some(1)
+                && matches!(&batch_sync.deed, Deed::Sync)
+                && matches!(&gate_sync.deed, Deed::Sync)
+        }
+        _ => false,
+    }
+}
+
+#[test]
+fn append_takes_two_writes_each_with_a_sync(rt: HostRuntime) -> Result<(), Fail> {
+    let alloc = rt.alloc();
+    let mut vol = MemVol::new(alloc).image(1)?;
+    let mut log = GateLog::start(alloc, &mut vol, 0, 7)?;
+    for count in 0..30 {
+        let records = vec![in alloc; b'x'; count]?;
+        let before = vol.calls().len();
+        log.append(alloc, &mut vol, records.as_slice())?;
+        let made = vol.calls().get(before..);
+        assert!(rt;
+            made.is_some_and(|calls| are_an_append(calls, count)),
+            "{count}"
+        );
+    }
+    Ok(())
+}

@@ -1,0 +1,66 @@
+//! `vol_disk`: a volume over a folder of the system.
+
+use crate::contents::holds;
+use std::fs;
+use std::test::Fail;
+use vol_disk::{DirVol, Failed, Vol};
+
+const FOLDER: &str = "dir_vol_test";
+
+/// Changes a file of the volume, and brings it to the disk.
+fn change(vol: &mut DirVol) -> Result<(), Failed> {
+    vol.write_at(0, 0, b"hello disk")?;
+    vol.write_at(0, 0, b"J")?;
+    vol.cut(0, 5)?;
+    vol.sync(0)
+}
+
+/// More files than are kept open.
+fn fill(vol: &mut DirVol) -> Result<(), Failed> {
+    for file in 2..40 {
+        vol.write_at(file, 0, b"block")?;
+    }
+    vol.sync(39)
+}
+
+/// Whether a file of a place has these bytes, by another way than a volume.
+fn lies_in(rt: &HostRuntime, path: &str, wanted: &[u8]) -> Result<bool, Fail> {
+    let bytes = fs::read(rt, path)?;
+    Ok(bytes.as_slice() == wanted)
+}
+
+/// Whether reads and cuts past an end fail, and are counted.
+fn fails_past_the_end(vol: &mut DirVol) -> bool {
+    let read = vol.read_at(0, 5, &mut [0]);
+    let cut = vol.cut(0, 6);
+    read.is_err() && cut.is_err() && vol.faults() == 2
+}
+
+/// Whether each call fails of a volume whose folder can't be made.
+fn fails_without_folder(vol: &mut DirVol) -> bool {
+    let len = vol.len(0);
+    let synced = vol.sync(0);
+    len.is_err() && synced.is_err() && vol.faults() == 2
+}
+
+/// A volume over a folder keeps what was written, under the names that it states.
+#[test]
+fn folder_keeps_what_was_written(rt: HostRuntime) -> Result<(), Fail> {
+    let _ = fs::remove_dir_all(&rt, FOLDER);
+    let mut vol = DirVol::open(&rt, FOLDER, 7);
+    change(&mut vol)?;
+    fill(&mut vol)?;
+    let mut vol = DirVol::open(&rt, FOLDER, 7);
+    for (file, bytes) in [
+        (0, b"Jello".as_slice()),
+        (1, b"".as_slice()),
+        (20, b"block".as_slice()),
+    ] {
+        assert!(rt; holds(rt.alloc(), &mut vol, file, bytes)?);
+    }
+    assert!(rt; fails_past_the_end(&mut vol));
+    assert!(rt; lies_in(&rt, "dir_vol_test/place-07/f00000", b"Jello")?);
+    assert!(rt; fails_without_folder(&mut DirVol::open(&rt, "dir_vol_test/place-07/f00000", 7)));
+    fs::remove_dir_all(&rt, FOLDER)?;
+    Ok(())
+}

@@ -1,0 +1,14 @@
+//! Tests of the volumes and of what lies on them, of what no clause says: which images a volume in memory picks, that calls succeed where memory
+//! suffices, and what a folder of the system holds. There is one file for each thing that is tested, and nothing else.
+#![tactic(auto)]
+
+#[cfg(test)]
+mod append_calls;
+#[cfg(test)]
+mod contents;
+#[cfg(test)]
+mod folder;
+#[cfg(test)]
+mod stopped_appends;
+#[cfg(test)]
+mod volumes;
