@@ -7,7 +7,7 @@ ghost use Rattle.api_calls.specs.Names.{name_of};
 ghost use Rattle.api_replies.specs.Printed.{InfoIsText, IsText};
 ghost use Rattle.api_replies.specs.Replies.{reply_text};
 ghost use Rattle.api_replies.specs.declared.reply.ApiReply.TheVariants as replies;
-ghost use Rattle.js_api.specs.Outputs.{answer_of, api_reply, finished, informed, purged, read, text_for};
+ghost use Rattle.js_api.specs.Outputs.{ack_text, answer_of, api_reply, api_text, finished, informed, purged, read, text_for};
 ghost use Rattle.js_model.specs.Proper.{reply_of};
 ghost use Rattle.place_engine.specs.Shown.{IsShown};
 ghost use Rattle.desk_answers.specs.InfoCalls.{answer_by, call_of, done_call_of, success_of};
@@ -229,10 +229,31 @@ fn told_text(alloc: Global, told: &Option<ApiReply>) -> Result<Option<Blob>, NoM
 /// The text of the answer to a call of the API, if there is one.
 fn api_text(alloc: Global, what: &What, reply: &Reply) -> Result<Option<Blob>, NoMemory>
     requires shown { IsShown reply.now }
-    ensures value { IfOk result (λ text. text ≡ option_map reply_text (api_reply what.now reply.now)) }
+    ensures value { IfOk result (λ text. text ≡ api_text what.now reply.now) }
 {
     let told = api_reply(alloc, what, reply)?;
     told_text(alloc, &told)
+}
+
+/// The text of the answer to an acknowledgement: the empty one if it was taken.
+fn ack_text(reply: &Reply) -> Option<Blob>
+    ensures value { result ≡ ack_text reply.now }
+{
+    match reply {
+        Reply::Confirmed => Some(Blob::empty()),
+        Reply::Info(_)
+        | Reply::Done
+        | Reply::Published(_)
+        | Reply::Duplicate(_)
+        | Reply::Purged(_)
+        | Reply::ConsumerInfo(_)
+        | Reply::Message(_)
+        | Reply::Names { .. }
+        | Reply::Infos { .. }
+        | Reply::Silent
+        | Reply::Nobody
+        | Reply::Refused(_) => None,
+    }
 }
 
 /// The text of the answer of the stream with this name. `None` if there is nothing to answer.
@@ -247,10 +268,23 @@ fn text_for(
     requires shown { IsShown reply.now }
     ensures value { IfOk result (λ text. text ≡ text_for stream.now what.now reply.now) }
 {
-    if let What::Publish(_) = what {
-        return publish_text(alloc, stream, reply);
+    match what {
+        What::Publish(_) => publish_text(alloc, stream, reply),
+        What::Ack { .. } => Ok(ack_text(reply)),
+        What::Pull { .. } | What::Tick => Ok(None),
+        What::Make { .. }
+        | What::Change { .. }
+        | What::Drop { .. }
+        | What::Purge { .. }
+        | What::Delete { .. }
+        | What::MakeConsumer { .. }
+        | What::DropConsumer { .. }
+        | What::StreamInfo { .. }
+        | What::MessageGet { .. }
+        | What::ConsumerInfo { .. }
+        | What::ConsumerNames { .. }
+        | What::ConsumerList { .. } => api_text(alloc, what, reply),
     }
-    api_text(alloc, what, reply)
 }
 
 /// The subject for the answer, if one is given.

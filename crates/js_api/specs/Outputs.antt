@@ -114,10 +114,44 @@ api_reply (whats.ConsumerInfo to name) reply = None
 api_reply (whats.ConsumerNames to offset) reply = None
 api_reply (whats.ConsumerList to offset) reply = None
 
--- the text of the answer of the stream with this name
+-- the text of such an answer
+abbrev pub api_text : What → Reply → Option Bytes
+api_text what reply = option_map reply_text (api_reply what reply)
+
+-- an acknowledgement that was taken is answered by the empty text
+abbrev pub ack_text : Reply → Option Bytes
+ack_text (told.Info info) = None
+ack_text told.Done = None
+ack_text (told.Published seq) = None
+ack_text (told.Duplicate seq) = None
+ack_text (told.Purged purged) = None
+ack_text (told.ConsumerInfo info) = None
+ack_text (told.Message message) = None
+ack_text (told.Names total list) = None
+ack_text (told.Infos total list) = None
+ack_text told.Confirmed = Some []
+ack_text told.Silent = None
+ack_text told.Nobody = None
+ack_text (told.Refused e) = None
+
+-- the text of the answer of the stream with this name, if there is one
 abbrev pub text_for : Bytes → What → Reply → Option Bytes
+text_for stream (whats.Make to config) reply = api_text (whats.Make to config) reply
+text_for stream (whats.Change to config) reply = api_text (whats.Change to config) reply
+text_for stream (whats.Drop to) reply = api_text (whats.Drop to) reply
 text_for stream (whats.Publish publish) reply = publish_text stream reply
-text_for stream what reply = option_map reply_text (api_reply what reply)
+text_for stream (whats.Purge to filter below keep) reply = api_text (whats.Purge to filter below keep) reply
+text_for stream (whats.Delete to seq) reply = api_text (whats.Delete to seq) reply
+text_for stream (whats.MakeConsumer to name config update) reply = api_text (whats.MakeConsumer to name config update) reply
+text_for stream (whats.DropConsumer to name) reply = api_text (whats.DropConsumer to name) reply
+text_for stream (whats.Ack to ack) reply = ack_text reply
+text_for stream (whats.Pull to consumer ask) reply = None
+text_for stream whats.Tick reply = None
+text_for stream (whats.StreamInfo to) reply = api_text (whats.StreamInfo to) reply
+text_for stream (whats.MessageGet to by) reply = api_text (whats.MessageGet to by) reply
+text_for stream (whats.ConsumerInfo to name) reply = api_text (whats.ConsumerInfo to name) reply
+text_for stream (whats.ConsumerNames to offset) reply = api_text (whats.ConsumerNames to offset) reply
+text_for stream (whats.ConsumerList to offset) reply = api_text (whats.ConsumerList to offset) reply
 
 -- the answer, if there is a reply subject
 abbrev pub answer_of : Bytes → What → Reply → List Out
