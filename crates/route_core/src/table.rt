@@ -270,6 +270,7 @@ impl Table {
 }
 
 /// The subscriptions of a queue group, or all if none is named.
+#[derive(Clone, Copy)]
 struct Members<'a> {
     subscriptions: &'a Numbered,
     group: Option<&'a [u8]>,
