@@ -1,5 +1,5 @@
 -- What the search of a tree finds: the numbers under the tokens that match the subject.
-use Rattle.std.proofs.Common.{◌≡◌, ◌⊎◌, inl, inr, ℕ, ◌==◌, ◌&&◌, ◌||◌, Bool, true, false, List, [], ◌∷◌, ◌++◌, Option, Some, None, refl, sym, ap, ◌∙◌, eq-eqb}
+use Rattle.std.proofs.Common.{◌≡◌, ◌⊎◌, inl, inr, ℕ, ◌==◌, ◌&&◌, ◌||◌, Bool, true, false, List, [], ◌∷◌, ◌++◌, Option, Some, None, refl, sym, ap, ◌∙◌, eq-eqb, append_assoc, append-nil}
 use Rattle.std.specs.List.{list_any}
 use Rattle.std.specs.Ordering.{nat_cmp}
 use Rattle.std.specs.BTreeMap.{get}
@@ -9,11 +9,12 @@ use Rattle.std.proofs.lemmas.List.Folds.{list_any-append}
 use Rattle.js_base.specs.Bytes.{Bytes, is_empty, same, has}
 use Rattle.js_base.specs.Subjects.{tokens, matches, star, rest}
 use Rattle.js_base.proofs.Meeting.{same_is, same_self}
+use Rattle.subject_match.specs.Tokens.{tokens_left}
 use Rattle.route_index.specs.declared.tree.Tree.{Tree}
 use Rattle.route_index.specs.declared.seek.Seek.TheVariants.{Matching}
 use Rattle.route_index.specs.Ids.{Patterns, is_in, subs_of}
 use Rattle.route_index.specs.Subs.{matching_ids}
-use Rattle.route_index.specs.NodeIds.{NodeIds, numbers_in}
+use Rattle.route_index.specs.NodeIds.{NodeIds, numbers_in, ids_at}
 use Rattle.route_index.specs.Tree.{step, goes, ids_of, is_of_node, found_at, same_tokens, has_tokens, Shows}
 use Rattle.route_index.proofs.Finding.{either, or_left, or_right}
 use Rattle.route_index.proofs.Numbers.{has_number}
@@ -109,6 +110,60 @@ module _ (tree : Tree) where
 
       by_token : has exact id ≡ true → has (ends ++ (stars ++ exact)) id ≡ true
       by_token e = in_either ends (stars ++ exact) id ∙ or_right (has ends id) _ (in_either stars exact id ∙ or_right (has stars id) _ e)
+
+-- ---- the steps of a search
+
+-- from no node
+pub found_nowhere : (tree : Tree) (from : Option ℕ) (parts : List Bytes) (old : List ℕ) → from ≡ None → old ≡ old ++ found_at tree from parts
+found_nowhere tree from parts old none = sym (ap (λ o. old ++ found_at tree o parts) none ∙ ap (λ xs. old ++ xs) (found_none tree parts) ∙ append-nil old)
+
+pub any_nowhere : (tree : Tree) (from : Option ℕ) (parts : List Bytes) (test : ℕ → Bool) → from ≡ None → false ≡ list_any test (found_at tree from parts)
+any_nowhere tree from parts test none = sym (ap (λ o. list_any test (found_at tree o parts)) none ∙ ap (list_any test) (found_none tree parts))
+
+-- at the end of the subject
+pub found_here : (tree : Tree) (from : Option ℕ) (left : Option Bytes) (at : ℕ) → from ≡ Some at → left ≡ None → ids_at tree.ids at ≡ found_at tree from (tokens_left left)
+found_here tree from left at here none = sym (ap (λ o. found_at tree o (tokens_left left)) here ∙ ap (λ l. found_at tree (Some at) (tokens_left l)) none)
+
+-- at a token of it: by a last `>`, by `*` and by the token
+module _ (tree : Tree) (from : Option ℕ) (left : Option Bytes) (at : ℕ) (text token : Bytes) (more : List Bytes) (here : from ≡ Some at) (some : left ≡ Some text) (split : tokens text ≡ token ∷ more) where
+  abbrev ends : List ℕ
+  ends = found_at tree (step tree.branches (Some at) rest) []
+  abbrev stars : List ℕ
+  stars = found_at tree (step tree.branches (Some at) star) more
+  abbrev exact : List ℕ
+  exact = found_at tree (step tree.branches (Some at) token) more
+
+  found_split : found_at tree from (tokens_left left) ≡ ends ++ (stars ++ exact)
+  found_split = ap (λ o. found_at tree o (tokens_left left)) here ∙ ap (λ l. found_at tree (Some at) (tokens_left l)) some ∙ ap (found_at tree (Some at)) split
+
+  pub found_by_all : (by_rest by_star by_token : Option ℕ) → by_rest ≡ step tree.branches (Some at) rest → by_star ≡ step tree.branches (Some at) star → by_token ≡ step tree.branches (Some at) token
+      → (old first second new : List ℕ) → first ≡ old ++ found_at tree by_rest [] → second ≡ first ++ found_at tree by_star more → new ≡ second ++ found_at tree by_token more → new ≡ old ++ found_at tree from (tokens_left left)
+  found_by_all by_rest by_star by_token e f g old first second new a b c =
+      c ∙ ap (λ o. second ++ found_at tree o more) g
+      ∙ ap (λ xs. xs ++ exact) (b ∙ ap (λ o. first ++ found_at tree o more) f ∙ ap (λ xs. xs ++ stars) (a ∙ ap (λ o. old ++ found_at tree o []) e))
+      ∙ append_assoc (old ++ ends) stars exact ∙ append_assoc old ends (stars ++ exact) ∙ ap (λ xs. old ++ xs) (sym found_split)
+
+  module _ (test : ℕ → Bool) where
+    any_split : (list_any test ends || (list_any test stars || list_any test exact)) ≡ list_any test (found_at tree from (tokens_left left))
+    any_split =
+        sym (ap (list_any test) found_split ∙ list_any-append test ends (stars ++ exact) ∙ ap (λ b. list_any test ends || b) (list_any-append test stars exact))
+
+    pub any_by_rest : (by_rest : Option ℕ) → by_rest ≡ step tree.branches (Some at) rest → true ≡ list_any test (found_at tree by_rest []) → true ≡ list_any test (found_at tree from (tokens_left left))
+    any_by_rest by_rest e h = ap (λ b. b || (list_any test stars || list_any test exact)) (h ∙ ap (λ o. list_any test (found_at tree o [])) e) ∙ any_split
+
+    module _ (by_rest by_star : Option ℕ) (e : by_rest ≡ step tree.branches (Some at) rest) (f : by_star ≡ step tree.branches (Some at) star) (no_rest : false ≡ list_any test (found_at tree by_rest [])) where
+      no_end : false ≡ list_any test ends
+      no_end = no_rest ∙ ap (λ o. list_any test (found_at tree o [])) e
+
+      pub any_by_star : true ≡ list_any test (found_at tree by_star more) → true ≡ list_any test (found_at tree from (tokens_left left))
+      any_by_star h =
+          ap (λ b. b || list_any test exact) (h ∙ ap (λ o. list_any test (found_at tree o more)) f) ∙ ap (λ b. b || (list_any test stars || list_any test exact)) no_end ∙ any_split
+
+      pub any_by_token : (by_token : Option ℕ) (result : Bool) → by_token ≡ step tree.branches (Some at) token → false ≡ list_any test (found_at tree by_star more) → result ≡ list_any test (found_at tree by_token more)
+          → result ≡ list_any test (found_at tree from (tokens_left left))
+      any_by_token by_token result g no_star h =
+          h ∙ ap (λ o. list_any test (found_at tree o more)) g ∙ ap (λ b. b || list_any test exact) (no_star ∙ ap (λ o. list_any test (found_at tree o more)) f)
+          ∙ ap (λ b. b || (list_any test stars || list_any test exact)) no_end ∙ any_split
 
 -- ---- the whole
 

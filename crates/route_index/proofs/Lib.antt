@@ -16,5 +16,6 @@ pub mod Above
 pub mod AtNodes
 pub mod Ways
 pub mod Trees
+pub mod Changes
 pub mod Finds
 pub mod Showing

@@ -1,19 +1,20 @@
 -- What a change under one text means under all, and of one owner means for all.
 use Rattle.std.proofs.Common.{◌≡◌, ℕ, ◌+◌, ◌==◌, ◌&&◌, Bool, true, false, cond, List, Option, Some, None, refl, sym, ap, ◌∙◌, arith}
-use Rattle.std.specs.Prelude.{IfNone}
+use Rattle.std.specs.Prelude.{IfNone, IfSome}
 use Rattle.std.specs.Ordering.{nat_cmp, is_eq}
 use Rattle.std.specs.Cmp.{eq_by_cmp_equiv}
 use Rattle.std.specs.Cmp.Lexicographic.{slice_cmp, nat_list_cmp_total, nat_list_eq_equiv}
 use Rattle.std.specs.Map.{lookup, IsKeyTest, AreApart, KeepsOthers}
 use Rattle.std.specs.BTreeMap.{get, is_at, UpdatesBy}
-use Rattle.std.proofs.lemmas.Bool.{eqb-true}
+use Rattle.std.proofs.lemmas.Bool.{eqb-true, and_parts}
+use Rattle.std.proofs.lemmas.List.{nil_from_length}
 use Rattle.std.proofs.lemmas.Map.Text.{is_eq-slice_cmp}
 use Rattle.js_base.specs.Bytes.{Bytes, same}
 use Rattle.js_base.proofs.Meeting.{same_is}
 use Rattle.route_index.proofs.Numbers.{at_number}
 use Rattle.route_index.specs.declared.identifiers.Identifiers.{Identifiers}
 use Rattle.route_index.specs.declared.names.Names.{Names}
-use Rattle.route_index.specs.Names.{number_in, Sets, PutsIn, RemovesIn, RemovesSome, KeepsIn, number_or_none, count_or_zero, number_of, count_of, AddsName, DropsName, DropsSome, KeepsNames}
+use Rattle.route_index.specs.Names.{number_in, count_in, Sets, PutsIn, RemovesIn, RemovesSome, KeepsIn, number_or_none, count_or_zero, number_of, count_of, AddsName, DropsName, DropsSome, KeepsNames, Cuts}
 
 -- ---- under one text
 
@@ -88,3 +89,34 @@ module _ (old new : Names) (here : ℕ) (was own : Identifiers) (had : Some was 
 pub if_none : {X P Q : Type 0} (o : Option X) → (P → Q) → IfNone o P → IfNone o Q
 if_none None f h = f h
 if_none (Some x) f h = h
+
+-- ---- no texts
+
+none_in : (own : Identifiers) (text : Bytes) → count_in own ≡ 0 → number_in own text ≡ None
+none_in own text h = ap (lookup (λ key. is_eq (slice_cmp nat_cmp text key.items))) (nil_from_length own.numbers.entries h)
+
+pub none_of : (names : Names) (n : ℕ) (text : Bytes) → count_of names n ≡ 0 → number_of names n text ≡ None
+none_of names n text h = go (get nat_cmp names.owners n) h
+  where
+    go : (o : Option Identifiers) → count_or_zero o ≡ 0 → number_or_none o text ≡ None
+    go None e = refl
+    go (Some own) e = none_in own text e
+
+-- ---- a text that has no number any more
+
+cuts_none : (old new : Names) (here : ℕ) (text : Bytes) → number_of old here text ≡ None → KeepsNames old new → Cuts old new here text
+cuts_none old new here text none keeps = record { at = λ n other. keeps.at n other ∙ go n other (here == n && same text other) refl }
+  where
+    go : (n : ℕ) (other : Bytes) (b : Bool) → (here == n && same text other) ≡ b → number_of old n other ≡ cond b None (number_of old n other)
+    go n other true e =
+        let both = and_parts (here == n) (same text other) e in
+        sym (ap (λ m. number_of old m other) (eqb-true here n both.0)) ∙ ap (number_of old here) (sym (same_is text other both.1)) ∙ none
+    go n other false e = refl
+
+pub cuts_by : (old new : Names) (here : ℕ) (text : Bytes) (was : Option ℕ) → was ≡ number_of old here text → IfSome was (λ _. DropsName old new here text) → IfNone was (KeepsNames old new)
+    → Cuts old new here text
+cuts_by old new here text (Some number) e some none = record { at = some.at }
+cuts_by old new here text None e some none = cuts_none old new here text (sym e) none
+
+pub cuts_kept : (old mid new : Names) (here : ℕ) (text : Bytes) → Cuts old mid here text → KeepsNames mid new → Cuts old new here text
+cuts_kept old mid new here text cuts keeps = record { at = λ n other. keeps.at n other ∙ cuts.at n other }

@@ -290,14 +290,14 @@ way_begins tree text is = record { grows = grows_self tree is; done = []; parts 
 pub reached_by : (old new : Tree) (text : Bytes) (rest : Option Bytes) (node : ℕ) → IsOnWay old new text rest node → IsReached new.branches node
 reached_by old new text rest node on = (on.done, on.there)
 
-pub way_goes_on : (old mid new : Tree) (text rest token : Bytes) (more : Option Bytes) (node next : ℕ) → IsOnWay old mid text (Some rest) node → tokens rest ≡ token ∷ tokens_left more → GrowsTree mid new
-    → step new.branches (Some node) token ≡ Some next → IsOnWay old new text more next
-way_goes_on old mid new text rest token more node next on split grows leads = record {
+pub way_goes_on : (old mid new : Tree) (text : Bytes) (left : Option Bytes) (rest token : Bytes) (more : Option Bytes) (node next : ℕ) → left ≡ Some rest → IsOnWay old mid text left node
+    → tokens rest ≡ token ∷ tokens_left more → GrowsTree mid new → step new.branches (Some node) token ≡ Some next → IsOnWay old new text more next
+way_goes_on old mid new text left rest token more node next some on split grows leads = record {
   grows = grows_both old mid new on.grows grows;
   done = on.done ++ token ∷ [];
-  parts = on.parts ∙ ap (λ ts. on.done ++ ts) split ∙ sym (append_assoc on.done (token ∷ []) (tokens_left more));
+  parts = on.parts ∙ ap (λ ts. on.done ++ ts) (ap tokens_left some ∙ split) ∙ sym (append_assoc on.done (token ∷ []) (tokens_left more));
   there = goes_last new.branches (Some 0) on.done token ∙ ap (λ o. step new.branches o token) (grows.ways on.done node on.there) ∙ leads;
 }
 
-pub way_ends : (old new : Tree) (text : Bytes) (node : ℕ) → IsOnWay old new text None node → goes new.branches (Some 0) (tokens text) ≡ Some node
-way_ends old new text node on = ap (goes new.branches (Some 0)) (on.parts ∙ append-nil on.done) ∙ on.there
+pub way_ends : (old new : Tree) (text : Bytes) (left : Option Bytes) (node : ℕ) → left ≡ None → IsOnWay old new text left node → goes new.branches (Some 0) (tokens text) ≡ Some node
+way_ends old new text left node none on = ap (goes new.branches (Some 0)) (on.parts ∙ ap (λ l. on.done ++ tokens_left l) none ∙ append-nil on.done) ∙ on.there

@@ -2,7 +2,9 @@
 use Rattle.std.proofs.Common.{◌≡◌, ◌⊎◌, inl, inr, ℕ, ◌+◌, ◌<◌, ◌≤◌, ◌==◌, ◌&&◌, ◌||◌, not, Bool, true, false, cond, List, [], ◌∷◌, ◌++◌, Option, Some, None, refl, sym, ap, subst, ◌∙◌, arith, eq-eqb}
 use Rattle.std.proofs.lemmas.Bool.{true≢false, eqb-true, and_parts}
 use Rattle.js_base.specs.Bytes.{Bytes, same}
+use Rattle.js_base.specs.Subjects.{tokens}
 use Rattle.js_base.proofs.Meeting.{same_is, same_self}
+use Rattle.subject_match.specs.Tokens.{tokens_left}
 use Rattle.route_index.specs.declared.names.Names.{Names}
 use Rattle.route_index.specs.declared.tree.Tree.{Tree}
 use Rattle.route_index.specs.Names.{number_of, AddsName, Cuts}
@@ -26,6 +28,12 @@ pub goes_last : (branches : Names) (node : Option ℕ) (parts : List Bytes) (tok
 goes_last branches node [] token = refl
 goes_last branches node (first ∷ more) token = goes_last branches (step branches node first) more token
 
+-- what is left of a text after its first token
+pub goes_split : (branches : Names) (node : Option ℕ) (left : Option Bytes) (text token : Bytes) (more : List Bytes) (next : Option ℕ) → left ≡ Some text → tokens text ≡ token ∷ more → next ≡ step branches node token
+    → goes branches next more ≡ goes branches node (tokens_left left)
+goes_split branches node left text token more next some split leads =
+    ap (λ o. goes branches o more) leads ∙ sym (ap (λ l. goes branches node (tokens_left l)) some ∙ ap (goes branches node) split)
+
 pub tokens_are : (a b : List Bytes) → same_tokens a b ≡ true → a ≡ b
 tokens_are [] [] h = refl
 tokens_are [] (t ∷ b) h = absurd (true≢false (sym h))
@@ -38,11 +46,17 @@ pub tokens_self : (a : List Bytes) → same_tokens a a ≡ true
 tokens_self [] = refl
 tokens_self (t ∷ a) = ap (λ b. b && same_tokens a a) (same_self t) ∙ tokens_self a
 
+-- ---- a new text
+
+pub adds_leads : (old new : Names) (here : ℕ) (token : Bytes) (number : ℕ) → AddsName old new here token number → number_of new here token ≡ Some number
+adds_leads old new here token number adds =
+    adds.at here token ∙ ap (λ b. cond b (Some number) (number_of old here token)) (ap (λ b. b && same token token) (eq-eqb here here refl) ∙ same_self token)
+
 -- ---- from a node at which nothing is
 
 module _ (branches : Names) (ids : NodeIds) (node : ℕ) (bare : IsBareNode branches ids node) where
   -- .. no number is found on
-  bare_leads : (ids' : NodeIds) (parts : List Bytes) (id : ℕ) → is_at_node ids' node id ≡ false → is_of_node ids' (goes branches (Some node) parts) id ≡ false
+  pub bare_leads : (ids' : NodeIds) (parts : List Bytes) (id : ℕ) → is_at_node ids' node id ≡ false → is_of_node ids' (goes branches (Some node) parts) id ≡ false
   bare_leads ids' [] id h = h
   bare_leads ids' (token ∷ more) id h = ap (λ o. is_of_node ids' (goes branches o more) id) (bare.no_way token) ∙ ap (λ o. is_of_node ids' o id) (goes_none branches more)
 

@@ -2,7 +2,7 @@
 use Rattle.std.specs.Prelude.{◌≡◌, ℕ, ◌+◌, ◌==◌, ◌&&◌, Option, Some, None, if◌then◌else◌}
 use Rattle.std.specs.Ordering.{nat_cmp}
 use Rattle.std.specs.Cmp.Lexicographic.{slice_cmp}
-use Rattle.std.specs.BTreeMap.{get, get_by, btree_map_len}
+use Rattle.std.specs.BTreeMap.{get, get_by, btree_map_len, IsEmpty}
 use Rattle.js_base.specs.Bytes.{Bytes, same}
 use Rattle.route_index.specs.declared.identifiers.Identifiers.{Identifiers}
 use Rattle.route_index.specs.declared.names.Names.{Names}
@@ -56,6 +56,10 @@ number_of names n text = number_or_none (get nat_cmp names.owners n) text
 -- how many texts an owner has
 abbrev pub count_of : Names → ℕ → ℕ
 count_of names n = count_or_zero (get nat_cmp names.owners n)
+
+-- no owner has a text
+abbrev pub HasNoTexts : Names → Type 0
+HasNoTexts names = IsEmpty names.owners
 
 pub record KeepsNames (old new : Names) : Type 0 where
   pub at : (n : ℕ) (text : Bytes) → number_of new n text ≡ number_of old n text

@@ -2,8 +2,8 @@
 
 ghost use Rattle.std.specs.Prelude.{◌≡◌, ◌+◌, None, Some, IsSome, OnOk, OnErr, IfSome, IfNone};
 ghost use Rattle.std.specs.Ordering.{nat_cmp};
-ghost use Rattle.std.specs.BTreeMap.{IsEmpty, get};
-ghost use Rattle.route_index.specs.Names.{number_of, count_of, KeepsNames, AddsName, DropsName, DropsSome, Cuts};
+ghost use Rattle.std.specs.BTreeMap.{get};
+ghost use Rattle.route_index.specs.Names.{number_of, count_of, HasNoTexts, KeepsNames, AddsName, DropsName, DropsSome, Cuts};
 
 use crate::identifiers::Identifiers;
 use js_base::NoMemory;
@@ -19,7 +19,7 @@ pub struct Names {
 impl Names {
     /// No owner has a text. It takes no memory.
     pub fn new(alloc: Global) -> Names
-        ensures empty { IsEmpty result.owners }
+        ensures empty { HasNoTexts result }
     {
         Names {
             owners: BTreeMap::new(alloc),
@@ -122,13 +122,20 @@ impl Names {
         self.owners.remove(&owner);
     }
 
+    /// Drops the room of an owner, if it has no texts.
+    fn forget_if_empty(&mut self, owner: u64)
+        ensures kept { KeepsNames self.old self.new }
+    {
+        if self.count_of(owner) == 0 {
+            self.forget(owner);
+        }
+    }
+
     /// Takes a text of the owner out, and its room with the last one. It takes no memory.
     pub(crate) fn cut(&mut self, owner: u64, text: &[u8])
         ensures cut { Cuts self.old self.new owner text.now }
     {
         self.remove(owner, text);
-        if self.count_of(owner) == 0 {
-            self.forget(owner);
-        }
+        self.forget_if_empty(owner);
     }
 }

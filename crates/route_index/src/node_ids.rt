@@ -94,12 +94,7 @@ pub(crate) fn push_at(ids: &NodeIds, node: u64, found: &mut Vec<u64>) -> Result<
 fn any_in_set<T: Test>(set: &BTreeSet<u64>, test: &T) -> bool
     ensures value { result ≡ list_any (T.passes test.now) set.now.keys }
 {
-    for id in set {
-        if test.passes(*id) {
-            return true;
-        }
-    }
-    false
+    set.iter().any(|id| test.passes(*id))
 }
 
 /// Whether a number at a node passes the test.

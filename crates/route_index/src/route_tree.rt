@@ -60,12 +60,12 @@ impl RouteTree {
     {
         let Sub { id, pattern } = sub;
         let text = Pattern::of(self.alloc, pattern.as_slice())?;
-        self.tree.add(self.alloc, pattern.as_slice(), id)?;
+        self.tree.add_id(self.alloc, pattern.as_slice(), id)?;
         match self.patterns.insert(id, text) {
             Ok(_) => Ok(()),
             Err(refused) => {
                 let (id, text) = refused.value;
-                self.tree.remove(text.as_slice(), id);
+                self.tree.remove_id(text.as_slice(), id);
                 Err(NoMemory)
             }
         }
@@ -78,7 +78,7 @@ impl RouteTree {
     {
         match self.patterns.remove(&id) {
             Some(text) => {
-                self.tree.remove(text.as_slice(), id);
+                self.tree.remove_id(text.as_slice(), id);
                 true
             }
             None => false,

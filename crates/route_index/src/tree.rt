@@ -22,6 +22,9 @@ use std::collections::BTreeMap;
 /// The node at which the search begins.
 pub(crate) const ROOT: u64 = 0;
 
+/// A number that no node gets.
+const END: u64 = u64::MAX;
+
 /// Nodes and branches. A node is a number.
 #[derive(Drop)]
 pub(crate) struct Tree {
@@ -82,7 +85,7 @@ impl Tree {
         ensures node { IfOk result (λ next. step self.new.branches (Some node) token.now ≡ Some next) }
     {
         let next = self.next;
-        if next == u64::MAX {
+        if next == END {
             return Err(NoMemory);
         }
         self.branches.add(alloc, node, token, next)?;
@@ -171,7 +174,7 @@ impl Tree {
     }
 
     /// Puts a number under the tokens of a text. An `Err` leaves the numbers as they were.
-    pub(crate) fn add(&mut self, alloc: Global, text: &[u8], id: u64) -> Result<(), NoMemory>
+    pub(crate) fn add_id(&mut self, alloc: Global, text: &[u8], id: u64) -> Result<(), NoMemory>
         requires tree { IsTree self.old }
         ensures ok { OnOk result (AddsToTree self.old self.new (tokens text.now) id) }
         ensures err { OnErr result (KeepsTree self.old self.new) }
@@ -196,7 +199,7 @@ impl Tree {
     }
 
     /// Takes a number from under the tokens of a text, and the branches that lead to nothing then. It takes no memory.
-    pub(crate) fn remove(&mut self, text: &[u8], id: u64)
+    pub(crate) fn remove_id(&mut self, text: &[u8], id: u64)
         requires tree { IsTree self.old }
         ensures dropped { DropsFromTree self.old self.new (tokens text.now) id }
     {
@@ -236,8 +239,12 @@ impl Tree {
             return any_at(&self.ids, node, test);
         };
         let (token, more) = split_token(text);
-        self.any(self.step(Some(node), b">"), None, test)
-            || self.any(self.step(Some(node), b"*"), more, test)
-            || self.any(self.step(Some(node), token), more, test)
+        if self.any(self.step(Some(node), b">"), None, test) {
+            return true;
+        }
+        if self.any(self.step(Some(node), b"*"), more, test) {
+            return true;
+        }
+        self.any(self.step(Some(node), token), more, test)
     }
 }

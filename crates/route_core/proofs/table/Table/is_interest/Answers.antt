@@ -8,7 +8,7 @@ use Rattle.route_core.proofs.table.Table.is_interest.Goals as goal
 pub returns : goal.returns
 returns c =
     let in' = c.self.inside in
-    let group = option_copied c.args.group.entry in
+    let group = option_copied c.args.group in
     record {
       value = c.any_matching.ensures.value ∙ any_member group in'.subscriptions.entries c.args.subject.now in'.index c.self.invariant.ordered c.self.invariant.patterns
           ∙ ap (list_any (λ sub. is_match c.args.subject.now sub && is_in_group group sub)) c.self.view_is;

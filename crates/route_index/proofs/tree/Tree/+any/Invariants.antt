@@ -3,4 +3,4 @@ use Rattle.subject_match.specs.Tokens.{size_left}
 use Rattle.route_index.proofs.tree.Tree.+any.Given as goal
 
 abbrev pub decreases-any : goal.decreases-any
-decreases-any l = size_left (option_copied l.left)
+decreases-any g l = size_left (option_copied l.left)
