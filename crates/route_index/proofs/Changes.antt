@@ -6,7 +6,7 @@ use Rattle.std.proofs.lemmas.Bool.{eqb-true}
 use Rattle.js_base.specs.Bytes.{Bytes}
 use Rattle.route_index.specs.declared.names.Names.{Names}
 use Rattle.route_index.specs.declared.tree.Tree.{Tree}
-use Rattle.route_index.specs.Names.{number_of, count_of}
+use Rattle.route_index.specs.Names.{count_of}
 use Rattle.route_index.specs.NodeIds.{NodeIds, is_at_node}
 use Rattle.route_index.specs.Tree.{goes, is_of_node, IsBareNode, same_tokens, KeepsTree, AddsToTree, DropsFromTree}
 use Rattle.route_index.proofs.Naming.{none_of}

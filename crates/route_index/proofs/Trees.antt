@@ -4,7 +4,7 @@ use Rattle.std.specs.Ordering.{nat_cmp}
 use Rattle.std.specs.Map.{lookup}
 use Rattle.std.specs.BTreeMap.{is_at, IsEmpty}
 use Rattle.route_index.specs.Ids.{is_in}
-use Rattle.std.proofs.lemmas.Bool.{true≢false, eqb-true, and_parts}
+use Rattle.std.proofs.lemmas.Bool.{true≢false, eqb-true}
 use Rattle.js_base.specs.Bytes.{Bytes, same}
 use Rattle.js_base.specs.Subjects.{tokens}
 use Rattle.subject_match.specs.Tokens.{tokens_left}
@@ -13,7 +13,7 @@ use Rattle.route_index.specs.declared.tree.Tree.{Tree}
 use Rattle.route_index.specs.Names.{number_of, number_or_none, AddsName, Cuts, KeepsNames}
 use Rattle.route_index.specs.NodeIds.{NodeIds, is_at_node, AddsAt, DropsAt, KeepsNodes}
 use Rattle.route_index.specs.Tree.{step, goes, is_of_node, is_under_tokens, IsReached, IsBareNode, IsTree, HoldsNothing, same_tokens, KeepsTree, GrowsTree, AddsToTree, DropsFromTree}
-use Rattle.route_index.proofs.Numbers.{or_false, and_true}
+use Rattle.route_index.proofs.Numbers.{or_false}
 use Rattle.route_index.proofs.Ways.{some_is, none_some, goes_none, goes_last, tokens_are, tokens_self, bare_leads, Turns, same_ids, ways_kept, ways_left, leads}
 
 -- ---- the root alone
@@ -63,8 +63,8 @@ grows_both old mid new first second = record { keeps = keeps_both old mid new fi
 
 -- ---- the same branches
 
-goes_kept : (old new : Names) → KeepsNames old new → (node : Option ℕ) (parts : List Bytes) → goes new node parts ≡ goes old node parts
-goes_kept old new keeps node [] = refl
+goes_kept : (old new : Names) → KeepsNames old new → (from : Option ℕ) (parts : List Bytes) → goes new from parts ≡ goes old from parts
+goes_kept old new keeps from [] = refl
 goes_kept old new keeps None (token ∷ more) = goes_kept old new keeps None more
 goes_kept old new keeps (Some n) (token ∷ more) = ap (λ o. goes new o more) (keeps.at n token) ∙ goes_kept old new keeps (number_of old n token) more
 

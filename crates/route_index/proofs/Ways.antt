@@ -1,16 +1,14 @@
 -- Where tokens lead in a tree, before and after a branch is made or cut.
-use Rattle.std.proofs.Common.{◌≡◌, ◌⊎◌, inl, inr, ℕ, ◌+◌, ◌<◌, ◌≤◌, ◌==◌, ◌&&◌, ◌||◌, not, Bool, true, false, cond, List, [], ◌∷◌, ◌++◌, Option, Some, None, refl, sym, ap, subst, ◌∙◌, arith, eq-eqb}
+use Rattle.std.proofs.Common.{◌≡◌, ◌⊎◌, inl, inr, ℕ, ◌==◌, ◌&&◌, Bool, true, false, cond, List, [], ◌∷◌, ◌++◌, Option, Some, None, refl, sym, ap, ◌∙◌, eq-eqb}
 use Rattle.std.proofs.lemmas.Bool.{true≢false, eqb-true, and_parts}
 use Rattle.js_base.specs.Bytes.{Bytes, same}
 use Rattle.js_base.specs.Subjects.{tokens}
 use Rattle.js_base.proofs.Meeting.{same_is, same_self}
 use Rattle.subject_match.specs.Tokens.{tokens_left}
 use Rattle.route_index.specs.declared.names.Names.{Names}
-use Rattle.route_index.specs.declared.tree.Tree.{Tree}
-use Rattle.route_index.specs.Names.{number_of, AddsName, Cuts}
-use Rattle.route_index.specs.NodeIds.{NodeIds, is_at_node, AddsAt, DropsAt, KeepsNodes}
-use Rattle.route_index.specs.Tree.{step, goes, is_of_node, is_under_tokens, IsReached, IsBareNode, IsTree, same_tokens, KeepsTree, GrowsTree, AddsToTree, DropsFromTree}
-use Rattle.route_index.proofs.Finding.{or_left, or_right}
+use Rattle.route_index.specs.Names.{number_of, AddsName}
+use Rattle.route_index.specs.NodeIds.{NodeIds, is_at_node}
+use Rattle.route_index.specs.Tree.{step, goes, is_of_node, IsBareNode, same_tokens}
 
 pub some_is : {X : Type 0} {a b : X} → Some a ≡ Some b → a ≡ b
 some_is h = cc
@@ -24,9 +22,9 @@ goes_none branches [] = refl
 goes_none branches (token ∷ more) = goes_none branches more
 
 -- one token more
-pub goes_last : (branches : Names) (node : Option ℕ) (parts : List Bytes) (token : Bytes) → goes branches node (parts ++ token ∷ []) ≡ step branches (goes branches node parts) token
-goes_last branches node [] token = refl
-goes_last branches node (first ∷ more) token = goes_last branches (step branches node first) more token
+pub goes_last : (branches : Names) (from : Option ℕ) (parts : List Bytes) (token : Bytes) → goes branches from (parts ++ token ∷ []) ≡ step branches (goes branches from parts) token
+goes_last branches from [] token = refl
+goes_last branches from (first ∷ more) token = goes_last branches (step branches from first) more token
 
 -- what is left of a text after its first token
 pub goes_split : (branches : Names) (node : Option ℕ) (left : Option Bytes) (text token : Bytes) (more : List Bytes) (next : Option ℕ) → left ≡ Some text → tokens text ≡ token ∷ more → next ≡ step branches node token
@@ -84,36 +82,37 @@ module _ (old new : Names) (here : ℕ) (token : Bytes) (to : Option ℕ) (turns
   -- numbers are where they were, if none is behind the branch
   module _ (ids : NodeIds) (before : (parts : List Bytes) (id : ℕ) → is_of_node ids (goes old (number_of old here token) parts) id ≡ false)
       (after : (parts : List Bytes) (id : ℕ) → is_of_node ids (goes new to parts) id ≡ false) where
-    pub same_ids : (node : Option ℕ) (parts : List Bytes) (id : ℕ) → is_of_node ids (goes new node parts) id ≡ is_of_node ids (goes old node parts) id
-    same_ids node [] id = refl
+    pub same_ids : (from : Option ℕ) (parts : List Bytes) (id : ℕ) → is_of_node ids (goes new from parts) id ≡ is_of_node ids (goes old from parts) id
+    same_ids from [] id = refl
     same_ids None (other ∷ more) id = same_ids None more id
-    same_ids (Some n) (other ∷ more) id = go (Hits n other) refl
+    same_ids (Some n) (other ∷ more) id = go (Hits n other) refl (same_ids (number_of old n other) more id)
       where
-        go : (b : Bool) → Hits n other ≡ b → is_of_node ids (goes new (number_of new n other) more) id ≡ is_of_node ids (goes old (number_of old n other) more) id
-        go true e =
+        go : (b : Bool) → Hits n other ≡ b → is_of_node ids (goes new (number_of old n other) more) id ≡ is_of_node ids (goes old (number_of old n other) more) id
+            → is_of_node ids (goes new (number_of new n other) more) id ≡ is_of_node ids (goes old (number_of old n other) more) id
+        go true e further =
             ap (λ o. is_of_node ids (goes new o more) id) (turned n other e) ∙ after more id
             ∙ sym (ap (λ o. is_of_node ids (goes old o more) id) (was_hit n other e) ∙ before more id)
-        go false e = ap (λ o. is_of_node ids (goes new o more) id) (stayed n other e) ∙ same_ids (number_of old n other) more id
+        go false e further = ap (λ o. is_of_node ids (goes new o more) id) (stayed n other e) ∙ further
 
   -- a branch that led nowhere: the old ways lead where they led
-  pub ways_kept : number_of old here token ≡ None → (node : Option ℕ) (parts : List Bytes) (m : ℕ) → goes old node parts ≡ Some m → goes new node parts ≡ Some m
-  ways_kept none node [] m h = h
+  pub ways_kept : number_of old here token ≡ None → (from : Option ℕ) (parts : List Bytes) (m : ℕ) → goes old from parts ≡ Some m → goes new from parts ≡ Some m
+  ways_kept none from [] m h = h
   ways_kept none None (other ∷ more) m h = ways_kept none None more m h
-  ways_kept none (Some n) (other ∷ more) m h = go (Hits n other) refl
+  ways_kept none (Some n) (other ∷ more) m h = go (Hits n other) refl (ways_kept none (number_of old n other) more m h)
     where
-      go : (b : Bool) → Hits n other ≡ b → goes new (number_of new n other) more ≡ Some m
-      go true e = absurd (none_some (sym (goes_none old more) ∙ ap (λ o. goes old o more) (sym (was_hit n other e ∙ none)) ∙ h))
-      go false e = ap (λ o. goes new o more) (stayed n other e) ∙ ways_kept none (number_of old n other) more m h
+      go : (b : Bool) → Hits n other ≡ b → goes new (number_of old n other) more ≡ Some m → goes new (number_of new n other) more ≡ Some m
+      go true e further = absurd (none_some (sym (goes_none old more) ∙ ap (λ o. goes old o more) (sym (was_hit n other e ∙ none)) ∙ h))
+      go false e further = ap (λ o. goes new o more) (stayed n other e) ∙ further
 
 -- a branch that is cut: what ways are left lead where they led
-pub ways_left : (old new : Names) (here : ℕ) (token : Bytes) → Turns old new here token None → (node : Option ℕ) (parts : List Bytes) (m : ℕ) → goes new node parts ≡ Some m → goes old node parts ≡ Some m
-ways_left old new here token turns node [] m h = h
+pub ways_left : (old new : Names) (here : ℕ) (token : Bytes) → Turns old new here token None → (from : Option ℕ) (parts : List Bytes) (m : ℕ) → goes new from parts ≡ Some m → goes old from parts ≡ Some m
+ways_left old new here token turns from [] m h = h
 ways_left old new here token turns None (other ∷ more) m h = ways_left old new here token turns None more m h
-ways_left old new here token turns (Some n) (other ∷ more) m h = go (here == n && same token other) refl
+ways_left old new here token turns (Some n) (other ∷ more) m h = go (here == n && same token other) refl (ways_left old new here token turns (number_of old n other) more m)
   where
-    go : (b : Bool) → (here == n && same token other) ≡ b → goes old (number_of old n other) more ≡ Some m
-    go true e = absurd (none_some (sym (goes_none new more) ∙ ap (λ o. goes new o more) (sym (turned old new here token None turns n other e)) ∙ h))
-    go false e = ways_left old new here token turns (number_of old n other) more m (ap (λ o. goes new o more) (sym (stayed old new here token None turns n other e)) ∙ h)
+    go : (b : Bool) → (here == n && same token other) ≡ b → (goes new (number_of old n other) more ≡ Some m → goes old (number_of old n other) more ≡ Some m) → goes old (number_of old n other) more ≡ Some m
+    go true e further = absurd (none_some (sym (goes_none new more) ∙ ap (λ o. goes new o more) (sym (turned old new here token None turns n other e)) ∙ h))
+    go false e further = further (ap (λ o. goes new o more) (sym (stayed old new here token None turns n other e)) ∙ h)
 
 -- ---- a new node
 
@@ -126,18 +125,18 @@ module _ (old new : Names) (here : ℕ) (token : Bytes) (one : ℕ) (turns : Tur
   at_new [] m h = (sym (some_is h), refl)
   at_new (other ∷ more) m h = absurd (none_some (sym (goes_none new more) ∙ ap (λ o. goes new o more) (sym (bare other)) ∙ h))
 
-  pub leads : (node : Option ℕ) (parts : List Bytes) (m : ℕ) → goes new node parts ≡ Some m → Leads node parts m
-  leads node [] m h = inl h
+  pub leads : (from : Option ℕ) (parts : List Bytes) (m : ℕ) → goes new from parts ≡ Some m → Leads from parts m
+  leads from [] m h = inl h
   leads None (other ∷ more) m h = absurd (none_some (sym (goes_none new more) ∙ h))
-  leads (Some n) (other ∷ more) m h = go (here == n && same token other) refl
+  leads (Some n) (other ∷ more) m h = go (here == n && same token other) refl (leads (number_of old n other) more m)
     where
       further : Leads (number_of old n other) more m → Leads (Some n) (other ∷ more) m
       further (inl way) = inl way
       further (inr way) = inr (way.0, other ∷ way.1, ap (λ xs. other ∷ xs) way.2, way.3)
 
-      go : (b : Bool) → (here == n && same token other) ≡ b → Leads (Some n) (other ∷ more) m
-      go true e =
+      go : (b : Bool) → (here == n && same token other) ≡ b → (goes new (number_of old n other) more ≡ Some m → Leads (number_of old n other) more m) → Leads (Some n) (other ∷ more) m
+      go true e on =
           let both = and_parts (here == n) (same token other) e in
           let end = at_new more m (ap (λ o. goes new o more) (sym (turned old new here token (Some one) turns n other e)) ∙ h) in
           inr (end.0, [], ap (λ xs. other ∷ xs) end.1 ∙ ap (λ x. x ∷ []) (sym (same_is token other both.1)), ap (λ k. Some k) (sym (eqb-true here n both.0)))
-      go false e = further (leads (number_of old n other) more m (ap (λ o. goes new o more) (sym (stayed old new here token (Some one) turns n other e)) ∙ h))
+      go false e on = further (on (ap (λ o. goes new o more) (sym (stayed old new here token (Some one) turns n other e)) ∙ h))

@@ -16,20 +16,20 @@ returns-in_default-left g t c = record {
 
 pub returns-then-any : goal.returns-then-any
 returns-then-any g t c = record {
-  value = any_by_rest c.args.self.now c.args.node (option_copied c.args.left) c.in-Some.node c.in-Some-left.text.now c.split_token-more.result.0.now (tokens_left (option_copied c.split_token-more.result.1)) c.in-Some.is
-      (ap option_copied c.in-Some-left.is) c.split_token-more.ensures.tokens (g.T.Test.passes c.args.test.now) c.step.result c.step.ensures.node c.if-any.ensures.value;
+  value = any_by_rest c.args.self.now c.args.node (option_copied c.args.left) c.in-Some.node c.in-Some-left.text.now c.split_token.result.0.now (tokens_left (option_copied c.split_token.result.1)) c.in-Some.is
+      (ap option_copied c.in-Some-left.is) c.split_token.ensures.tokens (g.T.Test.passes c.args.test.now) c.step.result c.step.ensures.node c.if-any.ensures.value;
 }
 
 pub returns-then-any-2 : goal.returns-then-any-2
 returns-then-any-2 g t c = record {
-  value = any_by_star c.args.self.now c.args.node (option_copied c.args.left) c.in-Some.node c.in-Some-left.text.now c.split_token-more.result.0.now (tokens_left (option_copied c.split_token-more.result.1)) c.in-Some.is
-      (ap option_copied c.in-Some-left.is) c.split_token-more.ensures.tokens (g.T.Test.passes c.args.test.now) c.step.result c.step-2.result c.step.ensures.node c.step-2.ensures.node c.if-any.ensures.value
+  value = any_by_star c.args.self.now c.args.node (option_copied c.args.left) c.in-Some.node c.in-Some-left.text.now c.split_token.result.0.now (tokens_left (option_copied c.split_token.result.1)) c.in-Some.is
+      (ap option_copied c.in-Some-left.is) c.split_token.ensures.tokens (g.T.Test.passes c.args.test.now) c.step.result c.step-2.result c.step.ensures.node c.step-2.ensures.node c.if-any.ensures.value
       c.if-any-2.ensures.value;
 }
 
 pub returns : goal.returns
 returns g t c = record {
-  value = any_by_token c.args.self.now c.args.node (option_copied c.args.left) c.in-Some.node c.in-Some-left.text.now c.split_token-more.result.0.now (tokens_left (option_copied c.split_token-more.result.1)) c.in-Some.is
-      (ap option_copied c.in-Some-left.is) c.split_token-more.ensures.tokens (g.T.Test.passes c.args.test.now) c.step.result c.step-2.result c.step.ensures.node c.step-2.ensures.node c.if-any.ensures.value
+  value = any_by_token c.args.self.now c.args.node (option_copied c.args.left) c.in-Some.node c.in-Some-left.text.now c.split_token.result.0.now (tokens_left (option_copied c.split_token.result.1)) c.in-Some.is
+      (ap option_copied c.in-Some-left.is) c.split_token.ensures.tokens (g.T.Test.passes c.args.test.now) c.step.result c.step-2.result c.step.ensures.node c.step-2.ensures.node c.if-any.ensures.value
       c.step-3.result c.any-3.result c.step-3.ensures.node c.if-any-2.ensures.value c.any-3.ensures.value;
 }

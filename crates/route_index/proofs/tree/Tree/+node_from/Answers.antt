@@ -11,6 +11,6 @@ returns-in_default t c = record { node = ap (λ l. goes c.args.self.now.branches
 pub returns : goal.returns
 returns t c = record {
   node = c.node_from.ensures.node
-      ∙ goes_split c.args.self.now.branches c.args.node (option_copied c.args.left) c.in-Some.text.now c.split_token-more.result.0.now (tokens_left (option_copied c.split_token-more.result.1)) c.step.result
-      (ap option_copied c.in-Some.is) c.split_token-more.ensures.tokens c.step.ensures.node;
+      ∙ goes_split c.args.self.now.branches c.args.node (option_copied c.args.left) c.in-Some.text.now c.split_token.result.0.now (tokens_left (option_copied c.split_token.result.1)) c.step.result
+      (ap option_copied c.in-Some.is) c.split_token.ensures.tokens c.step.ensures.node;
 }

@@ -18,8 +18,8 @@ returns-in_default-left t c = record {
 pub returns : goal.returns
 returns t c = record {
   found = on_ok c.search-3.result
-      (λ found. found_by_all c.args.self.now c.args.node (option_copied c.args.left) c.in-Some.node c.in-Some-left.text.now c.split_token-more.result.0.now (tokens_left (option_copied c.split_token-more.result.1)) c.in-Some.is
-      (ap option_copied c.in-Some-left.is) c.split_token-more.ensures.tokens c.step.result c.step-2.result c.step-3.result c.step.ensures.node c.step-2.ensures.node c.step-3.ensures.node
+      (λ found. found_by_all c.args.self.now c.args.node (option_copied c.args.left) c.in-Some.node c.in-Some-left.text.now c.split_token.result.0.now (tokens_left (option_copied c.split_token.result.1)) c.in-Some.is
+      (ap option_copied c.in-Some-left.is) c.split_token.ensures.tokens c.step.result c.step-2.result c.step-3.result c.step.ensures.node c.step-2.ensures.node c.step-3.ensures.node
       c.args.found.now.items c.search.new.found.items c.search-2.new.found.items c.search-3.new.found.items c.in_ok-search.ensures.found c.in_ok-search-2.ensures.found found)
       c.search-3.ensures.found;
 }

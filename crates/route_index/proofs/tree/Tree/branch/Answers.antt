@@ -3,8 +3,8 @@ use Rattle.route_index.proofs.Ways.{adds_leads}
 use Rattle.route_index.proofs.Trees.{grows_self, names_kept, branches_more}
 use Rattle.route_index.proofs.tree.Tree.branch.Goals as goal
 
-pub returns-then-next-eq-END-clause-grows : goal.returns-then-next-eq-END-clause-grows
-returns-then-next-eq-END-clause-grows c = grows_self c.args.self.now c.requires.tree
+pub returns-then-next-clause-grows : goal.returns-then-next-clause-grows
+returns-then-next-clause-grows c = grows_self c.args.self.now c.requires.tree
 
 pub returns-in_err-add-clause-grows : goal.returns-in_err-add-clause-grows
 returns-in_err-add-clause-grows c =

@@ -2,11 +2,11 @@ use Rattle.std.proofs.Common.{refl}
 use Rattle.js_base.specs.Subjects.{tokens}
 use Rattle.route_index.proofs.Changes.{adds_after}
 use Rattle.route_index.proofs.Trees.{ids_kept, ids_more, keeps_both}
-use Rattle.route_index.proofs.Under.{on_ok, on_err}
+use Rattle.route_index.proofs.Under.{err_holds, on_ok, on_err}
 use Rattle.route_index.proofs.tree.Tree.put.Goals as goal
 
 pub returns-in_err-node-clause-err : goal.returns-in_err-node-clause-err
-returns-in_err-node-clause-err c = c.way_to.ensures.grows.keeps
+returns-in_err-node-clause-err c = err_holds c.from_residual.result c.way_to.ensures.grows.keeps
 
 pub returns-clause-ok : goal.returns-clause-ok
 returns-clause-ok c =

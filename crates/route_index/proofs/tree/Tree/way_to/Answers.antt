@@ -12,14 +12,14 @@ step_or_branch-requires c = record {
   reached = reached_by c.args.self.now c.loop-left.self c.args.text.now (option_copied c.loop-left.left) c.loop-left.node c.loop-left.invariant;
 }
 
-pub returns-in_err-step_or_branch-clause-grows : goal.returns-in_err-step_or_branch-clause-grows
-returns-in_err-step_or_branch-clause-grows c = grows_both c.args.self.now c.loop-left.self c.step_or_branch.new.self c.loop-left.invariant.grows c.step_or_branch.ensures.grows
+pub returns-in_err-node-clause-grows : goal.returns-in_err-node-clause-grows
+returns-in_err-node-clause-grows c = grows_both c.args.self.now c.loop-left.self c.step_or_branch.new.self c.loop-left.invariant.grows c.step_or_branch.ensures.grows
 
 pub loop-left-preserved : goal.loop-left-preserved
 loop-left-preserved c =
-    way_goes_on c.args.self.now c.loop-left.self c.step_or_branch.new.self c.args.text.now (option_copied c.loop-left.left) c.in-Some.text.now c.split_token-more.result.0.now
-    (option_copied c.split_token-more.result.1) c.loop-left.node c.in_ok-step_or_branch.field-0 (ap option_copied c.in-Some.is) c.loop-left.invariant c.split_token-more.ensures.tokens
-    c.step_or_branch.ensures.grows c.in_ok-step_or_branch.ensures.node
+    way_goes_on c.args.self.now c.loop-left.self c.step_or_branch.new.self c.args.text.now (option_copied c.loop-left.left) c.in-Some.text.now c.split_token.result.0.now
+    (option_copied c.split_token.result.1) c.loop-left.node _ (ap option_copied c.in-Some.is) c.loop-left.invariant c.split_token.ensures.tokens
+    c.step_or_branch.ensures.grows c.in_ok-node.ensures.node
 
 pub returns-clause-grows : goal.returns-clause-grows
 returns-clause-grows c = c.loop-left.invariant.grows
