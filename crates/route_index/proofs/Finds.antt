@@ -47,8 +47,10 @@ module _ (tree : Tree) where
   -- what is found by a last `>`, by `*` and by a token
   abbrev ends : Option ℕ → List ℕ
   ends node = ids_of tree.ids (step tree.branches node rest)
+
   abbrev stars : Option ℕ → List Bytes → List ℕ
   stars node more = found_at tree (step tree.branches node star) more
+
   abbrev exact : Option ℕ → Bytes → List Bytes → List ℕ
   exact node token more = found_at tree (step tree.branches node token) more
 
@@ -81,16 +83,16 @@ module _ (tree : Tree) where
   leads_found from (token ∷ more) [] id h k = absurd (true≢false (sym h))
   leads_found from (token ∷ more) (first ∷ way) id h k = elim (either (same first rest && is_empty way) ((same first star || same first token) && matches way more) h) [
     | inl end ↦
-      let parts = and_parts (same first rest) (is_empty way) end in
-      by_end (of_node tree.ids (step tree.branches from rest) id
-          ∙ ap (λ t. is_of_node tree.ids (step tree.branches from t) id) (sym (same_is first rest parts.0))
-          ∙ ap (λ w. is_of_node tree.ids (goes tree.branches (step tree.branches from first) w) id) (sym (no_more way parts.1)) ∙ k)
+        let parts = and_parts (same first rest) (is_empty way) end in
+        by_end (of_node tree.ids (step tree.branches from rest) id
+        ∙ ap (λ t. is_of_node tree.ids (step tree.branches from t) id) (sym (same_is first rest parts.0))
+        ∙ ap (λ w. is_of_node tree.ids (goes tree.branches (step tree.branches from first) w) id) (sym (no_more way parts.1)) ∙ k)
     | inr on ↦
-      let parts = and_parts (same first star || same first token) (matches way more) on in
-      elim (either (same first star) (same first token) parts.0) [
-        | inl s ↦ by_star (leads_found (step tree.branches from star) more way id parts.1 (by_first star s))
-        | inr s ↦ by_token (leads_found (step tree.branches from token) more way id parts.1 (by_first token s))
-      ]
+        let parts = and_parts (same first star || same first token) (matches way more) on in
+        elim (either (same first star) (same first token) parts.0) [
+          | inl s ↦ by_star (leads_found (step tree.branches from star) more way id parts.1 (by_first star s))
+          | inr s ↦ by_token (leads_found (step tree.branches from token) more way id parts.1 (by_first token s))
+        ]
   ]
     where
       by_first : (t : Bytes) → same first t ≡ true → is_of_node tree.ids (goes tree.branches (step tree.branches from t) way) id ≡ true

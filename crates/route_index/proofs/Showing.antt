@@ -38,7 +38,7 @@ module _ (old new : Patterns) (tree tree' : Tree) (id : ℕ) (pattern : Bytes) (
       go parts n true e =
           ap (λ b. is_under_tokens tree parts n || (same_tokens (tokens pattern) parts && b)) e
           ∙ ap (λ b. b || (same_tokens (tokens pattern) parts && true))
-              (shows.at parts n ∙ ap (λ m. has_tokens (get nat_cmp old m) parts) (sym (eqb-true id n e)) ∙ ap (λ o. has_tokens o parts) (none_above id old.entries above))
+          (shows.at parts n ∙ ap (λ m. has_tokens (get nat_cmp old m) parts) (sym (eqb-true id n e)) ∙ ap (λ o. has_tokens o parts) (none_above id old.entries above))
           ∙ and_true (same_tokens (tokens pattern) parts)
           ∙ sym (ap (λ o. has_tokens o parts) (updates n ∙ ap (λ b. cond b (Some pattern) (get nat_cmp old n)) (at_number id n ∙ e)))
         where
@@ -87,7 +87,7 @@ shows_removed old new tree tree' id pattern shows was rising updates drops = rec
     go parts n true e =
         ap (λ b. is_under_tokens tree parts n && not (same_tokens (tokens pattern) parts && b)) e
         ∙ ap (λ b. b && not (same_tokens (tokens pattern) parts && true))
-            (shows.at parts n ∙ ap (λ m. has_tokens (get nat_cmp old m) parts) (sym (eqb-true id n e)) ∙ ap (λ o. has_tokens o parts) (sym was))
+        (shows.at parts n ∙ ap (λ m. has_tokens (get nat_cmp old m) parts) (sym (eqb-true id n e)) ∙ ap (λ o. has_tokens o parts) (sym was))
         ∙ never (same_tokens (tokens pattern) parts)
         ∙ sym (ap (λ o. has_tokens o parts) (updates n ∙ ap (λ b. cond b None (get nat_cmp old n)) (at_number id n ∙ e)))
     go parts n false e =

@@ -17,12 +17,7 @@ use std::collections::{BTreeMap, BTreeSet};
 pub(crate) type NodeIds = BTreeMap<u64, BTreeSet<u64>>;
 
 /// Puts a number at a node. An `Err` leaves the numbers as they were.
-pub(crate) fn put_at(
-    ids: &mut NodeIds,
-    alloc: Global,
-    node: u64,
-    id: u64,
-) -> Result<(), NoMemory>
+pub(crate) fn put_at(ids: &mut NodeIds, alloc: Global, node: u64, id: u64) -> Result<(), NoMemory>
     ensures ok { OnOk result (AddsAt ids.old ids.new node id) }
     ensures err { OnErr result (KeepsNodes ids.old ids.new) }
 {

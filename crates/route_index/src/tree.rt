@@ -94,12 +94,7 @@ impl Tree {
     }
 
     /// The node to which the token leads, a new one if there is none.
-    fn step_or_branch(
-        &mut self,
-        alloc: Global,
-        node: u64,
-        token: &[u8],
-    ) -> Result<u64, NoMemory>
+    fn step_or_branch(&mut self, alloc: Global, node: u64, token: &[u8]) -> Result<u64, NoMemory>
         requires tree { IsTree self.old }
         requires reached { IsReached self.old.branches node }
         ensures grows { GrowsTree self.old self.new }
