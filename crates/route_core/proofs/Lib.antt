@@ -5,7 +5,6 @@ pub mod Takers
 pub mod Handing
 pub mod Calls
 pub mod Laws
-pub mod Naming
 pub mod Entries
 pub mod Tables
 pub mod Taking

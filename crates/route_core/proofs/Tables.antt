@@ -14,14 +14,14 @@ use Rattle.std.proofs.lemmas.List.{map-append, length-append, take_more}
 use Rattle.std.proofs.lemmas.List.Elements.{filter-append, filter_map-append}
 use Rattle.js_base.specs.Bytes.{Bytes, same}
 use Rattle.js_base.proofs.Meeting.{same_is, same_self}
-use Rattle.js_model.specs.Router.{Subscription, is_sub, is_match, limited, counted, one_more}
+use Rattle.js_model.specs.Router.{Subscription, is_sub, is_match, is_in_group, limited, counted, one_more}
 use Rattle.js_model.proofs.Named.{some_is, none_some}
 use Rattle.route_index.specs.declared.sub.Sub.{Sub}
 use Rattle.route_index.specs.Subs.{id_of, is_match as index_match, matching_ids, IsAbove, without}
-use Rattle.route_core.specs.Subscriptions.{is_number, hears}
+use Rattle.route_core.specs.Subscriptions.{is_number, hears, is_member}
 use Rattle.route_core.specs.Heard.{heard_some}
-use Rattle.route_core.specs.declared.names.Names.{Names}
-use Rattle.route_core.specs.Names.{number_of, count_of, KeepsNames, AddsName, DropsName}
+use Rattle.route_index.specs.declared.names.Names.{Names}
+use Rattle.route_index.specs.Names.{number_of, count_of, KeepsNames, AddsName, DropsName}
 use Rattle.route_core.specs.Table.{Numbered, at_number, indexed, is_sub_some, is_of, AreBelow, AreNamed, Holds}
 use Rattle.route_core.proofs.Entries.{at, at_is, at_self, at_same, each_entry, below_added, none_above, below_removed, removed, count_removed, changed, set_is_changed, none_changed, keys-changed, values-changed, below_changed, changed_option, lookup-changed, map-changed, count-changed}
 
@@ -614,6 +614,30 @@ heard_more deaf es found ids i d o within made is =
 pub all_heard : (deaf : Option ℕ) (es : Numbered) (subject : Bytes) (index : List Sub) → IsStrictlySortedBy nat_cmp (keys_of es) → index ≡ map indexed es
     → filter (is_reached deaf) (at_numbers es (matching_ids subject index)) ≡ filter (hears subject deaf) (subs_of es)
 all_heard deaf es subject index rising e = ap (filter (is_reached deaf)) (gathers es subject index rising e) ∙ filter_both (is_match subject) (is_reached deaf) (subs_of es)
+
+-- ---- whether one of those that match passes a test
+
+any_of_both : {X : Type 0} (p q : X → Bool) (xs : List X) → list_any q (filter p xs) ≡ list_any (λ x. p x && q x) xs
+any_of_both p q [] = refl
+any_of_both {X} p q (x ∷ xs) = go (p x) (any_of_both p q xs)
+  where
+    go : (a : Bool) → list_any q (filter p xs) ≡ list_any (λ y. p y && q y) xs → list_any q (cond a (x ∷ filter p xs) (filter p xs)) ≡ ((a && q x) || list_any (λ y. p y && q y) xs)
+    go true h = ap (λ b. q x || b) h
+    go false h = h
+
+any_number : (group : Option Bytes) (es : Numbered) (ids : List ℕ) → list_any (λ id. is_member group (at_number es id)) ids ≡ list_any (is_in_group group) (at_numbers es ids)
+any_number group es [] = refl
+any_number group es (id ∷ ids) = go (at_number es id) (any_number group es ids)
+  where
+    go : (o : Option Subscription) → list_any (λ n. is_member group (at_number es n)) ids ≡ list_any (is_in_group group) (at_numbers es ids)
+        → (is_member group o || list_any (λ n. is_member group (at_number es n)) ids) ≡ list_any (is_in_group group) (cons_option o (at_numbers es ids))
+    go None h = h
+    go (Some x) h = ap (λ b. is_in_group group x || b) h
+
+pub any_member : (group : Option Bytes) (es : Numbered) (subject : Bytes) (index : List Sub) → IsStrictlySortedBy nat_cmp (keys_of es) → index ≡ map indexed es
+    → list_any (λ id. is_member group (at_number es id)) (matching_ids subject index) ≡ list_any (λ sub. is_match subject sub && is_in_group group sub) (subs_of es)
+any_member group es subject index rising e =
+    any_number group es (matching_ids subject index) ∙ ap (list_any (is_in_group group)) (gathers es subject index rising e) ∙ any_of_both (is_match subject) (is_in_group group) (subs_of es)
 
 -- ---- the subscription for which a message was counted
 

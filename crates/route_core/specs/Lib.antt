@@ -4,7 +4,6 @@ pub mod Subscriptions
 pub mod Groups
 pub mod Spreading
 pub mod Deliveries
-pub mod Names
 pub mod Table
 pub mod Heard
 pub mod Idle

@@ -1,7 +1,7 @@
 -- The subscriptions, and which of them take a message.
 use Rattle.std.specs.Prelude.{ℕ, Bool, false, not, ◌==◌, ◌&&◌, List, map, filter, Option, Some, None}
 use Rattle.js_base.specs.Bytes.{Bytes, same_option}
-use Rattle.js_model.specs.Router.{Subscription, is_match, is_sub, is_plain, limited, counted, without_spent}
+use Rattle.js_model.specs.Router.{Subscription, is_match, is_sub, is_plain, is_in_group, limited, counted, without_spent}
 
 -- the subscriptions after an UNSUB
 abbrev pub without_sub : ℕ → Bytes → Option ℕ → List Subscription → List Subscription
@@ -30,3 +30,8 @@ is_plain_taker subject deaf sub = hears subject deaf sub && is_plain sub
 
 abbrev pub plain_takers : Bytes → Option ℕ → List Subscription → List Subscription
 plain_takers subject deaf subs = filter (is_plain_taker subject deaf) subs
+
+-- there is one, and it is in this queue group, or in any if none is named
+abbrev pub is_member : Option Bytes → Option Subscription → Bool
+is_member group None = false
+is_member group (Some sub) = is_in_group group sub

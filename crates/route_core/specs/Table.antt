@@ -8,8 +8,8 @@ use Rattle.std.specs.BTreeMap.{is_at}
 use Rattle.js_base.specs.Bytes.{Bytes}
 use Rattle.js_model.specs.Router.{Subscription, is_sub, is_spent}
 use Rattle.route_index.specs.declared.sub.Sub.{Sub}
-use Rattle.route_core.specs.declared.names.Names.{Names}
-use Rattle.route_core.specs.Names.{number_of, count_of}
+use Rattle.route_index.specs.declared.names.Names.{Names}
+use Rattle.route_index.specs.Names.{number_of, count_of}
 
 -- the subscriptions under their numbers
 abbrev pub Numbered : Type 0

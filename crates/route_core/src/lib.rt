@@ -4,9 +4,7 @@
 mod delivery;
 mod dispatch;
 mod groups;
-mod identifiers;
 mod measured_frame;
-mod names;
 mod open_sessions;
 mod parcel;
 mod router;

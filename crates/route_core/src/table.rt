@@ -10,14 +10,13 @@ ghost use Rattle.std.specs.BTreeMap.{is_at, IsOrdered};
 ghost use Rattle.js_model.specs.Router.{is_sub, is_match, is_in_group, new_subscription, most_subscriptions, limited, counted, without_spent};
 ghost use Rattle.route_index.specs.Subs.{without};
 ghost use Rattle.route_core.specs.Subscriptions.{without_sub, after_one_sent, hears};
-ghost use Rattle.route_core.specs.Names.{number_of};
+ghost use Rattle.route_index.specs.Names.{number_of};
 ghost use Rattle.route_core.specs.Table.{indexed, is_of, at_number, is_spent_some, is_sub_some, AreBelow, AreNamed};
 ghost use Rattle.route_core.specs.Heard.{heard_some};
 
-use crate::names::Names;
 use crate::subscription::Subscription;
 use js_base::NoMemory;
-use route_index::{RouteIndex, Sub};
+use route_index::{Names, RouteTree, Sub, Test};
 use std::alloc::Global;
 use std::collections::BTreeMap;
 use std::marker::Model;
@@ -44,7 +43,7 @@ pub(crate) struct Table {
     /// Their numbers, by their sessions and identifiers.
     names: Names,
     /// Their numbers, by their patterns.
-    index: RouteIndex,
+    index: RouteTree,
     /// The number of the next one.
     next: u64,
 }
@@ -71,7 +70,7 @@ impl Table {
             alloc,
             subscriptions: BTreeMap::new(alloc),
             names: Names::new(alloc),
-            index: RouteIndex::new(alloc),
+            index: RouteTree::new(alloc),
             next: 0,
         }
     }
@@ -97,13 +96,16 @@ impl Table {
         self.count_of(session) >= MOST
     }
 
-    /// Whether some subscription matches the subject: any, or one of a queue group if one is named. It takes no memory.
+    /// Whether some subscription matches the subject: any, or one of a queue group if one is named. Those whose patterns do not match cost
+    /// nothing but a few steps in ordered maps. It takes no memory.
     pub(crate) fn is_interest(&self, subject: &[u8], group: Option<&[u8]>) -> bool
         ensures value { result ≡ list_any (λ sub. is_match subject.now sub && is_in_group (option_copied group.entry) sub) self.now }
     {
-        self.subscriptions
-            .values()
-            .any(|sub| sub.is_match(subject) && sub.is_in_group(group))
+        let members = Members {
+            subscriptions: &self.subscriptions,
+            group,
+        };
+        self.index.any_matching(subject, &members)
     }
 
     /// Adds a subscription at the end, under an identifier that is not in use. An `Err` adds none.
@@ -267,10 +269,32 @@ impl Table {
     }
 }
 
+/// The subscriptions of a queue group, or all if none is named.
+#[derive(Clone, Copy)]
+struct Members<'a> {
+    subscriptions: &'a Numbered,
+    group: Option<&'a [u8]>,
+}
+
+impl Test for Members<'_> {
+    ghost use Rattle.std.specs.Option.{option_copied};
+    ghost use Rattle.route_core.specs.Table.{at_number};
+    ghost use Rattle.route_core.specs.Subscriptions.{is_member};
+
+    ghost passes = { λ members id. is_member (option_copied members.group) (at_number members.subscriptions.now.entries id) };
+
+    fn passes(&self, id: u64) -> bool {
+        match self.subscriptions.get(&id) {
+            Some(sub) => sub.is_in_group(self.group),
+            None => false,
+        }
+    }
+}
+
 /// Enters a subscription under a number above all others. An `Err` enters none.
 fn enter(
     subscriptions: &mut Numbered,
-    index: &mut RouteIndex,
+    index: &mut RouteTree,
     number: u64,
     sub: Subscription,
 ) -> Result<(), NoMemory>
@@ -297,7 +321,7 @@ fn enter(
 }
 
 /// Takes the subscription of a number out.
-fn take_out(subscriptions: &mut Numbered, index: &mut RouteIndex, number: u64)
+fn take_out(subscriptions: &mut Numbered, index: &mut RouteTree, number: u64)
     ensures left { subscriptions.new.entries ≡ remove_entry (is_at (nat_cmp number)) subscriptions.old.entries }
     ensures ordered { IsOrdered nat_cmp subscriptions.new }
     ensures patterns { index.new ≡ without number index.old }

@@ -1,4 +1,5 @@
 pub mod Numbers
+pub mod Naming
 pub mod Under
 pub mod Fronts
 pub mod Order
@@ -12,3 +13,9 @@ pub mod Rising
 pub mod Listing
 pub mod Whole
 pub mod Above
+pub mod AtNodes
+pub mod Ways
+pub mod Trees
+pub mod Changes
+pub mod Finds
+pub mod Showing

@@ -82,6 +82,10 @@ pub on_ok : {X E P Q : Type 0} (r : Result X E) → (P → Q) → OnOk r P → O
 on_ok (Ok x) f h = f h
 on_ok (Err e) f h = h
 
+pub err_holds : {X E P : Type 0} (r : Result X E) → P → OnErr r P
+err_holds (Ok x) h = tt
+err_holds (Err e) h = h
+
 pub on_err : {X E P Q : Type 0} (r : Result X E) → (P → Q) → OnErr r P → OnErr r Q
 on_err (Ok x) f h = h
 on_err (Err e) f h = f h

@@ -12,7 +12,7 @@ use Rattle.route_index.specs.Searching.{fits, AddsFitting}
 use Rattle.route_index.specs.Sought.{sought_ids}
 use Rattle.route_index.proofs.Listing.{sought_of, sought_has}
 
-both : (a b : Bool) → (a ≡ true → b ≡ true) → (b ≡ true → a ≡ true) → a ≡ b
+pub both : (a b : Bool) → (a ≡ true → b ≡ true) → (b ≡ true → a ≡ true) → a ≡ b
 both true b f g = sym (f refl)
 both false true f g = g refl
 both false false f g = refl

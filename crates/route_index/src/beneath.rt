@@ -43,7 +43,7 @@ fn cut_token(text: &[u8]) -> (&[u8], u8)
 }
 
 /// The place of the first dot.
-fn first_dot(text: &[u8]) -> Option<usize>
+pub(crate) fn first_dot(text: &[u8]) -> Option<usize>
     ensures value { result ≡ position (λ byte. byte == 46) text.now }
 {
     text.iter().position(|byte| *byte == b'.')

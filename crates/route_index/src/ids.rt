@@ -34,7 +34,7 @@ pub(crate) fn put_id(
 }
 
 /// Puts a number into a set.
-fn put_in_set(set: &mut BTreeSet<u64>, id: u64) -> Result<(), NoMemory>
+pub(crate) fn put_in_set(set: &mut BTreeSet<u64>, id: u64) -> Result<(), NoMemory>
     ensures ok { OnOk result (AddsToSet set.old set.new id) }
     ensures err { OnErr result (IsUnchanged set.old set.new) }
 {
@@ -84,7 +84,7 @@ fn is_empty_at(ids: &Ids, pattern: &Pattern) -> bool
 }
 
 /// Adds the numbers of a set at the end.
-fn push_set(set: &BTreeSet<u64>, found: &mut Vec<u64>) -> Result<(), NoMemory>
+pub(crate) fn push_set(set: &BTreeSet<u64>, found: &mut Vec<u64>) -> Result<(), NoMemory>
     ensures ok { OnOk result (found.new.items ≡ found.old.items ++ set.now.keys) }
 {
     for id in set {

@@ -87,17 +87,16 @@ impl RouteIndex {
         }
     }
 
-    /// The numbers of the subscriptions whose patterns match the subject, in the order of their adding. The subscriptions that do not match
-    /// cost nothing but a few steps in an ordered map.
+    /// The numbers of the subscriptions whose patterns match the subject, ascending, which is the order of their adding. `NoMemory` comes if
+    /// the list or the search finds none.
     pub fn matching(&self, subject: &[u8]) -> Result<Vec<u64>, NoMemory>
         ensures ids { IfOk result (λ found. found.items ≡ matching_ids subject.now self.now) }
     {
         self.sought(Seek::Matching, subject)
     }
 
-    /// The numbers of the subscriptions whose patterns overlap with this one, in the order of their adding. At a token of the pattern the
-    /// search looks at the subscriptions that go on with this token, `*` or `>`; at a `*` at each token that subscriptions go on with; and at a
-    /// last `>` at all that are left. The other subscriptions cost nothing but a few steps in an ordered map.
+    /// The numbers of the subscriptions whose patterns overlap with this one, ascending, which is the order of their adding. `NoMemory` comes
+    /// if the list or the search finds none.
     pub fn overlapping(&self, pattern: &[u8]) -> Result<Vec<u64>, NoMemory>
         ensures ids { IfOk result (λ found. found.items ≡ overlapping_ids pattern.now self.now) }
     {

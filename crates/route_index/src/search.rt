@@ -2,7 +2,7 @@
 //!
 //! The patterns stand in the order of their texts, so all that begin with the same tokens stand side by side, as under one branch of a tree.
 //! The search goes down from branch to branch: by the token, by `*`, and by `>` at the end. For the overlaps of a pattern it goes down by each
-//! branch at a `*`, and takes all that is left at a last `>`.
+//! branch at a `*`, and takes all that is left at a last `>`. Subscriptions that do not match cost a few steps in an ordered map.
 
 ghost use Rattle.std.specs.Prelude.{◌≡◌, ◌++◌, map, OnOk};
 ghost use Rattle.route_index.specs.Searching.{AddsUnder, AddsBelow, AddsEach, AddsAll, AddsFitting, IsDotless, AreDotless};
