@@ -34,8 +34,8 @@ use Rattle.effects.specs.Folding.{live, live_if, fold, fold_in, fold_live, fold_
 use Rattle.effects.specs.Ranges.{is_within}
 use Rattle.js_base.specs.Subjects.{is_subject_text}
 use Rattle.op_records.specs.Allowed.{is_record, is_text, is_header, fits_block}
-use Rattle.durable_checks.specs.Storable.{IsStorable, IsFormed}
-use Rattle.log_records.specs.Light.{is_light, AreFewIn, LawLight}
+use Rattle.durable_checks.specs.Storable.{IsStorable}
+use Rattle.log_records.specs.Light.{is_light, AreFewIn}
 
 -- ---- parts of what a consumer holds
 
@@ -504,11 +504,11 @@ light_vacant i (Due name seq due) light new h = absurd (none_some h)
 light_vacant i (GivenUp name moment) light new h = absurd (none_some h)
 light_vacant i (Now moment) light new h = absurd (none_some h)
 
-pub law_light : LawLight
-law_light old e new formed k is light h few = go old.body refl h
+pub stays_light : (old : Durable) (e : Effect) (new : Durable) → IsStorable old → IsTrue (is_record e) → IsTrue (is_light e) → fold old e ≡ Some new → AreFewIn new.body → IsStorable new
+stays_light old e new k is light h few = go old.body refl h
   where
     go : (o : Option Body) → old.body ≡ o → fold_in old.incarnation o e ≡ Some new → IsStorable new
     go None at h = light_vacant old.incarnation e light new h
     go (Some b) at h =
-        let same : old ≡ live old.incarnation b = ap (λ (x : Option Body). record { incarnation = old.incarnation; body = x }) at in
+        let same : old ≡ live old.incarnation b = ap (λ (x : Option Body). record old { body = x }) at in
         light_live old.incarnation b e (subst IsStorable same k) is light new h few

@@ -1,13 +1,9 @@
 -- Which records keep what is stored sound and within its bounds, so that it need not be asked anew behind them.
-use Rattle.std.specs.Prelude.{◌≡◌, ◌≤◌, ◌^◌, Bool, true, false, length, IsTrue, Option, Some, None, ⊤}
+use Rattle.std.specs.Prelude.{◌≤◌, ◌^◌, Bool, true, false, length, Option, Some, None, ⊤}
 use Rattle.js_base.specs.Bytes.{is_empty}
 use Rattle.effects.specs.declared.durable.Body.{Body}
-use Rattle.effects.specs.declared.durable.Durable.{Durable}
 use Rattle.effects.specs.declared.effect.Effect.{Effect}
 use Rattle.effects.specs.declared.effect.Effect.TheVariants.{MakeStream, ChangeStream, DropStream, PutHere, Skip, Remove, MakeConsumer, DropConsumer, Deliver, Acked, Due, GivenUp, Now}
-use Rattle.effects.specs.Folding.{fold}
-use Rattle.op_records.specs.Allowed.{is_record}
-use Rattle.durable_checks.specs.Storable.{IsFormed, IsStorable}
 
 -- a message without an id, what leaves, what ends, another due time, and time
 abbrev pub is_light : Effect → Bool
@@ -29,6 +25,3 @@ is_light (Now moment) = true
 abbrev pub AreFewIn : Option Body → Type 0
 AreFewIn None = ⊤
 AreFewIn (Some b) = length b.messages ≤ 2 ^ 24
-
-abbrev pub LawLight : Type 0
-LawLight = (old : Durable) (e : Effect) (new : Durable) → IsFormed old → IsStorable old → IsTrue (is_record e) → IsTrue (is_light e) → fold old e ≡ Some new → AreFewIn new.body → IsStorable new

@@ -128,7 +128,7 @@ struct Steps {
 
 impl Steps {
     /// With the record at a place behind them.
-    fn then(self, at: usize, step: Step) -> Steps
+    fn followed_by(self, at: usize, step: Step) -> Steps
         ensures last { result.last ≡ Some at }
         ensures are_light { result.are_light ≡ (self.are_light && step.is_light) }
     {
@@ -183,7 +183,7 @@ fn add_records(alloc: Global, records: &[u8], durable: &mut Durable) -> Result<S
     let mut at = 0;
     while at < records.len() {
         let step = add_record(alloc, records, at, durable)?;
-        steps = steps.then(at, step);
+        steps = steps.followed_by(at, step);
         at = step.behind;
     }
     Ok(steps)

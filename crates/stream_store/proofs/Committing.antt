@@ -14,7 +14,9 @@ use Rattle.gate_log.specs.Batches.{end_of}
 use Rattle.gate_log.specs.LogFile.{IsLog, HasOpen}
 use Rattle.gate_log.specs.LogState.{LogState, generation_of, with_batch}
 use Rattle.gate_log.specs.Settled.{IsSettled}
-use Rattle.gate_log.specs.Appending.{IsWithOrWithout, AppendsTo, IsAppended}
+use Rattle.gate_log.specs.Appending.{IsWithOrWithout, AppendsTo, IsAppended, IsAppendFault}
+use Rattle.gate_log.specs.declared.fault.LogFault.{LogFault}
+use Rattle.gate_log.specs.declared.fault.LogFault.TheVariants as logs
 use Rattle.effects.specs.declared.durable.Durable.{Durable}
 use Rattle.effects.specs.declared.effect.Effect.{Effect}
 use Rattle.op_records.specs.Allowed.{is_record}
@@ -26,7 +28,11 @@ use Rattle.log_records.specs.Batches.{Adds, AddAll, Begins, Gives}
 use Rattle.log_records.proofs.Reaching.{add_push}
 use Rattle.stream_store.specs.Holding.{Holds, AllHold}
 use Rattle.stream_store.specs.Base.{IsBaseOf}
-use Rattle.stream_store.specs.Committing.{IsNextBatch, IsCommitted, CommitsOrNot}
+use Rattle.stream_store.specs.StoreState.{StoreState}
+use Rattle.stream_store.specs.Faults.{commit_fault}
+use Rattle.stream_store.specs.Committing.{IsNextBatch, IsCommitted, CommitsOrNot, length_with}
+use Rattle.stream_store.specs.declared.fault.CommitFault.{CommitFault}
+use Rattle.stream_store.specs.declared.fault.CommitFault.TheVariants as commit
 use Rattle.stream_store.proofs.Basing.{IsNow, holds_now, now_of, now_with, base_of, base_gives}
 
 -- ---- logs with an open batch
@@ -166,3 +172,38 @@ pub commits_batch : (log after : LogState) (base next : Durable) (effects : List
     → IsTrue (list_all is_record effects) → All (λ byte. byte < 256) records → log.end + 6 + length records ≤ 2 ^ 31 → AppendsTo log records old new → IsAppended log after records old new → after ≡ with_batch log (length records) → IsBaseOf after next new
 commits_batch log after base next effects records old new b n is allowed bytes fits appends appended made =
     committed log base next effects records old b n (adds_by base next effects records is allowed bytes (omega (arith, fits)) n) after new appends appended made
+
+-- ---- how an append that failed is told
+
+pub told_fault : (fault : LogFault) (told : CommitFault) → told ≡ commit_fault fault → told ≡ commit.Fault → fault ≡ logs.Fault
+told_fault logs.Fault told e is = refl
+told_fault logs.Full told e is = absurd (cc)
+told_fault logs.NoMemory told e is = absurd (cc)
+told_fault (logs.Damaged at) told e is = absurd (cc)
+told_fault (logs.UnknownVersion n) told e is = absurd (cc)
+
+pub told_full : (fault : LogFault) (told : CommitFault) → told ≡ commit_fault fault → told ≡ commit.Full → fault ≡ logs.Full
+told_full logs.Fault told e is = absurd (cc)
+told_full logs.Full told e is = refl
+told_full logs.NoMemory told e is = absurd (cc)
+told_full (logs.Damaged at) told e is = absurd (cc)
+told_full (logs.UnknownVersion n) told e is = absurd (cc)
+
+pub told_no_memory : (fault : LogFault) (told : CommitFault) → IsAppendFault fault → told ≡ commit_fault fault → told ≡ commit.NoMemory → fault ≡ logs.NoMemory
+told_no_memory logs.Fault told h e is = absurd (cc)
+told_no_memory logs.Full told h e is = absurd (cc)
+told_no_memory logs.NoMemory told h e is = refl
+told_no_memory (logs.Damaged at) told h e is = absurd h
+told_no_memory (logs.UnknownVersion n) told h e is = absurd h
+
+-- ---- how long the log is
+
+pub fits_unless : (n : ℕ) → (2 ^ 31 < n → ⊥) → n ≤ 2 ^ 31
+fits_unless n h = go (cases_lt (2 ^ 31) n)
+  where
+    go : ((2 ^ 31 < n) ⊎ (n ≤ 2 ^ 31)) → n ≤ 2 ^ 31
+    go (inl long) = absurd (h long)
+    go (inr fits) = fits
+
+pub same_length : (store : StoreState) (log : LogState) (effects : List Effect) (records : Bytes) → store.log ≡ log → records ≡ flat_map spelled effects → length_with store effects ≡ log.end + 6 + length records
+same_length store log effects records is bytes = ap (λ (l : LogState). l.end + 6 + length (flat_map spelled effects)) is ∙ ap (λ (l : Bytes). log.end + 6 + length l) (sym bytes)

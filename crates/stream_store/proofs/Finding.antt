@@ -6,9 +6,10 @@ use Rattle.vol_disk.specs.Images.{IsDurable, IsImage}
 use Rattle.vol_disk.specs.Moments.{Quiet, LeavesOnly}
 use Rattle.vol_disk.proofs.Moments.{quiet_durable, widened}
 use Rattle.js_base.specs.Bytes.{Bytes}
+use Rattle.gate_log.specs.Appending.{IsAppendFault}
 use Rattle.gate_log.specs.LogFile.{HasOpen}
 use Rattle.gate_log.specs.LogState.{LogState, generation_of}
-use Rattle.gate_log.specs.Opening.{IsOpenFault as IsFileFault}
+use Rattle.gate_log.specs.Opening.{IsOpenFault as IsFileFault, IsOutside}
 use Rattle.gate_log.specs.Settled.{IsSettled}
 use Rattle.gate_log.specs.declared.fault.LogFault.{LogFault}
 use Rattle.gate_log.specs.declared.fault.LogFault.TheVariants as logs
@@ -73,6 +74,26 @@ pub read_cause : (file : ℕ) (fault : ReadFault) (told : OpenFault) → told �
 read_cause file records.Fault told e is = refl
 read_cause file (records.Damaged at) told e is = absurd (cc)
 read_cause file records.NoMemory told e is = absurd (cc)
+
+pub start_outside : (fault : LogFault) (told : OpenFault) → told ≡ open_fault 0 fault → IsOutside fault → IsOutsideFault told
+start_outside fault told e h = subst IsOutsideFault (sym e) (go fault h)
+  where
+    go : (fault : LogFault) → IsOutside fault → IsOutsideFault (open_fault 0 fault)
+    go logs.Fault h = tt
+    go logs.Full h = absurd h
+    go logs.NoMemory h = tt
+    go (logs.Damaged at) h = absurd h
+    go (logs.UnknownVersion n) h = absurd h
+
+pub append_outside : (fault : LogFault) (told : OpenFault) → told ≡ open_fault 0 fault → IsAppendFault fault → IsOutsideFault told
+append_outside fault told e h = subst IsOutsideFault (sym e) (go fault h)
+  where
+    go : (fault : LogFault) → IsAppendFault fault → IsOutsideFault (open_fault 0 fault)
+    go logs.Fault h = tt
+    go logs.Full h = tt
+    go logs.NoMemory h = tt
+    go (logs.Damaged at) h = absurd h
+    go (logs.UnknownVersion n) h = absurd h
 
 -- ---- both logs
 

@@ -18,6 +18,7 @@ ghost use Rattle.stream_store.specs.Beginning.{IsUnbegun, HoldsNothing, IsOutsid
 use crate::fault::OpenFault;
 use effects::Durable;
 use gate_log::GateLog;
+use js_base::NoMemory;
 use log_records::read_log;
 use op_records::write_vacant;
 use std::alloc::Global;
@@ -96,6 +97,15 @@ pub(crate) fn read_current<V: Vol>(
     }
 }
 
+/// The records of a volume's first batch: the place is vacant, and never had a stream.
+fn first_records(alloc: Global) -> Result<Vec<u8>, NoMemory>
+    ensures bytes { IfOk result (λ bytes. bytes.items ≡ spelled_vacant 0) }
+{
+    let mut records = Vec::new(alloc);
+    write_vacant(alloc, 0, &mut records)?;
+    Ok(records)
+}
+
 /// Makes a log of generation 1 in file 0, whose one batch says that the place is vacant and never had a stream.
 pub(crate) fn begin_log<V: Vol>(alloc: Global, vol: &mut V) -> Result<GateLog, OpenFault>
     requires unbegun { V.told → IsUnbegun (V.disk vol.old) }
@@ -108,8 +118,7 @@ pub(crate) fn begin_log<V: Vol>(alloc: Global, vol: &mut V) -> Result<GateLog, O
     ensures only { IfErr result IsOutsideFault }
     ensures cause { HasCause (V.faults vol.old) (V.faults vol.new) (IsErrOf result OpenFault.Fault) }
 {
-    let mut records = Vec::new(alloc);
-    write_vacant(alloc, 0, &mut records)?;
+    let records = first_records(alloc)?;
     let mut log = match GateLog::start(alloc, vol, 0, FIRST_GENERATION) {
         Ok(log) => log,
         Err(fault) => return Err(OpenFault::of_log(0, fault)),

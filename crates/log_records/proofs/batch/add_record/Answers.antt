@@ -3,7 +3,7 @@ use Rattle.std.proofs.lemmas.Result.{err_from_is_err_and}
 use Rattle.record_fold.specs.Faults.{IsFoldFault}
 use Rattle.record_fold.specs.declared.fault.FoldFault.{FoldFault}
 use Rattle.log_records.proofs.Forming.{given, in_order, stays_formed}
-use Rattle.log_records.proofs.Lightly.{law_light}
+use Rattle.log_records.proofs.Lightly.{stays_light}
 use Rattle.log_records.proofs.Taking.{taken, misread, misfits}
 use Rattle.log_records.proofs.batch.add_record.Goals as goal
 
@@ -38,7 +38,7 @@ returns-in-Ok-clause-light c = λ is storable.
     let r = c.in_ok-effect in
     let t = taken c.args.records.now c.args.at r.effect r.behind (λ k. c.type_inv.records k) c.requires.batch r.ensures.reading in
     let k = c.keeps.ensures.value is in
-    law_light c.args.durable.now r.effect c.fold.new.durable c.requires.formed storable t.allowed (sym c.is_light-light.ensures.value ∙ k.0) c.in-Ok.ensures.ok k.1
+    stays_light c.args.durable.now r.effect c.fold.new.durable storable t.allowed (sym c.is_light-light.ensures.value ∙ k.0) c.in-Ok.ensures.ok k.1
 
 pub returns-in-Err-Misfit-clause-fault : goal.returns-in-Err-Misfit-clause-fault
 returns-in-Err-Misfit-clause-fault c =

@@ -17,10 +17,10 @@ loop-at-preserved c =
     let before = c.loop-at.invariant in
     let one = c.in_ok-step in
     record {
-      read = rw c.then-steps.ensures.last (one_read c.args.durable.now c.args.records.now c.loop-at.at one.step.behind c.loop-at.durable c.add_record.new.durable c.loop-at.steps.last before.read one.ensures.next);
+      read = rw c.followed_by-steps.ensures.last (one_read c.args.durable.now c.args.records.now c.loop-at.at one.step.behind c.loop-at.durable c.add_record.new.durable c.loop-at.steps.last before.read one.ensures.next);
       formed = one.ensures.formed;
       light = λ is storable.
-          let both = and_parts c.loop-at.steps.are_light one.step.is_light (sym c.then-steps.ensures.are_light ∙ is) in
+          let both = and_parts c.loop-at.steps.are_light one.step.is_light (sym c.followed_by-steps.ensures.are_light ∙ is) in
           one.ensures.light both.1 (before.light both.0 storable);
       within = one.ensures.further.1;
     }

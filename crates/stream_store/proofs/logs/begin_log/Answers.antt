@@ -1,10 +1,10 @@
-use Rattle.std.proofs.Common.{ℕ, [], ◌∷◌, ◌∙◌, IsSome, ap, sym, subst, arith}
+use Rattle.std.proofs.Common.{[], ◌∷◌, ◌∙◌, IsSome, ap, sym, subst, arith}
 use Rattle.js_base.specs.Bytes.{Bytes}
 use Rattle.gate_log.specs.LogState.{LogState}
 use Rattle.gate_log.specs.Settled.{IsSettled}
-use Rattle.op_records.specs.Spelling.{spelled_vacant}
 use Rattle.stream_store.proofs.Beginning.{starting, appending, begun, begun_rests}
 use Rattle.stream_store.proofs.Records.{are_bytes}
+use Rattle.stream_store.proofs.Finding.{open_cause, start_outside, append_outside}
 use Rattle.stream_store.proofs.logs.begin_log.Goals as goal
 
 pub start-requires : goal.start-requires
@@ -15,21 +15,21 @@ append-requires g c = record { settled = λ told. ([], c.in-Ok.ensures.settled t
 
 pub returns-in-Ok-2-clause-settled : goal.returns-in-Ok-2-clause-settled
 returns-in-Ok-2-clause-settled g c = λ told.
-    subst (λ (records : Bytes). IsSettled c.append.new.self (records ∷ []) (g.V.Vol.disk c.append.new.vol)) (c.as_slice.ensures.value ∙ c.in_ok-write_vacant.ensures.ok) (c.in-Ok-2.ensures.appended told [] (c.in-Ok.ensures.settled told))
+    subst (λ (records : Bytes). IsSettled c.append.new.self (records ∷ []) (g.V.Vol.disk c.append.new.vol)) (c.as_slice.ensures.value ∙ c.in_ok-records.ensures.bytes) (c.in-Ok-2.ensures.appended told [] (c.in-Ok.ensures.settled told))
 
 pub returns-in-Ok-2-clause-base : goal.returns-in-Ok-2-clause-base
 returns-in-Ok-2-clause-base g c = λ told.
     let old = g.V.Vol.disk c.args.vol.now in
     let mid = g.V.Vol.disk c.start.new.vol in
     let new = g.V.Vol.disk c.append.new.vol in
-    begun old (c.requires.unbegun told) mid (c.start.ensures.any_moment told) c.in-Ok.log c.in-Ok.ensures.log (c.in-Ok.ensures.settled told) c.as_slice.result.now (c.as_slice.ensures.value ∙ c.in_ok-write_vacant.ensures.ok) (are_bytes c.as_slice.result.now (λ k. c.type_inv.records k))
+    begun old (c.requires.unbegun told) mid (c.start.ensures.any_moment told) c.in-Ok.log c.in-Ok.ensures.log (c.in-Ok.ensures.settled told) c.as_slice.result.now (c.as_slice.ensures.value ∙ c.in_ok-records.ensures.bytes) (are_bytes c.as_slice.result.now (λ k. c.type_inv.records k))
     c.append.new.self new (c.append.ensures.any_moment told) (c.in-Ok-2.ensures.appended told) c.in-Ok-2.ensures.log
 
 pub returns-in-Ok-2-clause-any_moment : goal.returns-in-Ok-2-clause-any_moment
 returns-in-Ok-2-clause-any_moment g c = λ told.
     let old = g.V.Vol.disk c.args.vol.now in
     let mid = g.V.Vol.disk c.start.new.vol in
-    appending old (c.requires.unbegun told) mid (c.start.ensures.any_moment told) c.in-Ok.log c.in-Ok.ensures.log (c.in-Ok.ensures.settled told) c.as_slice.result.now (c.as_slice.ensures.value ∙ c.in_ok-write_vacant.ensures.ok) (are_bytes c.as_slice.result.now (λ k. c.type_inv.records k))
+    appending old (c.requires.unbegun told) mid (c.start.ensures.any_moment told) c.in-Ok.log c.in-Ok.ensures.log (c.in-Ok.ensures.settled told) c.as_slice.result.now (c.as_slice.ensures.value ∙ c.in_ok-records.ensures.bytes) (are_bytes c.as_slice.result.now (λ k. c.type_inv.records k))
     (g.V.Vol.disk c.append.new.vol) (c.append.ensures.any_moment told)
 
 pub returns-in-Err-clause-any_moment : goal.returns-in-Err-clause-any_moment
@@ -52,5 +52,23 @@ pub returns-in-Err-2-clause-any_moment : goal.returns-in-Err-2-clause-any_moment
 returns-in-Err-2-clause-any_moment g c = λ told.
     let old = g.V.Vol.disk c.args.vol.now in
     let mid = g.V.Vol.disk c.start.new.vol in
-    appending old (c.requires.unbegun told) mid (c.start.ensures.any_moment told) c.in-Ok.log c.in-Ok.ensures.log (c.in-Ok.ensures.settled told) c.as_slice.result.now (c.as_slice.ensures.value ∙ c.in_ok-write_vacant.ensures.ok) (are_bytes c.as_slice.result.now (λ k. c.type_inv.records k))
+    appending old (c.requires.unbegun told) mid (c.start.ensures.any_moment told) c.in-Ok.log c.in-Ok.ensures.log (c.in-Ok.ensures.settled told) c.as_slice.result.now (c.as_slice.ensures.value ∙ c.in_ok-records.ensures.bytes) (are_bytes c.as_slice.result.now (λ k. c.type_inv.records k))
     (g.V.Vol.disk c.append.new.vol) (c.append.ensures.any_moment told)
+
+pub returns-in-Err-clause-only : goal.returns-in-Err-clause-only
+returns-in-Err-clause-only g c = start_outside c.in-Err.fault c.of_log.result c.of_log.ensures.value c.in-Err.ensures.only
+
+pub returns-in-Err-2-clause-only : goal.returns-in-Err-2-clause-only
+returns-in-Err-2-clause-only g c = append_outside c.in-Err-2.fault c.of_log-2.result c.of_log-2.ensures.value c.in-Err-2.ensures.only
+
+pub returns-in-Err-clause-cause : goal.returns-in-Err-clause-cause
+returns-in-Err-clause-cause g c = record {
+  later = c.start.ensures.cause.later;
+  failed = λ is. c.in-Err.ensures.cause.failed (open_cause 0 c.in-Err.fault c.of_log.result c.of_log.ensures.value is);
+}
+
+pub returns-in-Err-2-clause-cause : goal.returns-in-Err-2-clause-cause
+returns-in-Err-2-clause-cause g c = record {
+  later = omega (arith, c.start.ensures.cause.later, c.append.ensures.cause.later);
+  failed = λ is. let rose = c.in-Err-2.ensures.cause.failed (open_cause 0 c.in-Err-2.fault c.of_log-2.result c.of_log-2.ensures.value is) in omega (arith, rose, c.start.ensures.cause.later);
+}
