@@ -15,7 +15,7 @@ returns-in_err-effect-clause-fault c =
 pub fold-requires : goal.fold-requires
 fold-requires c =
     let r = c.in_ok-effect in
-    let t = taken c.args.records.now c.args.at r.effect r.behind (λ k. c.type_inv.records k) c.requires.batch r.ensures.reading in
+    let t = taken c.args.records.now c.args.at r.effect r.behind (λ k. (c.type_inv.records k).fits) c.requires.batch r.ensures.reading in
     record { ordered = in_order c.args.durable.now c.requires.formed; given = given r.effect t.allowed }
 
 pub returns-in-Ok-clause-next : goal.returns-in-Ok-clause-next
@@ -24,19 +24,19 @@ returns-in-Ok-clause-next c = record { effect = c.in_ok-effect.effect; reads = c
 pub returns-in-Ok-clause-further : goal.returns-in-Ok-clause-further
 returns-in-Ok-clause-further c =
     let r = c.in_ok-effect in
-    let t = taken c.args.records.now c.args.at r.effect r.behind (λ k. c.type_inv.records k) c.requires.batch r.ensures.reading in
+    let t = taken c.args.records.now c.args.at r.effect r.behind (λ k. (c.type_inv.records k).fits) c.requires.batch r.ensures.reading in
     (t.further, t.within)
 
 pub returns-in-Ok-clause-formed : goal.returns-in-Ok-clause-formed
 returns-in-Ok-clause-formed c =
     let r = c.in_ok-effect in
-    let t = taken c.args.records.now c.args.at r.effect r.behind (λ k. c.type_inv.records k) c.requires.batch r.ensures.reading in
+    let t = taken c.args.records.now c.args.at r.effect r.behind (λ k. (c.type_inv.records k).fits) c.requires.batch r.ensures.reading in
     stays_formed c.args.durable.now r.effect c.fold.new.durable c.requires.formed t.allowed c.in-Ok.ensures.ok
 
 pub returns-in-Ok-clause-light : goal.returns-in-Ok-clause-light
 returns-in-Ok-clause-light c = λ is storable.
     let r = c.in_ok-effect in
-    let t = taken c.args.records.now c.args.at r.effect r.behind (λ k. c.type_inv.records k) c.requires.batch r.ensures.reading in
+    let t = taken c.args.records.now c.args.at r.effect r.behind (λ k. (c.type_inv.records k).fits) c.requires.batch r.ensures.reading in
     let k = c.keeps.ensures.value is in
     stays_light c.args.durable.now r.effect c.fold.new.durable storable t.allowed (sym c.is_light-light.ensures.value ∙ k.0) c.in-Ok.ensures.ok k.1
 

@@ -12,4 +12,4 @@ pub returns-clause-begun : goal.returns-clause-begun
 returns-clause-begun c = record { incarnation = c.in_ok-incarnation.incarnation; reads = c.in_ok-incarnation.ensures.reading; begun_is = refl }
 
 pub returns-clause-storable : goal.returns-clause-storable
-returns-clause-storable c = vacant_stored c.args.records.now c.in_ok-incarnation.incarnation (λ k. c.type_inv.records k) c.requires.batch c.in_ok-incarnation.ensures.reading
+returns-clause-storable c = vacant_stored c.args.records.now c.in_ok-incarnation.incarnation (λ k. (c.type_inv.records k).fits) c.requires.batch c.in_ok-incarnation.ensures.reading

@@ -22,14 +22,14 @@ returns-in-Ok-2-clause-base g c = λ told.
     let old = g.V.Vol.disk c.args.vol.now in
     let mid = g.V.Vol.disk c.start.new.vol in
     let new = g.V.Vol.disk c.append.new.vol in
-    begun old (c.requires.unbegun told) mid (c.start.ensures.any_moment told) c.in-Ok.log c.in-Ok.ensures.log (c.in-Ok.ensures.settled told) c.as_slice.result.now (c.as_slice.ensures.value ∙ c.in_ok-records.ensures.bytes) (are_bytes c.as_slice.result.now (λ k. c.type_inv.records k))
+    begun old (c.requires.unbegun told) mid (c.start.ensures.any_moment told) c.in-Ok.log c.in-Ok.ensures.log (c.in-Ok.ensures.settled told) c.as_slice.result.now (c.as_slice.ensures.value ∙ c.in_ok-records.ensures.bytes) (are_bytes c.as_slice.result.now c.in_ok-records.records.items c.as_slice.ensures.value (λ k. (c.type_inv.records k).fits))
     c.append.new.self new (c.append.ensures.any_moment told) (c.in-Ok-2.ensures.appended told) c.in-Ok-2.ensures.log
 
 pub returns-in-Ok-2-clause-any_moment : goal.returns-in-Ok-2-clause-any_moment
 returns-in-Ok-2-clause-any_moment g c = λ told.
     let old = g.V.Vol.disk c.args.vol.now in
     let mid = g.V.Vol.disk c.start.new.vol in
-    appending old (c.requires.unbegun told) mid (c.start.ensures.any_moment told) c.in-Ok.log c.in-Ok.ensures.log (c.in-Ok.ensures.settled told) c.as_slice.result.now (c.as_slice.ensures.value ∙ c.in_ok-records.ensures.bytes) (are_bytes c.as_slice.result.now (λ k. c.type_inv.records k))
+    appending old (c.requires.unbegun told) mid (c.start.ensures.any_moment told) c.in-Ok.log c.in-Ok.ensures.log (c.in-Ok.ensures.settled told) c.as_slice.result.now (c.as_slice.ensures.value ∙ c.in_ok-records.ensures.bytes) (are_bytes c.as_slice.result.now c.in_ok-records.records.items c.as_slice.ensures.value (λ k. (c.type_inv.records k).fits))
     (g.V.Vol.disk c.append.new.vol) (c.append.ensures.any_moment told)
 
 pub returns-in-Err-clause-any_moment : goal.returns-in-Err-clause-any_moment
@@ -52,7 +52,7 @@ pub returns-in-Err-2-clause-any_moment : goal.returns-in-Err-2-clause-any_moment
 returns-in-Err-2-clause-any_moment g c = λ told.
     let old = g.V.Vol.disk c.args.vol.now in
     let mid = g.V.Vol.disk c.start.new.vol in
-    appending old (c.requires.unbegun told) mid (c.start.ensures.any_moment told) c.in-Ok.log c.in-Ok.ensures.log (c.in-Ok.ensures.settled told) c.as_slice.result.now (c.as_slice.ensures.value ∙ c.in_ok-records.ensures.bytes) (are_bytes c.as_slice.result.now (λ k. c.type_inv.records k))
+    appending old (c.requires.unbegun told) mid (c.start.ensures.any_moment told) c.in-Ok.log c.in-Ok.ensures.log (c.in-Ok.ensures.settled told) c.as_slice.result.now (c.as_slice.ensures.value ∙ c.in_ok-records.ensures.bytes) (are_bytes c.as_slice.result.now c.in_ok-records.records.items c.as_slice.ensures.value (λ k. (c.type_inv.records k).fits))
     (g.V.Vol.disk c.append.new.vol) (c.append.ensures.any_moment told)
 
 pub returns-in-Err-clause-only : goal.returns-in-Err-clause-only

@@ -26,7 +26,7 @@ returns-in-Ok-clause-committed g c = λ told base next is_base is_next.
     let is : c.args.self.now.log ≡ log = sym (ap (λ (s : StoreState). s.log) c.self.view_is) in
     let records = c.as_slice.result.now in
     let are : records ≡ flat_map spelled c.args.effects.now = c.as_slice.ensures.value ∙ c.in_ok-records.ensures.bytes in
-    commits_batch log c.append.new.self base next c.args.effects.now records (g.V.Vol.disk c.args.vol.now) (g.V.Vol.disk c.append.new.vol) (subst (λ (l : LogState). IsBaseOf l base (g.V.Vol.disk c.args.vol.now)) is is_base) is_next are c.requires.records (are_bytes records (λ k. c.type_inv.records k)) (fits_unless (log.end + 6 + length records) (λ long. c.in-Ok.ensures.full.1 long)) (c.append.ensures.any_moment told) (c.in-Ok.ensures.appended told) c.in-Ok.ensures.log
+    commits_batch log c.append.new.self base next c.args.effects.now records (g.V.Vol.disk c.args.vol.now) (g.V.Vol.disk c.append.new.vol) (subst (λ (l : LogState). IsBaseOf l base (g.V.Vol.disk c.args.vol.now)) is is_base) is_next are c.requires.records (are_bytes records c.in_ok-records.records.items c.as_slice.ensures.value (λ k. (c.type_inv.records k).fits)) (fits_unless (log.end + 6 + length records) (λ long. c.in-Ok.ensures.full.1 long)) (c.append.ensures.any_moment told) (c.in-Ok.ensures.appended told) c.in-Ok.ensures.log
 
 pub returns-in-Ok-clause-appended : goal.returns-in-Ok-clause-appended
 returns-in-Ok-clause-appended g c = λ told.
@@ -50,7 +50,7 @@ returns-in-Ok-clause-any_moment g c = λ told base next is_base is_next.
     let is : c.args.self.now.log ≡ log = sym (ap (λ (s : StoreState). s.log) c.self.view_is) in
     let records = c.as_slice.result.now in
     let are : records ≡ flat_map spelled c.args.effects.now = c.as_slice.ensures.value ∙ c.in_ok-records.ensures.bytes in
-    leaves_one_of_both log base next c.args.effects.now records (g.V.Vol.disk c.args.vol.now) (g.V.Vol.disk c.append.new.vol) (subst (λ (l : LogState). IsBaseOf l base (g.V.Vol.disk c.args.vol.now)) is is_base) is_next (g.met.V.Vol.clocked c.args.vol.now) are c.requires.records (are_bytes records (λ k. c.type_inv.records k)) (λ long. absurd (c.in-Ok.ensures.full.1 long)) (c.append.ensures.any_moment told)
+    leaves_one_of_both log base next c.args.effects.now records (g.V.Vol.disk c.args.vol.now) (g.V.Vol.disk c.append.new.vol) (subst (λ (l : LogState). IsBaseOf l base (g.V.Vol.disk c.args.vol.now)) is is_base) is_next (g.met.V.Vol.clocked c.args.vol.now) are c.requires.records (are_bytes records c.in_ok-records.records.items c.as_slice.ensures.value (λ k. (c.type_inv.records k).fits)) (λ long. absurd (c.in-Ok.ensures.full.1 long)) (c.append.ensures.any_moment told)
 
 pub returns-in-Err-clause-any_moment : goal.returns-in-Err-clause-any_moment
 returns-in-Err-clause-any_moment g c = λ told base next is_base is_next.
@@ -58,7 +58,7 @@ returns-in-Err-clause-any_moment g c = λ told base next is_base is_next.
     let is : c.args.self.now.log ≡ log = sym (ap (λ (s : StoreState). s.log) c.self.view_is) in
     let records = c.as_slice.result.now in
     let are : records ≡ flat_map spelled c.args.effects.now = c.as_slice.ensures.value ∙ c.in_ok-records.ensures.bytes in
-    leaves_one_of_both log base next c.args.effects.now records (g.V.Vol.disk c.args.vol.now) (g.V.Vol.disk c.append.new.vol) (subst (λ (l : LogState). IsBaseOf l base (g.V.Vol.disk c.args.vol.now)) is is_base) is_next (g.met.V.Vol.clocked c.args.vol.now) are c.requires.records (are_bytes records (λ k. c.type_inv.records k)) (λ long. ap g.V.Vol.disk (c.in-Err.ensures.full_leaves (c.in-Err.ensures.full.1 long))) (c.append.ensures.any_moment told)
+    leaves_one_of_both log base next c.args.effects.now records (g.V.Vol.disk c.args.vol.now) (g.V.Vol.disk c.append.new.vol) (subst (λ (l : LogState). IsBaseOf l base (g.V.Vol.disk c.args.vol.now)) is is_base) is_next (g.met.V.Vol.clocked c.args.vol.now) are c.requires.records (are_bytes records c.in_ok-records.records.items c.as_slice.ensures.value (λ k. (c.type_inv.records k).fits)) (λ long. ap g.V.Vol.disk (c.in-Err.ensures.full_leaves (c.in-Err.ensures.full.1 long))) (c.append.ensures.any_moment told)
 
 pub returns-in-Ok-clause-fits_in : goal.returns-in-Ok-clause-fits_in
 returns-in-Ok-clause-fits_in g c =
