@@ -1,9 +1,12 @@
-use Rattle.std.proofs.Common.{◌<◌, ◌^◌, ◌≡◌, ℕ, ◌∷◌, ◌∙◌, Option, None, Some, length, sym, subst, arith}
+use Rattle.std.proofs.Common.{◌<◌, ◌^◌, ◌≡◌, ℕ, ◌∷◌, ◌∙◌, Option, Some, Result, IsErrOf, length, sym, subst, arith}
 use Rattle.std.proofs.lemmas.Bool.{true≢false}
 use Rattle.std.proofs.lemmas.Result.{err_from_is_err_and}
 use Rattle.vol_disk.proofs.Moments.{quiet, quiet_then}
 use Rattle.js_base.specs.Bytes.{Bytes}
 use Rattle.gate_log.specs.Reading.{IsReadAt}
+use Rattle.effects.specs.declared.durable.Durable.{Durable}
+use Rattle.log_records.specs.declared.fault.ReadFault.{ReadFault}
+use Rattle.log_records.specs.declared.fault.ReadFault.TheVariants.{Fault}
 use Rattle.log_records.specs.Reading.{IsAddedAt, IsFurther, IsLaterFault}
 use Rattle.log_records.proofs.Reaching.{Reaches, reaches_first, reaches_next, end_gives, end_fault, gives_before, bad_before, outside_fault, later_read_fault, later_is_own}
 use Rattle.log_records.proofs.log.read_later.Goals as goal
@@ -44,6 +47,14 @@ returns-in_err-later-clause-fault g c = λ told.
     rw (p.1, p.2)
     (later_read_fault c.args.log.now c.loop-records.gate c.in-Some.next c.loop-records.durable c.loop-records.last c.in-Some.records was mid c.in_err-later.field-0.0 (c.loop-records.invariant.quiet told)
     (c.loop-records.invariant.reaches told) read fault)
+
+pub returns-in_err-later-clause-cause : goal.returns-in_err-later-clause-cause
+returns-in_err-later-clause-cause g c = record {
+  later = omega (arith, c.loop-records.invariant.later, c.next_batch.ensures.cause.later);
+  failed = λ is.
+      let p = err_from_is_err_and c.from_residual-in_err-later.result c.from_residual-in_err-later.ensures.1 in
+      absurd (later_is_own c.loop-records.gate c.loop-records.durable c.as_slice.result.now c.in_err-later.field-0.0 c.in_err-later.ensures.fault (sym p.2 ∙ subst (λ (r : Result Durable ReadFault). IsErrOf r Fault) p.1 is));
+}
 
 pub loop-records-smaller : goal.loop-records-smaller
 loop-records-smaller g c =

@@ -1,4 +1,4 @@
-use Rattle.std.proofs.Common.{◌<◌, ◌^◌, ℕ, [], ◌∙◌, Option, None, Some, length, refl, sym, subst, arith}
+use Rattle.std.proofs.Common.{◌<◌, ◌^◌, ℕ, [], ◌∙◌, Option, None, Some, Result, IsErrOf, length, refl, sym, subst, arith}
 use Rattle.std.proofs.lemmas.Result.{err_from_is_err_and, IfOk-weaker, IfErr-weaker}
 use Rattle.vol_disk.proofs.Moments.{quiet_then}
 use Rattle.js_base.specs.Bytes.{Bytes}
@@ -6,6 +6,8 @@ use Rattle.gate_log.specs.Reading.{IsReadAt}
 use Rattle.effects.specs.declared.durable.Durable.{Durable}
 use Rattle.log_records.specs.Batches.{Begins}
 use Rattle.log_records.specs.Reading.{IsFurther, IsFirstFault, GivesIn, IsReadFault}
+use Rattle.log_records.specs.declared.fault.ReadFault.{ReadFault}
+use Rattle.log_records.specs.declared.fault.ReadFault.TheVariants.{Fault}
 use Rattle.log_records.proofs.Reaching.{none_gives, vacant_opens, first_begun, first_read_fault, first_is_own, gives_before, outside_fault, fault_before}
 use Rattle.log_records.proofs.log.read_log.Goals as goal
 
@@ -40,6 +42,14 @@ returns-in_err-begun-clause-fault g c = λ told.
     let read = subst (λ (o : Option (Bytes × ℕ)). IsReadAt c.args.log.now 16 was o) c.in-Some.is (c.in_ok-first.ensures.found told) in
     let fault = subst (λ (l : Bytes). IsFirstFault l c.in_err-begun.field-0.0) c.as_slice.ensures c.in_err-begun.ensures.fault in
     rw (p.1, p.2) (first_read_fault c.args.log.now c.in-Some.first c.in-Some.gate was c.in_err-begun.field-0.0 read fault)
+
+pub returns-in_err-begun-clause-cause : goal.returns-in_err-begun-clause-cause
+returns-in_err-begun-clause-cause g c = record {
+  later = c.next_batch.ensures.cause.later;
+  failed = λ is.
+      let p = err_from_is_err_and c.from_residual-in_err-begun.result c.from_residual-in_err-begun.ensures.1 in
+      absurd (first_is_own c.as_slice.result.now c.in_err-begun.field-0.0 c.in_err-begun.ensures.fault (sym p.2 ∙ subst (λ (r : Result Durable ReadFault). IsErrOf r Fault) p.1 is));
+}
 
 pub read_later-requires : goal.read_later-requires
 read_later-requires g c = record {
