@@ -8,6 +8,8 @@ use Rattle.js_base.specs.Bytes.{Bytes, same}
 use Rattle.js_model.specs.declared.stream_config.StreamConfig.{StreamConfig}
 use Rattle.js_model.specs.declared.stream_config.Retention.TheVariants.{Limits}
 use Rattle.js_model.specs.declared.consumer_config.ConsumerConfig.{ConsumerConfig}
+use Rattle.js_model.specs.declared.stream.Message.{Message}
+use Rattle.js_model.specs.declared.consumer.Pending.{Pending}
 use Rattle.js_model.specs.declared.consumer.Consumer.{Consumer}
 use Rattle.js_model.specs.Configs.{is_name, is_number, same_retention, is_stream_config, is_consumer_config}
 use Rattle.js_model.specs.Streams.{by_name, in_place_of}
@@ -23,15 +25,11 @@ use Rattle.effects.specs.declared.durable.Body.{Body}
 use Rattle.effects.specs.declared.durable.Durable.{Durable}
 use Rattle.effects.specs.declared.effect.Effect.{Effect}
 use Rattle.effects.specs.declared.effect.Effect.TheVariants.{MakeStream, ChangeStream, DropStream, PutHere, Skip, Remove, MakeConsumer, DropConsumer, Deliver, Acked, Due, GivenUp, Now}
-use Rattle.effects.specs.Folding.{live, live_if, fold, fold_in, fold_live, fold_vacant, empty_body, holding, removed, consumer_from, with_made, without_consumer, replaced, is_next, numbered, put, at_moment, delivered_to, with_given_up}
+use Rattle.effects.specs.Folding.{live, live_if, fold, fold_in, fold_live, fold_vacant, empty_body, holding, removed, consumer_from, with_made, without_consumer, replaced, is_next, numbered, put, at_moment, delivered, delivered_to, acked, due_at, with_given_up, given_up_by}
 use Rattle.effects.specs.Ranges.{is_within}
 use Rattle.op_records.specs.Allowed.{is_record, is_text, is_header, fits_block, is_served_config, is_cursor, are_picks}
 use Rattle.js_base.specs.Subjects.{is_subject_text}
-use Rattle.record_fold.specs.Changes.{effect_of, changed, changed_in}
 use Rattle.record_fold.specs.Entries.{IsGiven, AreOrderedOf, AreOrderedIn}
-use Rattle.record_fold.specs.declared.change.Change.{Change}
-use Rattle.record_fold.specs.declared.change.Change.TheVariants as changes
-use Rattle.record_fold.proofs.Folds.{IsSame, change_folds, changed_same}
 use Rattle.durable_checks.specs.Storable.{IsConfigured, IsFormedBody, IsFormedOf, IsFormed}
 
 -- ---- records as they are allowed
@@ -93,62 +91,32 @@ ordered_replaced new cs h = ordered_map (in_place_of new) (λ c. (in_place_of-na
 
 -- ---- a change of one consumer
 
--- nor its waiting pulls, its making and its mark
-record IsQuiet (c new : Consumer) : Type 0 where
+-- its name, its configuration, its waiting pulls, its making and its mark stay
+record IsLike (c new : Consumer) : Type 0 where
+  name : new.name ≡ c.name
+  config : new.config ≡ c.config
   waiting : new.waiting ≡ c.waiting
   made : new.made ≡ c.made
   mark : new.mark ≡ c.mark
 
-made_quiet : (c made new : Consumer) → Some made ≡ Some new → made.waiting ≡ c.waiting → made.made ≡ c.made → made.mark ≡ c.mark → IsQuiet c new
-made_quiet c made new h w m k =
-    let is = some_is h in
-    record { waiting = sym (ap (λ (d : Consumer). d.waiting) is) ∙ w; made = sym (ap (λ (d : Consumer). d.made) is) ∙ m; mark = sym (ap (λ (d : Consumer). d.mark) is) ∙ k }
-
-changed_quiet : (change : Change) (c new : Consumer) → changed change c ≡ Some new → IsQuiet c new
-changed_quiet (changes.Deliver entry dseq) c new h = go (dseq == c.dseq + 1) h
-  where
-    go : (b : Bool) → cond b (Some (delivered_to entry dseq c)) None ≡ Some new → IsQuiet c new
-    go true e = made_quiet c (delivered_to entry dseq c) new e refl refl refl
-    go false e = absurd (none_some e)
-changed_quiet (changes.End low high) c new h = made_quiet c (without (is_within low high) c) new h refl refl refl
-changed_quiet (changes.Due seq due) c new h = go (list_any (λ p. p.seq == seq) c.pending) h
-  where
-    go : (b : Bool) → cond b (Some (with_due seq due c)) None ≡ Some new → IsQuiet c new
-    go true e = made_quiet c (with_due seq due c) new e refl refl refl
-    go false e = absurd (none_some e)
-changed_quiet (changes.GiveUp moment) c new h = made_quiet c (with_given_up moment c) new h refl refl refl
-
-configured_same : (c new : Consumer) → IsSame c new → IsQuiet c new → IsConfigured c → IsConfigured new
-configured_same c new s q k = record {
-  waiting = q.waiting ∙ k.waiting;
-  mark = q.mark ∙ k.mark ∙ sym q.made;
-  config = subst (λ (config : ConsumerConfig). IsTrue (is_consumer_config config)) (sym s.config) k.config;
-  named = subst (λ (config : ConsumerConfig). IsTrue (same config.name new.name)) (sym s.config) (subst (λ (n : Bytes). IsTrue (same c.config.name n)) (sym s.name) k.named);
+configured_like : (c new : Consumer) → IsLike c new → IsConfigured c → IsConfigured new
+configured_like c new l k = record {
+  waiting = l.waiting ∙ k.waiting;
+  mark = l.mark ∙ k.mark ∙ sym l.made;
+  config = subst (λ (config : ConsumerConfig). IsTrue (is_consumer_config config)) (sym l.config) k.config;
+  named = subst (λ (config : ConsumerConfig). IsTrue (same config.name new.name)) (sym l.config) (subst (λ (n : Bytes). IsTrue (same c.config.name n)) (sym l.name) k.named);
 }
 
--- ---- each record
-
 -- with another one in its place
-replaced_forms : (i : ℕ) (b : Body) (name : Bytes) (change : Change) → IsFormedBody b → (new : Durable) → live_if i (replaced b (changed_in change (by_name b.consumers name))) ≡ Some new → IsFormed new
-replaced_forms i b name change f new h = found (by_name b.consumers name) refl h
-  where
-    put_in : (c made : Consumer) → by_name b.consumers name ≡ Some c → changed change c ≡ Some made → live_if i (replaced b (Some made)) ≡ Some new → IsFormed new
-    put_in c made at is e =
-        let was : IsConfigured c = all_in IsConfigured b.consumers f.consumers (found_in (λ d. same d.name name) c b.consumers at).0 in
-        let now : IsConfigured made = configured_same c made (changed_same change c made is) (changed_quiet change c made is) was in
-        subst IsFormed (some_is e)
-        (formed_by b (record b { consumers = map (in_place_of made) b.consumers }) f (record { config = refl; writable = f.writable; consumers = configured_replaced made now b.consumers f.consumers; ordered = ordered_replaced made b.consumers f.ordered }))
+replaced_forms : (i : ℕ) (b : Body) (name : Bytes) (c made : Consumer) → IsFormedBody b → by_name b.consumers name ≡ Some c → IsLike c made → (new : Durable) → live_if i (replaced b (Some made)) ≡ Some new → IsFormed new
+replaced_forms i b name c made f at like new e =
+    let was : IsConfigured c = all_in IsConfigured b.consumers f.consumers (found_in (λ d. same d.name name) c b.consumers at).0 in
+    let now : IsConfigured made = configured_like c made like was in
+    subst IsFormed (some_is e)
+    (formed_by b (record b { consumers = map (in_place_of made) b.consumers }) f
+    (record { config = refl; writable = f.writable; consumers = configured_replaced made now b.consumers f.consumers; ordered = ordered_replaced made b.consumers f.ordered }))
 
-    made : (c : Consumer) → by_name b.consumers name ≡ Some c → (o : Option Consumer) → changed change c ≡ o → live_if i (replaced b o) ≡ Some new → IsFormed new
-    made c at None is e = absurd (none_some e)
-    made c at (Some d) is e = put_in c d at is e
-
-    found : (o : Option Consumer) → by_name b.consumers name ≡ o → live_if i (replaced b (changed_in change o)) ≡ Some new → IsFormed new
-    found None at e = absurd (none_some e)
-    found (Some c) at e = made c at (changed change c) refl e
-
-changed_forms : (i : ℕ) (b : Body) (name : Bytes) (change : Change) → IsFormedBody b → (new : Durable) → fold (live i b) (effect_of name change) ≡ Some new → IsFormed new
-changed_forms i b name change f new h = replaced_forms i b name change f new (sym (change_folds i b name change) ∙ h)
+-- ---- each record
 
 -- if the test passes, this is made
 tested_forms : (t : Bool) (made new : Durable) → IsFormed made → cond t (Some made) None ≡ Some new → IsFormed new
@@ -183,7 +151,7 @@ live_forms i b (ChangeStream config) f is new h =
     subst IsFormed (some_is h) (record { config = config_is.0; retention = config_is.1; writable = f.writable; consumers = f.consumers; ordered = f.ordered })
 live_forms i b DropStream f is new h = subst IsFormed (some_is h) tt
 live_forms i b (PutHere seq at id subject headers payload) f is new h =
-    let message = record { seq = seq; at = at; subject = subject; headers = headers; payload = payload } in
+    let message : Message = record { seq = seq; at = at; subject = subject; headers = headers; payload = payload } in
     let last = and_parts (is_number seq && is_number at && is_text id && is_subject_text subject && is_header headers) (fits_block headers payload) is in
     let block = and_parts (is_number seq && is_number at && is_text id && is_subject_text subject) (is_header headers) last.0 in
     let addressed = and_parts (is_number seq && is_number at && is_text id) (is_subject_text subject) block.0 in
@@ -227,10 +195,37 @@ live_forms i b (DropConsumer name) f is new h = go (by_name b.consumers name) h
         subst IsFormed (some_is e)
         (formed_by b (record b { consumers = filter passes b.consumers }) f
         (record { config = refl; writable = f.writable; consumers = All-filter passes IsConfigured b.consumers f.consumers; ordered = ordered_filter passes b.consumers f.ordered }))
-live_forms i b (Deliver name seq count due dseq) f is new h = changed_forms i b name (changes.Deliver (record { seq = seq; count = count; due = due }) dseq) f new h
-live_forms i b (Acked name low high) f is new h = changed_forms i b name (changes.End low high) f new h
-live_forms i b (Due name seq due) f is new h = changed_forms i b name (changes.Due seq due) f new h
-live_forms i b (GivenUp name moment) f is new h = changed_forms i b name (changes.GiveUp moment) f new h
+live_forms i b (Deliver name seq count due dseq) f is new h = go (by_name b.consumers name) refl h
+  where
+    entry : Pending
+    entry = record { seq = seq; count = count; due = due }
+
+    by : (c : Consumer) → by_name b.consumers name ≡ Some c → (t : Bool) → live_if i (replaced b (cond t (Some (delivered_to entry dseq c)) None)) ≡ Some new → IsFormed new
+    by c at true e = replaced_forms i b name c (delivered_to entry dseq c) f at (record { name = refl; config = refl; waiting = refl; made = refl; mark = refl }) new e
+    by c at false e = absurd (none_some e)
+
+    go : (o : Option Consumer) → by_name b.consumers name ≡ o → live_if i (replaced b (delivered entry dseq o)) ≡ Some new → IsFormed new
+    go None at e = absurd (none_some e)
+    go (Some c) at e = by c at (dseq == c.dseq + 1) e
+live_forms i b (Acked name low high) f is new h = go (by_name b.consumers name) refl h
+  where
+    go : (o : Option Consumer) → by_name b.consumers name ≡ o → live_if i (replaced b (acked low high o)) ≡ Some new → IsFormed new
+    go None at e = absurd (none_some e)
+    go (Some c) at e = replaced_forms i b name c (without (is_within low high) c) f at (record { name = refl; config = refl; waiting = refl; made = refl; mark = refl }) new e
+live_forms i b (Due name seq due) f is new h = go (by_name b.consumers name) refl h
+  where
+    by : (c : Consumer) → by_name b.consumers name ≡ Some c → (t : Bool) → live_if i (replaced b (cond t (Some (with_due seq due c)) None)) ≡ Some new → IsFormed new
+    by c at true e = replaced_forms i b name c (with_due seq due c) f at (record { name = refl; config = refl; waiting = refl; made = refl; mark = refl }) new e
+    by c at false e = absurd (none_some e)
+
+    go : (o : Option Consumer) → by_name b.consumers name ≡ o → live_if i (replaced b (due_at seq due o)) ≡ Some new → IsFormed new
+    go None at e = absurd (none_some e)
+    go (Some c) at e = by c at (list_any (λ p. p.seq == seq) c.pending) e
+live_forms i b (GivenUp name moment) f is new h = go (by_name b.consumers name) refl h
+  where
+    go : (o : Option Consumer) → by_name b.consumers name ≡ o → live_if i (replaced b (given_up_by moment o)) ≡ Some new → IsFormed new
+    go None at e = absurd (none_some e)
+    go (Some c) at e = replaced_forms i b name c (with_given_up moment c) f at (record { name = refl; config = refl; waiting = refl; made = refl; mark = refl }) new e
 live_forms i b (Now moment) f is new h = tested_forms (nat_le b.moment moment) (live i (at_moment moment b)) new (kept_whole b (at_moment moment b) f refl f.writable refl) h
 
 pub stays_formed : (old : Durable) (e : Effect) (new : Durable) → IsFormed old → IsTrue (is_record e) → fold old e ≡ Some new → IsFormed new

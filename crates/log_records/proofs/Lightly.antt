@@ -180,13 +180,13 @@ module _ (t : ℕ → Bool) where
 
 -- ---- the consumers of a stream
 
-each : {P Q : Consumer → Type 0} (f : Consumer → Consumer) → ((c : Consumer) → P c → Q (f c)) → (cs : List Consumer) → All P cs → All Q (map f cs)
-each {Q = Q} f g [] h = All-nil Q
-each {P = P} {Q = Q} f g (c ∷ cs) h = All-cons Q (f c) (map f cs) (g c (All-head P c cs h)) (each f g cs (All-tail P c cs h))
+each : (P Q : Consumer → Type 0) (f : Consumer → Consumer) → ((c : Consumer) → P c → Q (f c)) → (cs : List Consumer) → All P cs → All Q (map f cs)
+each P Q f g [] h = All-nil Q
+each P Q f g (c ∷ cs) h = All-cons Q (f c) (map f cs) (g c (All-head P c cs h)) (each P Q f g cs (All-tail P c cs h))
 
 -- with another one in the place of the one of its name
 all_replaced : (P : Consumer → Type 0) (new : Consumer) (cs : List Consumer) → P new → All P cs → All P (map (in_place_of new) cs)
-all_replaced P new cs h all = each {P = P} {Q = P} (in_place_of new) (λ c k. go (same c.name new.name) c k) cs all
+all_replaced P new cs h all = each P P (in_place_of new) (λ c k. go (same c.name new.name) c k) cs all
   where
     go : (b : Bool) (c : Consumer) → P c → P (cond b new c)
     go true c k = h
@@ -282,7 +282,7 @@ module _ (i : ℕ) (b : Body) (k : IsStorable (live i b)) where
         stored = record {
           config = own.config;
           messages = part_between (λ m. m.seq) 1 (b.last + 1) part own.messages;
-          consumers = each {P = IsWellStoredConsumer b.messages b.last} {Q = IsWellStoredConsumer (filter (λ m. t m.seq) b.messages) b.last} (holding t)
+          consumers = each (IsWellStoredConsumer b.messages b.last) (IsWellStoredConsumer (filter (λ m. t m.seq) b.messages) b.last) (holding t)
               (λ c h. less_sound b.messages (filter (λ m. t m.seq) b.messages) b.last c (holding t c) (holding_less t c) (holding_there t b.messages b.last c h) h) b.consumers own.consumers;
           ordered = ordered_map (holding t) (λ c. refl) b.consumers own.ordered;
           ids = own.ids;
@@ -297,7 +297,7 @@ module _ (i : ℕ) (b : Body) (k : IsStorable (live i b)) where
           ids = bounds.ids;
           each_id = bounds.each_id;
           consumers = let a = length-map b.consumers (holding t) in let c = bounds.consumers in omega (arith, a, c);
-          each_consumer = each {P = IsBoundedConsumer} {Q = IsBoundedConsumer} (holding t) (λ c h. less_bounded c (holding t c) (holding_less t c) h) b.consumers bounds.each_consumer;
+          each_consumer = each IsBoundedConsumer IsBoundedConsumer (holding t) (λ c h. less_bounded c (holding t c) (holding_less t c) h) b.consumers bounds.each_consumer;
         };
       }
 
@@ -346,9 +346,9 @@ module _ (i : ℕ) (b : Body) (k : IsStorable (live i b)) where
   }
 
   ended : (t : ℕ → Bool) (c : Consumer) → IsIn c b.consumers → IsStorable (live i (record b { consumers = map (in_place_of (without t c)) b.consumers }))
-  ended t c there =
-      let sound = all_in (IsWellStoredConsumer b.messages b.last) b.consumers own.consumers there in
-      let bounded = all_in IsBoundedConsumer b.consumers bounds.each_consumer there in
+  ended t c is_in =
+      let sound = all_in (IsWellStoredConsumer b.messages b.last) b.consumers own.consumers is_in in
+      let bounded = all_in IsBoundedConsumer b.consumers bounds.each_consumer is_in in
       changes (without t c) (less_sound b.messages b.messages b.last c (without t c) (without_less t c) (without_there t b.messages b.last c sound) sound) (less_bounded c (without t c) (without_less t c) bounded)
 
 -- ---- another due time
@@ -367,9 +367,9 @@ due_bounded n due p number h = go (p.seq == n)
     go true = record { count = h.count; due = number }
     go false = h
 
-each_entry : {P Q : Pending → Type 0} (f : Pending → Pending) → ((p : Pending) → P p → Q (f p)) → (ps : List Pending) → All P ps → All Q (map f ps)
-each_entry {Q = Q} f g [] h = All-nil Q
-each_entry {P = P} {Q = Q} f g (p ∷ ps) h = All-cons Q (f p) (map f ps) (g p (All-head P p ps h)) (each_entry f g ps (All-tail P p ps h))
+each_entry : (P Q : Pending → Type 0) (f : Pending → Pending) → ((p : Pending) → P p → Q (f p)) → (ps : List Pending) → All P ps → All Q (map f ps)
+each_entry P Q f g [] h = All-nil Q
+each_entry P Q f g (p ∷ ps) h = All-cons Q (f p) (map f ps) (g p (All-head P p ps h)) (each_entry P Q f g ps (All-tail P p ps h))
 
 due_between : (n due high : ℕ) (ps : List Pending) → Between (λ p. p.seq) 1 high ps → Between (λ p. p.seq) 1 high (map (moved n due) ps)
 due_between n due high ps h =
@@ -390,7 +390,7 @@ due_sound ms last n due c k = record {
   picks_pending = rw (moved-seqs n due c.pending) k.picks_pending;
   picks_given_up = k.picks_given_up;
   pending_given_up = rw (moved-seqs n due c.pending) k.pending_given_up;
-  counts = each_entry {P = IsCounted c.dseq c.config.max_deliver} {Q = IsCounted c.dseq c.config.max_deliver} (moved n due) (due_counted n due c.dseq c.config.max_deliver) c.pending k.counts;
+  counts = each_entry (IsCounted c.dseq c.config.max_deliver) (IsCounted c.dseq c.config.max_deliver) (moved n due) (due_counted n due c.dseq c.config.max_deliver) c.pending k.counts;
   unacknowledged_pending = λ e. ap (map (moved n due)) (k.unacknowledged_pending e);
   unacknowledged_given_up = k.unacknowledged_given_up;
   push = k.push;
@@ -403,7 +403,7 @@ due_within n due c number k = record {
   dseq = k.dseq;
   picks = k.picks;
   pending = let a = length-map c.pending (moved n due) in let b = k.pending in omega (arith, a, b);
-  entries = each_entry {P = IsBoundedEntry} {Q = IsBoundedEntry} (moved n due) (λ p h. due_bounded n due p number h) c.pending k.entries;
+  entries = each_entry IsBoundedEntry IsBoundedEntry (moved n due) (λ p h. due_bounded n due p number h) c.pending k.entries;
   given_up = k.given_up;
 }
 

@@ -1,5 +1,5 @@
 -- How the batches of a log are read, from gate to gate.
-use Rattle.std.proofs.Common.{◌≡◌, ◌⊎◌, inl, inr, ℕ, ◌+◌, List, [], ◌∷◌, ◌++◌, Option, Some, None, length, refl, sym, ap, subst, ◌∙◌, append_assoc}
+use Rattle.std.proofs.Common.{◌≡◌, ◌⊎◌, inl, inr, ℕ, ◌+◌, List, [], ◌∷◌, ◌++◌, Option, Some, None, Result, Err, length, refl, sym, ap, subst, ◌∙◌, append_assoc}
 use Rattle.std.specs.Prelude.{All, unwrap_or}
 use Rattle.std.proofs.lemmas.List.Elements.{All-nil, All-push, All-cons}
 use Rattle.std.proofs.lemmas.List.{append-nil}
@@ -222,9 +222,12 @@ fault_before log old new Fault still h = tt
 fault_before log old new (Damaged at) still h = bad_before log old new at still h
 fault_before log old new OutOfMemory still h = tt
 
--- these faults are not the volume's
-pub first_is_own : (first : Bytes) (fault : ReadFault) → IsFirstFault first fault → fault ≡ Fault → ⊥
-first_is_own first fault h is = subst (IsFirstFault first) is h
+pub cause_told : {T : Type 0} (result : Result T ReadFault) (told cause : ReadFault) → result ≡ Err told → told ≡ cause → result ≡ Err Fault → cause ≡ Fault
+cause_told result told cause p q is = cc
 
-pub later_is_own : (gate : ℕ) (d : Durable) (records : Bytes) (fault : ReadFault) → IsLaterFault gate d records fault → fault ≡ Fault → ⊥
-later_is_own gate d records fault h is = subst (IsLaterFault gate d records) is h
+-- these faults are not the volume's
+pub first_is_own : (first : Bytes) (cause : ReadFault) → IsFirstFault first cause → cause ≡ Fault → ⊥
+first_is_own first cause h is = subst (IsFirstFault first) is h
+
+pub later_is_own : (gate : ℕ) (d : Durable) (records : Bytes) (cause : ReadFault) → IsLaterFault gate d records cause → cause ≡ Fault → ⊥
+later_is_own gate d records cause h is = subst (IsLaterFault gate d records) is h

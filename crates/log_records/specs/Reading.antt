@@ -121,7 +121,7 @@ pub record IsAddedAt (gate : ℕ) (old : Durable) (bytes : Bytes) (new : Durable
 -- what can be a batch was found, and a gate further on
 abbrev pub IsFurther : ℕ → Option (Bytes × ℕ) → Type 0
 IsFurther gate None = Unit {0}
-IsFurther gate (Some found) = (length found.0 < 2 ^ 32) × (gate < found.1)
+IsFurther gate (Some found) = (length found.0 < 2 ^ 32) × (gate < found.1) × (found.1 < 2 ^ 64)
 
 -- the volume failed, or memory ran out
 abbrev pub IsOutside : ReadFault → Type 0

@@ -1,6 +1,6 @@
 //! The batches of a log, one after the other.
 
-ghost use Rattle.std.specs.Prelude.{◌≡◌, ◌↔◌, Some, IfOk, IfErr, IsErrOf, IsTrue, List};
+ghost use Rattle.std.specs.Prelude.{◌≡◌, ◌<◌, ◌^◌, length, Some, IfOk, IfErr, IsErrOf, IsTrue, List};
 ghost use Rattle.vol_disk.specs.Moments.{Quiet};
 ghost use Rattle.js_base.specs.Bytes.{Bytes};
 ghost use Rattle.js_base.specs.Causes.{HasCause};
@@ -92,7 +92,8 @@ fn add_later(
 
 /// Whether these can be the records of a batch behind a gate, and the other can be the next gate.
 fn is_batch(records: &Blob, gate: u64, next: u64) -> bool
-    ensures value { IsTrue result ↔ IsFurther gate (Some (records.now, next)) }
+    ensures further { IsTrue result → IsFurther gate (Some (records.now, next)) }
+    ensures rest { (length records.now < 2 ^ 32) × (gate < next) → IsTrue result }
 {
     records.len() < LENGTHS_END && gate < next
 }

@@ -1,5 +1,5 @@
 -- The current log as it is found, and the faults of both.
-use Rattle.std.proofs.Common.{◌≡◌, ◌⊎◌, inl, inr, ℕ, Bool, true, false, cond, List, [], ◌∷◌, Option, Some, None, refl, sym, ap, subst, ◌∙◌}
+use Rattle.std.proofs.Common.{◌≡◌, ◌⊎◌, inl, inr, ℕ, Bool, true, false, cond, List, [], ◌∷◌, Option, Some, None, Result, Err, refl, sym, ap, subst, ◌∙◌}
 use Rattle.std.specs.Prelude.{IsSome}
 use Rattle.vol_disk.specs.Disk.{Disk, Files}
 use Rattle.vol_disk.specs.Images.{IsDurable, IsImage}
@@ -62,6 +62,9 @@ pub read_fault_of : (file : ℕ) (log : LogState) (disk : Disk) (fault : ReadFau
 read_fault_of file log disk records.Fault h = tt
 read_fault_of file log disk (records.Damaged at) h = (refl, h)
 read_fault_of file log disk records.NoMemory h = tt
+
+pub told_as : {T E : Type 0} (r : Result T E) (a b : E) → r ≡ Err a → r ≡ Err b → a ≡ b
+told_as r a b p q = cc
 
 pub open_cause : (file : ℕ) (fault : LogFault) (told : OpenFault) → told ≡ open_fault file fault → told ≡ Fault → fault ≡ logs.Fault
 open_cause file logs.Fault told e is = refl

@@ -10,4 +10,4 @@ returns-else-is_batch-clause-only g c = λ told.
     let old = g.V.Vol.disk c.args.vol.now in
     let found = c.in-Ok-Some in
     let read = subst (λ (o : Option (Bytes × ℕ)). IsReadAt c.args.log.now c.args.gate old o) found.field-0-is (found.ensures.found told) in
-    absurd (true≢false (sym (c.if-is_batch.ensures.value.1 (found_batch c.args.log.now c.args.gate old found.records found.next (c.requires.gate told) read))))
+    absurd (true≢false (sym (c.if-is_batch.ensures.rest (found_batch c.args.log.now c.args.gate old found.records found.next (c.requires.gate told) read))))

@@ -5,8 +5,8 @@ use Rattle.log_records.proofs.Reaching.{Reaches}
 use Rattle.log_records.proofs.log.read_later.Given as goal
 
 -- the batches up to this gate are added
-abbrev pub invariant-loop-records : goal.invariant-loop-records
-invariant-loop-records g l = record {
+abbrev pub invariant-loop-durable : goal.invariant-loop-durable
+invariant-loop-durable g l = record {
   quiet : g.V.Vol.told → Quiet (g.V.Vol.disk l.fn.vol) (g.V.Vol.disk l.vol);
   reaches : g.V.Vol.told → Reaches l.log l.gate l.durable l.last (g.V.Vol.disk l.vol);
   formed : IsFormed l.durable;
@@ -14,5 +14,5 @@ invariant-loop-records g l = record {
   later : g.V.Vol.faults l.fn.vol ≤ g.V.Vol.faults l.vol;
 }
 
-abbrev pub decreases-loop-records : goal.decreases-loop-records
-decreases-loop-records g l = 2 ^ 64 - l.gate
+abbrev pub decreases-loop-durable : goal.decreases-loop-durable
+decreases-loop-durable g l = 2 ^ 64 - l.gate

@@ -1,14 +1,11 @@
-use Rattle.std.proofs.Common.{◌<◌, ◌^◌, ℕ, [], ◌∙◌, Option, None, Some, Result, IsErrOf, length, refl, sym, subst, arith}
+use Rattle.std.proofs.Common.{◌<◌, ◌^◌, ℕ, [], ◌∙◌, Option, None, Some, length, refl, sym, subst, arith}
 use Rattle.std.proofs.lemmas.Result.{err_from_is_err_and, IfOk-weaker, IfErr-weaker}
 use Rattle.vol_disk.proofs.Moments.{quiet_then}
 use Rattle.js_base.specs.Bytes.{Bytes}
 use Rattle.gate_log.specs.Reading.{IsReadAt}
-use Rattle.effects.specs.declared.durable.Durable.{Durable}
 use Rattle.log_records.specs.Batches.{Begins}
 use Rattle.log_records.specs.Reading.{IsFurther, IsFirstFault, GivesIn, IsReadFault}
-use Rattle.log_records.specs.declared.fault.ReadFault.{ReadFault}
-use Rattle.log_records.specs.declared.fault.ReadFault.TheVariants.{Fault}
-use Rattle.log_records.proofs.Reaching.{none_gives, vacant_opens, first_begun, first_read_fault, first_is_own, gives_before, outside_fault, fault_before}
+use Rattle.log_records.proofs.Reaching.{none_gives, vacant_opens, first_begun, first_read_fault, first_is_own, gives_before, outside_fault, cause_told, fault_before}
 use Rattle.log_records.proofs.log.read_log.Goals as goal
 
 pub next_batch-requires : goal.next_batch-requires
@@ -48,7 +45,7 @@ returns-in_err-begun-clause-cause g c = record {
   later = c.next_batch.ensures.cause.later;
   failed = λ is.
       let p = err_from_is_err_and c.from_residual-in_err-begun.result c.from_residual-in_err-begun.ensures.1 in
-      absurd (first_is_own c.as_slice.result.now c.in_err-begun.field-0.0 c.in_err-begun.ensures.fault (sym p.2 ∙ subst (λ (r : Result Durable ReadFault). IsErrOf r Fault) p.1 is));
+      absurd (first_is_own c.as_slice.result.now c.in_err-begun.field-0.0 c.in_err-begun.ensures.fault (cause_told c.from_residual-in_err-begun.result p.0 c.in_err-begun.field-0.0 p.1 p.2 is));
 }
 
 pub read_later-requires : goal.read_later-requires

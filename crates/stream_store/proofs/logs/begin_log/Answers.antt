@@ -1,10 +1,12 @@
-use Rattle.std.proofs.Common.{[], ◌∷◌, ◌∙◌, IsSome, ap, sym, subst, arith}
+use Rattle.stream_store.specs.declared.fault.OpenFault.TheVariants.{Fault}
+use Rattle.gate_log.specs.declared.fault.LogFault.{LogFault}
+use Rattle.std.proofs.Common.{[], ◌∷◌, ◌∙◌, IsSome, ap, sym, subst, arith, Err, refl}
 use Rattle.js_base.specs.Bytes.{Bytes}
 use Rattle.gate_log.specs.LogState.{LogState}
 use Rattle.gate_log.specs.Settled.{IsSettled}
 use Rattle.stream_store.proofs.Beginning.{starting, appending, begun, begun_rests}
 use Rattle.stream_store.proofs.Records.{are_bytes}
-use Rattle.stream_store.proofs.Finding.{open_cause, start_outside, append_outside}
+use Rattle.stream_store.proofs.Finding.{open_cause, start_outside, append_outside, told_as}
 use Rattle.stream_store.proofs.logs.begin_log.Goals as goal
 
 pub start-requires : goal.start-requires
@@ -64,11 +66,11 @@ returns-in-Err-2-clause-only g c = append_outside c.in-Err-2.fault c.of_log-2.re
 pub returns-in-Err-clause-cause : goal.returns-in-Err-clause-cause
 returns-in-Err-clause-cause g c = record {
   later = c.start.ensures.cause.later;
-  failed = λ is. c.in-Err.ensures.cause.failed (open_cause 0 c.in-Err.fault c.of_log.result c.of_log.ensures.value is);
+  failed = λ is. c.in-Err.ensures.cause.failed (ap (λ (fault : LogFault). Err fault) (open_cause 0 c.in-Err.fault c.of_log.result c.of_log.ensures.value (told_as _ c.of_log.result Fault refl is)));
 }
 
 pub returns-in-Err-2-clause-cause : goal.returns-in-Err-2-clause-cause
 returns-in-Err-2-clause-cause g c = record {
   later = omega (arith, c.start.ensures.cause.later, c.append.ensures.cause.later);
-  failed = λ is. let rose = c.in-Err-2.ensures.cause.failed (open_cause 0 c.in-Err-2.fault c.of_log-2.result c.of_log-2.ensures.value is) in omega (arith, rose, c.start.ensures.cause.later);
+  failed = λ is. let rose = c.in-Err-2.ensures.cause.failed (ap (λ (fault : LogFault). Err fault) (open_cause 0 c.in-Err-2.fault c.of_log-2.result c.of_log-2.ensures.value (told_as _ c.of_log-2.result Fault refl is))) in omega (arith, rose, c.start.ensures.cause.later);
 }
