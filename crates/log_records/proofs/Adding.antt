@@ -1,5 +1,5 @@
 -- How the records of a batch are read, one behind the other.
-use Rattle.std.proofs.Common.{◌≡◌, ◌⊎◌, inl, inr, ℕ, ◌+◌, ◌<◌, ◌≤◌, List, [], ◌∷◌, ◌++◌, Option, Some, None, Ok, Err, length, refl, sym, ap, subst, ◌∙◌, arith}
+use Rattle.std.proofs.Common.{◌≡◌, inl, inr, ℕ, ◌<◌, ◌≤◌, [], ◌∷◌, ◌++◌, Option, Some, None, Ok, length, refl, sym, ap, subst, ◌∙◌, arith}
 use Rattle.js_base.specs.Bytes.{Bytes}
 use Rattle.effects.specs.declared.durable.Durable.{Durable}
 use Rattle.effects.specs.declared.effect.Effect.{Effect}
@@ -7,8 +7,7 @@ use Rattle.effects.specs.Folding.{fold, fold_all}
 use Rattle.effects.proofs.Removing.{fold_append}
 use Rattle.op_records.specs.Reading.{Stand, record_at}
 use Rattle.durable_checks.specs.Storable.{IsStorable}
-use Rattle.log_records.specs.Batches.{Adds}
-use Rattle.log_records.specs.Damage.{IsFolded, IsLast, HasBadRecord}
+use Rattle.log_records.specs.Damage.{IsFolded, HasBadRecord}
 use Rattle.log_records.specs.Reading.{IsWrongNext, IsNext, IsNextFault, IsLastOf, AreRead, IsAdded, IsBatchFault}
 use Rattle.log_records.specs.declared.batch.BatchFault.{BatchFault}
 use Rattle.log_records.specs.declared.batch.BatchFault.TheVariants as batch

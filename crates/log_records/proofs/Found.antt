@@ -1,5 +1,5 @@
 -- What is found at a gate is a batch, and the next gate stands further on.
-use Rattle.std.proofs.Common.{◌≡◌, ◌≢◌, ℕ, ◌+◌, ◌<◌, ◌^◌, List, [], ◌∷◌, ◌++◌, Some, length, sym, subst, ◌∙◌, arith}
+use Rattle.std.proofs.Common.{◌≡◌, ◌≢◌, ℕ, ◌<◌, ◌^◌, [], ◌∷◌, Some, length, sym, subst, ◌∙◌, arith}
 use Rattle.vol_disk.specs.Disk.{Disk}
 use Rattle.js_base.specs.Bytes.{Bytes}
 use Rattle.gate_log.specs.LogState.{LogState}

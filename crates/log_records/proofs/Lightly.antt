@@ -1,10 +1,10 @@
 -- Light records keep what is stored sound and within its bounds.
-use Rattle.std.proofs.Common.{◌≡◌, ℕ, ◌+◌, ◌<◌, ◌≤◌, ◌^◌, Bool, true, false, cond, ◌&&◌, ◌||◌, not, List, [], ◌∷◌, ◌++◌, length, map, Option, Some, None, IsTrue, refl, sym, ap, subst, ◌∙◌, arith}
+use Rattle.std.proofs.Common.{◌≡◌, ℕ, ◌+◌, ◌≤◌, ◌^◌, Bool, true, false, cond, ◌&&◌, ◌||◌, not, List, [], ◌∷◌, ◌++◌, length, map, Option, Some, None, IsTrue, refl, sym, ap, subst, ◌∙◌, arith}
 use Rattle.std.specs.Prelude.{All, filter, nat_le, nat_lt, ◌==◌}
 use Rattle.std.specs.List.{list_any}
 use Rattle.std.proofs.lemmas.Bool.{and_parts, ltb-true, eqb-true, true≢false}
 use Rattle.std.proofs.lemmas.List.{length-map}
-use Rattle.std.proofs.lemmas.List.Elements.{All-nil, All-cons, All-head, All-tail, All-filter, All-push, All-weaker}
+use Rattle.std.proofs.lemmas.List.Elements.{All-nil, All-cons, All-head, All-tail, All-push, All-weaker}
 use Rattle.js_base.specs.Bytes.{Bytes, has, same, is_empty}
 use Rattle.js_base.specs.Moments.{plus}
 use Rattle.js_model.specs.declared.stream.Message.{Message}
@@ -12,17 +12,17 @@ use Rattle.js_model.specs.declared.stream.Id.{Id}
 use Rattle.js_model.specs.declared.consumer.Pending.{Pending}
 use Rattle.js_model.specs.declared.consumer.Consumer.{Consumer}
 use Rattle.js_model.specs.Configs.{is_number, is_name}
-use Rattle.js_model.specs.Lists.{Between, Apart, IsPart, none, keep, skip}
+use Rattle.js_model.specs.Lists.{Between, IsPart, none, keep, skip}
 use Rattle.js_model.specs.Streams.{by_name, in_place_of, seqs, pending_seqs}
 use Rattle.js_model.specs.Acknowledge.{without, moved, with_due}
 use Rattle.js_model.proofs.Lacking.{has-part, apart-parts}
 use Rattle.js_model.proofs.Members.{IsIn, found_in, all_in}
 use Rattle.js_model.proofs.Named.{in_place_of-names, some_is, none_some}
 use Rattle.js_model.proofs.Parts.{all_part, filter_part, part_map, part-length, part_between, between_push, between_higher, between_map, between_from_map}
-use Rattle.model_laws.specs.Sound.{AreStored, IsCounted, IsWellStoredConsumer, IsWellStoredStream, AreDifferent}
+use Rattle.model_laws.specs.Sound.{AreStored, IsCounted, IsWellStoredConsumer, IsWellStoredStream}
 use Rattle.model_laws.specs.Bounds.{IsNumber, IsBoundedMessage, IsBoundedId, IsBoundedEntry, IsBoundedConsumer, IsBoundedStream}
 use Rattle.model_laws.proofs.NameOrder.{ordered_filter}
-use Rattle.model_laws.proofs.SoundAcks.{moved-seq, moved-seqs}
+use Rattle.model_laws.proofs.SoundAcks.{moved-seqs}
 use Rattle.model_laws.proofs.SoundParts.{has-filter, has-kept, map-filter, ordered_map}
 use Rattle.model_laws.proofs.SoundTime.{different_part}
 use Rattle.effects.specs.declared.durable.Body.{Body}

@@ -1,7 +1,7 @@
 -- How the batches of a log are read, from gate to gate.
-use Rattle.std.proofs.Common.{◌≡◌, ◌⊎◌, inl, inr, ℕ, ◌+◌, List, [], ◌∷◌, ◌++◌, Option, Some, None, Result, Err, length, refl, sym, ap, subst, ◌∙◌, append_assoc}
-use Rattle.std.specs.Prelude.{All, unwrap_or}
-use Rattle.std.proofs.lemmas.List.Elements.{All-nil, All-push, All-cons}
+use Rattle.std.proofs.Common.{◌≡◌, ◌⊎◌, inl, inr, ℕ, ◌+◌, List, [], ◌∷◌, ◌++◌, Option, Some, None, Result, Err, refl, sym, ap, subst, ◌∙◌, append_assoc}
+use Rattle.std.specs.Prelude.{unwrap_or}
+use Rattle.std.proofs.lemmas.List.Elements.{All-nil, All-push}
 use Rattle.std.proofs.lemmas.List.{append-nil}
 use Rattle.vol_disk.specs.Disk.{Disk}
 use Rattle.vol_disk.specs.Moments.{Quiet}
@@ -9,15 +9,15 @@ use Rattle.js_base.specs.Bytes.{Bytes}
 use Rattle.gate_log.specs.Batches.{end_of}
 use Rattle.gate_log.specs.LogState.{LogState, generation_of}
 use Rattle.gate_log.specs.Settled.{IsSettled}
-use Rattle.gate_log.specs.Reading.{IsGate, IsReadAt, IsFirstOf}
+use Rattle.gate_log.specs.Reading.{IsGate, IsReadAt}
 use Rattle.gate_log.proofs.GateReads.{settled_quiet, next_gate}
 use Rattle.gate_log.proofs.OneReading.{law}
 use Rattle.effects.specs.declared.durable.Durable.{Durable}
 use Rattle.effects.specs.Folding.{vacant}
 use Rattle.durable_checks.specs.Storable.{IsStorable, IsOpenable}
 use Rattle.log_records.specs.Batches.{Adds, AddAll, Begins, Gives}
-use Rattle.log_records.specs.Damage.{IsAt, IsLast, HasBadRecord, IsEmptyFirst, IsWrongFirst, HasBadBatch, offset}
-use Rattle.log_records.specs.Reading.{IsLastAt, IsLastIn, IsReadTo, IsBegun, IsAddedAt, IsLastFrom, IsFirstFault, IsLaterFault, IsOutside, IsReadFault, GivesIn}
+use Rattle.log_records.specs.Damage.{IsLast, HasBadRecord, IsEmptyFirst, IsWrongFirst, HasBadBatch}
+use Rattle.log_records.specs.Reading.{IsLastIn, IsReadTo, IsBegun, IsAddedAt, IsLastFrom, IsFirstFault, IsLaterFault, IsOutside, IsReadFault, GivesIn}
 use Rattle.log_records.specs.declared.fault.ReadFault.{ReadFault}
 use Rattle.log_records.specs.declared.fault.ReadFault.TheVariants.{Fault, Damaged, NoMemory as OutOfMemory}
 

@@ -1,5 +1,5 @@
 -- How what is known of the bytes of a batch is told of its log.
-use Rattle.std.proofs.Common.{◌≡◌, ◌≢◌, ◌⊎◌, inl, inr, ℕ, ◌+◌, ◌==◌, true, false, List, [], ◌∷◌, Option, Some, None, Err, length, refl, sym, subst, arith}
+use Rattle.std.proofs.Common.{◌≡◌, ◌≢◌, inr, ℕ, ◌==◌, true, false, [], ◌∷◌, Some, None, Err, length, refl, sym, subst, arith}
 use Rattle.std.proofs.lemmas.Bool.{eqb-true, true≢false}
 use Rattle.js_base.specs.Bytes.{Bytes}
 use Rattle.effects.specs.declared.durable.Durable.{Durable}
@@ -8,7 +8,6 @@ use Rattle.op_records.specs.declared.fault.RecordFault.{RecordFault}
 use Rattle.log_records.specs.Damage.{IsAt}
 use Rattle.log_records.specs.Reading.{IsStartFault, IsBatchFault, IsTold, IsFirstFault, IsLaterFault, IsAdded, IsAddedAt, IsOffset}
 use Rattle.log_records.specs.declared.batch.BatchFault.{BatchFault}
-use Rattle.log_records.specs.declared.batch.BatchFault.TheVariants as batch
 use Rattle.log_records.specs.declared.fault.ReadFault.{ReadFault}
 use Rattle.log_records.specs.declared.fault.ReadFault.TheVariants.{Fault, Damaged, NoMemory as OutOfMemory}
 

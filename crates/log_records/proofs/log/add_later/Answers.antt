@@ -1,5 +1,5 @@
 use Rattle.std.proofs.Common.{ℕ, Option, subst}
-use Rattle.log_records.specs.Reading.{IsAdded, IsOffset}
+use Rattle.log_records.specs.Reading.{IsAdded}
 use Rattle.log_records.proofs.Telling.{later_told, none_added, some_added}
 use Rattle.log_records.proofs.log.add_later.Goals as goal
 

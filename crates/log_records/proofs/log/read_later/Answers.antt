@@ -1,4 +1,4 @@
-use Rattle.std.proofs.Common.{◌<◌, ◌^◌, ◌≡◌, ℕ, ◌∷◌, ◌∙◌, Option, Some, length, sym, subst, arith}
+use Rattle.std.proofs.Common.{◌<◌, ◌^◌, ℕ, ◌∷◌, ◌∙◌, Option, length, sym, subst, arith}
 use Rattle.std.proofs.lemmas.Bool.{true≢false}
 use Rattle.std.proofs.lemmas.Result.{err_from_is_err_and}
 use Rattle.vol_disk.proofs.Moments.{quiet, quiet_then}
@@ -60,6 +60,24 @@ loop-durable-smaller g c =
 
 pub loop-durable-preserved-in_ok-later : goal.loop-durable-preserved-in_ok-later
 loop-durable-preserved-in_ok-later g c =
+    let before = c.loop-durable.invariant in
+    let was = g.V.Vol.disk c.args.vol.now in
+    let mid = g.V.Vol.disk c.loop-durable.vol in
+    let now = g.V.Vol.disk c.next_batch.new.vol in
+    let added = subst (λ (l : Bytes). IsAddedAt c.loop-durable.gate c.loop-durable.durable l c.add_later.new.durable c.in_ok-later.later) c.as_slice.ensures c.in_ok-later.ensures.added in
+    record {
+      quiet = λ told. quiet_then was mid now (before.quiet told) (c.next_batch.ensures.quiet told);
+      reaches = λ told.
+          let read = subst (λ (o : Option (Bytes × ℕ)). IsReadAt c.args.log.now c.loop-durable.gate mid o) c.in-Some.is (c.in_ok-records.ensures.found told) in
+          subst (λ (last : ℕ). Reaches c.args.log.now c.in-Some.next c.add_later.new.durable last now) (sym c.unwrap_or-last.ensures)
+          (reaches_next c.args.log.now c.loop-durable.gate c.in-Some.next c.loop-durable.durable c.add_later.new.durable c.loop-durable.last c.in-Some.records c.in_ok-later.later mid now (before.reaches told) read (c.next_batch.ensures.quiet told) added);
+      formed = c.in_ok-later.ensures.formed;
+      storable = added.adds.storable;
+      later = omega (arith, before.later, c.next_batch.ensures.cause.later);
+    }
+
+pub loop-durable-preserved : goal.loop-durable-preserved
+loop-durable-preserved g c =
     let before = c.loop-durable.invariant in
     let was = g.V.Vol.disk c.args.vol.now in
     let mid = g.V.Vol.disk c.loop-durable.vol in

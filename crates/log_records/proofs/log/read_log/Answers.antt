@@ -1,4 +1,4 @@
-use Rattle.std.proofs.Common.{◌<◌, ◌^◌, ℕ, [], ◌∙◌, Option, None, Some, length, refl, sym, subst, arith}
+use Rattle.std.proofs.Common.{◌<◌, ◌^◌, ℕ, [], Option, length, refl, sym, subst, arith}
 use Rattle.std.proofs.lemmas.Result.{err_from_is_err_and, IfOk-weaker, IfErr-weaker}
 use Rattle.vol_disk.proofs.Moments.{quiet_then}
 use Rattle.js_base.specs.Bytes.{Bytes}
