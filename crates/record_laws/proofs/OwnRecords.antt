@@ -1,12 +1,10 @@
 -- The records of an event's own changes may stand in a log.
-use Rattle.std.proofs.Common.{◌≡◌, ◌≢◌, ℕ, ◌+◌, ◌<◌, ◌≤◌, ◌^◌, Bool, true, false, cond, List, [], ◌∷◌, map, length, refl, sym, ap, ◌∙◌, subst, arith}
+use Rattle.std.proofs.Common.{◌≡◌, ◌≢◌, ℕ, ◌+◌, ◌<◌, ◌≤◌, ◌^◌, Bool, true, false, cond, [], length, refl, arith}
 use Rattle.std.specs.Prelude.{IsTrue, Option, Some, None, ◌==◌, ◌&&◌}
-use Rattle.std.specs.List.{list_all}
 use Rattle.std.proofs.lemmas.Bool.{and_parts, and_from, or_parts, eqb-false, ltb-true, ltb-false, lt-ltb, le-leb}
 use Rattle.js_base.specs.Bytes.{Bytes, same}
 use Rattle.js_base.specs.Moments.{plus}
 use Rattle.js_base.specs.declared.out.ApiError.{ApiError}
-use Rattle.js_model.specs.declared.stream_config.StreamConfig.{StreamConfig}
 use Rattle.js_model.specs.declared.consumer_config.AckPolicy.{AckPolicy}
 use Rattle.js_model.specs.declared.consumer_config.AckPolicy.TheVariants.{None as NoAck, All as AckAll, Explicit}
 use Rattle.js_model.specs.declared.consumer_config.ConsumerConfig.{ConsumerConfig}
@@ -15,7 +13,6 @@ use Rattle.js_model.specs.declared.consumer_config.DeliverPolicy.TheVariants.{Al
 use Rattle.js_model.specs.declared.stream.Message.{Message}
 use Rattle.js_model.specs.declared.stream.Stream.{Stream}
 use Rattle.js_model.specs.declared.consumer.Consumer.{Consumer}
-use Rattle.js_model.specs.declared.ack.Ack.{Ack}
 use Rattle.js_model.specs.declared.ack.AckKind.{AckKind}
 use Rattle.js_model.specs.declared.ack.AckKind.TheVariants.{Ack as Acknowledge, Nak, Wpi, Next, Term}
 use Rattle.js_model.specs.declared.event.Publish.{Publish}
@@ -23,25 +20,24 @@ use Rattle.js_model.specs.declared.event.What.{What}
 use Rattle.js_model.specs.declared.event.What.TheVariants.{Make, Change, Drop as DropStream, Publish as PublishIt, Purge, Delete, MakeConsumer, DropConsumer, Ack as AckIt, Pull as PullIt, Tick, StreamInfo as AskStream, MessageGet, ConsumerInfo as AskConsumer, ConsumerNames, ConsumerList}
 use Rattle.js_model.specs.declared.reply.Verdict.{Verdict}
 use Rattle.js_model.specs.declared.reply.Verdict.TheVariants.{Take, Duplicate as TakenBefore, Refused as RefusedBy}
-use Rattle.js_model.specs.Lists.{IsPart, Between}
+use Rattle.js_model.specs.Lists.{Between}
 use Rattle.js_model.specs.Proper.{is_proper_publish}
-use Rattle.js_model.specs.Streams.{by_name, seqs}
+use Rattle.js_model.specs.Streams.{by_name}
 use Rattle.js_model.specs.Refusals.{first_refusal}
-use Rattle.js_model.specs.Configs.{is_name, is_number, is_consumer_config, same_stream_config, same_retention}
+use Rattle.js_model.specs.Configs.{is_name, is_number, is_consumer_config}
 use Rattle.js_model.specs.Verdict.{verdict, early_checks, late_checks}
 use Rattle.js_model.specs.Acknowledge.{is_no_delivery, ends}
 use Rattle.js_model.specs.Start.{picks_at, cursor_at, matching}
 use Rattle.js_model.specs.Consumers.{making_checks}
-use Rattle.js_model.specs.Events.{message_at, purge_list, without_messages}
-use Rattle.js_model.proofs.Parts.{no_part, part_map, part_trans, part_between, newest_part, filter_part, between_map}
-use Rattle.model_laws.proofs.Whole.{IsSoundConsumer, IsSoundStream}
+use Rattle.js_model.specs.Events.{message_at}
+use Rattle.js_model.proofs.Parts.{part_map, part_trans, part_between, newest_part, filter_part, between_map}
+use Rattle.model_laws.proofs.Whole.{IsSoundConsumer}
 use Rattle.model_laws.proofs.Bounded.{ArePassed, all_passed, taken_passed}
 use Rattle.model_laws.proofs.Sounding.{IsProperWhat}
 use Rattle.model_laws.proofs.SoundAcks.{All-by_name}
 use Rattle.model_laws.proofs.SoundMade.{cursor_place}
-use Rattle.effects.specs.declared.effect.Effect.{Effect}
 use Rattle.effects.specs.declared.effect.Effect.TheVariants.{ChangeStream, PutHere, Skip, MakeConsumer as ConsumerMade, DropConsumer as ConsumerDropped, Acked, Due}
-use Rattle.effects.specs.Effects.{change_effects, is_skipped, put_effect, publish_effects, delete_effects, made_effects, make_effects, drop_effects, first_ended, ends_some, ended_effects, changes_due, due_effects, acknowledged_effects, ack_effects, own_effects}
+use Rattle.effects.specs.Effects.{is_skipped, put_effect, publish_effects, delete_effects, made_effects, make_effects, drop_effects, first_ended, ends_some, ended_effects, changes_due, due_effects, acknowledged_effects, ack_effects, own_effects}
 use Rattle.op_records.specs.Allowed.{is_record, is_text, is_cursor, are_picks}
 use Rattle.record_laws.proofs.Allowing.{Allowed, just, only_if, number, numbers, consumer_name}
 use Rattle.record_laws.proofs.Removing.{allowed_removals}

@@ -1,22 +1,19 @@
 -- The records of passing time, and of what limits and retention drop, may stand in a log.
-use Rattle.std.proofs.Common.{◌≡◌, ℕ, ◌+◌, ◌<◌, ◌≤◌, ◌^◌, Bool, true, false, not, cond, List, [], ◌∷◌, ◌++◌, map, max, refl, sym, ap, ◌∙◌, subst, arith}
-use Rattle.std.specs.Prelude.{◌&&◌, ◌==◌, ⊤, All}
-use Rattle.std.specs.List.{list_any, flat_map}
-use Rattle.std.proofs.lemmas.Bool.{and_from, eqb-false}
+use Rattle.std.proofs.Common.{◌≡◌, ℕ, ◌+◌, ◌<◌, ◌^◌, Bool, true, false, not, cond, List, [], ◌∷◌, ◌++◌, map, max, refl, arith}
+use Rattle.std.specs.Prelude.{◌&&◌, ◌==◌, All}
+use Rattle.std.specs.List.{list_any}
+use Rattle.std.proofs.lemmas.Bool.{and_from}
 use Rattle.std.proofs.lemmas.List.Elements.{All-map, All-weaker}
-use Rattle.js_base.specs.Bytes.{Bytes}
 use Rattle.js_model.specs.declared.stream.Message.{Message}
 use Rattle.js_model.specs.declared.stream.Stream.{Stream}
-use Rattle.js_model.specs.declared.stream.State.{State}
-use Rattle.js_model.specs.declared.stream.State.TheVariants.{Vacant, Live}
-use Rattle.js_model.specs.declared.consumer.Consumer.{Consumer}
+use Rattle.js_model.specs.declared.stream.State.TheVariants.{Live}
 use Rattle.js_model.specs.Lists.{IsPart, Between}
 use Rattle.js_model.specs.Configs.{is_name}
 use Rattle.js_model.specs.Streams.{seqs, confined}
-use Rattle.js_model.specs.Advance.{advance, aged, young, is_spent}
+use Rattle.js_model.specs.Advance.{aged, young, is_spent}
 use Rattle.js_model.specs.Trim.{trim, trim_subjects, trim_count}
 use Rattle.js_model.specs.Retention.{kept}
-use Rattle.js_model.proofs.Members.{IsIn, all_in}
+use Rattle.js_model.proofs.Members.{all_in}
 use Rattle.js_model.proofs.Parts.{part_between, part_trans, newest_at_part, drop_part, trim_part}
 use Rattle.model_laws.proofs.Whole.{IsSoundConsumer, IsSoundStream}
 use Rattle.effects.specs.declared.effect.Effect.{Effect}

@@ -1,6 +1,6 @@
 -- The records of each event and of each delivery may stand in a log.
-use Rattle.std.proofs.Common.{◌≡◌, ◌≢◌, ℕ, ◌+◌, ◌<◌, ◌≤◌, ◌-◌, ◌^◌, Bool, true, false, cond, List, [], ◌∷◌, ◌++◌, max, refl, sym, ap, ◌∙◌, subst, arith}
-use Rattle.std.specs.Prelude.{Option, Some, None, ◌==◌, ⊤}
+use Rattle.std.proofs.Common.{◌≡◌, ◌≢◌, ℕ, ◌+◌, ◌<◌, ◌≤◌, ◌-◌, ◌^◌, Bool, true, false, cond, List, [], ◌∷◌, ◌++◌, refl, sym, subst, arith}
+use Rattle.std.specs.Prelude.{Option, Some, ◌==◌, ⊤}
 use Rattle.std.proofs.lemmas.Bool.{and_parts, and_from, eqb-false}
 use Rattle.js_base.specs.Bytes.{Bytes}
 use Rattle.js_base.specs.Moments.{plus}
@@ -15,12 +15,11 @@ use Rattle.js_model.specs.declared.event.What.TheVariants.{Make, Change, Drop as
 use Rattle.js_model.specs.declared.reply.Verdict.TheVariants.{Take}
 use Rattle.js_model.specs.declared.entry.Delivered.{Delivered}
 use Rattle.js_model.specs.declared.entry.Delivered.TheVariants.{Sent, TooSmall, Emptied}
-use Rattle.js_model.specs.declared.entry.Delivery.{Delivery}
 use Rattle.js_model.specs.Streams.{by_name}
 use Rattle.js_model.specs.Advance.{advance}
-use Rattle.js_model.specs.Deliver.{count_of, Delivers, IsDelivery, IsDelivered}
+use Rattle.js_model.specs.Deliver.{count_of, Delivers}
 use Rattle.js_model.specs.Events.{with_message, with_id, stream_answer}
-use Rattle.js_model.specs.Runs.{messages_of, IsDeliverStep}
+use Rattle.js_model.specs.Runs.{messages_of}
 use Rattle.js_model.specs.Verdict.{verdict, late_checks, message_of}
 use Rattle.js_model.proofs.Candidates.{IsCandidate, candidate_is}
 use Rattle.model_laws.specs.Sound.{IsSound}
@@ -32,8 +31,8 @@ use Rattle.model_laws.proofs.Sounding.{IsProperWhat, sound_fact, sound_found}
 use Rattle.model_laws.proofs.SoundSent.{IsDeliverable, deliverable}
 use Rattle.model_laws.proofs.SoundTime.{sound_time}
 use Rattle.effects.specs.declared.effect.Effect.TheVariants.{MakeStream, Deliver}
-use Rattle.effects.specs.TimeEffects.{removals, time_effects}
-use Rattle.effects.specs.Effects.{own_effects, skipped, settle_effects, live_effects, vacant_effects, event_effects, sent_effects, delivery_effects}
+use Rattle.effects.specs.TimeEffects.{time_effects}
+use Rattle.effects.specs.Effects.{own_effects, skipped, settle_effects, live_effects, vacant_effects, sent_effects}
 use Rattle.op_records.specs.Allowed.{is_record}
 use Rattle.record_laws.specs.Laws.{LawEventRecords, LawDeliveryRecords}
 use Rattle.record_laws.proofs.Allowing.{Allowed, together, just, number, consumer_name}

@@ -1,14 +1,13 @@
 -- The ranges of what leaves may stand in a log.
-use Rattle.std.proofs.Common.{◌≡◌, ℕ, ◌+◌, ◌<◌, ◌≤◌, ◌^◌, Bool, true, false, not, cond, List, [], ◌∷◌, map, refl, arith}
-use Rattle.std.specs.Prelude.{filter, ⊤}
-use Rattle.std.specs.List.{list_all}
+use Rattle.std.proofs.Common.{ℕ, ◌+◌, ◌<◌, ◌≤◌, ◌^◌, Bool, true, false, not, cond, List, [], ◌∷◌, map, refl, arith}
+use Rattle.std.specs.Prelude.{⊤}
 use Rattle.std.proofs.lemmas.Bool.{and_from, le-leb}
 use Rattle.js_base.specs.Bytes.{has}
 use Rattle.js_model.specs.declared.stream.Message.{Message}
 use Rattle.js_model.specs.Lists.{Between}
 use Rattle.js_model.specs.Streams.{seqs}
 use Rattle.js_model.proofs.Parts.{filter_part, part_between, between_bounds, between_map}
-use Rattle.effects.specs.Ranges.{Range, first_leaves, widened, with_leaving, ranges}
+use Rattle.effects.specs.Ranges.{Range, first_leaves, with_leaving, ranges}
 use Rattle.effects.specs.TimeEffects.{remove_of, removals}
 use Rattle.op_records.specs.Allowed.{is_range}
 use Rattle.record_laws.proofs.Allowing.{Allowed, number}

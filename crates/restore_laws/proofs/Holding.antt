@@ -1,10 +1,9 @@
 -- A state, what a volume holds of it, and what is opened from that.
-use Rattle.std.proofs.Common.{◌≡◌, ℕ, ◌+◌, ◌-◌, ◌<◌, ◌≤◌, ◌^◌, true, false, List, [], ◌∷◌, map, length, refl, sym, ap, ◌∙◌, subst, arith}
+use Rattle.std.proofs.Common.{◌≡◌, ℕ, ◌-◌, ◌≤◌, ◌^◌, true, false, List, [], ◌∷◌, map, length, refl, sym, ap, ◌∙◌, subst, arith}
 use Rattle.std.specs.Prelude.{Option, Some, None, All, IfSome}
 use Rattle.std.proofs.lemmas.Bool.{and_parts, le-ltb}
 use Rattle.std.proofs.lemmas.List.Elements.{All-nil, All-cons, All-head, All-tail, All-weaker}
 use Rattle.js_model.specs.declared.stream.Stream.{Stream}
-use Rattle.js_model.specs.declared.stream.State.{State}
 use Rattle.js_model.specs.declared.stream.State.TheVariants.{Vacant, Live}
 use Rattle.js_model.specs.declared.consumer.Pull.{Pull}
 use Rattle.js_model.specs.declared.consumer.Consumer.{Consumer}
@@ -19,14 +18,12 @@ use Rattle.model_laws.proofs.Lasting.{sound_lasting, bounded_lasting}
 use Rattle.model_laws.proofs.SoundSent.{limit_of}
 use Rattle.model_laws.proofs.Whole.{all_from_in}
 use Rattle.effects.specs.declared.durable.Body.{Body}
-use Rattle.effects.specs.declared.durable.Durable.{Durable}
-use Rattle.effects.specs.Durables.{body_of, durable_of, state_in, state_of}
+use Rattle.effects.specs.Durables.{body_of, durable_of, state_in}
 use Rattle.effects.specs.Restorable.{IsRestorable}
 use Rattle.effects.proofs.Agreeing.{map_twice}
 use Rattle.durable_checks.specs.Storable.{IsConfigured, IsFormedOf}
 use Rattle.consumer_progress.specs.Progresses.{IsProgress, progress_of}
 use Rattle.consumer_state.specs.Keeping as keeping
-use Rattle.restore_laws.specs.Restored.{IsRestored}
 use Rattle.restore_laws.specs.Laws.{LawOpened, LawHeld, LawHeldOpened, LawStorable, LawOpenable, LawRestored, LawRestoredConsumers}
 use Rattle.restore_laws.proofs.Restorable.{restorable_lasting}
 

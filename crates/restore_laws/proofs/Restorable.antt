@@ -12,20 +12,15 @@ use Rattle.js_model.specs.declared.consumer.Consumer.{Consumer}
 use Rattle.js_model.specs.declared.event.Event.{Event}
 use Rattle.js_model.specs.declared.reply.Answer.{Answer}
 use Rattle.js_model.specs.declared.reply.Reply.{Reply}
-use Rattle.js_model.specs.declared.entry.Delivery.{Delivery}
-use Rattle.js_model.specs.declared.entry.PlaceEntry.{PlaceEntry}
 use Rattle.js_model.specs.declared.entry.PlaceEntry.TheVariants.{Step, Deliver, Broken}
 use Rattle.js_model.specs.declared.entry.Call.TheVariants.{Step as StepOf, Deliver as DeliverOf}
-use Rattle.js_model.specs.Lists.{IsPart}
 use Rattle.js_model.specs.Advance.{advance, young}
 use Rattle.js_model.specs.Streams.{only, seqs, confined, size, with_consumer}
-use Rattle.js_model.specs.Lasting.{lasting, lasting_consumer}
+use Rattle.js_model.specs.Lasting.{lasting_consumer}
 use Rattle.js_model.specs.Consumers.{empty_stream}
 use Rattle.js_model.specs.Retention.{kept, is_kept}
-use Rattle.js_model.specs.Trim.{trim}
 use Rattle.js_model.specs.Events.{settled, settled_state, answered, stream_answer, vacant_answer}
-use Rattle.js_model.specs.Deliver.{IsDelivered, IsDelivery}
-use Rattle.js_model.specs.Runs.{RunFrom, IsStep, IsDeliverStep, new_messages}
+use Rattle.js_model.specs.Runs.{IsStep, new_messages}
 use Rattle.js_model.proofs.Parts.{filter_part, part_trans, young_part}
 use Rattle.model_laws.proofs.Within.{AreWithin}
 use Rattle.effects.specs.Restorable.{IsInTime, IsRestorable}

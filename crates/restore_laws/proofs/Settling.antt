@@ -1,6 +1,6 @@
 -- The limits and the retention of a stream drop nothing of what they kept before, nor of a part of it.
 use Rattle.std.proofs.Common.{◌≡◌, ℕ, ◌+◌, ◌<◌, ◌≤◌, Bool, true, false, ◌||◌, not, cond, List, [], ◌∷◌, map, length, refl, sym, ap, ◌∙◌, subst, arith}
-use Rattle.std.specs.Prelude.{Option, Some, None, filter, nat_lt, ◌==◌, count_by, sum_by, IfSome}
+use Rattle.std.specs.Prelude.{Option, Some, None, filter, ◌==◌, count_by, sum_by, IfSome}
 use Rattle.std.specs.List.{list_any}
 use Rattle.std.proofs.lemmas.Bool.{true≢false, eqb-true, lt-ltb}
 use Rattle.js_base.specs.Bytes.{Bytes, same, has}
@@ -12,10 +12,10 @@ use Rattle.js_model.specs.declared.consumer.Consumer.{Consumer}
 use Rattle.js_model.specs.Lists.{IsPart}
 use Rattle.js_model.specs.Streams.{only, seqs, confined, pending_seqs, takes, size}
 use Rattle.js_model.specs.Retention.{kept, needs, is_kept}
-use Rattle.js_model.specs.Trim.{newest, newest_at, fitting_at, max_messages, trim_subjects, trim_count, trim_bytes, trim}
+use Rattle.js_model.specs.Trim.{newest, newest_at, fitting_at, max_messages, trim_count, trim_bytes, trim}
 use Rattle.js_model.specs.Events.{settled}
 use Rattle.js_model.proofs.Named.{same_self}
-use Rattle.js_model.proofs.Members.{IsIn, in_filter}
+use Rattle.js_model.proofs.Members.{in_filter}
 use Rattle.js_model.proofs.Parts.{part-length, part-sum}
 use Rattle.model_laws.proofs.Whole.{has_member}
 use Rattle.model_laws.proofs.SoundParts.{confined_pending}
