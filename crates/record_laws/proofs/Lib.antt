@@ -1,0 +1,5 @@
+pub mod Allowing
+pub mod Removing
+pub mod Passing
+pub mod OwnRecords
+pub mod Recording
