@@ -1,5 +1,5 @@
 pub mod Spelling
-mod OneReading
+pub mod OneReading
 mod LetOn
 mod Walks
 mod Crash

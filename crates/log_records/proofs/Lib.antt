@@ -1,0 +1,12 @@
+pub mod OneReading
+pub mod NoDamage
+pub mod OneDamage
+pub mod OneBad
+pub mod RowsOfDamage
+pub mod Taking
+pub mod Found
+pub mod Forming
+pub mod Adding
+pub mod Reaching
+pub mod Telling
+pub mod Lightly

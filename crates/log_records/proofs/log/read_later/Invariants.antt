@@ -1,0 +1,18 @@
+use Rattle.std.proofs.Common.{◌≤◌, ◌-◌, ◌^◌}
+use Rattle.vol_disk.specs.Moments.{Quiet}
+use Rattle.durable_checks.specs.Storable.{IsFormed, IsStorable}
+use Rattle.log_records.proofs.Reaching.{Reaches}
+use Rattle.log_records.proofs.log.read_later.Given as goal
+
+-- the batches up to this gate are added
+abbrev pub invariant-loop-durable : goal.invariant-loop-durable
+invariant-loop-durable g l = record {
+  quiet : g.V.Vol.told → Quiet (g.V.Vol.disk l.fn.vol) (g.V.Vol.disk l.vol);
+  reaches : g.V.Vol.told → Reaches l.log l.gate l.durable l.last (g.V.Vol.disk l.vol);
+  formed : IsFormed l.durable;
+  storable : IsStorable l.durable;
+  later : g.V.Vol.faults l.fn.vol ≤ g.V.Vol.faults l.vol;
+}
+
+abbrev pub decreases-loop-durable : goal.decreases-loop-durable
+decreases-loop-durable g l = 2 ^ 64 - l.gate

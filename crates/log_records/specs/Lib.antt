@@ -1,0 +1,5 @@
+pub mod Batches
+pub mod Damage
+pub mod Reading
+pub mod Laws
+pub mod Light

@@ -1,0 +1,10 @@
+//! What the batches of a log give, read as records: where its place began, and each change since.
+#![tactic(auto)]
+
+mod batch;
+mod fault;
+pub mod laws;
+mod log;
+
+pub use fault::ReadFault;
+pub use log::read_log;

@@ -1,0 +1,140 @@
+-- What an image holds by the generations and batches of its two logs.
+use Rattle.std.proofs.Common.{◌≡◌, ◌≢◌, ◌⊎◌, inl, inr, ℕ, ◌+◌, ◌<◌, Bool, true, false, cond, List, [], ◌∷◌, ◌++◌, Option, Some, None, IfSome, length, refl, sym, ap, subst, ◌∙◌, arith}
+use Rattle.std.specs.Prelude.{IsSome, ◌==◌, nat_le}
+use Rattle.std.proofs.lemmas.Bool.{true≢false}
+use Rattle.vol_disk.specs.Disk.{Disk, Files}
+use Rattle.vol_disk.specs.Does.{Rests}
+use Rattle.vol_disk.specs.Images.{IsDurable, IsImage}
+use Rattle.vol_disk.specs.Moments.{Quiet, Elsewhere}
+use Rattle.vol_disk.proofs.Moments.{quiet_durable}
+use Rattle.js_base.specs.Bytes.{Bytes}
+use Rattle.gate_log.specs.LogFile.{IsLog, HasOpen}
+use Rattle.gate_log.specs.LogState.{LogState, generation_of}
+use Rattle.gate_log.specs.Settled.{IsSettled}
+use Rattle.gate_log.proofs.GateReads.{settled_quiet}
+use Rattle.gate_log.proofs.OneReading.{law}
+use Rattle.effects.specs.declared.durable.Durable.{Durable}
+use Rattle.durable_checks.specs.Storable.{IsOpenable}
+use Rattle.log_records.specs.Batches.{Gives}
+use Rattle.log_records.specs.Reading.{GivesIn}
+use Rattle.stream_store.specs.Logs.{LogIn, HasLog, HasLogs, is_first, current, current_file}
+use Rattle.stream_store.specs.Holding.{Holds, AllHold}
+use Rattle.stream_store.specs.Base.{IsBaseOf}
+use Rattle.stream_store.specs.Finding.{IsCurrent}
+use Rattle.stream_store.specs.declared.logs.Current.{Current}
+use Rattle.stream_store.proofs.OneReading.{log_same}
+
+-- ---- only the two logs count
+
+pub has_logs_by : (a b : Files) (zero one : LogIn) → b 0 ≡ a 0 → b 1 ≡ a 1 → HasLogs a zero one → HasLogs b zero one
+has_logs_by a b zero one e f h = record {
+  in_zero = subst (λ (l : Bytes). HasLog l zero) (sym e) h.in_zero;
+  in_one = subst (λ (l : Bytes). HasLog l one) (sym f) h.in_one;
+}
+
+pub holds_by : (a b : Files) (d : Durable) → b 0 ≡ a 0 → b 1 ≡ a 1 → Holds a d → Holds b d
+holds_by a b d e f h = record { zero = h.zero; one = h.one; logs = has_logs_by a b h.zero h.one e f h.logs; gives = h.gives; openable = h.openable }
+
+-- where both are on the disk, each image holds what reads hold
+pub all_hold : (disk : Disk) (d : Durable) → IsDurable disk 0 → IsDurable disk 1 → Holds disk.seen d → AllHold disk d
+all_hold disk d zero one h image is = holds_by disk.seen image d (zero (image 0) (is.left 0)) (one (image 1) (is.left 1)) h
+
+-- ---- the current log is the one of its file
+
+-- the log with the file's bytes is the current one, and has these batches
+pub record IsNow (log : LogState) (batches : List Bytes) (image : Files) : Type 0 where
+  pub zero : LogIn
+  pub one : LogIn
+  pub logs : HasLogs image zero one
+  pub file_is : current_file zero one ≡ log.file
+  pub generation_is : (current zero one).generation ≡ generation_of log
+  pub batches_are : (current zero one).batches ≡ batches
+
+pub holds_now : (log : LogState) (batches : List Bytes) (image : Files) (d : Durable) → IsNow log batches image → Gives batches d → IsOpenable d → Holds image d
+holds_now log batches image d n gives openable =
+    record { zero = n.zero; one = n.one; logs = n.logs; gives = subst (λ (l : List Bytes). Gives l d) (sym n.batches_are) gives; openable = openable }
+
+-- both are read in one way, so that is the current one however they are read
+pub current_always : (log : LogState) (batches : List Bytes) (image : Files) → IsNow log batches image → (zero one : LogIn) → HasLogs image zero one → current_file zero one ≡ log.file
+current_always log batches image n zero one logs =
+    ap (λ (l : LogIn). current_file l one) (log_same (image 0) zero n.zero logs.in_zero n.logs.in_zero)
+    ∙ ap (λ (l : LogIn). current_file n.zero l) (log_same (image 1) one n.one logs.in_one n.logs.in_one) ∙ n.file_is
+
+-- another list of batches in its file, with the same generation, and the other file as it was
+pub now_with : (log : LogState) (batches others : List Bytes) (old new : Files) → IsNow log batches old → HasOpen (new log.file) (generation_of log) others
+    → ((other : ℕ) → other ≢ log.file → (other ≡ 0) ⊎ (other ≡ 1) → new other ≡ old other) → IsNow log others new
+now_with log batches others old new n has stays = go (is_first n.zero.generation n.one.generation) refl n.file_is n.generation_is
+  where
+    made : LogIn
+    made = record { generation = generation_of log; batches = others }
+
+    go : (b : Bool) → is_first n.zero.generation n.one.generation ≡ b → cond b 0 1 ≡ log.file → (cond b n.zero n.one).generation ≡ generation_of log → IsNow log others new
+    go true e file gen =
+        let apart : 1 ≢ log.file = λ is. absurd (omega (arith, is, file)) in
+        let first : is_first (generation_of log) n.one.generation ≡ true = ap (λ g. is_first g n.one.generation) (sym gen) ∙ e in
+        record {
+          zero = made;
+          one = n.one;
+          logs = record {
+            in_zero = subst (λ (f : ℕ). HasLog (new f) made) (sym file) has;
+            in_one = subst (λ (l : Bytes). HasLog l n.one) (sym (stays 1 apart (inr refl))) n.logs.in_one;
+          };
+          file_is = ap (λ (b : Bool). cond b 0 1) first ∙ file;
+          generation_is = ap (λ (b : Bool). (cond b made n.one).generation) first;
+          batches_are = ap (λ (b : Bool). (cond b made n.one).batches) first;
+        }
+    go false e file gen =
+        let apart : 0 ≢ log.file = λ is. absurd (omega (arith, is, file)) in
+        let second : is_first n.zero.generation (generation_of log) ≡ false = ap (λ g. is_first n.zero.generation g) (sym gen) ∙ e in
+        record {
+          zero = n.zero;
+          one = made;
+          logs = record {
+            in_zero = subst (λ (l : Bytes). HasLog l n.zero) (sym (stays 0 apart (inl refl))) n.logs.in_zero;
+            in_one = subst (λ (f : ℕ). HasLog (new f) made) (sym file) has;
+          };
+          file_is = ap (λ (b : Bool). cond b 0 1) second ∙ file;
+          generation_is = ap (λ (b : Bool). (cond b n.zero made).generation) second;
+          batches_are = ap (λ (b : Bool). (cond b n.zero made).batches) second;
+        }
+
+-- ---- a base by the current log
+
+pub base_of : (log : LogState) (batches : List Bytes) (disk : Disk) (d : Durable) → IsNow log batches disk.seen → IsSettled log batches disk → IsSome (generation_of log) → IsDurable disk 0 → IsDurable disk 1 → Gives batches d → IsOpenable d → IsBaseOf log d disk
+base_of log batches disk d n settled begun zero one gives openable =
+    let holds = holds_now log batches disk.seen d n gives openable in
+    record {
+      settled = (batches, settled);
+      begun = begun;
+      current = current_always log batches disk.seen n;
+      durable_zero = zero;
+      durable_one = one;
+      holds = holds;
+      images = all_hold disk d zero one holds;
+    }
+
+pub current_has : (image : Files) (zero one : LogIn) → HasLogs image zero one → HasLog (image (current_file zero one)) (current zero one)
+current_has image zero one h = go (is_first zero.generation one.generation)
+  where
+    go : (b : Bool) → HasLog (image (cond b 0 1)) (cond b zero one)
+    go true = h.in_zero
+    go false = h.in_one
+
+-- what a base's log is now
+pub now_of : (log : LogState) (batches : List Bytes) (disk : Disk) (d : Durable) → IsBaseOf log d disk → IsSettled log batches disk → IsNow log batches disk.seen
+now_of log batches disk d b settled =
+    let zero = b.holds.zero in
+    let one = b.holds.one in
+    let file : current_file zero one ≡ log.file = b.current zero one b.holds.logs in
+    let has : HasLog (disk.seen log.file) (current zero one) = subst (λ (f : ℕ). HasLog (disk.seen f) (current zero one)) file (current_has disk.seen zero one b.holds.logs) in
+    record {
+      zero = zero;
+      one = one;
+      logs = b.holds.logs;
+      file_is = file;
+      generation_is = law.one_generation (disk.seen log.file) (current zero one).generation (generation_of log) (current zero one).batches batches has settled.read;
+      batches_are = law.one_list (disk.seen log.file) (current zero one).generation (generation_of log) (current zero one).batches batches has settled.read;
+    }
+
+pub base_gives : (log : LogState) (batches : List Bytes) (disk : Disk) (d : Durable) → IsBaseOf log d disk → IsSettled log batches disk → Gives batches d
+base_gives log batches disk d b settled = subst (λ (l : List Bytes). Gives l d) (now_of log batches disk d b settled).batches_are b.holds.gives

@@ -1,0 +1,183 @@
+-- The first log of a volume.
+use Rattle.std.proofs.Common.{◌≡◌, ◌≢◌, ◌⊎◌, inl, inr, ℕ, ◌<◌, ◌^◌, Bool, true, false, cond, List, [], ◌∷◌, ◌++◌, Option, Some, None, IfSome, length, refl, sym, ap, subst, ◌∙◌, arith}
+use Rattle.std.specs.Prelude.{IsSome, All, ◌==◌}
+use Rattle.js_model.proofs.Named.{none_some}
+use Rattle.vol_disk.specs.Disk.{Disk, Files}
+use Rattle.vol_disk.specs.Does.{Rests}
+use Rattle.vol_disk.specs.Images.{IsDurable, IsImage}
+use Rattle.vol_disk.specs.Moments.{Quiet, LeavesOnly, Elsewhere}
+use Rattle.vol_disk.proofs.Moments.{widened, joined, rests_on}
+use Rattle.js_base.specs.Bytes.{Bytes}
+use Rattle.gate_log.specs.LogFile.{IsLog, HasOpen}
+use Rattle.gate_log.specs.LogState.{LogState, generation_of, new_log, with_batch}
+use Rattle.gate_log.specs.Settled.{IsSettled}
+use Rattle.gate_log.specs.Starting.{Starts, IsEmptied}
+use Rattle.gate_log.specs.Appending.{IsWithOrWithout, AppendsTo, IsAppended}
+use Rattle.effects.specs.declared.durable.Durable.{Durable}
+use Rattle.effects.specs.Folding.{vacant}
+use Rattle.op_records.specs.Reading.{vacant_field}
+use Rattle.op_records.specs.Spelling.{spelled_vacant}
+use Rattle.op_records.proofs.RecordsExact.{law_vacant}
+use Rattle.log_records.specs.Batches.{Begins, Gives}
+use Rattle.log_records.proofs.Reaching.{vacant_opens}
+use Rattle.stream_store.specs.Logs.{LogIn, HasLog, HasLogs, is_first, current, current_file}
+use Rattle.stream_store.specs.Holding.{Holds, AllHold}
+use Rattle.stream_store.specs.Base.{IsBaseOf}
+use Rattle.stream_store.specs.Beginning.{IsUnbegun, HoldsNothing}
+use Rattle.stream_store.specs.Opening.{KeepsHeld, RestsBut}
+use Rattle.stream_store.proofs.Basing.{IsNow, base_of}
+use Rattle.stream_store.proofs.OneReading.{holds_same}
+
+abbrev nothing_open : LogIn
+nothing_open = record { generation = None; batches = [] }
+
+-- where neither log has an open batch, the place is vacant
+holds_nothing : (image : Files) (zero one : LogIn) → HasLogs image zero one → zero.generation ≡ None → one.generation ≡ None → Holds image (vacant 0)
+holds_nothing image zero one h none nothing = record {
+  zero = zero;
+  one = one;
+  logs = h;
+  gives = subst (λ (l : LogIn). Gives l.batches (vacant 0)) (sym first) (subst (λ (bs : List Bytes). Gives bs (vacant 0)) (sym (no_batches zero.generation zero.batches none h.in_zero)) refl);
+  openable = vacant_opens 0;
+}
+  where
+    first : current zero one ≡ zero
+    first = ap (λ (g : Option ℕ). cond (is_first zero.generation g) zero one) nothing ∙ ap (λ (g : Option ℕ). cond (is_first g None) zero one) none
+
+    no_batches : (g : Option ℕ) (bs : List Bytes) → g ≡ None → HasOpen (image 0) g bs → bs ≡ []
+    no_batches None [] e k = refl
+    no_batches None (b ∷ bs) e k = absurd k
+    no_batches (Some g) bs e k = absurd (cc)
+
+module _ (old : Disk) (u : IsUnbegun old) where
+  pub unbegun_holds : Holds old.seen (vacant 0)
+  unbegun_holds = holds_nothing old.seen u.zero u.one u.logs u.none_in_zero u.none_in_one
+
+  one_stays : (image : Files) → Elsewhere 0 old image → image 1 ≡ old.seen 1
+  one_stays image e = u.durable_one (image 1) (e 1 (λ is. absurd (omega arith)))
+
+  -- as the log is started
+  starting_holds : (image : Files) → (image 0 ≡ old.seen 0) ⊎ IsEmptied (old.seen 0) (image 0) → Elsewhere 0 old image → Holds image (vacant 0)
+  starting_holds image (inl same) e =
+      holds_nothing image u.zero u.one
+      (record { in_zero = subst (λ (l : Bytes). HasLog l u.zero) (sym same) u.logs.in_zero; in_one = subst (λ (l : Bytes). HasLog l u.one) (sym (one_stays image e)) u.logs.in_one })
+      u.none_in_zero u.none_in_one
+  starting_holds image (inr emptied) e =
+      holds_nothing image nothing_open u.one
+      (record { in_zero = emptied u.zero.generation u.zero.batches u.logs.in_zero; in_one = subst (λ (l : Bytes). HasLog l u.one) (sym (one_stays image e)) u.logs.in_one })
+      refl u.none_in_one
+
+  pub starting : (mid : Disk) → Starts 0 old mid → HoldsNothing old mid
+  starting mid s =
+      widened old mid (λ image. Holds image (vacant 0)) (λ image. ((image 0 ≡ old.seen 0) ⊎ IsEmptied (old.seen 0) (image 0)) × Elsewhere 0 old image) s.any_moment (λ image h. starting_holds image h.0 h.1)
+
+  -- as its first batch is appended
+  module _ (mid : Disk) (s : Starts 0 old mid) (log : LogState) (log_is : log ≡ new_log 0 (Some 1)) (settled : IsSettled log [] mid) (records : Bytes) (records_are : records ≡ spelled_vacant 0) (bytes : All (λ byte. byte < 256) records) where
+    rests : Rests 1 old mid
+    rests = s.elsewhere 1 (λ is. absurd (omega arith))
+
+    short : length records < 2 ^ 32
+    unfolding spelled_vacant
+    short = subst (λ (l : Bytes). length l < 2 ^ 32) (sym records_are) (omega arith)
+
+    begins : Begins records (vacant 0)
+    begins = record {
+      incarnation = 0;
+      reads = (law_vacant records 0 (record { are_bytes = bytes; short = short })).1 (record { allowed = omega arith; bytes_are = records_are });
+      begun_is = refl;
+    }
+
+    pub gives : Gives (records ∷ []) (vacant 0)
+    gives = (vacant 0, begins, refl)
+
+    one_of : (image : Files) → Elsewhere 0 mid image → image 1 ≡ old.seen 1
+    one_of image e = u.durable_one (image 1) (rests.leaves (image 1) (e 1 (λ is. absurd (omega arith))))
+
+    begun_logs : (image : Files) → image 1 ≡ old.seen 1 → IsLog 1 (records ∷ []) (image 0) → HasLogs image (record { generation = Some 1; batches = records ∷ [] }) u.one
+    begun_logs image stays is = record { in_zero = is; in_one = subst (λ (l : Bytes). HasLog l u.one) (sym stays) u.logs.in_one }
+
+    is_current : is_first (Some 1) u.one.generation ≡ true
+    is_current = ap (is_first (Some 1)) u.none_in_one
+
+    appending_holds : (image : Files) → IsWithOrWithout 1 [] records (image 0) → Elsewhere 0 mid image → Holds image (vacant 0)
+    appending_holds image (inl without) e =
+        holds_nothing image nothing_open u.one
+        (record { in_zero = inr (1, without); in_one = subst (λ (l : Bytes). HasLog l u.one) (sym (one_of image e)) u.logs.in_one })
+        refl u.none_in_one
+    appending_holds image (inr longer) e = record {
+      zero = record { generation = Some 1; batches = records ∷ [] };
+      one = u.one;
+      logs = begun_logs image (one_of image e) longer;
+      gives = subst (λ (b : Bool). Gives (cond b (record { generation = Some 1; batches = records ∷ [] }) u.one).batches (vacant 0)) (sym is_current) gives;
+      openable = vacant_opens 0;
+    }
+
+    pub appending : (new : Disk) → AppendsTo log records mid new → HoldsNothing old new
+    appending new appends =
+        let a = appends [] settled in
+        let moments = subst (λ (l : LogState). LeavesOnly mid new (λ image. IfSome l.head (λ g. IsWithOrWithout g [] records (image l.file)) × Elsewhere l.file mid image)) log_is a.any_moment in
+        joined old mid new (λ image. Holds image (vacant 0)) (λ image. IsWithOrWithout 1 [] records (image 0) × Elsewhere 0 mid image) (starting mid s) moments (λ image h. appending_holds image h.0 h.1)
+
+    pub begun : (after : LogState) (new : Disk) → AppendsTo log records mid new → IsAppended log after records mid new → after ≡ with_batch log (length records) → IsBaseOf after (vacant 0) new
+    unfolding spelled_vacant
+    begun after new appends appended is =
+        let settled_after = appended [] settled in
+        let a = appends [] settled in
+        let after_is : after ≡ with_batch (new_log 0 (Some 1)) (length records) = is ∙ ap (λ (l : LogState). with_batch l (length records)) log_is in
+        let file : after.file ≡ 0 = ap (λ (l : LogState). l.file) after_is in
+        let file_log : log.file ≡ 0 = ap (λ (l : LogState). l.file) log_is in
+        let rests_on = a.elsewhere 1 (λ same. absurd (omega (arith, same, file_log))) in
+        let generation : generation_of after ≡ Some 1 = ap generation_of after_is ∙ generation_one in
+        let one_is : new.seen 1 ≡ old.seen 1 = rests_on.seen ∙ rests.seen in
+        let has : HasLog (new.seen 0) (record { generation = Some 1; batches = records ∷ [] }) = subst (λ (f : ℕ). HasOpen (new.seen f) (Some 1) (records ∷ [])) file (subst (λ (g : Option ℕ). HasOpen (new.seen after.file) g (records ∷ [])) generation settled_after.read) in
+        let durable_one : IsDurable new 1 = λ bytes left. u.durable_one bytes (rests.leaves bytes (rests_on.leaves bytes left)) ∙ sym one_is in
+        let now : IsNow after (records ∷ []) new.seen = record {
+          zero = record { generation = Some 1; batches = records ∷ [] };
+          one = u.one;
+          logs = begun_logs new.seen one_is has;
+          file_is = ap (λ (b : Bool). cond b 0 1) is_current ∙ sym file;
+          generation_is = ap (λ (b : Bool). (cond b (record { generation = Some 1; batches = records ∷ [] }) u.one).generation) is_current ∙ sym generation;
+          batches_are = ap (λ (b : Bool). (cond b (record { generation = Some 1; batches = records ∷ [] }) u.one).batches) is_current;
+        } in
+        base_of after (records ∷ []) new (vacant 0) now settled_after (subst IsSome (sym generation) tt) (subst (IsDurable new) file settled_after.durable) durable_one gives (vacant_opens 0)
+      where
+        generation_one : generation_of (with_batch (new_log 0 (Some 1)) (length records)) ≡ Some 1
+        generation_one = ap (λ (l : Bytes). generation_of (with_batch (new_log 0 (Some 1)) (length l))) records_are ∙ refl
+
+-- ---- the other files
+
+pub still_rests : (old new : Disk) → Quiet old new → RestsBut 0 old new
+still_rests old new still file apart = record { seen = still.seen file; leaves = still.leaves file }
+
+pub rests_then : (old mid new : Disk) → Quiet old mid → RestsBut 0 mid new → RestsBut 0 old new
+rests_then old mid new still rests file apart = rests_on file old mid new (still_rests old mid still file apart) (rests file apart)
+
+pub begun_rests : (old mid new : Disk) (log : LogState) (records : Bytes) → Starts 0 old mid → log.file ≡ 0 → IsSettled log [] mid → AppendsTo log records mid new → RestsBut 0 old new
+begun_rests old mid new log records s file settled appends other apart = rests_on other old mid new (s.elsewhere other apart) ((appends [] settled).elsewhere other (λ is. apart (is ∙ file)))
+
+-- a log that has a generation has it in its head
+pub head_is : (log : LogState) (generation : ℕ) → generation_of log ≡ Some generation → log.head ≡ Some generation
+head_is log generation e = go (log.end == 16) e
+  where
+    go : (b : Bool) → cond b None log.head ≡ Some generation → log.head ≡ Some generation
+    go true h = absurd (none_some h)
+    go false h = h
+
+-- ---- what was held is held
+
+pub held_quiet : (old new : Disk) → Quiet old new → KeepsHeld old new
+held_quiet old new still d seen all = widened old new (λ image. Holds image d) (IsImage old) still.any_moment (λ image is. all image is)
+
+pub held_begun : (old mid new : Disk) → Quiet old mid → IsUnbegun mid → HoldsNothing mid new → KeepsHeld old new
+held_begun old mid new still u nothing d seen all =
+    let same : d ≡ vacant 0 = holds_same mid.seen d (vacant 0) (held_in_mid d seen) (unbegun_holds mid u) in
+    joined old mid new (λ image. Holds image d) (λ image. Holds image (vacant 0)) (held_quiet old mid still d seen all) nothing (λ image h. subst (Holds image) (sym same) h)
+  where
+    held_in_mid : (d : Durable) → Holds old.seen d → Holds mid.seen d
+    held_in_mid d h = record {
+      zero = h.zero;
+      one = h.one;
+      logs = record { in_zero = subst (λ (l : Bytes). HasLog l h.zero) (sym (still.seen 0)) h.logs.in_zero; in_one = subst (λ (l : Bytes). HasLog l h.one) (sym (still.seen 1)) h.logs.in_one };
+      gives = h.gives;
+      openable = h.openable;
+    }

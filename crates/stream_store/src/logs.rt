@@ -1,0 +1,130 @@
+//! The two logs of a volume, in the files 0 and 1.
+
+ghost use Rattle.std.specs.Prelude.{◌≡◌, List, [], ◌∷◌, Some, IfOk, IfErr, IsErrOf};
+ghost use Rattle.js_base.specs.Bytes.{Bytes};
+ghost use Rattle.durable_checks.specs.Storable.{IsFormed, IsOpenable, IsStorable};
+ghost use Rattle.log_records.specs.Reading.{GivesIn};
+ghost use Rattle.vol_disk.specs.Moments.{Quiet};
+ghost use Rattle.js_base.specs.Causes.{HasCause};
+ghost use Rattle.gate_log.specs.Settled.{IsSettled};
+ghost use Rattle.effects.specs.Folding.{vacant};
+ghost use Rattle.stream_store.specs.Base.{IsBaseOf};
+ghost use Rattle.stream_store.specs.Opening.{RestsBut};
+ghost use Rattle.op_records.specs.Spelling.{spelled_vacant};
+ghost use Rattle.stream_store.specs.Logs.{is_first};
+ghost use Rattle.stream_store.specs.Finding.{IsCurrent, IsFaultIn, IsLogFault, IsRecordsFault};
+ghost use Rattle.stream_store.specs.Beginning.{IsUnbegun, HoldsNothing, IsOutsideFault};
+
+use crate::fault::OpenFault;
+use effects::Durable;
+use gate_log::GateLog;
+use js_base::NoMemory;
+use log_records::read_log;
+use op_records::write_vacant;
+use std::alloc::Global;
+use vol_disk::Vol;
+
+/// The generation of a volume's first log.
+pub(crate) const FIRST_GENERATION: u64 = 1;
+
+/// The current log of a volume, and its file.
+#[derive(Drop, Debug)]
+pub(crate) struct Current {
+    pub(crate) file: u32,
+    pub(crate) log: GateLog,
+}
+
+/// Whether the log of file 0 is the current one, by the generations of both.
+fn is_first(zero: Option<u64>, one: Option<u64>) -> bool
+    ensures value { result ≡ is_first zero one }
+{
+    match (zero, one) {
+        (_, None) => true,
+        (None, Some(_)) => false,
+        (Some(generation), Some(other)) => other <= generation,
+    }
+}
+
+/// Opens the log of a file, which is synced before.
+fn open_log<V: Vol>(vol: &mut V, file: u32) -> Result<GateLog, OpenFault>
+    ensures file { IfOk result (λ log. log.file ≡ file) }
+    ensures settled { V.told → IfOk result (λ log. (batches : List Bytes) × IsSettled log batches (V.disk vol.new)) }
+    ensures fault { V.told → IfErr result (IsFaultIn file (V.disk vol.old).seen) }
+    ensures quiet { V.told → Quiet (V.disk vol.old) (V.disk vol.new) }
+    ensures cause { HasCause (V.faults vol.old) (V.faults vol.new) (IsErrOf result OpenFault.Fault) }
+{
+    match GateLog::open(vol, file) {
+        Ok(log) => Ok(log),
+        Err(fault) => Err(OpenFault::of_log(file, fault)),
+    }
+}
+
+/// Opens both logs, each of which is synced before, and gives the current one.
+pub(crate) fn open_current<V: Vol>(vol: &mut V) -> Result<Current, OpenFault>
+    ensures current { V.told → IfOk result (λ current. IsCurrent current (V.disk vol.old) (V.disk vol.new)) }
+    ensures fault { V.told → IfErr result (IsLogFault (V.disk vol.old).seen) }
+    ensures quiet { V.told → Quiet (V.disk vol.old) (V.disk vol.new) }
+    ensures cause { HasCause (V.faults vol.old) (V.faults vol.new) (IsErrOf result OpenFault.Fault) }
+{
+    let zero = open_log(vol, 0)?;
+    let one = open_log(vol, 1)?;
+    let is_zero = is_first(zero.generation(), one.generation());
+    if is_zero {
+        Ok(Current { file: 0, log: zero })
+    } else {
+        Ok(Current { file: 1, log: one })
+    }
+}
+
+/// What the current log gives.
+pub(crate) fn read_current<V: Vol>(
+    alloc: Global,
+    vol: &mut V,
+    current: &Current,
+) -> Result<Durable, OpenFault>
+    requires settled { V.told → (batches : List Bytes) × IsSettled current.now.log batches (V.disk vol.old) }
+    ensures gives { V.told → IfOk result (GivesIn current.now.log (V.disk vol.old)) }
+    ensures formed { IfOk result IsFormed }
+    ensures storable { IfOk result IsStorable }
+    ensures openable { IfOk result IsOpenable }
+    ensures fault { V.told → IfErr result (IsRecordsFault current.now.file current.now.log (V.disk vol.old)) }
+    ensures quiet { V.told → Quiet (V.disk vol.old) (V.disk vol.new) }
+    ensures cause { HasCause (V.faults vol.old) (V.faults vol.new) (IsErrOf result OpenFault.Fault) }
+{
+    match read_log(alloc, vol, &current.log) {
+        Ok(durable) => Ok(durable),
+        Err(fault) => Err(OpenFault::of_records(current.file, fault)),
+    }
+}
+
+/// The records of a volume's first batch: the place is vacant, and never had a stream.
+fn first_records(alloc: Global) -> Result<Vec<u8>, NoMemory>
+    ensures bytes { IfOk result (λ bytes. bytes.items ≡ spelled_vacant 0) }
+{
+    let mut records = Vec::new(alloc);
+    write_vacant(alloc, 0, &mut records)?;
+    Ok(records)
+}
+
+/// Makes a log of generation 1 in file 0, whose one batch says that the place is vacant and never had a stream.
+pub(crate) fn begin_log<V: Vol>(alloc: Global, vol: &mut V) -> Result<GateLog, OpenFault>
+    requires unbegun { V.told → IsUnbegun (V.disk vol.old) }
+    ensures head { IfOk result (λ log. log.head ≡ Some 1) }
+    ensures file { IfOk result (λ log. log.file ≡ 0) }
+    ensures settled { V.told → IfOk result (λ log. IsSettled log (spelled_vacant 0 ∷ []) (V.disk vol.new)) }
+    ensures base { V.told → IfOk result (λ log. IsBaseOf log (vacant 0) (V.disk vol.new)) }
+    ensures elsewhere { V.told → RestsBut 0 (V.disk vol.old) (V.disk vol.new) }
+    ensures any_moment { V.told → HoldsNothing (V.disk vol.old) (V.disk vol.new) }
+    ensures only { IfErr result IsOutsideFault }
+    ensures cause { HasCause (V.faults vol.old) (V.faults vol.new) (IsErrOf result OpenFault.Fault) }
+{
+    let records = first_records(alloc)?;
+    let mut log = match GateLog::start(alloc, vol, 0, FIRST_GENERATION) {
+        Ok(log) => log,
+        Err(fault) => return Err(OpenFault::of_log(0, fault)),
+    };
+    match log.append(alloc, vol, records.as_slice()) {
+        Ok(()) => Ok(log),
+        Err(fault) => Err(OpenFault::of_log(0, fault)),
+    }
+}
