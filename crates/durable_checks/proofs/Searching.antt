@@ -1,9 +1,12 @@
 -- Ascending lists of sequences: how they are tested, and searched.
-use Rattle.std.proofs.Common.{◌≡◌, ◌≢◌, ℕ, zero, suc, ◌+◌, ◌<◌, ◌≤◌, ◌&&◌, ◌||◌, Bool, true, false, List, [], ◌∷◌, map, length, drop, get_or, Result, Ok, Err, refl, sym, ap, ◌∙◌, arith, nat_le, eq-eqb}
+use Rattle.std.proofs.Common.{◌≡◌, ◌≢◌, ℕ, zero, suc, ◌+◌, ◌<◌, ◌≤◌, ◌&&◌, ◌||◌, Bool, true, false, List, [], ◌∷◌, map, length, drop, get_or, Result, Ok, Err, refl, sym, ap, ◌∙◌, arith, nat_le, nat_lt, eq-eqb}
 use Rattle.std.specs.Prelude.{◌==◌, MatchResult, is_ok}
+use Rattle.std.specs.List.Sorted.{IsSearchInRange, IsBinarySearchResult, IsNonDecreasingBy}
+use Rattle.std.specs.Ordering.{nat_cmp, ordering_index}
+use Rattle.std.proofs.lemmas.Cmp.{ranked}
 use Rattle.std.proofs.lemmas.Bool.{and_parts, ne_eqb, leb-true}
 use Rattle.std.proofs.lemmas.Bool.Decides.{nat_tests}
-use Rattle.std.proofs.lemmas.List.{at_drop_more}
+use Rattle.std.proofs.lemmas.List.{at_drop_more, get_or-map, length-map}
 use Rattle.js_base.specs.Bytes.{has}
 use Rattle.js_model.specs.declared.consumer.Pending.{Pending}
 use Rattle.js_model.specs.declared.consumer.Consumer.{Consumer}
@@ -91,6 +94,50 @@ found ns n (Err i) h = has_nowhere ns n (λ k l same. apart k l same (nat_le i k
 pub is_ok_has : (ns : List ℕ) (n : ℕ) (r : Result ℕ ℕ) → MatchResult r (λ i. has ns n ≡ true) (λ i. has ns n ≡ false) → is_ok r ≡ has ns n
 is_ok_has ns n (Ok i) h = sym h
 is_ok_has ns n (Err i) h = sym h
+
+-- ---- entries by their sequences
+
+module _ (entries : List Pending) (n : ℕ) where
+  abbrev seq_of : Pending → ℕ
+  seq_of p = p.seq
+
+  abbrev sequences : List ℕ
+  sequences = map seq_of entries
+
+  abbrev none : Pending
+  none = record { seq = 0; count = 0; due = 0 }
+
+  at_entry : (i : ℕ) (d : Pending) → i < length entries → get_or sequences i 0 ≡ (get_or entries i d).seq
+  at_entry i d within = get_or-map seq_of entries i d 0 within
+
+  comparisons_rise : Ascend sequences → IsNonDecreasingBy (λ p. ordering_index (nat_cmp p.seq n)) entries
+  comparisons_rise ascends i j d le within =
+      let up = rises 1 ascends.0 sequences i j ascends.1 le (omega (arith, within, length-map entries seq_of)) in
+      let low = at_entry i d (omega (arith, le, within)) in
+      let high = at_entry j d within in
+      let k : (get_or entries i d).seq ≤ (get_or entries j d).seq = omega (arith, up, low, high) in
+      grind (arith, nat_tests)
+
+  -- what a binary search by sequences answers
+  pub entry_found : Ascend sequences → (r : Result ℕ ℕ) → IsSearchInRange r (length entries) → IsBinarySearchResult (λ p. nat_cmp p.seq n) entries r → is_ok r ≡ has sequences n
+  entry_found ascends (Ok at) within equal =
+      let here : (get_or entries at none).seq ≡ n = ranked _ n _ (sym (equal none)) in
+      sym (has_there sequences at n (omega (arith, within, length-map entries seq_of)) (at_entry at none within ∙ here))
+  entry_found ascends (Err at) within parted = sym (has_nowhere sequences n (λ k l same. apart k (omega (arith, l, length-map entries seq_of)) same))
+    where
+      apart : (k : ℕ) → k < length entries → get_or sequences k 0 ≡ n → ⊥
+      apart k l same = go (nat_lt k at) refl
+        where
+          there : (get_or entries k none).seq ≡ n
+          there = sym (at_entry k none l) ∙ same
+
+          go : (b : Bool) → nat_lt k at ≡ b → ⊥
+          go true e =
+              let less : (get_or entries k none).seq < n = ranked _ n _ (sym ((parted (comparisons_rise ascends)).0 k none (omega arith) (grind (arith, nat_tests, e)))) in
+              omega (arith, less, there)
+          go false e =
+              let more : n < (get_or entries k none).seq = ranked _ n _ (sym ((parted (comparisons_rise ascends)).1 k none (grind (arith, nat_tests, e)) l)) in
+              omega (arith, more, there)
 
 -- ---- the sequences of a consumer
 

@@ -1,16 +1,14 @@
--- The limits of a stream drop nothing where each of them is kept.
-use Rattle.std.proofs.Common.{◌≡◌, ℕ, ◌≤◌, ◌^◌, ◌-◌, ◌&&◌, Bool, true, false, cond, List, [], ◌∷◌, map, length, drop, min, Option, Some, None, IsTrue, refl, sym, ap, ◌∙◌, arith, nat_le, nat_lt, length-drop}
+-- The limits and the retention of a stream drop nothing where each of them is kept.
+use Rattle.std.proofs.Common.{◌≡◌, ℕ, ◌≤◌, ◌^◌, ◌-◌, ◌&&◌, Bool, true, false, cond, List, [], ◌∷◌, map, length, drop, min, Option, Some, None, refl, sym, ap, ◌∙◌, arith, nat_le, nat_lt, length-drop}
 use Rattle.std.specs.Prelude.{All, filter, unwrap_or, count_by, sum_by}
+use Rattle.std.specs.List.{list_all}
 use Rattle.std.proofs.lemmas.Bool.{and_parts, and_from, leb-true, le-leb}
 use Rattle.std.proofs.lemmas.List.Elements.{All-head, All-tail}
 use Rattle.js_base.specs.Bytes.{same, has, last_of}
-use Rattle.js_model.specs.declared.stream_config.Retention.{Retention}
-use Rattle.js_model.specs.declared.stream_config.Retention.TheVariants.{Limits, Interest, WorkQueue}
 use Rattle.js_model.specs.declared.stream.Message.{Message}
 use Rattle.js_model.specs.declared.stream.Stream.{Stream}
 use Rattle.js_model.specs.declared.consumer.Pending.{Pending}
 use Rattle.js_model.specs.declared.consumer.Consumer.{Consumer}
-use Rattle.js_model.specs.Configs.{same_retention}
 use Rattle.js_model.specs.Streams.{size, seqs, only, confined}
 use Rattle.js_model.specs.Trim.{newest, fitting, newest_at, fitting_at, max_messages, trim_subjects, trim_count, trim_bytes, trim}
 use Rattle.js_model.specs.Retention.{is_kept, kept}
@@ -85,15 +83,24 @@ whole_last (Some n) ms h =
     let left : length (drop (length ms - min n (2 ^ 24)) ms) ≡ length ms - (length ms - min n (2 ^ 24)) = length-drop (length ms - min n (2 ^ 24)) ms in
     le-leb (length ms) n (omega (arith, same_length, left))
 
--- ---- retention by limits keeps all
+-- ---- a test that all pass keeps all
 
-by_limits : (r : Retention) → IsTrue (same_retention r Limits) → r ≡ Limits
-by_limits Limits h = refl
-by_limits Interest h = absurd (cc)
-by_limits WorkQueue h = absurd (cc)
+filter_whole : (t : Message → Bool) (ms : List Message) → list_all t ms ≡ true → filter t ms ≡ ms
+filter_whole t [] h = refl
+filter_whole t (m ∷ later) h =
+    let p = and_parts (t m) (list_all t later) h in
+    ap (λ (b : Bool). cond b (m ∷ filter t later) (filter t later)) p.0 ∙ ap (λ (l : List Message). m ∷ l) (filter_whole t later p.1)
 
-all_kept : (s : Stream) → IsTrue (same_retention s.config.retention Limits) → filter (is_kept s.config.retention s.consumers) s.messages ≡ s.messages
-all_kept s h = filter_all (is_kept s.config.retention s.consumers) s.messages (λ m i. ap (λ (r : Retention). is_kept r s.consumers m) (by_limits s.config.retention h))
+whole_filter : (t : Message → Bool) (ms : List Message) → filter t ms ≡ ms → list_all t ms ≡ true
+whole_filter t [] h = refl
+whole_filter t (m ∷ later) h = go (t m) (λ e. whole_filter t later e) h
+  where
+    go : (b : Bool) → (filter t later ≡ later → list_all t later ≡ true) → cond b (m ∷ filter t later) (filter t later) ≡ m ∷ later → (b && list_all t later) ≡ true
+    go true rest e = rest (ap (drop 1) e)
+    go false rest e =
+        let short : length (filter t later) ≤ length later = part-length (filter_part t later) in
+        let long : length (filter t later) ≡ length (m ∷ later) = ap (λ (l : List Message). length l) e in
+        absurd (omega (arith, short, long))
 
 -- ---- a stream confined to its own messages
 
@@ -128,7 +135,7 @@ only_own s h = ap (λ (cs : List Consumer). record s { consumers = cs }) (all_co
 
 -- ---- all of them
 
-module _ (s : Stream) (stored : All (IsWellStoredConsumer s.messages s.last) s.consumers) (limits : IsTrue (same_retention s.config.retention Limits)) (few : length s.messages ≤ 2 ^ 24) where
+module _ (s : Stream) (stored : All (IsWellStoredConsumer s.messages s.last) s.consumers) (few : length s.messages ≤ 2 ^ 24) where
   own : only s s.messages ≡ s
   own = only_own s stored
 
@@ -136,16 +143,19 @@ module _ (s : Stream) (stored : All (IsWellStoredConsumer s.messages s.last) s.c
   only_same : (ms : List Message) → ms ≡ s.messages → only s ms ≡ s
   only_same ms e = ap (only s) e ∙ own
 
-  pub within_settled : are_within s.config s.messages ≡ true → settled s ≡ s
+  abbrev is_retained : Message → Bool
+  is_retained = is_kept s.config.retention s.consumers
+
+  pub within_settled : are_within s.config s.messages ≡ true → list_all (is_kept s.config.retention s.consumers) s.messages ≡ true → settled s ≡ s
   unfolding trim kept
-  within_settled h =
+  within_settled h retained =
       let outer = and_parts (are_newest_at s.config.max_msgs_per_subject s.messages && is_within_limit (length s.messages) s.config.max_msgs) (is_within_limit (sum_by size s.messages) s.config.max_bytes) h in
       let inner = and_parts (are_newest_at s.config.max_msgs_per_subject s.messages) (is_within_limit (length s.messages) s.config.max_msgs) outer.0 in
       let subjects : trim_subjects s ≡ s = only_same (newest_at s.config.max_msgs_per_subject s.messages) (newest_at_whole s.config.max_msgs_per_subject s.messages inner.0) in
       let count : trim_count s ≡ s = only_same (last_of (max_messages s) s.messages) (last_whole s.config.max_msgs s.messages few inner.1) in
       let bytes : trim_bytes s ≡ s = only_same (fitting_at s.config.max_bytes s.messages) (fitting_at_whole s.config.max_bytes s.messages outer.1) in
       let trimmed : trim s ≡ s = ap (λ (t : Stream). trim_bytes (trim_count t)) subjects ∙ ap trim_bytes count ∙ bytes in
-      ap kept trimmed ∙ only_same (filter (is_kept s.config.retention s.consumers) s.messages) (all_kept s limits)
+      ap kept trimmed ∙ only_same (filter is_retained s.messages) (filter_whole is_retained s.messages retained)
 
   -- the stages of a settled stream, each a part of the one before
   module _ (h : settled s ≡ s) where
@@ -186,6 +196,17 @@ module _ (s : Stream) (stored : All (IsWellStoredConsumer s.messages s.last) s.c
 
     two_is : two ≡ s
     two_is = ap trim_count one_is ∙ only_same (last_of (max_messages s) s.messages) (ap (λ (t : Stream). (trim_count t).messages) (sym one_is) ∙ two_messages ∙ ap (λ (t : Stream). t.messages) one_is)
+
+    three_is : three ≡ s
+    three_is = ap trim_bytes two_is ∙ only_same (fitting_at s.config.max_bytes s.messages) (ap (λ (t : Stream). (trim_bytes t).messages) (sym two_is) ∙ three_messages ∙ ap (λ (t : Stream). t.messages) two_is)
+
+    four_messages : (kept three).messages ≡ three.messages
+    unfolding kept
+    four_messages = part_full (filter_part (is_kept three.config.retention three.consumers) three.messages) (omega (arith, end_length, one_length, two_length, three_length, four_length))
+
+    pub settled_retained : list_all (is_kept s.config.retention s.consumers) s.messages ≡ true
+    unfolding kept
+    settled_retained = whole_filter is_retained s.messages (ap (λ (t : Stream). (kept t).messages) (sym three_is) ∙ four_messages ∙ ap (λ (t : Stream). t.messages) three_is)
 
     newest_messages : newest_at s.config.max_msgs_per_subject s.messages ≡ s.messages
     newest_messages = ap (λ (t : Stream). t.messages) one_is

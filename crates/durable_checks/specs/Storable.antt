@@ -2,8 +2,7 @@
 use Rattle.std.specs.Prelude.{◌≡◌, IsTrue, [], Option, Some, None, All, ⊤}
 use Rattle.js_base.specs.Bytes.{same}
 use Rattle.js_model.specs.declared.consumer.Consumer.{Consumer}
-use Rattle.js_model.specs.declared.stream_config.Retention.TheVariants.{Limits}
-use Rattle.js_model.specs.Configs.{same_retention, is_stream_config, is_consumer_config}
+use Rattle.js_model.specs.Configs.{is_stream_config, is_consumer_config}
 use Rattle.model_laws.specs.Sound.{IsWellStored, IsMatched, AreOrdered}
 use Rattle.model_laws.specs.Bounds.{IsBounded, IsWritableMessage}
 use Rattle.effects.specs.declared.durable.Body.{Body}
@@ -30,11 +29,9 @@ pub record IsConfigured (c : Consumer) : Type 0 where
   pub waiting : c.waiting ≡ []
   pub mark : c.mark ≡ c.made
 
--- configurations are such as their readers give, messages are retained by limits alone, as long as no other retention is served, each message is one that
--- can be written, and consumers stand in order of their names
+-- configurations are such as their readers give, each message is one that can be written, and consumers stand in order of their names
 pub record IsFormedBody (b : Body) : Type 0 where
   pub config : IsTrue (is_stream_config b.config)
-  pub retention : IsTrue (same_retention b.config.retention Limits)
   pub writable : All IsWritableMessage b.messages
   pub consumers : All IsConfigured b.consumers
   pub ordered : AreOrdered b.consumers

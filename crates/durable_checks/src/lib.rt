@@ -4,6 +4,7 @@
 mod bounds;
 mod consumers;
 mod ids;
+mod keeping;
 mod limits;
 mod matching;
 mod openable;

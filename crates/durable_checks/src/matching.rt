@@ -13,7 +13,7 @@ use std::alloc::Global;
 use subject_match::matches;
 
 /// Whether a filter matches a subject; the empty one matches all.
-fn passes(filter: &Blob, subject: &Blob) -> bool
+pub(crate) fn passes(filter: &Blob, subject: &Blob) -> bool
     ensures value { result ≡ passes_filter filter.now subject.now }
 {
     filter.is_empty() || matches(filter.as_slice(), subject.as_slice())

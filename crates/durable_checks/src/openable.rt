@@ -4,6 +4,7 @@ ghost use Rattle.std.specs.Prelude.{◌↔◌, IfOk, IsTrue};
 ghost use Rattle.effects.specs.Folding.{live};
 ghost use Rattle.durable_checks.specs.Storable.{IsFormed, IsFormedBody, IsOpenable, IsStorable};
 
+use crate::keeping::are_kept;
 use crate::limits::are_within;
 use crate::matching::are_all_matched;
 use crate::times::{ids_rise, messages_rise};
@@ -18,7 +19,8 @@ fn is_openable_body(alloc: Global, incarnation: u64, body: &Body) -> Result<bool
     ensures value { IfOk result (λ openable. IsTrue openable ↔ IsOpenable (live incarnation body.now)) }
 {
     let messages = body.messages.as_slice();
-    if !are_all_matched(alloc, messages, body.consumers.as_slice())? {
+    let consumers = body.consumers.as_slice();
+    if !are_all_matched(alloc, messages, consumers)? {
         return Ok(false);
     }
     if !messages_rise(alloc, messages, body.moment)? {
@@ -27,12 +29,15 @@ fn is_openable_body(alloc: Global, incarnation: u64, body: &Body) -> Result<bool
     if !ids_rise(alloc, body.ids.as_slice(), body.moment)? {
         return Ok(false);
     }
-    are_within(alloc, &body.config, messages)
+    if !are_within(alloc, &body.config, messages)? {
+        return Ok(false);
+    }
+    Ok(are_kept(body.config.retention, consumers, messages))
 }
 
 /// Whether what a volume holds can be opened: the filters of its consumers match what they should, the moments of its messages and ids do not fall and
-/// are none after its own, and its limits drop no message. It is storable; its configurations are such as their readers give, messages are retained by
-/// limits alone, and its consumers stand in order of their names.
+/// are none after its own, and neither its limits nor its retention drop a message. It is storable; its configurations are such as their readers give, and
+/// its consumers stand in order of their names.
 ///
 /// It costs a search for each message and consumer.
 pub fn is_openable(alloc: Global, durable: &Durable) -> Result<bool, NoMemory>

@@ -46,6 +46,16 @@ pub(crate) fn is_in(seqs: &[u64], seq: u64) -> bool
     seqs.binary_search(&seq).is_ok()
 }
 
+/// Whether one of the entries has this sequence.
+pub(crate) fn is_entry(entries: &[Pending], seq: u64) -> bool
+    requires ascend { Ascend (map (λ p. p.seq) entries.now) }
+    ensures value { result ≡ has (map (λ p. p.seq) entries.now) seq }
+{
+    entries
+        .binary_search_by_key(&seq, |entry| entry.seq)
+        .is_ok()
+}
+
 /// Whether each of the sequences is among those that are stored.
 pub(crate) fn are_in(stored: &[u64], seqs: &[u64]) -> bool
     requires ascend { Ascend stored.now }

@@ -52,6 +52,7 @@ fn head_of<V: Vol>(vol: &mut V, file: u32) -> Result<u64, LogFault>
     ensures err { V.told → IfErr result (IsHeadFaultOf ((V.disk vol.old).seen file)) }
     ensures quiet { V.told → Quiet (V.disk vol.old) (V.disk vol.new) }
     ensures cause { HasCause (V.faults vol.old) (V.faults vol.new) (IsErrOf result LogFault.Fault) }
+    ensures later { (V.disk vol.old).moment ≤ (V.disk vol.new).moment }
 {
     let mut bytes = [0; 16];
     read(vol, file, 0, &mut bytes)?;
@@ -71,6 +72,7 @@ fn bytes_at<V: Vol>(
     ensures quiet { V.told → Quiet (V.disk vol.old) (V.disk vol.new) }
     ensures only { IfErr result IsOutside }
     ensures cause { HasCause (V.faults vol.old) (V.faults vol.new) (IsErrOf result LogFault.Fault) }
+    ensures later { (V.disk vol.old).moment ≤ (V.disk vol.new).moment }
 {
     let mut bytes = Vec::new(alloc);
     if bytes.resize(count as usize, 0).is_err() {
@@ -92,6 +94,7 @@ impl GateLog {
         ensures fault { V.told → IfErr result (IsOpenFault ((V.disk vol.old).seen file)) }
         ensures quiet { V.told → Quiet (V.disk vol.old) (V.disk vol.new) }
         ensures cause { HasCause (V.faults vol.old) (V.faults vol.new) (IsErrOf result LogFault.Fault) }
+        ensures later { (V.disk vol.old).moment ≤ (V.disk vol.new).moment }
     {
         let len = synced_len(vol, file)?;
         if len <= FIRST_GATE + 1 {
@@ -134,6 +137,7 @@ impl GateLog {
         ensures only { IfErr result IsOutside }
         ensures no_memory { IsErrOf result LogFault.NoMemory → vol.new ≡ vol.old }
         ensures cause { HasCause (V.faults vol.old) (V.faults vol.new) (IsErrOf result LogFault.Fault) }
+        ensures later { (V.disk vol.old).moment ≤ (V.disk vol.new).moment }
     {
         let bytes = empty_log(alloc, generation)?;
         clear(vol, file)?;
@@ -180,6 +184,7 @@ impl GateLog {
         ensures quiet { V.told → Quiet (V.disk vol.old) (V.disk vol.new) }
         ensures only { IfErr result IsOutside }
         ensures cause { HasCause (V.faults vol.old) (V.faults vol.new) (IsErrOf result LogFault.Fault) }
+        ensures later { (V.disk vol.old).moment ≤ (V.disk vol.new).moment }
     {
         if at == self.ends.last {
             return Ok(None);
@@ -200,6 +205,7 @@ impl GateLog {
         ensures only { IfErr result IsOutside }
         ensures no_memory { IsErrOf result LogFault.NoMemory → vol.new ≡ vol.old }
         ensures cause { HasCause (V.faults vol.old) (V.faults vol.new) (IsErrOf result LogFault.Fault) }
+        ensures later { (V.disk vol.old).moment ≤ (V.disk vol.new).moment }
     {
         let staged = behind_gate(alloc, bytes)?;
         write_synced(vol, self.file, self.ends.last + 1, staged.as_slice())?;
@@ -228,6 +234,7 @@ impl GateLog {
         ensures no_memory { IsErrOf result LogFault.NoMemory → vol.new ≡ vol.old }
         ensures only { IfErr result IsAppendFault }
         ensures cause { HasCause (V.faults vol.old) (V.faults vol.new) (IsErrOf result LogFault.Fault) }
+        ensures later { (V.disk vol.old).moment ≤ (V.disk vol.new).moment }
     {
         if !fits(self.ends.last, bytes.len()) {
             return Err(LogFault::Full);

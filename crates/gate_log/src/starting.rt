@@ -17,6 +17,7 @@ fn close_gate<V: Vol>(vol: &mut V, file: u32) -> Result<(), Failed>
     ensures durable { V.told → OnOk result (IsDurable (V.disk vol.new) file) }
     ensures any_moment { V.told → Starts file (V.disk vol.old) (V.disk vol.new) }
     ensures cause { HasCause (V.faults vol.old) (V.faults vol.new) (IsErr result) }
+    ensures later { (V.disk vol.old).moment ≤ (V.disk vol.new).moment }
 {
     if byte_at(vol, file, FIRST_GATE)? == OPEN {
         write_synced(vol, file, FIRST_GATE, &[0])
@@ -33,6 +34,7 @@ fn cut_batches<V: Vol>(vol: &mut V, file: u32) -> Result<(), Failed>
     ensures durable { V.told → OnOk result (IsDurable (V.disk vol.new) file) }
     ensures any_moment { V.told → Starts file (V.disk vol.old) (V.disk vol.new) }
     ensures cause { HasCause (V.faults vol.old) (V.faults vol.new) (IsErr result) }
+    ensures later { (V.disk vol.old).moment ≤ (V.disk vol.new).moment }
 {
     close_gate(vol, file)?;
     cut_synced(vol, file, FIRST_GATE + 1)
@@ -45,6 +47,7 @@ pub fn clear<V: Vol>(vol: &mut V, file: u32) -> Result<(), Failed>
     ensures durable { V.told → OnOk result (IsDurable (V.disk vol.new) file) }
     ensures any_moment { V.told → Starts file (V.disk vol.old) (V.disk vol.new) }
     ensures cause { HasCause (V.faults vol.old) (V.faults vol.new) (IsErr result) }
+    ensures later { (V.disk vol.old).moment ≤ (V.disk vol.new).moment }
 {
     if vol.len(file)? > FIRST_GATE + 1 {
         cut_batches(vol, file)

@@ -6,12 +6,11 @@ use Rattle.std.proofs.lemmas.Bool.{and_parts, ltb-true, leb-true}
 use Rattle.std.proofs.lemmas.List.Elements.{All-nil, All-cons, All-head, All-tail, All-filter, All-push}
 use Rattle.js_base.specs.Bytes.{Bytes, same}
 use Rattle.js_model.specs.declared.stream_config.StreamConfig.{StreamConfig}
-use Rattle.js_model.specs.declared.stream_config.Retention.TheVariants.{Limits}
 use Rattle.js_model.specs.declared.consumer_config.ConsumerConfig.{ConsumerConfig}
 use Rattle.js_model.specs.declared.stream.Message.{Message}
 use Rattle.js_model.specs.declared.consumer.Pending.{Pending}
 use Rattle.js_model.specs.declared.consumer.Consumer.{Consumer}
-use Rattle.js_model.specs.Configs.{is_name, is_number, same_retention, is_stream_config, is_consumer_config}
+use Rattle.js_model.specs.Configs.{is_name, is_number, is_stream_config, is_consumer_config}
 use Rattle.js_model.specs.Streams.{by_name, in_place_of}
 use Rattle.js_model.specs.Consumers.{with_new}
 use Rattle.js_model.specs.Acknowledge.{without, with_due}
@@ -27,7 +26,7 @@ use Rattle.effects.specs.declared.effect.Effect.{Effect}
 use Rattle.effects.specs.declared.effect.Effect.TheVariants.{MakeStream, ChangeStream, DropStream, PutHere, Skip, Remove, MakeConsumer, DropConsumer, Deliver, Acked, Due, GivenUp, Now}
 use Rattle.effects.specs.Folding.{live, live_if, fold, fold_in, fold_live, fold_vacant, empty_body, holding, removed, consumer_from, with_made, without_consumer, replaced, is_next, numbered, put, at_moment, delivered, delivered_to, acked, due_at, with_given_up, given_up_by}
 use Rattle.effects.specs.Ranges.{is_within}
-use Rattle.op_records.specs.Allowed.{is_record, is_text, is_header, fits_block, is_served_config, is_cursor, are_picks}
+use Rattle.op_records.specs.Allowed.{is_record, is_text, is_header, fits_block, is_cursor, are_picks}
 use Rattle.js_base.specs.Subjects.{is_subject_text}
 use Rattle.record_fold.specs.Entries.{IsGiven, AreOrderedOf, AreOrderedIn}
 use Rattle.durable_checks.specs.Storable.{IsConfigured, IsFormedBody, IsFormedOf, IsFormed}
@@ -65,14 +64,10 @@ record KeepsForm (old new : Body) : Type 0 where
 formed_by : (old new : Body) → IsFormedBody old → KeepsForm old new → IsFormedBody new
 formed_by old new f k = record {
   config = subst (λ (c : StreamConfig). IsTrue (is_stream_config c)) (sym k.config) f.config;
-  retention = subst (λ (c : StreamConfig). IsTrue (same_retention c.retention Limits)) (sym k.config) f.retention;
   writable = k.writable;
   consumers = k.consumers;
   ordered = k.ordered;
 }
-
-served : (config : StreamConfig) → IsTrue (is_served_config config) → IsTrue (is_stream_config config) × IsTrue (same_retention config.retention Limits)
-served config h = and_parts (is_stream_config config) (same_retention config.retention Limits) h
 
 configured_map : (f : Consumer → Consumer) → ((c : Consumer) → IsConfigured c → IsConfigured (f c)) → (cs : List Consumer) → All IsConfigured cs → All IsConfigured (map f cs)
 configured_map f keeps [] h = All-nil IsConfigured
@@ -125,8 +120,8 @@ tested_forms false made new f h = absurd (none_some h)
 
 vacant_forms : (i : ℕ) (e : Effect) → IsTrue (is_record e) → (new : Durable) → fold_vacant i e ≡ Some new → IsFormed new
 vacant_forms i (MakeStream incarnation made config) is new h =
-    let config_is = served config (and_parts (is_number incarnation && is_number made) (is_served_config config) is).1 in
-    tested_forms (incarnation == i + 1) (live incarnation (empty_body made config)) new (record { config = config_is.0; retention = config_is.1; writable = All-nil IsWritableMessage; consumers = All-nil IsConfigured; ordered = tt }) h
+    let config_is = (and_parts (is_number incarnation && is_number made) (is_stream_config config) is).1 in
+    tested_forms (incarnation == i + 1) (live incarnation (empty_body made config)) new (record { config = config_is; writable = All-nil IsWritableMessage; consumers = All-nil IsConfigured; ordered = tt }) h
 vacant_forms i (ChangeStream config) is new h = absurd (none_some h)
 vacant_forms i DropStream is new h = absurd (none_some h)
 vacant_forms i (PutHere seq at id subject headers payload) is new h = absurd (none_some h)
@@ -147,8 +142,7 @@ kept_whole b new f config writable consumers =
 live_forms : (i : ℕ) (b : Body) (e : Effect) → IsFormedBody b → IsTrue (is_record e) → (new : Durable) → fold_live i b e ≡ Some new → IsFormed new
 live_forms i b (MakeStream incarnation made config) f is new h = absurd (none_some h)
 live_forms i b (ChangeStream config) f is new h =
-    let config_is = served config is in
-    subst IsFormed (some_is h) (record { config = config_is.0; retention = config_is.1; writable = f.writable; consumers = f.consumers; ordered = f.ordered })
+    subst IsFormed (some_is h) (record { config = is; writable = f.writable; consumers = f.consumers; ordered = f.ordered })
 live_forms i b DropStream f is new h = subst IsFormed (some_is h) tt
 live_forms i b (PutHere seq at id subject headers payload) f is new h =
     let message : Message = record { seq = seq; at = at; subject = subject; headers = headers; payload = payload } in

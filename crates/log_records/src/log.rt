@@ -1,6 +1,6 @@
 //! The batches of a log, one after the other.
 
-ghost use Rattle.std.specs.Prelude.{◌≡◌, ◌<◌, ◌^◌, length, Some, IfOk, IfErr, IsErrOf, IsTrue, List};
+ghost use Rattle.std.specs.Prelude.{◌≡◌, ◌<◌, ◌≤◌, ◌^◌, length, Some, IfOk, IfErr, IsErrOf, IsTrue, List};
 ghost use Rattle.vol_disk.specs.Moments.{Quiet};
 ghost use Rattle.js_base.specs.Bytes.{Bytes};
 ghost use Rattle.js_base.specs.Causes.{HasCause};
@@ -112,6 +112,7 @@ fn next_batch<V: Vol>(
     ensures quiet { V.told → Quiet (V.disk vol.old) (V.disk vol.new) }
     ensures only { V.told → IfErr result IsOutside }
     ensures cause { HasCause (V.faults vol.old) (V.faults vol.new) (IsErrOf result ReadFault.Fault) }
+    ensures later { (V.disk vol.old).moment ≤ (V.disk vol.new).moment }
 {
     match log.batch(alloc, vol, gate) {
         Ok(None) => Ok(None),
@@ -151,6 +152,7 @@ fn read_later<V: Vol>(
     ensures fault { V.told → IfErr result (IsReadFault log.now (V.disk vol.old)) }
     ensures quiet { V.told → Quiet (V.disk vol.old) (V.disk vol.new) }
     ensures cause { HasCause (V.faults vol.old) (V.faults vol.new) (IsErrOf result ReadFault.Fault) }
+    ensures later { (V.disk vol.old).moment ≤ (V.disk vol.new).moment }
 {
     let mut durable = begun;
     let mut last = FIRST_GATE;
@@ -180,6 +182,7 @@ pub fn read_log<V: Vol>(alloc: Global, vol: &mut V, log: &GateLog) -> Result<Dur
     ensures fault { V.told → IfErr result (IsReadFault log.now (V.disk vol.old)) }
     ensures quiet { V.told → Quiet (V.disk vol.old) (V.disk vol.new) }
     ensures cause { HasCause (V.faults vol.old) (V.faults vol.new) (IsErrOf result ReadFault.Fault) }
+    ensures later { (V.disk vol.old).moment ≤ (V.disk vol.new).moment }
 {
     let Some((first, gate)) = next_batch(alloc, vol, log, FIRST_GATE)? else {
         return Ok(Durable {

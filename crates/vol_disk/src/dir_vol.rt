@@ -48,13 +48,6 @@ impl DirVol {
         }
     }
 
-    /// How often it failed. The count stops at the greatest number of its type.
-    pub fn faults(&self) -> u64
-        ensures value { result ≡ self.now }
-    {
-        self.faults
-    }
-
     /// The answer of a call, which is counted if it failed.
     fn counted<T: Drop>(&mut self, answer: io::Result<T>) -> Result<T, Failed>
         ensures cause { HasCause self.old self.new (IsErr result) }
@@ -105,5 +98,9 @@ impl Vol for DirVol {
     fn sync(&mut self, file: u32) -> Result<(), Failed> {
         let synced = opened(&mut self.folder).and_then(|folder| folder.sync(file));
         self.counted(synced)
+    }
+
+    fn faults(&self) -> u64 {
+        self.faults
     }
 }

@@ -85,6 +85,7 @@ impl Vol for HoldVol {
         ensures seen { (disk_of self.new).seen file ≡ (disk_of self.old).seen file }
         ensures does { Does file Kept (disk_of self.old) (disk_of self.new) }
         ensures cause { HasCause self.old.faults self.new.faults (IsErr result) }
+        ensures later { (disk_of self.old).moment ≤ (disk_of self.new).moment }
     {
         self.vol.len(file)
     }
@@ -96,6 +97,7 @@ impl Vol for HoldVol {
         ensures seen { (disk_of self.new).seen file ≡ (disk_of self.old).seen file }
         ensures does { Does file Kept (disk_of self.old) (disk_of self.new) }
         ensures cause { HasCause self.old.faults self.new.faults (IsErr result) }
+        ensures later { (disk_of self.old).moment ≤ (disk_of self.new).moment }
     {
         self.vol.read_at(file, at, into)
     }
@@ -107,6 +109,7 @@ impl Vol for HoldVol {
         ensures torn { OnErr result (Torn at (length bytes.now) ((disk_of self.old).seen file) ((disk_of self.new).seen file)) }
         ensures does { Does file (Torn at (length bytes.now)) (disk_of self.old) (disk_of self.new) }
         ensures cause { HasCause self.old.faults self.new.faults (IsErr result) }
+        ensures later { (disk_of self.old).moment ≤ (disk_of self.new).moment }
     {
         self.vol.write_at(file, at, bytes)
     }
@@ -118,6 +121,7 @@ impl Vol for HoldVol {
         ensures torn { OnErr result (CutTo to ((disk_of self.old).seen file) ((disk_of self.new).seen file)) }
         ensures does { Does file (CutTo to) (disk_of self.old) (disk_of self.new) }
         ensures cause { HasCause self.old.faults self.new.faults (IsErr result) }
+        ensures later { (disk_of self.old).moment ≤ (disk_of self.new).moment }
     {
         self.vol.cut(file, to)
     }
@@ -129,10 +133,15 @@ impl Vol for HoldVol {
         ensures seen { (disk_of self.new).seen file ≡ (disk_of self.old).seen file }
         ensures does { Does file Kept (disk_of self.old) (disk_of self.new) }
         ensures cause { HasCause self.old.faults self.new.faults (IsErr result) }
+        ensures later { (disk_of self.old).moment ≤ (disk_of self.new).moment }
     {
         if file == self.held {
             self.hold();
         }
         self.vol.sync(file)
+    }
+
+    fn faults(&self) -> u64 {
+        self.vol.faults()
     }
 }

@@ -106,13 +106,6 @@ impl MemVol {
         self.held.calls()
     }
 
-    /// How often it failed.
-    pub fn faults(&self) -> u64
-        ensures value { result ≡ self.now.faults }
-    {
-        self.faults
-    }
-
     /// The same volume, of which the calls with these numbers fail, and all from the stop on.
     pub fn with_failures(self, failing: List<u64>, stop: Option<u64>) -> MemVol
         ensures planned { result ≡ record self { failing = failing; stop = stop } }
@@ -182,6 +175,7 @@ impl MemVol {
         requires can { CanDo deed (file_of self.old file) }
         ensures call { IsCall self.old self.new result file deed }
         ensures cause { HasCause self.old.faults self.new.faults (IsErr result) }
+        ensures later { (disk_of self.old).moment ≤ (disk_of self.new).moment }
     {
         let fails = self.next_fails();
         let made = self.held.make(Call {
@@ -203,6 +197,7 @@ impl MemVol {
         requires within { at ≤ length (file_of self.old file).bytes }
         ensures call { IsCall self.old self.new result file (Deed.Write at bytes.now) }
         ensures cause { HasCause self.old.faults self.new.faults (IsErr result) }
+        ensures later { (disk_of self.old).moment ≤ (disk_of self.new).moment }
     {
         match copied(self.alloc, bytes) {
             Ok(bytes) => self.call(file, Deed::Write { at, bytes }),
@@ -234,6 +229,7 @@ impl Vol for MemVol {
         ensures seen { (disk_of self.new).seen file ≡ (disk_of self.old).seen file }
         ensures does { Does file Kept (disk_of self.old) (disk_of self.new) }
         ensures cause { HasCause self.old.faults self.new.faults (IsErr result) }
+        ensures later { (disk_of self.old).moment ≤ (disk_of self.new).moment }
     {
         match self.call(file, Deed::Len) {
             Ok(()) => Ok(self.bytes(file).len() as u64),
@@ -248,6 +244,7 @@ impl Vol for MemVol {
         ensures seen { (disk_of self.new).seen file ≡ (disk_of self.old).seen file }
         ensures does { Does file Kept (disk_of self.old) (disk_of self.new) }
         ensures cause { HasCause self.old.faults self.new.faults (IsErr result) }
+        ensures later { (disk_of self.old).moment ≤ (disk_of self.new).moment }
     {
         let count = into.len() as u64;
         match self.call(file, Deed::Read { at, count }) {
@@ -266,6 +263,7 @@ impl Vol for MemVol {
         ensures torn { OnErr result (Torn at (length bytes.now) ((disk_of self.old).seen file) ((disk_of self.new).seen file)) }
         ensures does { Does file (Torn at (length bytes.now)) (disk_of self.old) (disk_of self.new) }
         ensures cause { HasCause self.old.faults self.new.faults (IsErr result) }
+        ensures later { (disk_of self.old).moment ≤ (disk_of self.new).moment }
     {
         self.write(file, at, bytes)
     }
@@ -277,6 +275,7 @@ impl Vol for MemVol {
         ensures torn { OnErr result (CutTo to ((disk_of self.old).seen file) ((disk_of self.new).seen file)) }
         ensures does { Does file (CutTo to) (disk_of self.old) (disk_of self.new) }
         ensures cause { HasCause self.old.faults self.new.faults (IsErr result) }
+        ensures later { (disk_of self.old).moment ≤ (disk_of self.new).moment }
     {
         self.call(file, Deed::Cut { to })
     }
@@ -287,7 +286,12 @@ impl Vol for MemVol {
         ensures seen { (disk_of self.new).seen file ≡ (disk_of self.old).seen file }
         ensures does { Does file Kept (disk_of self.old) (disk_of self.new) }
         ensures cause { HasCause self.old.faults self.new.faults (IsErr result) }
+        ensures later { (disk_of self.old).moment ≤ (disk_of self.new).moment }
     {
         self.call(file, Deed::Sync)
+    }
+
+    fn faults(&self) -> u64 {
+        self.faults
     }
 }

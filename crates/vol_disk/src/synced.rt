@@ -18,6 +18,7 @@ pub fn write_synced<V: Vol>(vol: &mut V, file: u32, at: u64, bytes: &[u8]) -> Re
     ensures durable { V.told → OnOk result (IsDurable (V.disk vol.new) file) }
     ensures does { V.told → DoesSynced file (Torn at (length bytes.now)) (V.disk vol.old) (V.disk vol.new) }
     ensures cause { HasCause (V.faults vol.old) (V.faults vol.new) (IsErr result) }
+    ensures later { (V.disk vol.old).moment ≤ (V.disk vol.new).moment }
 {
     match vol.write_at(file, at, bytes) {
         Ok(()) => vol.sync(file),
@@ -34,6 +35,7 @@ pub fn cut_synced<V: Vol>(vol: &mut V, file: u32, to: u64) -> Result<(), Failed>
     ensures durable { V.told → OnOk result (IsDurable (V.disk vol.new) file) }
     ensures does { V.told → DoesSynced file (CutTo to) (V.disk vol.old) (V.disk vol.new) }
     ensures cause { HasCause (V.faults vol.old) (V.faults vol.new) (IsErr result) }
+    ensures later { (V.disk vol.old).moment ≤ (V.disk vol.new).moment }
 {
     match vol.cut(file, to) {
         Ok(()) => vol.sync(file),

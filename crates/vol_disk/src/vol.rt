@@ -27,7 +27,7 @@ pub trait Vol {
     /// not known.
     ghost told: { Type 0 };
 
-    /// How often it failed so far.
+    /// How often it failed.
     ghost faults: { Self → ℕ };
 
     /// The file's length.
@@ -35,7 +35,8 @@ pub trait Vol {
         ensures value { told → IfOk result (λ len. len ≡ length ((disk self.old).seen file)) }
         ensures seen { told → (disk self.new).seen file ≡ (disk self.old).seen file }
         ensures does { told → Does file Kept (disk self.old) (disk self.new) }
-        ensures cause { HasCause (faults self.old) (faults self.new) (IsErr result) };
+        ensures cause { HasCause (faults self.old) (faults self.new) (IsErr result) }
+        ensures later { (disk self.old).moment ≤ (disk self.new).moment };
 
     /// Reads a range of the file.
     fn read_at(&mut self, file: u32, at: u64, into: &mut [u8]) -> Result<(), Failed>
@@ -43,7 +44,8 @@ pub trait Vol {
         ensures value { told → OnOk result (into.new ≡ take (length into.old) (drop at ((disk self.old).seen file))) }
         ensures seen { told → (disk self.new).seen file ≡ (disk self.old).seen file }
         ensures does { told → Does file Kept (disk self.old) (disk self.new) }
-        ensures cause { HasCause (faults self.old) (faults self.new) (IsErr result) };
+        ensures cause { HasCause (faults self.old) (faults self.new) (IsErr result) }
+        ensures later { (disk self.old).moment ≤ (disk self.new).moment };
 
     /// Writes the bytes over what is there, and past the end.
     fn write_at(&mut self, file: u32, at: u64, bytes: &[u8]) -> Result<(), Failed>
@@ -51,7 +53,8 @@ pub trait Vol {
         ensures seen { told → OnOk result ((disk self.new).seen file ≡ written at bytes.now ((disk self.old).seen file)) }
         ensures torn { told → OnErr result (Torn at (length bytes.now) ((disk self.old).seen file) ((disk self.new).seen file)) }
         ensures does { told → Does file (Torn at (length bytes.now)) (disk self.old) (disk self.new) }
-        ensures cause { HasCause (faults self.old) (faults self.new) (IsErr result) };
+        ensures cause { HasCause (faults self.old) (faults self.new) (IsErr result) }
+        ensures later { (disk self.old).moment ≤ (disk self.new).moment };
 
     /// Cuts the file to a length.
     fn cut(&mut self, file: u32, to: u64) -> Result<(), Failed>
@@ -59,14 +62,20 @@ pub trait Vol {
         ensures seen { told → OnOk result ((disk self.new).seen file ≡ take to ((disk self.old).seen file)) }
         ensures torn { told → OnErr result (CutTo to ((disk self.old).seen file) ((disk self.new).seen file)) }
         ensures does { told → Does file (CutTo to) (disk self.old) (disk self.new) }
-        ensures cause { HasCause (faults self.old) (faults self.new) (IsErr result) };
+        ensures cause { HasCause (faults self.old) (faults self.new) (IsErr result) }
+        ensures later { (disk self.old).moment ≤ (disk self.new).moment };
 
     /// Brings the file to the disk, so that a crash leaves of it what a read gives.
     fn sync(&mut self, file: u32) -> Result<(), Failed>
         ensures durable { told → OnOk result (IsDurable (disk self.new) file) }
         ensures seen { told → (disk self.new).seen file ≡ (disk self.old).seen file }
         ensures does { told → Does file Kept (disk self.old) (disk self.new) }
-        ensures cause { HasCause (faults self.old) (faults self.new) (IsErr result) };
+        ensures cause { HasCause (faults self.old) (faults self.new) (IsErr result) }
+        ensures later { (disk self.old).moment ≤ (disk self.new).moment };
+
+    /// How often it failed. The count stops at the greatest number of its type.
+    fn faults(&self) -> u64
+        ensures value { result ≡ faults self.now };
 
     /// The clock of its disk goes with the images.
     ghost clocked: { (vol : Self) → IsClocked (disk vol) };

@@ -16,7 +16,8 @@ loop-durable-init g c =
       reaches = λ told. reaches_first c.args.log.now c.args.first_end c.args.begun disk (c.requires.begun told);
       formed = c.requires.formed;
       storable = c.requires.storable;
-      later = omega arith;
+      faults = omega arith;
+      moments = omega arith;
     }
 
 pub next_batch-requires : goal.next_batch-requires
@@ -47,7 +48,7 @@ returns-in_err-later-clause-fault g c = λ told.
 
 pub returns-in_err-later-clause-cause : goal.returns-in_err-later-clause-cause
 returns-in_err-later-clause-cause g c = record {
-  later = omega (arith, c.loop-durable.invariant.later, c.next_batch.ensures.cause.later);
+  later = omega (arith, c.loop-durable.invariant.faults, c.next_batch.ensures.cause.later);
   failed = λ is.
       let p = err_from_is_err_and c.from_residual-in_err-later.result c.from_residual-in_err-later.ensures.1 in
       absurd (later_is_own c.loop-durable.gate c.loop-durable.durable c.as_slice.result.now c.in_err-later.field-0.0 c.in_err-later.ensures.fault (cause_told c.from_residual-in_err-later.result p.0 c.in_err-later.field-0.0 p.1 p.2 is));
@@ -73,7 +74,8 @@ loop-durable-preserved-in_ok-later g c =
           (reaches_next c.args.log.now c.loop-durable.gate c.in-Some.next c.loop-durable.durable c.add_later.new.durable c.loop-durable.last c.in-Some.records c.in_ok-later.later mid now (before.reaches told) read (c.next_batch.ensures.quiet told) added);
       formed = c.in_ok-later.ensures.formed;
       storable = added.adds.storable;
-      later = omega (arith, before.later, c.next_batch.ensures.cause.later);
+      faults = omega (arith, before.faults, c.next_batch.ensures.cause.later);
+      moments = omega (arith, before.moments, c.next_batch.ensures.later);
     }
 
 pub loop-durable-preserved : goal.loop-durable-preserved
@@ -91,7 +93,8 @@ loop-durable-preserved g c =
           (reaches_next c.args.log.now c.loop-durable.gate c.in-Some.next c.loop-durable.durable c.add_later.new.durable c.loop-durable.last c.in-Some.records c.in_ok-later.later mid now (before.reaches told) read (c.next_batch.ensures.quiet told) added);
       formed = c.in_ok-later.ensures.formed;
       storable = added.adds.storable;
-      later = omega (arith, before.later, c.next_batch.ensures.cause.later);
+      faults = omega (arith, before.faults, c.next_batch.ensures.cause.later);
+      moments = omega (arith, before.moments, c.next_batch.ensures.later);
     }
 
 pub returns-then-openable-clause-gives : goal.returns-then-openable-clause-gives

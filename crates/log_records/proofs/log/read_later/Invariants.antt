@@ -11,7 +11,8 @@ invariant-loop-durable g l = record {
   reaches : g.V.Vol.told → Reaches l.log l.gate l.durable l.last (g.V.Vol.disk l.vol);
   formed : IsFormed l.durable;
   storable : IsStorable l.durable;
-  later : g.V.Vol.faults l.fn.vol ≤ g.V.Vol.faults l.vol;
+  faults : g.V.Vol.faults l.fn.vol ≤ g.V.Vol.faults l.vol;
+  moments : (g.V.Vol.disk l.fn.vol).moment ≤ (g.V.Vol.disk l.vol).moment;
 }
 
 abbrev pub decreases-loop-durable : goal.decreases-loop-durable
