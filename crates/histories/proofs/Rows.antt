@@ -4,7 +4,7 @@ use Rattle.std.specs.Prelude.{None, codes}
 use Rattle.js_model.specs.declared.stream.State.TheVariants.{Vacant}
 use Rattle.js_model.specs.Router.{Open, Opened, RouteCall, RouteTold, route, empty_router, opened}
 use Rattle.js_model.specs.Catalog.{Catalog, ByName, At, catalog_call, new_place}
-use Rattle.histories.specs.Entries.{Entry, AtRouter, AtCatalog, OfPlace, OfRouter, OfCatalog, AreBy}
+use Rattle.histories.specs.Entries.{Entry, AtRouter, AtCatalog, SeatId, OfPlace, OfRouter, OfCatalog, AreBy}
 use Rattle.histories.specs.Lawful.{IsPlaceHistory, IsRouterHistory, IsCatalogHistory}
 use Rattle.histories.specs.Fronts.{own, Grows}
 use Rattle.histories.proofs.Own.{own-grows}
@@ -44,8 +44,8 @@ one_opened = (
   },
 )
 
-nothing_yet : IsPlaceHistory (OfPlace (Vacant 0) 0) []
-nothing_yet = (Vacant 0, record { steps = []; same = refl; run = refl })
+nothing_yet : (port : SeatId) → IsPlaceHistory (OfPlace (Vacant 0) 0 port) []
+nothing_yet port = (Vacant 0, record { steps = []; same = refl; run = refl })
 
 -- a history of one kind opens in no state of another
 no_router : IsRouterHistory (OfCatalog empty_catalog) [] → ⊥

@@ -1,6 +1,7 @@
 -- What the histories that callers share are made of, this server's own: steps of a place, calls of the router and calls of the catalog.
 use Rattle.std.specs.Prelude.{◌≡◌, ℕ, List}
 use Rattle.std.specs.List.{AllByRecursion}
+use Rattle.atomic_table.specs.Seated.{TableId}
 use Rattle.js_model.specs.declared.stream.State.{State}
 use Rattle.js_model.specs.declared.entry.PlaceEntry.{PlaceEntry}
 use Rattle.js_model.specs.Router.{RouteEntry}
@@ -13,9 +14,15 @@ pub data Entry : Type 0 where
   AtRouter : RouteEntry → Entry
   AtCatalog : CatEntry → Entry
 
--- the state in which a history opens: of a place with its volume's count of faults; a router opens without sessions
+-- a seat of a lock, by its number
+pub record SeatId : Type 0 where
+  pub lock : TableId
+  pub number : ℕ
+
+-- the state in which a history opens: of a place with its volume's count of faults, and with its seat at the router to which it sends; a router
+-- opens without sessions
 pub data Opening : Type 0 where
-  OfPlace : (state : State) (faults : ℕ) → Opening
+  OfPlace : (state : State) (faults : ℕ) (port : SeatId) → Opening
   OfRouter : Opening
   OfCatalog : (catalog : Catalog) → Opening
 

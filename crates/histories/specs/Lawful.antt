@@ -35,17 +35,17 @@ new_router = record { router = empty_router; openers = [] }
 
 -- the state is what these entries lead to from that opening state
 abbrev pub PlaceStands : Opening → List Entry → State → Type 0
-PlaceStands (OfPlace state faults) entries new = IsPlaceRun state entries new
+PlaceStands (OfPlace state faults port) entries new = IsPlaceRun state entries new
 PlaceStands OfRouter entries new = ⊥
 PlaceStands (OfCatalog catalog) entries new = ⊥
 
 abbrev pub RouterStands : Opening → List Entry → SharedRouter → Type 0
-RouterStands (OfPlace state faults) entries new = ⊥
+RouterStands (OfPlace state faults port) entries new = ⊥
 RouterStands OfRouter entries new = IsRouterRun new_router entries new
 RouterStands (OfCatalog catalog) entries new = ⊥
 
 abbrev pub CatalogStands : Opening → List Entry → Catalog → Type 0
-CatalogStands (OfPlace state faults) entries new = ⊥
+CatalogStands (OfPlace state faults port) entries new = ⊥
 CatalogStands OfRouter entries new = ⊥
 CatalogStands (OfCatalog catalog) entries new = IsCatalogRun catalog entries new
 

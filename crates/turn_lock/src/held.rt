@@ -1,6 +1,7 @@
 //! A value that is held, and the seat whose turn it is.
 
-ghost use Rattle.std.specs.Prelude.{◌≡◌};
+ghost use Rattle.std.specs.Prelude.{◌≡◌, true};
+ghost use Rattle.js_base.specs.Bytes.{has};
 ghost use Rattle.model_laws.specs.Legal.{IsLegal};
 ghost use Rattle.histories.specs.Entries.{seat_of};
 ghost use Rattle.histories.specs.Fronts.{own};
@@ -42,10 +43,12 @@ impl<S, P: Lawful> Notes<InTurn<S, P>, u64> for Number {
 }
 
 impl<S, P: Lawful> InTurn<S, P> {
-    /// The number that the entries of this turn have, which a caller puts into them.
+    /// The number that the entries of this turn have, which a caller puts into them. It is one of the seat's.
     pub fn number(&self) -> Noted<u64>
         ensures value { result.value ≡ number_of self.now }
+        ensures own { has self.now.numbers result.value ≡ true }
     {
+        let _ = &self.seat;
         Noted::<u64>::of::<InTurn<S, P>, Number>(self)
     }
 

@@ -18,7 +18,7 @@ mod turns;
 
 pub use fault::TurnFault;
 pub use held::{Held, InTurn};
-pub use noted::{Entries, Noted, Notes};
+pub use noted::{Entries, Fits, Noted, Notes};
 pub use seat::Seat;
 pub use standing::{Lawful, Standing};
 pub use turns::Turns;

@@ -21,10 +21,26 @@ pub trait Notes<T, U> {
     ghost note: { T → U };
 }
 
+/// What may be noted of a value. A type without fields has it.
+pub trait Fits<T, U> {
+    ghost fits: { T → U → Type 0 };
+}
+
 impl<U> Noted<U> {
     /// What `M` notes of the value.
     pub fn of<T, M: Notes<T, U>>(x: &T) -> Noted<U>
         ensures value { result.value ≡ M.note x.now }
+    {
+        let _ = x;
+        Noted {
+            marker: PhantomData,
+        }
+    }
+
+    /// Something that fits the value, as `M` has it, where it is known that there is such a thing.
+    pub fn some<T, M: Fits<T, U>>(x: &T) -> Noted<U>
+        requires some { (u : U) × M.fits x.now u }
+        ensures fits { M.fits x.now result.value }
     {
         let _ = x;
         Noted {
