@@ -1,27 +1,19 @@
 -- What an image holds by the generations and batches of its two logs.
-use Rattle.std.proofs.Common.{◌≡◌, ◌≢◌, ◌⊎◌, inl, inr, ℕ, ◌+◌, ◌<◌, Bool, true, false, cond, List, [], ◌∷◌, ◌++◌, Option, Some, None, IfSome, length, refl, sym, ap, subst, ◌∙◌, arith}
-use Rattle.std.specs.Prelude.{IsSome, ◌==◌, nat_le}
-use Rattle.std.proofs.lemmas.Bool.{true≢false}
+use Rattle.std.proofs.Common.{◌≡◌, ◌≢◌, ◌⊎◌, inl, inr, ℕ, Bool, true, false, cond, List, refl, sym, ap, subst, ◌∙◌, arith}
+use Rattle.std.specs.Prelude.{IsSome}
 use Rattle.vol_disk.specs.Disk.{Disk, Files}
-use Rattle.vol_disk.specs.Does.{Rests}
-use Rattle.vol_disk.specs.Images.{IsDurable, IsImage}
-use Rattle.vol_disk.specs.Moments.{Quiet, Elsewhere}
-use Rattle.vol_disk.proofs.Moments.{quiet_durable}
+use Rattle.vol_disk.specs.Images.{IsDurable}
 use Rattle.js_base.specs.Bytes.{Bytes}
-use Rattle.gate_log.specs.LogFile.{IsLog, HasOpen}
+use Rattle.gate_log.specs.LogFile.{HasOpen}
 use Rattle.gate_log.specs.LogState.{LogState, generation_of}
 use Rattle.gate_log.specs.Settled.{IsSettled}
-use Rattle.gate_log.proofs.GateReads.{settled_quiet}
 use Rattle.gate_log.proofs.OneReading.{law}
 use Rattle.effects.specs.declared.durable.Durable.{Durable}
 use Rattle.durable_checks.specs.Storable.{IsOpenable}
 use Rattle.log_records.specs.Batches.{Gives}
-use Rattle.log_records.specs.Reading.{GivesIn}
 use Rattle.stream_store.specs.Logs.{LogIn, HasLog, HasLogs, is_first, current, current_file}
 use Rattle.stream_store.specs.Holding.{Holds, AllHold}
 use Rattle.stream_store.specs.Base.{IsBaseOf}
-use Rattle.stream_store.specs.Finding.{IsCurrent}
-use Rattle.stream_store.specs.declared.logs.Current.{Current}
 use Rattle.stream_store.proofs.OneReading.{log_same}
 
 -- ---- only the two logs count
@@ -137,4 +129,5 @@ now_of log batches disk d b settled =
     }
 
 pub base_gives : (log : LogState) (batches : List Bytes) (disk : Disk) (d : Durable) → IsBaseOf log d disk → IsSettled log batches disk → Gives batches d
+unfolding now_of
 base_gives log batches disk d b settled = subst (λ (l : List Bytes). Gives l d) (now_of log batches disk d b settled).batches_are b.holds.gives

@@ -1,12 +1,13 @@
 -- The first log of a volume.
-use Rattle.std.proofs.Common.{◌≡◌, ◌≢◌, ◌⊎◌, inl, inr, ℕ, ◌<◌, ◌^◌, Bool, true, false, cond, List, [], ◌∷◌, ◌++◌, Option, Some, None, IfSome, length, refl, sym, ap, subst, ◌∙◌, arith}
+use Rattle.std.proofs.Common.{◌≡◌, ◌⊎◌, inl, inr, ℕ, ◌<◌, ◌^◌, Bool, true, false, cond, List, [], ◌∷◌, Option, Some, None, IfSome, length, refl, sym, ap, subst, ◌∙◌, arith}
 use Rattle.std.specs.Prelude.{IsSome, All, ◌==◌}
 use Rattle.js_model.proofs.Named.{none_some}
+use Rattle.vol_disk.specs.Clock.{IsClocked}
 use Rattle.vol_disk.specs.Disk.{Disk, Files}
 use Rattle.vol_disk.specs.Does.{Rests}
 use Rattle.vol_disk.specs.Images.{IsDurable, IsImage}
 use Rattle.vol_disk.specs.Moments.{Quiet, LeavesOnly, Elsewhere}
-use Rattle.vol_disk.proofs.Moments.{widened, joined, rests_on}
+use Rattle.vol_disk.proofs.Moments.{started, widened, joined, rests_on}
 use Rattle.js_base.specs.Bytes.{Bytes}
 use Rattle.gate_log.specs.LogFile.{IsLog, HasOpen}
 use Rattle.gate_log.specs.LogState.{LogState, generation_of, new_log, with_batch}
@@ -15,13 +16,12 @@ use Rattle.gate_log.specs.Starting.{Starts, IsEmptied}
 use Rattle.gate_log.specs.Appending.{IsWithOrWithout, AppendsTo, IsAppended}
 use Rattle.effects.specs.declared.durable.Durable.{Durable}
 use Rattle.effects.specs.Folding.{vacant}
-use Rattle.op_records.specs.Reading.{vacant_field}
 use Rattle.op_records.specs.Spelling.{spelled_vacant}
 use Rattle.op_records.proofs.RecordsExact.{law_vacant}
 use Rattle.log_records.specs.Batches.{Begins, Gives}
 use Rattle.log_records.proofs.Reaching.{vacant_opens}
-use Rattle.stream_store.specs.Logs.{LogIn, HasLog, HasLogs, is_first, current, current_file}
-use Rattle.stream_store.specs.Holding.{Holds, AllHold}
+use Rattle.stream_store.specs.Logs.{LogIn, HasLog, HasLogs, is_first, current}
+use Rattle.stream_store.specs.Holding.{Holds}
 use Rattle.stream_store.specs.Base.{IsBaseOf}
 use Rattle.stream_store.specs.Beginning.{IsUnbegun, HoldsNothing}
 use Rattle.stream_store.specs.Opening.{KeepsHeld, RestsBut}
@@ -70,6 +70,10 @@ module _ (old : Disk) (u : IsUnbegun old) where
   pub starting : (mid : Disk) → Starts 0 old mid → HoldsNothing old mid
   starting mid s =
       widened old mid (λ image. Holds image (vacant 0)) (λ image. ((image 0 ≡ old.seen 0) ⊎ IsEmptied (old.seen 0) (image 0)) × Elsewhere 0 old image) s.any_moment (λ image h. starting_holds image h.0 h.1)
+
+  -- where nothing is written
+  pub unbegun_stays : IsClocked old → HoldsNothing old old
+  unbegun_stays clocked = started old (λ image. Holds image (vacant 0)) clocked (λ image is. starting_holds image (inl (u.durable_zero (image 0) (is.left 0))) (λ file apart. is.left file))
 
   -- as its first batch is appended
   module _ (mid : Disk) (s : Starts 0 old mid) (log : LogState) (log_is : log ≡ new_log 0 (Some 1)) (settled : IsSettled log [] mid) (records : Bytes) (records_are : records ≡ spelled_vacant 0) (bytes : All (λ byte. byte < 256) records) where
@@ -139,7 +143,7 @@ module _ (old : Disk) (u : IsUnbegun old) where
           generation_is = ap (λ (b : Bool). (cond b (record { generation = Some 1; batches = records ∷ [] }) u.one).generation) is_current ∙ sym generation;
           batches_are = ap (λ (b : Bool). (cond b (record { generation = Some 1; batches = records ∷ [] }) u.one).batches) is_current;
         } in
-        base_of after (records ∷ []) new (vacant 0) now settled_after (subst IsSome (sym generation) tt) (subst (IsDurable new) file settled_after.durable) durable_one gives (vacant_opens 0)
+        base_of after (records ∷ []) new (vacant 0) now settled_after (subst IsSome (sym generation) refl) (subst (IsDurable new) file settled_after.durable) durable_one gives (vacant_opens 0)
       where
         generation_one : generation_of (with_batch (new_log 0 (Some 1)) (length records)) ≡ Some 1
         generation_one = ap (λ (l : Bytes). generation_of (with_batch (new_log 0 (Some 1)) (length l))) records_are ∙ refl

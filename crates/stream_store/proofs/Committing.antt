@@ -1,16 +1,15 @@
 -- What a commit leaves.
-use Rattle.std.proofs.Common.{◌≡◌, ◌≢◌, ◌⊎◌, inl, inr, ℕ, ◌+◌, ◌<◌, ◌≤◌, ◌^◌, Bool, true, false, cond, List, [], ◌∷◌, ◌++◌, Option, Some, None, IfSome, length, get_or, refl, sym, ap, subst, ◌∙◌, arith}
+use Rattle.std.proofs.Common.{◌≡◌, ◌≢◌, ◌⊎◌, inl, inr, ℕ, ◌+◌, ◌<◌, ◌≤◌, ◌^◌, Bool, true, false, cond, List, [], ◌∷◌, ◌++◌, Option, Some, None, IfSome, length, refl, sym, ap, subst, ◌∙◌, arith, eq-eqb}
 use Rattle.std.specs.Prelude.{IsSome, IsTrue, All, ◌==◌}
 use Rattle.std.specs.List.{flat_map, list_all}
-use Rattle.std.proofs.lemmas.Bool.{cases_lt, eqb-true}
+use Rattle.std.proofs.lemmas.Bool.{cases_lt, eqb-true, true≢false}
 use Rattle.vol_disk.specs.Disk.{Disk, Files}
 use Rattle.vol_disk.specs.Does.{Rests}
 use Rattle.vol_disk.specs.Clock.{IsClocked}
-use Rattle.vol_disk.specs.Images.{IsDurable, IsImage}
+use Rattle.vol_disk.specs.Images.{IsDurable}
 use Rattle.vol_disk.specs.Moments.{LeavesOnly, Elsewhere}
 use Rattle.vol_disk.proofs.Moments.{started, widened}
 use Rattle.js_base.specs.Bytes.{Bytes}
-use Rattle.gate_log.specs.Batches.{end_of}
 use Rattle.gate_log.specs.LogFile.{IsLog, HasOpen}
 use Rattle.gate_log.specs.LogState.{LogState, generation_of, with_batch}
 use Rattle.gate_log.specs.Settled.{IsSettled}
@@ -20,17 +19,15 @@ use Rattle.gate_log.specs.declared.fault.LogFault.TheVariants as logs
 use Rattle.effects.specs.declared.durable.Durable.{Durable}
 use Rattle.effects.specs.declared.effect.Effect.{Effect}
 use Rattle.op_records.specs.Allowed.{is_record}
-use Rattle.op_records.specs.Reading.{AreRecords}
 use Rattle.op_records.specs.Spelling.{spelled}
 use Rattle.op_records.proofs.RecordsExact.{law_records}
-use Rattle.durable_checks.specs.Storable.{IsOpenable}
-use Rattle.log_records.specs.Batches.{Adds, AddAll, Begins, Gives}
+use Rattle.log_records.specs.Batches.{Adds, Gives}
 use Rattle.log_records.proofs.Reaching.{add_push}
-use Rattle.stream_store.specs.Holding.{Holds, AllHold}
+use Rattle.stream_store.specs.Holding.{Holds}
 use Rattle.stream_store.specs.Base.{IsBaseOf}
 use Rattle.stream_store.specs.StoreState.{StoreState}
 use Rattle.stream_store.specs.Faults.{commit_fault}
-use Rattle.stream_store.specs.Committing.{IsNextBatch, IsCommitted, CommitsOrNot, length_with}
+use Rattle.stream_store.specs.Committing.{IsNextBatch, length_with}
 use Rattle.stream_store.specs.declared.fault.CommitFault.{CommitFault}
 use Rattle.stream_store.specs.declared.fault.CommitFault.TheVariants as commit
 use Rattle.stream_store.proofs.Basing.{IsNow, holds_now, now_of, now_with, base_of, base_gives}
@@ -41,7 +38,7 @@ begun_by : (log : LogState) → IsSome (generation_of log) → generation_of log
 begun_by log begun = go (log.end == 16) begun
   where
     go : (b : Bool) → IsSome (cond b None log.head) → cond b None log.head ≡ log.head
-    go true h = absurd h
+    go true h = absurd (true≢false (sym h))
     go false h = refl
 
 -- the generation stays
@@ -59,7 +56,7 @@ gives_more [] records base next some gives adds = absurd (some refl)
 gives_more (first ∷ later) records base next some (begun, begins, added) adds = (begun, begins, add_push begun base next later records added adds)
 
 has_some : (bytes : Bytes) (g : Option ℕ) (batches : List Bytes) → HasOpen bytes g batches → IsSome g → batches ≢ []
-has_some bytes None batches h some e = absurd some
+has_some bytes None batches h some e = absurd (true≢false (sym some))
 has_some bytes (Some g) [] h some e = absurd h
 has_some bytes (Some g) (b ∷ bs) h some e = absurd (cc)
 
@@ -118,7 +115,7 @@ module _ (log : LogState) (base next : Durable) (effects : List Effect) (records
       inr (holds_now log more image next (now_with log batches more old.seen image now has (elsewhere image e)) (gives_more batches records base next some gives adds) n.openable)
 
   by_head : (head : Option ℕ) → log.head ≡ head → (image : Files) → IfSome head (λ g. IsWithOrWithout g batches records (image log.file)) → Elsewhere log.file old image → Holds image base ⊎ Holds image next
-  by_head None e image h other = absurd (subst IsSome (begun_by log b.begun ∙ e) b.begun)
+  by_head None e image h other = absurd (true≢false (sym (subst IsSome (begun_by log b.begun ∙ e) b.begun)))
   by_head (Some g) e image h other = one_of_both g e image h other
 
   pub commits : (new : Disk) → AppendsTo log records old new → LeavesOnly old new (λ image. Holds image base ⊎ Holds image next)
@@ -155,7 +152,7 @@ module _ (log : LogState) (base next : Durable) (effects : List Effect) (records
         where
           go : (b : Bool) → (file == log.file) ≡ b → IsDurable new file
           go true e = subst (IsDurable new) (is ∙ sym (eqb-true file log.file e)) own
-          go false e = durable_by file new (elsewhere file (λ same. absurd (omega (arith, same, e)))) durable
+          go false e = durable_by file new (elsewhere file (λ same. true≢false (sym (eq-eqb file log.file same) ∙ e))) durable
 
 -- ---- however an append ends
 

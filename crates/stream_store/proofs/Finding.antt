@@ -1,10 +1,10 @@
 -- The current log as it is found, and the faults of both.
-use Rattle.std.proofs.Common.{◌≡◌, ◌⊎◌, inl, inr, ℕ, Bool, true, false, cond, List, [], ◌∷◌, Option, Some, None, Result, Err, refl, sym, ap, subst, ◌∙◌}
+use Rattle.std.proofs.Common.{◌≡◌, inl, inr, ℕ, Bool, true, false, cond, List, [], ◌∷◌, Option, Some, None, Result, Err, refl, sym, ap, subst, ◌∙◌}
 use Rattle.std.specs.Prelude.{IsSome}
 use Rattle.vol_disk.specs.Disk.{Disk, Files}
-use Rattle.vol_disk.specs.Images.{IsDurable, IsImage}
-use Rattle.vol_disk.specs.Moments.{Quiet, LeavesOnly}
-use Rattle.vol_disk.proofs.Moments.{quiet_durable, widened}
+use Rattle.vol_disk.specs.Images.{IsDurable}
+use Rattle.vol_disk.specs.Moments.{Quiet}
+use Rattle.vol_disk.proofs.Moments.{quiet_durable}
 use Rattle.js_base.specs.Bytes.{Bytes}
 use Rattle.gate_log.specs.Appending.{IsAppendFault}
 use Rattle.gate_log.specs.LogFile.{HasOpen}
@@ -19,12 +19,11 @@ use Rattle.js_model.proofs.Named.{none_some}
 use Rattle.effects.specs.declared.durable.Durable.{Durable}
 use Rattle.effects.specs.Folding.{vacant}
 use Rattle.log_records.specs.Batches.{Gives}
-use Rattle.log_records.specs.Damage.{HasBadBatch}
 use Rattle.log_records.specs.Reading.{GivesIn, IsReadFault}
 use Rattle.log_records.specs.declared.fault.ReadFault.{ReadFault}
 use Rattle.log_records.specs.declared.fault.ReadFault.TheVariants as records
-use Rattle.stream_store.specs.Logs.{LogIn, HasLog, HasLogs, is_first, current, current_file}
-use Rattle.stream_store.specs.Holding.{Holds, AllHold}
+use Rattle.stream_store.specs.Logs.{LogIn, HasLog, HasLogs, is_first, current}
+use Rattle.stream_store.specs.Holding.{Holds}
 use Rattle.stream_store.specs.Base.{IsBaseOf}
 use Rattle.stream_store.specs.Beginning.{IsUnbegun, IsOutsideFault}
 use Rattle.stream_store.specs.Faults.{open_fault, records_fault}

@@ -1,5 +1,5 @@
 -- An image of a volume holds one thing.
-use Rattle.std.proofs.Common.{◌≡◌, ◌⊎◌, inl, inr, ℕ, List, Option, sym, ap, ◌∙◌, subst}
+use Rattle.std.proofs.Common.{◌≡◌, ◌⊎◌, inl, inr, ℕ, ap, ◌∙◌, subst}
 use Rattle.vol_disk.specs.Disk.{Files}
 use Rattle.js_base.specs.Bytes.{Bytes}
 use Rattle.gate_log.specs.Faults.{IsDamagedAt, IsOfUnknownVersion}

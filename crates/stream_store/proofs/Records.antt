@@ -1,5 +1,5 @@
 -- The records of a commit as the bytes of its batch.
-use Rattle.std.proofs.Common.{◌≡◌, ℕ, ◌+◌, ◌<◌, ◌≤◌, Bool, true, false, List, [], ◌∷◌, ◌++◌, length, get_or, take, IsTrue, All, refl, sym, ap, subst, ◌∙◌, arith}
+use Rattle.std.proofs.Common.{◌≡◌, ℕ, ◌+◌, ◌<◌, ◌≤◌, Bool, true, false, List, [], ◌∷◌, ◌++◌, length, get_or, take, IsTrue, All, refl, sym, ap, ◌∙◌}
 use Rattle.std.specs.List.{flat_map, list_all}
 use Rattle.std.proofs.lemmas.Bool.{true≢false}
 use Rattle.std.proofs.lemmas.List.{flat_map_more, take_more, take_all}
@@ -25,5 +25,5 @@ spelled_more es i e before after within is so_far more =
 pub spelled_all : (es : List Effect) (i : ℕ) (bytes : Bytes) → length es ≤ i → bytes ≡ flat_map spelled (take i es) → bytes ≡ flat_map spelled es
 spelled_all es i bytes past so_far = so_far ∙ ap (flat_map spelled) (take_all i es past)
 
-pub are_bytes : (bytes items : Bytes) → bytes ≡ items → ((k : ℕ) → get_or items k 0 < 256) → All (λ byte. byte < 256) bytes
-are_bytes bytes items is each = subst (λ (l : Bytes). All (λ byte. byte < 256) l) (sym is) (All-from_get_or (λ byte. byte < 256) items 0 (λ i within. each i))
+pub are_bytes : (bytes : Bytes) → ((k : ℕ) → get_or bytes k 0 < 256) → All (λ byte. byte < 256) bytes
+are_bytes bytes each = All-from_get_or (λ byte. byte < 256) bytes 0 (λ i within. each i)

@@ -1,5 +1,5 @@
 -- What the volume of an open store holds: its base.
-use Rattle.std.specs.Prelude.{◌≡◌, ℕ, List, IsSome}
+use Rattle.std.specs.Prelude.{◌≡◌, List, IsSome}
 use Rattle.vol_disk.specs.Disk.{Disk}
 use Rattle.vol_disk.specs.Images.{IsDurable}
 use Rattle.js_base.specs.Bytes.{Bytes}

@@ -1,6 +1,6 @@
 //! The two logs of a volume, in the files 0 and 1.
 
-ghost use Rattle.std.specs.Prelude.{◌≡◌, List, [], ◌∷◌, Some, IfOk, IfErr, IsErrOf};
+ghost use Rattle.std.specs.Prelude.{◌≡◌, ◌<◌, ◌≤◌, List, [], ◌∷◌, Some, All, IfOk, IfErr, IsErrOf};
 ghost use Rattle.js_base.specs.Bytes.{Bytes};
 ghost use Rattle.durable_checks.specs.Storable.{IsFormed, IsOpenable, IsStorable};
 ghost use Rattle.log_records.specs.Reading.{GivesIn};
@@ -52,6 +52,7 @@ fn open_log<V: Vol>(vol: &mut V, file: u32) -> Result<GateLog, OpenFault>
     ensures fault { V.told → IfErr result (IsFaultIn file (V.disk vol.old).seen) }
     ensures quiet { V.told → Quiet (V.disk vol.old) (V.disk vol.new) }
     ensures cause { HasCause (V.faults vol.old) (V.faults vol.new) (IsErrOf result OpenFault.Fault) }
+    ensures later { (V.disk vol.old).moment ≤ (V.disk vol.new).moment }
 {
     match GateLog::open(vol, file) {
         Ok(log) => Ok(log),
@@ -65,6 +66,7 @@ pub(crate) fn open_current<V: Vol>(vol: &mut V) -> Result<Current, OpenFault>
     ensures fault { V.told → IfErr result (IsLogFault (V.disk vol.old).seen) }
     ensures quiet { V.told → Quiet (V.disk vol.old) (V.disk vol.new) }
     ensures cause { HasCause (V.faults vol.old) (V.faults vol.new) (IsErrOf result OpenFault.Fault) }
+    ensures later { (V.disk vol.old).moment ≤ (V.disk vol.new).moment }
 {
     let zero = open_log(vol, 0)?;
     let one = open_log(vol, 1)?;
@@ -90,6 +92,7 @@ pub(crate) fn read_current<V: Vol>(
     ensures fault { V.told → IfErr result (IsRecordsFault current.now.file current.now.log (V.disk vol.old)) }
     ensures quiet { V.told → Quiet (V.disk vol.old) (V.disk vol.new) }
     ensures cause { HasCause (V.faults vol.old) (V.faults vol.new) (IsErrOf result OpenFault.Fault) }
+    ensures later { (V.disk vol.old).moment ≤ (V.disk vol.new).moment }
 {
     match read_log(alloc, vol, &current.log) {
         Ok(durable) => Ok(durable),
@@ -106,6 +109,11 @@ fn first_records(alloc: Global) -> Result<Vec<u8>, NoMemory>
     Ok(records)
 }
 
+/// Each byte of a slice is below 256. The type says so, and clauses that speak of numbers need it said.
+pub(crate) fn law_bytes(bytes: &[u8])
+    ensures law { All (λ byte. byte < 256) bytes.now }
+{}
+
 /// Makes a log of generation 1 in file 0, whose one batch says that the place is vacant and never had a stream.
 pub(crate) fn begin_log<V: Vol>(alloc: Global, vol: &mut V) -> Result<GateLog, OpenFault>
     requires unbegun { V.told → IsUnbegun (V.disk vol.old) }
@@ -117,13 +125,16 @@ pub(crate) fn begin_log<V: Vol>(alloc: Global, vol: &mut V) -> Result<GateLog, O
     ensures any_moment { V.told → HoldsNothing (V.disk vol.old) (V.disk vol.new) }
     ensures only { IfErr result IsOutsideFault }
     ensures cause { HasCause (V.faults vol.old) (V.faults vol.new) (IsErrOf result OpenFault.Fault) }
+    ensures later { (V.disk vol.old).moment ≤ (V.disk vol.new).moment }
 {
     let records = first_records(alloc)?;
     let mut log = match GateLog::start(alloc, vol, 0, FIRST_GENERATION) {
         Ok(log) => log,
         Err(fault) => return Err(OpenFault::of_log(0, fault)),
     };
-    match log.append(alloc, vol, records.as_slice()) {
+    let bytes = records.as_slice();
+    law_bytes(bytes);
+    match log.append(alloc, vol, bytes) {
         Ok(()) => Ok(log),
         Err(fault) => Err(OpenFault::of_log(0, fault)),
     }

@@ -15,7 +15,7 @@ ghost use Rattle.durable_checks.specs.Storable.{IsFormed, IsOpenable, IsStorable
 ghost use Rattle.stream_store.specs.Opening.{IsFirstLog, IsNoneOpen, IsOpenFault, KeepsHeld, LeavesBegun, RestsBut};
 
 use crate::fault::{CommitFault, OpenFault};
-use crate::logs::{FIRST_GENERATION, begin_log, open_current, read_current};
+use crate::logs::{FIRST_GENERATION, begin_log, law_bytes, open_current, read_current};
 use effects::{Durable, Effect};
 use gate_log::GateLog;
 use js_base::NoMemory;
@@ -75,6 +75,7 @@ impl Store {
         ensures any_moment { V.told → KeepsHeld (V.disk vol.old) (V.disk vol.new) }
         ensures fault { V.told → IfErr result (IsOpenFault (V.disk vol.old).seen) }
         ensures cause { HasCause (V.faults vol.old) (V.faults vol.new) (IsErrOf result OpenFault.Fault) }
+        ensures later { (V.disk vol.old).moment ≤ (V.disk vol.new).moment }
     {
         let current = open_current(vol)?;
         let durable = read_current(alloc, vol, &current)?;
@@ -122,9 +123,12 @@ impl Store {
         ensures full_leaves { IsErrOf result CommitFault.Full → vol.new ≡ vol.old }
         ensures no_memory { IsErrOf result CommitFault.NoMemory → vol.new ≡ vol.old }
         ensures cause { HasCause (V.faults vol.old) (V.faults vol.new) (IsErrOf result CommitFault.Fault) }
+        ensures later { (V.disk vol.old).moment ≤ (V.disk vol.new).moment }
     {
         let records = spelling(alloc, effects)?;
-        match self.log.append(alloc, vol, records.as_slice()) {
+        let bytes = records.as_slice();
+        law_bytes(bytes);
+        match self.log.append(alloc, vol, bytes) {
             Ok(()) => Ok(()),
             Err(fault) => Err(CommitFault::of_log(fault)),
         }

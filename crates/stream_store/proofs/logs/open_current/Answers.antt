@@ -1,4 +1,4 @@
-use Rattle.std.proofs.Common.{refl, arith}
+use Rattle.std.proofs.Common.{refl}
 use Rattle.std.proofs.lemmas.Result.{err_from_is_err_and}
 use Rattle.vol_disk.proofs.Moments.{quiet_then}
 use Rattle.stream_store.specs.declared.logs.Current.{Current}
@@ -37,7 +37,7 @@ returns-then-is_zero-clause-current g c = λ told.
     } in
     let found : Current = record { file = 0; log = c.in_ok-zero.zero } in
     found_zero c.in_ok-zero.zero c.in_ok-one.one (g.V.Vol.disk c.args.vol.now) (g.V.Vol.disk c.open_log.new.vol) (g.V.Vol.disk c.open_log-2.new.vol) found opened
-    (first_is c.in_ok-zero.zero c.in_ok-one.one c.generation.result c.generation-2.result c.is_first.result _ c.generation.ensures.value c.generation-2.ensures.value c.is_first.ensures.value c.if-is_zero.true) refl refl
+    (first_is c.in_ok-zero.zero c.in_ok-one.one c.generation.result c.generation-2.result c.is_first-is_zero.result _ c.generation.ensures.value c.generation-2.ensures.value c.is_first-is_zero.ensures.value c.if-is_zero.true) refl refl
 
 pub returns-else-is_zero-clause-current : goal.returns-else-is_zero-clause-current
 returns-else-is_zero-clause-current g c = λ told.
@@ -55,4 +55,4 @@ returns-else-is_zero-clause-current g c = λ told.
     } in
     let found : Current = record { file = 1; log = c.in_ok-one.one } in
     found_one c.in_ok-zero.zero c.in_ok-one.one (g.V.Vol.disk c.args.vol.now) (g.V.Vol.disk c.open_log.new.vol) (g.V.Vol.disk c.open_log-2.new.vol) found opened
-    (first_is c.in_ok-zero.zero c.in_ok-one.one c.generation.result c.generation-2.result c.is_first.result _ c.generation.ensures.value c.generation-2.ensures.value c.is_first.ensures.value c.if-is_zero.false) refl refl
+    (first_is c.in_ok-zero.zero c.in_ok-one.one c.generation.result c.generation-2.result c.is_first-is_zero.result _ c.generation.ensures.value c.generation-2.ensures.value c.is_first-is_zero.ensures.value c.if-is_zero.false) refl refl

@@ -1,4 +1,4 @@
-use Rattle.std.proofs.Common.{inl, inr, IsSome, sym, subst, ◌∙◌}
+use Rattle.std.proofs.Common.{inl, inr, IsSome, refl, sym, subst, ◌∙◌}
 use Rattle.std.proofs.lemmas.Result.{err_from_is_err_and}
 use Rattle.vol_disk.proofs.Moments.{quiet_then}
 use Rattle.js_model.proofs.Named.{none_some}
@@ -60,14 +60,14 @@ returns-in-Some-clause-found g c = λ told.
 
 pub returns-in-Some-clause-base : goal.returns-in-Some-clause-base
 returns-in-Some-clause-base g c = λ told.
-    found_base c.in_ok-current.current (g.V.Vol.disk c.args.vol.now) (g.V.Vol.disk c.open_current.new.vol) (g.V.Vol.disk c.read_current.new.vol) (c.in_ok-current.ensures.current told) (c.open_current.ensures.quiet told) (c.read_current.ensures.quiet told) c.in_ok-durable.durable (c.in_ok-durable.ensures.gives told) (subst IsSome c.in-Some.ensures.value tt)
+    found_base c.in_ok-current.current (g.V.Vol.disk c.args.vol.now) (g.V.Vol.disk c.open_current.new.vol) (g.V.Vol.disk c.read_current.new.vol) (c.in_ok-current.ensures.current told) (c.open_current.ensures.quiet told) (c.read_current.ensures.quiet told) c.in_ok-durable.durable (c.in_ok-durable.ensures.gives told) (subst IsSome c.in-Some.ensures.value refl)
 
 pub returns-in-Some-clause-first_log : goal.returns-in-Some-clause-first_log
 returns-in-Some-clause-first_log g c = λ told none.
     absurd (none_some (sym (not_begun c.in_ok-current.current (g.V.Vol.disk c.args.vol.now) (g.V.Vol.disk c.open_current.new.vol) (g.V.Vol.disk c.read_current.new.vol) (c.in_ok-current.ensures.current told) (c.open_current.ensures.quiet told) (c.read_current.ensures.quiet told) c.in_ok-durable.durable (c.in_ok-durable.ensures.gives told) none) ∙ sym c.in-Some.ensures.value))
 
-pub invariant_of-in-Some : goal.invariant_of-in-Some
-invariant_of-in-Some g c = head_is c.in_ok-current.current.log c.in-Some.generation (sym c.in-Some.ensures.value)
+pub invariant_of-result : goal.invariant_of-result
+invariant_of-result g c = head_is c.in_ok-current.current.log c.in-Some.generation (sym c.in-Some.ensures.value)
 
 pub begin_log-requires : goal.begin_log-requires
 begin_log-requires g c = record { unbegun = λ told. found_unbegun c.in_ok-current.current (g.V.Vol.disk c.args.vol.now) (g.V.Vol.disk c.open_current.new.vol) (g.V.Vol.disk c.read_current.new.vol) (c.in_ok-current.ensures.current told) (c.open_current.ensures.quiet told) (c.read_current.ensures.quiet told) c.in_ok-durable.durable (c.in_ok-durable.ensures.gives told) (sym c.in-None.ensures.value) }
@@ -84,29 +84,29 @@ pub returns-in_err-log-in-None-clause-any_moment : goal.returns-in_err-log-in-No
 returns-in_err-log-in-None-clause-any_moment g c = λ told.
     held_begun (g.V.Vol.disk c.args.vol.now) (g.V.Vol.disk c.read_current.new.vol) (g.V.Vol.disk c.begin_log.new.vol) (quiet_then (g.V.Vol.disk c.args.vol.now) (g.V.Vol.disk c.open_current.new.vol) (g.V.Vol.disk c.read_current.new.vol) (c.open_current.ensures.quiet told) (c.read_current.ensures.quiet told)) (found_unbegun c.in_ok-current.current (g.V.Vol.disk c.args.vol.now) (g.V.Vol.disk c.open_current.new.vol) (g.V.Vol.disk c.read_current.new.vol) (c.in_ok-current.ensures.current told) (c.open_current.ensures.quiet told) (c.read_current.ensures.quiet told) c.in_ok-durable.durable (c.in_ok-durable.ensures.gives told) (sym c.in-None.ensures.value)) (c.begin_log.ensures.any_moment told)
 
-pub returns-in-None-clause-quiet : goal.returns-in-None-clause-quiet
-returns-in-None-clause-quiet g c = λ told.
+pub returns-in_ok-log-in-None-clause-quiet : goal.returns-in_ok-log-in-None-clause-quiet
+returns-in_ok-log-in-None-clause-quiet g c = λ told.
     inl (found_none_open c.in_ok-current.current (g.V.Vol.disk c.args.vol.now) (g.V.Vol.disk c.open_current.new.vol) (g.V.Vol.disk c.read_current.new.vol) (c.in_ok-current.ensures.current told) (c.open_current.ensures.quiet told) (c.read_current.ensures.quiet told) c.in_ok-durable.durable (c.in_ok-durable.ensures.gives told) (sym c.in-None.ensures.value))
 
-pub returns-in-None-clause-elsewhere : goal.returns-in-None-clause-elsewhere
-returns-in-None-clause-elsewhere g c = λ told.
+pub returns-in_ok-log-in-None-clause-elsewhere : goal.returns-in_ok-log-in-None-clause-elsewhere
+returns-in_ok-log-in-None-clause-elsewhere g c = λ told.
     rests_then (g.V.Vol.disk c.args.vol.now) (g.V.Vol.disk c.read_current.new.vol) (g.V.Vol.disk c.begin_log.new.vol) (quiet_then (g.V.Vol.disk c.args.vol.now) (g.V.Vol.disk c.open_current.new.vol) (g.V.Vol.disk c.read_current.new.vol) (c.open_current.ensures.quiet told) (c.read_current.ensures.quiet told)) (c.begin_log.ensures.elsewhere told)
 
-pub returns-in-None-clause-any_moment : goal.returns-in-None-clause-any_moment
-returns-in-None-clause-any_moment g c = λ told.
+pub returns-in_ok-log-in-None-clause-any_moment : goal.returns-in_ok-log-in-None-clause-any_moment
+returns-in_ok-log-in-None-clause-any_moment g c = λ told.
     held_begun (g.V.Vol.disk c.args.vol.now) (g.V.Vol.disk c.read_current.new.vol) (g.V.Vol.disk c.begin_log.new.vol) (quiet_then (g.V.Vol.disk c.args.vol.now) (g.V.Vol.disk c.open_current.new.vol) (g.V.Vol.disk c.read_current.new.vol) (c.open_current.ensures.quiet told) (c.read_current.ensures.quiet told)) (found_unbegun c.in_ok-current.current (g.V.Vol.disk c.args.vol.now) (g.V.Vol.disk c.open_current.new.vol) (g.V.Vol.disk c.read_current.new.vol) (c.in_ok-current.ensures.current told) (c.open_current.ensures.quiet told) (c.read_current.ensures.quiet told) c.in_ok-durable.durable (c.in_ok-durable.ensures.gives told) (sym c.in-None.ensures.value)) (c.begin_log.ensures.any_moment told)
 
-pub returns-in-None-clause-found : goal.returns-in-None-clause-found
-returns-in-None-clause-found g c = λ told.
+pub returns-in_ok-log-in-None-clause-found : goal.returns-in_ok-log-in-None-clause-found
+returns-in_ok-log-in-None-clause-found g c = λ told.
     found_holds c.in_ok-current.current (g.V.Vol.disk c.args.vol.now) (g.V.Vol.disk c.open_current.new.vol) (g.V.Vol.disk c.read_current.new.vol) (c.in_ok-current.ensures.current told) (c.open_current.ensures.quiet told) (c.read_current.ensures.quiet told) c.in_ok-durable.durable (c.in_ok-durable.ensures.gives told)
 
-pub returns-in-None-clause-base : goal.returns-in-None-clause-base
-returns-in-None-clause-base g c = λ told.
-    subst (λ (d : Durable). IsBaseOf c.in_ok-log.log d (g.V.Vol.disk c.begin_log.new.vol)) (sym (found_vacant c.in_ok-current.current (g.V.Vol.disk c.args.vol.now) (g.V.Vol.disk c.open_current.new.vol) (g.V.Vol.disk c.read_current.new.vol) (c.in_ok-current.ensures.current told) (c.open_current.ensures.quiet told) (c.read_current.ensures.quiet told) c.in_ok-durable.durable (c.in_ok-durable.ensures.gives told) (sym c.in-None.ensures.value))) (c.in_ok-log.ensures.base told)
+pub returns-in_ok-log-in-None-clause-base : goal.returns-in_ok-log-in-None-clause-base
+returns-in_ok-log-in-None-clause-base g c = λ told.
+    subst (λ (d : Durable). IsBaseOf c.in_ok-log-in-None.log d (g.V.Vol.disk c.begin_log.new.vol)) (sym (found_vacant c.in_ok-current.current (g.V.Vol.disk c.args.vol.now) (g.V.Vol.disk c.open_current.new.vol) (g.V.Vol.disk c.read_current.new.vol) (c.in_ok-current.ensures.current told) (c.open_current.ensures.quiet told) (c.read_current.ensures.quiet told) c.in_ok-durable.durable (c.in_ok-durable.ensures.gives told) (sym c.in-None.ensures.value))) (c.in_ok-log-in-None.ensures.base told)
 
-pub returns-in-None-clause-first_log : goal.returns-in-None-clause-first_log
-returns-in-None-clause-first_log g c = λ told none.
-    record { file = c.in_ok-log.ensures.file; head = c.in_ok-log.ensures.head; settled = c.in_ok-log.ensures.settled told }
+pub returns-in_ok-log-in-None-clause-first_log : goal.returns-in_ok-log-in-None-clause-first_log
+returns-in_ok-log-in-None-clause-first_log g c = λ told none.
+    record { file = c.in_ok-log-in-None.ensures.file; head = c.in_ok-log-in-None.ensures.head; settled = c.in_ok-log-in-None.ensures.settled told }
 
 pub returns-in_err-log-in-None-clause-fault : goal.returns-in_err-log-in-None-clause-fault
 returns-in_err-log-in-None-clause-fault g c = λ told.
