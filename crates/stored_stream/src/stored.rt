@@ -95,6 +95,14 @@ impl StoredStream {
         &self.ids
     }
 
+    /// How many ids its window has, at most 2^20, whether or not they still count.
+    pub fn id_count(&self) -> u64
+        ensures value { result ≡ length self.now.ids }
+        ensures bound { result ≤ 2 ^ 20 }
+    {
+        self.ids.len()
+    }
+
     /// The first message.
     pub fn first(&self) -> Option<&Message>
         ensures value { option_copied result ≡ first_message self.now.messages }
