@@ -16,3 +16,4 @@ pub mod AtPlaces
 pub mod Nexts
 pub mod Readying
 pub mod Getting
+pub mod Restored

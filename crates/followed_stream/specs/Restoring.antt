@@ -1,5 +1,5 @@
 -- Streams with consumers that can be restored from what was kept of them, this server's own.
-use Rattle.std.specs.Prelude.{◌≡◌, [], All}
+use Rattle.std.specs.Prelude.{All}
 use Rattle.js_model.specs.declared.stream.Stream.{Stream}
 use Rattle.model_laws.specs.Sound.{AreOrdered}
 use Rattle.consumer_need.specs.Stored.{HoldsStored}

@@ -7,11 +7,11 @@ use Rattle.stored_stream.specs.Later.{later}
 use Rattle.stream_view.specs.Order.{IsInOrder}
 use Rattle.followed_stream.specs.Followers.{AreFollowed, Following, IsCounted}
 
--- what is seen is what is stored, without the messages that are too old by then; if it is whole, none is
-pub record AreSeen (s : Stream) (followers : List Following) (now : ℕ) (seen : Stream) (whole : Bool) : Type 0 where
+-- what is seen is what is stored, without the messages that are too old by then; if it is whole, none are
+pub record AreSeen (s : Stream) (followers : List Following) (now : ℕ) (seen : Stream) (is_whole : Bool) : Type 0 where
   pub followed : AreFollowed s followers
   pub later : seen ≡ later s now
-  pub whole : whole ≡ true → young s now ≡ s.messages
+  pub whole : is_whole ≡ true → young s now ≡ s.messages
 
 -- the consumer holds stored messages alone, and is counted
 pub record IsHeldIn (s : Stream) (f : Following) : Type 0 where

@@ -36,7 +36,7 @@ impl Follower {
     ) -> bool
         requires now { seen.now.moment ≡ now }
         requires whole { OnTrue whole (IsHeldIn seen.now self.now) }
-        ensures value { IsReady seen.now listened (current_of seen.now self.now.consumer) result }
+        ensures value { IsReady seen.entry.now listened (current_of seen.entry.now self.now.consumer) result }
     {
         law_at();
         self.consumer.holds();
