@@ -24,7 +24,7 @@ use Rattle.js_api.specs.declared.fault.DeskFault.TheVariants as faults
 use Rattle.js_api.specs.declared.outcome.Became.{Became}
 use Rattle.js_api.specs.declared.outcome.Became.TheVariants as became
 use Rattle.js_api.specs.declared.outcome.Outcome.{Outcome}
-use Rattle.js_api.specs.Entries.{Hold, entries_in, DeskEntry, Held, Stirred}
+use Rattle.js_api.specs.Entries.{Hold, entries_in, DeskEntry, Held}
 use Rattle.js_api.specs.Holding.{AreDeliveries, Holds, HoldsBy, IsHold, Prepares, Unmakes, event_at, listening_of, step}
 use Rattle.js_api.specs.Leading.{Leads}
 use Rattle.js_api.specs.OneStream.{is_done}
@@ -195,7 +195,7 @@ module _ (at : PlaceAt) (what : What) (now : ℕ) where
         stood = held.going;
         keeps = λ other. same;
         counts = λ is done. absurd (cc);
-          })
+      })
   by_became became.Nothing ready None entries old new h l going = absurd h.1
   by_became became.Nothing ready (Some faults.NoMemory) entries old new h l going =
       let led = subst (λ (es : List DeskEntry). Leads (PlaceStep IsRoute never at) old es new) h.1 l in

@@ -76,7 +76,6 @@ impl<V> SoloDesk<MemoryPlace<V>> {
             Err(_) => Err(HubFault::NoMemory { vols }),
         }
     }
-
 }
 
 impl<P: Place> SoloDesk<P> {

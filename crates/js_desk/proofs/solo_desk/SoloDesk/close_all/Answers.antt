@@ -1,4 +1,4 @@
-use Rattle.std.proofs.Common.{ap, sym, ◌∙◌}
+use Rattle.std.proofs.Common.{ap, ◌∙◌}
 use Rattle.js_desk.proofs.Closing.{all_given_back}
 use Rattle.js_desk.proofs.solo_desk.SoloDesk.close_all.Goals as goal
 

@@ -1,7 +1,8 @@
-use Rattle.std.proofs.Common.{◌≡◌, List, length, map, Some, ap, subst, ◌∙◌}
+use Rattle.std.proofs.Common.{◌≡◌, List, length, map, Some, ap, ◌∙◌}
 use Rattle.std.specs.Prelude.{slice_get, slice_set}
 use Rattle.js_model.specs.PlaceStates.{PlaceIn}
-use Rattle.js_desk.specs.Grounds.{IsGrounded, places_by}
+use Rattle.desk_hold.specs.OnePlace.{on}
+use Rattle.js_desk.specs.Grounds.{places_by}
 use Rattle.js_desk.proofs.HeldGround.{facts_of, held_after, made_of, phase_after_held, there_held, there_is}
 use Rattle.js_desk.proofs.Sessions.{held_setting, hold_keeps}
 use Rattle.js_desk.proofs.Sets.{length_set, map_get, map_set}
@@ -65,8 +66,8 @@ returns-clause-setting g c =
     let facts = facts_of P.keeps_vol g.met.P.Place.keeps_none c.self.inside.router c.hold_on-outcome.new.port c.self.inside.catalog places (map P.vol row) c.self.inside.ticked c.self.inside.last c.self.inside.turn c.args.at P.holds old new stands c.args.what c.args.now c.hold_on-outcome.result h in
     let mapped : places_by P.seen (slice_set row c.args.at.place c.hold_on-outcome.new.place) ≡ slice_set places c.args.at.place new.place = map_set (λ p. (P.seen p).place) row c.args.at.place c.hold_on-outcome.new.place in
     rw (← c.self.view_is)
-    (held_setting c.self.inside.router c.hold_on-outcome.new.port c.self.inside.catalog places (places_by P.seen (slice_set row c.args.at.place c.hold_on-outcome.new.place)) (map P.vol row) _ c.self.inside.ticked c.self.inside.last c.last_of-self-inside.result
-    c.self.inside.turn c.after_hold-self-inside.result (hold_keeps c.args.at h.entries _ _ h.led) (ap length mapped ∙ length_set places c.args.at.place new.place))
+    (held_setting c.self.inside.router c.hold_on-outcome.new.port c.self.inside.catalog places (places_by P.seen (slice_set row c.args.at.place c.hold_on-outcome.new.place)) (map P.vol row) (map P.vol (slice_set row c.args.at.place c.hold_on-outcome.new.place)) c.self.inside.ticked c.self.inside.last c.last_of-self-inside.result
+    c.self.inside.turn c.after_hold-self-inside.result (hold_keeps c.args.at h.entries (on old.place c.self.inside.router) (on new.place c.hold_on-outcome.new.port) h.led) (ap length mapped ∙ length_set places c.args.at.place new.place))
 
 pub returns-clause-phase : goal.returns-clause-phase
 returns-clause-phase g c =

@@ -2,7 +2,7 @@ use Rattle.std.proofs.Common.{ap, ◌∙◌}
 use Rattle.js_model.specs.PlaceStates.{in_memory}
 use Rattle.js_api.specs.Worlds.{opening}
 use Rattle.js_desk.proofs.Opened.{opened_vacant}
-use Rattle.js_desk.proofs.solo_desk.SoloDesk.open.Goals as goal
+use Rattle.js_desk.proofs.solo_desk.SoloDesk+MemoryPlace+V.open.Goals as goal
 
 pub returns-in-Ok-open_places-clause-scene : goal.returns-in-Ok-open_places-clause-scene
 returns-in-Ok-open_places-clause-scene g c =
