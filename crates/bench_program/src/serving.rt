@@ -7,6 +7,7 @@ use crate::cut_link::CutLink;
 use js_base::{Blob, Moment, Name, NoMemory};
 use js_desk::SoloDesk;
 use link_edge::Clock;
+use place_engine::MemoryPlace;
 use session::{Ended, Limits, serve_link};
 use std::alloc::Global;
 
@@ -33,7 +34,7 @@ fn limits(alloc: Global) -> Result<Limits, NoMemory>
 }
 
 /// A desk with so many places as the program's.
-fn open(alloc: Global) -> Result<SoloDesk<()>, NoMemory>
+fn open(alloc: Global) -> Result<SoloDesk<MemoryPlace<()>>, NoMemory>
     ensures closed { IfOk result (λ desk. desk.client.is_open ≡ false) }
 {
     let vols = vec![in alloc; (); 32]?;
@@ -44,7 +45,7 @@ fn open(alloc: Global) -> Result<SoloDesk<()>, NoMemory>
 }
 
 /// A desk with a stream that takes the subjects `orders.*`.
-pub(crate) fn desk(alloc: Global, now: Moment) -> Result<SoloDesk<()>, NoMemory>
+pub(crate) fn desk(alloc: Global, now: Moment) -> Result<SoloDesk<MemoryPlace<()>>, NoMemory>
     ensures closed { IfOk result (λ desk. desk.client.is_open ≡ false) }
 {
     let name = match Name::read(alloc, b"ORDERS") {

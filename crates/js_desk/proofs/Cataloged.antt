@@ -11,7 +11,7 @@ use Rattle.js_model.specs.Refusals.{subjects_overlap}
 use Rattle.js_model.specs.Catalog as catalog
 use Rattle.js_model.specs.Catalog.{Catalog, Place, Used, IsCatalogCall, catalog_call, telling, edited, on_used, changing, keeping, freed, stopping, overlaps_other}
 use Rattle.js_model.specs.Cataloging.{HasPlace, MayChange, add_told, change_told}
-use Rattle.place_engine.specs.InMemory.{Contents}
+use Rattle.js_model.specs.PlaceStates.{PlaceIn}
 use Rattle.desk_ground.specs.Grounds as phases
 use Rattle.desk_ground.specs.Grounds.{IsBetween, IsKnown, IsTold, Knows, MayStop}
 use Rattle.js_desk.specs.declared.turn.Turn.{Turn}
@@ -35,7 +35,7 @@ owing_is turns.Within place e = absurd (cc)
 owing_is (turns.Between other) place e = absurd (cc)
 owing_is (turns.Owing other) place e = let same : other ≡ place = cc in ap turns.Owing same
 
-module _ {V : Type 0} (c new : Catalog) (places : List (Contents V)) (last : Option PlaceAt) (turn : Turn) (g : IsGrounded c places last turn) where
+module _ (c new : Catalog) (places : List PlaceIn) (last : Option PlaceAt) (turn : Turn) (g : IsGrounded c places last turn) where
   abbrev as_turn : (other : Turn) → turn ≡ other → IsGrounded c places last other
   as_turn other e = subst (λ (t : Turn). IsGrounded c places last t) e g
 
@@ -208,7 +208,7 @@ changed_between c new at subjects k is known = by (slice_get c at.place) refl kn
         subst (λ (d : Catalog). HasPlace d at.place (IsBetween at)) (sym is)
         (subst (λ (x : Option Place). IsSomeAnd x (IsBetween at)) (sym now) (between_place subjects at p (subst (λ (x : Option Place). IsSomeAnd x (IsKnown at)) e h)))
 
-module _ {V : Type 0} (c new : Catalog) (places : List (Contents V)) (last : Option PlaceAt) (turn : Turn) (g : IsGrounded c places last turn) where
+module _ (c new : Catalog) (places : List PlaceIn) (last : Option PlaceAt) (turn : Turn) (g : IsGrounded c places last turn) where
   pub change_between : (at : PlaceAt) (subjects : List Bytes) (result : Result (Unit {0}) CatalogFault) → IsCatalogCall c (catalog.Change at.place subjects) (change_told result) new → Knows c at
       → OnOk result (HasPlace new at.place (IsBetween at))
   change_between at subjects (Ok done) k known = changed_between c new at subjects k (changed_is c new places last turn g at.place subjects k) known

@@ -1,52 +1,53 @@
 -- The volumes go into places from the last one on, and come back in the other order.
-use Rattle.std.proofs.Common.{◌≡◌, List, [], ◌∷◌, ◌++◌, refl, sym, ap, subst, ◌∙◌, append_assoc, append-nil}
+use Rattle.std.proofs.Common.{◌≡◌, List, [], ◌∷◌, ◌++◌, map, refl, sym, ap, subst, ◌∙◌, append_assoc, append-nil}
 use Rattle.std.specs.Prelude.{reverse}
 use Rattle.std.proofs.lemmas.List.{map-append, reverse-append}
-use Rattle.place_engine.specs.InMemory.{Contents}
-use Rattle.js_model.specs.declared.stream.State.TheVariants.{Vacant}
-use Rattle.js_desk.specs.Grounds.{volumes, vol_of, AreFresh}
+use Rattle.js_model.specs.PlaceStates.{PlaceIn, vacant_place}
+use Rattle.js_desk.specs.Grounds.{AreFresh}
 
-module _ {V : Type 0} where
+module _ {P V : Type 0} (vol : P → V) where
   -- the volume of the last place comes first in the other order
-  pub last_first : (places : List (Contents V)) (place : Contents V) → reverse (volumes (places ++ place ∷ [])) ≡ place.vol ∷ reverse (volumes places)
-  last_first places place = ap reverse (map-append vol_of places (place ∷ [])) ∙ reverse-append (volumes places) (place.vol ∷ [])
+  pub last_first : (row : List P) (place : P) → reverse (map vol (row ++ place ∷ [])) ≡ vol place ∷ reverse (map vol row)
+  last_first row place = ap reverse (map-append vol row (place ∷ [])) ∙ reverse-append (map vol row) (vol place ∷ [])
 
   -- one more volume was given back
-  pub one_back : (given given_new whole : List V) (places mid : List (Contents V)) (place : Contents V) → mid ≡ places ++ place ∷ [] → given_new ≡ given ++ place.vol ∷ []
-      → given ++ reverse (volumes mid) ≡ whole → given_new ++ reverse (volumes places) ≡ whole
-  one_back given given_new whole places mid place is new e =
-      ap (λ (vs : List V). vs ++ reverse (volumes places)) new
-      ∙ append_assoc given (place.vol ∷ []) (reverse (volumes places))
-      ∙ ap (λ (vs : List V). given ++ vs) (sym (last_first places place))
-      ∙ ap (λ (ps : List (Contents V)). given ++ reverse (volumes ps)) (sym is)
+  pub one_back : (given given_new whole : List V) (row mid : List P) (place : P) → mid ≡ row ++ place ∷ [] → given_new ≡ given ++ vol place ∷ []
+      → given ++ reverse (map vol mid) ≡ whole → given_new ++ reverse (map vol row) ≡ whole
+  one_back given given_new whole row mid place is new e =
+      ap (λ (vs : List V). vs ++ reverse (map vol row)) new
+      ∙ append_assoc given (vol place ∷ []) (reverse (map vol row))
+      ∙ ap (λ (vs : List V). given ++ vs) (sym (last_first row place))
+      ∙ ap (λ (ps : List P). given ++ reverse (map vol ps)) (sym is)
       ∙ e
 
-  pub all_back : (given whole : List V) (places : List (Contents V)) → places ≡ [] → given ++ reverse (volumes places) ≡ whole → given ≡ whole
-  all_back given whole places none e = sym (append-nil given) ∙ ap (λ (ps : List (Contents V)). given ++ reverse (volumes ps)) (sym none) ∙ e
+  pub all_back : (given whole : List V) (row : List P) → row ≡ [] → given ++ reverse (map vol row) ≡ whole → given ≡ whole
+  all_back given whole row none e = sym (append-nil given) ∙ ap (λ (ps : List P). given ++ reverse (map vol ps)) (sym none) ∙ e
 
   -- one more place was opened
-  pub one_opened : (left mid whole : List V) (places : List (Contents V)) (place : Contents V) (vol : V) → mid ≡ left ++ vol ∷ [] → place.vol ≡ vol
-      → mid ++ reverse (volumes places) ≡ whole → left ++ reverse (volumes (places ++ place ∷ [])) ≡ whole
-  one_opened left mid whole places place vol is same e =
-      ap (λ (vs : List V). left ++ vs) (last_first places place ∙ ap (λ (v : V). v ∷ reverse (volumes places)) same)
-      ∙ sym (append_assoc left (vol ∷ []) (reverse (volumes places)))
-      ∙ ap (λ (vs : List V). vs ++ reverse (volumes places)) (sym is)
+  pub one_opened : (left mid whole : List V) (row : List P) (place : P) (v : V) → mid ≡ left ++ v ∷ [] → vol place ≡ v
+      → mid ++ reverse (map vol row) ≡ whole → left ++ reverse (map vol (row ++ place ∷ [])) ≡ whole
+  one_opened left mid whole row place v is same e =
+      ap (λ (vs : List V). left ++ vs) (last_first row place ∙ ap (λ (w : V). w ∷ reverse (map vol row)) same)
+      ∙ sym (append_assoc left (v ∷ []) (reverse (map vol row)))
+      ∙ ap (λ (vs : List V). vs ++ reverse (map vol row)) (sym is)
       ∙ e
 
-  pub fresh_more : (places : List (Contents V)) (place : Contents V) → AreFresh places → place.state ≡ Vacant 0 → AreFresh (places ++ place ∷ [])
+-- ---- the places in the other order
+
+pub map_reverse : {A B : Type 0} (f : A → B) (xs : List A) → map f (reverse xs) ≡ reverse (map f xs)
+map_reverse f [] = refl
+map_reverse f (x ∷ xs) =
+    ap (λ (ys : List _). map f ys) (reverse-append (x ∷ []) xs)
+    ∙ map-append f (reverse xs) (x ∷ [])
+    ∙ ap (λ (ys : List _). ys ++ f x ∷ []) (map_reverse f xs)
+    ∙ sym (reverse-append (f x ∷ []) (map f xs))
+
+module _ {P : Type 0} (place_in : P → PlaceIn) where
+  pub fresh_more : (row : List P) (place : P) → AreFresh (map place_in row) → place_in place ≡ vacant_place → AreFresh (map place_in (row ++ place ∷ []))
   fresh_more [] place h new = (new, tt)
-  fresh_more (first ∷ places) place h new = (h.0, fresh_more places place h.1 new)
+  fresh_more (first ∷ row) place h new = (h.0, fresh_more row place h.1 new)
 
-  -- ---- the places in the other order
-
-  pub volumes_reverse : (places : List (Contents V)) → volumes (reverse places) ≡ reverse (volumes places)
-  volumes_reverse [] = refl
-  volumes_reverse (place ∷ places) =
-      ap volumes (reverse-append (place ∷ []) places)
-      ∙ map-append vol_of (reverse places) (place ∷ [])
-      ∙ ap (λ (vs : List V). vs ++ place.vol ∷ []) (volumes_reverse places)
-      ∙ sym (reverse-append (place.vol ∷ []) (volumes places))
-
-  pub fresh_reverse : (places : List (Contents V)) → AreFresh places → AreFresh (reverse places)
+  pub fresh_reverse : (row : List P) → AreFresh (map place_in row) → AreFresh (map place_in (reverse row))
   fresh_reverse [] h = tt
-  fresh_reverse (place ∷ places) h = subst AreFresh (sym (reverse-append (place ∷ []) places)) (fresh_more (reverse places) place (fresh_reverse places h.1) h.0)
+  fresh_reverse (place ∷ row) h =
+      subst (λ (ps : List P). AreFresh (map place_in ps)) (sym (reverse-append (place ∷ []) row)) (fresh_more (reverse row) place (fresh_reverse row h.1) h.0)

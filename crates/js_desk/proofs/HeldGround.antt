@@ -1,11 +1,12 @@
 -- What a hold makes of the ground of one caller.
-use Rattle.std.proofs.Common.{◌≡◌, ◌<◌, ◌+◌, ℕ, Bool, get_or, true, false, ◌&&◌, List, length, map, Option, Some, None, refl, sym, ap, subst, ◌∙◌, if◌then◌else◌, IfSome, arith}
+use Rattle.std.proofs.Common.{◌≡◌, ◌<◌, ◌+◌, ℕ, Bool, get_or, true, false, ◌&&◌, List, length, Option, Some, None, refl, sym, ap, subst, ◌∙◌, if◌then◌else◌, IfSome, arith}
 use Rattle.std.specs.Prelude.{◌==◌, slice_get, slice_set}
 use Rattle.std.proofs.lemmas.Bool.{eq-eqb, eqb-true}
 use Rattle.std.specs.Option.{IsSomeAnd}
 use Rattle.std.proofs.lemmas.Option.{slice_get_read, slice_get_within}
 use Rattle.std.proofs.lemmas.List.{length-map}
 use Rattle.js_model.specs.declared.event.What.{What}
+use Rattle.js_model.specs.declared.stream.State.{State}
 use Rattle.js_model.specs.declared.event.What.TheVariants as whats
 use Rattle.js_model.specs.declared.desk.PlaceAt.{PlaceAt}
 use Rattle.js_model.specs.Catalog.{Catalog, Place}
@@ -13,7 +14,7 @@ use Rattle.js_model.specs.Cataloging.{HasPlace}
 use Rattle.js_model.specs.Events.{kept_incarnation}
 use Rattle.js_model.specs.PlaceStates.{PlaceIn}
 use Rattle.js_model.specs.Router.{Router, IsRoute}
-use Rattle.place_engine.specs.InMemory.{Contents, holds_nothing, seen_of}
+use Rattle.place_engine.specs.Stepping.{Image, Seen}
 use Rattle.js_api.specs.declared.outcome.Became.{Became}
 use Rattle.js_api.specs.declared.outcome.Became.TheVariants as became
 use Rattle.js_api.specs.declared.outcome.Outcome.{Outcome}
@@ -29,15 +30,16 @@ use Rattle.desk_hold.specs.OnePlace.{HoldsOn, on}
 use Rattle.js_desk.specs.declared.turn.Turn.{Turn}
 use Rattle.js_desk.specs.declared.turn.Turn.TheVariants as turns
 use Rattle.js_desk.specs.Dropping.{is_drop}
-use Rattle.js_desk.specs.Grounds.{AreAgreed, AreSingle, IsGrounded, SoloMade, after_hold, is_held, phase_of, place_in, standing, told_incarnation, vol_of, volumes}
+use Rattle.js_desk.specs.Grounds.{AreAgreed, AreSingle, IsGrounded, SoloMade, after_hold, is_held, phase_of, places_by, standing, told_incarnation}
 use Rattle.desk_hold.proofs.Alone.{held_alone, last_of, never, with_place}
 use Rattle.js_desk.proofs.HoldFacts.{Facts, hold_facts}
+use Rattle.js_desk.specs.Kept.{kept_set}
 use Rattle.js_desk.proofs.Looked.{within_is}
-use Rattle.js_desk.proofs.Sets.{get_other, get_set, length_set, map_get, map_set, set_same}
+use Rattle.js_desk.proofs.Sets.{get_other, get_set, length_set}
 
 -- a place that was taken out of the row stood there
-pub there_is : {V : Type 0} (places : List (Contents V)) (at : PlaceAt) (old : Contents V) → at.place < length (map place_in places) → old ≡ get_or places at.place old → slice_get places at.place ≡ Some old
-there_is places at old within is = slice_get_read places (length places) at.place old refl (omega (arith, within, length-map places place_in)) is
+pub there_is : {P : Type 0} (seen : P → Seen) (row : List P) (at : PlaceAt) (old : P) → at.place < length (places_by seen row) → old ≡ get_or row at.place old → slice_get row at.place ≡ Some old
+there_is seen row at old within is = slice_get_read row (length row) at.place old refl (omega (arith, within, length-map row (λ p. (seen p).place))) is
 
 -- ---- the turn
 
@@ -84,8 +86,8 @@ phase_held (whats.ConsumerList reply offset) at told turn = refl
 
 -- ---- what holds of each place
 
-module _ {V : Type 0} (c : Catalog) (places : List (Contents V)) (last : Option PlaceAt) (turn : Turn) (at : PlaceAt) (old new : Contents V) (there : slice_get places at.place ≡ Some old) (g : IsGrounded c places last turn)
-    (what : What) (told : Became) (entries : List DeskEntry) (may : MayHold what (phase_of turn)) (f : Facts at what told entries (place_in old) (place_in new)) where
+module _ (c : Catalog) (places : List PlaceIn) (last : Option PlaceAt) (turn : Turn) (at : PlaceAt) (old new : PlaceIn) (there : slice_get places at.place ≡ Some old) (g : IsGrounded c places last turn)
+    (what : What) (told : Became) (entries : List DeskEntry) (may : MayHold what (phase_of turn)) (f : Facts at what told entries old new) where
   single_held : (b : Bool) → (is_drop what && is_dropped told) ≡ b → AreSingle (after_hold turn b at.place) c
   single_held false e = g.single
   single_held true e = λ n place is between. subst (λ (t : Turn). AreSingle t c) (drops_within what turn (left (is_drop what) (is_dropped told) e) may) g.single n place is refl
@@ -102,13 +104,13 @@ module _ {V : Type 0} (c : Catalog) (places : List (Contents V)) (last : Option 
   not_both true b e a = e
   not_both false b e a = absurd (cc)
 
-  some_same : (x y : Contents V) → Some x ≡ Some y → x ≡ y
+  some_same : (x y : PlaceIn) → Some x ≡ Some y → x ≡ y
   some_same x y e = cc
 
   agreed_held : (b : Bool) → (is_drop what && is_dropped told) ≡ b → AreAgreed (after_hold turn b at.place) c (slice_set places at.place new)
-  agreed_held b e = λ n place contents is stands. by b e n place contents is stands (at.place == n) refl
+  agreed_held b e = λ n place contents is stands goes. by b e n place contents is stands goes (at.place == n) refl
     where
-      here : (n : ℕ) → at.place ≡ n → (contents : Contents V) → slice_get (slice_set places at.place new) n ≡ Some contents → contents ≡ new
+      here : (n : ℕ) → at.place ≡ n → (contents : PlaceIn) → slice_get (slice_set places at.place new) n ≡ Some contents → contents ≡ new
       here n hit contents stands =
           let mine : slice_get (slice_set places at.place new) n ≡ Some new = ap (λ (k : ℕ). slice_get (slice_set places at.place new) k) (sym hit) ∙ get_set places at.place old new there in
           some_same contents new (sym stands ∙ mine)
@@ -116,25 +118,32 @@ module _ {V : Type 0} (c : Catalog) (places : List (Contents V)) (last : Option 
       stood : (n : ℕ) → at.place ≡ n → slice_get places n ≡ Some old
       stood n hit = ap (λ (k : ℕ). slice_get places k) (sym hit) ∙ there
 
-      by : (b : Bool) → (is_drop what && is_dropped told) ≡ b → (n : ℕ) (place : Place) (contents : Contents V) → slice_get c n ≡ Some place → slice_get (slice_set places at.place new) n ≡ Some contents
-          → (d : Bool) → (at.place == n) ≡ d → told_incarnation (after_hold turn b at.place) n place ≡ kept_incarnation contents.state
-      by false e n place contents is stands true d =
+      goes_on : (n : ℕ) → at.place ≡ n → (contents : PlaceIn) → slice_get (slice_set places at.place new) n ≡ Some contents → contents.stopped ≡ None → new.stopped ≡ None
+      goes_on n hit contents stands goes = ap (λ (x : PlaceIn). x.stopped) (sym (here n hit contents stands)) ∙ goes
+
+      by : (b : Bool) → (is_drop what && is_dropped told) ≡ b → (n : ℕ) (place : Place) (contents : PlaceIn) → slice_get c n ≡ Some place → slice_get (slice_set places at.place new) n ≡ Some contents
+          → contents.stopped ≡ None → (d : Bool) → (at.place == n) ≡ d → told_incarnation (after_hold turn b at.place) n place ≡ kept_incarnation contents.state
+      by false e n place contents is stands goes true d =
           let hit : at.place ≡ n = eqb-true at.place n d in
-          g.agreed n place old is (stood n hit) ∙ sym (f.keeps (λ drop. not_both (is_drop what) (is_dropped told) e drop)) ∙ ap (λ (x : Contents V). kept_incarnation x.state) (sym (here n hit contents stands))
-      by false e n place contents is stands false d =
+          let going : new.stopped ≡ None = goes_on n hit contents stands goes in
+          g.agreed n place old is (stood n hit) (f.going going) ∙ sym (f.keeps going (λ drop. not_both (is_drop what) (is_dropped told) e drop))
+          ∙ ap (λ (x : PlaceIn). kept_incarnation x.state) (sym (here n hit contents stands))
+      by false e n place contents is stands goes false d =
           let miss : at.place ≡ n → ⊥ = λ hit. (let yes : (at.place == n) ≡ true = eq-eqb at.place n hit in absurd (cc (yes, d))) in
-          g.agreed n place contents is (sym (get_other places at.place n new miss) ∙ stands)
-      by true e n place contents is stands true d =
+          g.agreed n place contents is (sym (get_other places at.place n new miss) ∙ stands) goes
+      by true e n place contents is stands goes true d =
           let hit : at.place ≡ n = eqb-true at.place n d in
+          let going : new.stopped ≡ None = goes_on n hit contents stands goes in
           let two = both (is_drop what) (is_dropped told) e in
           let in_turn = subst (λ (t : Turn). AreAgreed t c places) (drops_within what turn two.0 may) g.agreed in
           ap (λ (x : Bool). if x then place.incarnation + 1 else place.incarnation) d
-          ∙ ap (λ (k : ℕ). k + 1) (in_turn n place old is (stood n hit)) ∙ sym (f.counts two.0 two.1) ∙ ap (λ (x : Contents V). kept_incarnation x.state) (sym (here n hit contents stands))
-      by true e n place contents is stands false d =
+          ∙ ap (λ (k : ℕ). k + 1) (in_turn n place old is (stood n hit) (f.going going)) ∙ sym (f.counts going two.0 two.1)
+          ∙ ap (λ (x : PlaceIn). kept_incarnation x.state) (sym (here n hit contents stands))
+      by true e n place contents is stands goes false d =
           let miss : at.place ≡ n → ⊥ = λ hit. (let yes : (at.place == n) ≡ true = eq-eqb at.place n hit in absurd (cc (yes, d))) in
           let two = both (is_drop what) (is_dropped told) e in
           let in_turn = subst (λ (t : Turn). AreAgreed t c places) (drops_within what turn two.0 may) g.agreed in
-          ap (λ (x : Bool). if x then place.incarnation + 1 else place.incarnation) d ∙ in_turn n place contents is (sym (get_other places at.place n new miss) ∙ stands)
+          ap (λ (x : Bool). if x then place.incarnation + 1 else place.incarnation) d ∙ in_turn n place contents is (sym (get_other places at.place n new miss) ∙ stands) goes
 
   last_held : (b : Bool) → IfSome (if b then Some at else last) (λ (p : PlaceAt). p.place < length (slice_set places at.place new))
   last_held true = let within = slice_get_within places at.place old there in omega (arith, within, length_set places at.place new)
@@ -166,12 +175,12 @@ module _ {V : Type 0} (c : Catalog) (places : List (Contents V)) (last : Option 
   pub there_held : phase_of turn ≡ phases.Within → Knows c at → IsThere told
   there_held within known = by told refl
     where
-      known_kept : (o : Option Place) → slice_get c at.place ≡ o → HasPlace c at.place (IsKnown at) → kept_incarnation old.state ≡ at.incarnation
-      known_kept None e k = absurd (subst (λ (x : Option Place). IsSomeAnd x (IsKnown at)) e k)
-      known_kept (Some place) e k =
+      known_kept : (o : Option Place) → slice_get c at.place ≡ o → HasPlace c at.place (IsKnown at) → old.stopped ≡ None → kept_incarnation old.state ≡ at.incarnation
+      known_kept None e k going = absurd (subst (λ (x : Option Place). IsSomeAnd x (IsKnown at)) e k)
+      known_kept (Some place) e k going =
           let is = subst (λ (x : Option Place). IsSomeAnd x (IsKnown at)) e k in
           let in_turn = subst (λ (t : Turn). AreAgreed t c places) (within_is turn within) g.agreed in
-          sym (in_turn at.place place old e there) ∙ is.incarnation
+          sym (in_turn at.place place old e there going) ∙ is.incarnation
 
       by : (x : Became) → told ≡ x → IsThere x
       by (became.Made reply) e = tt
@@ -180,14 +189,14 @@ module _ {V : Type 0} (c : Catalog) (places : List (Contents V)) (last : Option 
       by became.Nothing e = tt
       by (became.Broke stream) e = tt
       by (became.Stopped stream) e = tt
-      by became.Gone e = f.gone e (known_kept (slice_get c at.place) refl known)
+      by became.Gone e = let gone = f.gone e in gone.1 (known_kept (slice_get c at.place) refl known gone.0)
 
 -- ---- the entries
 
-module _ {V : Type 0} (r router : Router) (c : Catalog) (places : List (Contents V)) (ticked : ℕ) (last : Option PlaceAt) (turn : Turn) (at : PlaceAt) (old new : Contents V) (there : slice_get places at.place ≡ Some old)
-    (what : What) (now : ℕ) (outcome : Outcome) (h : HoldsOn IsRoute never at holds_nothing 0 what now outcome (seen_of old.state) (seen_of new.state) r router) where
-  pub facts_of : Facts at what outcome.became h.entries (place_in old) (place_in new)
-  facts_of = hold_facts at what now outcome h.entries (on (place_in old) r) (on (place_in new) router) h.holds h.led refl
+module _ {V : Type 0} (keeps : V → V → Type 0) (none : (v : V) → keeps v v) (r router : Router) (c : Catalog) (places : List PlaceIn) (vols : List V) (ticked : ℕ) (last : Option PlaceAt) (turn : Turn) (at : PlaceAt)
+    (holds : Image → State → Type 0) (old new : Seen) (there : slice_get places at.place ≡ Some old.place) (what : What) (now : ℕ) (outcome : Outcome) (h : HoldsOn IsRoute never at holds 0 what now outcome old new r router) where
+  pub facts_of : Facts at what outcome.became h.entries old.place new.place
+  facts_of = hold_facts at what now outcome h.entries (on old.place r) (on new.place router) h.holds h.led
 
   last_so : (told : Became) → last_of at told last ≡ (if is_held told then Some at else last)
   last_so (became.Made reply) = refl
@@ -198,20 +207,15 @@ module _ {V : Type 0} (r router : Router) (c : Catalog) (places : List (Contents
   last_so (became.Stopped stream) = refl
   last_so became.Gone = refl
 
-  pub made_of : (later : Option PlaceAt) (after : Turn) → later ≡ (if is_held outcome.became then Some at else last) → new.vol ≡ old.vol
-      → Makes SoloMade (Holds at what now outcome) (standing r c places ticked last turn) (standing router c (slice_set places at.place new) ticked later after)
-  made_of later after later_is same =
-      let s : Scene = (standing r c places ticked last turn).scene in
-      let m = held_alone at holds_nothing 0 what now outcome s (seen_of old.state) (seen_of new.state) router (map_get place_in places at.place old there) h in
-      let ends : with_place s at.place (on (place_in new) router) (last_of at outcome.became last) ≡ (standing router c (slice_set places at.place new) ticked later after).scene =
-      ap (λ (l : Option PlaceAt). with_place s at.place (on (place_in new) router) l) (last_so outcome.became ∙ sym later_is)
-      ∙ ap (λ (ps : List PlaceIn). record { world = record { router = router; catalog = c; places = ps }; cursor = record { ticked = ticked; last = later } })
-      (sym (map_set place_in places at.place new)) in
+  pub made_of : (later : Option PlaceAt) (after : Turn) (vol vol_new : V) → later ≡ (if is_held outcome.became then Some at else last) → slice_get vols at.place ≡ Some vol → keeps vol vol_new
+      → Makes (SoloMade keeps) (Holds at what now outcome) (standing r c places vols ticked last turn) (standing router c (slice_set places at.place new.place) (slice_set vols at.place vol_new) ticked later after)
+  made_of later after vol vol_new later_is stands kept =
+      let s : Scene = (standing r c places vols ticked last turn).scene in
+      let m = held_alone at holds 0 what now outcome s old new router there h in
+      let ends : with_place s at.place (on new.place router) (last_of at outcome.became last) ≡ (standing router c (slice_set places at.place new.place) (slice_set vols at.place vol_new) ticked later after).scene =
+      ap (λ (l : Option PlaceAt). with_place s at.place (on new.place router) l) (last_so outcome.became ∙ sym later_is) in
       record {
         entries = m.entries;
         are = m.are;
-        led = (
-          subst (λ (x : Scene). Leads SoloStep s m.entries x) ends m.led,
-          map_set vol_of places at.place new ∙ set_same (volumes places) at.place new.vol (map_get vol_of places at.place old there ∙ ap Some (sym same)),
-        );
+        led = (subst (λ (x : Scene). Leads SoloStep s m.entries x) ends m.led, kept_set keeps none vols at.place vol vol_new stands kept);
       }

@@ -24,7 +24,7 @@ use Rattle.js_api.specs.declared.fault.DeskFault.TheVariants as faults
 use Rattle.js_api.specs.declared.outcome.Became.{Became}
 use Rattle.js_api.specs.declared.outcome.Became.TheVariants as became
 use Rattle.js_api.specs.declared.outcome.Outcome.{Outcome}
-use Rattle.js_api.specs.Entries.{Hold, entries_in, DeskEntry, Held, Stirred}
+use Rattle.js_api.specs.Entries.{Hold, entries_in, DeskEntry, Held}
 use Rattle.js_api.specs.Holding.{AreDeliveries, Holds, HoldsBy, IsHold, Prepares, Unmakes, event_at, listening_of, step}
 use Rattle.js_api.specs.Leading.{Leads}
 use Rattle.js_api.specs.OneStream.{is_done}
@@ -122,15 +122,18 @@ is_done_so (replies.Refused error) e = absurd (cc)
 
 -- ---- whatever became of it
 
--- what a hold that became so made of its place
-pub record Facts (at : PlaceAt) (what : What) (told : Became) (entries : List DeskEntry) (old new : PlaceIn) : Type 0 where
+-- what a hold that became so made of its place, if the place goes on
+record WhileGoing (at : PlaceAt) (what : What) (told : Became) (entries : List DeskEntry) (old new : PlaceIn) : Type 0 where
+  pub stood : old.stopped ≡ None
   pub keeps : (is_drop what ≡ true → is_dropped told ≡ false) → kept_incarnation new.state ≡ kept_incarnation old.state
   pub counts : is_drop what ≡ true → is_dropped told ≡ true → kept_incarnation new.state ≡ kept_incarnation old.state + 1
-  pub gone : told ≡ became.Gone → kept_incarnation old.state ≡ at.incarnation → ⊥
 
-abbrev is_gone : Became → Bool
-is_gone became.Gone = true
-is_gone _ = false
+-- what a hold that became so made of its place: a place that is stopped stays so, and one that goes on keeps its incarnation unless its stream is dropped
+pub record Facts (at : PlaceAt) (what : What) (told : Became) (entries : List DeskEntry) (old new : PlaceIn) : Type 0 where
+  pub going : new.stopped ≡ None → old.stopped ≡ None
+  pub keeps : new.stopped ≡ None → (is_drop what ≡ true → is_dropped told ≡ false) → kept_incarnation new.state ≡ kept_incarnation old.state
+  pub counts : new.stopped ≡ None → is_drop what ≡ true → is_dropped told ≡ true → kept_incarnation new.state ≡ kept_incarnation old.state + 1
+  pub gone : told ≡ became.Gone → (old.stopped ≡ None) × (kept_incarnation old.state ≡ at.incarnation → ⊥)
 
 module _ (at : PlaceAt) (what : What) (now : ℕ) where
   -- a hold of one entry
@@ -138,11 +141,11 @@ module _ (at : PlaceAt) (what : What) (now : ℕ) where
   one_held hold old new l = subst (λ (o : OnPlace Router). IsHeld hold old.place o.place) l.2 l.1.held
 
   made_facts : (reply : Reply) (ready : Bool) (fault : Option DeskFault) (hold : Hold) → IsHold at what now reply ready fault hold → (old new : PlaceIn) → IsHeld hold old new
-      → Facts at what (became.Made reply) (Held hold ∷ []) old new
+      → WhileGoing at what (became.Made reply) (Held hold ∷ []) old new
   made_facts reply ready fault hold h old new held = record {
+    stood = held.going;
     keeps = keeps_if (is_drop what) refl;
     counts = λ is done. made_counts at what now reply ready fault hold h old new held is (is_done_so reply done);
-    gone = λ is. absurd (let no : false ≡ true = ap is_gone is in cc);
   }
     where
       keeps_if : (b : Bool) → is_drop what ≡ b → (is_drop what ≡ true → is_done reply ≡ false) → kept_incarnation new.state ≡ kept_incarnation old.state
@@ -150,11 +153,11 @@ module _ (at : PlaceAt) (what : What) (now : ℕ) where
       keeps_if true e other = made_undropped at what now reply ready fault hold h old new held e (λ done. absurd (let yes : is_done reply ≡ true = ap is_done done in cc (yes, other e)))
 
   unsaid_facts : (refused : Bool) (reply : Reply) (ready : Bool) (fault : Option DeskFault) (hold : Hold) → IsHold at what now reply ready fault hold → refused ≡ is_refused reply → (old new : PlaceIn) → IsHeld hold old new
-      → Facts at what (became.Unsaid refused) (Held hold ∷ []) old new
+      → WhileGoing at what (became.Unsaid refused) (Held hold ∷ []) old new
   unsaid_facts refused reply ready fault hold h is_so old new held = record {
+    stood = held.going;
     keeps = keeps_if (is_drop what) refl;
     counts = λ is dropped. made_counts at what now reply ready fault hold h old new held is (made_unrefused at what now reply ready fault hold h old new held is (sym is_so ∙ unrefused refused dropped));
-    gone = λ is. absurd (let no : false ≡ true = ap is_gone is in cc);
   }
     where
       unrefused : (b : Bool) → not b ≡ true → b ≡ false
@@ -168,44 +171,43 @@ module _ (at : PlaceAt) (what : What) (now : ℕ) where
           (λ done. absurd (let no : not refused ≡ true = ap not (is_so ∙ ap is_refused done) in cc (no, other e)))
 
   -- the place is as it was
-  rests : (told : Became) (entries : List DeskEntry) (old new : PlaceIn) → is_dropped told ≡ false → new.state ≡ old.state → (told ≡ became.Gone → kept_incarnation old.state ≡ at.incarnation → ⊥) → Facts at what told entries old new
-  rests told entries old new undropped same gone = record {
+  rests : (told : Became) (entries : List DeskEntry) (old new : PlaceIn) → is_dropped told ≡ false → new.state ≡ old.state → old.stopped ≡ None → WhileGoing at what told entries old new
+  rests told entries old new undropped same stood = record {
+    stood = stood;
     keeps = λ other. ap kept_incarnation same;
     counts = λ is done. absurd (cc (undropped, done));
-    gone = gone;
   }
 
   by_became : (told : Became) (ready : Bool) (fault : Option DeskFault) (entries : List DeskEntry) (old new : OnPlace Router) → HoldsBy told at what now ready fault entries
-      → Leads (PlaceStep IsRoute never at) old entries new → new.place.stopped ≡ None → Facts at what told entries old.place new.place
+      → Leads (PlaceStep IsRoute never at) old entries new → new.place.stopped ≡ None → WhileGoing at what told entries old.place new.place
   by_became (became.Made reply) ready fault entries old new h l going =
       let led = subst (λ (es : List DeskEntry). Leads (PlaceStep IsRoute never at) old es new) h.1 l in
-      subst (λ (es : List DeskEntry). Facts at what (became.Made reply) es old.place new.place) (sym h.1) (made_facts reply ready fault h.0 h.2 old.place new.place (one_held h.0 old new led))
+      subst (λ (es : List DeskEntry). WhileGoing at what (became.Made reply) es old.place new.place) (sym h.1) (made_facts reply ready fault h.0 h.2 old.place new.place (one_held h.0 old new led))
   by_became (became.Unsaid refused) ready fault entries old new h l going =
       let led = subst (λ (es : List DeskEntry). Leads (PlaceStep IsRoute never at) old es new) h.3 l in
-      subst (λ (es : List DeskEntry). Facts at what (became.Unsaid refused) es old.place new.place) (sym h.3)
+      subst (λ (es : List DeskEntry). WhileGoing at what (became.Unsaid refused) es old.place new.place) (sym h.3)
       (unsaid_facts refused h.1 ready fault h.0 h.2 h.5 old.place new.place (one_held h.0 old new led))
   by_became became.Ticked ready fault entries old new h l going =
       let led = subst (λ (es : List DeskEntry). Leads (PlaceStep IsRoute never at) old es new) h.1 l in
       let held = one_held h.0 old new led in
       let same : kept_incarnation new.place.state ≡ kept_incarnation old.place.state = made_keeps at whats.Tick now Silent ready fault h.0 h.2 old.place new.place held refl in
-      subst (λ (es : List DeskEntry). Facts at what became.Ticked es old.place new.place) (sym h.1) (record {
+      subst (λ (es : List DeskEntry). WhileGoing at what became.Ticked es old.place new.place) (sym h.1) (record {
+        stood = held.going;
         keeps = λ other. same;
         counts = λ is done. absurd (cc);
-        gone = λ is. absurd (let no : false ≡ true = ap is_gone is in cc);
       })
   by_became became.Nothing ready None entries old new h l going = absurd h.1
   by_became became.Nothing ready (Some faults.NoMemory) entries old new h l going =
       let led = subst (λ (es : List DeskEntry). Leads (PlaceStep IsRoute never at) old es new) h.1 l in
-      rests became.Nothing entries old.place new.place refl (ap (λ (o : OnPlace Router). o.place.state) (sym led))
-      (λ is. absurd (let no : false ≡ true = ap is_gone is in cc))
+      rests became.Nothing entries old.place new.place refl (ap (λ (o : OnPlace Router). o.place.state) (sym led)) (ap (λ (o : OnPlace Router). o.place.stopped) led ∙ going)
   by_became became.Nothing ready (Some faults.TooManySubs) entries old new h l going = absurd h.1
   by_became became.Nothing ready (Some (faults.Worn number)) entries old new h l going = by h.1
     where
-      by : Unmakes at (Some (faults.Worn number)) entries → Facts at what became.Nothing entries old.place new.place
+      by : Unmakes at (Some (faults.Worn number)) entries → WhileGoing at what became.Nothing entries old.place new.place
       by (inl spent) = absurd (subst (λ (es : List DeskEntry). Leads (PlaceStep IsRoute never at) old es new) spent l).1
       by (inr stirred) =
           let led = subst (λ (es : List DeskEntry). Leads (PlaceStep IsRoute never at) old es new) stirred.2 l in
-          rests became.Nothing entries old.place new.place refl (ap (λ (o : OnPlace Router). o.place.state) (sym led.2) ∙ led.1.stirred.state) (λ is. absurd (let no : false ≡ true = ap is_gone is in cc))
+          rests became.Nothing entries old.place new.place refl (ap (λ (o : OnPlace Router). o.place.state) (sym led.2) ∙ led.1.stirred.state) led.1.stirred.going
   by_became became.Nothing ready (Some (faults.NoSession latest)) entries old new h l going = absurd h.1
   by_became (became.Broke stream) ready fault entries old new h l going =
       let led = subst (λ (es : List DeskEntry). Leads (PlaceStep IsRoute never at) old es new) h.1 l in
@@ -216,27 +218,41 @@ module _ (at : PlaceAt) (what : What) (now : ℕ) where
       absurd (cc (stops.0, going))
   by_became (became.Stopped stream) ready fault entries old new h l going =
       let led = subst (λ (es : List DeskEntry). Leads (PlaceStep IsRoute never at) old es new) h.1 l in
-      rests (became.Stopped stream) entries old.place new.place refl (ap (λ (o : OnPlace Router). o.place.state) (sym led.2 ∙ led.1.same)) (λ is. absurd (let no : false ≡ true = ap is_gone is in cc))
+      let stays : old.place.stopped ≡ None = ap (λ (o : OnPlace Router). o.place.stopped) (sym led.1.same ∙ led.2) ∙ going in
+      absurd (cc (led.1.stopped, stays))
   by_became became.Gone ready fault entries old new h l going =
       let led = subst (λ (es : List DeskEntry). Leads (PlaceStep IsRoute never at) old es new) h.1 l in
-      rests became.Gone entries old.place new.place refl (ap (λ (o : OnPlace Router). o.place.state) (sym led.2 ∙ led.1.same)) (λ is same. led.1.other (sym led.1.kept_is ∙ same))
+      rests became.Gone entries old.place new.place refl (ap (λ (o : OnPlace Router). o.place.state) (sym led.2 ∙ led.1.same)) led.1.going
 
-  pub hold_facts : (outcome : Outcome) (entries : List DeskEntry) (old new : OnPlace Router) → Holds at what now outcome entries → Leads (PlaceStep IsRoute never at) old entries new → new.place.stopped ≡ None
+  -- the place is not stopped and keeps another incarnation
+  missed : (told : Became) (ready : Bool) (fault : Option DeskFault) (entries : List DeskEntry) (old new : OnPlace Router) → HoldsBy told at what now ready fault entries
+      → Leads (PlaceStep IsRoute never at) old entries new → told ≡ became.Gone → (old.place.stopped ≡ None) × (kept_incarnation old.place.state ≡ at.incarnation → ⊥)
+  missed told ready fault entries old new h l is =
+      let gone = subst (λ (b : Became). HoldsBy b at what now ready fault entries) is h in
+      let led = subst (λ (es : List DeskEntry). Leads (PlaceStep IsRoute never at) old es new) gone.1 l in
+      (led.1.going, λ same. led.1.other (sym led.1.kept_is ∙ same))
+
+  pub hold_facts : (outcome : Outcome) (entries : List DeskEntry) (old new : OnPlace Router) → Holds at what now outcome entries → Leads (PlaceStep IsRoute never at) old entries new
       → Facts at what outcome.became entries old.place new.place
-  hold_facts outcome entries old new h l going = by h.first h.prepares (subst (λ (es : List DeskEntry). Leads (PlaceStep IsRoute never at) old es new) h.entries_are l) h.entries_are
+  hold_facts outcome entries old new h l = by h.first h.prepares (subst (λ (es : List DeskEntry). Leads (PlaceStep IsRoute never at) old es new) h.entries_are l)
     where
-      by : (first : List DeskEntry) → Prepares at first → Leads (PlaceStep IsRoute never at) old (first ++ h.more) new → entries ≡ first ++ h.more → Facts at what outcome.became entries old.place new.place
-      by first (inl none) led e =
+      by : (first : List DeskEntry) → Prepares at first → Leads (PlaceStep IsRoute never at) old (first ++ h.more) new → Facts at what outcome.became entries old.place new.place
+      by first (inl none) led =
           let bare = subst (λ (fs : List DeskEntry). Leads (PlaceStep IsRoute never at) old (fs ++ h.more) new) none led in
-          let same : entries ≡ h.more = e ∙ ap (λ (fs : List DeskEntry). fs ++ h.more) none in
-          subst (λ (es : List DeskEntry). Facts at what outcome.became es old.place new.place) (sym same) (by_became outcome.became outcome.ready outcome.fault h.more old new h.holds bare going)
-      by first (inr stirred) led e =
+          let when = by_became outcome.became outcome.ready outcome.fault h.more old new h.holds bare in
+          record {
+            going = λ going. (when going).stood;
+            keeps = λ going. (when going).keeps;
+            counts = λ going. (when going).counts;
+            gone = missed outcome.became outcome.ready outcome.fault h.more old new h.holds bare;
+          }
+      by first (inr stirred) led =
           let both = subst (λ (fs : List DeskEntry). Leads (PlaceStep IsRoute never at) old (fs ++ h.more) new) stirred.2 led in
-          let same : entries ≡ Stirred at stirred.0 stirred.1 false ∷ h.more = e ∙ ap (λ (fs : List DeskEntry). fs ++ h.more) stirred.2 in
-          let f = by_became outcome.became outcome.ready outcome.fault h.more both.0 new h.holds both.2 going in
+          let when = by_became outcome.became outcome.ready outcome.fault h.more both.0 new h.holds both.2 in
           let state : both.0.place.state ≡ old.place.state = both.1.stirred.state in
-          subst (λ (es : List DeskEntry). Facts at what outcome.became es old.place new.place) (sym same) (record {
-            keeps = λ other. f.keeps other ∙ ap kept_incarnation state;
-            counts = λ is done. f.counts is done ∙ ap (λ (s : State). kept_incarnation s + 1) state;
-            gone = λ is kept. f.gone is (ap kept_incarnation state ∙ kept);
-          })
+          record {
+            going = λ going. both.1.stirred.going;
+            keeps = λ going other. (when going).keeps other ∙ ap kept_incarnation state;
+            counts = λ going is done. (when going).counts is done ∙ ap (λ (s : State). kept_incarnation s + 1) state;
+            gone = λ is. (both.1.stirred.going, λ kept. (missed outcome.became outcome.ready outcome.fault h.more both.0 new h.holds both.2 is).1 (ap kept_incarnation state ∙ kept));
+          }

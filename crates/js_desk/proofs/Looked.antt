@@ -4,7 +4,7 @@ use Rattle.js_model.specs.declared.desk.PlaceAt.{PlaceAt}
 use Rattle.js_model.specs.Router.{Router}
 use Rattle.js_model.specs.Catalog as catalog
 use Rattle.js_model.specs.Catalog.{Catalog, CatCall, CatTold, IsCatalogCall}
-use Rattle.place_engine.specs.InMemory.{Contents}
+use Rattle.js_model.specs.PlaceStates.{PlaceIn}
 use Rattle.js_api.specs.Calls.{Resumes, Turns}
 use Rattle.js_api.specs.Entries.{Looked, Turned, Resumed}
 use Rattle.js_api.specs.Leading.{Makes}
@@ -14,18 +14,19 @@ use Rattle.desk_ground.specs.Grounds as phases
 use Rattle.desk_ground.specs.Grounds.{Phase}
 use Rattle.js_desk.specs.declared.turn.Turn.{Turn}
 use Rattle.js_desk.specs.declared.turn.Turn.TheVariants as turns
+use Rattle.js_desk.specs.Kept.{kept_none}
 use Rattle.js_desk.specs.Grounds.{AreSingle, IsGrounded, SoloMade, phase_of, standing}
 
-module _ {V : Type 0} (r : Router) (places : List (Contents V)) (ticked : ℕ) (last : Option PlaceAt) where
+module _ {V : Type 0} (keeps : V → V → Type 0) (none : (v : V) → keeps v v) (r : Router) (places : List PlaceIn) (vols : List V) (ticked : ℕ) (last : Option PlaceAt) where
   -- one call
   pub looked : (c d : Catalog) (before after : Turn) (joined : Bool) (call : CatCall) (told : CatTold) → IsCatalogCall c call told d
-      → SoloMade (standing r c places ticked last before) (Looked joined call told ∷ []) (standing r d places ticked last after)
-  looked c d before after joined call told h = (((standing r d places ticked last after).scene, (h, refl), refl), refl)
+      → SoloMade keeps (standing r c places vols ticked last before) (Looked joined call told ∷ []) (standing r d places vols ticked last after)
+  looked c d before after joined call told h = (((standing r d places vols ticked last after).scene, (h, refl), refl), kept_none keeps none vols)
 
 -- a look-up
-pub looked_up : {V : Type 0} (r : Router) (c : Catalog) (places : List (Contents V)) (ticked : ℕ) (last : Option PlaceAt) (turn : Turn) (call : CatCall) (found : Option PlaceAt) → IsCatalogCall c call (catalog.At found) c
-    → Makes SoloMade (LooksUp call (Ok found)) (standing r c places ticked last turn) (standing r c places ticked last turn)
-looked_up r c places ticked last turn call found h = record { entries = Looked false call (catalog.At found) ∷ []; are = refl; led = looked r places ticked last c c turn turn false call (catalog.At found) h }
+pub looked_up : {V : Type 0} (keeps : V → V → Type 0) (none : (v : V) → keeps v v) (r : Router) (c : Catalog) (places : List PlaceIn) (vols : List V) (ticked : ℕ) (last : Option PlaceAt) (turn : Turn) (call : CatCall) (found : Option PlaceAt) → IsCatalogCall c call (catalog.At found) c
+    → Makes (SoloMade keeps) (LooksUp call (Ok found)) (standing r c places vols ticked last turn) (standing r c places vols ticked last turn)
+looked_up keeps none r c places vols ticked last turn call found h = record { entries = Looked false call (catalog.At found) ∷ []; are = refl; led = looked keeps none r places vols ticked last c c turn turn false call (catalog.At found) h }
 
 -- ---- turns
 
@@ -46,34 +47,34 @@ pub outside_single : (turn : Turn) (c : Catalog) → phase_of turn ≡ phases.Ou
 outside_single turn c e h = subst (λ (t : Turn). AreSingle t c) (outside_is turn e) h
 
 -- a turn is entered or ended
-pub begun_grounded : {V : Type 0} (c : Catalog) (places : List (Contents V)) (last : Option PlaceAt) (turn : Turn) → phase_of turn ≡ phases.Outside → IsGrounded c places last turn → IsGrounded c places last turns.Within
+pub begun_grounded : (c : Catalog) (places : List PlaceIn) (last : Option PlaceAt) (turn : Turn) → phase_of turn ≡ phases.Outside → IsGrounded c places last turn → IsGrounded c places last turns.Within
 begun_grounded c places last turn e g =
     let out = subst (λ (t : Turn). IsGrounded c places last t) (outside_is turn e) g in
     record { few = out.few; same = out.same; single = out.single; agreed = out.agreed; within = out.within }
 
-pub ended_grounded : {V : Type 0} (c : Catalog) (places : List (Contents V)) (last : Option PlaceAt) (turn : Turn) → phase_of turn ≡ phases.Within → IsGrounded c places last turn → IsGrounded c places last turns.Outside
+pub ended_grounded : (c : Catalog) (places : List PlaceIn) (last : Option PlaceAt) (turn : Turn) → phase_of turn ≡ phases.Within → IsGrounded c places last turn → IsGrounded c places last turns.Outside
 ended_grounded c places last turn e g =
     let in_turn = subst (λ (t : Turn). IsGrounded c places last t) (within_is turn e) g in
     record { few = in_turn.few; same = in_turn.same; single = in_turn.single; agreed = in_turn.agreed; within = in_turn.within }
 
-pub begun_up : {V : Type 0} (r : Router) (c : Catalog) (places : List (Contents V)) (ticked : ℕ) (last : Option PlaceAt) (turn : Turn) (call : CatCall) (found : Option PlaceAt) → IsCatalogCall c call (catalog.At found) c
-    → Makes SoloMade (LooksUp call (Ok found)) (standing r c places ticked last turn) (standing r c places ticked last turns.Within)
-begun_up r c places ticked last turn call found h = record { entries = Looked false call (catalog.At found) ∷ []; are = refl; led = looked r places ticked last c c turn turns.Within false call (catalog.At found) h }
+pub begun_up : {V : Type 0} (keeps : V → V → Type 0) (none : (v : V) → keeps v v) (r : Router) (c : Catalog) (places : List PlaceIn) (vols : List V) (ticked : ℕ) (last : Option PlaceAt) (turn : Turn) (call : CatCall) (found : Option PlaceAt) → IsCatalogCall c call (catalog.At found) c
+    → Makes (SoloMade keeps) (LooksUp call (Ok found)) (standing r c places vols ticked last turn) (standing r c places vols ticked last turns.Within)
+begun_up keeps none r c places vols ticked last turn call found h = record { entries = Looked false call (catalog.At found) ∷ []; are = refl; led = looked keeps none r places vols ticked last c c turn turns.Within false call (catalog.At found) h }
 
 -- ---- a tick's look-up, and the place of the last hold
 
-pub turned : {V : Type 0} (r : Router) (c : Catalog) (places : List (Contents V)) (ticked : ℕ) (last : Option PlaceAt) (turn : Turn) (found : Option PlaceAt) → IsCatalogCall c (catalog.NextUsed ticked) (catalog.At found) c
-    → Makes SoloMade (Turns (Ok found)) (standing r c places ticked last turn) (standing r c places (place_or ticked found) last turn)
-turned r c places ticked last turn found h = record {
+pub turned : {V : Type 0} (keeps : V → V → Type 0) (none : (v : V) → keeps v v) (r : Router) (c : Catalog) (places : List PlaceIn) (vols : List V) (ticked : ℕ) (last : Option PlaceAt) (turn : Turn) (found : Option PlaceAt) → IsCatalogCall c (catalog.NextUsed ticked) (catalog.At found) c
+    → Makes (SoloMade keeps) (Turns (Ok found)) (standing r c places vols ticked last turn) (standing r c places vols (place_or ticked found) last turn)
+turned keeps none r c places vols ticked last turn found h = record {
   entries = Turned ticked found ∷ [];
   are = (ticked, refl);
-  led = (((standing r c places (place_or ticked found) last turn).scene, (refl, h, refl), refl), refl);
+  led = (((standing r c places vols (place_or ticked found) last turn).scene, (refl, h, refl), refl), kept_none keeps none vols);
 }
 
-pub resumed : {V : Type 0} (r : Router) (c : Catalog) (places : List (Contents V)) (ticked : ℕ) (last : Option PlaceAt) (turn : Turn)
-    → Makes SoloMade (Resumes (Ok last)) (standing r c places ticked last turn) (standing r c places ticked last turn)
-resumed r c places ticked last turn = record {
+pub resumed : {V : Type 0} (keeps : V → V → Type 0) (none : (v : V) → keeps v v) (r : Router) (c : Catalog) (places : List PlaceIn) (vols : List V) (ticked : ℕ) (last : Option PlaceAt) (turn : Turn)
+    → Makes (SoloMade keeps) (Resumes (Ok last)) (standing r c places vols ticked last turn) (standing r c places vols ticked last turn)
+resumed keeps none r c places vols ticked last turn = record {
   entries = Resumed last ∷ [];
   are = refl;
-  led = (((standing r c places ticked last turn).scene, (refl, refl), refl), refl);
+  led = (((standing r c places vols ticked last turn).scene, (refl, refl), refl), kept_none keeps none vols);
 }

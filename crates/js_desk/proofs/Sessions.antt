@@ -1,7 +1,5 @@
 -- A hold opens no session and closes none.
-use Rattle.std.proofs.Common.{◌≡◌, ℕ, Bool, List, [], ◌∷◌, length, map, Option, None, sym, ap, ◌∙◌, inl, inr}
-use Rattle.std.specs.Prelude.{slice_set}
-use Rattle.std.proofs.lemmas.List.{length-map}
+use Rattle.std.proofs.Common.{◌≡◌, ℕ, Bool, List, [], ◌∷◌, length, Option, None, sym, ap, ◌∙◌, inl, inr}
 use Rattle.js_base.specs.Bytes.{Bytes}
 use Rattle.js_base.specs.declared.out.Out.{Out}
 use Rattle.js_model.specs.declared.desk.PlaceAt.{PlaceAt}
@@ -9,7 +7,7 @@ use Rattle.js_model.specs.Router.{Router, RouteTold, Routed as Answered, Interes
 use Rattle.js_model.specs.Catalog.{Catalog}
 use Rattle.js_model.specs.Routing.{KeepsOpen}
 use Rattle.route_core.proofs.Laws.{publish_keeps}
-use Rattle.place_engine.specs.InMemory.{Contents}
+use Rattle.js_model.specs.PlaceStates.{PlaceIn}
 use Rattle.js_api.specs.Entries.{Reading, entries_in, DeskEntry, Routed, Looked, Turned, Resumed, Held, Stirred, Halted, Missed, Spent}
 use Rattle.js_api.specs.Leading.{Leads}
 use Rattle.js_api.specs.Outputs.{outs_of}
@@ -17,9 +15,8 @@ use Rattle.desk_hold.specs.OnePlace.{OnPlace, PlaceStep}
 use Rattle.desk_hold.specs.Ports.{AreHeard, AreSent}
 use Rattle.desk_hold.proofs.Alone.{never}
 use Rattle.js_desk.specs.declared.turn.Turn.{Turn}
-use Rattle.js_desk.specs.Grounds.{place_in, setting_of, standing}
+use Rattle.js_desk.specs.Grounds.{setting_of, standing}
 use Rattle.js_desk.proofs.Routed.{opening_as}
-use Rattle.js_desk.proofs.Sets.{length_set}
 
 -- who listens is told, and nothing changes
 interest_same : (r new : Router) (subject : Bytes) (group : Option Bytes) (told : RouteTold) → IsRoute r (Interest subject group) told new → new ≡ r
@@ -59,11 +56,7 @@ module _ (at : PlaceAt) where
   hold_keeps (entry ∷ entries) old new h n = hold_keeps entries h.0 new h.2 n ∙ entry_keeps entry old h.0 h.1 n
 
 -- the same sessions are open, and there are as many places
-pub held_setting : {V : Type 0} (r router : Router) (c : Catalog) (places : List (Contents V)) (i : ℕ) (place : Contents V) (ticked : ℕ) (last later : Option PlaceAt) (turn after : Turn) → KeepsOpen r router
-    → setting_of (standing router c (slice_set places i place) ticked later after).scene ≡ setting_of (standing r c places ticked last turn).scene
-held_setting r router c places i place ticked last later turn after h =
-    let many : length (map place_in (slice_set places i place)) ≡ length (map place_in places) =
-    length-map (slice_set places i place) place_in ∙ length_set places i place ∙ sym (length-map places place_in)
-    in
-    ap (opening_as (length (map place_in (slice_set places i place)))) (λ j n. h n j)
-    ∙ ap (λ (k : ℕ). opening_as k (is_open r)) many
+pub held_setting : {V : Type 0} (r router : Router) (c : Catalog) (places after : List PlaceIn) (vols vols_after : List V) (ticked : ℕ) (last later : Option PlaceAt) (turn turn_after : Turn) → KeepsOpen r router
+    → length after ≡ length places → setting_of (standing router c after vols_after ticked later turn_after).scene ≡ setting_of (standing r c places vols ticked last turn).scene
+held_setting r router c places after vols vols_after ticked last later turn turn_after h many =
+    ap (opening_as (length after)) (λ j n. h n j) ∙ ap (λ (k : ℕ). opening_as k (is_open r)) many

@@ -5,7 +5,7 @@ use Rattle.std.proofs.lemmas.Bool.{eq-eqb, ne_eqb}
 use Rattle.js_base.specs.Bytes.{Bytes}
 use Rattle.js_model.specs.Catalog.{Catalog, Place, Used, edited, taken_by, on_used, changing, keeping, kept_list, freed, stopping}
 use Rattle.js_model.specs.Events.{kept_incarnation}
-use Rattle.place_engine.specs.InMemory.{Contents}
+use Rattle.js_model.specs.PlaceStates.{PlaceIn}
 use Rattle.js_desk.specs.declared.turn.Turn.{Turn}
 use Rattle.js_desk.specs.declared.turn.Turn.TheVariants as turns
 use Rattle.js_desk.specs.Grounds.{AreSingle, AreAgreed, HasOneList, is_between, told_incarnation}
@@ -14,9 +14,9 @@ use Rattle.js_desk.proofs.Edits.{edited_all}
 abbrev One : Turn → ℕ → Place → Type 0
 One turn n p = is_between turn n ≡ false → HasOneList p.used
 
-module _ {V : Type 0} (c : Catalog) (places : List (Contents V)) (place : ℕ) where
+module _ (c : Catalog) (places : List PlaceIn) (place : ℕ) where
   abbrev Agrees : Turn → ℕ → Place → Type 0
-  Agrees turn n p = (contents : Contents V) → slice_get places n ≡ Some contents → told_incarnation turn n p ≡ kept_incarnation contents.state
+  Agrees turn n p = (contents : PlaceIn) → slice_get places n ≡ Some contents → contents.stopped ≡ None → told_incarnation turn n p ≡ kept_incarnation contents.state
 
   -- ---- a new stream
 
@@ -74,8 +74,8 @@ module _ {V : Type 0} (c : Catalog) (places : List (Contents V)) (place : ℕ) w
   pub freed_agreed : (dropped : Bool) → AreAgreed (before dropped) c places → AreAgreed turns.Within (edited (freed dropped) place c) places
   freed_agreed true h = λ n p contents there stands.
       edited_all (freed true) place c (Agrees (turns.Owing place)) (Agrees turns.Within) (λ m q is x y. h m q x is y)
-      (λ q agrees x y. sym (ap (λ (b : Bool). if b then q.incarnation + 1 else q.incarnation) at_place) ∙ agrees x y)
-      (λ m q other agrees x y. sym (ap (λ (b : Bool). if b then q.incarnation + 1 else q.incarnation) (ne_eqb place m other)) ∙ agrees x y) n p there contents stands
+      (λ q agrees x y going. sym (ap (λ (b : Bool). if b then q.incarnation + 1 else q.incarnation) at_place) ∙ agrees x y going)
+      (λ m q other agrees x y going. sym (ap (λ (b : Bool). if b then q.incarnation + 1 else q.incarnation) (ne_eqb place m other)) ∙ agrees x y going) n p there contents stands
   freed_agreed false h = λ n p contents there stands.
       edited_all (freed false) place c (Agrees turns.Within) (Agrees turns.Within) (λ m q is x y. h m q x is y) (λ q agrees. agrees) (λ m q other agrees. agrees) n p there contents stands
 
@@ -88,4 +88,4 @@ module _ {V : Type 0} (c : Catalog) (places : List (Contents V)) (place : ℕ) w
 
   pub stopped_agreed : (turn : Turn) → ((n : ℕ) (p : Place) → told_incarnation turn n p ≡ p.incarnation) → AreAgreed turn c places → AreAgreed turns.Within (edited (on_used stopping) place c) places
   stopped_agreed turn none h = λ n p contents there stands.
-      edited_all (on_used stopping) place c (Agrees turn) (Agrees turns.Within) (λ m q is x y. h m q x is y) (λ q agrees x y. sym (none place q) ∙ agrees x y) (λ m q other agrees x y. sym (none m q) ∙ agrees x y) n p there contents stands
+      edited_all (on_used stopping) place c (Agrees turn) (Agrees turns.Within) (λ m q is x y. h m q x is y) (λ q agrees x y going. sym (none place q) ∙ agrees x y going) (λ m q other agrees x y going. sym (none m q) ∙ agrees x y going) n p there contents stands

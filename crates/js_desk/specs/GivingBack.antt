@@ -1,8 +1,8 @@
 -- Why a desk was not opened, and what is left of it.
-use Rattle.std.specs.Prelude.{◌≡◌, List, length, None}
-use Rattle.std.specs.List.{All}
-use Rattle.js_model.specs.PlaceStates.{PlaceIn, untold}
+use Rattle.std.specs.Prelude.{◌≡◌, List, map}
+use Rattle.place_engine.specs.Stepping.{Seen}
 use Rattle.js_api.specs.Worlds.{World}
+use Rattle.js_desk.specs.Grounds.{places_by}
 use Rattle.js_desk.specs.declared.faults.Closed.{Closed}
 use Rattle.js_desk.specs.declared.faults.HubFault.{HubFault}
 use Rattle.js_desk.specs.declared.faults.HubFault.TheVariants as faults
@@ -13,10 +13,8 @@ GivesBack vols (faults.NoMemory back) = back.items ≡ vols
 GivesBack vols (faults.Open place reason back) = ⊥
 GivesBack vols (faults.Conflict first second back) = ⊥
 
--- What is left of the world at the closing: a volume for each place, in their order. In memory a place has its stream beside its volume, and never calls that:
--- no place is ever stopped, nothing is told of a volume, and no message counts against a store.
-pub record Closes {V : Type 0} (world : World) (closed : Closed V) : Type 0 where
-  pub count : length closed.vols.items ≡ length world.places
-  pub going : closed.failed ≡ None → All (λ (place : PlaceIn). place.stopped ≡ None) world.places
-  pub unmoved : All (λ (place : PlaceIn). place.volume ≡ untold) world.places
-  pub unstored : All (λ (place : PlaceIn). place.stored ≡ 0) world.places
+-- What is left of the world at the closing: the places that stand in it, in their order, have these volumes.
+pub record Closes {P V : Type 0} (seen : P → Seen) (vol : P → V) (world : World) (closed : Closed V) : Type 0 where
+  pub row : List P
+  pub stand : places_by seen row ≡ world.places
+  pub vols : closed.vols.items ≡ map vol row

@@ -1,13 +1,12 @@
 -- What contracts see of the ground of one caller, and what holds of it.
 use Rattle.std.specs.Prelude.{◌≡◌, ◌≤◌, ◌<◌, ◌+◌, ◌==◌, ℕ, Bool, true, false, List, [], ◌∷◌, map, length, Option, None, Some, IsNone, IfSome, Result, Ok, Err, slice_get, if◌then◌else◌}
-use Rattle.js_model.specs.declared.stream.State.TheVariants.{Vacant}
 use Rattle.js_model.specs.declared.desk.PlaceAt.{PlaceAt}
 use Rattle.js_model.specs.declared.catalog_fault.CatalogFault.{CatalogFault}
 use Rattle.js_model.specs.Catalog.{Catalog, Used, Place}
 use Rattle.js_model.specs.Events.{kept_incarnation}
-use Rattle.js_model.specs.PlaceStates.{PlaceIn, in_memory}
+use Rattle.js_model.specs.PlaceStates.{PlaceIn, vacant_place}
 use Rattle.js_model.specs.Router.{Router, is_open}
-use Rattle.place_engine.specs.InMemory.{Contents}
+use Rattle.place_engine.specs.Stepping.{Seen}
 use Rattle.js_api.specs.declared.outcome.Became.{Became}
 use Rattle.js_api.specs.declared.outcome.Became.TheVariants.{Made, Unsaid, Ticked, Nothing, Broke, Stopped, Gone}
 use Rattle.js_api.specs.Entries.{DeskEntry}
@@ -24,14 +23,16 @@ pub record Standing (V : Type 0) : Type 0 where
   pub vols : List V
   pub phase : Phase
 
-abbrev pub place_in : {V : Type 0} → Contents V → PlaceIn
-place_in contents = in_memory contents.state
+-- the places of a row, as their kind shows them
+abbrev pub places_by : {P : Type 0} → (P → Seen) → List P → List PlaceIn
+places_by seen row = map (λ p. (seen p).place) row
 
-abbrev pub vol_of : {V : Type 0} → Contents V → V
-vol_of contents = contents.vol
-
-abbrev pub volumes : {V : Type 0} → List (Contents V) → List V
-volumes places = map vol_of places
+-- the volumes of a row of places after some calls: each is what a call may make of the one before
+abbrev pub AreKept : {V : Type 0} → (V → V → Type 0) → List V → List V → Type 0
+AreKept keeps [] [] = Unit {0}
+AreKept keeps [] (new ∷ news) = ⊥
+AreKept keeps (old ∷ olds) [] = ⊥
+AreKept keeps (old ∷ olds) (new ∷ news) = keeps old new × AreKept keeps olds news
 
 abbrev pub phase_of : Turn → Phase
 phase_of turns.Outside = phases.Outside
@@ -39,19 +40,19 @@ phase_of turns.Within = phases.Within
 phase_of (turns.Between place) = phases.Between place
 phase_of (turns.Owing place) = phases.Owing place
 
-abbrev pub standing : {V : Type 0} → Router → Catalog → List (Contents V) → ℕ → Option PlaceAt → Turn → Standing V
-standing router catalog places ticked last turn = record {
+abbrev pub standing : {V : Type 0} → Router → Catalog → List PlaceIn → List V → ℕ → Option PlaceAt → Turn → Standing V
+standing router catalog places vols ticked last turn = record {
   scene = record {
-    world = record { router = router; catalog = catalog; places = map place_in places };
+    world = record { router = router; catalog = catalog; places = places };
     cursor = record { ticked = ticked; last = last };
   };
-  vols = volumes places;
+  vols = vols;
   phase = phase_of turn;
 }
 
--- entries lead from the one ground to the other, which keeps its volumes
-abbrev pub SoloMade : {V : Type 0} → Standing V → List DeskEntry → Standing V → Type 0
-SoloMade old entries new = Leads SoloStep old.scene entries new.scene × (new.vols ≡ old.vols)
+-- entries lead from the one ground to the other, whose volumes are what the calls of its places may make of those from before
+abbrev pub SoloMade : {V : Type 0} → (V → V → Type 0) → Standing V → List DeskEntry → Standing V → Type 0
+SoloMade keeps old entries new = Leads SoloStep old.scene entries new.scene × AreKept keeps old.vols new.vols
 
 -- which sessions are open, and how many places there are
 abbrev pub setting_of : Scene → Setting
@@ -86,24 +87,24 @@ told_incarnation turn n place = if is_owing turn n then place.incarnation + 1 el
 abbrev pub AreSingle : Turn → Catalog → Type 0
 AreSingle turn catalog = (n : ℕ) (place : Place) → slice_get catalog n ≡ Some place → is_between turn n ≡ false → HasOneList place.used
 
--- and the place keeps the incarnation that the catalog keeps
-abbrev pub AreAgreed : {V : Type 0} → Turn → Catalog → List (Contents V) → Type 0
+-- and the place keeps the incarnation that the catalog keeps, unless it is stopped
+abbrev pub AreAgreed : Turn → Catalog → List PlaceIn → Type 0
 AreAgreed turn catalog places =
-    (n : ℕ) (place : Place) (contents : Contents _) → slice_get catalog n ≡ Some place → slice_get places n ≡ Some contents
-    → told_incarnation turn n place ≡ kept_incarnation contents.state
+    (n : ℕ) (place : Place) (there : PlaceIn) → slice_get catalog n ≡ Some place → slice_get places n ≡ Some there → there.stopped ≡ None
+    → told_incarnation turn n place ≡ kept_incarnation there.state
 
 -- at most 32 places, each with its entry in the catalog, and the last hold was at one of them
-pub record IsGrounded {V : Type 0} (catalog : Catalog) (places : List (Contents V)) (last : Option PlaceAt) (turn : Turn) : Type 0 where
+pub record IsGrounded (catalog : Catalog) (places : List PlaceIn) (last : Option PlaceAt) (turn : Turn) : Type 0 where
   pub few : length places ≤ 32
   pub same : length catalog ≡ length places
   pub single : AreSingle turn catalog
   pub agreed : AreAgreed turn catalog places
   pub within : IfSome last (λ at. at.place < length places)
 
--- places that never had a stream
-abbrev pub AreFresh : {V : Type 0} → List (Contents V) → Type 0
+-- places that never had a stream, and that nothing stopped
+abbrev pub AreFresh : List PlaceIn → Type 0
 AreFresh [] = Unit {0}
-AreFresh (place ∷ places) = (place.state ≡ Vacant 0) × AreFresh places
+AreFresh (place ∷ places) = (place ≡ vacant_place) × AreFresh places
 
 -- ---- the turn after a call
 

@@ -9,8 +9,9 @@ ghost use Rattle.js_api.specs.Leading.{Leads, Makes, leads_more, leads_nothing};
 ghost use Rattle.js_api.specs.Making.{MakesStream};
 ghost use Rattle.js_api.specs.Worlds.{SoloStep, opening};
 ghost use Rattle.js_desk.specs.GivingBack.{Closes, GivesBack};
+ghost use Rattle.js_desk.specs.Grounds.{AreKept};
 ghost use Rattle.js_desk.specs.Solo.{DeskMade, frames_left};
-ghost use Rattle.std.proofs.Common.{refl, ◌∙◌};
+ghost use Rattle.js_desk.specs.Kept.{kept_more, kept_none};
 
 use crate::faults::{Closed, HubFault};
 use crate::solo_ground::SoloGround;
@@ -23,33 +24,34 @@ use desk_streams::make_stream;
 use js_api::{Desk, DeskFault};
 use js_base::{ApiError, Moment, Name, Out};
 use js_model::{Collected, Taken};
+use place_engine::{MemoryPlace, Place};
 use std::alloc::Global;
 use std::marker::Model;
 
 /// A desk with its own router, catalog and places, one for each volume.
 #[derive(Drop)]
-pub struct SoloDesk<V> {
-    ground: SoloGround<V>,
+pub struct SoloDesk<P: Place> {
+    ground: SoloGround<P>,
     /// The client of its session.
     caller: Caller,
     /// Empty, with room for the volumes at the end.
-    vols: Vec<V>,
+    vols: Vec<P::Vol>,
 }
 
-impl<V> Model for SoloDesk<V> {
+impl<P: Place> Model for SoloDesk<P> {
     ghost use Rattle.std.specs.Prelude.{vec_capacity};
     ghost use Rattle.js_desk.specs.Solo.{Solo, solo, IsConsistent};
 
-    ghost Value = { Solo V };
+    ghost Value = { Solo P.Vol };
 
     ghost view = { λ desk. solo desk.ground desk.caller };
 
     ghost invariant = { λ desk. IsConsistent desk.ground desk.caller desk.vols.items (vec_capacity desk.vols) };
 }
 
-impl<V> SoloDesk<V> {
+impl<V> SoloDesk<MemoryPlace<V>> {
     /// Opens a place on each volume, at most 32, in their order. No stream is there, and no session was opened. An `Err` gives the volumes back.
-    pub fn open(alloc: Global, vols: Vec<V>) -> Result<SoloDesk<V>, HubFault<V>>
+    pub fn open(alloc: Global, vols: Vec<V>) -> Result<SoloDesk<MemoryPlace<V>>, HubFault<V>>
         requires few { length vols.items ≤ 32 }
         ensures scene { IfOk result (λ desk. desk.scene ≡ opening (replicate (length vols.items) vacant_place)) }
         ensures vols { IfOk result (λ desk. desk.vols ≡ vols.items) }
@@ -74,7 +76,9 @@ impl<V> SoloDesk<V> {
             Err(_) => Err(HubFault::NoMemory { vols }),
         }
     }
+}
 
+impl<P: Place> SoloDesk<P> {
     /// Makes the stream of this name and this one subject, with every default of JetStream, and answers why it was not made. A
     /// stream of this name that is there is left as it is. It needs no session. An `Err` leaves open whether the stream was made; in memory it is
     /// `NoMemory`.
@@ -86,18 +90,17 @@ impl<V> SoloDesk<V> {
     ) -> Result<Option<ApiError>, DeskFault>
         requires subject { IsTrue (is_stream_subject subject.now) }
         ensures made { Makes (λ old entries new. Leads SoloStep old entries new) (MakesStream name.now (default_config name.now subject.now) now result) self.old.scene self.new.scene }
-        ensures vols { self.new.vols ≡ self.old.vols }
+        ensures vols { AreKept P.keeps_vol self.old.vols self.new.vols }
         ensures client { self.new.client ≡ self.old.client }
     {
         make_stream(&mut self.ground, name, subject, now)
     }
 
-    /// Gives the volumes back, in their order. In memory nothing has to be brought to them, and so nothing fails. The world at the closing is that of
-    /// `self`.
-    pub fn close_all(self) -> Closed<V>
+    /// Gives the volumes back, in their order, as the places in the world at the closing, which is that of `self`, have them.
+    pub fn close_all(self) -> Closed<P::Vol>
         ensures vols { result.vols.items ≡ self.vols }
         ensures failed { result.failed ≡ None }
-        ensures closes { Closes self.scene.world result }
+        ensures closes { Closes P.seen P.vol self.scene.world result }
     {
         let SoloDesk {
             ground,
@@ -112,10 +115,10 @@ impl<V> SoloDesk<V> {
     }
 }
 
-impl<V> Desk for SoloDesk<V> {
+impl<P: Place> Desk for SoloDesk<P> {
     ghost client = { λ desk. desk.client };
 
-    ghost made = { λ old entries new. DeskMade old entries new };
+    ghost made = { λ old entries new. DeskMade P.keeps_vol old entries new };
 
     ghost left = { λ desk. frames_left desk };
 
@@ -165,7 +168,7 @@ impl<V> Desk for SoloDesk<V> {
         closed
     }
 
-    ghost made_nothing = { λ desk. (leads_nothing SoloStep desk.scene, refl) };
+    ghost made_nothing = { λ desk. (leads_nothing SoloStep desk.scene, kept_none P.keeps_vol P.keeps_none desk.vols) };
 
-    ghost made_more = { λ a b c first more h k. (leads_more SoloStep a.scene b.scene c.scene first more h.0 k.0, k.1 ∙ h.1) };
+    ghost made_more = { λ a b c first more h k. (leads_more SoloStep a.scene b.scene c.scene first more h.0 k.0, kept_more P.keeps_vol P.keeps_more a.vols b.vols c.vols h.1 k.1) };
 }

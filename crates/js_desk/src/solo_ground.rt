@@ -8,7 +8,8 @@ ghost use Rattle.js_model.specs.Cataloging.{add_told};
 ghost use Rattle.js_model.specs.Routing.{waiting_for};
 ghost use Rattle.std.proofs.Common.{refl, ◌∙◌};
 ghost use Rattle.js_desk.specs.Dropping.{is_drop};
-ghost use Rattle.js_desk.specs.Grounds.{AreFresh, SoloMade, is_held, place_in, setting_of, volumes};
+ghost use Rattle.js_desk.specs.Grounds.{AreFresh, SoloMade, is_held, places_by, setting_of};
+ghost use Rattle.js_desk.specs.Kept.{kept_more, kept_none};
 ghost use Rattle.desk_ground.specs.Grounds.{Outside};
 ghost use Rattle.desk_answers.specs.Became.{is_dropped};
 
@@ -20,18 +21,18 @@ use desk_hold::hold_on;
 use js_api::{Became, DeskFault, Outcome};
 use js_base::{Blob, Moment, Name, Out};
 use js_model::{CatalogFault, Collected, LAST_PLACE, PlaceAt, Reply, What};
-use place_engine::{MemoryPlace, Place};
+use place_engine::Place;
 use route_core::Router;
 use std::alloc::Global;
 use std::marker::Model;
 
 /// A router, a catalog and its places, at most 32.
 #[derive(Drop)]
-pub struct SoloGround<V> {
+pub struct SoloGround<P: Place> {
     alloc: Global,
     router: Router,
     catalog: Catalog,
-    places: Vec<MemoryPlace<V>>,
+    places: Vec<P>,
     /// The place of the last tick.
     ticked: u32,
     /// The place of the last hold, with the incarnation that was asked for there.
@@ -39,14 +40,15 @@ pub struct SoloGround<V> {
     turn: Turn,
 }
 
-impl<V> Model for SoloGround<V> {
-    ghost use Rattle.js_desk.specs.Grounds.{Standing, standing, IsGrounded};
+impl<P: Place> Model for SoloGround<P> {
+    ghost use Rattle.std.specs.Prelude.{map};
+    ghost use Rattle.js_desk.specs.Grounds.{Standing, standing, places_by, IsGrounded};
 
-    ghost Value = { Standing V };
+    ghost Value = { Standing P.Vol };
 
-    ghost view = { λ ground. standing ground.router ground.catalog ground.places.items ground.ticked ground.last ground.turn };
+    ghost view = { λ ground. standing ground.router ground.catalog (places_by P.seen ground.places.items) (map P.vol ground.places.items) ground.ticked ground.last ground.turn };
 
-    ghost invariant = { λ ground. IsGrounded ground.catalog ground.places.items ground.last ground.turn };
+    ghost invariant = { λ ground. IsGrounded ground.catalog (places_by P.seen ground.places.items) ground.last ground.turn };
 }
 
 /// Whether a stream was dropped by what became so, if that was asked.
@@ -108,14 +110,14 @@ fn add_named(catalog: &mut Catalog, name: &Name, subjects: &[Blob]) -> Result<Pl
     }
 }
 
-impl<V> SoloGround<V> {
+impl<P: Place> SoloGround<P> {
     /// A ground without sessions, of places that never had a stream.
-    pub fn of(alloc: Global, catalog: Catalog, places: Vec<MemoryPlace<V>>) -> SoloGround<V>
+    pub fn of(alloc: Global, catalog: Catalog, places: Vec<P>) -> SoloGround<P>
         requires few { length places.items ≤ 32 }
-        requires fresh { AreFresh places.items }
+        requires fresh { AreFresh (places_by P.seen places.items) }
         requires catalog { catalog ≡ replicate (length places.items) new_place }
-        ensures scene { result.scene ≡ opening (map place_in places.items) }
-        ensures vols { result.vols ≡ volumes places.items }
+        ensures scene { result.scene ≡ opening (places_by P.seen places.items) }
+        ensures vols { result.vols ≡ map P.vol places.items }
         ensures outside { result.phase ≡ Outside }
     {
         SoloGround {
@@ -131,9 +133,9 @@ impl<V> SoloGround<V> {
     }
 
     /// The places, in their order.
-    pub fn into_places(self) -> Vec<MemoryPlace<V>>
-        ensures places { map place_in result.items ≡ self.scene.world.places }
-        ensures vols { volumes result.items ≡ self.vols }
+    pub fn into_places(self) -> Vec<P>
+        ensures places { places_by P.seen result.items ≡ self.scene.world.places }
+        ensures vols { map P.vol result.items ≡ self.vols }
         ensures few { length result.items ≤ 32 }
     {
         let SoloGround {
@@ -149,8 +151,8 @@ impl<V> SoloGround<V> {
     }
 }
 
-impl<V> Ground for SoloGround<V> {
-    ghost made = { λ old entries new. SoloMade old entries new };
+impl<P: Place> Ground for SoloGround<P> {
+    ghost made = { λ old entries new. SoloMade P.keeps_vol old entries new };
 
     ghost setting = { λ ground. setting_of ground.scene };
 
@@ -284,7 +286,7 @@ impl<V> Ground for SoloGround<V> {
         outcome
     }
 
-    ghost made_nothing = { λ ground. (leads_nothing SoloStep ground.scene, refl) };
+    ghost made_nothing = { λ ground. (leads_nothing SoloStep ground.scene, kept_none P.keeps_vol P.keeps_none ground.vols) };
 
-    ghost made_more = { λ a b c first more h k. (leads_more SoloStep a.scene b.scene c.scene first more h.0 k.0, k.1 ∙ h.1) };
+    ghost made_more = { λ a b c first more h k. (leads_more SoloStep a.scene b.scene c.scene first more h.0 k.0, kept_more P.keeps_vol P.keeps_more a.vols b.vols c.vols h.1 k.1) };
 }

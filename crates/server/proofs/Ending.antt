@@ -15,7 +15,6 @@ use Rattle.link_edge.specs.declared.failings.Failings.{Failings}
 use Rattle.link_edge.specs.declared.failings.Starved.{Starved}
 use Rattle.js_api.specs.declared.fault.DeskFault.{DeskFault}
 use Rattle.js_api.specs.Worlds.{Scene}
-use Rattle.js_desk.specs.GivingBack.{Closes}
 use Rattle.js_desk.specs.Solo.{Solo, DeskMade}
 use Rattle.js_desk.specs.declared.faults.Closed.{Closed}
 use Rattle.session.specs.Failing.{FailsBy, FailsAt}
@@ -30,7 +29,7 @@ use Rattle.server.specs.declared.words.Command.{Command}
 use Rattle.server.specs.declared.words.Command.TheVariants.{Pipe}
 use Rattle.server.specs.Outside.{DoorTold, SinkTold, Outside}
 use Rattle.server.specs.Accepting.{IsAccepted, IsQuiet, NoneStarves, OneStarves}
-use Rattle.server.specs.Running.{IsUnserved, WasClosed, HasFailed, WasQuiet, HasStarved, WasUnasked, IsGivenBack, Waits, Unmakes, Attends, Unmade, Awaited, IsUnmade, PipeEnds, Unopened, Attended, CommandEnds, opened_of, pipe_limits, status_of}
+use Rattle.server.specs.Running.{IsUnserved, WasClosed, HasFailed, WasQuiet, HasStarved, WasUnasked, IsGivenBack, Waits, Unmakes, Attends, Unmade, Awaited, IsUnmade, ClosesInMemory, PipeEnds, Unopened, Attended, CommandEnds, opened_of, pipe_limits, status_of}
 use Rattle.server.proofs.Arriving.{told_whole}
 
 -- ---- the status
@@ -134,12 +133,12 @@ failed_whole last ended None (Some failings) fresh h = absurd (none_told last en
 failed_whole last ended (Some first) (Some failings) fresh h = subst (λ (o : Option Failings). FailsAt last ended o (Some failings)) fresh h
 
 -- a fresh link was served, and came back
-pub given_back : {V : Type 0} (limits : Limits) (desk new : Solo V) (ended : Ended) (status : ℕ) (a0 a1 : Option (List Answer)) (g0 g1 : Option Bytes) (n0 n1 : Option Failings) (f0 f1 : ℕ)
+pub given_back : {V : Type 0} (keeps : V → V → Type 0) (limits : Limits) (desk new : Solo V) (ended : Ended) (status : ℕ) (a0 a1 : Option (List Answer)) (g0 g1 : Option Bytes) (n0 n1 : Option Failings) (f0 f1 : ℕ)
     (gave : Option ℕ) (b0 b1 : Option (List Report)) (c0 c1 : Option (List ℕ))
-    → Serves DeskMade limits desk new a0 a1 g0 g1 c0 c1 n0 n1 ended → IsFresh a0 g0 n0 f0 → HasCause f0 f1 (ended ≡ ends.LinkFault)
+    → Serves (DeskMade keeps) limits desk new a0 a1 g0 g1 c0 c1 n0 n1 ended → IsFresh a0 g0 n0 f0 → HasCause f0 f1 (ended ≡ ends.LinkFault)
     → (HasOut gave b0 → b1 ≡ grown b0 (record { answered = a1; given = g1; failings = n1; faults = f1 } ∷ [])) → status ≡ status_of ended
     → IsGivenBack limits desk.scene new.scene status gave b0 b1 c0 c1
-given_back limits desk new ended status a0 a1 g0 g1 n0 n1 f0 f1 gave b0 b1 c0 c1 s fresh cause back e = record {
+given_back keeps limits desk new ended status a0 a1 g0 g1 n0 n1 f0 f1 gave b0 b1 c0 c1 s fresh cause back e = record {
   report = record { answered = a1; given = g1; failings = n1; faults = f1 };
   back = back;
   served = record {
@@ -197,7 +196,7 @@ module _ (scene : Scene) (a0 a1 : Option (List Accepted)) (g0 g1 : Option ℕ) (
 
 -- the desk was closed as it was left
 pub attended : {V : Type 0} (stream : Option NamedStream) (status : ℕ) (held v0 v1 : List V) (after : Scene) (closed : Closed V) (old new : Outside)
-    → held ≡ v0 → v1 ≡ v0 → Attends (opened_of held) stream after status old new → Closes after.world closed → closed.failed ≡ None → closed.vols.items ≡ v1
+    → held ≡ v0 → v1 ≡ v0 → Attends (opened_of held) stream after status old new → ClosesInMemory after.world closed → closed.failed ≡ None → closed.vols.items ≡ v1
     → PipeEnds (opened_of v0) stream status None v0 v1 old new
 attended stream status held v0 v1 after closed old new same kept attends closes failed vols =
     subst (λ (v : List _). PipeEnds (opened_of v) stream status None v0 v1 old new) same (Attended (record {

@@ -1,10 +1,11 @@
 -- What a run of the program answers, and why.
 use Rattle.std.specs.Prelude.{◌≡◌, ℕ, ◌+◌, Bool, true, false, ◌&&◌, ◌==◌, ◌⊎◌, List, [], ◌∷◌, length, replicate, Option, Some, None, IfSome, codes, option_map, Result, Ok, Err, if◌then◌else◌}
+use Rattle.std.specs.List.{All}
 use mathlib.Core.Logic.{inl, inr}
 use Rattle.js_base.specs.Bytes.{Bytes}
 use Rattle.js_base.specs.Causes.{Rose}
 use Rattle.js_base.specs.declared.out.ApiError.{ApiError}
-use Rattle.js_model.specs.PlaceStates.{PlaceIn, vacant_place}
+use Rattle.js_model.specs.PlaceStates.{PlaceIn, untold, vacant_place}
 use Rattle.link_edge.specs.Told.{grown}
 use Rattle.link_edge.specs.Moments.{ReadsMoments}
 use Rattle.link_edge.specs.Failings.{no_failings}
@@ -15,7 +16,6 @@ use Rattle.place_engine.specs.declared.faults.PlaceFault.TheVariants as faults
 use Rattle.js_api.specs.declared.fault.DeskFault.{DeskFault}
 use Rattle.js_api.specs.Leading.{Leads}
 use Rattle.js_api.specs.Worlds.{World, Scene, SoloStep}
-use Rattle.js_desk.specs.GivingBack.{Closes}
 use Rattle.js_desk.specs.declared.faults.Closed.{Closed}
 use Rattle.session.specs.Failing.{FailsAt}
 use Rattle.session.specs.Stopping.{end_of_fault}
@@ -155,10 +155,18 @@ abbrev pub closing_status : Bool → ℕ → Option (ℕ × PlaceFault) → ℕ
 closing_status served status None = status
 closing_status served status (Some failed) = status_with served status (flush_status failed.1)
 
+-- What is left of the world at the closing: a volume for each place, in their order. In memory a place has its stream beside its volume, and never calls that:
+-- no place is ever stopped, nothing is told of a volume, and no message counts against a store.
+pub record ClosesInMemory {V : Type 0} (world : World) (closed : Closed V) : Type 0 where
+  pub count : length closed.vols.items ≡ length world.places
+  pub going : closed.failed ≡ None → All (λ (place : PlaceIn). place.stopped ≡ None) world.places
+  pub unmoved : All (λ (place : PlaceIn). place.volume ≡ untold) world.places
+  pub unstored : All (λ (place : PlaceIn). place.stored ≡ 0) world.places
+
 -- the desk was closed in this world: its volumes came back, and that is what failed
 pub record IsClosed {V : Type 0} (world : World) (failed : Option (ℕ × PlaceFault)) (vols : List V) : Type 0 where
   pub closed : Closed V
-  pub closes : Closes world closed
+  pub closes : ClosesInMemory world closed
   pub failed_is : closed.failed ≡ failed
   pub vols_are : closed.vols.items ≡ vols
 

@@ -11,10 +11,11 @@ use js_api::DeskFault;
 use js_base::ApiError;
 use js_desk::SoloDesk;
 use link_edge::Clock;
+use place_engine::MemoryPlace;
 
 /// Makes the stream in a desk that was just opened, if one is named, and answers why not. The clock is read for that alone.
 pub fn prepare<V, C: Clock>(
-    desk: &mut SoloDesk<V>,
+    desk: &mut SoloDesk<MemoryPlace<V>>,
     stream: &Option<NamedStream>,
     clock: &mut C,
 ) -> Result<Option<ApiError>, DeskFault>

@@ -14,6 +14,7 @@ use crate::serving::{serve_first, status_of};
 use crate::words::{Command, NamedStream, WordsFault, read_words};
 use js_desk::{Closed, HubFault, SoloDesk};
 use link_edge::{Clock, Door, Gate, Sink};
+use place_engine::MemoryPlace;
 use session::Ended;
 use std::alloc::Global;
 
@@ -28,7 +29,7 @@ pub struct Finish<R, V> {
 /// Makes the stream over a desk that was just opened, and serves the first link that comes.
 fn attend<R: Door, V, C: Clock, O: Sink>(
     alloc: Global,
-    desk: &mut SoloDesk<V>,
+    desk: &mut SoloDesk<MemoryPlace<V>>,
     stream: &Option<NamedStream>,
     door: &mut R,
     clock: &mut C,

@@ -11,6 +11,7 @@ ghost use Rattle.server.specs.Running.{pipe_limits, status_of, IsGivenBack, Wait
 use js_base::{Blob, NoMemory};
 use js_desk::SoloDesk;
 use link_edge::{Accept, Clock, Door};
+use place_engine::MemoryPlace;
 use session::{Ended, Limits, serve_link};
 use std::alloc::Global;
 
@@ -63,7 +64,7 @@ fn accept<R: Door>(door: &mut R) -> Accept<R::Link>
 /// Serves a fresh link over the desk, and gives it back to the door.
 fn serve<R: Door, V, C: Clock>(
     alloc: Global,
-    desk: &mut SoloDesk<V>,
+    desk: &mut SoloDesk<MemoryPlace<V>>,
     door: &mut R,
     link: R::Link,
     clock: &mut C,
@@ -90,7 +91,7 @@ fn serve<R: Door, V, C: Clock>(
 /// Serves the first link that comes over the desk, and returns the status.
 pub fn serve_first<R: Door, V, C: Clock>(
     alloc: Global,
-    desk: &mut SoloDesk<V>,
+    desk: &mut SoloDesk<MemoryPlace<V>>,
     door: &mut R,
     clock: &mut C,
 ) -> u8

@@ -1,12 +1,11 @@
-use Rattle.std.proofs.Common.{◌≡◌, ◌+◌, ◌≤◌, ◌++◌, vec_len}
+use Rattle.std.proofs.Common.{◌≡◌, ◌+◌, ◌≤◌, ◌++◌, map, vec_len}
 use Rattle.std.specs.Prelude.{reverse, vec_capacity}
-use Rattle.js_desk.specs.Grounds.{volumes}
 use Rattle.js_desk.proofs.volumes.give_back.Given as goal
 
 -- those that came back, and those to come, and room for these
 abbrev pub invariant-loop-places : goal.invariant-loop-places
 invariant-loop-places g l = record {
-  back : l.vols.items ++ reverse (volumes l.places.items) ≡ l.fn.vols.items ++ reverse (volumes l.initial.places.items);
+  back : l.vols.items ++ reverse (map g.P.Place.vol l.places.items) ≡ l.fn.vols.items ++ reverse (map g.P.Place.vol l.initial.places.items);
   room : vec_len l.vols + vec_len l.places ≤ vec_capacity l.vols;
 }
 

@@ -1,4 +1,5 @@
-use Rattle.std.proofs.Common.{arith}
+use Rattle.std.proofs.Common.{arith, ap}
+use Rattle.js_model.specs.PlaceStates.{in_memory}
 use Rattle.js_desk.proofs.GivenBack.{one_opened, fresh_more}
 use Rattle.js_desk.proofs.volumes.open_reversed.Goals as goal
 
@@ -6,8 +7,8 @@ pub loop-alloc-preserved : goal.loop-alloc-preserved
 loop-alloc-preserved g c = record {
   opened =
       rw c.push_reserved.ensures.items
-      (one_opened _ _ _ c.loop-alloc.places.items c.in-Ok.place c.take_last.result c.take_last.ensures.items c.in-Ok.ensures.vol c.loop-alloc.invariant.opened);
-  fresh = rw c.push_reserved.ensures.items (fresh_more _ _ c.loop-alloc.invariant.fresh c.in-Ok.ensures.opened);
+      (one_opened (λ p. p.vol) _ _ _ c.loop-alloc.places.items c.in-Ok.place c.take_last.result c.take_last.ensures.items c.in-Ok.ensures.vol c.loop-alloc.invariant.opened);
+  fresh = rw c.push_reserved.ensures.items (fresh_more (λ p. in_memory p.state) _ _ c.loop-alloc.invariant.fresh (ap in_memory c.in-Ok.ensures.opened));
   ahead = omega arith;
   back = omega arith;
 }

@@ -3,4 +3,4 @@ use Rattle.js_desk.proofs.Solos.{kept_consistent}
 use Rattle.js_desk.proofs.solo_desk.SoloDesk.make_stream.Goals as goal
 
 pub invariant_of-self : goal.invariant_of-self
-invariant_of-self g c = kept_consistent c.self.inside.ground c.make_stream.new.ground c.self.inside.caller c.self.inside.caller _ _ c.self.invariant c.make_stream.ensures.setting c.make_stream.ensures.phase c.make_stream.ensures.made.led.1 refl refl
+invariant_of-self g c = kept_consistent _ c.self.inside.ground c.make_stream.new.ground c.self.inside.caller c.self.inside.caller _ _ c.self.invariant c.make_stream.ensures.setting c.make_stream.ensures.phase c.make_stream.ensures.made.led.1 refl refl

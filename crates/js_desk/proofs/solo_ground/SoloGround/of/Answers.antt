@@ -1,8 +1,13 @@
+use Rattle.std.proofs.Common.{map, sym}
+use Rattle.std.proofs.lemmas.List.{length-map}
+use Rattle.js_desk.specs.Grounds.{places_by}
 use Rattle.js_desk.proofs.Opened.{opened_grounded, opened_scene}
 use Rattle.js_desk.proofs.solo_ground.SoloGround.of.Goals as goal
 
 pub returns-clause-scene : goal.returns-clause-scene
-returns-clause-scene g c = rw c.new.ensures.empty (opened_scene c.args.places.items c.args.catalog c.requires.catalog c.requires.fresh)
+returns-clause-scene g c =
+    rw c.new.ensures.empty (opened_scene (places_by g.P.Place.seen c.args.places.items) (map g.P.Place.vol c.args.places.items) c.args.catalog _ c.requires.catalog (sym (length-map c.args.places.items (λ p. (g.P.Place.seen p).place))) c.requires.fresh)
 
 pub invariant_of-result : goal.invariant_of-result
-invariant_of-result g c = opened_grounded c.args.places.items c.args.catalog c.requires.catalog c.requires.fresh c.requires.few
+invariant_of-result g c =
+    opened_grounded (places_by g.P.Place.seen c.args.places.items) c.args.catalog _ c.requires.catalog (sym (length-map c.args.places.items (λ p. (g.P.Place.seen p).place))) c.requires.fresh c.requires.few

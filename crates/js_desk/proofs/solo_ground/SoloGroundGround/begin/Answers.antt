@@ -1,7 +1,5 @@
-use Rattle.std.proofs.Common.{inl, sym, ◌∙◌}
-use Rattle.std.proofs.lemmas.List.{length-map}
+use Rattle.std.proofs.Common.{inl}
 use Rattle.js_model.specs.Catalog as catalog
-use Rattle.js_desk.specs.Grounds.{place_in}
 use Rattle.js_desk.proofs.Lookups.{named_within, named_known}
 use Rattle.js_desk.proofs.Looked.{begun_up, begun_grounded, outside_single}
 use Rattle.js_desk.proofs.solo_ground.SoloGroundGround.begin.Goals as goal
@@ -10,10 +8,10 @@ pub invariant_of-self : goal.invariant_of-self
 invariant_of-self g c = begun_grounded _ _ _ _ (rw (← c.self.view_is) at c.requires.outside) c.self.invariant
 
 pub returns-clause-made : goal.returns-clause-made
-returns-clause-made g c = rw (← c.self.view_is) (begun_up _ _ _ _ _ _ (catalog.ByName c.args.name.now) c.by_name.result (inl c.by_name.ensures.found))
+returns-clause-made g c = rw (← c.self.view_is) (begun_up _ g.met.P.Place.keeps_none _ _ _ _ _ _ _ (catalog.ByName c.args.name.now) c.by_name.result (inl c.by_name.ensures.found))
 
 pub returns-clause-within : goal.returns-clause-within
-returns-clause-within g c = (named_within c.self.inside.catalog c.args.name.now c.by_name.result _ c.by_name.ensures.found (c.self.invariant.same ∙ sym (length-map c.self.inside.places.items place_in)))
+returns-clause-within g c = (named_within c.self.inside.catalog c.args.name.now c.by_name.result _ c.by_name.ensures.found c.self.invariant.same)
 
 pub returns-clause-known : goal.returns-clause-known
 returns-clause-known g c = named_known c.self.inside.catalog c.args.name.now c.by_name.result (outside_single _ _ (rw (← c.self.view_is) at c.requires.outside) c.self.invariant.single) c.by_name.ensures.found
