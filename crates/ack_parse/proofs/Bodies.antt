@@ -15,6 +15,7 @@ use Rattle.ack_parse.specs.Asks.{just, ask_of}
 use Rattle.ack_parse.specs.Bodies.{plain_kind, delay_of, nak_kind, next_kind, kind_of}
 use Rattle.ack_parse.specs.Grammar.{Says}
 use Rattle.ack_parse.specs.Laws.{LawBody}
+use Rattle.ack_parse.proofs.Pulls.{delay_says, delay_said, ask_says, ask_said}
 
 -- a body that begins with words is these and what stands behind them
 begins : (words body : Bytes) → starts_with nat_eq body words ≡ true → body ≡ words ++ drop (length words) body
@@ -50,7 +51,7 @@ nak_says body kind h = by (same body (codes "-NAK")) (starts_with nat_eq body (c
   where
     after : (delay : Option ℕ) → starts_with nat_eq body (codes "-NAK ") ≡ true → delay_of (drop 5 body) ≡ delay → option_map kinds.Nak delay ≡ Some kind → Says body kind
     after None b d h = absurd (cc)
-    after (Some delay) b d h = subst (Says body) (some_is h) (inr (drop 5 body, begins (codes "-NAK ") body b, d))
+    after (Some delay) b d h = subst (Says body) (some_is h) (inr (drop 5 body, begins (codes "-NAK ") body b, delay_says (drop 5 body) delay d))
 
     by : (at_once delayed : Bool) → same body (codes "-NAK") ≡ at_once → starts_with nat_eq body (codes "-NAK ") ≡ delayed
         → (if at_once then Some (kinds.Nak 0) else option_and_then (λ object. option_map kinds.Nak (delay_of object)) (if delayed then Some (drop 5 body) else None)) ≡ Some kind → Says body kind
@@ -63,7 +64,7 @@ next_says body kind h = by (same body (codes "+NXT")) (starts_with nat_eq body (
   where
     after : (ask : Option Ask) → starts_with nat_eq body (codes "+NXT ") ≡ true → ask_of (drop 5 body) ≡ ask → option_map kinds.Next ask ≡ Some kind → Says body kind
     after None b d h = absurd (cc)
-    after (Some ask) b d h = subst (Says body) (some_is h) (inr (drop 5 body, begins (codes "+NXT ") body b, d))
+    after (Some ask) b d h = subst (Says body) (some_is h) (inr (drop 5 body, begins (codes "+NXT ") body b, ask_says (drop 5 body) ask d))
 
     by : (one more : Bool) → same body (codes "+NXT") ≡ one → starts_with nat_eq body (codes "+NXT ") ≡ more
         → (if one then Some (kinds.Next (just 1)) else option_and_then (λ text. option_map kinds.Next (ask_of text)) (if more then Some (drop 5 body) else None)) ≡ Some kind → Says body kind
@@ -90,10 +91,10 @@ unfolding kind_of
 from_grammar body kinds.Ack (inl e) = rw e refl
 from_grammar body kinds.Ack (inr e) = rw e refl
 from_grammar body (kinds.Nak delay) (inl (e, d)) = rw (e, d) refl
-from_grammar body (kinds.Nak delay) (inr (object, e, d)) = rw (e, d) refl
+from_grammar body (kinds.Nak delay) (inr (object, e, d)) = rw (e, delay_said object delay d) refl
 from_grammar body kinds.Wpi e = rw e refl
 from_grammar body (kinds.Next ask) (inl (e, d)) = rw (e, d) refl
-from_grammar body (kinds.Next ask) (inr (text, e, d)) = rw (e, d) refl
+from_grammar body (kinds.Next ask) (inr (text, e, d)) = rw (e, ask_said text ask d) refl
 from_grammar body kinds.Term (inl e) = rw e refl
 from_grammar body kinds.Term (inr (reason, e)) = rw e refl
 

@@ -1,3 +1,4 @@
 pub mod Subjects
+pub mod Pulls
 pub mod Bodies
 pub mod Tokens

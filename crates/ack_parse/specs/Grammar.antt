@@ -1,13 +1,13 @@
 -- The grammar of acknowledgements, after JetStream's: how each is spelled.
-use Rattle.std.specs.Prelude.{◌≡◌, ◌⊎◌, [], ◌∷◌, ◌++◌, codes, Some, Ok, IsOk}
+use Rattle.std.specs.Prelude.{◌≡◌, ◌⊎◌, [], ◌∷◌, ◌++◌, codes, Ok, IsOk}
 use Rattle.js_base.specs.Bytes.{Bytes}
 use Rattle.js_base.specs.Decimal.{number_of}
 use Rattle.js_base.specs.Names.{name_of}
 use Rattle.js_base.specs.Subjects.{tokens}
 use Rattle.js_model.specs.declared.ack.AckKind.{AckKind}
 use Rattle.js_model.specs.declared.ack.AckKind.TheVariants as kinds
-use Rattle.ack_parse.specs.Asks.{just, ask_of}
-use Rattle.ack_parse.specs.Bodies.{delay_of}
+use Rattle.ack_parse.specs.Asks.{just}
+use Rattle.ack_parse.specs.Pulls.{SpellsDelay, SpellsAsk}
 use Rattle.ack_parse.specs.declared.subject.Delivered.{Delivered}
 
 -- ---- subjects
@@ -34,7 +34,7 @@ pub record SpellsSubject (subject : Bytes) (d : Delivered) : Type 0 where
 -- The body says that. A reason may be empty, and so may a pull request.
 abbrev pub Says : Bytes → AckKind → Type 0
 Says body kinds.Ack = (body ≡ []) ⊎ (body ≡ codes "+ACK")
-Says body (kinds.Nak delay) = ((body ≡ codes "-NAK") × (delay ≡ 0)) ⊎ ((object : Bytes) × (body ≡ codes "-NAK " ++ object) × (delay_of object ≡ Some delay))
+Says body (kinds.Nak delay) = ((body ≡ codes "-NAK") × (delay ≡ 0)) ⊎ ((object : Bytes) × (body ≡ codes "-NAK " ++ object) × SpellsDelay object delay)
 Says body kinds.Wpi = body ≡ codes "+WPI"
-Says body (kinds.Next ask) = ((body ≡ codes "+NXT") × (ask ≡ just 1)) ⊎ ((text : Bytes) × (body ≡ codes "+NXT " ++ text) × (ask_of text ≡ Some ask))
+Says body (kinds.Next ask) = ((body ≡ codes "+NXT") × (ask ≡ just 1)) ⊎ ((text : Bytes) × (body ≡ codes "+NXT " ++ text) × SpellsAsk text ask)
 Says body kinds.Term = (body ≡ codes "+TERM") ⊎ ((reason : Bytes) × (body ≡ codes "+TERM " ++ reason))

@@ -22,6 +22,7 @@ use Rattle.desk_hold.specs.Deliveries.{DeliversOn, Led}
 use Rattle.desk_hold.specs.Following.{Follows}
 use Rattle.desk_hold.specs.Hearing.{Hears}
 use Rattle.desk_hold.proofs.Beginnings.{outlasts_nothing}
+use Rattle.desk_hold.proofs.Room.{none_room}
 
 no_first : (consumers : List Consumer) → AreFirstReadings consumers []
 no_first [] = tt
@@ -44,6 +45,7 @@ module _ {R : Type 0} (routes : R → RouteCall → RouteTold → R → Type 0) 
     led = pauses place.place goes;
     outlasts = outlasts_nothing holds place kept;
     added = sym (append-nil outs);
+    room = none_room outs;
     followed = record { heard = refl; asked = inr (no_first (push_consumers place.place.state), refl); few = omega arith; are = tt; left = tt };
   })
 
@@ -57,6 +59,7 @@ module _ {R : Type 0} (routes : R → RouteCall → RouteTold → R → Type 0) 
     led = pauses place.place goes;
     outlasts = outlasts_nothing holds place kept;
     added = sym (append-nil outs);
+    room = none_room outs;
     followed = record { heard = h.reads.1; asked = inr (h.reads.0, refl); few = omega arith; are = tt; left = tt };
   })
 
@@ -70,6 +73,7 @@ module _ {R : Type 0} (routes : R → RouteCall → RouteTold → R → Type 0) 
     led = pauses place.place goes;
     outlasts = outlasts_nothing holds place kept;
     added = sym (append-nil outs);
+    room = none_room outs;
     followed = record { mid = h.reads.0; heard = h.reads.2; is_worn = h.reads.3; first = h.reads.1; none = refl };
   }
 
@@ -92,6 +96,7 @@ module _ {R : Type 0} (routes : R → RouteCall → RouteTold → R → Type 0) 
           led = k.led;
           outlasts = k.outlasts;
           added = k.added;
+          room = k.room;
           followed = record {
             heard = h.reads.2;
             asked = h.reads.0;
@@ -118,6 +123,7 @@ module _ {R : Type 0} (routes : R → RouteCall → RouteTold → R → Type 0) 
           led = k.led;
           outlasts = k.outlasts;
           added = k.added;
+          room = k.room;
           followed = record {
             heard = h.reads.2;
             asked = h.reads.0;
@@ -140,6 +146,7 @@ module _ {R : Type 0} (routes : R → RouteCall → RouteTold → R → Type 0) 
           led = k.led;
           outlasts = k.outlasts;
           added = k.added;
+          room = k.room;
           followed = record {
             heard = h.reads.2;
             asked = h.reads.0;
@@ -163,6 +170,7 @@ module _ {R : Type 0} (routes : R → RouteCall → RouteTold → R → Type 0) 
           led = k.led;
           outlasts = k.outlasts;
           added = k.added;
+          room = k.room;
           followed = record { heard = h.reads.2; asked = inl h.reads.0; few = k.few; are = k.are; left = tt };
         })
 
@@ -177,5 +185,6 @@ module _ {R : Type 0} (routes : R → RouteCall → RouteTold → R → Type 0) 
           led = k.led;
           outlasts = k.outlasts;
           added = k.added;
+          room = k.room;
           followed = record { heard = h.reads.2; asked = inl h.reads.0; few = k.few; are = k.are; left = ((sym k.ends.1, refl), k.ends.0) };
         })

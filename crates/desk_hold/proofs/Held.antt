@@ -49,6 +49,7 @@ use Rattle.desk_hold.specs.Steps.{EndsStep, IsMade, IsUndoneStep, WithholdsStep}
 use Rattle.desk_hold.proofs.Beginnings.{one_entry, outlasts_call, outlasts_if, outlasts_more}
 use Rattle.desk_hold.proofs.Chain.{led_later, led_stops, none_firm, runs_from, sent_is, stops_since}
 use Rattle.desk_hold.proofs.Committed.{outlasts_step}
+use Rattle.desk_hold.proofs.Room.{hold_room, no_last}
 use Rattle.desk_hold.proofs.Stepped.{same_place}
 
 -- ---- the entry of a step
@@ -269,6 +270,7 @@ module _ {R : Type 0} (routes : R → RouteCall → RouteTold → R → Type 0) 
           asked = asked_or fault next f.readings f.entries hold refl refl f.followed.asked;
           deliveries = deliveries_or seat at now (listening_of f.readings) fault next f.entries f.followed.are;
           few = f.followed.few;
+          room = hold_room old.place.state (Step seat (event_at at what) now made.reply h.outs made.unsaid) outs f.entries h.added f.room;
           ready_is = ready_or fault next ready now hold new.place all refl f.followed.left;
           explained = explains_or fault sending made.unsaid ready now hold new.place all refl refl f.followed.left;
           ends = ends_or fault next ready now hold new.place all whole f.followed.left;
@@ -304,6 +306,7 @@ module _ {R : Type 0} (routes : R → RouteCall → RouteTold → R → Type 0) 
           asked = inr (f.followed.first, f.followed.none);
           deliveries = subst (λ (es : List PlaceEntry). AreDeliveries seat at now (listening_of f.readings) (Some (faults.Worn number)) es) (sym f.followed.none) tt;
           few = subst (λ (es : List PlaceEntry). length es ≤ most_deliveries) (sym f.followed.none) (omega arith);
+          room = hold_room old.place.state (Step seat (event_at at what) now made.reply h.outs made.unsaid) outs f.entries h.added f.room;
           ready_is = tt;
           explained = inl refl;
           ends = tt;
@@ -462,6 +465,7 @@ module _ {R : Type 0} (routes : R → RouteCall → RouteTold → R → Type 0) 
               asked = inr (none_read (push_consumers new.place.state), refl);
               deliveries = tt;
               few = omega arith;
+              room = λ earlier last is. absurd (no_last earlier last is);
               ready_is = tt;
               explained = tt;
               ends = tt;
@@ -513,6 +517,7 @@ module _ {R : Type 0} (routes : R → RouteCall → RouteTold → R → Type 0) 
               asked = inr (none_read (push_consumers new.place.state), refl);
               deliveries = tt;
               few = omega arith;
+              room = λ earlier last is. absurd (no_last earlier last is);
               ready_is = tt;
               explained = explained;
               ends = tt;

@@ -5,6 +5,7 @@ pub mod Sent
 pub mod Beginnings
 pub mod Committed
 pub mod Chain
+pub mod Room
 pub mod Delivered
 pub mod Next
 pub mod Listeners

@@ -1,6 +1,6 @@
 -- What a place promises of a delivery is one of the deliveries of a hold, or their end.
 use Rattle.std.proofs.Common.{inl, ◌≡◌, ◌≤◌, ◌<◌, ◌^◌, ◌++◌, ◌&&◌, ℕ, true, false, List, [], ◌∷◌, append-nil, Option, None, Some, Result, Ok, Err, refl, sym, subst, ◌∙◌, arith, IsTrue}
-use Rattle.std.specs.Prelude.{nat_le}
+use Rattle.std.specs.Prelude.{nat_le, sum_by}
 use Rattle.std.proofs.lemmas.Bool.{and_from, le-leb}
 use Rattle.js_base.specs.Bytes.{Bytes}
 use Rattle.js_base.specs.declared.out.Out.{Out}
@@ -16,6 +16,7 @@ use Rattle.js_model.specs.Events.{kept_incarnation}
 use Rattle.js_model.specs.PlaceStates.{PlaceIn}
 use Rattle.js_model.specs.Proper.{is_proper}
 use Rattle.js_model.specs.Ready.{some_ready}
+use Rattle.js_api.specs.Holding.{bytes_of, most_bytes}
 use Rattle.js_api.specs.Worlds.{IsLater}
 use Rattle.place_engine.specs.Delivering.{Delivers, Makes, tick_at}
 use Rattle.place_engine.specs.Stepping.{Elapses, Image, IsKept, MayKeepBase, Seen, Steps}
@@ -30,6 +31,7 @@ use Rattle.desk_hold.specs.Steps.{EndsStep}
 use Rattle.desk_hold.proofs.Committed.{base_of}
 use Rattle.desk_hold.proofs.Beginnings.{outlasts_call}
 use Rattle.desk_hold.proofs.Chain.{none_firm}
+use Rattle.desk_hold.proofs.Room.{none_room, one_room}
 use Rattle.desk_hold.proofs.Stepped.{failed_step}
 
 -- a tick for what the place keeps is an event as a reader gives it
@@ -39,7 +41,7 @@ tick_proper state small =
 
 module _ (holds : Image → State → Type 0) (now : ℕ) (listening : List Bytes) (old new : Seen) (moment : now < 2 ^ 62)
     (kept : IsKept holds old) (keeps : IsKept holds new) (small : kept_incarnation old.place.state ≤ 2 ^ 62) (going : old.place.stopped ≡ None)
-    (before after : List Out) where
+    (before after : List Out) (room : sum_by bytes_of before < most_bytes) where
   later : Elapses holds old new → IsLater old.place.volume new.place.volume
   later h = record { faults = h.faults; moments = h.moments; generations = h.generations }
 
@@ -82,6 +84,7 @@ module _ (holds : Image → State → Type 0) (now : ℕ) (listening : List Byte
         entries = [];
         sent = [];
         few = omega arith;
+        room = none_room before;
         are = tt;
         led = led;
         outlasts = outlasts_of commits [] [] led;
@@ -105,6 +108,7 @@ module _ (holds : Image → State → Type 0) (now : ℕ) (listening : List Byte
         entries = Deliver seat now listening d os ∷ [];
         sent = os;
         few = omega arith;
+        room = one_room before (Deliver seat now listening d os) room;
         are = (refl, refl, refl, tt);
         led = led;
         outlasts = outlasts_of commits (Deliver seat now listening d os ∷ []) os led;
@@ -129,6 +133,7 @@ module _ (holds : Image → State → Type 0) (now : ℕ) (listening : List Byte
         entries = Step seat event now Silent step.outs false ∷ [];
         sent = step.outs;
         few = omega arith;
+        room = one_room before (Step seat event now Silent step.outs false) room;
         are = (refl, refl, refl, refl, refl);
         led = led;
         outlasts = outlasts_of (commits_of (Err (NoMemory Ticked)) h) (Step seat event now Silent step.outs false ∷ []) step.outs led;
@@ -145,6 +150,7 @@ module _ (holds : Image → State → Type 0) (now : ℕ) (listening : List Byte
         entries = Broken seat now (DeliverOf listening h.ends.delivery) ∷ [];
         sent = [];
         few = omega arith;
+        room = one_room before (Broken seat now (DeliverOf listening h.ends.delivery)) room;
         are = (refl, refl, refl, refl);
         led = led;
         outlasts = outlasts_of (commits_of (Err StoreFault) h) (Broken seat now (DeliverOf listening h.ends.delivery) ∷ []) [] led;

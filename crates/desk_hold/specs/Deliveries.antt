@@ -1,5 +1,5 @@
 -- The deliveries of a hold, one after the other, and how they end: by JetStream's pull and push consumers, with bounds of this server's own.
-use Rattle.std.specs.Prelude.{◌≡◌, ◌≢◌, ◌⊎◌, ◌≤◌, ◌-◌, ◌^◌, ℕ, true, false, List, [], ◌∷◌, ◌++◌, length, sum_by, Option, None, Some, Result, Ok, Err}
+use Rattle.std.specs.Prelude.{◌≡◌, ◌≢◌, ◌⊎◌, ◌<◌, ◌≤◌, ◌+◌, ◌-◌, ◌^◌, ℕ, true, false, List, [], ◌∷◌, ◌++◌, length, sum_by, Option, None, Some, Result, Ok, Err}
 use Rattle.js_base.specs.Bytes.{Bytes}
 use Rattle.js_base.specs.declared.out.Out.{Out}
 use Rattle.js_model.specs.declared.event.What.TheVariants.{Tick as LetPass}
@@ -15,6 +15,7 @@ use Rattle.js_model.specs.Runs.{IsDeliverStep}
 use Rattle.js_api.specs.declared.fault.DeskFault.{DeskFault}
 use Rattle.js_api.specs.declared.fault.DeskFault.TheVariants as faults
 use Rattle.js_api.specs.Holding.{AreDeliveries, bytes_of, delivery_broke, most_bytes, most_deliveries}
+use Rattle.js_api.specs.Outputs.{outs_from}
 use Rattle.js_api.specs.Worlds.{IsLater, Stops}
 use Rattle.js_model.specs.declared.stream.State.{State}
 use Rattle.place_engine.specs.Stepping.{Image, Seen}
@@ -87,13 +88,21 @@ EndsSo Broke now listening entries new outs = delivery_broke entries ≡ true
 EndsSo Short now listening entries new outs = Unit {0}
 EndsSo WornOut now listening entries new outs = (entries ≢ []) × (new.volume.generation ≡ 2 ^ 62 - 1)
 
+-- Before the last one these outputs and those of the earlier ones had fewer bytes than end a hold. What a delivery sends does not depend on the
+-- stream's name
+abbrev pub HasRoom : List Out → List PlaceEntry → Type 0
+HasRoom outs entries =
+    (earlier : List PlaceEntry) (last : PlaceEntry) → entries ≡ earlier ++ last ∷ []
+    → (stream : Bytes) → sum_by bytes_of outs + sum_by bytes_of (outs_from stream earlier) < most_bytes
+
 module _ (holds : Image → State → Type 0) where
-  -- they were made by this seat at the moment to whom somebody listens, at most so many, led from the one place to the other, and what they sent was
-  -- added; none is confirmed
+  -- they were made by this seat at the moment to whom somebody listens, at most so many, while there was room, led from the one place to the other, and
+  -- what they sent was added; none is confirmed
   pub record DeliversOn (most seat : ℕ) (at : PlaceAt) (now : ℕ) (listening : List Bytes) (ending : Ending) (old new : Seen) (before after : List Out) : Type 0 where
     pub entries : List PlaceEntry
     pub sent : List Out
     pub few : length entries ≤ most
+    pub room : HasRoom before entries
     pub are : AreDeliveries seat at now listening (fault_by ending) entries
     pub led : Led old.place entries sent new.place
     pub outlasts : Outlasts holds Never entries old new

@@ -13,7 +13,7 @@ use Rattle.js_api.specs.Entries.{Reading}
 use Rattle.js_api.specs.Holding.{AreDeliveries, AreFirstReadings, AreReadings, IsLastGeneration, bytes_of, delivery_broke, listening_of, most_bytes, most_deliveries, push_consumers}
 use Rattle.place_engine.specs.Stepping.{Image, Seen}
 use Rattle.desk_hold.specs.Crashes.{Never, Outlasts}
-use Rattle.desk_hold.specs.Deliveries.{Led}
+use Rattle.desk_hold.specs.Deliveries.{HasRoom, Led}
 use Rattle.desk_hold.specs.Ports.{AreHeard}
 use Rattle.desk_hold.specs.declared.following.Following.{Following}
 use Rattle.desk_hold.specs.declared.following.Following.TheVariants.{Heard, Unheard}
@@ -68,4 +68,5 @@ module _ {R : Type 0} (routes : R → RouteCall → RouteTold → R → Type 0) 
     pub led : Led old.place entries sent new.place
     pub outlasts : Outlasts holds Never entries old new
     pub added : after ≡ before ++ sent
+    pub room : HasRoom before entries
     pub followed : IsFollowed following readings entries old.place new.place r s after

@@ -1,11 +1,10 @@
 -- Who listens for the push consumers of a place, as a hold reads it by its port: by JetStream's deliver subjects and deliver groups.
-use Rattle.std.specs.Prelude.{◌≡◌, ℕ, Bool, List, [], ◌∷◌, ◌++◌, Result, Ok, Err, if◌then◌else◌}
+use Rattle.std.specs.Prelude.{◌≡◌, ℕ, List, Result, Ok, Err}
 use Rattle.js_base.specs.Bytes.{Bytes}
 use Rattle.js_model.specs.declared.stream.State.{State}
-use Rattle.js_model.specs.Router.{RouteCall, RouteTold, Interest, Listens}
+use Rattle.js_model.specs.Router.{RouteCall, RouteTold}
 use Rattle.js_api.specs.Entries.{Reading}
 use Rattle.js_api.specs.Holding.{AreFirstReadings, AreReadings, listening_of, push_consumers}
-use Rattle.place_engine.specs.Pushes.{Pushing}
 use Rattle.desk_hold.specs.Ports.{AreHeard}
 use Rattle.desk_hold.specs.declared.port.PortFault.{PortFault}
 use Rattle.desk_hold.specs.declared.port.PortFault.TheVariants as faults
@@ -22,10 +21,3 @@ module _ {R : Type 0} (routes : R → RouteCall → RouteTold → R → Type 0) 
   pub record Hears (result : Result (List Bytes) PortFault) (state : State) (old new : R) : Type 0 where
     pub readings : List Reading
     pub reads : Reads result state readings old new
-
-  -- it was asked for one push consumer, whose name was added if somebody listens; or memory ran out for that, or no turn of the router was left
-  abbrev pub HearsOne : Pushing → Result (Unit {0}) PortFault → R → R → List Bytes → List Bytes → Type 0
-  HearsOne push (Ok _) old new before after =
-      (heard : Bool) × routes old (Interest push.subject push.group) (Listens heard) new × (after ≡ before ++ (if heard then push.name ∷ [] else []))
-  HearsOne push (Err faults.NoMemory) old new before after = (heard : Bool) × routes old (Interest push.subject push.group) (Listens heard) new
-  HearsOne push (Err (faults.Worn number)) old new before after = worn old number new

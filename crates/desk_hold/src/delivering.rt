@@ -1,7 +1,7 @@
 //! The deliveries of a hold.
 
-ghost use Rattle.std.specs.Prelude.{◌≡◌, ◌≤◌, ℕ, sum_by, None};
-ghost use Rattle.js_api.specs.Holding.{bytes_of, most_deliveries};
+ghost use Rattle.std.specs.Prelude.{◌≡◌, ◌<◌, ◌-◌, ◌^◌, ℕ, min, sum_by, None};
+ghost use Rattle.js_api.specs.Holding.{bytes_of, most_bytes, most_deliveries};
 ghost use Rattle.js_model.specs.declared.desk.PlaceAt.{PlaceAt};
 ghost use Rattle.desk_hold.specs.Deliveries.{DeliversOn, GoesOn, ending_after, ending_by};
 
@@ -57,7 +57,7 @@ pub fn deliver_all<P: Place>(
     Ending::Full
 }
 
-/// Makes one delivery at a moment and adds what it sends, or tells why no further one is made.
+/// Makes one delivery at a moment while there is room, and adds what it sends; or tells why no further one is made.
 fn deliver_next<P: Place>(
     place: &mut P,
     now: Moment,
@@ -65,6 +65,7 @@ fn deliver_next<P: Place>(
     outs: &mut Outs,
 ) -> Option<Ending>
     requires going { (P.seen place.old).place.stopped ≡ None }
+    requires room { sum_by bytes_of outs.old < most_bytes }
     ensures goes_on { GoesOn P.holds now listening.now result (P.seen place.old) (P.seen place.new) outs.old outs.new }
     ensures vol { P.keeps_vol (P.vol place.old) (P.vol place.new) }
 {
@@ -97,9 +98,9 @@ fn ended_by(fault: PlaceFault) -> Ending
     }
 }
 
-/// At most how many bytes these messages have together, in all of their fields.
+/// How many bytes these messages have together, in all of their fields; 2^64 - 1 if they have more.
 fn size_of(outs: &[Out]) -> usize
-    ensures bound { result ≤ sum_by bytes_of outs.now }
+    ensures value { result ≡ min (sum_by bytes_of outs.now) (2 ^ 64 - 1) }
 {
     let mut size = 0usize;
     for out in outs {
@@ -108,9 +109,9 @@ fn size_of(outs: &[Out]) -> usize
     size
 }
 
-/// At most how many bytes a message has in all of its fields.
+/// How many bytes a message has in all of its fields; 2^64 - 1 if it has more.
 fn bytes_of(out: &Out) -> usize
-    ensures bound { result ≤ bytes_of out.now }
+    ensures value { result ≡ min (bytes_of out.now) (2 ^ 64 - 1) }
 {
     let reply = match &out.reply {
         Some(reply) => reply.len(),

@@ -1,8 +1,10 @@
 //! Who listens for the push consumers of a place.
 
-ghost use Rattle.std.specs.Prelude.{◌≡◌, ◌++◌, ◌∷◌, [], OnOk, IfErr};
-ghost use Rattle.desk_hold.specs.Hearing.{Hears, HearsOne};
-ghost use Rattle.desk_hold.specs.Ports.{ListensBy};
+ghost use Rattle.std.specs.Prelude.{◌≡◌, ◌++◌, ◌∷◌, [], length, map, OnOk, IfOk, IfErr};
+ghost use Rattle.js_api.specs.Holding.{listening_of};
+ghost use Rattle.place_engine.specs.Pushes.{push_of, pushes_in};
+ghost use Rattle.desk_hold.specs.Hearing.{Hears};
+ghost use Rattle.desk_hold.specs.Ports.{readings_of};
 
 use crate::port::{Port, PortFault};
 use js_base::List;
@@ -10,8 +12,8 @@ use js_model::Listening;
 use place_engine::{Place, Push};
 use std::alloc::Global;
 
-/// Asks by the port, for each push consumer in the order of their names, whether somebody listens for it, and gives the names of those for whom
-/// somebody does. An `Err` tells why it was not asked for all of them.
+/// Asks the port who listens for the push consumers, unless there are none, and gives the names of those for whom somebody does, in order. An `Err`
+/// tells why it was not told of all of them, or that memory ran out for the names.
 pub fn hear<P: Place, R: Port>(
     alloc: Global,
     place: &P,
@@ -19,41 +21,43 @@ pub fn hear<P: Place, R: Port>(
 ) -> Result<Listening, PortFault>
     ensures hears { Hears R.routes R.worn result (P.seen place.now).place.state port.old port.new }
 {
-    let mut listening = List::new(alloc);
-    let mut at = 0;
-    while let Some(push) = place.push(at) {
-        if let Err(fault) = hear_one(port, &push, &mut listening) {
-            return Err(fault);
-        }
-        at += 1;
+    let pushes = pushes_of(alloc, place)?;
+    if pushes.is_empty() {
+        return Ok(List::new(alloc));
     }
-    Ok(listening)
-}
-
-/// Asks by the port whether somebody listens for the push consumer, and adds its name if so. If memory runs out it was asked, and nothing is added.
-fn hear_one<R: Port>(
-    port: &mut R,
-    push: &Push<'_>,
-    listening: &mut Listening,
-) -> Result<(), PortFault>
-    ensures hears { HearsOne R.routes R.worn push.now result port.old port.new listening.old listening.new }
-{
-    match listens(port, push) {
-        Ok(true) => note(listening, push),
-        Ok(false) => Ok(()),
+    match port.hear(alloc, pushes.as_slice()) {
+        Ok(told) => listening(alloc, pushes.as_slice(), told.as_slice()),
         Err(fault) => Err(fault),
     }
 }
 
-/// Whether somebody listens to the deliver subject, as a member of the deliver group if there is one.
-fn listens<R: Port>(port: &mut R, push: &Push<'_>) -> Result<bool, PortFault>
-    ensures listens { ListensBy R.routes R.worn port.old push.now.subject push.now.group result port.new }
+/// The push consumers of a place, in the order of their names. An `Err` is want of memory.
+fn pushes_of<P: Place>(alloc: Global, place: &P) -> Result<Vec<Push<'_>>, PortFault>
+    ensures ok { IfOk result (λ pushes. pushes.items ≡ map push_of (pushes_in (P.seen place.now).place.state)) }
+    ensures err { IfErr result (λ fault. fault ≡ PortFault.NoMemory) }
 {
-    let group = match push.group {
-        Some(group) => Some(group.as_slice()),
-        None => None,
-    };
-    port.listens(push.subject.as_slice(), group)
+    let mut pushes = Vec::new(alloc);
+    let mut at = 0;
+    while let Some(push) = place.push(at) {
+        pushes.push(push).map_err(|_| PortFault::NoMemory)?;
+        at += 1;
+    }
+    Ok(pushes)
+}
+
+/// The names of those push consumers of which it was told that somebody listens. An `Err` is want of memory.
+fn listening(alloc: Global, pushes: &[Push<'_>], told: &[bool]) -> Result<Listening, PortFault>
+    requires each { length told.now ≡ length pushes.now }
+    ensures ok { IfOk result (λ listening. listening ≡ listening_of (readings_of pushes.now told.now)) }
+    ensures err { IfErr result (λ fault. fault ≡ PortFault.NoMemory) }
+{
+    let mut listening = List::new(alloc);
+    for (at, push) in pushes.iter().enumerate() {
+        if told[at] {
+            note(&mut listening, push)?;
+        }
+    }
+    Ok(listening)
 }
 
 /// Adds the name of the push consumer. An `Err` adds nothing.

@@ -1,12 +1,13 @@
 //! The router as a hold reaches it.
 
 ghost use Rattle.std.specs.Prelude.{◌≡◌, ℕ};
-ghost use Rattle.std.specs.Option.{option_copied};
-ghost use Rattle.js_model.specs.Router.{IsRoute, RouteCall, RouteTold};
-ghost use Rattle.desk_hold.specs.Ports.{ListensBy, SendsBy};
+ghost use Rattle.js_model.specs.Router.{Interest, IsRoute, Listens, RouteCall, RouteTold};
+ghost use Rattle.desk_hold.specs.Ports.{HearsBy, SendsBy};
 
-use js_base::Out;
+use js_base::{List, Out};
+use place_engine::Push;
 use route_core::Router;
+use std::alloc::Global;
 use thiserror::Error;
 
 /// Why a port does not send, or does not tell who listens.
@@ -31,9 +32,10 @@ pub trait Port {
     fn send(&mut self, out: &Out) -> Result<(), PortFault>
         ensures sends { SendsBy routes worn self.old out.now result self.new };
 
-    /// Whether somebody listens to the subject, as a member of the queue group if one is given. It takes no memory.
-    fn listens(&mut self, subject: &[u8], group: Option<&[u8]>) -> Result<bool, PortFault>
-        ensures listens { ListensBy routes worn self.old subject.now (option_copied group.entry) result self.new };
+    /// Whether somebody listens for each of these push consumers, in order: to its deliver subject, as a member of its deliver group if it has one.
+    /// An `Err` tells why it was told of the first ones alone, or of none.
+    fn hear(&mut self, alloc: Global, pushes: &[Push<'_>]) -> Result<List<bool>, PortFault>
+        ensures hears { HearsBy routes worn pushes.now result self.old self.new };
 }
 
 impl Port for Router {
@@ -48,7 +50,32 @@ impl Port for Router {
         }
     }
 
-    fn listens(&mut self, subject: &[u8], group: Option<&[u8]>) -> Result<bool, PortFault> {
-        Ok(self.interest(subject, group))
+    fn hear(&mut self, alloc: Global, pushes: &[Push<'_>]) -> Result<List<bool>, PortFault> {
+        hear_each(alloc, self, pushes)
     }
+}
+
+/// Asks the router for each push consumer whether somebody listens for it. An `Err` is want of memory.
+fn hear_each(alloc: Global, router: &Router, pushes: &[Push<'_>]) -> Result<List<bool>, PortFault>
+    ensures hears { HearsBy IsRoute (λ old number new. ⊥) pushes.now result router.now router.now }
+{
+    let mut told = List::new(alloc);
+    for push in pushes {
+        let heard = is_heard(router, push);
+        if told.push(heard).is_err() {
+            return Err(PortFault::NoMemory);
+        }
+    }
+    Ok(told)
+}
+
+/// Whether somebody listens to the push consumer's deliver subject, as a member of its deliver group if there is one.
+fn is_heard(router: &Router, push: &Push<'_>) -> bool
+    ensures heard { IsRoute router.now (Interest push.now.subject push.now.group) (Listens result) router.now }
+{
+    let group = match push.group {
+        Some(group) => Some(group.as_slice()),
+        None => None,
+    };
+    router.interest(push.subject.as_slice(), group)
 }

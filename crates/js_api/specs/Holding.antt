@@ -1,5 +1,5 @@
 -- One hold on a place: what was asked of it at a moment is made there, deliveries follow, and all that these send is routed.
-use Rattle.std.specs.Prelude.{◌≡◌, ◌≢◌, ◌⊎◌, ◌≤◌, ◌+◌, ◌-◌, ◌^◌, ℕ, Bool, true, false, List, [], ◌∷◌, ◌++◌, length, filter, map, sum_by, MatchOption, Option, Some, None, if◌then◌else◌}
+use Rattle.std.specs.Prelude.{◌≡◌, ◌≢◌, ◌⊎◌, ◌<◌, ◌≤◌, ◌+◌, ◌-◌, ◌^◌, ℕ, Bool, true, false, List, [], ◌∷◌, ◌++◌, length, filter, map, sum_by, MatchOption, Option, Some, None, if◌then◌else◌}
 use Rattle.js_base.specs.Bytes.{Bytes, is_empty}
 use Rattle.js_base.specs.declared.out.Out.{Out}
 use Rattle.js_model.specs.declared.stream.State.{State}
@@ -142,7 +142,8 @@ abbrev pub MayEnd : Option DeskFault → Bool → Hold → Type 0
 MayEnd None ready hold = ready ≡ true → IsFull hold
 MayEnd (Some fault) ready hold = Unit {0}
 
--- what was asked first was made, then the last step with this reply, and the rest of the hold followed
+-- what was asked first was made, then the last step with this reply, and the rest of the hold followed: each delivery while the outputs before it had
+-- fewer bytes than end a hold
 pub record IsHoldOf (at : PlaceAt) (first : List What) (what : What) (now : ℕ) (reply : Reply) (ready : Bool) (fault : Option DeskFault) (hold : Hold) : Type 0 where
   pub seat : ℕ
   pub outs : List Out
@@ -154,6 +155,8 @@ pub record IsHoldOf (at : PlaceAt) (first : List What) (what : What) (now : ℕ)
   pub asked : AreAsked fault hold
   pub deliveries : AreDeliveries seat at now (listening_of hold.readings) fault hold.deliveries
   pub few : length hold.deliveries ≤ most_deliveries
+  pub room : (earlier : List PlaceEntry) (last : PlaceEntry) → hold.deliveries ≡ earlier ++ last ∷ []
+      → sum_by bytes_of (outs_of hold.before (hold.steps ++ earlier)) < most_bytes
   pub ready_is : MatchOption fault (ready ≡ is_ready_at now hold) (λ f. Unit {0})
   pub explained : Explains fault unsaid hold
   pub ends : MayEnd fault ready hold
