@@ -1,6 +1,7 @@
 use Rattle.std.proofs.Common.{◌≡◌, None, ap, ◌∙◌}
 use Rattle.js_model.specs.declared.stream.Stream.{Stream}
 use Rattle.retention.specs.Over.{next_over}
+use Rattle.followed_stream.proofs.Attending.{named}
 use Rattle.stream_state.proofs.Calling.{ack_told, nobody_acks, outside_acked}
 use Rattle.stream_state.proofs.Proper.{acked_kin, proper_with}
 use Rattle.stream_state.proofs.Settling.{trimmed}
@@ -30,7 +31,7 @@ invariant_of-self-2 c =
 pub returns-clause-answers : goal.returns-clause-answers
 returns-clause-answers c =
     rw (← c.self.view_is)
-    (ack_told c.self.inside.stream c.args.ack.now.consumer c.in-Some.place _ c.args.ack.now.seq c.args.ack.now.kind _ c.args.outs.now _ c.ack.new.self c.self.invariant.attended.named c.in-Some.ensures.value c.in_ok-told.ensures.acked)
+    (ack_told c.self.inside.stream c.args.ack.now.consumer c.in-Some.place _ c.args.ack.now.seq c.args.ack.now.kind _ c.args.outs.now _ c.ack.new.self (named _ c.self.invariant.attended) c.in-Some.ensures.value c.in_ok-told.ensures.acked)
 
 pub returns-clause-settled : goal.returns-clause-settled
 returns-clause-settled c =
