@@ -26,6 +26,7 @@ pub trait RouterCall {
 }
 
 /// A session is opened.
+#[derive(Drop)]
 pub struct OpenCall;
 
 impl RouterCall for OpenCall {
@@ -41,6 +42,7 @@ impl RouterCall for OpenCall {
 }
 
 /// A session is closed.
+#[derive(Drop)]
 pub struct CloseCall {
     pub session: u64,
 }
@@ -58,6 +60,7 @@ impl RouterCall for CloseCall {
 }
 
 /// A session's options are set.
+#[derive(Drop)]
 pub struct OptionsCall {
     pub session: u64,
     pub echo: bool,
@@ -77,6 +80,7 @@ impl RouterCall for OptionsCall {
 }
 
 /// A session subscribes.
+#[derive(Drop)]
 pub struct SubCall<'a> {
     pub session: u64,
     pub subject: &'a [u8],
@@ -97,6 +101,7 @@ impl<'a> RouterCall for SubCall<'a> {
 }
 
 /// A subscription of a session ends.
+#[derive(Drop)]
 pub struct UnsubCall<'a> {
     pub session: u64,
     pub sid: &'a [u8],
@@ -116,6 +121,7 @@ impl<'a> RouterCall for UnsubCall<'a> {
 }
 
 /// A message is handed to the subscriptions, of a session or of the server itself.
+#[derive(Drop)]
 pub struct PublishCall<'a> {
     pub message: &'a Out,
     pub from: Option<u64>,
@@ -134,6 +140,7 @@ impl<'a> RouterCall for PublishCall<'a> {
 }
 
 /// It is asked whether somebody listens.
+#[derive(Drop)]
 pub struct InterestCall<'a> {
     pub subject: &'a [u8],
     pub group: Option<&'a [u8]>,
@@ -152,6 +159,7 @@ impl<'a> RouterCall for InterestCall<'a> {
 }
 
 /// Frames that wait for a session are taken.
+#[derive(Drop)]
 pub struct CollectCall {
     pub session: u64,
     pub max: usize,
