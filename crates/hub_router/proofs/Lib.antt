@@ -1,0 +1,3 @@
+mod Openers
+mod Called
+pub mod Sessions
