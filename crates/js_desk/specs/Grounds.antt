@@ -1,5 +1,6 @@
 -- What contracts see of the ground of one caller, and what holds of it.
 use Rattle.std.specs.Prelude.{◌≡◌, ◌≤◌, ◌<◌, ◌+◌, ◌==◌, ℕ, Bool, true, false, List, [], ◌∷◌, map, length, Option, None, Some, IsNone, IfSome, Result, Ok, Err, slice_get, if◌then◌else◌}
+use Rattle.std.specs.List.{AllZip}
 use Rattle.js_model.specs.declared.desk.PlaceAt.{PlaceAt}
 use Rattle.js_model.specs.declared.catalog_fault.CatalogFault.{CatalogFault}
 use Rattle.js_model.specs.Catalog.{Catalog, Used, Place}
@@ -27,13 +28,6 @@ pub record Standing (V : Type 0) : Type 0 where
 abbrev pub places_by : {P : Type 0} → (P → Seen) → List P → List PlaceIn
 places_by seen row = map (λ p. (seen p).place) row
 
--- the volumes of a row of places after some calls: each is what a call may make of the one before
-abbrev pub AreKept : {V : Type 0} → (V → V → Type 0) → List V → List V → Type 0
-AreKept keeps [] [] = Unit {0}
-AreKept keeps [] (new ∷ news) = ⊥
-AreKept keeps (old ∷ olds) [] = ⊥
-AreKept keeps (old ∷ olds) (new ∷ news) = keeps old new × AreKept keeps olds news
-
 abbrev pub phase_of : Turn → Phase
 phase_of turns.Outside = phases.Outside
 phase_of turns.Within = phases.Within
@@ -52,7 +46,7 @@ standing router catalog places vols ticked last turn = record {
 
 -- entries lead from the one ground to the other, whose volumes are what the calls of its places may make of those from before
 abbrev pub SoloMade : {V : Type 0} → (V → V → Type 0) → Standing V → List DeskEntry → Standing V → Type 0
-SoloMade keeps old entries new = Leads SoloStep old.scene entries new.scene × AreKept keeps old.vols new.vols
+SoloMade keeps old entries new = Leads SoloStep old.scene entries new.scene × AllZip keeps old.vols new.vols
 
 -- which sessions are open, and how many places there are
 abbrev pub setting_of : Scene → Setting

@@ -1,5 +1,6 @@
 -- What contracts see of the desk of one caller.
 use Rattle.std.specs.Prelude.{◌≡◌, ◌≤◌, ℕ, true, List, [], length}
+use Rattle.std.specs.List.{AllZip}
 use Rattle.js_model.specs.Router.{is_open}
 use Rattle.js_model.specs.Routing.{waiting_for}
 use Rattle.js_api.specs.Clients.{Client}
@@ -9,7 +10,7 @@ use Rattle.js_api.specs.Worlds.{Scene, SoloStep}
 use Rattle.desk_ground.specs.Callers.{client_of}
 use Rattle.desk_ground.specs.Grounds.{Outside}
 use Rattle.desk_ground.specs.declared.caller.Caller.{Caller}
-use Rattle.js_desk.specs.Grounds.{AreKept, Standing}
+use Rattle.js_desk.specs.Grounds.{Standing}
 
 -- what it stands on, its volumes, and the client of its session
 pub record Solo (V : Type 0) : Type 0 where
@@ -22,7 +23,7 @@ solo ground caller = record { scene = ground.scene; vols = ground.vols; client =
 
 -- entries lead from the one desk to the other, whose volumes are what the calls of its places may make of those from before
 abbrev pub DeskMade : {V : Type 0} → (V → V → Type 0) → Solo V → List DeskEntry → Solo V → Type 0
-DeskMade keeps old entries new = Leads SoloStep old.scene entries new.scene × AreKept keeps old.vols new.vols
+DeskMade keeps old entries new = Leads SoloStep old.scene entries new.scene × AllZip keeps old.vols new.vols
 
 -- it is in no turn of the catalog, its open session is open in the router, and there is room for the volumes
 pub record IsConsistent {V : Type 0} (ground : Standing V) (caller : Caller) (given_back : List V) (capacity : ℕ) : Type 0 where

@@ -1,6 +1,7 @@
 //! The desk of one caller, who owns the router, the catalog and the places.
 
 ghost use Rattle.std.specs.Prelude.{◌≡◌, ◌≤◌, IfErr, IfOk, IsTrue, None, false, length, map, replicate};
+ghost use Rattle.std.specs.List.{AllZip};
 ghost use Rattle.js_model.specs.Configs.{is_stream_subject};
 ghost use Rattle.js_model.specs.PlaceStates.{vacant_place};
 ghost use Rattle.stream_config.specs.Defaults.{default_config};
@@ -9,7 +10,6 @@ ghost use Rattle.js_api.specs.Leading.{Leads, Makes, leads_more, leads_nothing};
 ghost use Rattle.js_api.specs.Making.{MakesStream};
 ghost use Rattle.js_api.specs.Worlds.{SoloStep, opening};
 ghost use Rattle.js_desk.specs.GivingBack.{Closes, GivesBack};
-ghost use Rattle.js_desk.specs.Grounds.{AreKept};
 ghost use Rattle.js_desk.specs.Solo.{DeskMade, frames_left};
 ghost use Rattle.js_desk.specs.Kept.{kept_more, kept_none};
 
@@ -90,7 +90,7 @@ impl<P: Place> SoloDesk<P> {
     ) -> Result<Option<ApiError>, DeskFault>
         requires subject { IsTrue (is_stream_subject subject.now) }
         ensures made { Makes (λ old entries new. Leads SoloStep old entries new) (MakesStream name.now (default_config name.now subject.now) now result) self.old.scene self.new.scene }
-        ensures vols { AreKept P.keeps_vol self.old.vols self.new.vols }
+        ensures vols { AllZip P.keeps_vol self.old.vols self.new.vols }
         ensures client { self.new.client ≡ self.old.client }
     {
         make_stream(&mut self.ground, name, subject, now)

@@ -7,7 +7,7 @@ use Rattle.js_model.specs.PlaceStates.{VolumeAt, PlaceIn, in_memory, untold}
 use Rattle.place_engine.specs.InMemory.{Contents, seen_of}
 use Rattle.js_desk.specs.declared.faults.Closed.{Closed}
 use Rattle.js_desk.specs.GivingBack.{Closes}
-use Rattle.js_desk.specs.Grounds.{AreKept, places_by}
+use Rattle.js_desk.specs.Grounds.{places_by}
 use Rattle.js_api.specs.Worlds.{World}
 use Rattle.server.specs.Running.{ClosesInMemory, IsClosed, Unopened, Attended}
 use Rattle.server.specs.Laws.{AreUntroubled, LawUntroubled}
@@ -25,13 +25,6 @@ closes_in_memory world closed h = record {
   unmoved = subst (λ (ps : List PlaceIn). All (λ (p : PlaceIn). p.volume ≡ untold) ps) h.stand (all_in_memory (λ (p : PlaceIn). p.volume ≡ untold) (λ place. refl) h.row);
   unstored = subst (λ (ps : List PlaceIn). All (λ (p : PlaceIn). p.stored ≡ 0) ps) h.stand (all_in_memory (λ (p : PlaceIn). p.stored ≡ 0) (λ place. refl) h.row);
 }
-
--- if a call leaves its volume as it was, all are as they were
-pub kept_same : {V : Type 0} (xs ys : List V) → AreKept (λ old new. new ≡ old) xs ys → ys ≡ xs
-kept_same [] [] h = refl
-kept_same [] (y ∷ ys) h = absurd h
-kept_same (x ∷ xs) [] h = absurd h
-kept_same (x ∷ xs) (y ∷ ys) h = ap (λ (v : _). v ∷ ys) h.0 ∙ ap (λ (vs : List _). x ∷ vs) (kept_same xs ys h.1)
 
 pub left_untroubled : {V : Type 0} (world : World) (vols : List V) → IsClosed world None vols → AreUntroubled world
 left_untroubled world vols h k d l = record {

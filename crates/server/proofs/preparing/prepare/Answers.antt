@@ -1,7 +1,7 @@
-use Rattle.std.proofs.Common.{sym, subst}
+use Rattle.std.proofs.Common.{◌≡◌, sym, subst}
+use Rattle.std.proofs.lemmas.List.Elements.{same_from_all_zip}
 use Rattle.server.specs.Preparing.{Prepares}
 use Rattle.server.specs.Running.{opened_of}
-use Rattle.server.proofs.Closing.{kept_same}
 use Rattle.server.proofs.Prepared.{made_so}
 use Rattle.server.proofs.preparing.prepare.Goals as goal
 
@@ -12,4 +12,4 @@ returns-in-Some-clause-prepares g c =
     (made_so opened c.in-Some.named _ _ _ _ _ _ _ c.requires.opened c.as_slice.ensures c.now-now.ensures.reads c.make_stream.ensures.made)
 
 pub returns-in-Some-clause-vols : goal.returns-in-Some-clause-vols
-returns-in-Some-clause-vols g c = kept_same _ _ c.make_stream.ensures.vols
+returns-in-Some-clause-vols g c = same_from_all_zip (λ old new. new ≡ old) _ _ c.make_stream.ensures.vols (λ x y same. same)
