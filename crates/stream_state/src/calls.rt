@@ -12,16 +12,20 @@ ghost use Rattle.js_model.specs.Streams.{by_name};
 ghost use Rattle.js_model.specs.Trim.{trim};
 ghost use Rattle.consumer_need.specs.Stored.{HoldsStored};
 ghost use Rattle.consumer_state.specs.Making.{IsRefusal};
+ghost use Rattle.removals.specs.Leaving.{leaving};
+ghost use Rattle.removals.specs.Removed.{Notes};
 ghost use Rattle.stream_state.specs.Answering.{Answers};
+ghost use Rattle.stream_state.specs.Removing.{HasRoom};
 ghost use Rattle.stream_state.specs.Settled.{IsProperConsumer};
 
 use crate::rules::{has_rival, is_work_queue, max_consumers};
 use crate::state::StreamState;
 use consumer_state::{Consumer, MakeFault, policy_refusal};
-use followed_stream::{Acked, Span};
+use followed_stream::Span;
 use js_base::{ApiError, Blob, NoMemory, Outs};
 use js_model::refusals::{max_consumers_reached, no_consumer, work_queue_rule};
 use js_model::{Ack, Ask, ConsumerConfig, ConsumerInfo, Reply, copy_consumer_config};
+use removals::Removals;
 use stream_view::View;
 
 impl StreamState {
@@ -49,23 +53,28 @@ impl StreamState {
         &mut self,
         name: &Blob,
         config: &ConsumerConfig,
+        gone: &mut Removals,
     ) -> Result<ConsumerInfo, MakeFault>
         requires name { IsTrue (is_name name.now) }
         requires valid { IsTrue (is_consumer_config config.now) }
         requires absent { by_name self.old.consumers name.now ≡ None }
+        requires room { HasRoom self.old gone.old }
         ensures made { OnOk result (self.new ≡ settled (record self.old { consumers = with_new self.old.consumers (new_consumer self.old name.now config.now) })) }
         ensures again { OnOk result (kept self.new ≡ self.new) }
-        ensures info { IfOk result (λ info. option_map (consumer_info self.new) (by_name self.new.consumers name.now) ≡ Some info) }
+        ensures info { IfOk result (λ told. option_map (consumer_info self.new) (by_name self.new.consumers name.now) ≡ Some told) }
+        ensures gone { OnOk result (Notes gone.old (leaving gone.old.below self.old.messages self.new.messages) gone.new) }
+        ensures room { HasRoom self.new gone.new }
         ensures allowed { OnOk result (first_refusal (making_checks self.old name.now config.now) ≡ None) }
         ensures refused { IfErr result (IsRefusal (making_checks self.old name.now config.now)) }
         ensures settled { trim self.new ≡ self.new }
         ensures err { OnErr result (self.new ≡ self.old) }
+        ensures err_gone { OnErr result (gone.new ≡ gone.old) }
     {
         self.holds();
         let consumer = self.new_consumer(name, config)?;
         let mut info = self.info_of_new(&consumer)?;
         self.insert(consumer)?;
-        self.release();
+        self.release(gone);
         info.info = self.numbers(name).unwrap_or(info.info);
         Ok(info)
     }
@@ -85,7 +94,7 @@ impl StreamState {
         Ok(())
     }
 
-    /// What is told of a new consumer, before it has its place.
+    /// Its information, with the numbers of one to which nothing is still to be delivered.
     fn info_of_new(&self, consumer: &Consumer) -> Result<ConsumerInfo, NoMemory>
         ensures stream { IfOk result (λ told. told.stream ≡ self.now.config.name) }
         ensures name { IfOk result (λ told. told.name ≡ consumer.now.name) }
@@ -150,9 +159,9 @@ impl StreamState {
         let Some(place) = self.stream.place(&ack.consumer) else {
             return Ok(Reply::Silent);
         };
-        let Acked { reply: told, loose } = self.stream.ack(place, ack, reply, outs)?;
-        self.loose = self.loose.join(loose);
-        Ok(told)
+        let told = self.stream.ack(place, ack, reply, outs)?;
+        self.loose = self.loose.join(told.loose);
+        Ok(told.reply)
     }
 
     /// A pull of the consumer of a name, at the stream's moment. `Nobody` if there is none. An `Err` changes nothing and adds nothing.

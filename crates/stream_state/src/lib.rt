@@ -3,6 +3,7 @@
 
 mod ageing;
 mod calls;
+mod limits;
 mod listing;
 mod releasing;
 mod removing;

@@ -38,3 +38,9 @@ returns-clause-info c =
 
 pub returns-in_err-info-clause-refused : goal.returns-in_err-info-clause-refused
 returns-in_err-info-clause-refused c = refused_as (making_checks c.args.self.now c.args.name.now c.args.config.now) NoMemory _ c.from_residual-in_err-info.ensures.1 tt
+
+pub release-requires : goal.release-requires
+release-requires c = record { room = rw c.in_ok-insert.ensures.ok c.requires.room }
+
+pub returns-clause-gone : goal.returns-clause-gone
+returns-clause-gone c = rw c.in_ok-insert.ensures.ok at c.release.ensures.gone
