@@ -11,7 +11,7 @@ use Rattle.js_model.specs.Streams.{only, seqs}
 use Rattle.js_model.specs.Trim.{trim, trim_bytes, trim_count, trim_subjects}
 use Rattle.js_model.specs.declared.stream.Message.{Message}
 use Rattle.js_model.specs.declared.stream.Stream.{Stream}
-use Rattle.js_model.proofs.Members.{IsIn, here, there, found_in, in_bounds}
+use Rattle.js_model.proofs.Members.{IsIn, here, found_in, in_bounds}
 use Rattle.js_model.proofs.Named.{some_is}
 use Rattle.model_laws.proofs.SoundParts.{map-filter}
 use Rattle.effects.specs.Ranges.{Range}
@@ -25,7 +25,7 @@ use Rattle.followed_stream.proofs.Attending.{coherent, leaves_none, leaves_more,
 use Rattle.removals.specs.Leaving.{follows, is_of, leaving, trim_ranges}
 use Rattle.removals.specs.Removed.{extends, HasPlace, Notes, NotesOne, Removed}
 use Rattle.removals.proofs.Placing.{below_less, has_less}
-use Rattle.removals.proofs.Steps.{noting_all, noting_more, noting_none, noting_some, HasLeft, IsAbove, Noting}
+use Rattle.removals.proofs.Steps.{noting_all, noting_more, noting_none, noting_some, IsAbove, Noting}
 use Rattle.stream_state.specs.Removing.{HasRoom}
 
 pub record Drops (start : Removed) (last : Option ℕ) (old now : Stream) (gone : Removed) : Type 0 where

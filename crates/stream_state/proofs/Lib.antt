@@ -12,3 +12,4 @@ pub mod Making
 pub mod Drops
 pub mod Thinning
 pub mod Publishing
+pub mod GivingUp

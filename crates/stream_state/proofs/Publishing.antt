@@ -1,17 +1,17 @@
 -- What a publish, a purge and a delete note of what leaves.
-use Rattle.std.proofs.Common.{◌≡◌, ℕ, ◌+◌, ◌<◌, ◌≤◌, ◌==◌, true, false, Option, Some, None, List, length, refl, sym, ap, ◌∙◌, arith, subst}
+use Rattle.std.proofs.Common.{◌≡◌, ℕ, ◌+◌, true, Option, Some, None, List, length, refl, ap, ◌∙◌, arith, subst}
 use Rattle.std.specs.Prelude.{All, is_some}
 use Rattle.std.proofs.lemmas.List.{length_push}
 use Rattle.js_base.specs.Bytes.{Bytes, has}
-use Rattle.js_model.specs.Events.{all_but_last, is_below, message_at, purge_list, with_message}
+use Rattle.js_model.specs.Events.{message_at, purge_list, with_message}
 use Rattle.js_model.specs.Lists.{Between, IsPart}
-use Rattle.js_model.specs.Streams.{passes_filter, seqs}
+use Rattle.js_model.specs.Streams.{seqs}
 use Rattle.js_model.specs.Verdict.{message_of}
 use Rattle.js_model.specs.declared.event.Publish.{Publish}
 use Rattle.js_model.specs.declared.stream.Message.{Message}
 use Rattle.js_model.specs.declared.stream.Stream.{Stream}
-use Rattle.js_model.proofs.Members.{IsIn, in_part}
-use Rattle.js_model.proofs.Parts.{all_part, between_map, filter_part, part_between, part_map, part_trans, take_part}
+use Rattle.js_model.proofs.Members.{in_part}
+use Rattle.js_model.proofs.Parts.{between_map, filter_part, part_between, part_map, part_trans, take_part}
 use Rattle.effects.proofs.Removing.{in_has}
 use Rattle.stored_stream.proofs.Sounding.{with_message_is}
 use Rattle.followed_stream.specs.Attended.{without_seq, IsAttended}

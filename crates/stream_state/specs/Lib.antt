@@ -2,3 +2,4 @@ pub mod Settled
 pub mod Answering
 pub mod Serving
 pub mod Removing
+pub mod GivingUp

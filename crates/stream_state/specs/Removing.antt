@@ -1,5 +1,5 @@
 -- The room for noting what leaves a stream, this server's own.
-use Rattle.std.specs.Prelude.{ℕ, ◌+◌, ◌≤◌, length}
+use Rattle.std.specs.Prelude.{◌+◌, ◌≤◌, length}
 use Rattle.js_model.specs.declared.stream.Stream.{Stream}
 use Rattle.removals.specs.Removed.{Removed}
 

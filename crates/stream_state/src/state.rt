@@ -4,7 +4,7 @@ ghost use Rattle.std.specs.Prelude.{◌≡◌, ◌+◌, ◌^◌, ◌<◌, ◌≤
 ghost use Rattle.std.specs.List.{last_or};
 ghost use Rattle.std.specs.Option.{option_copied, option_to_list};
 ghost use Rattle.js_model.specs.declared.reply.Verdict.TheVariants.{Take};
-ghost use Rattle.js_model.specs.Advance.{advance};
+ghost use Rattle.js_model.specs.Advance.{advance, aged};
 ghost use Rattle.js_model.specs.Configs.{is_stream_config};
 ghost use Rattle.js_model.specs.Consumers.{empty_stream};
 ghost use Rattle.js_model.specs.Counts.{first_message};
@@ -18,15 +18,17 @@ ghost use Rattle.followed_stream.specs.Attended.{AreNamedApart};
 ghost use Rattle.followed_stream.specs.Delivering.{AreCurrent};
 ghost use Rattle.removals.specs.Leaving.{leaving, trim_ranges};
 ghost use Rattle.removals.specs.Removed.{Notes};
+ghost use Rattle.stream_state.specs.GivingUp.{giving_up};
 ghost use Rattle.stream_state.specs.Removing.{HasRoom, HasRoomForOne};
 ghost use Rattle.stream_state.specs.Settled.{AreProper};
 
 use crate::ageing::drop_old;
+use crate::giving_up::{keep_giving_up, names_giving_up};
 use crate::releasing::release;
 use crate::removing::{remove_all, take_out};
 use crate::trimming::{trim, trim_on};
 use followed_stream::{FollowedStream, Span};
-use js_base::{Moment, NoMemory};
+use js_base::{Blob, List, Moment, NoMemory};
 use js_model::{Message, Publish, StreamConfig, Verdict};
 use removals::Removals;
 use std::alloc::Global;
@@ -99,6 +101,13 @@ impl StreamState {
         ensures err { OnErr result (gone.new ≡ gone.old) }
     {
         gone.reserve(self.stream.count() + 1)
+    }
+
+    /// How many ids the duplicate window has.
+    pub fn id_count(&self) -> u64
+        ensures value { result ≡ length self.now.ids }
+    {
+        self.stream.stored().id_count()
     }
 
     /// The moment at which it was made.
@@ -230,21 +239,33 @@ impl StreamState {
         self.loose = Span::up_to(self.stream.last());
     }
 
+    /// The names, in their order, of the consumers of which passing time would give up a delivery if no message were too old. It is called before `advance`.
+    pub fn giving_up(&self, now: Moment) -> Result<List<Blob>, NoMemory>
+        ensures value { IfOk result (λ names. names ≡ giving_up (max self.now.moment now) self.now.consumers) }
+    {
+        let now = later(self.stream.moment(), now);
+        names_giving_up(self.alloc, self.stream.followers(), now)
+    }
+
     /// Lets time pass until a moment, or until its own if that is later: messages and ids go that are too old, and the consumers stand at that
     /// moment. Of the names that `giving_up` gave, it gives those whose consumers give something up. It takes no memory but for one range, and costs what it
     /// removes and what the consumers give up.
-    pub fn advance(&mut self, now: Moment, gone: &mut Removals)
+    pub fn advance(&mut self, now: Moment, gone: &mut Removals, names: List<Blob>) -> List<Blob>
         requires room { 1 ≤ gone.old.spare }
+        requires names { names ≡ giving_up (max self.old.moment now) self.old.consumers }
         ensures value { self.new ≡ advance self.old now }
         ensures current { AreCurrent self.new }
         ensures settled { trim self.new ≡ self.new }
         ensures gone { Notes gone.old (leaving gone.old.below self.old.messages self.new.messages) gone.new }
+        ensures names { result ≡ giving_up (max self.old.moment now) (aged self.old (max self.old.moment now)).consumers }
     {
         let now = later(self.stream.moment(), now);
         drop_old(&mut self.stream, now, gone);
+        let names = keep_giving_up(&self.stream, now, names);
         self.stream.pass_time(now);
         let loose = self.stream.advance_consumers(now);
         self.loose = self.loose.join(loose);
+        names
     }
 
     /// Lets the messages go that the retention does not keep, by JetStream's retention policies. What its consumers need is looked up for the messages

@@ -1,4 +1,4 @@
-use Rattle.std.proofs.Common.{◌≡◌, Some, ap, sym, subst, ◌∙◌}
+use Rattle.std.proofs.Common.{◌≡◌, Some, sym, subst, ◌∙◌}
 use Rattle.std.specs.Prelude.{option_map, IsSome}
 use Rattle.js_model.specs.Advance.{young}
 use Rattle.js_model.specs.Counts.{first_message}

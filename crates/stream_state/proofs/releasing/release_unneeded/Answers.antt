@@ -1,5 +1,4 @@
 use Rattle.std.proofs.Common.{ap, ◌∙◌}
-use Rattle.std.specs.Prelude.{unwrap_or}
 use Rattle.js_model.specs.declared.stream.Stream.{Stream}
 use Rattle.stored_stream.specs.Selecting.{next_passing}
 use Rattle.stream_state.proofs.Drops.{drops_more, drops_none, drops_noted, has_place, next_above, room_less}

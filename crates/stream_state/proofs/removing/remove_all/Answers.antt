@@ -1,8 +1,8 @@
-use Rattle.std.proofs.Common.{◌≡◌, ◌+◌, true, get_or, refl, arith}
+use Rattle.std.proofs.Common.{◌≡◌, ◌+◌, true, get_or, arith}
 use Rattle.std.specs.Prelude.{is_some}
 use Rattle.js_model.specs.Events.{message_at}
-use Rattle.stream_state.proofs.Drops.{drops_more, drops_none, drops_noted, has_place, has_there, room_less, waits_more, waits_none}
-use Rattle.stream_state.proofs.Loops.{removes_all, removes_none, removes_more}
+use Rattle.stream_state.proofs.Drops.{drops_more, drops_none, has_place, has_there, room_less, waits_more, waits_none}
+use Rattle.stream_state.proofs.Loops.{removes_none, removes_more}
 use Rattle.stream_state.proofs.removing.remove_all.Goals as goal
 
 pub loop-seq-init : goal.loop-seq-init

@@ -1,5 +1,4 @@
 use Rattle.stream_state.proofs.Drops.{three_left, three_noted, trimmed_within}
-use Rattle.std.proofs.Common.{sym, subst}
 use Rattle.stream_state.proofs.trimming.trim_on.Goals as goal
 
 pub returns-clause-left : goal.returns-clause-left

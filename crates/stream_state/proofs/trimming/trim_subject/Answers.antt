@@ -1,9 +1,8 @@
 use Rattle.std.proofs.Common.{sym, subst}
-use Rattle.js_model.specs.Trim.{newest_at}
 use Rattle.js_model.specs.declared.stream.Stream.{Stream}
 use Rattle.retention.specs.Over.{IsOverOnlyOn}
 use Rattle.followed_stream.proofs.Going.{over_only_less}
-use Rattle.stream_state.proofs.Drops.{drops_left, drops_more, drops_none, drops_noted, has_place, room_less}
+use Rattle.stream_state.proofs.Drops.{drops_left, drops_more, drops_none, drops_noted, room_less}
 use Rattle.stream_state.proofs.Thinning.{thin_above, thin_all, thin_more, thin_none, thin_there, thins_none}
 use Rattle.stream_state.proofs.trimming.trim_subject.Goals as goal
 

@@ -1,5 +1,5 @@
-use Rattle.std.proofs.Common.{◌≡◌, None, Option, ap, sym, ◌∙◌, refl}
-use Rattle.std.specs.Prelude.{is_some, unwrap_or}
+use Rattle.std.proofs.Common.{ap, sym, ◌∙◌}
+use Rattle.std.specs.Prelude.{is_some}
 use Rattle.js_model.specs.Streams.{only}
 use Rattle.js_model.specs.Trim.{newest_at}
 use Rattle.js_model.specs.declared.stream.Message.{Message}
@@ -23,8 +23,8 @@ pub loop-seq-smaller : goal.loop-seq-smaller
 loop-seq-smaller c =
     let i = c.loop-seq.invariant in
     let next = c.in-Some.ensures.value ∙ ap (λ (x : Stream). next_passing (λ (m : Message). is_over_on x m.subject) x.messages c.unwrap_or.result) c.stored.ensures.value
-        ∙ ap (next_passing (λ (m : Message). is_over_on c.loop-seq.stream m.subject) c.loop-seq.stream.messages) c.unwrap_or.ensures
-        ∙ sym (from_next _ c.loop-seq.last _ c.loop-seq.stream c.loop-seq.gone i.0 i.1) in
+    ∙ ap (next_passing (λ (m : Message). is_over_on c.loop-seq.stream m.subject) c.loop-seq.stream.messages) c.unwrap_or.ensures
+    ∙ sym (from_next _ c.loop-seq.last _ c.loop-seq.stream c.loop-seq.gone i.0 i.1) in
     c.take_out.ensures.fewer (thin_there _ c.loop-seq.last _ c.loop-seq.stream c.loop-seq.gone i.0 i.1 c.in-Some.seq next)
 
 pub loop-seq-preserved : goal.loop-seq-preserved
@@ -33,8 +33,8 @@ loop-seq-preserved c =
     let mid = c.loop-seq.stream in
     let n = c.in-Some.seq in
     let next = c.in-Some.ensures.value ∙ ap (λ (x : Stream). next_passing (λ (m : Message). is_over_on x m.subject) x.messages c.unwrap_or.result) c.stored.ensures.value
-        ∙ ap (next_passing (λ (m : Message). is_over_on mid m.subject) mid.messages) c.unwrap_or.ensures
-        ∙ sym (from_next _ c.loop-seq.last _ mid c.loop-seq.gone i.0 i.1) in
+    ∙ ap (next_passing (λ (m : Message). is_over_on mid m.subject) mid.messages) c.unwrap_or.ensures
+    ∙ sym (from_next _ c.loop-seq.last _ mid c.loop-seq.gone i.0 i.1) in
     let there = thin_there _ c.loop-seq.last _ mid c.loop-seq.gone i.0 i.1 n next in (
       drops_more _ c.loop-seq.last _ mid c.take_out.new.stream c.loop-seq.gone c.take_out.new.gone n c.requires.sound i.0 there
           (thin_above _ c.loop-seq.last _ mid c.loop-seq.gone i.0 i.1 n next) c.take_out.ensures.left c.take_out.ensures.sound c.take_out.ensures.noted,
@@ -46,16 +46,16 @@ pub returns-clause-left : goal.returns-clause-left
 returns-clause-left c =
     let i = c.loop-seq.invariant in
     let none = c.in_default.ensures.value ∙ ap (λ (x : Stream). next_passing (λ (m : Message). is_over_on x m.subject) x.messages c.unwrap_or.result) c.stored.ensures.value
-        ∙ ap (next_passing (λ (m : Message). is_over_on c.loop-seq.stream m.subject) c.loop-seq.stream.messages) c.unwrap_or.ensures
-        ∙ sym (from_next _ c.loop-seq.last _ c.loop-seq.stream c.loop-seq.gone i.0 i.1) in
+    ∙ ap (next_passing (λ (m : Message). is_over_on c.loop-seq.stream m.subject) c.loop-seq.stream.messages) c.unwrap_or.ensures
+    ∙ sym (from_next _ c.loop-seq.last _ c.loop-seq.stream c.loop-seq.gone i.0 i.1) in
     drops_left _ c.loop-seq.last _ c.loop-seq.stream c.loop-seq.gone _ i.0 (thin_all _ c.loop-seq.last _ c.loop-seq.stream c.loop-seq.gone i.0 i.1 (thin_none c.loop-seq.stream none))
 
 pub returns-clause-gone : goal.returns-clause-gone
 returns-clause-gone c =
     let i = c.loop-seq.invariant in
     let none = c.in_default.ensures.value ∙ ap (λ (x : Stream). next_passing (λ (m : Message). is_over_on x m.subject) x.messages c.unwrap_or.result) c.stored.ensures.value
-        ∙ ap (next_passing (λ (m : Message). is_over_on c.loop-seq.stream m.subject) c.loop-seq.stream.messages) c.unwrap_or.ensures
-        ∙ sym (from_next _ c.loop-seq.last _ c.loop-seq.stream c.loop-seq.gone i.0 i.1) in
+    ∙ ap (next_passing (λ (m : Message). is_over_on c.loop-seq.stream m.subject) c.loop-seq.stream.messages) c.unwrap_or.ensures
+    ∙ sym (from_next _ c.loop-seq.last _ c.loop-seq.stream c.loop-seq.gone i.0 i.1) in
     drops_noted _ c.loop-seq.last _ c.loop-seq.stream c.loop-seq.gone _ i.0 (thin_all _ c.loop-seq.last _ c.loop-seq.stream c.loop-seq.gone i.0 i.1 (thin_none c.loop-seq.stream none))
 
 pub returns-then-is_none-clause-left : goal.returns-then-is_none-clause-left

@@ -1,5 +1,4 @@
 use Rattle.std.proofs.Common.{true, ap, ◌∙◌}
-use Rattle.js_model.specs.declared.stream.Stream.{Stream}
 use Rattle.js_model.specs.Events.{with_message}
 use Rattle.js_model.specs.Trim.{trim}
 use Rattle.stream_state.proofs.Proper.{proper_message, proper_trim}
