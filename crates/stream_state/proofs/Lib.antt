@@ -13,3 +13,4 @@ pub mod Drops
 pub mod Thinning
 pub mod Publishing
 pub mod GivingUp
+pub mod Restored

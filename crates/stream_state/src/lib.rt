@@ -8,6 +8,7 @@ mod limits;
 mod listing;
 mod releasing;
 mod removing;
+mod restoring;
 mod rules;
 mod serving;
 mod showing;
