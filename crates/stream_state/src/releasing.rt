@@ -16,8 +16,8 @@ use removals::Removals;
 use retention::is_kept;
 use stream_view::View;
 
-/// Lets the messages go that the retention does not keep, and notes them. None of them is outside the span; it looks at the messages in the span alone. It takes no
-/// memory.
+/// Lets the messages go that the retention does not keep, and notes them. None of them is outside the span; it looks at the messages in the span
+/// alone. It takes no memory.
 pub(crate) fn release(stream: &mut FollowedStream, loose: Span, gone: &mut Removals)
     requires sound { IsAttended stream.old }
     requires outside { IsKeptOutside loose stream.old }

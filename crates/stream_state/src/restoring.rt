@@ -13,7 +13,8 @@ use js_model::Stream;
 use std::alloc::Global;
 
 impl StreamState {
-    /// The stream that was kept, of which neither the limits nor the retention drop a message. It goes through the messages, and once more for each consumer.
+    /// The stream that was kept, of which neither the limits nor the retention drop a message. It goes through the messages, and once more for each
+    /// consumer.
     pub fn restore(alloc: Global, kept: &Stream) -> Result<StreamState, NoMemory>
         requires kept { IsRestorable kept.now }
         requires proper { AreProper kept.now.consumers }

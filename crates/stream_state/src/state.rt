@@ -239,7 +239,8 @@ impl StreamState {
         self.loose = Span::up_to(self.stream.last());
     }
 
-    /// The names, in their order, of the consumers of which passing time would give up a delivery if no message were too old. It is called before `advance`.
+    /// The names, in their order, of the consumers of which passing time would give up a delivery if no message were too old. It is called before
+    /// `advance`.
     pub fn giving_up(&self, now: Moment) -> Result<List<Blob>, NoMemory>
         ensures value { IfOk result (λ names. names ≡ giving_up (max self.now.moment now) self.now.consumers) }
     {
@@ -248,8 +249,8 @@ impl StreamState {
     }
 
     /// Lets time pass until a moment, or until its own if that is later: messages and ids go that are too old, and the consumers stand at that
-    /// moment. Of the names that `giving_up` gave, it gives those whose consumers give something up. It takes no memory but for one range, and costs what it
-    /// removes and what the consumers give up.
+    /// moment. Of the names that `giving_up` gave, it gives those whose consumers give something up. It takes no memory but for one range, and costs
+    /// what it removes and what the consumers give up.
     pub fn advance(&mut self, now: Moment, gone: &mut Removals, names: List<Blob>) -> List<Blob>
         requires room { 1 ≤ gone.old.spare }
         requires names { names ≡ giving_up (max self.old.moment now) self.old.consumers }
