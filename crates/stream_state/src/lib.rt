@@ -3,9 +3,12 @@
 
 mod ageing;
 mod calls;
+mod giving_up;
+mod limits;
 mod listing;
 mod releasing;
 mod removing;
+mod restoring;
 mod rules;
 mod serving;
 mod showing;
@@ -13,4 +16,5 @@ mod state;
 mod telling;
 mod trimming;
 
+pub use calls::{Acknowledged, NewConsumer};
 pub use state::StreamState;
