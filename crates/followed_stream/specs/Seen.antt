@@ -13,7 +13,7 @@ pub record AreSeen (s : Stream) (followers : List Following) (now : ℕ) (seen :
   pub later : seen ≡ later s now
   pub whole : is_whole ≡ true → young s now ≡ s.messages
 
--- the consumer holds stored messages alone, and is counted
+-- the messages are in order, the consumer holds stored ones alone, and it is counted how many are still to be delivered to it
 pub record IsHeldIn (s : Stream) (f : Following) : Type 0 where
   pub order : IsInOrder s
   pub held : HoldsStored s f.consumer

@@ -56,7 +56,7 @@ impl<'a> LaterFollowedStream<'a> {
     }
 
     /// Whether something can be delivered to the consumer at a place, if somebody listens to a push consumer's subject or nobody does. It takes no memory.
-    /// Unless a message is too old, a delivery is given up or a pull ends by then, it looks at nothing that is gone by then.
+    /// Only if a message is too old, a delivery is given up or a pull ends by then does it go through what the consumer holds.
     pub fn is_ready(&self, place: usize, listened: bool) -> bool
         ensures value { IsReadyAt self.entry.now place listened result }
     {
