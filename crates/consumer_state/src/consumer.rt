@@ -1,6 +1,6 @@
 //! A consumer as it is kept.
 
-ghost use Rattle.std.specs.Prelude.{◌≡◌};
+ghost use Rattle.std.specs.Prelude.{◌≡◌, IfOk};
 ghost use Rattle.js_model.specs.declared.consumer.Consumer.{Consumer as Kept};
 ghost use Rattle.js_model.specs.declared.stream.Stream.{Stream};
 ghost use Rattle.js_model.specs.Counts.{info_of, pending_count};
@@ -13,7 +13,7 @@ ghost use Rattle.consumer_state.specs.Passing.{overflow_of, without_overflow};
 
 use consumer_need::{Need, passes};
 use consumer_progress::ConsumerProgress;
-use js_base::{Blob, Moment};
+use js_base::{Blob, List, Moment, NoMemory};
 use js_model::{AckPolicy, ConsumerConfig, Info};
 use pull_queue::PullQueue;
 use std::alloc::Global;
@@ -65,6 +65,31 @@ impl Consumer {
         &self.config
     }
 
+    /// The sequence from which on messages are still to be delivered.
+    pub fn cursor(&self) -> u64
+        ensures value { result ≡ self.now.cursor }
+    {
+        self.progress.cursor()
+    }
+
+    /// The sequences below the cursor that are still to be delivered, in their order.
+    pub fn picks(&self) -> Result<List<u64>, NoMemory>
+        ensures value { IfOk result (λ picks. picks ≡ self.now.picks) }
+    {
+        self.holds();
+        let cursor = self.progress.cursor();
+        let mut picks = List::new(self.alloc);
+        let mut from = 0;
+        while from < cursor {
+            let Some(pick) = self.progress.pick_from(from) else {
+                return Ok(picks);
+            };
+            picks.push(pick)?;
+            from = pick + 1;
+        }
+        Ok(picks)
+    }
+
     /// Whether its messages go to a subject of its own.
     pub fn is_push(&self) -> bool
         ensures value { result ≡ is_push self.now }
@@ -94,7 +119,7 @@ impl Consumer {
     pub fn awaits(&self, subject: &[u8], seq: u64) -> bool
         ensures value { result ≡ awaits self.now subject.now seq }
     {
-        self.takes(subject) && (self.progress.has_pick(seq) || self.progress.cursor() <= seq)
+        (self.progress.cursor() <= seq || self.progress.has_pick(seq)) && self.takes(subject)
     }
 
     /// Forgets the sequence, whose message is gone. It takes no memory.
@@ -136,6 +161,6 @@ impl Need for Consumer {
     }
 
     fn needs(&self, subject: &[u8], seq: u64) -> bool {
-        self.takes(subject) && (self.progress.cursor() <= seq || self.progress.is_held(seq))
+        (self.progress.cursor() <= seq || self.progress.is_held(seq)) && self.takes(subject)
     }
 }

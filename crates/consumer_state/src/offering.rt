@@ -1,6 +1,7 @@
 //! Which message may be sent next, and whether something can be delivered.
 
 ghost use Rattle.std.specs.Prelude.{◌≡◌, find, is_some};
+ghost use Rattle.std.specs.List.{list_any};
 ghost use Rattle.js_model.specs.Deliver.{may_wait};
 ghost use Rattle.consumer_state.specs.Offering.{is_asked, onward, IsAmong, IsCurrent, IsOffer};
 ghost use Rattle.consumer_state.specs.Delivering.{IsReady};
@@ -32,8 +33,8 @@ impl Consumer {
     }
 
     /// Whether something can be delivered at the stream's moment. `undelivered` is how many messages are still to be delivered, and `listened` says whether
-    /// somebody listens to a push consumer's deliver subject. Where nobody asks, nothing is looked for; else the cost grows with how many pulls wait, and it
-    /// is that of `candidate`.
+    /// somebody listens to a push consumer's deliver subject. Where nobody asks, nothing is looked for; else it costs as much as
+    /// `candidate`.
     pub fn is_ready<W: View>(&self, stream: &W, listened: bool, undelivered: u64) -> bool
         requires current { IsCurrent (W.stream stream.now) self.now undelivered }
         ensures value { IsReady (W.stream stream.now) listened self.now result }
@@ -56,9 +57,9 @@ impl Consumer {
 
     /// Whether some pull does not wait for messages.
     fn has_no_wait(&self) -> bool
-        ensures value { result ≡ is_some (find (λ p. p.no_wait) self.now.waiting) }
+        ensures value { result ≡ list_any (λ p. p.no_wait) self.now.waiting }
     {
-        self.pulls.no_wait().is_some()
+        self.pulls.has_no_wait()
     }
 
     /// The first pick, or else the first message from the cursor on that the filter matches, if one more delivery may wait.

@@ -31,6 +31,13 @@ impl Consumer {
         Ok(())
     }
 
+    /// Whether some delivery that is due at a moment was made as often as it may be: `advance` up to that moment gives it up.
+    pub fn has_spent(&self, now: Moment) -> bool
+        ensures value { result ≡ list_any (is_spent now self.now) self.now.pending }
+    {
+        self.progress.has_spent(now, self.config.max_deliver)
+    }
+
     /// Lets time pass up to a moment: pulls end, heartbeats are marked, and the deliveries that were made as often as they may be are given up. It tells
     /// whether any delivery is given up now. It takes no memory. More than 65,536 may then be given up: call `overflow` until that gives `None`. What it
     /// costs grows with how many are given up now, and with how many pulls wait if one of them ends or a heartbeat comes.

@@ -1,6 +1,7 @@
 -- What an acknowledgement and a pull leave of a consumer.
 use Rattle.std.proofs.Common.{◌≡◌, ℕ, ◌==◌, Bool, true, false, ◌&&◌, ◌||◌, cond, not, List, [], ◌∷◌, ◌++◌, Option, Some, None, map, refl, sym, ap, subst, ◌∙◌}
 use Rattle.std.specs.Prelude.{All, nat_le}
+use Rattle.std.specs.List.{list_any}
 use Rattle.std.proofs.lemmas.List.Elements.{All-filter, All-map, All-weaker, filter_agree}
 use Rattle.js_base.specs.Bytes.{Bytes, has}
 use Rattle.js_base.specs.declared.out.Out.{Out}
@@ -15,10 +16,11 @@ use Rattle.js_model.specs.Acknowledge.{acknowledged, ends, is_no_delivery, moved
 use Rattle.js_model.specs.Events.{after_ack, next_ask, next_outs}
 use Rattle.js_model.specs.Pulls.{pull_refusal, pulled, pulled_unless}
 use Rattle.js_model.specs.Retention.{needs}
-use Rattle.js_model.specs.Streams.{seqs, takes}
+use Rattle.js_model.specs.Streams.{pending_seqs, seqs, takes}
+use Rattle.consumer_state.specs.DueAgain.{changed_due}
 use Rattle.consumer_state.specs.Ending.{ack_ends, before_ending, begun, kind_ends, outs_to, reply_to, LawAcknowledged, LawBeforeEnding}
 use Rattle.consumer_state.proofs.Endings.{without_none}
-use Rattle.followed_stream.specs.Asked.{acked, acked_outs, IsAcked}
+use Rattle.followed_stream.specs.Asked.{acked, acked_outs, ends_some, IsAcked}
 use Rattle.followed_stream.specs.declared.answering.Acked.{Acked}
 use Rattle.followed_stream.specs.Followers.{Following, IsCounted}
 use Rattle.followed_stream.specs.Spans.{spans}
@@ -189,11 +191,41 @@ module _ (now : ℕ) (reply : Option Bytes) (n : ℕ) (kind : AckKind) (c : Cons
       go true = refl
       go false = of kind
 
+-- whether some delivery ends is known before the first step
+any_agree : {X : Type 0} (t u : X → Bool) → ((x : X) → t x ≡ u x) → (xs : List X) → list_any t xs ≡ list_any u xs
+any_agree t u h [] = refl
+any_agree t u h (x ∷ xs) = rw (h x, any_agree t u h xs) refl
+
+module _ (now : ℕ) (reply : Option Bytes) (n : ℕ) (kind : AckKind) (c : Consumer) where
+  ends_begun : (t : ℕ → Bool) → ends_some t (before_ending now reply n kind c) ≡ ends_some t c
+  ends_begun t = go (is_no_delivery c n)
+    where
+      of_due : (due : ℕ) → ends_some t (with_due n due c) ≡ ends_some t c
+      of_due due = ap (λ (ns : List ℕ). list_any t ns || list_any t c.given_up) (moved_seqs n due c.pending)
+
+      of : (k : AckKind) → ends_some t (begun now reply n k c) ≡ ends_some t c
+      of Acknowledge = refl
+      of (Nak delay) = of_due _
+      of Wpi = of_due _
+      of (Next ask) = ap (ends_some t) (pulled_is now reply (Some ask) c)
+      of Term = refl
+
+      go : (b : Bool) → ends_some t (cond b c (begun now reply n kind c)) ≡ ends_some t c
+      go true = refl
+      go false = of kind
+
+  ends_first : LawBeforeEnding → ends_some (ack_ends (before_ending now reply n kind c) n kind) (before_ending now reply n kind c) ≡ ends_some (ack_ends c n kind) c
+  ends_first first =
+      ends_begun (ack_ends (before_ending now reply n kind c) n kind)
+      ∙ rw (any_agree (ack_ends (before_ending now reply n kind c) n kind) (ack_ends c n kind) (first now reply n kind c) (pending_seqs c), any_agree (ack_ends (before_ending now reply n kind c) n kind) (ack_ends c n kind) (first now reply n kind c) c.given_up) refl
+
 pub acks : LawAcknowledged → LawBeforeEnding → (now : ℕ) (reply : Option Bytes) (n : ℕ) (kind : AckKind) (old : Following) (mid new : Consumer) (told : Acked) (outs_old outs_new : List Out)
-    → told.reply ≡ reply_to old.consumer n kind → outs_new ≡ outs_old ++ outs_to reply n kind old.consumer → mid ≡ before_ending now reply n kind old.consumer → new ≡ without (ack_ends mid n kind) mid
+    → told.reply ≡ reply_to old.consumer n kind → told.ended ≡ ends_some (ack_ends mid n kind) mid → told.due ≡ changed_due now n kind old.consumer → outs_new ≡ outs_old ++ outs_to reply n kind old.consumer → mid ≡ before_ending now reply n kind old.consumer → new ≡ without (ack_ends mid n kind) mid
     → ((m : Message) → spans told.loose m.seq ≡ false → needs new m ≡ needs mid m) → IsAcked now reply n kind old told outs_old outs_new (record old { consumer = new })
-acks whole first now reply n kind old mid new told outs_old outs_new replied sent begins ends loose = record {
+acks whole first now reply n kind old mid new told outs_old outs_new replied some due sent begins ends loose = record {
   reply_is = replied;
+  ended = some ∙ ap (λ (c : Consumer). ends_some (ack_ends c n kind) c) begins ∙ ends_first now reply n kind old.consumer first;
+  due = due;
   outs = sent ∙ ap (λ (outs : List Out). outs_old ++ outs) (outs_same now reply n kind old.consumer);
   left = ap (λ (c : Consumer). record old { consumer = c }) (ends ∙ ap (λ (c : Consumer). without (ack_ends c n kind) c) begins ∙ acked_is now reply n kind old.consumer whole first);
   loose = λ m e. loose m e ∙ ap (λ (c : Consumer). needs c m) begins ∙ first_needs now reply n kind old.consumer m;

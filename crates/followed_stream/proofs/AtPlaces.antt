@@ -25,6 +25,7 @@ use Rattle.js_model.specs.Streams.{confined, passes_filter, seqs, takes, with_co
 use Rattle.consumer_need.specs.Stored.{HoldsStored}
 use Rattle.consumer_state.specs.Before.{current_of}
 use Rattle.consumer_state.specs.Delivering.{IsReady}
+use Rattle.consumer_state.specs.DueAgain.{changed_due}
 use Rattle.consumer_state.specs.Offering.{IsCurrent}
 use Rattle.stored_stream.specs.Later.{later}
 use Rattle.followed_stream.specs.Asked.{acked, acked_outs, AcksAt, DropsAt, IsAcked, PullsAt}
@@ -172,6 +173,8 @@ module _ (s : Stream) (fs : List Following) (h : AreFollowed s fs) (i : ℕ) (ol
     consumer = old.consumer;
     found = found;
     reply_is = is.reply_is;
+    ended = is.ended;
+    due = is.due ∙ ap (λ k. changed_due k n kind old.consumer) when;
     outs = is.outs ∙ ap (λ k. outs_old ++ acked_outs k reply n kind old.consumer) when;
     left = whole_with new turns ∙ ap (λ (f : Following). with_consumer whole f.consumer) is.left ∙ ap (λ k. with_consumer whole (acked k reply n kind old.consumer)) when;
     loose = λ m e. need_same new turns m (is.loose m e) (takes_same whole old.consumer new.consumer m lessens);

@@ -1,6 +1,6 @@
 -- A stream with its consumers stays whole.
 use Rattle.std.proofs.Common.{◌≡◌, ℕ, ◌+◌, ◌<◌, ◌≤◌, ◌^◌, ◌==◌, not, List, [], ◌∷◌, ◌++◌, length, map, refl, sym, ap, subst, ◌∙◌}
-use Rattle.std.specs.Prelude.{IsTrue, filter, option_map}
+use Rattle.std.specs.Prelude.{IsTrue, filter}
 use Rattle.std.proofs.lemmas.List.Elements.{All-weaker}
 use Rattle.js_model.specs.declared.stream_config.StreamConfig.{StreamConfig}
 use Rattle.js_model.specs.declared.stream.Message.{Message}
@@ -12,9 +12,9 @@ use Rattle.js_model.specs.Configs.{is_stream_config}
 use Rattle.js_model.specs.Events.{with_message}
 use Rattle.js_model.specs.Lists.{IsPart}
 use Rattle.js_model.specs.Proper.{is_proper_publish}
-use Rattle.js_model.specs.Streams.{by_name, confined, only, seqs}
-use Rattle.js_model.proofs.Named.{KeepsNames, by_name-map}
+use Rattle.js_model.specs.Streams.{confined, only, seqs}
 use Rattle.js_model.proofs.Parts.{all_part, filter_part, part_trans}
+use Rattle.model_laws.proofs.SoundParts.{ordered_map}
 use Rattle.consumer_need.specs.Stored.{HoldsStored}
 use Rattle.retention.specs.Laws.{IsCoherent}
 use Rattle.retention.proofs.Confining.{holds_confined, only_own, only_within}
@@ -22,6 +22,7 @@ use Rattle.stored_stream.specs.Stored.{IsSound, stored_message, with_known}
 use Rattle.stored_stream.proofs.Sounding.{sound_less, sound_more, sound_later, sound_config, proper_small, proper_text, with_message_is}
 use Rattle.followed_stream.specs.Attended.{stored_of, without_seq, AreNamedApart, IsAttended}
 use Rattle.followed_stream.proofs.Holding.{has_more, holds_in}
+use Rattle.followed_stream.proofs.Ordered.{ordered_apart}
 
 -- ---- soundness says nothing of consumers
 
@@ -46,9 +47,8 @@ coherent s h = record { ascends = h.sound.ascends; held = h.held }
 
 -- ---- names
 
-pub named_map : (f : Consumer → Consumer) → KeepsNames f → (cs : List Consumer) → AreNamedApart cs → AreNamedApart (map f cs)
-named_map f k [] h = tt
-named_map f k (c ∷ cs) h = (by_name-map f k cs (f c).name ∙ ap (option_map f) (ap (by_name cs) (k.name c) ∙ h.0), named_map f k cs h.1)
+pub named : (s : Stream) → IsAttended s → AreNamedApart s.consumers
+named s h = ordered_apart s.consumers h.ordered
 
 -- ---- fewer messages
 
@@ -56,7 +56,7 @@ pub attended_less : (s : Stream) → IsAttended s → {ms : List Message} → Is
 attended_less s h {ms} p = record {
   sound = sound_with (record s { messages = ms }) (map (confined (seqs ms)) s.consumers) (sound_less s h.sound p);
   held = holds_confined s ms;
-  named = named_map (confined (seqs ms)) (record { name = λ c. refl }) s.consumers h.named;
+  ordered = ordered_map (confined (seqs ms)) (λ c. refl) s.consumers h.ordered;
 }
 
 -- what is left of a stream after messages went
@@ -85,14 +85,14 @@ module _ (s : Stream) (h : IsAttended s) where
   attended_later now later = record {
     sound = sound_with (record s { moment = now; ids = remembered s now }) s.consumers (sound_later s h.sound now later);
     held = All-weaker (HoldsStored s) (HoldsStored (record s { moment = now; ids = remembered s now })) (λ c k. holds_in s (record s { moment = now; ids = remembered s now }) c (λ n e. e) k) s.consumers h.held;
-    named = h.named;
+    ordered = h.ordered;
   }
 
   pub attended_config : (config : StreamConfig) → IsTrue (is_stream_config config) → IsAttended (record s { config = config })
   attended_config config valid = record {
     sound = sound_config s h.sound config valid;
     held = All-weaker (HoldsStored s) (HoldsStored (record s { config = config })) (λ c k. holds_in s (record s { config = config }) c (λ n e. e) k) s.consumers h.held;
-    named = h.named;
+    ordered = h.ordered;
   }
 
   -- one message more
@@ -100,7 +100,7 @@ module _ (s : Stream) (h : IsAttended s) where
   attended_more p proper room bound = subst IsAttended (sym (with_message_is s p)) (record {
     sound = sound_more s h.sound m p.wants.id refl refl (proper_small p (s.last + 1) s.moment proper) (proper_text p (s.last + 1) s.moment proper) room bound;
     held = All-weaker (HoldsStored s) (HoldsStored stored) (λ c k. holds_in s stored c (has_more s.messages m) k) s.consumers h.held;
-    named = h.named;
+    ordered = h.ordered;
   })
     where
       m : Message

@@ -12,11 +12,12 @@ use Rattle.js_model.specs.declared.consumer.Consumer.{Consumer}
 use Rattle.js_model.specs.Retention.{needs}
 use Rattle.js_model.specs.Streams.{by_name, in_place_of, takes, with_consumer}
 use Rattle.js_model.proofs.Named.{in_place_of-names, none_some, placed_other, placed_same, same_is, same_self, some_is}
+use Rattle.model_laws.proofs.SoundParts.{ordered_map}
 use Rattle.consumer_need.specs.Stored.{HoldsStored}
 use Rattle.followed_stream.specs.Attended.{AreNamedApart, IsAttended}
 use Rattle.followed_stream.specs.Followers.{attended, AreFollowed, Following, IsCounted}
 use Rattle.followed_stream.specs.Needing.{NeedSame}
-use Rattle.followed_stream.proofs.Attending.{named_map, sound_with}
+use Rattle.followed_stream.proofs.Attending.{named, sound_with}
 
 -- the consumers of a stream's followers
 abbrev pub consumers_of : List Following → List Consumer
@@ -132,7 +133,7 @@ pub record Turns (s : Stream) (old new : Following) : Type 0 where
 module _ (s : Stream) (fs : List Following) (h : AreFollowed s fs) (i : ℕ) (d : Following) (within : i < length fs) (new : Following) (turns : Turns (attended s fs) (get_or fs i d) new) where
   -- the stream with it
   pub changed : attended s (set fs i new) ≡ with_consumer (attended s fs) new.consumer
-  changed = ap (λ (cs : List Consumer). record s { consumers = cs }) (set_placed fs i d new h.attended.named within turns.name)
+  changed = ap (λ (cs : List Consumer). record s { consumers = cs }) (set_placed fs i d new (named (attended s fs) h.attended) within turns.name)
 
   held_new : (cs : List Consumer) → All (HoldsStored (attended s fs)) cs → All (HoldsStored (attended s fs)) (map (in_place_of new.consumer) cs)
   held_new [] a = All-nil (HoldsStored (attended s fs))
@@ -149,7 +150,7 @@ module _ (s : Stream) (fs : List Following) (h : AreFollowed s fs) (i : ℕ) (d 
     sound = sound_with (attended s fs) (map (in_place_of new.consumer) (attended s fs).consumers) h.attended.sound;
     held = All-weaker (HoldsStored (attended s fs)) (HoldsStored (with_consumer (attended s fs) new.consumer)) (λ c k. record { picks = k.picks; pending = k.pending; given_up = k.given_up }) (map (in_place_of new.consumer) (attended s fs).consumers)
         (held_new (attended s fs).consumers h.attended.held);
-    named = named_map (in_place_of new.consumer) (in_place_of-names new.consumer) (attended s fs).consumers h.attended.named;
+    ordered = ordered_map (in_place_of new.consumer) (λ c. (in_place_of-names new.consumer).name c) (attended s fs).consumers h.attended.ordered;
   }
 
   pub followed_changed : AreFollowed s (set fs i new)
@@ -161,4 +162,4 @@ module _ (s : Stream) (fs : List Following) (h : AreFollowed s fs) (i : ℕ) (d 
   -- messages of which it needs and takes the same are needed as before
   pub need_same_there : (m : Message) → needs new.consumer m ≡ needs (get_or fs i d).consumer m → takes new.consumer m ≡ takes (get_or fs i d).consumer m → NeedSame m (with_consumer (attended s fs) new.consumer).consumers (attended s fs).consumers
   need_same_there m n t =
-      need_same_placed m new.consumer (get_or fs i d).consumer (consumers_of fs) h.attended.named (ap (by_name (consumers_of fs)) turns.name ∙ found_at fs i d h.attended.named within) n t
+      need_same_placed m new.consumer (get_or fs i d).consumer (consumers_of fs) (named (attended s fs) h.attended) (ap (by_name (consumers_of fs)) turns.name ∙ found_at fs i d (named (attended s fs) h.attended) within) n t

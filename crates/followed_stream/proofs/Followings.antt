@@ -16,12 +16,13 @@ use Rattle.js_model.specs.Proper.{is_proper_publish}
 use Rattle.js_model.specs.Refusals.{first_refusal}
 use Rattle.js_model.specs.Verdict.{early_checks, first_of_all, known, late_checks, message_of, verdict}
 use Rattle.js_model.proofs.Parts.{filter_part}
+use Rattle.model_laws.proofs.SoundParts.{ordered_map}
 use Rattle.consumer_need.specs.Stored.{HoldsStored}
 use Rattle.stored_stream.specs.Stored.{IsSound, with_known, without}
 use Rattle.stored_stream.proofs.Sounding.{with_message_is}
 use Rattle.followed_stream.specs.Attended.{stored_of, without_seq, IsAttended}
 use Rattle.followed_stream.specs.Followers.{attended, gaining, losing, standing, AreFollowed, Following, IsCounted}
-use Rattle.followed_stream.proofs.Attending.{attended_config, attended_later, attended_less, attended_more, named_map, sound_stored, sound_with}
+use Rattle.followed_stream.proofs.Attending.{attended_config, attended_later, attended_less, attended_more, sound_stored, sound_with}
 use Rattle.followed_stream.proofs.Holding.{all_counted_less, all_counted_more, counted_few, gaining_consumers, losing_consumers}
 use Rattle.followed_stream.proofs.Timing.{holds_at}
 
@@ -45,7 +46,7 @@ verdict_as s t p room e =
 -- ---- a new stream
 
 pub attended_alone : (s : Stream) → IsSound s → IsAttended (attended s [])
-attended_alone s h = record { sound = sound_with s [] h; held = All-nil (HoldsStored (attended s [])); named = tt }
+attended_alone s h = record { sound = sound_with s [] h; held = All-nil (HoldsStored (attended s [])); ordered = tt }
 
 pub followed_alone : (s : Stream) → IsSound s → AreFollowed s []
 followed_alone s h = record { attended = attended_alone s h; counted = All-nil (IsCounted s.messages) }
@@ -104,7 +105,7 @@ module _ (s : Stream) (fs : List Following) (h : AreFollowed s fs) where
       sound = sound_with (attended s fs) (map (consumer_at now) (attended s fs).consumers) h.attended.sound;
       held = All-map (HoldsStored stands) (consumer_at now) (attended s fs).consumers
           (All-weaker (HoldsStored (attended s fs)) (λ c. HoldsStored stands (consumer_at now c)) (λ c k. let w = holds_at now (attended s fs) c k in record { picks = w.picks; pending = w.pending; given_up = w.given_up }) (attended s fs).consumers h.attended.held);
-      named = named_map (consumer_at now) (record { name = λ c. refl }) (attended s fs).consumers h.attended.named;
+      ordered = ordered_map (consumer_at now) (λ c. refl) (attended s fs).consumers h.attended.ordered;
     });
     counted = All-map (IsCounted s.messages) (standing now) fs (All-weaker (IsCounted s.messages) (λ f. IsCounted s.messages (standing now f)) (λ f k. k) fs h.counted);
   }

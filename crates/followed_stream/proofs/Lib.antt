@@ -1,4 +1,5 @@
 pub mod Holding
+pub mod Ordered
 pub mod Attending
 pub mod Going
 pub mod Needing
@@ -16,3 +17,5 @@ pub mod AtPlaces
 pub mod Nexts
 pub mod Readying
 pub mod Getting
+pub mod Restored
+pub mod Searching

@@ -2,18 +2,18 @@
 use Rattle.std.proofs.Common.{◌≡◌, ℕ, zero, suc, ◌+◌, ◌<◌, Bool, true, false, cond, not, List, [], ◌∷◌, Some, None, get_or, drop, length, take, refl, sym, ap, subst, ◌∙◌, arith}
 use Rattle.std.specs.Prelude.{All, filter}
 use Rattle.std.specs.List.{insert, prefix_len, remove}
-use Rattle.std.proofs.lemmas.List.Elements.{All-append, All-cons, All-drop, All-filter, All-head, All-tail, All-take, All-weaker}
+use Rattle.std.proofs.lemmas.List.Elements.{All-append, All-cons, All-drop, All-filter, All-take, All-weaker}
 use Rattle.js_base.specs.Bytes.{Bytes, same}
 use Rattle.js_model.specs.declared.stream.Stream.{Stream}
 use Rattle.js_model.specs.declared.consumer.Consumer.{Consumer}
 use Rattle.js_model.specs.Consumers.{is_before, with_new}
 use Rattle.js_model.specs.Streams.{by_name}
 use Rattle.js_model.proofs.Named.{none_some, same_is, same_self}
+use Rattle.model_laws.proofs.NameOrder.{ordered_filter, ordered_with_new, All-with_new}
 use Rattle.consumer_need.specs.Stored.{HoldsStored}
-use Rattle.stored_stream.proofs.Lists.{same_flip}
 use Rattle.followed_stream.specs.Attended.{AreNamedApart, IsAttended}
 use Rattle.followed_stream.specs.Followers.{attended, AreFollowed, Following, IsCounted}
-use Rattle.followed_stream.proofs.Attending.{sound_with}
+use Rattle.followed_stream.proofs.Attending.{named, sound_with}
 use Rattle.followed_stream.proofs.Changing.{consumers_of, found_at}
 
 one_more : (n : ℕ) → 1 + n ≡ suc n
@@ -37,35 +37,6 @@ inserted (f ∷ fs) new = go (is_before f.consumer.name new.consumer.name) (inse
     go true h = rw one_more (ap (λ (cs : List Consumer). f.consumer ∷ cs) h)
     go false h = refl
 
-none_with : (cs : List Consumer) (new : Consumer) (name : Bytes) → same new.name name ≡ false → by_name cs name ≡ None → by_name (with_new cs new) name ≡ None
-none_with [] new name h e = ap (λ (b : Bool). cond b (Some new) None) h
-none_with (c ∷ cs) new name h e = go (is_before c.name new.name) (same c.name name) refl e (none_with cs new name h)
-  where
-    go : (b d : Bool) → same c.name name ≡ d → cond d (Some c) (by_name cs name) ≡ None → (by_name cs name ≡ None → by_name (with_new cs new) name ≡ None) → by_name (cond b (c ∷ with_new cs new) (new ∷ c ∷ cs)) name ≡ None
-    go b true q k r = absurd (none_some (sym k))
-    go true false q k r = ap (λ (d : Bool). cond d (Some c) (by_name (with_new cs new) name)) q ∙ r k
-    go false false q k r = ap (λ (d : Bool). cond d (Some new) (cond (same c.name name) (Some c) (by_name cs name))) h ∙ ap (λ (d : Bool). cond d (Some c) (by_name cs name)) q ∙ k
-
-named_with : (cs : List Consumer) (new : Consumer) → AreNamedApart cs → by_name cs new.name ≡ None → AreNamedApart (with_new cs new)
-named_with [] new a e = (refl, tt)
-named_with (c ∷ cs) new a e = go (is_before c.name new.name) (apart (same c.name new.name) refl e) (named_with cs new a.1)
-  where
-    apart : (b : Bool) → same c.name new.name ≡ b → cond b (Some c) (by_name cs new.name) ≡ None → (same c.name new.name ≡ false) × (by_name cs new.name ≡ None)
-    apart true q k = absurd (none_some (sym k))
-    apart false q k = (q, k)
-
-    go : (b : Bool) → (same c.name new.name ≡ false) × (by_name cs new.name ≡ None) → (by_name cs new.name ≡ None → AreNamedApart (with_new cs new)) → AreNamedApart (cond b (c ∷ with_new cs new) (new ∷ c ∷ cs))
-    go true w r = (none_with cs new c.name (same_flip new.name c.name ∙ w.0) a.0, r w.1)
-    go false w r = (ap (λ (b : Bool). cond b (Some c) (by_name cs new.name)) w.0 ∙ w.1, a)
-
-all_with : (P : Consumer → Type 0) (cs : List Consumer) (new : Consumer) → All P cs → P new → All P (with_new cs new)
-all_with P [] new h k = All-cons P new [] k h
-all_with P (c ∷ cs) new h k = go (is_before c.name new.name) (all_with P cs new (All-tail P c cs h) k)
-  where
-    go : (b : Bool) → All P (with_new cs new) → All P (cond b (c ∷ with_new cs new) (new ∷ c ∷ cs))
-    go true r = All-cons P c (with_new cs new) (All-head P c cs h) r
-    go false r = All-cons P new (c ∷ cs) k h
-
 holds_with : (s : Stream) (cs : List Consumer) (c : Consumer) → HoldsStored s c → HoldsStored (record s { consumers = cs }) c
 holds_with s cs c h = record { picks = h.picks; pending = h.pending; given_up = h.given_up }
 
@@ -80,8 +51,8 @@ module _ (s : Stream) (fs : List Following) (h : AreFollowed s fs) (new : Follow
   followed_made holds absent counted = record {
     attended = subst IsAttended (sym made) (record {
       sound = sound_with (attended s fs) (with_new (consumers_of fs) new.consumer) h.attended.sound;
-      held = all_held (attended s fs) (with_new (consumers_of fs) new.consumer) (with_new (consumers_of fs) new.consumer) (all_with (HoldsStored (attended s fs)) (consumers_of fs) new.consumer h.attended.held holds);
-      named = named_with (consumers_of fs) new.consumer h.attended.named absent;
+      held = all_held (attended s fs) (with_new (consumers_of fs) new.consumer) (with_new (consumers_of fs) new.consumer) (All-with_new (HoldsStored (attended s fs)) (consumers_of fs) new.consumer holds h.attended.held);
+      ordered = ordered_with_new (consumers_of fs) new.consumer absent h.attended.ordered;
     });
     counted = All-append (IsCounted s.messages) (take k fs) (new ∷ drop k fs) (All-take (IsCounted s.messages) k fs h.counted)
         (All-cons (IsCounted s.messages) new (drop k fs) counted (All-drop (IsCounted s.messages) k fs h.counted));
@@ -123,26 +94,6 @@ removed (g ∷ gs) (suc i) d a l =
     other true q = absurd (none_some (sym a.0 ∙ ap (by_name (consumers_of gs)) (same_is g.consumer.name name q) ∙ found_at gs i d a.1 (omega arith)))
     other false q = q
 
-none_without : (cs : List Consumer) (other name : Bytes) → by_name cs name ≡ None → by_name (filter (λ d. not (same d.name other)) cs) name ≡ None
-none_without [] other name e = refl
-none_without (c ∷ cs) other name e = go (same c.name other) (same c.name name) refl e (none_without cs other name)
-  where
-    gone : List Consumer
-    gone = filter (λ d. not (same d.name other)) cs
-
-    go : (b d : Bool) → same c.name name ≡ d → cond d (Some c) (by_name cs name) ≡ None → (by_name cs name ≡ None → by_name gone name ≡ None) → by_name (cond (not b) (c ∷ gone) gone) name ≡ None
-    go b true q k r = absurd (none_some (sym k))
-    go true false q k r = r k
-    go false false q k r = ap (λ (d : Bool). cond d (Some c) (by_name gone name)) q ∙ r k
-
-named_without : (cs : List Consumer) (name : Bytes) → AreNamedApart cs → AreNamedApart (filter (λ d. not (same d.name name)) cs)
-named_without [] name a = tt
-named_without (c ∷ cs) name a = go (same c.name name) refl (named_without cs name a.1)
-  where
-    go : (b : Bool) → same c.name name ≡ b → AreNamedApart (filter (λ d. not (same d.name name)) cs) → AreNamedApart (cond (not b) (c ∷ filter (λ d. not (same d.name name)) cs) (filter (λ d. not (same d.name name)) cs))
-    go true q r = r
-    go false q r = (none_without cs name c.name a.0, r)
-
 module _ (s : Stream) (fs : List Following) (h : AreFollowed s fs) (i : ℕ) (d : Following) (within : i < length fs) where
   abbrev name : Bytes
   name = (get_or fs i d).consumer.name
@@ -151,14 +102,14 @@ module _ (s : Stream) (fs : List Following) (h : AreFollowed s fs) (i : ℕ) (d 
   left = filter (λ e. not (same e.name name)) (consumers_of fs)
 
   pub dropped : attended s (remove fs i) ≡ record (attended s fs) { consumers = filter (λ e. not (same e.name (get_or fs i d).consumer.name)) (attended s fs).consumers }
-  dropped = ap (λ (cs : List Consumer). record s { consumers = cs }) (removed fs i d h.attended.named within)
+  dropped = ap (λ (cs : List Consumer). record s { consumers = cs }) (removed fs i d (named (attended s fs) h.attended) within)
 
   pub followed_dropped : AreFollowed s (remove fs i)
   followed_dropped = record {
     attended = subst IsAttended (sym dropped) (record {
       sound = sound_with (attended s fs) left h.attended.sound;
       held = all_held (attended s fs) left left (All-filter (λ e. not (same e.name name)) (HoldsStored (attended s fs)) (consumers_of fs) h.attended.held);
-      named = named_without (consumers_of fs) name h.attended.named;
+      ordered = ordered_filter (λ e. not (same e.name name)) (consumers_of fs) h.attended.ordered;
     });
     counted = All-append (IsCounted s.messages) (take i fs) (drop (suc i) fs) (All-take (IsCounted s.messages) i fs h.counted) (All-drop (IsCounted s.messages) (suc i) fs h.counted);
   }

@@ -4,6 +4,7 @@ use Rattle.js_base.specs.Bytes.{has}
 use Rattle.js_model.specs.declared.stream.Stream.{Stream}
 use Rattle.js_model.specs.declared.consumer.Consumer.{Consumer}
 use Rattle.js_model.specs.Streams.{by_name, only}
+use Rattle.model_laws.specs.Sound.{AreOrdered}
 use Rattle.consumer_need.specs.Stored.{HoldsStored}
 use Rattle.stored_stream.specs.Stored.{IsSound}
 
@@ -12,11 +13,11 @@ abbrev pub AreNamedApart : List Consumer → Type 0
 AreNamedApart [] = ⊤
 AreNamedApart (c ∷ cs) = (by_name cs c.name ≡ None) × AreNamedApart cs
 
--- what is stored is sound, the consumers hold stored messages alone, and no two have the same name
+-- what is stored is sound, the consumers hold stored messages alone, and stand in the order of their names
 pub record IsAttended (s : Stream) : Type 0 where
   pub sound : IsSound s
   pub held : All (HoldsStored s) s.consumers
-  pub named : AreNamedApart s.consumers
+  pub ordered : AreOrdered s.consumers
 
 -- the stream without its consumers
 abbrev pub stored_of : Stream → Stream

@@ -7,3 +7,5 @@ pub mod Placing
 pub mod Asked
 pub mod Counting
 pub mod Handing
+pub mod Seen
+pub mod Restoring

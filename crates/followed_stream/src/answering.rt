@@ -1,9 +1,10 @@
 //! What one consumer of a stream is asked.
 
 ghost use Rattle.std.specs.Prelude.{◌≡◌, ◌++◌, IfOk, OnOk, OnErr};
+ghost use Rattle.std.specs.List.{list_any};
 ghost use Rattle.std.specs.Option.{option_copied};
 ghost use Rattle.js_model.specs.declared.stream.Stream.{Stream};
-ghost use Rattle.js_model.specs.Advance.{consumer_outs};
+ghost use Rattle.js_model.specs.Advance.{consumer_outs, is_spent};
 ghost use Rattle.js_model.specs.Counts.{consumer_info, info_of, pending_count};
 ghost use Rattle.js_model.specs.Events.{farewells};
 ghost use Rattle.js_model.specs.Pulls.{pulled, pull_outs};
@@ -20,6 +21,10 @@ use js_model::{Ack, Ask, ConsumerInfo, Info, Reply, copy_consumer_config};
 #[derive(Drop)]
 pub struct Acked {
     pub reply: Reply,
+    /// Whether a delivery that waited or was given up has ended.
+    pub ended: bool,
+    /// The moment at which the delivery is due again, if that was another moment before.
+    pub due: Option<Moment>,
     /// What is outside it is needed as before.
     pub loose: Span,
 }
@@ -39,9 +44,15 @@ impl Follower {
     {
         law_acknowledged();
         law_before_ending();
+        let due = self.consumer.changed_due(ack, now);
         let told = self.consumer.ack(ack, reply, now, outs)?;
-        let loose = end_acked(&mut self.consumer, ack);
-        Ok(Acked { reply: told, loose })
+        let ended = end_acked(&mut self.consumer, ack);
+        Ok(Acked {
+            reply: told,
+            ended: ended.some,
+            due,
+            loose: ended.loose,
+        })
     }
 
     /// Lets a pull wait from a moment on, or tells why it is refused. An `Err` changes nothing and adds nothing.
@@ -66,6 +77,13 @@ impl Follower {
         ensures err { OnErr result (outs.new ≡ outs.old) }
     {
         self.consumer.tell_dropped(outs)
+    }
+
+    /// Whether letting time pass up to a moment gives up some of its deliveries.
+    pub fn has_spent(&self, now: Moment) -> bool
+        ensures value { result ≡ list_any (is_spent now self.now.consumer) self.now.consumer.pending }
+    {
+        self.consumer.has_spent(now)
     }
 
     /// Adds what it sends by a moment. An `Err` adds nothing.

@@ -7,7 +7,7 @@ ghost use Rattle.js_model.specs.Consumers.{with_new};
 ghost use Rattle.js_model.specs.Counts.{consumer_info};
 ghost use Rattle.js_model.specs.Streams.{by_name};
 ghost use Rattle.consumer_need.specs.Stored.{HoldsStored};
-ghost use Rattle.followed_stream.specs.Asked.{AcksAt, DropsAt, PullsAt};
+ghost use Rattle.followed_stream.specs.Asked.{gives_up, AcksAt, DropsAt, PullsAt};
 ghost use Rattle.followed_stream.specs.Attended.{IsAttended};
 ghost use Rattle.followed_stream.specs.Delivering.{AreCurrent, IsReadyAt};
 ghost use Rattle.followed_stream.specs.Handing.{MayHandAt};
@@ -16,6 +16,7 @@ ghost use Rattle.followed_stream.specs.Placing.{IsPlaceOf};
 use crate::answering::Acked;
 use crate::followed::FollowedStream;
 use crate::follower::{Follower, place_before, place_of};
+use crate::later::LaterFollowedStream;
 use consumer_state::Consumer;
 use js_base::{Blob, Moment, NoMemory, Outs};
 use js_model::{Ack, Ask, ConsumerInfo, Delivered};
@@ -125,14 +126,29 @@ impl FollowedStream {
         }
     }
 
-    /// Whether something can be delivered to the consumer at a place once time has passed up to a moment. It changes nothing, and takes no memory.
+    /// Whether letting time pass up to a moment gives up some deliveries of the consumer at a place.
+    pub fn has_spent(&self, place: usize, now: Moment) -> bool
+        ensures value { result ≡ gives_up now (slice_get self.now.consumers place) }
+    {
+        match self.followers.get(place) {
+            Some(follower) => follower.has_spent(now),
+            None => false,
+        }
+    }
+
+    /// Whether something can be delivered to the consumer at a place once time has passed up to a moment. It changes nothing, and takes no memory. To ask
+    /// several consumers, ask `later` once.
     pub fn is_ready_by(&self, place: usize, now: Moment, listened: bool) -> bool
         ensures value { IsReadyAt (stream_at self.now now) place listened result }
     {
-        match self.followers.get(place) {
-            Some(follower) => follower.is_ready_by(&self.stored, now, listened),
-            None => false,
-        }
+        self.later(now).is_ready(place, listened)
+    }
+
+    /// The stream as it is once time has passed up to a moment. It goes through the messages that are too old by then, and takes no memory.
+    pub fn later(&self, now: Moment) -> LaterFollowedStream<'_>
+        ensures value { result ≡ stream_at self.now now }
+    {
+        LaterFollowedStream::at(&self.stored, self.followers.as_slice(), now)
     }
 
     /// Makes one delivery to the consumer at a place. `None` exactly if it is not ready. An `Err` changes nothing and adds nothing.

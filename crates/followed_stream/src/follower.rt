@@ -5,6 +5,7 @@ ghost use Rattle.std.specs.List.{position, prefix_len};
 ghost use Rattle.js_model.specs.declared.stream.Message.{Message};
 ghost use Rattle.js_model.specs.Consumers.{is_before};
 ghost use Rattle.js_model.specs.Retention.{needs};
+ghost use Rattle.model_laws.specs.Sound.{AreOrdered};
 ghost use Rattle.followed_stream.specs.Delivering.{IsCurrentAt};
 ghost use Rattle.followed_stream.specs.Followers.{gaining, is_named, losing, standing};
 ghost use Rattle.followed_stream.specs.Needing.{NeedSame};
@@ -117,24 +118,27 @@ impl Need for Follower {
     }
 }
 
-/// The place of the consumer of a name.
+/// The place of the consumer of a name among those in the order of their names.
 pub(crate) fn place_of(followers: &[Follower], name: &Blob) -> Option<usize>
+    requires ordered { AreOrdered (map (λ f. f.consumer) followers.now) }
     ensures value { result ≡ position (is_named name.now) followers.now }
 {
-    followers
-        .iter()
-        .position(|follower| follower.is_named(name))
+    let place = place_before(followers, name);
+    let follower = followers.get(place)?;
+    if follower.is_named(name) {
+        Some(place)
+    } else {
+        None
+    }
 }
 
-/// How many of the first consumers have names before this one.
+/// How many of the consumers, which stand in the order of their names, have names before this one.
 pub(crate) fn place_before(followers: &[Follower], name: &Blob) -> usize
+    requires ordered { AreOrdered (map (λ f. f.consumer) followers.now) }
     ensures value { result ≡ prefix_len (λ f. is_before f.consumer.name name.now) followers.now }
     ensures within { result ≤ length followers.now }
 {
-    followers
-        .iter()
-        .take_while(|follower| follower.is_before(name))
-        .count()
+    followers.partition_point(|follower| follower.is_before(name))
 }
 
 /// Tells all of a message that was stored.

@@ -1,22 +1,21 @@
 //! Deliveries to one consumer of a stream.
 
 ghost use Rattle.std.specs.Prelude.{◌≡◌, IfOk, OnErr};
+ghost use Rattle.std.specs.Bool.{OnTrue};
 ghost use Rattle.std.specs.Option.{option_copied};
-ghost use Rattle.consumer_need.specs.Stored.{HoldsStored};
 ghost use Rattle.consumer_state.specs.Before.{current_of};
 ghost use Rattle.consumer_state.specs.Delivering.{left_after, IsReady};
 ghost use Rattle.consumer_state.specs.Offering.{IsCurrent, IsNext};
-ghost use Rattle.stored_stream.specs.Later.{later};
 ghost use Rattle.stored_stream.specs.Stored.{IsSound};
 ghost use Rattle.followed_stream.specs.Counting.{left_if_sent, left_then};
-ghost use Rattle.followed_stream.specs.Followers.{IsCounted};
 ghost use Rattle.followed_stream.specs.Handing.{DeliversFor};
+ghost use Rattle.followed_stream.specs.Seen.{IsHeldIn};
 
 use crate::follower::Follower;
 use consumer_state::law_at;
 use js_base::{Moment, NoMemory, Outs};
 use js_model::{Delivered, Message};
-use stored_stream::{LaterStream, StoredStream, first_old};
+use stored_stream::{LaterStream, StoredStream};
 
 impl Follower {
     /// Whether something can be delivered at the stream's moment, if somebody listens to a push consumer's subject or nobody does.
@@ -27,21 +26,24 @@ impl Follower {
         self.consumer.is_ready(stored, listened, self.undelivered)
     }
 
-    /// Whether something can be delivered once time has passed up to a moment. It changes nothing, and takes no memory. Unless time changes something by
-    /// then, no message is looked for that is not there.
-    pub(crate) fn is_ready_by(&self, stored: &StoredStream, now: Moment, listened: bool) -> bool
-        requires sound { IsSound stored.now }
-        requires held { HoldsStored stored.now self.now.consumer }
-        requires counted { IsCounted stored.now.messages self.now }
-        ensures value { IsReady (later stored.now now) listened (current_of (later stored.now now) self.now.consumer) result }
+    /// Whether something can be delivered once time has passed up to the moment at which the stream is seen. `whole` says that no message is too old by then.
+    pub(crate) fn is_ready_in(
+        &self,
+        seen: &LaterStream<'_>,
+        now: Moment,
+        whole: bool,
+        listened: bool,
+    ) -> bool
+        requires now { seen.now.moment ≡ now }
+        requires whole { OnTrue whole (IsHeldIn seen.now self.now) }
+        ensures value { IsReady seen.entry.now listened (current_of seen.entry.now self.now.consumer) result }
     {
         law_at();
         self.consumer.holds();
-        let seen = LaterStream::at(stored, now);
-        if first_old(stored, now).is_none() && self.consumer.is_at(now) {
-            return self.consumer.is_ready(&seen, listened, self.undelivered);
+        if whole && self.consumer.is_at(now) {
+            return self.consumer.is_ready(seen, listened, self.undelivered);
         }
-        self.consumer.is_ready_by(&seen, listened)
+        self.consumer.is_ready_by(seen, listened)
     }
 
     /// Makes one delivery at the stream's moment. `None` exactly if the consumer is not ready. An `Err` changes nothing and adds nothing.

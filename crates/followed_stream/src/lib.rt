@@ -8,10 +8,13 @@ mod ending;
 mod followed;
 mod follower;
 mod handing;
+mod later;
 mod passing;
+mod restoring;
 mod span;
 
 pub use answering::Acked;
 pub use followed::FollowedStream;
 pub use follower::Follower;
+pub use later::LaterFollowedStream;
 pub use span::Span;

@@ -2,3 +2,4 @@ pub mod Queue
 pub mod Passing
 pub mod Fronts
 pub mod Quiet
+pub mod Kept

@@ -1,6 +1,6 @@
 //! The queue of the pulls.
 
-ghost use Rattle.std.specs.Prelude.{◌≡◌, ◌≤◌, ◌↔◌, ◌++◌, ◌&&◌, [], ◌∷◌, length, find, not, slice_get, IsNone, IfOk, OnOk, OnErr};
+ghost use Rattle.std.specs.Prelude.{◌≡◌, ◌≤◌, ◌↔◌, ◌++◌, ◌&&◌, [], ◌∷◌, if◌then◌else◌, count_by, drop, length, find, not, slice_get, IsNone, IfOk, OnOk, OnErr};
 ghost use Rattle.std.specs.List.{list_any, position};
 ghost use Rattle.std.specs.Option.{option_copied};
 ghost use Rattle.js_model.specs.Advance.{is_over};
@@ -27,17 +27,19 @@ pub struct PullQueue {
     pulls: VecDeque<Pull>,
     /// Before this moment no pull ends and no heartbeat comes; without one, none ever does.
     next: Option<Moment>,
+    /// How many of them end when nothing can be delivered.
+    no_waits: u64,
 }
 
 impl Model for PullQueue {
     ghost use Rattle.pull_queue.specs.Queue.{Queue};
-    ghost use Rattle.pull_queue.specs.Quiet.{IsQuietUntil};
+    ghost use Rattle.pull_queue.specs.Kept.{IsKeptQueue};
 
     ghost Value = { Queue };
 
     ghost view = { λ q. record { max_waiting = q.max_waiting; pulls = q.pulls.items } };
 
-    ghost invariant = { λ q. IsQuietUntil q.next q.pulls.items };
+    ghost invariant = { λ q. IsKeptQueue q.next q.no_waits q.pulls.items };
 }
 
 impl PullQueue {
@@ -50,6 +52,7 @@ impl PullQueue {
             max_waiting,
             pulls: VecDeque::new(alloc),
             next: None,
+            no_waits: 0,
         }
     }
 
@@ -73,6 +76,13 @@ impl PullQueue {
         ensures value { option_copied result ≡ slice_get self.now.pulls 0 }
     {
         self.pulls.front()
+    }
+
+    /// Whether some pull ends when nothing can be delivered. It looks at no pull.
+    pub fn has_no_wait(&self) -> bool
+        ensures value { result ≡ list_any (λ p. p.no_wait) self.now.pulls }
+    {
+        0 < self.no_waits
     }
 
     /// The first pull that ends when nothing can be delivered.
@@ -123,6 +133,7 @@ impl PullQueue {
         match self.no_wait_place() {
             Some(place) => {
                 self.pulls.remove(place);
+                self.no_waits = self.no_waits.saturating_sub(1);
                 true
             }
             None => false,
@@ -147,8 +158,10 @@ impl PullQueue {
         ensures err { OnErr result (self.new ≡ self.old) }
     {
         let next = earlier(self.next, next_of(&pull));
+        let own = no_waits_of(&pull);
         self.pulls.push_back(pull)?;
         self.next = next;
+        self.no_waits = self.no_waits.saturating_add(own);
         Ok(())
     }
 
@@ -162,7 +175,7 @@ impl PullQueue {
             return Front::Nobody;
         };
         if !fits(size, pull.bytes) {
-            self.pulls.pop_front();
+            self.pop_front();
             return Front::TooSmall;
         }
         self.serve_front(size, now);
@@ -177,11 +190,20 @@ impl PullQueue {
             return;
         };
         if pull.batch <= 1 {
-            self.pulls.pop_front();
+            self.pop_front();
             return;
         }
         serve(pull, size, now);
         self.next = earlier(self.next, next_of(pull));
+    }
+
+    /// Takes out the front pull, if there is one.
+    fn pop_front(&mut self)
+        ensures left { self.new ≡ record self.old { pulls = drop 1 self.old.pulls } }
+    {
+        if let Some(pull) = self.pulls.pop_front() {
+            self.no_waits = self.no_waits.saturating_sub(no_waits_of(&pull));
+        }
     }
 
     /// Adds what the pulls are sent by a moment: the timeouts of those that end, then the heartbeats of the others, both in the order of their asking.
@@ -221,8 +243,24 @@ impl PullQueue {
         let pulls = self.pulls.make_contiguous();
         beat_all(pulls, now);
         let next = next_of_all(pulls);
+        let no_waits = no_waits_of_all(pulls);
         self.next = next;
+        self.no_waits = no_waits;
     }
+}
+
+/// 1 for a pull that ends when nothing can be delivered, and else 0.
+fn no_waits_of(pull: &Pull) -> u64
+    ensures value { result ≡ (if pull.now.no_wait then 1 else 0) }
+{
+    if pull.no_wait { 1 } else { 0 }
+}
+
+/// How many of the pulls end when nothing can be delivered.
+fn no_waits_of_all(pulls: &[Pull]) -> u64
+    ensures value { result ≡ count_by (λ p. p.no_wait) pulls.now }
+{
+    pulls.iter().filter(|pull| pull.no_wait).count() as u64
 }
 
 /// Whether a pull that still takes so many bytes takes a message of this size.

@@ -12,3 +12,4 @@ pub mod Merging
 pub mod Counted
 pub mod Merged
 pub mod Latest
+pub mod Refilling

@@ -4,3 +4,4 @@ pub mod PushedOut
 pub mod Selecting
 pub mod Heads
 pub mod Later
+pub mod Restoring

@@ -1,8 +1,9 @@
 //! Messages that are too old.
 
-ghost use Rattle.std.specs.Prelude.{◌≡◌, None, Some, nat_lt, if◌then◌else◌, IfNone, IfSome, IsSome};
+ghost use Rattle.std.specs.Prelude.{◌≡◌, None, Some, nat_lt, option_map, if◌then◌else◌, IfNone, IfSome, IsSome};
 ghost use Rattle.js_base.specs.Moments.{plus};
 ghost use Rattle.js_model.specs.Advance.{young};
+ghost use Rattle.js_model.specs.Counts.{first_message};
 ghost use Rattle.js_model.specs.Events.{message_at};
 ghost use Rattle.stored_stream.specs.Stored.{IsSound, without};
 
@@ -15,6 +16,7 @@ use stream_view::View;
 pub fn first_old(stream: &StoredStream, now: Moment) -> Option<u64>
     requires sound { IsSound stream.now }
     ensures there { IfSome result (λ seq. IsSome (message_at stream.now seq)) }
+    ensures first { IfSome result (λ seq. option_map (λ m. m.seq) (first_message stream.now.messages) ≡ Some seq) }
     ensures old { IfSome result (λ seq. young (without seq stream.now) now ≡ young stream.now now) }
     ensures none { IfNone result (young stream.now now ≡ stream.now.messages) }
 {

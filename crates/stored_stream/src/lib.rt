@@ -7,6 +7,7 @@ mod heads;
 mod indexed;
 mod later;
 mod purging;
+mod restoring;
 mod selector;
 mod stored;
 mod verdicts;

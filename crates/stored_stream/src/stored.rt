@@ -1,6 +1,6 @@
 //! A stream's messages, ids and numbers, whether or not its limits hold.
 
-ghost use Rattle.std.specs.Prelude.{◌≡◌, ◌+◌, ◌^◌, ◌<◌, ◌≤◌, None, false, find, is_some, length, nat_le, IfOk, IfSome, IsTrue, IsUtf8, OnOk, OnErr};
+ghost use Rattle.std.specs.Prelude.{◌≡◌, ◌+◌, ◌^◌, ◌<◌, ◌≤◌, [], ◌∷◌, ◌++◌, None, false, find, is_some, length, nat_le, IfOk, IfSome, IsTrue, IsUtf8, OnOk, OnErr};
 ghost use Rattle.std.specs.Bool.{OnTrue};
 ghost use Rattle.std.specs.List.{last_or};
 ghost use Rattle.std.specs.Option.{option_copied};
@@ -26,14 +26,14 @@ use stream_view::{Counts, Head, View};
 /// A stream without consumers, whose limits may be passed.
 #[derive(Drop)]
 pub struct StoredStream {
-    incarnation: u64,
-    made: Moment,
-    config: StreamConfig,
-    messages: IndexedMessages,
+    pub(crate) incarnation: u64,
+    pub(crate) made: Moment,
+    pub(crate) config: StreamConfig,
+    pub(crate) messages: IndexedMessages,
     /// The duplicate window.
-    ids: DedupWindow,
-    last: u64,
-    moment: Moment,
+    pub(crate) ids: DedupWindow,
+    pub(crate) last: u64,
+    pub(crate) moment: Moment,
 }
 
 impl Model for StoredStream {
@@ -93,6 +93,14 @@ impl StoredStream {
         ensures value { result.now.ids ≡ self.now.ids }
     {
         &self.ids
+    }
+
+    /// How many ids its window has, at most 2^20, whether or not they still count.
+    pub fn id_count(&self) -> u64
+        ensures value { result ≡ length self.now.ids }
+        ensures bound { result ≤ 2 ^ 20 }
+    {
+        self.ids.len()
     }
 
     /// The first message.
@@ -256,6 +264,17 @@ fn remember(ids: &mut DedupWindow, id: &Blob, seq: u64, at: Moment) -> Result<()
     if id.is_empty() {
         return Ok(());
     }
+    add_id(ids, id, seq, at)
+}
+
+/// Adds an id of which none has the text. An `Err` changes nothing.
+pub(crate) fn add_id(ids: &mut DedupWindow, id: &Blob, seq: u64, at: Moment) -> Result<(), NoMemory>
+    requires absent { id_of ids.old.ids id.now ≡ None }
+    requires latest { IsLatest at ids.old.ids }
+    requires room { length ids.old.ids < 2 ^ 20 }
+    ensures ok { OnOk result (ids.new ≡ record ids.old { ids = ids.old.ids ++ record { id = id.now; seq = seq; at = at } ∷ [] }) }
+    ensures err { OnErr result (ids.new ≡ ids.old) }
+{
     match ids.add(id, seq, at) {
         Ok(()) => Ok(()),
         Err(WindowFault::NoMemory) => Err(NoMemory),

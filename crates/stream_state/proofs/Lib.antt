@@ -9,3 +9,7 @@ pub mod Paging
 pub mod Walks
 pub mod Handed
 pub mod Making
+pub mod Drops
+pub mod Thinning
+pub mod Publishing
+pub mod GivingUp

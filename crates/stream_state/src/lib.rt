@@ -3,6 +3,8 @@
 
 mod ageing;
 mod calls;
+mod giving_up;
+mod limits;
 mod listing;
 mod releasing;
 mod removing;
@@ -13,4 +15,5 @@ mod state;
 mod telling;
 mod trimming;
 
+pub use calls::{Acknowledged, NewConsumer};
 pub use state::StreamState;

@@ -31,6 +31,13 @@ impl StreamState {
         self.stream.followers().len() as u64
     }
 
+    /// The name of the consumer at a place in the order of names.
+    pub fn name_at(&self, place: usize) -> Option<&Blob>
+        ensures value { option_copied result ≡ option_map (λ c. c.name) (slice_get self.now.consumers place) }
+    {
+        self.stream.name_at(place)
+    }
+
     /// The configuration of the consumer of a name.
     pub fn consumer_config(&self, name: &Blob) -> Option<&ConsumerConfig>
         ensures value { option_copied result ≡ option_map (λ c. c.config) (by_name self.now.consumers name.now) }

@@ -1,23 +1,13 @@
-use Rattle.std.proofs.Common.{sym, ◌∙◌, subst}
-use Rattle.std.proofs.lemmas.Bool.{OnTrue_at}
-use Rattle.js_model.specs.declared.stream.Stream.{Stream}
-use Rattle.retention.specs.Over.{IsOverOnlyOn}
-use Rattle.followed_stream.proofs.Going.{over_only_less}
-use Rattle.retention.proofs.Following.{law_within, law_without}
-use Rattle.stream_state.proofs.Loops.{trims_none, trims_more, trims_all, over_found}
+use Rattle.stream_state.proofs.Drops.{three_left, three_noted, trimmed_within}
 use Rattle.stream_state.proofs.trimming.trim_on.Goals as goal
 
-pub loop-seq-init : goal.loop-seq-init
-loop-seq-init c = (trims_none c.args.stream.now c.requires.sound, c.requires.others)
-
-pub loop-seq-preserved : goal.loop-seq-preserved
-loop-seq-preserved c = (trims_more law_without c.in-Some.seq _ c.loop-seq.stream c.remove.new.self c.loop-seq.invariant.0 (sym c.in-Some.ensures.value) c.remove.ensures.left c.remove.ensures.sound, subst (λ (s : Stream). IsOverOnlyOn s c.args.subject.now) (sym c.remove.ensures.left) (over_only_less c.loop-seq.stream c.in-Some.seq c.args.subject.now c.loop-seq.invariant.1))
-
-pub loop-seq-smaller : goal.loop-seq-smaller
-loop-seq-smaller c = OnTrue_at (c.remove.ensures.there ∙ over_found law_without c.in-Some.seq c.loop-seq.stream c.loop-seq.invariant.0.sound (sym c.in-Some.ensures.value)) c.remove.ensures.fewer
-
 pub returns-clause-left : goal.returns-clause-left
-returns-clause-left c = trims_all law_within _ c.loop-seq.stream c.loop-seq.invariant.0 (sym c.in_default.ensures.value)
+returns-clause-left c = three_left c.args.stream.now _ _ _ c.trim_subject.ensures.left c.trim_count.ensures.left c.trim_bytes.ensures.left
 
-pub returns-clause-sound : goal.returns-clause-sound
-returns-clause-sound c = c.loop-seq.invariant.0.sound
+pub returns-clause-within : goal.returns-clause-within
+returns-clause-within c = trimmed_within c.args.stream.now _ c.requires.sound (three_left c.args.stream.now _ _ _ c.trim_subject.ensures.left c.trim_count.ensures.left c.trim_bytes.ensures.left)
+
+pub returns-clause-gone : goal.returns-clause-gone
+returns-clause-gone c =
+    three_noted c.args.stream.now c.trim_subject.new.stream c.trim_count.new.stream c.trim_bytes.new.stream c.args.gone.now c.trim_subject.new.gone c.trim_count.new.gone c.trim_bytes.new.gone
+    c.trim_subject.ensures.left c.trim_count.ensures.left c.trim_bytes.ensures.left c.trim_subject.ensures.gone c.trim_count.ensures.gone c.trim_bytes.ensures.gone

@@ -1,11 +1,23 @@
 use Rattle.std.proofs.Common.{◌≡◌, List, length, ap, sym, ◌∙◌, arith}
-use Rattle.std.specs.List.{remove}
+use Rattle.std.specs.List.{position, remove}
 use Rattle.js_model.specs.declared.consumer.Pull.{Pull}
 use Rattle.js_model.specs.Deliver.{without_first}
 use Rattle.pull_queue.specs.Queue.{Queue}
 use Rattle.pull_queue.proofs.Places.{on_some, none_any, none_stays, some_any, some_goes, some_within}
 use Rattle.pull_queue.proofs.Passes.{with_pulls}
+use Rattle.pull_queue.proofs.Tallies.{kept_without}
 use Rattle.pull_queue.proofs.queue.PullQueue.end_no_wait.Goals as goal
+
+pub invariant_of-self : goal.invariant_of-self
+invariant_of-self c =
+    let test = λ (p : Pull). p.no_wait in
+    let i = c.self.inside in
+    let place = c.in-Some.place in
+    let same : i.pulls.items ≡ c.args.self.now.pulls = ap (λ (q : Queue). q.pulls) c.self.view_is in
+    let found = sym c.in-Some.is ∙ c.no_wait_place.ensures.value ∙ ap (position test) (sym same) in
+    let within = some_within test i.pulls.items place found in
+    let left = on_some c.remove.result c.remove.ensures.items c.remove.ensures.variant (omega (arith, within, i.pulls.ok.0)) in
+    rw c.saturating_sub-self-inside.ensures (kept_without i.next i.no_waits i.pulls.items c.remove.new.self.items place c.self.invariant found left)
 
 pub returns-in-Some-clause-value : goal.returns-in-Some-clause-value
 returns-in-Some-clause-value c =

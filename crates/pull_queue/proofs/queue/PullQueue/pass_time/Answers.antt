@@ -10,7 +10,7 @@ use Rattle.pull_queue.proofs.queue.PullQueue.pass_time.Goals as goal
 pub returns-then-not-is_reached : goal.returns-then-not-is_reached
 returns-then-not-is_reached c =
     let i = c.self.inside in
-    let quiet = c.self.invariant.none_due c.args.now (sym c.is_reached.ensures.value ∙ c.if-not-is_reached.true) in
+    let quiet = c.self.invariant.quiet.none_due c.args.now (sym c.is_reached.ensures.value ∙ c.if-not-is_reached.true) in
     record { left = rw (← c.self.view_is) (ap (with_pulls i.max_waiting) (quiet_passed c.args.now i.pulls.items quiet)) }
 
 pub returns : goal.returns

@@ -17,3 +17,12 @@ returns-clause-value c = rw (← c.self.view_is) (c.trim.ensures.left ∙ ap tri
 
 pub returns-clause-settled : goal.returns-clause-settled
 returns-clause-settled c = trimmed c.trim.new.stream c.trim.ensures.sound c.trim.ensures.within
+
+pub trim-requires : goal.trim-requires
+trim-requires c = record { sound = c.set_config.ensures.sound; room = rw c.set_config.ensures.value (rw (← c.self.view_is) at c.requires.room) }
+
+pub returns-clause-gone : goal.returns-clause-gone
+returns-clause-gone c = rw (← c.self.view_is) (rw c.set_config.ensures.value at c.trim.ensures.gone)
+
+pub returns-clause-room : goal.returns-clause-room
+returns-clause-room c = c.trim.ensures.room

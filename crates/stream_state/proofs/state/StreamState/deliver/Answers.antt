@@ -9,6 +9,7 @@ use Rattle.js_model.specs.Streams.{is_push}
 use Rattle.followed_stream.specs.Attended.{AreNamedApart}
 use Rattle.followed_stream.specs.Handing.{MayHandAt}
 use Rattle.followed_stream.proofs.Getting.{got, nothing_got}
+use Rattle.followed_stream.proofs.Ordered.{ordered_apart}
 use Rattle.stream_state.proofs.Handed.{serves, serves_idle, serves_none, within_at}
 use Rattle.stream_state.proofs.Settling.{trimmed}
 use Rattle.stream_state.proofs.state.StreamState.deliver.Goals as goal
@@ -46,7 +47,7 @@ returns-in-Some-2-clause-served c =
     ap (λ (x : Stream). slice_get x.consumers place) (sym c.self.view_is)
     ∙ ap (λ (cs : List Consumer). slice_get cs place) (sym c.followers.ensures.value)
     ∙ got c.followers.result.now place f c.in-Some.ensures.lookup.3.0 c.in-Some.ensures.lookup.1 in
-    let apart : AreNamedApart s.consumers = subst (λ (x : Stream). AreNamedApart x.consumers) c.self.view_is c.self.invariant.attended.named in
+    let apart : AreNamedApart s.consumers = subst (λ (x : Stream). AreNamedApart x.consumers) c.self.view_is (ordered_apart c.self.inside.stream.consumers c.self.invariant.attended.ordered) in
     let heard = c.is_heard-heard.ensures.value ∙ ap (λ (names : List Bytes). is_push f.consumer && is_listened names f.consumer) c.as_slice.ensures in
     serves s c.hand.new.self place c.is_heard-heard.result c.args.listening.now _ f.consumer c.in-Some-2.what c.args.outs.now c.hand.new.outs apart there (c.in_ok-consumer.ensures.cases ∙ c.name.ensures.value) heard (subst (λ (o : Option Delivered). MayHandAt s place c.is_heard-heard.result o c.args.outs.now c.hand.new.outs c.hand.new.self) c.in-Some-2.is c.in_ok-what.ensures.handed)
 

@@ -29,12 +29,27 @@ returns-clause-info c =
     let s = c.args.self.now in
     let made = c.in_ok-consumer.ensures.made in
     let with_one = c.in_ok-insert.ensures.ok ∙ ap (λ (one : Consumer). record s { consumers = with_new s.consumers one }) made in
-    let told = c.in_ok-info.ensures in
-    made_told s _ _ c.args.name.now c.args.config.now c.in_ok-info.info c.numbers.result c.unwrap_or-info.result c.requires.absent with_one c.release.ensures.value c.numbers.ensures.value told.stream
+    let told = c.in_ok-told.ensures in
+    made_told s _ _ c.args.name.now c.args.config.now c.in_ok-told.told.info c.numbers.result c.unwrap_or-told.result c.requires.absent with_one c.release.ensures.value c.numbers.ensures.value told.stream
     (told.name ∙ ap (λ (one : Consumer). one.name) made)
     (told.made ∙ ap (λ (one : Consumer). one.made) made)
     (told.config ∙ ap (λ (one : Consumer). one.config) made)
-    c.unwrap_or-info.ensures
+    c.unwrap_or-told.ensures
 
-pub returns-in_err-info-clause-refused : goal.returns-in_err-info-clause-refused
-returns-in_err-info-clause-refused c = refused_as (making_checks c.args.self.now c.args.name.now c.args.config.now) NoMemory _ c.from_residual-in_err-info.ensures.1 tt
+pub returns-in_err-told-clause-refused : goal.returns-in_err-told-clause-refused
+returns-in_err-told-clause-refused c = refused_as (making_checks c.args.self.now c.args.name.now c.args.config.now) NoMemory _ c.from_residual-in_err-told.ensures.1 tt
+
+pub release-requires : goal.release-requires
+release-requires c = record { room = rw c.in_ok-insert.ensures.ok c.requires.room }
+
+pub returns-clause-gone : goal.returns-clause-gone
+returns-clause-gone c = rw c.in_ok-insert.ensures.ok at c.release.ensures.gone
+
+pub returns-clause-cursor : goal.returns-clause-cursor
+returns-clause-cursor c = c.in_ok-told.ensures.cursor ∙ ap (λ (made : Consumer). made.cursor) c.in_ok-consumer.ensures.made
+
+pub returns-clause-picks : goal.returns-clause-picks
+returns-clause-picks c = c.in_ok-told.ensures.picks ∙ ap (λ (made : Consumer). made.picks) c.in_ok-consumer.ensures.made
+
+pub returns-in_err-insert-clause-refused : goal.returns-in_err-insert-clause-refused
+returns-in_err-insert-clause-refused c = refused_as (making_checks c.args.self.now c.args.name.now c.args.config.now) NoMemory _ c.from_residual-in_err-insert.ensures.1 tt

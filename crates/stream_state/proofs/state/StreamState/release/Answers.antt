@@ -24,3 +24,12 @@ pub returns-clause-settled : goal.returns-clause-settled
 returns-clause-settled c =
     let within : next_over c.release.new.stream ≡ None = rw c.release.ensures.left (within_kept c.self.inside.stream c.self.invariant.within) in
     trimmed c.release.new.stream c.release.ensures.sound within
+
+pub release-requires : goal.release-requires
+release-requires c = record { sound = c.self.invariant.attended; outside = c.self.invariant.kept; room = rw (← c.self.view_is) at c.requires.room }
+
+pub returns-clause-gone : goal.returns-clause-gone
+returns-clause-gone c = rw (← c.self.view_is) (rw (← c.release.ensures.left) at c.release.ensures.gone)
+
+pub returns-clause-room : goal.returns-clause-room
+returns-clause-room c = c.release.ensures.room
