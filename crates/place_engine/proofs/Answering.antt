@@ -24,7 +24,7 @@ use Rattle.js_model.specs.Configs.{same_consumer_config, same_retention, same_st
 use Rattle.js_model.specs.Consumers.{making_checks, new_consumer, queue_checks, with_new}
 use Rattle.js_model.specs.Counts.{consumer_info, stream_info}
 use Rattle.js_model.specs.Events.{changed, completed, consumer_asked, consumer_made, consumer_told, infos_told, made_again, message_by, message_told, names_told, page_of, published, purged, quietly, refused, settled, settled_state, stream_told, told_of, with_message, without_messages}
-use Rattle.js_model.specs.Refusals.{consumer_exists, first_refusal, no_consumer, no_message, other_config, retention_cannot_change}
+use Rattle.js_model.specs.Refusals.{consumer_absent, consumer_exists, first_refusal, no_consumer, no_message, other_config, retention_cannot_change}
 use Rattle.js_model.specs.Retention.{kept}
 use Rattle.js_model.specs.Streams.{by_name}
 use Rattle.js_model.specs.Trim.{trim}
@@ -109,12 +109,12 @@ released_trimmed x y new is same h = record { value = h.value ∙ settled_trimme
 
 -- ---- messages
 
-pub publish_taken : (s new : Stream) (p : Publish) (v : Verdict) (n : ℕ) → verdict s p true ≡ v → v ≡ Take → n ≡ s.last + 1 → new ≡ trim (with_message s p) → trim new ≡ new
+pub publish_stored : (s new : Stream) (p : Publish) (v : Verdict) (n : ℕ) → verdict s p true ≡ v → v ≡ Take → n ≡ s.last + 1 → new ≡ settled (with_message s p) → settled new ≡ new
     → ActsQuietly (published s p (verdict s p true)) (Published n) new
-publish_taken s new p v n said take own is same =
+publish_stored s new p v n said take own is again =
     quiet_on (with_message s p) new (published s p (verdict s p true)) (Published n)
     (ap (published s p) (said ∙ take) ∙ ap (λ (k : ℕ). quietly (Published k) (with_message s p)) (sym own))
-    (settled_trimmed (with_message s p) new is same)
+    (again ∙ is)
 
 pub publish_repeated : (s : Stream) (p : Publish) (n : ℕ) → verdict s p true ≡ TakenBefore n → ActsQuietly (published s p (verdict s p true)) (Duplicate n) s
 publish_repeated s p n said = quiet s (published s p (verdict s p true)) (Duplicate n) (ap (published s p) said)
@@ -184,6 +184,14 @@ module _ (s : Stream) (name : Bytes) (config : ConsumerConfig) (update : Bool) w
       go : (o : Option Consumer) (b : Bool) → b ≡ false → None ≡ option_map is_same o → consumer_asked s name config b o ≡ consumer_made s name config (first_refusal (making_checks s name config))
       go None true e f = absurd (true≢false e)
       go None false e f = refl
+      go (Some c) b e f = absurd (none_some f)
+
+  pub asked_absent : update ≡ true → None ≡ option_map is_same (by_name s.consumers name) → consumer_asked s name config update (by_name s.consumers name) ≡ refused consumer_absent s
+  asked_absent is found = go (by_name s.consumers name) update is found
+    where
+      go : (o : Option Consumer) (b : Bool) → b ≡ true → None ≡ option_map is_same o → consumer_asked s name config b o ≡ refused consumer_absent s
+      go None true e f = refl
+      go None false e f = absurd (true≢false (sym e))
       go (Some c) b e f = absurd (none_some f)
 
   pub asked_same : Some true ≡ option_map is_same (by_name s.consumers name) → consumer_asked s name config update (by_name s.consumers name) ≡ consumer_told s name

@@ -5,3 +5,9 @@ pub mod Shown
 pub mod Places
 pub mod Readiness
 pub mod Steps
+pub mod Leaving
+pub mod Recorded
+pub mod RecordedStreams
+pub mod RecordedConsumers
+pub mod RecordedTime
+pub mod RecordedPlaces

@@ -6,3 +6,4 @@ pub mod Stepping
 pub mod Pushes
 pub mod Delivering
 pub mod InMemory
+pub mod Recording

@@ -1,58 +1,92 @@
 //! What is told of the stream of a place, and its configuration.
 
-ghost use Rattle.std.specs.Prelude.{◌≡◌, ◌==◌, if◌then◌else◌, IfOk, IsTrue, OnErr};
+ghost use Rattle.std.specs.Prelude.{◌≡◌, ◌≤◌, ◌<◌, ◌==◌, [], true, Option, length, if◌then◌else◌, IfOk, IsTrue, OnErr, OnOk};
+ghost use Rattle.js_base.specs.Bytes.{Bytes};
+ghost use Rattle.js_model.specs.declared.stream.State.TheVariants.{Live};
 ghost use Rattle.js_model.specs.Configs.{is_stream_config};
 ghost use Rattle.js_model.specs.Counts.{stream_info};
 ghost use Rattle.js_model.specs.Events.{changed, made_again, settled, stream_told};
 ghost use Rattle.js_model.specs.Streams.{first_seq};
+ghost use Rattle.effects.specs.Effects.{live_effects, settle_effects};
 ghost use Rattle.place_engine.specs.Answers.{ActsQuietly};
+ghost use Rattle.place_engine.specs.Recording.{own_then};
 ghost use Rattle.place_engine.specs.Shown.{IsShown, IsSoundInfo};
+ghost use Rattle.place_records.specs.Records.{IsFreshOwn};
+ghost use Rattle.stream_state.specs.Removing.{HasRoom, HasRoomForOne};
 
 use crate::live_stream::LiveStream;
+use crate::recording::change_effect;
 use crate::sameness::{same_retention, same_stream_config};
 use js_base::NoMemory;
 use js_model::refusals::{other_config, retention_cannot_change};
-use js_model::{Reply, StreamConfig, StreamInfo, copy_stream_config};
+use js_model::{Reply, StreamConfig, StreamInfo, What, copy_stream_config};
+use place_records::OwnRecords;
 use stream_view::View;
 
 impl LiveStream {
     /// Makes a stream that is there: it is shown if it has this configuration, and refused if it has another.
-    pub(crate) fn make_again(&mut self, config: &StreamConfig) -> Result<Reply, NoMemory>
+    pub(crate) fn make_again(
+        &mut self,
+        config: &StreamConfig,
+        own: &mut OwnRecords,
+    ) -> Result<Reply, NoMemory>
+        requires fresh { IsFreshOwn own.old }
+        requires room { HasRoomForOne self.old own.old.removed }
         ensures acts { IfOk result (λ reply. ActsQuietly (made_again self.old config.now) reply self.new) }
         ensures shown { IfOk result IsShown }
+        ensures recorded { own_then own.new self.new ≡ settle_effects [] (Live self.old) }
+        ensures room { HasRoom self.new own.new.removed }
         ensures err { OnErr result (settled self.new ≡ settled self.old) }
     {
         if same_stream_config(config, self.state.config()) {
-            self.show()
+            self.show(own)
         } else {
+            self.state.holds();
             Ok(Reply::Refused(other_config(self.alloc)?))
         }
     }
 
     /// Replaces the configuration. The messages that the new limits drop go. Refused if the retention is another one.
-    pub(crate) fn change(&mut self, config: &StreamConfig) -> Result<Reply, NoMemory>
+    pub(crate) fn change(
+        &mut self,
+        config: &StreamConfig,
+        own: &mut OwnRecords,
+    ) -> Result<Reply, NoMemory>
         requires valid { IsTrue (is_stream_config config.now) }
+        requires fresh { IsFreshOwn own.old }
+        requires room { HasRoomForOne self.old own.old.removed }
         ensures acts { IfOk result (λ reply. ActsQuietly (changed self.old config.now) reply self.new) }
         ensures shown { IfOk result IsShown }
+        ensures recorded { (to : Option Bytes) → OnOk result (own_then own.new self.new ≡ live_effects self.old (What.Change to config.now) true) }
+        ensures room { HasRoom self.new own.new.removed }
         ensures err { OnErr result (settled self.new ≡ settled self.old) }
+        ensures err_recorded { OnErr result (own_then own.new self.new ≡ settle_effects [] (Live self.old)) }
     {
+        self.state.holds();
         if !same_retention(config.retention, self.state.config().retention) {
             return Ok(Reply::Refused(retention_cannot_change(self.alloc)?));
         }
         let kept = copy_stream_config(self.alloc, config)?;
         let told = copy_stream_config(self.alloc, config)?;
-        self.state.change(kept);
-        self.release();
+        let recorded = copy_stream_config(self.alloc, config)?;
+        let is_same = same_stream_config(config, self.state.config());
+        own.record(change_effect(recorded, is_same));
+        self.state.change(kept, &mut own.removed);
+        self.release(own);
         Ok(Reply::Info(self.info_with(told)))
     }
 
     /// Shows its information.
-    pub(crate) fn show(&mut self) -> Result<Reply, NoMemory>
+    pub(crate) fn show(&mut self, own: &mut OwnRecords) -> Result<Reply, NoMemory>
+        requires fresh { IsFreshOwn own.old }
+        requires room { HasRoomForOne self.old own.old.removed }
         ensures acts { IfOk result (λ reply. ActsQuietly (stream_told self.old) reply self.new) }
         ensures shown { IfOk result IsShown }
+        ensures recorded { own_then own.new self.new ≡ settle_effects [] (Live self.old) }
+        ensures room { HasRoom self.new own.new.removed }
         ensures err { OnErr result (settled self.new ≡ settled self.old) }
     {
-        self.release();
+        self.release(own);
         Ok(Reply::Info(self.info()?))
     }
 

@@ -9,10 +9,13 @@ mod memory_place;
 mod messages;
 mod place;
 mod push;
+mod recording;
 mod sameness;
+mod serving;
 mod slot;
 
 pub use faults::{Left, OpenFault, PlaceFault};
 pub use memory_place::MemoryPlace;
 pub use place::Place;
 pub use push::Push;
+pub use slot::Slot;

@@ -1,6 +1,6 @@
 //! The stream of a place in memory.
 
-ghost use Rattle.std.specs.Prelude.{◌≡◌, ◌≢◌, ◌≤◌, ◌++◌, ◌^◌, ◌<◌, true, Option, length, option_map, slice_get, IfOk, OnOk, OnErr, IsTrue, IsUtf8};
+ghost use Rattle.std.specs.Prelude.{◌≡◌, ◌≢◌, ◌==◌, ◌||◌, ◌≤◌, ◌++◌, ◌^◌, ◌<◌, [], nat_lt, not, true, Option, length, option_map, slice_get, IfOk, OnOk, OnErr, IsTrue, IsUtf8};
 ghost use Rattle.std.specs.List.{flat_map, list_any};
 ghost use Rattle.js_base.specs.Bytes.{Bytes};
 ghost use Rattle.js_model.specs.declared.stream.State.TheVariants.{Live};
@@ -9,17 +9,24 @@ ghost use Rattle.js_model.specs.Configs.{is_stream_config};
 ghost use Rattle.js_model.specs.Consumers.{empty_stream};
 ghost use Rattle.js_model.specs.Events.{farewells, settled, stream_answer};
 ghost use Rattle.js_model.specs.Proper.{is_proper_what};
+ghost use Rattle.js_model.specs.Retention.{kept};
 ghost use Rattle.js_model.specs.Ready.{is_ready};
+ghost use Rattle.effects.specs.Effects.{live_effects, settle_effects};
+ghost use Rattle.effects.specs.TimeEffects.{time_effects};
 ghost use Rattle.followed_stream.specs.Delivering.{AreCurrent};
 ghost use Rattle.place_engine.specs.Answers.{Acts, MayDeliver, StreamAnswers};
 ghost use Rattle.place_engine.specs.Places.{IsTold};
 ghost use Rattle.place_engine.specs.Pushes.{push_of, pushes_in};
+ghost use Rattle.place_engine.specs.Recording.{own_then, TellsSent};
 ghost use Rattle.place_engine.specs.Shown.{IsShown};
+ghost use Rattle.place_records.specs.Records.{effects_in, own_in, time_in, IsFresh, IsFreshOwn, IsFreshTime};
+ghost use Rattle.stream_state.specs.Removing.{HasRoom, HasRoomForOne};
 
 use crate::faults::Left;
 use crate::push::Push;
 use js_base::{Blob, Moment, NoMemory, Outs};
 use js_model::{Delivery, Listening, Reply, StreamConfig, What, copy_stream_config};
+use place_records::{Made, OwnRecords, TimeRecords};
 use std::alloc::Global;
 use std::marker::Model;
 use stream_state::StreamState;
@@ -100,86 +107,135 @@ impl LiveStream {
         self.state.next_ready(now, listening).is_some()
     }
 
-    /// Lets time pass until a moment, or until its own if that is later, and adds what the consumers send by then. An `Err` changes nothing and adds
-    /// nothing.
-    pub fn pass(&mut self, now: Moment, outs: &mut Outs) -> Result<(), NoMemory>
+    /// Forgets the records, and takes memory for those of the messages that an event or a delivery may let go.
+    pub fn start(&self, made: &mut Made) -> Result<(), NoMemory>
+        ensures fresh { IsFresh made.new }
+        ensures none { effects_in made.new ≡ [] }
+        ensures time_room { OnOk result (1 ≤ made.new.time.aged.spare) }
+        ensures own_room { OnOk result (HasRoomForOne self.now made.new.own.removed) }
+    {
+        made.clear();
+        made.time.aged.reserve(1)?;
+        self.state.make_room(&mut made.own.removed)
+    }
+
+    /// Lets time pass until a moment, or until its own if that is later, adds what the consumers send by then, and records what passes. An `Err`
+    /// changes nothing and adds nothing.
+    pub fn pass(
+        &mut self,
+        now: Moment,
+        outs: &mut Outs,
+        time: &mut TimeRecords,
+    ) -> Result<(), NoMemory>
+        requires fresh { IsFreshTime time.old }
+        requires room { 1 ≤ time.old.aged.spare }
         ensures passed { OnOk result (self.new ≡ advance self.old now) }
         ensures outs { OnOk result (outs.new ≡ outs.old ++ advance_outs self.old now) }
         ensures current { OnOk result (AreCurrent self.new) }
+        ensures recorded { OnOk result (time_in time.new ≡ time_effects self.old now) }
         ensures err { OnErr result (self.new ≡ self.old) }
         ensures err_outs { OnErr result (outs.new ≡ outs.old) }
+        ensures err_time { OnErr result (time.new ≡ time.old) }
     {
+        let names = self.state.giving_up(now)?;
         self.state.tell_advance(now, outs)?;
-        self.state.advance(now);
+        let moment = self.state.moment();
+        let ids = self.state.id_count();
+        time.given_up = self.state.advance(now, &mut time.aged, names);
+        time.moment = self.state.moment();
+        time.seen = is_seen(moment, time.moment, ids, self.state.id_count());
         Ok(())
     }
 
-    /// Lets the messages go that the retention does not keep. It takes no memory.
-    pub fn release(&mut self)
+    /// Lets the messages go that the retention does not keep, and records which. It takes no memory.
+    pub fn release(&mut self, own: &mut OwnRecords)
+        requires room { HasRoom self.old own.old.removed }
         ensures value { self.new ≡ settled self.old }
         ensures again { settled self.new ≡ self.new }
+        ensures recorded { own_in own.new ≡ own_then own.old self.old }
+        ensures then { own_then own.new self.new ≡ own_then own.old self.old }
+        ensures kept { kept self.new ≡ self.new }
+        ensures effect { own.new.effect ≡ own.old.effect }
+        ensures fresh { IsFreshOwn own.old → own_in own.new ≡ settle_effects [] (Live self.old) }
+        ensures fresh_then { IsFreshOwn own.old → own_then own.new self.new ≡ settle_effects [] (Live self.old) }
+        ensures room { HasRoom self.new own.new.removed }
     {
         self.state.holds();
-        self.state.release();
+        self.state.release(&mut own.removed);
     }
 
     /// Does what is asked at the stream's moment, answers it, and lets the messages go that the retention then does not keep, also if it finds no
-    /// memory. Its place drops it, and lets time pass for it.
-    pub fn answer(&mut self, what: &What, outs: &mut Outs) -> Result<Reply, NoMemory>
+    /// memory; records what it does. Its place drops it, and lets time pass for it.
+    pub fn answer(
+        &mut self,
+        what: &What,
+        outs: &mut Outs,
+        own: &mut OwnRecords,
+    ) -> Result<Reply, NoMemory>
         requires told { IsTold what.now }
         requires proper { IsTrue (is_proper_what what.now) }
         requires more { what.now ≢ What.Tick }
         requires stays { (reply : Option Bytes) → what.now ≢ What.Drop reply }
+        requires fresh { IsFreshOwn own.old }
+        requires room { HasRoomForOne self.old own.old.removed }
         ensures answers { IfOk result (λ reply. StreamAnswers self.old what.now reply outs.old outs.new (Live self.new)) }
         ensures shown { IfOk result IsShown }
+        ensures recorded { OnOk result (own_in own.new ≡ live_effects self.old what.now true) }
         ensures err { OnErr result (self.new ≡ settled self.old) }
         ensures err_outs { OnErr result (outs.new ≡ outs.old) }
+        ensures err_recorded { OnErr result (own_in own.new ≡ settle_effects [] (Live self.old)) }
     {
-        let said = self.act(what, outs);
-        self.release();
+        let said = self.act(what, outs, own);
+        self.release(own);
         said
     }
 
     /// The same, but for the messages that the retention then does not keep: some may be there still. An `Err` may have let some of them go.
-    fn act(&mut self, what: &What, outs: &mut Outs) -> Result<Reply, NoMemory>
+    fn act(&mut self, what: &What, outs: &mut Outs, own: &mut OwnRecords) -> Result<Reply, NoMemory>
         requires told { IsTold what.now }
         requires proper { IsTrue (is_proper_what what.now) }
         requires more { what.now ≢ What.Tick }
         requires stays { (reply : Option Bytes) → what.now ≢ What.Drop reply }
+        requires fresh { IsFreshOwn own.old }
+        requires room { HasRoomForOne self.old own.old.removed }
         ensures acts { IfOk result (λ reply. Acts (stream_answer self.old what.now true) reply outs.old outs.new self.new) }
         ensures shown { IfOk result IsShown }
+        ensures recorded { OnOk result (own_then own.new self.new ≡ live_effects self.old what.now true) }
+        ensures room { HasRoom self.new own.new.removed }
         ensures err { OnErr result (settled self.new ≡ settled self.old) }
         ensures err_outs { OnErr result (outs.new ≡ outs.old) }
+        ensures err_recorded { OnErr result (own_then own.new self.new ≡ settle_effects [] (Live self.old)) }
     {
+        self.state.holds();
         match what {
-            What::Make { reply: _, config } => self.make_again(config),
-            What::Change { reply: _, config } => self.change(config),
-            What::Publish(publish) => self.publish(publish),
+            What::Make { reply: _, config } => self.make_again(config, own),
+            What::Change { reply: _, config } => self.change(config, own),
+            What::Publish(publish) => self.publish(publish, own),
             What::Purge {
                 reply: _,
                 filter,
                 below,
                 keep,
-            } => self.purge(filter.as_slice(), *below, *keep),
-            What::Delete { reply: _, seq } => self.delete(*seq),
+            } => self.purge(filter.as_slice(), *below, *keep, own),
+            What::Delete { reply: _, seq } => self.delete(*seq, own),
             What::MakeConsumer {
                 reply: _,
                 name,
                 config,
                 update,
-            } => self.ask_consumer(name, config, *update),
-            What::DropConsumer { reply: _, name } => self.drop_consumer(name, outs),
-            What::Ack { reply, ack } => self.ack(ack, reply.as_ref(), outs),
+            } => self.ask_consumer(name, config, *update, own),
+            What::DropConsumer { reply: _, name } => self.drop_consumer(name, outs, own),
+            What::Ack { reply, ack } => self.ack(ack, reply.as_ref(), outs, own),
             What::Pull {
                 reply,
                 consumer,
                 ask,
-            } => self.pull(consumer, reply.as_ref(), *ask, outs),
-            What::StreamInfo { reply: _ } => self.show(),
+            } => self.pull(consumer, reply.as_ref(), *ask, outs, own),
+            What::StreamInfo { reply: _ } => self.show(own),
             What::MessageGet { reply: _, by } => self.read(by),
-            What::ConsumerInfo { reply: _, name } => self.show_consumer(name),
+            What::ConsumerInfo { reply: _, name } => self.show_consumer(name, own),
             What::ConsumerNames { reply: _, offset } => self.list_names(*offset),
-            What::ConsumerList { reply: _, offset } => self.list_consumers(*offset),
+            What::ConsumerList { reply: _, offset } => self.list_consumers(*offset, own),
             What::Drop { reply: _ } | What::Tick => unreachable!(),
         }
     }
@@ -191,29 +247,11 @@ impl LiveStream {
     {
         self.state.tell_dropped(outs)
     }
+}
 
-    /// Makes one delivery at a moment, and adds what it sends. `None` exactly if no consumer is ready, and then nothing changes. An `Err` says what
-    /// is left.
-    pub fn deliver_one(
-        &mut self,
-        now: Moment,
-        listening: &Listening,
-        outs: &mut Outs,
-    ) -> Result<Option<Delivery>, Left>
-        ensures delivers { MayDeliver result (Live self.old) now listening.now outs.old outs.new (Live self.new) }
-    {
-        let Some(place) = self.state.next_ready(now, listening) else {
-            return Ok(None);
-        };
-        let Ok(()) = self.pass(now, outs) else {
-            return Err(Left::Nothing);
-        };
-        let made = self.state.deliver(place, listening, outs);
-        self.release();
-        match made {
-            Ok(Some(delivery)) => Ok(Some(delivery)),
-            Ok(None) => unreachable!(),
-            Err(NoMemory) => Err(Left::Ticked),
-        }
-    }
+/// Whether a stream's moment is recorded: it was another one before, or ids left.
+fn is_seen(before: Moment, now: Moment, ids_before: u64, ids: u64) -> bool
+    ensures value { result ≡ (not (before == now) || nat_lt ids ids_before) }
+{
+    before != now || ids < ids_before
 }

@@ -19,6 +19,7 @@ use crate::push::Push;
 use crate::slot::Slot;
 use js_base::{Blob, Moment, Outs};
 use js_model::{Delivery, Event, Listening, Reply};
+use place_records::Made;
 use std::alloc::Global;
 use std::marker::Model;
 
@@ -27,6 +28,8 @@ use std::marker::Model;
 pub struct MemoryPlace<V> {
     slot: Slot,
     vol: V,
+    /// The records of the last event or delivery. They serve nobody.
+    made: Made,
 }
 
 impl<V> Model for MemoryPlace<V> {
@@ -48,6 +51,7 @@ impl<V> MemoryPlace<V> {
         Ok(MemoryPlace {
             slot: Slot::new(alloc),
             vol,
+            made: Made::new(alloc),
         })
     }
 }
@@ -101,7 +105,7 @@ impl<V> Place for MemoryPlace<V> {
         if event.incarnation != kept {
             return Err(PlaceFault::Gone(kept));
         }
-        match self.slot.answer(&event.what, now, outs) {
+        match self.slot.answer(&event.what, now, outs, &mut self.made) {
             Ok(reply) => Ok(reply),
             Err(left) => Err(PlaceFault::NoMemory(left)),
         }
@@ -118,14 +122,18 @@ impl<V> Place for MemoryPlace<V> {
         ensures vol { self.new.vol ≡ self.old.vol }
         ensures cause { IfErr result IsWantOfMemory }
     {
-        match self.slot.deliver_one(now, listening, outs) {
+        match self.slot.deliver_one(now, listening, outs, &mut self.made) {
             Ok(made) => Ok(made),
             Err(left) => Err(PlaceFault::NoMemory(left)),
         }
     }
 
     fn into_vol(self) -> V {
-        let MemoryPlace { slot: _, vol } = self;
+        let MemoryPlace {
+            slot: _,
+            vol,
+            made: _,
+        } = self;
         vol
     }
 

@@ -1,6 +1,6 @@
 //! What a place holds, in memory.
 
-ghost use Rattle.std.specs.Prelude.{◌≡◌, ◌≢◌, ◌≤◌, ◌<◌, ◌++◌, ◌^◌, ℕ, List, length, option_map, slice_get, IfErr, IfOk, IfSome, OnErr, OnOk, Option, IsTrue, IsUtf8};
+ghost use Rattle.std.specs.Prelude.{◌≡◌, ◌≢◌, ◌≤◌, ◌<◌, ◌++◌, ◌^◌, ℕ, [], List, length, option_map, slice_get, IfErr, IfOk, IfSome, OnErr, OnOk, Option, IsTrue, IsUtf8};
 ghost use Rattle.std.specs.Option.{option_copied};
 ghost use Rattle.js_base.specs.Bytes.{Bytes};
 ghost use Rattle.js_base.specs.declared.out.Out.{Out};
@@ -10,18 +10,23 @@ ghost use Rattle.js_model.specs.Events.{kept_incarnation, settled_state};
 ghost use Rattle.js_model.specs.Proper.{is_proper_what};
 ghost use Rattle.js_model.specs.Ready.{some_ready};
 ghost use Rattle.js_model.specs.StateMoments.{state_at};
+ghost use Rattle.effects.specs.Effects.{settle_effects};
 ghost use Rattle.place_engine.specs.Answers.{outs_by, AnswersThen, LeftBy, MayDeliver, PlaceAnswers};
 ghost use Rattle.place_engine.specs.InMemory.{left_of, MayLeave};
 ghost use Rattle.place_engine.specs.Places.{IsTold, IsVacant, name_in, subjects_in};
 ghost use Rattle.place_engine.specs.Pushes.{push_of, pushes_in};
+ghost use Rattle.place_engine.specs.Recording.{asking_effects, passing_effects, HasMadeRoom, HasOwnRoom, HasTimeRoom, TellsEvent, TellsSent};
 ghost use Rattle.place_engine.specs.Shown.{IsShown};
+ghost use Rattle.place_records.specs.Records.{effects_in, own_in, time_in, IsFresh, IsFreshOwn, IsFreshTime};
 
 use crate::faults::Left;
 use crate::live_stream::LiveStream;
 use crate::push::Push;
+use effects::Effect;
 use js_base::{Blob, Moment, NoMemory, Outs};
 use js_model::refusals::{no_stream, numbers_used_up};
-use js_model::{Delivery, Listening, Reply, StreamConfig, What};
+use js_model::{Delivery, Listening, Reply, StreamConfig, What, copy_stream_config};
+use place_records::{Made, OwnRecords, TimeRecords};
 use std::alloc::Global;
 use std::marker::Model;
 
@@ -122,51 +127,86 @@ impl Slot {
         }
     }
 
-    /// Lets time pass until a moment, does what is asked, answers it, and adds what is sent. An `Err` says what is left.
-    pub fn answer(&mut self, what: &What, now: Moment, outs: &mut Outs) -> Result<Reply, Left>
+    /// Lets time pass until a moment, does what is asked, answers it, adds what is sent, and gives the records of all that for those that were there
+    /// before. An `Err` says what is left.
+    pub fn answer(
+        &mut self,
+        what: &What,
+        now: Moment,
+        outs: &mut Outs,
+        made: &mut Made,
+    ) -> Result<Reply, Left>
         requires told { IsTold what.now }
         requires proper { IsTrue (is_proper_what what.now) }
         ensures answers { IfOk result (λ reply. PlaceAnswers self.old what.now now reply outs.old outs.new self.new) }
         ensures shown { IfOk result IsShown }
         ensures cause { IfErr result (MayLeave self.old what.now) }
         ensures err { IfErr result (λ left. LeftBy left self.old now outs.old outs.new self.new) }
+        ensures recorded { TellsEvent result self.old what.now now (effects_in made.new) }
     {
-        let Ok(()) = self.pass(now, outs) else {
+        let Ok(()) = self.start(made) else {
+            return Err(Left::Nothing);
+        };
+        let Ok(()) = self.pass(now, outs, &mut made.time) else {
             return Err(Left::Nothing);
         };
         let left = self.left();
-        match self.answer_then(what, now, outs) {
+        match self.answer_then(what, now, outs, &mut made.own) {
             Ok(reply) => Ok(reply),
             Err(NoMemory) => Err(left),
         }
     }
 
-    /// Makes one delivery at a moment, and adds what it sends. `None` exactly if no consumer is ready, and then nothing changes. An `Err` says what
-    /// is left.
+    /// Makes one delivery at a moment, adds what it sends, and gives its records for those that were there before. `None` exactly if no consumer is
+    /// ready, and then nothing changes. An `Err` says what is left.
     pub fn deliver_one(
         &mut self,
         now: Moment,
         listening: &Listening,
         outs: &mut Outs,
+        made: &mut Made,
     ) -> Result<Option<Delivery>, Left>
         ensures delivers { MayDeliver result self.old now listening.now outs.old outs.new self.new }
+        ensures recorded { TellsSent result self.old now self.new (effects_in made.new) }
     {
         match &mut self.held {
-            Held::Nothing(_) => Ok(None),
-            Held::Stream(stream) => stream.deliver_one(now, listening, outs),
+            Held::Nothing(_) => {
+                made.clear();
+                Ok(None)
+            }
+            Held::Stream(stream) => stream.deliver_one(now, listening, outs, made),
         }
     }
 
-    /// Lets time pass until a moment, and adds what is sent by then. An `Err` changes nothing and adds nothing.
-    fn pass(&mut self, now: Moment, outs: &mut Outs) -> Result<(), NoMemory>
+    /// Forgets the records, and takes memory for those of the messages that an event may let go.
+    fn start(&self, made: &mut Made) -> Result<(), NoMemory>
+        ensures fresh { IsFresh made.new }
+        ensures none { effects_in made.new ≡ [] }
+        ensures room { OnOk result (HasMadeRoom self.now made.new) }
+    {
+        match &self.held {
+            Held::Nothing(_) => {
+                made.clear();
+                Ok(())
+            }
+            Held::Stream(stream) => stream.start(made),
+        }
+    }
+
+    /// Lets time pass until a moment, adds what is sent by then, and records what passes. An `Err` changes nothing and adds nothing.
+    fn pass(&mut self, now: Moment, outs: &mut Outs, time: &mut TimeRecords) -> Result<(), NoMemory>
+        requires fresh { IsFreshTime time.old }
+        requires room { HasTimeRoom self.old time.old }
         ensures passed { OnOk result (self.new ≡ state_at self.old now) }
         ensures outs { OnOk result (outs.new ≡ outs.old ++ outs_by self.old now) }
+        ensures recorded { OnOk result (time_in time.new ≡ passing_effects self.old now) }
         ensures err { OnErr result (self.new ≡ self.old) }
         ensures err_outs { OnErr result (outs.new ≡ outs.old) }
+        ensures err_time { OnErr result (time.new ≡ time.old) }
     {
         match &mut self.held {
             Held::Nothing(_) => Ok(()),
-            Held::Stream(stream) => stream.pass(now, outs),
+            Held::Stream(stream) => stream.pass(now, outs, time),
         }
     }
 
@@ -181,105 +221,154 @@ impl Slot {
     }
 
     /// Does what is asked at a moment to which time has come, answers it, adds what it sends, and lets the messages go that the retention then does
-    /// not keep, also if it finds no memory.
-    fn answer_then(&mut self, what: &What, now: Moment, outs: &mut Outs) -> Result<Reply, NoMemory>
+    /// not keep, also if it finds no memory; records what it does.
+    fn answer_then(
+        &mut self,
+        what: &What,
+        now: Moment,
+        outs: &mut Outs,
+        own: &mut OwnRecords,
+    ) -> Result<Reply, NoMemory>
         requires told { IsTold what.now }
         requires proper { IsTrue (is_proper_what what.now) }
+        requires fresh { IsFreshOwn own.old }
+        requires room { HasOwnRoom self.old own.old }
         ensures answers { IfOk result (λ reply. AnswersThen self.old what.now now reply outs.old outs.new self.new) }
         ensures shown { IfOk result IsShown }
+        ensures recorded { OnOk result (own_in own.new ≡ asking_effects self.old what.now now) }
         ensures takes_none { OnErr result (what.now ≢ What.Tick) }
         ensures err { OnErr result (self.new ≡ settled_state self.old) }
         ensures err_outs { OnErr result (outs.new ≡ outs.old) }
+        ensures err_recorded { OnErr result (own_in own.new ≡ settle_effects [] self.old) }
     {
         match what {
             What::Tick => {
-                self.settle();
+                self.settle(own);
                 Ok(Reply::Silent)
             }
-            What::Drop { reply: _ } => self.drop_stream(outs),
-            _ => self.answer_other(what, now, outs),
+            What::Drop { reply: _ } => self.drop_stream(outs, own),
+            _ => self.answer_other(what, now, outs, own),
         }
     }
 
     /// The same, of all but ticks and drops.
-    fn answer_other(&mut self, what: &What, now: Moment, outs: &mut Outs) -> Result<Reply, NoMemory>
+    fn answer_other(
+        &mut self,
+        what: &What,
+        now: Moment,
+        outs: &mut Outs,
+        own: &mut OwnRecords,
+    ) -> Result<Reply, NoMemory>
         requires told { IsTold what.now }
         requires proper { IsTrue (is_proper_what what.now) }
         requires more { what.now ≢ What.Tick }
         requires stays { (reply : Option Bytes) → what.now ≢ What.Drop reply }
+        requires fresh { IsFreshOwn own.old }
+        requires room { HasOwnRoom self.old own.old }
         ensures answers { IfOk result (λ reply. AnswersThen self.old what.now now reply outs.old outs.new self.new) }
         ensures shown { IfOk result IsShown }
+        ensures recorded { OnOk result (own_in own.new ≡ asking_effects self.old what.now now) }
         ensures err { OnErr result (self.new ≡ settled_state self.old) }
         ensures err_outs { OnErr result (outs.new ≡ outs.old) }
+        ensures err_recorded { OnErr result (own_in own.new ≡ settle_effects [] self.old) }
     {
         match &mut self.held {
-            Held::Nothing(_) => self.answer_vacant(what, now),
-            Held::Stream(stream) => stream.answer(what, outs),
+            Held::Nothing(_) => self.answer_vacant(what, now, own),
+            Held::Stream(stream) => stream.answer(what, outs, own),
         }
     }
 
-    /// Lets the messages go that the retention does not keep.
-    fn settle(&mut self)
+    /// Lets the messages go that the retention does not keep, and records which.
+    fn settle(&mut self, own: &mut OwnRecords)
+        requires fresh { IsFreshOwn own.old }
+        requires room { HasOwnRoom self.old own.old }
         ensures value { self.new ≡ settled_state self.old }
+        ensures recorded { own_in own.new ≡ settle_effects [] self.old }
     {
         match &mut self.held {
             Held::Nothing(_) => {}
-            Held::Stream(stream) => stream.release(),
+            Held::Stream(stream) => stream.release(own),
         }
     }
 
-    /// Drops the stream with its messages and consumers, and tells the waiting pulls. The next one will have the next incarnation.
-    fn drop_stream(&mut self, outs: &mut Outs) -> Result<Reply, NoMemory>
+    /// Drops the stream with its messages and consumers, tells the waiting pulls, and records it. The next one will have the next incarnation.
+    fn drop_stream(&mut self, outs: &mut Outs, own: &mut OwnRecords) -> Result<Reply, NoMemory>
+        requires fresh { IsFreshOwn own.old }
+        requires room { HasOwnRoom self.old own.old }
         ensures answers { (subject : Option Bytes) (now : ℕ) → IfOk result (λ reply. AnswersThen self.old (What.Drop subject) now reply outs.old outs.new self.new) }
         ensures shown { IfOk result IsShown }
+        ensures recorded { (subject : Option Bytes) (now : ℕ) → OnOk result (own_in own.new ≡ asking_effects self.old (What.Drop subject) now) }
         ensures err { OnErr result (self.new ≡ settled_state self.old) }
         ensures err_outs { OnErr result (outs.new ≡ outs.old) }
+        ensures err_recorded { OnErr result (own_in own.new ≡ settle_effects [] self.old) }
     {
         match &mut self.held {
             Held::Nothing(_) => Ok(Reply::Refused(no_stream(self.alloc)?)),
             Held::Stream(stream) => {
                 let last = stream.incarnation();
                 let Ok(()) = stream.tell_dropped(outs) else {
-                    stream.release();
+                    stream.release(own);
                     return Err(NoMemory);
                 };
                 self.held = Held::Nothing(last);
+                own.record(Some(Effect::DropStream));
                 Ok(Reply::Done)
             }
         }
     }
 
-    /// Makes a stream if there is none. Whatever else is asked is refused. An `Err` changes nothing.
-    fn answer_vacant(&mut self, what: &What, now: Moment) -> Result<Reply, NoMemory>
+    /// Makes a stream if there is none, and records it. Whatever else is asked is refused. An `Err` changes nothing.
+    fn answer_vacant(
+        &mut self,
+        what: &What,
+        now: Moment,
+        own: &mut OwnRecords,
+    ) -> Result<Reply, NoMemory>
         requires vacant { IsVacant self.old }
         requires proper { IsTrue (is_proper_what what.now) }
         requires more { what.now ≢ What.Tick }
+        requires fresh { IsFreshOwn own.old }
         ensures answers { (outs : List Out) → IfOk result (λ reply. AnswersThen self.old what.now now reply outs outs self.new) }
         ensures shown { IfOk result IsShown }
+        ensures recorded { OnOk result (own_in own.new ≡ asking_effects self.old what.now now) }
         ensures err { OnErr result (self.new ≡ self.old) }
+        ensures err_own { OnErr result (own.new ≡ own.old) }
     {
         match what {
-            What::Make { reply: _, config } => self.make(config, now),
+            What::Make { reply: _, config } => self.make(config, now, own),
             _ => Ok(Reply::Refused(no_stream(self.alloc)?)),
         }
     }
 
-    /// Makes a stream. An `Err` changes nothing.
-    fn make(&mut self, config: &StreamConfig, now: Moment) -> Result<Reply, NoMemory>
+    /// Makes a stream, and records it. An `Err` changes nothing.
+    fn make(
+        &mut self,
+        config: &StreamConfig,
+        now: Moment,
+        own: &mut OwnRecords,
+    ) -> Result<Reply, NoMemory>
         requires vacant { IsVacant self.old }
         requires valid { IsTrue (is_stream_config config.now) }
+        requires fresh { IsFreshOwn own.old }
         ensures answers { (subject : Option Bytes) (outs : List Out) → IfOk result (λ reply. AnswersThen self.old (What.Make subject config.now) now reply outs outs self.new) }
         ensures shown { IfOk result IsShown }
+        ensures recorded { (subject : Option Bytes) → OnOk result (own_in own.new ≡ asking_effects self.old (What.Make subject config.now) now) }
         ensures err { OnErr result (self.new ≡ self.old) }
+        ensures err_own { OnErr result (own.new ≡ own.old) }
     {
         let incarnation = self.incarnation();
         if incarnation == NUMBERS_END {
             return Ok(Reply::Refused(numbers_used_up(self.alloc)?));
         }
-        let mut stream = LiveStream::make(self.alloc, incarnation, config, now)?;
-        stream.release();
+        let stream = LiveStream::make(self.alloc, incarnation, config, now)?;
         let info = stream.info()?;
+        let config = copy_stream_config(self.alloc, config)?;
         self.held = Held::Stream(stream);
+        own.record(Some(Effect::MakeStream {
+            incarnation,
+            made: now,
+            config,
+        }));
         Ok(Reply::Info(info))
     }
 }

@@ -1,5 +1,8 @@
+use Rattle.std.proofs.Common.{◌∙◌}
 use Rattle.std.proofs.lemmas.Bool.{and_parts}
 use Rattle.std.proofs.lemmas.Result.{IfOk-weaker}
+use Rattle.place_engine.proofs.Recorded.{at_err, at_ok, rests}
+use Rattle.place_engine.proofs.RecordedStreams.{making_again, reading, showing}
 use Rattle.place_engine.proofs.live_stream.LiveStream.act.Goals as goal
 
 pub publish-requires-clause-told : goal.publish-requires-clause-told
@@ -49,3 +52,45 @@ returns-in-ConsumerNames-clause-acts c = rw c.in-ConsumerNames.is (IfOk-weaker c
 
 pub returns-in-ConsumerList-clause-acts : goal.returns-in-ConsumerList-clause-acts
 returns-in-ConsumerList-clause-acts c = rw c.in-ConsumerList.is (IfOk-weaker c.list_consumers.result _ _ (λ reply h. h c.args.outs.now) c.list_consumers.ensures.acts)
+
+pub returns-in-Make-clause-recorded : goal.returns-in-Make-clause-recorded
+returns-in-Make-clause-recorded c = rw c.in-Make.is (at_ok c.make_again.result (c.make_again.ensures.recorded ∙ making_again c.args.self.now c.in-Make.config))
+
+pub returns-in-Change-clause-recorded : goal.returns-in-Change-clause-recorded
+returns-in-Change-clause-recorded c = rw c.in-Change.is (c.change.ensures.recorded c.in-Change.reply)
+
+pub returns-in-Publish-clause-recorded : goal.returns-in-Publish-clause-recorded
+returns-in-Publish-clause-recorded c = rw c.in-Publish.is c.publish.ensures.recorded
+
+pub returns-in-Purge-clause-recorded : goal.returns-in-Purge-clause-recorded
+returns-in-Purge-clause-recorded c = rw c.in-Purge.is (rw c.as_slice.ensures at (c.purge.ensures.recorded c.in-Purge.reply))
+
+pub returns-in-Delete-clause-recorded : goal.returns-in-Delete-clause-recorded
+returns-in-Delete-clause-recorded c = rw c.in-Delete.is (c.delete.ensures.recorded c.in-Delete.reply)
+
+pub returns-in-MakeConsumer-clause-recorded : goal.returns-in-MakeConsumer-clause-recorded
+returns-in-MakeConsumer-clause-recorded c = rw c.in-MakeConsumer.is (c.ask_consumer.ensures.recorded c.in-MakeConsumer.reply)
+
+pub returns-in-DropConsumer-clause-recorded : goal.returns-in-DropConsumer-clause-recorded
+returns-in-DropConsumer-clause-recorded c = rw c.in-DropConsumer.is (c.drop_consumer.ensures.recorded c.in-DropConsumer.reply)
+
+pub returns-in-Ack-clause-recorded : goal.returns-in-Ack-clause-recorded
+returns-in-Ack-clause-recorded c = rw c.in-Ack.is (rw c.as_ref.ensures.value at c.ack.ensures.recorded)
+
+pub returns-in-Pull-clause-recorded : goal.returns-in-Pull-clause-recorded
+returns-in-Pull-clause-recorded c = rw c.in-Pull.is (rw c.as_ref-in-Pull.ensures.value at c.pull.ensures.recorded)
+
+pub returns-in-MessageGet-clause-recorded : goal.returns-in-MessageGet-clause-recorded
+returns-in-MessageGet-clause-recorded c = rw c.in-MessageGet.is (at_ok c.read.result (rw (← c.self.view_is) (rests c.args.own.now c.self.inside.state c.requires.fresh c.holds.ensures.settled ∙ reading c.self.inside.state c.in-MessageGet.by)))
+
+pub returns-in-ConsumerInfo-clause-recorded : goal.returns-in-ConsumerInfo-clause-recorded
+returns-in-ConsumerInfo-clause-recorded c = rw c.in-ConsumerInfo.is (at_ok c.show_consumer.result (c.show_consumer.ensures.recorded ∙ showing c.args.self.now c.in-ConsumerInfo.name))
+
+pub returns-in-ConsumerNames-clause-recorded : goal.returns-in-ConsumerNames-clause-recorded
+returns-in-ConsumerNames-clause-recorded c = rw c.in-ConsumerNames.is (at_ok c.list_names.result (rw (← c.self.view_is) (rests c.args.own.now c.self.inside.state c.requires.fresh c.holds.ensures.settled)))
+
+pub returns-in-MessageGet-clause-err_recorded : goal.returns-in-MessageGet-clause-err_recorded
+returns-in-MessageGet-clause-err_recorded c = at_err c.read.result (rw (← c.self.view_is) (rests c.args.own.now c.self.inside.state c.requires.fresh c.holds.ensures.settled))
+
+pub returns-in-ConsumerNames-clause-err_recorded : goal.returns-in-ConsumerNames-clause-err_recorded
+returns-in-ConsumerNames-clause-err_recorded c = at_err c.list_names.result (rw (← c.self.view_is) (rests c.args.own.now c.self.inside.state c.requires.fresh c.holds.ensures.settled))

@@ -1,3 +1,4 @@
+use Rattle.place_engine.proofs.Recorded.{rests}
 use Rattle.std.proofs.Common.{◌∙◌, sym}
 use Rattle.std.proofs.lemmas.Result.{IfOk-weaker}
 use Rattle.place_engine.proofs.Answering.{acts_as, made_other, made_same, quiet}
@@ -18,3 +19,9 @@ returns-in_ok-other_config-clause-acts c =
 
 pub returns-in_ok-other_config-clause-shown : goal.returns-in_ok-other_config-clause-shown
 returns-in_ok-other_config-clause-shown c = other_config_utf8 _ c.in_ok-other_config.ensures.value
+
+pub returns-in_err-other_config-clause-recorded : goal.returns-in_err-other_config-clause-recorded
+returns-in_err-other_config-clause-recorded c = rw (← c.self.view_is) (rests c.args.own.now c.self.inside.state c.requires.fresh c.holds.ensures.settled)
+
+pub returns-in_ok-other_config-clause-recorded : goal.returns-in_ok-other_config-clause-recorded
+returns-in_ok-other_config-clause-recorded c = rw (← c.self.view_is) (rests c.args.own.now c.self.inside.state c.requires.fresh c.holds.ensures.settled)

@@ -1,4 +1,5 @@
 use Rattle.place_engine.proofs.Places.{makes, makes_none}
+use Rattle.place_engine.proofs.RecordedPlaces.{settled_made}
 use Rattle.place_engine.proofs.Shown.{numbers_used_up_utf8}
 use Rattle.place_engine.proofs.slot.Slot.make.Goals as goal
 
@@ -11,7 +12,7 @@ returns-then-incarnation-eq-NUMBERS_END-clause-answers c = λ subject. λ outs.
 pub returns-clause-answers : goal.returns-clause-answers
 returns-clause-answers c = λ subject. λ outs.
     makes c.args.self.now subject c.args.config.now c.args.now _ _ _ _ outs c.requires.vacant c.incarnation-incarnation.ensures.value c.if-incarnation-eq-NUMBERS_END.false c.in_ok-stream.ensures.made
-    c.release.ensures.value c.in_ok-info.ensures.value
+    (settled_made _ _ _ _ c.in_ok-stream.ensures.made) c.in_ok-info.ensures.value
 
 pub returns-then-incarnation-eq-NUMBERS_END-clause-shown : goal.returns-then-incarnation-eq-NUMBERS_END-clause-shown
 returns-then-incarnation-eq-NUMBERS_END-clause-shown c = numbers_used_up_utf8 _ c.in_ok-numbers_used_up.ensures.value

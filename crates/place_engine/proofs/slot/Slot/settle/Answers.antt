@@ -3,11 +3,9 @@ use Rattle.js_model.specs.declared.stream.State.TheVariants.{Live}
 use Rattle.place_engine.proofs.slot.Slot.settle.Goals.{in-Nothing, in-Stream}
 use Rattle.place_engine.proofs.slot.Slot.settle.Goals as goal
 
-pub returns : goal.returns
-returns c = record {
-  value =
-      elim c.match-self.branch [
-        | in-Nothing w ↦ rw (w.self-inside-is, ← c.self.view_is, w.in-Nothing.is) refl
-        | in-Stream w ↦ rw (w.self-inside-is, ← c.self.view_is, w.in-Stream.is) (ap Live w.release.ensures.value)
-      ];
-}
+pub returns-clause-value : goal.returns-clause-value
+returns-clause-value c =
+    elim c.match-self.branch [
+      | in-Nothing w ↦ rw (w.self-inside-is, ← c.self.view_is, w.in-Nothing.is) refl
+      | in-Stream w ↦ rw (w.self-inside-is, ← c.self.view_is, w.in-Stream.is) (ap Live w.release.ensures.value)
+    ]
