@@ -2,7 +2,6 @@ pub mod Lists
 pub mod Streams
 pub mod Refusals
 pub mod Configs
-pub mod Served
 pub mod Limits
 pub mod Proper
 pub mod Advance

@@ -53,6 +53,9 @@ store_fault = refusal 503 20011 (codes "store fault")
 abbrev pub stream_stopped : ApiError
 stream_stopped = refusal 503 20012 (codes "stream stopped")
 
+abbrev pub log_full : ApiError
+log_full = refusal 503 20023 (codes "log full")
+
 abbrev pub numbers_used_up : ApiError
 numbers_used_up = refusal 503 20008 (codes "number range used up")
 

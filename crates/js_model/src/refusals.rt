@@ -228,6 +228,13 @@ pub fn stream_stopped(alloc: Global) -> Result<ApiError, NoMemory>
     refusal(alloc, 503, 20012, b"stream stopped")
 }
 
+/// The log of the store would be longer than it may be, and the stream is stopped.
+pub fn log_full(alloc: Global) -> Result<ApiError, NoMemory>
+    ensures value { IfOk result (λ error. error ≡ refusals.log_full) }
+{
+    refusal(alloc, 503, 20023, b"log full")
+}
+
 /// Every place is used.
 pub fn no_free_place(alloc: Global) -> Result<ApiError, NoMemory>
     ensures value { IfOk result (λ error. error ≡ refusals.no_free_place) }
