@@ -17,7 +17,7 @@ use Rattle.effects.specs.Effects.{event_effects}
 use Rattle.effects.specs.Laws.{Leads}
 use Rattle.effects.specs.declared.effect.Effect.{Effect}
 use Rattle.place_engine.specs.declared.faults.PlaceFault.{PlaceFault}
-use Rattle.place_engine.specs.declared.faults.PlaceFault.TheVariants.{NoMemory, StoreFault, Stopped, Gone, Worn}
+use Rattle.place_engine.specs.declared.faults.PlaceFault.TheVariants.{NoMemory, StoreFault, Full, Stopped, Gone, Worn}
 use Rattle.place_engine.specs.declared.faults.Left.TheVariants.{Nothing, Ticked, Unsaid}
 
 -- the bytes of each file of a volume
@@ -25,7 +25,8 @@ abbrev pub Image : Type 0
 Image = ℕ → Bytes
 
 -- A place as it is seen: what stands there; which states its volume may hold, its bases; the records of what was made since, which wait for a commit;
--- whether the store has a block for what is asked; and what a crash at some moment of the volume from one on may have left, which is nothing in memory.
+-- whether the store has a block for what is asked; whether its log would be too long with such records, which it never is in memory; and what a crash at
+-- some moment of the volume from one on may have left, which is nothing in memory.
 -- A base is told by a predicate and is no value: once records wait, the bytes of the volume alone have it, and of a volume of which nothing is known there
 -- is none. The commit that stopped a place may have been made or not, so that a stopped place can have two.
 pub record Seen : Type 1 where
@@ -33,6 +34,7 @@ pub record Seen : Type 1 where
   pub is_base : State → Type 0
   pub waiting : List Effect
   pub room : What → Bool
+  pub is_full : List Effect → Type 0
   pub left_since : ℕ → Image → Type 0
 
 -- ---- crashes
@@ -82,6 +84,10 @@ MayPutOff made old new = IsFlushed new ⊎ IsPutOff made old new
 abbrev pub effects_of : Event → ℕ → Seen → List Effect
 effects_of event now old = event_effects old.place.state event.what now (old.room event.what)
 
+-- the records that are to be committed with an event: those that wait, and its own
+abbrev pub batch_of : Event → ℕ → Seen → List Effect
+batch_of event now old = old.waiting ++ effects_of event now old
+
 -- ---- what became of the event
 
 -- all but where the volume stands is as it was
@@ -99,8 +105,9 @@ pub record Does (event : Event) (now : ℕ) (old new : Seen) : Type 0 where
   pub kept : event.incarnation ≡ kept_incarnation old.place.state
   pub state : new.place.state ≡ (answered old.place.state event now (old.room event.what)).state
 
--- a confirmed step is on the volume with all before it; another one may be
+-- a confirmed step is on the volume with all before it; another one may be. The log had room for what is to be committed
 pub record Commits (event : Event) (now : ℕ) (reply : Reply) (old new : Seen) : Type 0 where
+  pub fits : ¬ old.is_full (batch_of event now old)
   pub firm : IsFirmStep old.place.state event.what reply new.place.state → IsFlushed new
   pub may : MayPutOff (effects_of event now old) old new
 
@@ -143,7 +150,16 @@ pub record Breaks (event : Event) (now : ℕ) (old new : Seen) (before after : L
   pub does : Does event now old new
   pub stops : new.place.stopped ≡ Some new.place.volume.faults
   pub cause : Rose old.place.volume.faults new.place.volume.faults
+  pub fits : ¬ old.is_full (batch_of event now old)
   pub base : MayKeepBase old new
+  pub outs : after ≡ before
+
+-- it is made, the log of the store is too full for it, and the place is stopped at the count that its volume has then
+pub record Fills (event : Event) (now : ℕ) (old new : Seen) (before after : List Out) : Type 0 where
+  pub does : Does event now old new
+  pub stops : new.place.stopped ≡ Some new.place.volume.faults
+  pub cause : old.is_full (batch_of event now old)
+  pub base : KeepsBase old new
   pub outs : after ≡ before
 
 -- no call on it changes its volume
@@ -181,6 +197,7 @@ Ends (Err (NoMemory Nothing)) event now old new before after = IsUndone old new 
 Ends (Err (NoMemory Ticked)) event now old new before after = Passes event now old new before after
 Ends (Err (NoMemory (Unsaid refused))) event now old new before after = Withholds refused event now old new before after
 Ends (Err StoreFault) event now old new before after = Breaks event now old new before after
+Ends (Err Full) event now old new before after = Fills event now old new before after
 Ends (Err (Stopped count)) event now old new before after = IsStopped count old new before after
 Ends (Err (Gone kept)) event now old new before after = IsGone kept event old new before after
 Ends (Err (Worn refused)) event now old new before after = IsWornOut refused event now old new before after

@@ -1,21 +1,25 @@
 //! A place for one stream, in memory or on a volume.
 
-ghost use Rattle.std.specs.Prelude.{◌≡◌, ◌≤◌, ◌<◌, ◌^◌, length, option_map, slice_get, IfOk, IfErr, IfSome, IsTrue, IsUtf8};
+ghost use Rattle.std.specs.Prelude.{◌≡◌, ◌≤◌, ◌<◌, ◌^◌, ℕ, length, option_map, slice_get, IfOk, IfErr, IfSome, IsTrue, IsUtf8};
 ghost use Rattle.std.specs.Option.{option_copied};
 ghost use Rattle.js_model.specs.declared.stream.State.{State};
 ghost use Rattle.js_model.specs.Events.{kept_incarnation};
 ghost use Rattle.js_model.specs.Proper.{is_proper};
 ghost use Rattle.js_model.specs.Ready.{some_ready};
+ghost use Rattle.js_base.specs.Causes.{Rose};
 ghost use Rattle.place_engine.specs.Delivering.{Delivers};
+ghost use Rattle.place_engine.specs.Flushing.{Flushes};
+ghost use Rattle.place_engine.specs.Opening.{IsBaseOn, IsOpened, IsUnopened};
 ghost use Rattle.place_engine.specs.Places.{IsTold, name_in, subjects_in};
 ghost use Rattle.place_engine.specs.Pushes.{push_of, pushes_in};
 ghost use Rattle.place_engine.specs.Shown.{IsShown};
 ghost use Rattle.place_engine.specs.Stepping.{Image, IsKept, Seen, Steps};
 
-use crate::faults::PlaceFault;
+use crate::faults::{OpenFault, PlaceFault};
 use crate::push::Push;
 use js_base::{Blob, Moment, Outs};
 use js_model::{Delivery, Event, Listening, Reply};
+use std::alloc::Global;
 
 /// A place, vacant or with a stream, and its volume.
 pub trait Place {
@@ -33,6 +37,30 @@ pub trait Place {
 
     /// What a call may make of the volume.
     ghost keeps_vol: { Self.Vol → Self.Vol → Type 0 };
+
+    /// What a crash at some moment of a volume, from one on, may have left of it.
+    ghost left: { Self.Vol → ℕ → Image → Type 0 };
+
+    /// The moment of a volume: how many of its calls it has answered, if that is told.
+    ghost clock: { Self.Vol → ℕ };
+
+    /// How often a volume failed.
+    ghost faults: { Self.Vol → ℕ };
+
+    /// To which states a place may be opened on a volume.
+    ghost opens: { Self.Vol → State → Type 0 };
+
+    /// Why a place may not be opened on a volume.
+    ghost refuses: { Self.Vol → OpenFault → Type 0 };
+
+    /// Opens the place of a volume. An `Err` gives the volume back; `Fault` comes only if its count of faults rose.
+    fn open(alloc: Global, volume: Self::Vol) -> Result<Self, (OpenFault, Self::Vol)>
+        ensures opened { IfOk result (λ place. IsOpened holds left clock opens volume (seen place)) }
+        ensures vol { IfOk result (λ place. keeps_vol volume (vol place)) }
+        ensures refused { IfErr result (λ stop. refuses volume stop.0) }
+        ensures cause { IfErr result (λ stop. stop.0 ≡ OpenFault.Fault → Rose (faults volume) (faults stop.1)) }
+        ensures unopened { IfErr result (λ stop. IsUnopened holds left clock opens volume stop.1) }
+        ensures given_back { IfErr result (λ stop. keeps_vol volume stop.1) };
 
     /// The incarnation of the stream, or the one that the next stream will have. At 2^62 no stream can be made any more.
     fn incarnation(&self) -> u64
@@ -88,7 +116,13 @@ pub trait Place {
         ensures delivers { Delivers holds result now listening.now (seen self.old) (seen self.new) outs.old outs.new }
         ensures vol { keeps_vol (vol self.old) (vol self.new) };
 
-    /// Ends the place, and gives its volume back.
+    /// Brings all that was made to the volume. What each fault leaves of the place is said at [`PlaceFault`]: of `NoMemory` only `Left::Nothing` comes, and
+    /// `Gone` does not come. After `Worn` all is as it was.
+    fn flush(&mut self) -> Result<(), PlaceFault>
+        ensures flushes { Flushes holds result (seen self.old) (seen self.new) }
+        ensures vol { keeps_vol (vol self.old) (vol self.new) };
+
+    /// Ends the place, and gives its volume back. What waits is not on it.
     fn into_vol(self) -> Self::Vol
         ensures value { result ≡ vol self };
 
@@ -97,6 +131,18 @@ pub trait Place {
 
     /// An image holds one state, or none.
     ghost holds_one: { (image : Image) → (a b : State) → holds image a → holds image b → a ≡ b };
+
+    /// The volume of a place may hold nothing but what a crash leaves of it.
+    ghost bases: { (place : Self) (b : State) → (seen place).is_base b → IsBaseOn holds left clock (vol place) b };
+
+    /// What a crash may have left of the volume of a place is what it may have left of the place.
+    ghost leaves: { (place : Self) (t : ℕ) (image : Image) → left (vol place) t image → (seen place).left_since t image };
+
+    /// What was left since a moment was left since each earlier one.
+    ghost earlier: { (v : Self.Vol) (t u : ℕ) (image : Image) → t ≤ u → left v u image → left v t image };
+
+    /// Where the volume of a place stands is told of the place.
+    ghost stands: { (place : Self) → ((seen place).place.volume.moment ≡ clock (vol place)) × ((seen place).place.volume.faults ≡ faults (vol place)) };
 
     /// A call may leave the volume as it is.
     ghost keeps_none: { (v : Self.Vol) → keeps_vol v v };
