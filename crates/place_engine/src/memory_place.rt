@@ -147,6 +147,8 @@ impl<V> Place for MemoryPlace<V> {
         Ok(())
     }
 
+    fn law_kept(&self) {}
+
     fn into_vol(self) -> V {
         let MemoryPlace {
             slot: _,
@@ -155,8 +157,6 @@ impl<V> Place for MemoryPlace<V> {
         } = self;
         vol
     }
-
-    ghost kept = { λ place. record { waits = λ b is. absurd is; free = λ few what. refl; now = λ image left. absurd left; earlier = λ t u image le left. absurd left } };
 
     ghost holds_one = { λ image a b one other. absurd one };
 

@@ -122,17 +122,18 @@ pub trait Place {
         ensures flushes { Flushes holds result (seen self.old) (seen self.new) }
         ensures vol { keeps_vol (vol self.old) (vol self.new) };
 
+    /// What holds between any two calls. It does nothing.
+    fn law_kept(&self)
+        ensures kept { IsKept holds (seen self.now) };
+
     /// Ends the place, and gives its volume back. What waits is not on it.
     fn into_vol(self) -> Self::Vol
         ensures value { result ≡ vol self };
 
-    /// What holds between any two calls.
-    ghost kept: { (place : Self) → IsKept holds (seen place) };
-
     /// An image holds one state, or none.
     ghost holds_one: { (image : Image) → (a b : State) → holds image a → holds image b → a ≡ b };
 
-    /// The volume of a place may hold nothing but what a crash leaves of it.
+    /// What the volume of a place may hold is what a crash may leave of it.
     ghost bases: { (place : Self) (b : State) → (seen place).is_base b → IsBaseOn holds left clock (vol place) b };
 
     /// What a crash may have left of the volume of a place is what it may have left of the place.
