@@ -62,13 +62,13 @@ is_heard Silent = true
 is_heard Nobody = false
 is_heard (Refused e) = false
 
--- whether somebody took it, by what became of the hold. A stream whose volume failed is there
+-- whether somebody took it, by what became of the hold. A stream whose hold broke is there
 abbrev pub IsHeard : Became → Result Bool DeskFault → List DeskEntry → Type 0
 IsHeard (Made reply) result entries = Gives (is_heard reply) result entries
 IsHeard (Unsaid refused) result entries = ⊥
 IsHeard Ticked result entries = ⊥
 IsHeard Nothing result entries = ⊥
-IsHeard (Broke stream) result entries = Gives true result entries
+IsHeard (Broke stream full) result entries = Gives true result entries
 IsHeard (Stopped stream) result entries = Gives true result entries
 IsHeard Gone result entries = Gives false result entries
 
