@@ -25,7 +25,7 @@ use Rattle.js_api.specs.declared.outcome.Became.{Became}
 use Rattle.js_api.specs.declared.outcome.Became.TheVariants.{Made, Unsaid, Ticked, Nothing, Broke, Stopped, Gone}
 use Rattle.js_api.specs.declared.outcome.Outcome.{Outcome}
 use Rattle.js_model.specs.PlaceStates.{VolumeAt}
-use Rattle.js_api.specs.Entries.{Reading, Sending, Sent, Unsent, Hold, entries_in, DeskEntry, Held, Stirred, Halted, Missed}
+use Rattle.js_api.specs.Entries.{Reading, Sent, Unsent, Hold, entries_in, DeskEntry, Held, Stirred, Halted, Missed}
 use Rattle.js_api.specs.Stages.{IsWorn}
 use Rattle.js_api.specs.Outputs.{outs_of, stream_name}
 

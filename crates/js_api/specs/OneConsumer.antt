@@ -1,6 +1,6 @@
 -- Calls of the JetStream API on the consumers of one stream, and acknowledgements. A question for messages and an acknowledgement have no answer but what
 -- the stream itself sends; somebody took them if their stream is there, and for a question its consumer too.
-use Rattle.std.specs.Prelude.{◌≡◌, ℕ, Bool, true, false, List, [], MatchBool, Option, Result, Ok, Err}
+use Rattle.std.specs.Prelude.{ℕ, Bool, true, false, List, [], MatchBool, Option, Result, Ok, Err}
 use Rattle.js_base.specs.Bytes.{Bytes}
 use Rattle.js_base.specs.Names.{name_of}
 use Rattle.js_base.specs.declared.name.NameFault.{NameFault}
