@@ -1,0 +1,4 @@
+pub mod Beginnings
+pub mod Following
+mod Opened
+mod Timed
