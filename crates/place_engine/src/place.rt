@@ -139,6 +139,9 @@ pub trait Place {
     /// What a crash may have left of the volume of a place is what it may have left of the place.
     ghost leaves: { (place : Self) (t : ℕ) (image : Image) → left (vol place) t image → (seen place).left_since t image };
 
+    /// And what it may have left of the place it may have left of the volume.
+    ghost leaves_all: { (place : Self) (t : ℕ) (image : Image) → (seen place).left_since t image → left (vol place) t image };
+
     /// What was left since a moment was left since each earlier one.
     ghost earlier: { (v : Self.Vol) (t u : ℕ) (image : Image) → t ≤ u → left v u image → left v t image };
 
