@@ -1,7 +1,7 @@
 -- Where no two places conflict, their streams are apart.
-use Rattle.std.proofs.Common.{◌≡◌, ◌≢◌, ◌⊎◌, ⊎_elim, inl, inr, ℕ, zero, suc, ◌+◌, ◌<◌, ◌≤◌, Bool, true, false, List, [], ◌∷◌, ◌++◌, append-nil, length, get_or, Option, None, Some, refl, sym, ap, subst, ◌∙◌, arith}
+use Rattle.std.proofs.Common.{◌≡◌, ◌≢◌, ⊎_elim, ℕ, zero, suc, ◌+◌, ◌<◌, ◌≤◌, Bool, true, false, List, [], ◌∷◌, ◌++◌, append-nil, length, get_or, Option, None, Some, refl, sym, ap, subst, ◌∙◌, arith}
 use Rattle.std.specs.Prelude.{option_map}
-use Rattle.std.proofs.lemmas.Bool.{cases_lt, cases_Bool}
+use Rattle.std.proofs.lemmas.Bool.{cases_lt}
 use Rattle.std.proofs.lemmas.Option.{same_Some}
 use Rattle.js_base.specs.Bytes.{Bytes, same}
 use Rattle.js_model.specs.declared.kept_place.KeptPlace.{KeptPlace}
@@ -47,10 +47,12 @@ two_apart (Some one) (Some other) a b is_a is_b none =
     }))
 
 pub apart_of : (places : List KeptPlace) → AreWithoutConflict places → IsApart (catalog_of places)
-apart_of places none = record { at = λ m n a b other is_a is_b. ⊎_elim
-    (λ lt. two_apart (kept_at places m) (kept_at places n) a b (sym (kept_used places m) ∙ is_a) (sym (kept_used places n) ∙ is_b) (none m n lt))
-    (λ le. apart_sym b a (two_apart (kept_at places n) (kept_at places m) b a (sym (kept_used places n) ∙ is_b) (sym (kept_used places m) ∙ is_a) (none n m (below m n other le))))
-    (cases_lt m n) }
+apart_of places none = record {
+  at = λ m n a b other is_a is_b. ⊎_elim
+      (λ lt. two_apart (kept_at places m) (kept_at places n) a b (sym (kept_used places m) ∙ is_a) (sym (kept_used places n) ∙ is_b) (none m n lt))
+      (λ le. apart_sym b a (two_apart (kept_at places n) (kept_at places m) b a (sym (kept_used places n) ∙ is_b) (sym (kept_used places m) ∙ is_a) (none n m (below m n other le))))
+      (cases_lt m n);
+}
   where
     below : (m n : ℕ) → m ≢ n → n ≤ m → n < m
     below m n other le = omega (arith, other, le)

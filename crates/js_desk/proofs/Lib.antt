@@ -3,7 +3,7 @@ pub mod Cataloged
 pub mod Closing
 pub mod Edits
 pub mod Found
-pub mod GivenBack
+pub mod Rows
 pub mod HeldGround
 pub mod HoldFacts
 pub mod Incarnations

@@ -5,7 +5,7 @@ use Rattle.js_model.specs.declared.desk.PlaceAt.{PlaceAt}
 use Rattle.js_model.specs.declared.catalog_fault.CatalogFault.{CatalogFault}
 use Rattle.js_model.specs.Catalog.{Catalog, Used, Place}
 use Rattle.js_model.specs.Events.{kept_incarnation}
-use Rattle.js_model.specs.PlaceStates.{PlaceIn, vacant_place}
+use Rattle.js_model.specs.PlaceStates.{PlaceIn}
 use Rattle.js_model.specs.Router.{Router, is_open}
 use Rattle.place_engine.specs.Stepping.{Seen}
 use Rattle.js_api.specs.declared.outcome.Became.{Became}
@@ -94,11 +94,6 @@ pub record IsGrounded (catalog : Catalog) (places : List PlaceIn) (last : Option
   pub single : AreSingle turn catalog
   pub agreed : AreAgreed turn catalog places
   pub within : IfSome last (λ at. at.place < length places)
-
--- places that never had a stream, and that nothing stopped
-abbrev pub AreFresh : List PlaceIn → Type 0
-AreFresh [] = Unit {0}
-AreFresh (place ∷ places) = (place ≡ vacant_place) × AreFresh places
 
 -- ---- the turn after a call
 

@@ -1,6 +1,8 @@
+pub mod Cataloging
+pub mod Closing
 pub mod Dropping
 pub mod Faults
-pub mod GivingBack
 pub mod Grounds
 pub mod Kept
+pub mod Opening
 pub mod Solo

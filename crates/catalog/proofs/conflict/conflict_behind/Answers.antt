@@ -6,7 +6,7 @@ pub returns-then-conflict-clause-found : goal.returns-then-conflict-clause-found
 returns-then-conflict-clause-found c =
     first_behind c.args.kept.now c.args.first c.loop-second.second c.loop-second.invariant.behind
     (at_pair c.args.kept.now c.args.first c.loop-second.second c.index-kept-first.result c.index-kept-second.result _ c.requires.within c.loop-second-test.true
-        c.index-kept-first.is c.index-kept-second.is (sym c.if-conflict.true ∙ c.conflict.ensures.value))
+    c.index-kept-first.is c.index-kept-second.is (sym c.if-conflict.true ∙ c.conflict.ensures.value))
     c.loop-second.invariant.none
 
 pub loop-second-preserved : goal.loop-second-preserved
@@ -14,7 +14,7 @@ loop-second-preserved c = record {
   behind = omega arith;
   none = none_yet c.args.kept.now c.args.first c.loop-second.second
       (at_pair c.args.kept.now c.args.first c.loop-second.second c.index-kept-first.result c.index-kept-second.result _ c.requires.within c.loop-second-test.true
-          c.index-kept-first.is c.index-kept-second.is (sym c.if-conflict.false ∙ c.conflict.ensures.value))
+      c.index-kept-first.is c.index-kept-second.is (sym c.if-conflict.false ∙ c.conflict.ensures.value))
       c.loop-second.invariant.none;
 }
 

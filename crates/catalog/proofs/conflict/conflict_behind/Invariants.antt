@@ -1,4 +1,4 @@
-use Rattle.std.proofs.Common.{◌≡◌, ◌<◌, ◌≤◌, ℕ, false, length}
+use Rattle.std.proofs.Common.{◌≡◌, ◌<◌, ℕ, false}
 use Rattle.catalog.specs.Conflicts.{conflict_at}
 use Rattle.catalog.proofs.conflict.conflict_behind.Given as goal
 
