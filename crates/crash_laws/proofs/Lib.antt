@@ -1,4 +1,4 @@
 pub mod Beginnings
 pub mod Following
 mod Opened
-mod Timed
+pub mod Timed

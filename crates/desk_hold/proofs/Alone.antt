@@ -221,7 +221,7 @@ module _ (at : PlaceAt) where
   last_holds Gone what now ready fault entries last h = ap (λ (es : List DeskEntry). last_after es last) h.1
 
   -- the entries of the hold lead the desk from the one scene to the other
-  pub held_alone : (holds : Image → State → Type 0) (seat : ℕ) (what : What) (now : ℕ) (outcome : Outcome) (scene : Scene) (old new : Seen) (router : Router)
+  abbrev pub held_alone : (holds : Image → State → Type 0) (seat : ℕ) (what : What) (now : ℕ) (outcome : Outcome) (scene : Scene) (old new : Seen) (router : Router)
       → slice_get scene.world.places at.place ≡ Some old.place → HoldsOn IsRoute never at holds seat what now outcome old new scene.world.router router
       → Makes (Leads SoloStep) (Holds at what now outcome) scene (with_place scene at.place (on new.place router) (last_of outcome.became scene.cursor.last))
   held_alone holds seat what now outcome scene old new router there h =

@@ -9,12 +9,10 @@ use Rattle.place_engine.specs.Stepping.{Image, IsKept, Seen}
 use Rattle.crash_laws.specs.Timed.{Timed}
 use Rattle.crash_laws.specs.Beginnings.{Beginning, Chain, Ever, IsLeftOf}
 use Rattle.crash_laws.specs.Outlasting.{AreBetween, HasBases, Lasted, Outlasts}
+use Rattle.crash_laws.proofs.Timed.{entries_of}
 use Rattle.desk_hold.specs.Crashes as seen_so
 
 -- ---- entries with their moments
-
-abbrev pub entries_of : List Timed → List PlaceEntry
-entries_of timed = map (λ (e : Timed). e.entry) timed
 
 -- at each of their moments that is so, if this is
 abbrev pub AreFine : Type 0 → (ℕ → Type 0) → List Timed → Type 0

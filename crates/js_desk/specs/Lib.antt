@@ -4,5 +4,6 @@ pub mod Dropping
 pub mod Faults
 pub mod Grounds
 pub mod Kept
+pub mod Lasting
 pub mod Opening
 pub mod Solo

@@ -10,7 +10,8 @@ ghost use Rattle.js_api.specs.Making.{MakesStream};
 ghost use Rattle.js_api.specs.Worlds.{SoloStep};
 ghost use Rattle.js_desk.specs.Closing.{Closes};
 ghost use Rattle.js_desk.specs.Opening.{FailsToOpen, OpensDesk};
-ghost use Rattle.js_desk.specs.Solo.{DeskMade, frames_left};
+ghost use Rattle.js_desk.specs.Solo.{DeskMade, frames_left, row_in};
+ghost use Rattle.js_desk.proofs.Lasting.{outlast_more, outlast_none};
 ghost use Rattle.js_desk.specs.Kept.{kept_more, kept_none};
 
 use crate::cataloging::{Uncataloged, catalog_of};
@@ -125,7 +126,7 @@ impl<P: Place> SoloDesk<P> {
 impl<P: Place> Desk for SoloDesk<P> {
     ghost client = { λ desk. desk.client };
 
-    ghost made = { λ old entries new. DeskMade P.keeps_vol old entries new };
+    ghost made = { λ old entries new. DeskMade P.keeps_vol P.holds P.left P.clock old entries new };
 
     ghost left = { λ desk. frames_left desk };
 
@@ -175,7 +176,7 @@ impl<P: Place> Desk for SoloDesk<P> {
         closed
     }
 
-    ghost made_nothing = { λ desk. (leads_nothing SoloStep desk.scene, kept_none P.keeps_vol P.keeps_none desk.vols) };
+    ghost made_nothing = { λ desk. (leads_nothing SoloStep desk.scene, kept_none P.keeps_vol P.keeps_none desk.vols, outlast_none P.holds P.left P.clock P.earlier (row_in desk)) };
 
-    ghost made_more = { λ a b c first more h k. (leads_more SoloStep a.scene b.scene c.scene first more h.0 k.0, kept_more P.keeps_vol P.keeps_more a.vols b.vols c.vols h.1 k.1) };
+    ghost made_more = { λ a b c first more h k. (leads_more SoloStep a.scene b.scene c.scene first more h.0 k.0, kept_more P.keeps_vol P.keeps_more a.vols b.vols c.vols h.1 k.1, outlast_more P.holds P.left P.clock first more (row_in a) (row_in b) (row_in c) h.2 k.2) };
 }

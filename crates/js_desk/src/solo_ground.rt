@@ -8,7 +8,8 @@ ghost use Rattle.js_model.specs.Cataloging.{add_told};
 ghost use Rattle.js_model.specs.Routing.{waiting_for};
 ghost use Rattle.std.proofs.Common.{refl, ◌∙◌};
 ghost use Rattle.js_desk.specs.Dropping.{is_drop};
-ghost use Rattle.js_desk.specs.Grounds.{SoloMade, is_held, places_by, setting_of};
+ghost use Rattle.js_desk.specs.Grounds.{SoloMade, is_held, places_by, row_of, setting_of};
+ghost use Rattle.js_desk.proofs.Lasting.{outlast_more, outlast_none};
 ghost use Rattle.js_desk.specs.Kept.{kept_more, kept_none};
 ghost use Rattle.desk_ground.specs.Grounds.{Outside};
 ghost use Rattle.desk_answers.specs.Became.{is_dropped};
@@ -151,7 +152,7 @@ impl<P: Place> SoloGround<P> {
 }
 
 impl<P: Place> Ground for SoloGround<P> {
-    ghost made = { λ old entries new. SoloMade P.keeps_vol old entries new };
+    ghost made = { λ old entries new. SoloMade P.keeps_vol P.holds P.left P.clock old entries new };
 
     ghost setting = { λ ground. setting_of ground.scene };
 
@@ -285,7 +286,7 @@ impl<P: Place> Ground for SoloGround<P> {
         outcome
     }
 
-    ghost made_nothing = { λ ground. (leads_nothing SoloStep ground.scene, kept_none P.keeps_vol P.keeps_none ground.vols) };
+    ghost made_nothing = { λ ground. (leads_nothing SoloStep ground.scene, kept_none P.keeps_vol P.keeps_none ground.vols, outlast_none P.holds P.left P.clock P.earlier (row_of ground)) };
 
-    ghost made_more = { λ a b c first more h k. (leads_more SoloStep a.scene b.scene c.scene first more h.0 k.0, kept_more P.keeps_vol P.keeps_more a.vols b.vols c.vols h.1 k.1) };
+    ghost made_more = { λ a b c first more h k. (leads_more SoloStep a.scene b.scene c.scene first more h.0 k.0, kept_more P.keeps_vol P.keeps_more a.vols b.vols c.vols h.1 k.1, outlast_more P.holds P.left P.clock first more (row_of a) (row_of b) (row_of c) h.2 k.2) };
 }
