@@ -1,4 +1,4 @@
 pub mod Beginnings
 pub mod Following
-mod Opened
+pub mod Opened
 pub mod Timed

@@ -174,8 +174,6 @@ impl<V> Place for MemoryPlace<V> {
 
     ghost leaves = { λ place t image. (λ left. left, λ left. left) };
 
-    ghost leaves_all = { λ place t image left. left };
-
     ghost earlier = { λ v t u image le left. absurd left };
 
     ghost stands = { λ place. (refl, refl) };

@@ -8,7 +8,6 @@ ghost use Rattle.js_model.specs.Lasting.{lasting};
 ghost use Rattle.js_model.specs.Proper.{is_proper};
 ghost use Rattle.js_model.specs.Ready.{some_ready};
 ghost use Rattle.js_base.specs.Causes.{Rose};
-ghost use Rattle.place_engine.specs.declared.faults.OpenFault.{OpenFault};
 ghost use Rattle.place_engine.specs.Delivering.{Delivers};
 ghost use Rattle.place_engine.specs.Flushing.{Flushes};
 ghost use Rattle.place_engine.specs.Opening.{IsOpened, IsUnopened};
@@ -156,9 +155,6 @@ pub trait Place {
 
     /// What a crash may have left of a place it may have left of its volume.
     ghost leaves: { (place : Self) (t : ℕ) (image : Image) → (seen place).left_since t image ↔ left (vol place) t image };
-
-    /// And what it may have left of the place it may have left of the volume.
-    ghost leaves_all: { (place : Self) (t : ℕ) (image : Image) → (seen place).left_since t image → left (vol place) t image };
 
     /// What was left since a moment was left since each earlier one.
     ghost earlier: { (v : Self.Vol) (t u : ℕ) (image : Image) → t ≤ u → left v u image → left v t image };
