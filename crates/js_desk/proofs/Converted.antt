@@ -1,10 +1,9 @@
 -- What a crash may leave of entries at a place, told of what is seen of the place, is told of its volume.
-use Rattle.std.proofs.Common.{◌≡◌, ◌⊎◌, ⊎_elim, inl, inr, ℕ, ◌<◌, ◌≤◌, ◌++◌, List, [], ◌∷◌, map, refl, sym, ap, subst, ◌∙◌, arith}
+use Rattle.std.proofs.Common.{◌≡◌, ◌⊎◌, ⊎_elim, inl, inr, ℕ, ◌<◌, ◌≤◌, ◌++◌, List, [], ◌∷◌, Option, refl, sym, ap, subst, ◌∙◌, arith}
+use Rattle.std.specs.Prelude.{◌↔◌}
 use Rattle.js_model.specs.declared.stream.State.{State}
 use Rattle.js_model.specs.declared.entry.PlaceEntry.{PlaceEntry}
-use Rattle.js_model.specs.Firm.{IsFirm}
-use Rattle.js_model.specs.Lasting.{lasting}
-use Rattle.place_engine.specs.Opening.{AllHold, IsBaseOn}
+use Rattle.place_engine.specs.Opening.{AllHold}
 use Rattle.place_engine.specs.Stepping.{Image, IsKept, Seen}
 use Rattle.crash_laws.specs.Timed.{Timed}
 use Rattle.crash_laws.specs.Beginnings.{Beginning, Chain, Ever, IsLeftOf}
@@ -85,35 +84,24 @@ timed_left may t is_base IsBase bases old timed new left fine h =
 
 -- ---- a place and its volume
 
-module _ {P V : Type 0} (seen : P → Seen) (vol : P → V) (holds : Image → State → Type 0) (left : V → ℕ → Image → Type 0) (clock faults : V → ℕ)
-    (holds_one : (image : Image) (a b : State) → holds image a → holds image b → a ≡ b)
-    (bases : (p : P) (b : State) → (seen p).is_base b → IsBaseOn holds left clock (vol p) b)
-    (leaves : (p : P) (t : ℕ) (image : Image) → left (vol p) t image → (seen p).left_since t image)
-    (leaves_all : (p : P) (t : ℕ) (image : Image) → (seen p).left_since t image → left (vol p) t image)
+module _ {P V : Type 0} (seen : P → Seen) (vol : P → V) (holds : Image → State → Type 0) (reads : V → Image → Type 0) (left : V → ℕ → Image → Type 0) (clock faults : V → ℕ) (base : Option ℕ → V → State → Type 0)
+    (bases : (p : P) (b : State) → (seen p).is_base b ↔ base (seen p).place.stopped (vol p) b)
+    (leaves : (p : P) (t : ℕ) (image : Image) → (seen p).left_since t image ↔ left (vol p) t image)
     (stands : (p : P) → ((seen p).place.volume.moment ≡ clock (vol p)) × ((seen p).place.volume.faults ≡ faults (vol p))) where
 
   -- a crash now may leave an image of a base alone
-  record HoldsBase (p : P) (image : Image) : Type 0 where
-    b : State
-    held : holds image b
-    is : (seen p).is_base b
+  pub has_bases : (p : P) → IsKept holds (seen p) → HasBases holds left clock (base (seen p).place.stopped (vol p)) (vol p)
+  has_bases p kept image is_left =
+      let b = kept.now image (subst (λ (t : ℕ). (seen p).left_since t image) (sym (stands p).0) ((leaves p (clock (vol p)) image).1 is_left)) in
+      (b.0, b.1, (bases p b.0).0 b.2)
 
-  base_held : (p : P) → IsKept holds (seen p) → (image : Image) → left (vol p) (clock (vol p)) image → HoldsBase p image
-  base_held p kept image is_left =
-      let b = kept.now image (subst (λ (t : ℕ). (seen p).left_since t image) (sym (stands p).0) (leaves p (clock (vol p)) image is_left)) in
-      record { b = b.0; held = b.1; is = b.2 }
-
-  -- each image holds this, if it is each base
-  pub all_hold : (p : P) → IsKept holds (seen p) → (state : State) → ((b : State) → (seen p).is_base b → b ≡ state) → AllHold holds left clock (vol p) state
-  all_hold p kept state only image is_left =
-      let h = base_held p kept image is_left in subst (λ (s : State). holds image s) (only h.b h.is) h.held
-
-  is_base_of : (p : P) → IsKept holds (seen p) → (b : State) → IsBaseOn holds left clock (vol p) b → (seen p).is_base b
-  is_base_of p kept b on =
-      let h = base_held p kept on.image on.is_left in subst (λ (s : State). (seen p).is_base s) (holds_one on.image h.b b h.held on.held) h.is
-
-  pub has_bases : (p : P) → IsKept holds (seen p) → HasBases holds left clock (vol p)
-  has_bases p kept image is_left = let h = base_held p kept image is_left in (h.b, h.held)
+  -- its volume holds this, if this is its one base
+  pub all_hold : (p : P) → IsKept holds (seen p) → ((image : Image) → reads (vol p) image → (b : State) × holds image b × (seen p).is_base b) → (state : State)
+      → ((b : State) → (seen p).is_base b → b ≡ state) → AllHold holds reads left clock (vol p) state
+  all_hold p kept read state only = record {
+    read = λ image is. let b = read image is in subst (λ (s : State). holds image s) (only b.0 b.2) b.1;
+    now = λ image is_left. let b = has_bases p kept image is_left in subst (λ (s : State). holds image s) (only b.0 ((bases p b.0).1 b.2)) b.1;
+  }
 
   module _ (p q : P) (kept : IsKept holds (seen q)) (IsEarly : ℕ → Type 0) (timed : List Timed)
       (later : (seen p).place.volume.moment ≤ (seen q).place.volume.moment)
@@ -122,22 +110,22 @@ module _ {P V : Type 0} (seen : P → Seen) (vol : P → V) (holds : Image → S
       (h : seen_so.Outlasts holds IsEarly (entries_of timed) (seen p) (seen q)) where
 
     left_so : (t : ℕ) (l : State) → (may : Type 0) → AreFine may (λ by. t < by) timed → seen_so.IsLeftOf may (seen p).is_base (seen p).place.state (entries_of timed) (seen q).place.state l
-        → IsLeftOf t (IsBaseOn holds left clock (vol p)) (seen p).place.state timed (seen q).place.state l
-    left_so t l may fine k = timed_left may t (seen p).is_base (IsBaseOn holds left clock (vol p)) (bases p) (seen p).place.state timed (seen q).place.state l fine k
+        → IsLeftOf t (base (seen p).place.stopped (vol p)) (seen p).place.state timed (seen q).place.state l
+    left_so t l may fine k = timed_left may t (seen p).is_base (base (seen p).place.stopped (vol p)) (λ b is. (bases p b).0 is) (seen p).place.state timed (seen q).place.state l fine k
 
     never_fine : (t : ℕ) (ts : List Timed) → AreFine ⊥ (λ by. t < by) ts
     never_fine t [] = tt
     never_fine t (e ∷ more) = ((λ no. absurd no), never_fine t more)
 
-    pub outlasts_so : Outlasts holds left clock timed (seen p).place.state (seen q).place.state (vol p) (vol q)
+    pub outlasts_so : Outlasts holds left clock (base (seen p).place.stopped (vol p)) (base (seen q).place.stopped (vol q)) timed (seen p).place.state (seen q).place.state (vol p) (vol q)
     outlasts_so had = record {
       later = omega (arith, later, (stands p).0, (stands q).0);
       led = timed_chain (Unit {0}) Ever timed (seen p).place.state (seen q).place.state (ever_fine timed) h.led;
       between = subst (λ (n : ℕ). AreBetween n (clock (vol q)) timed) (stands p).0 (subst (λ (n : ℕ). AreBetween (seen p).place.volume.moment n timed) (stands q).0 between);
       crash = λ t image is_left. ⊎_elim
-          (λ before. inl (omega (arith, before.0, (stands p).0), leaves_all p t image before.1))
+          (λ before. inl (omega (arith, before.0, (stands p).0), (leaves p t image).0 before.1))
           (λ l. inr (l.0, l.1, left_so t l.0 (IsEarly t) (early t) l.2))
-          (h.crash t image (leaves q t image is_left));
-      base = λ b is. left_so (clock (vol q)) b ⊥ (never_fine (clock (vol q)) timed) (h.base b (is_base_of q kept b is));
+          (h.crash t image ((leaves q t image).1 is_left));
+      base = λ b is. left_so (clock (vol q)) b ⊥ (never_fine (clock (vol q)) timed) (h.base b ((bases q b).1 is));
       bases = has_bases q kept;
     }

@@ -12,9 +12,9 @@ use Rattle.desk_ground.specs.Grounds.{Outside, Setting}
 use Rattle.js_desk.specs.Grounds.{SoloMade, Standing, setting_of}
 use Rattle.js_desk.specs.Solo.{DeskMade, IsConsistent, solo}
 
-pub desk_made : {V : Type 0} (keeps : V → V → Type 0) (holds : Image → State → Type 0) (left : V → ℕ → Image → Type 0) (clock : V → ℕ) (P : List DeskEntry → Type 0) (old new : Standing V) (before after : Caller) → Makes (SoloMade keeps holds left clock) P old new
-    → Makes (DeskMade keeps holds left clock) P (solo old before) (solo new after)
-desk_made keeps holds left clock P old new before after h = record { entries = h.entries; are = h.are; led = h.led }
+pub desk_made : {V : Type 0} (keeps : V → V → Type 0) (holds : Image → State → Type 0) (left : V → ℕ → Image → Type 0) (clock : V → ℕ) (base : Option ℕ → V → State → Type 0) (P : List DeskEntry → Type 0) (old new : Standing V) (before after : Caller) → Makes (SoloMade keeps holds left clock base) P old new
+    → Makes (DeskMade keeps holds left clock base) P (solo old before) (solo new after)
+desk_made keeps holds left clock base P old new before after h = record { entries = h.entries; are = h.are; led = h.led }
 
 -- a call that ends outside of a turn leaves the desk consistent, if its session is open in the router then
 pub ended_consistent : {V : Type 0} (keeps : V → V → Type 0) (old new : Standing V) (before after : Caller) (vols : List V) (capacity : ℕ) → IsConsistent old before vols capacity → new.phase ≡ Outside

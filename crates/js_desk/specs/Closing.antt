@@ -31,24 +31,28 @@ failure_or None place None = None
 failure_or None place (Some (Ok done)) = None
 failure_or None place (Some (Err fault)) = Some (place, fault)
 
-module _ {P V : Type 0} (seen : P → Seen) (vol : P → V) (holds : Image → State → Type 0) (left : V → ℕ → Image → Type 0) (clock : V → ℕ) (keeps : V → V → Type 0) where
+-- Of a kind of place: what contracts see of it, its volume, which state an image holds, what reads of a volume give and what a crash may have left of it, its
+-- moment, which states it may hold, and what a call may make of it.
+module _ {P V : Type 0} (seen : P → Seen) (vol : P → V) (holds : Image → State → Type 0) (reads : V → Image → Type 0) (left : V → ℕ → Image → Type 0) (clock : V → ℕ)
+    (base : Option ℕ → V → State → Type 0) (keeps : V → V → Type 0) where
   -- it was flushed with this result, and is this place then
   pub record Flushed (told : Result (Unit {0}) PlaceFault) (p q : P) : Type 0 where
     pub going : (seen p).place.stopped ≡ None
     pub flushes : Flushes holds told (seen p) (seen q)
     pub keeps : keeps (vol p) (vol q)
 
-  -- A place that was not stopped was flushed; one that was stopped has its volume as it was. After a flush that succeeded each image that a crash now may
-  -- leave holds what outlives a crash of its state.
+  -- A place that was not stopped was flushed; one that was stopped has its volume as it was. After a flush that succeeded the volume holds what outlives a
+  -- crash of the state of its place.
   abbrev pub EndsSo : P → Option (Result (Unit {0}) PlaceFault) → V → Type 0
   EndsSo p None end = ((count : ℕ) × ((seen p).place.stopped ≡ Some count)) × (end ≡ vol p)
-  EndsSo p (Some (Ok done)) end = ((q : P) × Flushed (Ok done) p q × (end ≡ vol q)) × AllHold holds left clock end (lasting (seen p).place.state)
+  EndsSo p (Some (Ok done)) end = ((q : P) × Flushed (Ok done) p q × (end ≡ vol q)) × AllHold holds reads left clock end (lasting (seen p).place.state)
   EndsSo p (Some (Err fault)) end = (q : P) × Flushed (Err fault) p q × (end ≡ vol q)
 
   -- nothing was made in that
   pub record EndsAt (p : P) (end : End V) : Type 0 where
     pub ends : EndsSo p end.told end.vol
-    pub outlasts : Outlasts holds left clock [] (seen p).place.state (seen p).place.state (vol p) end.vol
+    pub stopped : Option ℕ
+    pub outlasts : Outlasts holds left clock (base (seen p).place.stopped (vol p)) (base stopped end.vol) [] (seen p).place.state (seen p).place.state (vol p) end.vol
 
   -- the places were flushed in their order, and these are their volumes and the first failure
   pub record AreClosed (row : List P) (vols : List V) (failed : Option (ℕ × PlaceFault)) : Type 0 where

@@ -52,9 +52,9 @@ row_of ground = record { places = ground.scene.world.places; vols = ground.vols 
 
 -- entries lead from the one ground to the other, whose volumes are what the calls of its places may make of those from before; and of what the entries made at
 -- each place a crash may leave a beginning
-abbrev pub SoloMade : {V : Type 0} → (V → V → Type 0) → (Image → State → Type 0) → (V → ℕ → Image → Type 0) → (V → ℕ) → Standing V → List DeskEntry → Standing V → Type 0
-SoloMade keeps holds left clock old entries new =
-    Leads SoloStep old.scene entries new.scene × AllZip keeps old.vols new.vols × PlacesOutlast holds left clock (row_of old) entries (row_of new)
+abbrev pub SoloMade : {V : Type 0} → (V → V → Type 0) → (Image → State → Type 0) → (V → ℕ → Image → Type 0) → (V → ℕ) → (Option ℕ → V → State → Type 0) → Standing V → List DeskEntry → Standing V → Type 0
+SoloMade keeps holds left clock base old entries new =
+    Leads SoloStep old.scene entries new.scene × AllZip keeps old.vols new.vols × PlacesOutlast holds left clock base (row_of old) entries (row_of new)
 
 -- which sessions are open, and how many places there are
 abbrev pub setting_of : Scene → Setting

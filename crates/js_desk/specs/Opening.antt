@@ -1,5 +1,5 @@
 -- What became of the volumes on which a desk was to be opened, in the order of its places.
-use Rattle.std.specs.Prelude.{◌≡◌, ◌≤◌, ◌⊎◌, ◌++◌, ℕ, List, ◌∷◌, length, map, reverse}
+use Rattle.std.specs.Prelude.{◌≡◌, ◌≤◌, ◌⊎◌, ◌++◌, ℕ, List, ◌∷◌, length, map, reverse, Option, None}
 use Rattle.std.specs.List.{AllZip}
 use Rattle.js_base.specs.Causes.{Rose}
 use Rattle.js_model.specs.declared.stream.State.{State}
@@ -16,23 +16,23 @@ use Rattle.js_desk.specs.Solo.{Solo}
 use Rattle.js_desk.specs.declared.faults.HubFault.{HubFault}
 use Rattle.js_desk.specs.declared.faults.HubFault.TheVariants.{Open, Conflict, NoMemory}
 
--- Of a kind of place: what contracts see of it, its volume, which state an image holds, what a crash may have left of a volume, its moment and its faults,
--- to which states a place may be opened on it and why not, and what a call may make of it.
-module _ {P V : Type 0} (seen : P → Seen) (vol : P → V) (holds : Image → State → Type 0) (left : V → ℕ → Image → Type 0) (clock faults : V → ℕ)
-    (opens : V → State → Type 0) (refuses : V → OpenFault → Type 0) (keeps : V → V → Type 0) where
-  -- A place was opened on the volume, and each image that a crash now may leave of it holds the state to which it was opened. If each one that a crash could
-  -- leave before held that state, then so does each one that a crash since then may have left.
+-- Of a kind of place: what contracts see of it, its volume, which state an image holds, what reads of a volume give and what a crash may have left of it, its
+-- moment and its faults, which states it may hold, to which states a place may be opened on it and why not, and what a call may make of it.
+module _ {P V : Type 0} (seen : P → Seen) (vol : P → V) (holds : Image → State → Type 0) (reads : V → Image → Type 0) (left : V → ℕ → Image → Type 0) (clock faults : V → ℕ)
+    (base : Option ℕ → V → State → Type 0) (opens : V → State → Type 0) (refuses : V → OpenFault → Type 0) (keeps : V → V → Type 0) where
+  -- A place was opened on the volume, which holds the state to which it was opened. If the volume held it before, then each image that a crash since then may
+  -- have left holds it.
   pub record OpensOn (before : V) (p : P) : Type 0 where
-    pub opened : IsOpened holds left clock opens before (seen p)
+    pub opened : IsOpened holds reads left clock opens before (seen p)
     pub keeps : keeps before (vol p)
-    pub now : AllHold holds left clock (vol p) (seen p).place.state
-    pub since : AllHold holds left clock before (seen p).place.state → IsOpenedAt holds left clock (clock before) (seen p).place.state (vol p)
+    pub now : AllHold holds reads left clock (vol p) (seen p).place.state
+    pub since : AllHold holds reads left clock before (seen p).place.state → IsOpenedAt holds left clock (base None (vol p)) (clock before) (seen p).place.state (vol p)
 
   -- no place was opened on the volume, for this reason
   pub record RefusesOn (before : V) (fault : OpenFault) (after : V) : Type 0 where
     pub refused : refuses before fault
     pub cause : fault ≡ Fault → Rose (faults before) (faults after)
-    pub unopened : IsUnopened holds left clock opens before after
+    pub unopened : IsUnopened holds reads left clock opens before after
     pub keeps : keeps before after
 
   -- a place was opened on each volume, no two of their streams share a name or have subjects that meet, and the desk begins with them

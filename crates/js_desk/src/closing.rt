@@ -26,7 +26,7 @@ fn failure_or(
 
 /// Flushes a place that is not stopped, and gives its volume back.
 fn close_place<P: Place>(place: P) -> (Option<Result<(), PlaceFault>>, P::Vol)
-    ensures ends { EndsAt P.seen P.vol P.holds P.left P.clock P.keeps_vol place (record { told = result.0; vol = result.1 }) }
+    ensures ends { EndsAt P.seen P.vol P.holds P.reads P.left P.clock P.base P.keeps_vol place (record { told = result.0; vol = result.1 }) }
 {
     let mut place = place;
     place.law_kept();
@@ -43,7 +43,7 @@ pub fn close_places<P: Place>(places: Vec<P>, vols: &mut Vec<P::Vol>) -> Option<
     requires empty { vols.old.items ≡ [] }
     requires room { length places.items ≤ vec_capacity vols.old }
     requires few { length places.items ≤ 32 }
-    ensures closed { AreClosed P.seen P.vol P.holds P.left P.clock P.keeps_vol places.items vols.new.items result }
+    ensures closed { AreClosed P.seen P.vol P.holds P.reads P.left P.clock P.base P.keeps_vol places.items vols.new.items result }
 {
     let mut places = places;
     places.reverse();

@@ -59,9 +59,9 @@ impl<P: Place> SoloDesk<P> {
         vols: Vec<P::Vol>,
     ) -> Result<SoloDesk<P>, HubFault<P::Vol>>
         requires few { length vols.items ≤ 32 }
-        ensures opened { IfOk result (OpensDesk P.seen P.vol P.holds P.left P.clock P.faults P.opens P.refuses P.keeps_vol vols.items) }
+        ensures opened { IfOk result (OpensDesk P.seen P.vol P.holds P.reads P.left P.clock P.faults P.base P.opens P.refuses P.keeps_vol vols.items) }
         ensures client { IfOk result (λ desk. desk.client ≡ closed (new_client 0)) }
-        ensures err { IfErr result (FailsToOpen P.seen P.vol P.holds P.left P.clock P.faults P.opens P.refuses P.keeps_vol vols.items) }
+        ensures err { IfErr result (FailsToOpen P.seen P.vol P.holds P.reads P.left P.clock P.faults P.base P.opens P.refuses P.keeps_vol vols.items) }
     {
         let (places, vols) = open_places(alloc, vols)?;
         let mut vols = vols;
@@ -110,7 +110,7 @@ impl<P: Place> SoloDesk<P> {
     /// Brings all that was made at each place that is not stopped to its volume, in their order, and gives the volumes back, also after a failure. The places
     /// are those of the world at the closing, which is that of `self`.
     pub fn close_all(self) -> Closed<P::Vol>
-        ensures closes { Closes P.seen P.vol P.holds P.left P.clock P.keeps_vol self.vols self.scene.world.places result }
+        ensures closes { Closes P.seen P.vol P.holds P.reads P.left P.clock P.base P.keeps_vol self.vols self.scene.world.places result }
     {
         let SoloDesk {
             ground,
@@ -126,7 +126,7 @@ impl<P: Place> SoloDesk<P> {
 impl<P: Place> Desk for SoloDesk<P> {
     ghost client = { λ desk. desk.client };
 
-    ghost made = { λ old entries new. DeskMade P.keeps_vol P.holds P.left P.clock old entries new };
+    ghost made = { λ old entries new. DeskMade P.keeps_vol P.holds P.left P.clock P.base old entries new };
 
     ghost left = { λ desk. frames_left desk };
 
@@ -176,7 +176,7 @@ impl<P: Place> Desk for SoloDesk<P> {
         closed
     }
 
-    ghost made_nothing = { λ desk. (leads_nothing SoloStep desk.scene, kept_none P.keeps_vol P.keeps_none desk.vols, outlast_none P.holds P.left P.clock P.earlier (row_in desk)) };
+    ghost made_nothing = { λ desk. (leads_nothing SoloStep desk.scene, kept_none P.keeps_vol P.keeps_none desk.vols, outlast_none P.holds P.left P.clock P.base P.earlier (row_in desk)) };
 
-    ghost made_more = { λ a b c first more h k. (leads_more SoloStep a.scene b.scene c.scene first more h.0 k.0, kept_more P.keeps_vol P.keeps_more a.vols b.vols c.vols h.1 k.1, outlast_more P.holds P.left P.clock first more (row_in a) (row_in b) (row_in c) h.2 k.2) };
+    ghost made_more = { λ a b c first more h k. (leads_more SoloStep a.scene b.scene c.scene first more h.0 k.0, kept_more P.keeps_vol P.keeps_more a.vols b.vols c.vols h.1 k.1, outlast_more P.holds P.left P.clock P.base first more (row_in a) (row_in b) (row_in c) h.2 k.2) };
 }

@@ -152,7 +152,7 @@ impl<P: Place> SoloGround<P> {
 }
 
 impl<P: Place> Ground for SoloGround<P> {
-    ghost made = { λ old entries new. SoloMade P.keeps_vol P.holds P.left P.clock old entries new };
+    ghost made = { λ old entries new. SoloMade P.keeps_vol P.holds P.left P.clock P.base old entries new };
 
     ghost setting = { λ ground. setting_of ground.scene };
 
@@ -286,7 +286,7 @@ impl<P: Place> Ground for SoloGround<P> {
         outcome
     }
 
-    ghost made_nothing = { λ ground. (leads_nothing SoloStep ground.scene, kept_none P.keeps_vol P.keeps_none ground.vols, outlast_none P.holds P.left P.clock P.earlier (row_of ground)) };
+    ghost made_nothing = { λ ground. (leads_nothing SoloStep ground.scene, kept_none P.keeps_vol P.keeps_none ground.vols, outlast_none P.holds P.left P.clock P.base P.earlier (row_of ground)) };
 
-    ghost made_more = { λ a b c first more h k. (leads_more SoloStep a.scene b.scene c.scene first more h.0 k.0, kept_more P.keeps_vol P.keeps_more a.vols b.vols c.vols h.1 k.1, outlast_more P.holds P.left P.clock first more (row_of a) (row_of b) (row_of c) h.2 k.2) };
+    ghost made_more = { λ a b c first more h k. (leads_more SoloStep a.scene b.scene c.scene first more h.0 k.0, kept_more P.keeps_vol P.keeps_more a.vols b.vols c.vols h.1 k.1, outlast_more P.holds P.left P.clock P.base first more (row_of a) (row_of b) (row_of c) h.2 k.2) };
 }
