@@ -191,7 +191,7 @@ module _ (c : Catalog) (places : List PlaceIn) (last : Option PlaceAt) (turn : T
       by (became.Unsaid refused) e = tt
       by became.Ticked e = tt
       by became.Nothing e = tt
-      by (became.Broke stream) e = tt
+      by (became.Broke stream full) e = tt
       by (became.Stopped stream) e = tt
       by became.Gone e = let gone = f.gone e in gone.1 (known_kept (slice_get c at.place) refl known gone.0)
 
@@ -208,7 +208,7 @@ module _ {V : Type 0} (keeps : V → V → Type 0) (none : (v : V) → keeps v v
   last_so (became.Unsaid refused) = refl
   last_so became.Ticked = refl
   last_so became.Nothing = refl
-  last_so (became.Broke stream) = refl
+  last_so (became.Broke stream full) = refl
   last_so (became.Stopped stream) = refl
   last_so became.Gone = refl
 

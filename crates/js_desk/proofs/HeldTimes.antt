@@ -158,7 +158,7 @@ module _ (at : PlaceAt) where
   one_hold became.Nothing what now ready (Some faults.TooManySubs) entries h = absurd h.1
   one_hold became.Nothing what now ready (Some (faults.Worn last)) entries h = ⊎_elim (λ e. inl (λ number. ap (timed_at number) e)) (λ e. inl (λ number. ap (timed_at number) e.2)) h.1
   one_hold became.Nothing what now ready (Some (faults.NoSession latest)) entries h = absurd h.1
-  one_hold (became.Broke stream) what now ready fault entries h = inr (h.0, h.1)
+  one_hold (became.Broke stream full) what now ready fault entries h = inr (h.0, h.1)
   one_hold (became.Stopped stream) what now ready fault entries h = inl (λ number. ap (timed_at number) h.1)
   one_hold became.Gone what now ready fault entries h = inl (λ number. ap (timed_at number) h.1)
 
