@@ -6,6 +6,7 @@ pub mod Edits
 pub mod Flushed
 pub mod Found
 pub mod HeldGround
+pub mod HeldLasting
 pub mod HeldTimes
 pub mod HoldFacts
 pub mod Incarnations

@@ -272,14 +272,9 @@ impl<P: Place> Ground for SoloGround<P> {
 
     fn hold(&mut self, at: PlaceAt, what: What, now: Moment) -> Outcome {
         let asked = is_drop(&what);
-        let outcome = hold_on(
-            self.alloc,
-            &mut self.places[at.place as usize],
-            &mut self.router,
-            at,
-            what,
-            now,
-        );
+        let place = &mut self.places[at.place as usize];
+        let outcome = hold_on(self.alloc, place, &mut self.router, at, what, now);
+        place.law_kept();
         let dropped = is_dropped(asked, &outcome.became);
         self.turn = self.turn.after_hold(dropped, at.place);
         self.last = last_of(&outcome.became, at, self.last);
