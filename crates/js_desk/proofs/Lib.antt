@@ -1,8 +1,8 @@
 pub mod Added
 pub mod Cataloged
-pub mod Closing
 pub mod Converted
 pub mod Edits
+pub mod Failures
 pub mod Flushed
 pub mod Found
 pub mod HeldGround
