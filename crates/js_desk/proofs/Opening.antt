@@ -20,7 +20,7 @@ module _ {P V : Type 0} (seen : P → Seen) (vol : P → V) (holds : Image → S
   pub opens_on : (before : V) (p : P) → IsOpened holds reads left clock opens before (seen p) → keeps before (vol p) → IsKept holds (seen p)
       → ((seen p).place.stopped ≡ None → (image : Image) → reads (vol p) image → (b : State) × holds image b × (seen p).is_base b)
       → OpensOn seen vol holds reads left clock faults base opens refuses keeps before p
-  opens_on before p opened keeps_it kept read = record { opened = opened; keeps = keeps_it; now = all_hold seen vol holds reads left clock faults base bases leaves stands p kept (read opened.going) (seen p).place.state only; since = since }
+  opens_on before p opened keeps_it kept read = record { opened = opened; volume = keeps_it; now = all_hold seen vol holds reads left clock faults base bases leaves stands p kept (read opened.going) (seen p).place.state only; since = since }
     where
       only : (b : State) → (seen p).is_base b → b ≡ (seen p).place.state
       only b is = opened.flushed.base b is ∙ opened.all_lasts
