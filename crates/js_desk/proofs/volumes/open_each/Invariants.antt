@@ -13,6 +13,7 @@ invariant-loop-alloc g l =
           × AllZip (OpensOn P.seen P.vol P.holds P.reads P.left P.clock P.faults P.base P.opens P.refuses P.keeps_vol) came l.places.items;
       ahead : vec_len l.places + vec_len l.vols ≤ vec_capacity l.places;
       back : vec_len l.vols + vec_len l.places ≤ vec_capacity l.vols;
+      few : vec_len l.vols + vec_len l.places ≤ vec_len l.fn.vols;
     }
 
 abbrev pub decreases-loop-alloc : goal.decreases-loop-alloc
