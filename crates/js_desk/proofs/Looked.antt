@@ -17,7 +17,7 @@ use Rattle.js_desk.specs.declared.turn.Turn.{Turn}
 use Rattle.js_desk.specs.declared.turn.Turn.TheVariants as turns
 use Rattle.place_engine.specs.Stepping.{Image}
 use Rattle.js_desk.specs.Kept.{kept_none}
-use Rattle.js_desk.proofs.Lasting.{outlast_quiet}
+use Rattle.js_desk.specs.Outlasting.{outlast_quiet}
 use Rattle.js_desk.specs.Grounds.{AreSingle, IsGrounded, SoloMade, phase_of, standing}
 
 module _ {V : Type 0} (keeps : V → V → Type 0) (none : (v : V) → keeps v v) (holds : Image → State → Type 0) (left : V → ℕ → Image → Type 0) (clock : V → ℕ) (base : Option ℕ → V → State → Type 0) (earlier : (v : V) (t u : ℕ) (image : Image) → t ≤ u → left v u image → left v t image) (r : Router) (places : List PlaceIn) (vols : List V) (ticked : ℕ) (last : Option PlaceAt) where

@@ -13,7 +13,7 @@ use Rattle.js_model.specs.Catalog.{Catalog}
 use Rattle.js_model.specs.declared.stream.State.{State}
 use Rattle.js_model.specs.PlaceStates.{PlaceIn}
 use Rattle.place_engine.specs.Stepping.{Image}
-use Rattle.js_desk.proofs.Lasting.{outlast_quiet}
+use Rattle.js_desk.specs.Outlasting.{outlast_quiet}
 use Rattle.js_api.specs.declared.fault.DeskFault.{DeskFault}
 use Rattle.js_api.specs.declared.fault.DeskFault.TheVariants as faults
 use Rattle.js_api.specs.Answering.{DeskAnswer, Done, Opened, done, gave, gives, opened}

@@ -6,4 +6,5 @@ pub mod Grounds
 pub mod Kept
 pub mod Lasting
 pub mod Opening
+pub mod Outlasting
 pub mod Solo

@@ -10,7 +10,7 @@ ghost use Rattle.js_api.specs.Worlds.{SoloStep};
 ghost use Rattle.js_desk.specs.Closing.{Closes};
 ghost use Rattle.js_desk.specs.Opening.{FailsToOpen, OpensDesk};
 ghost use Rattle.js_desk.specs.Solo.{DeskMade, frames_left, row_in};
-ghost use Rattle.js_desk.proofs.Lasting.{outlast_more, outlast_none};
+ghost use Rattle.js_desk.specs.Outlasting.{outlast_more, outlast_none};
 ghost use Rattle.js_desk.specs.Kept.{kept_more, kept_none};
 
 use crate::cataloging::{Uncataloged, catalog_of};

@@ -9,7 +9,7 @@ ghost use Rattle.js_model.specs.Routing.{waiting_for};
 ghost use Rattle.std.proofs.Common.{refl, ◌∙◌};
 ghost use Rattle.js_desk.specs.Dropping.{is_drop};
 ghost use Rattle.js_desk.specs.Grounds.{SoloMade, is_held, places_by, row_of, setting_of};
-ghost use Rattle.js_desk.proofs.Lasting.{outlast_more, outlast_none};
+ghost use Rattle.js_desk.specs.Outlasting.{outlast_more, outlast_none};
 ghost use Rattle.js_desk.specs.Kept.{kept_more, kept_none};
 ghost use Rattle.desk_ground.specs.Grounds.{Outside};
 ghost use Rattle.desk_answers.specs.Became.{is_dropped};

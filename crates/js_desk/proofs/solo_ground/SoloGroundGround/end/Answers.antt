@@ -1,7 +1,7 @@
 use Rattle.std.proofs.Common.{map, refl}
 use Rattle.js_desk.specs.Grounds.{places_by}
 use Rattle.js_desk.specs.Kept.{kept_none}
-use Rattle.js_desk.proofs.Lasting.{outlast_none}
+use Rattle.js_desk.specs.Outlasting.{outlast_none}
 use Rattle.js_desk.proofs.Looked.{ended_grounded}
 use Rattle.js_desk.proofs.solo_ground.SoloGroundGround.end.Goals as goal
 
