@@ -213,7 +213,7 @@ pub unopened : {V : Type 0} (opened : List PlaceIn) (stream : Option NamedStream
     → PipeEnds opened stream 7 None v0 v1 old new
 unopened opened stream v0 v1 old new v c d = Unopened (record { status_is = refl; unfailed = refl; vols = v; unread = c; door = d })
 
-module _ {V : Type 0} (v0 v1 : List V) (read : Option Command) (stream : Option NamedStream) (e : read ≡ Some (Pipe stream)) where
+module _ {V : Type 0} (v0 v1 : List V) (read : Option Command) (dir : Option Bytes) (stream : Option NamedStream) (e : read ≡ Some (Pipe dir stream)) where
   -- the status is not that of another command line
   pub words_kept : (status : ℕ) (old new : Outside) → PipeEnds (opened_of v0) stream status None v0 v1 old new → (status ≡ 2) ↔ (read ≡ None)
   words_kept status old new h = (λ two. absurd (pipe_worded (opened_of v0) stream status v0 v1 old new h two), λ none. cc)
@@ -223,7 +223,7 @@ module _ {V : Type 0} (v0 v1 : List V) (read : Option Command) (stream : Option 
   ends_kept status old new h = subst (λ (o : Option Command). IfSome o (λ command. CommandEnds command status v0 v1 old new)) (sym e) h
 
 command_starved : {V : Type 0} (vols : List V) (command : Command) (outside : Outside) → CommandEnds command 7 vols vols outside outside
-command_starved vols (Pipe stream) outside = unopened (opened_of vols) stream vols vols outside outside refl refl refl
+command_starved vols (Pipe dir stream) outside = unopened (opened_of vols) stream vols vols outside outside refl refl refl
 
 -- nothing was run: out of memory
 pub ends_starved : {V : Type 0} (vols : List V) (read : Option Command) (outside : Outside) → IfSome read (λ command. CommandEnds command 7 vols vols outside outside)

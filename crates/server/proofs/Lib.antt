@@ -1,6 +1,7 @@
 pub mod Arriving
 pub mod Ending
 pub mod Printed
+pub mod Spelled
 pub mod Worded
 pub mod Whole
 pub mod Taken

@@ -276,7 +276,7 @@ refused_placeless count (Some stream) result error c0 c1 after h e u =
 printed_so : (result : Result (Option ApiError) DeskFault) (error : ApiError) (status : ℕ) (old new : SinkTold) → Unmakes result status old new → result ≡ Ok (Some error) → Prints (number_line error.err_code) old new
 printed_so result error status old new h e = let k = subst (λ (r : Result (Option ApiError) DeskFault). Unmakes r status old new) e h in k.1
 
-module _ {V : Type 0} (v0 v1 : List V) (read : Option Command) (stream : Option NamedStream) (is : read ≡ Some (Pipe stream)) (old new : Outside) where
+module _ {V : Type 0} (v0 v1 : List V) (read : Option Command) (dir : Option Bytes) (stream : Option NamedStream) (is : read ≡ Some (Pipe dir stream)) (old new : Outside) where
   refused_over : (after : Scene) (status : ℕ) → WasRefused (opened_of v0) stream after status old new → AreUntroubled after.world
       → NamesStream read × (length v0 ≡ 0) × Prints (number_line 20007) old.sink new.sink
   refused_over after status h u =

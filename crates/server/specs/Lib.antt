@@ -1,3 +1,4 @@
+pub mod Settings
 pub mod Words
 pub mod Outside
 pub mod Accepting

@@ -201,4 +201,4 @@ opened_of vols = replicate (length vols) vacant_place
 
 -- how a run of a command ends in memory, where no place fails in the closing
 abbrev pub CommandEnds : {V : Type 0} → Command → ℕ → List V → List V → Outside → Outside → Type 0
-CommandEnds (Pipe stream) status vols_old vols_new old new = PipeEnds (opened_of vols_old) stream status None vols_old vols_new old new
+CommandEnds (Pipe dir stream) status vols_old vols_new old new = PipeEnds (opened_of vols_old) stream status None vols_old vols_new old new

@@ -6,7 +6,8 @@ mod preparing;
 mod printing;
 mod running;
 mod serving;
+mod settings;
 mod words;
 
 pub use running::{Finish, run};
-pub use words::{Command, NamedStream, WordsFault, read_words};
+pub use words::{Command, FolderPath, NamedStream, WordsFault, read_words};

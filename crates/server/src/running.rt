@@ -160,7 +160,7 @@ pub fn run<R: Door, V, C: Clock, G: Gate, O: Sink>(
     ensures volumes { result.vols.items ≡ vols.items }
 {
     match read_words(alloc, words) {
-        Ok(Command::Pipe { stream }) => {
+        Ok(Command::Pipe { stream, .. }) => {
             let mut door = door;
             let (status, vols) = pipe(alloc, &stream, &mut door, vols, clock, out);
             Finish { status, door, vols }

@@ -8,7 +8,7 @@ use Rattle.server.proofs.running.run.Goals as goal
 
 pub pipe-status-requires-clause-subject : goal.pipe-status-requires-clause-subject
 pipe-status-requires-clause-subject g c =
-    let k : HasSubject c.in-Ok-Pipe.field-0 = command_subject (texts c.args.words.now) c.in-Ok-Pipe.field-0 c.in-Ok-Pipe.ensures in
+    let k : HasSubject (Pipe c.in-Ok-Pipe.dir c.in-Ok-Pipe.stream) = command_subject (texts c.args.words.now) (Pipe c.in-Ok-Pipe.dir c.in-Ok-Pipe.stream) c.in-Ok-Pipe.ensures in
     grind (arith, common_steps)
 
 pub returns-in-Ok-Pipe-clause-placeless : goal.returns-in-Ok-Pipe-clause-placeless
