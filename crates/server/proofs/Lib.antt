@@ -1,7 +1,8 @@
+pub mod Spelled
 pub mod Arriving
 pub mod Ending
+pub mod Ended
 pub mod Printed
-pub mod Spelled
 pub mod Worded
 pub mod Whole
 pub mod Taken
@@ -10,6 +11,6 @@ pub mod Numbered
 pub mod Slowed
 pub mod Opened
 pub mod Prepared
-pub mod Closing
 pub mod Placeless
 pub mod Completes
+pub mod Memory

@@ -1,9 +1,11 @@
 //! The server as a library: `run` does all that the program does for its command line, over any door, volumes, clock and sink.
 #![tactic(auto)]
 
+mod closing;
 pub mod laws;
 mod preparing;
 mod printing;
+mod refusing;
 mod running;
 mod serving;
 mod settings;

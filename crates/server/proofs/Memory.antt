@@ -1,0 +1,91 @@
+-- Laws of runs over places in memory.
+use Rattle.std.proofs.Common.{◌≡◌, ◌≢◌, ◌<◌, ◌-◌, ◌^◌, ◌==◌, ◌&&◌, ℕ, Bool, true, false, List, [], ◌∷◌, Option, Some, None, length, map, replicate, refl, ap, sym, subst, ◌∙◌, arith}
+use Rattle.std.specs.List.{All, AllZip}
+use Rattle.std.specs.Prelude.{IfSome, IsSome, if◌then◌else◌}
+use Rattle.std.proofs.lemmas.List.Elements.{All-cons, All-nil}
+use Rattle.js_model.specs.declared.stream.State.{State}
+use Rattle.js_model.specs.declared.stream.State.TheVariants.{Vacant}
+use Rattle.js_model.specs.PlaceStates.{VolumeAt, PlaceIn, in_memory, untold, vacant_place}
+use Rattle.place_engine.specs.InMemory.{Contents, counts_none, holds_nothing, leaves_nothing, opens_vacant, reads_nothing, refuses_in_memory}
+use Rattle.place_engine.specs.declared.faults.PlaceFault.{PlaceFault}
+use Rattle.js_desk.specs.Grounds.{places_by}
+use Rattle.js_desk.specs.Opening as opening
+use Rattle.js_desk.specs.Solo.{Solo}
+use Rattle.js_desk.specs.declared.faults.Closed.{Closed}
+use Rattle.js_desk.specs.declared.faults.HubFault.{HubFault}
+use Rattle.js_desk.specs.declared.faults.HubFault.TheVariants as hubs
+use Rattle.js_api.specs.Worlds.{Scene, World}
+use Rattle.server.specs.declared.words.NamedStream.{NamedStream}
+use Rattle.server.specs.Closing.{closing_line, closing_status, flush_status}
+use Rattle.server.specs.Ending.{Starved, Unopened, Attended}
+use Rattle.server.specs.Laws.{AreUntroubled, HasPlace, IsFlushed, IsUntroubled, IsWelcome}
+use Rattle.server.specs.Lines.{number_line}
+use Rattle.server.specs.Memory.{IsPlaceless, LawMayOpen, LawPlaceless, LawUntroubled, LawWelcoming, Keeps, Leaves, Opens, place_of, volume_of}
+use Rattle.server.specs.Outside.{Outside, SinkTold, Prints}
+use Rattle.server.specs.Running.{Attends}
+use Rattle.server.proofs.Ended.{closing_silent, refused_closing}
+use Rattle.server.proofs.Ending.{attends_refused}
+use Rattle.server.proofs.Placeless.{refused_over, welcome}
+
+-- ---- what is opened
+
+both : {X : Type 0} (a b : X) (xs ys : List X) → a ≡ b → xs ≡ ys → ◌≡◌ {A = List X} (a ∷ xs) (b ∷ ys)
+both a b xs ys e f = rw (e, f) refl
+
+abbrev OpensOn : {V : Type 0} → V → Contents V → Type 0
+OpensOn = opening.OpensOn place_of volume_of holds_nothing reads_nothing leaves_nothing counts_none counts_none opens_vacant refuses_in_memory Keeps
+
+-- each is a place that never had a stream
+opened_vacant : {V : Type 0} (vols : List V) (row : List (Contents V)) → AllZip (OpensOn {V = V}) vols row → places_by place_of row ≡ replicate (length vols) vacant_place
+opened_vacant [] [] h = refl
+opened_vacant [] (p ∷ row) h = absurd h
+opened_vacant (v ∷ vols) [] h = absurd h
+opened_vacant (v ∷ vols) (p ∷ row) h =
+    both (in_memory p.state) vacant_place (places_by place_of row) (replicate (length vols) vacant_place) (ap in_memory h.0.opened.state) (opened_vacant vols row h.1)
+
+places_vacant : {V : Type 0} (vols : List V) (desk : Solo V) → Opens vols desk → desk.scene.world.places ≡ replicate (length vols) vacant_place
+places_vacant vols desk h = ap (λ (s : Scene). s.world.places) h.scene ∙ opened_vacant vols h.row h.opened
+
+pub welcoming : {V : Type 0} → LawWelcoming V
+welcoming vols stream place desk h = subst (λ (ps : List PlaceIn). IsWelcome ps stream) (sym (places_vacant vols desk h)) (welcome (length vols) stream place)
+
+pub may_open : {V : Type 0} → LawMayOpen V
+may_open vols fault h = ?
+
+-- ---- what is left at the closing
+
+-- what holds of each place in memory
+all_in_memory : {V : Type 0} (P : PlaceIn → Type 0) → ((place : Contents V) → P (in_memory place.state)) → (row : List (Contents V)) → All P (places_by place_of row)
+all_in_memory P each [] = All-nil P
+all_in_memory P each (place ∷ row) = All-cons P (in_memory place.state) (places_by place_of row) (each place) (all_in_memory P each row)
+
+places_untroubled : {V : Type 0} (desk : Solo V) (closed : Closed V) → Leaves desk closed → AreUntroubled desk.scene.world
+places_untroubled desk closed h =
+    subst (λ (ps : List PlaceIn). All IsUntroubled ps) h.stand (all_in_memory IsUntroubled (λ place. record { going = refl; generation = omega arith }) h.row)
+
+places_flushed : {V : Type 0} (desk : Solo V) (closed : Closed V) → Leaves desk closed → IsFlushed closed.failed
+places_flushed desk closed h = ?
+
+pub untroubled : {V : Type 0} → LawUntroubled V
+untroubled stream status v0 v1 old new (Starved h) = tt
+untroubled stream status v0 v1 old new (Unopened h) = tt
+untroubled stream status v0 v1 old new (Attended h) = (places_untroubled h.after h.closed h.closes, places_flushed h.after h.closed h.closes)
+
+-- ---- a stream that is refused
+
+placeless_over : {V : Type 0} (vols : List V) (desk after : Solo V) (stream : Option NamedStream) (status : ℕ) (old new : Outside) → Opens vols desk
+    → Attends desk.scene.world.places stream after.scene status old new → status ≡ 11 → AreUntroubled after.scene.world → IsPlaceless stream vols old.sink new.sink
+placeless_over vols desk after stream status old new opens attends eleven u =
+    let places = replicate (length vols) vacant_place in
+    let refused = attends_refused places stream after.scene status old new (subst (λ (ps : List PlaceIn). Attends ps stream after.scene status old new) (places_vacant vols desk opens) attends) eleven in
+    let k = refused_over (length vols) stream after.scene status old new refused u in
+    record { named = k.0; none = k.1; printed = k.2 }
+
+pub placeless : {V : Type 0} → LawPlaceless V
+placeless stream v0 v1 old new (Starved h) = absurd (omega (arith, h.status_is))
+placeless stream v0 v1 old new (Unopened h) = absurd (omega (arith, h.status_is, may_open v0 h.fault h.refused))
+placeless stream v0 v1 old new (Attended h) =
+    let eleven : h.outcome.status ≡ 11 = refused_closing h.outcome.served h.outcome.status h.closed.failed (sym h.status_is) in
+    let k = placeless_over v0 h.desk h.after stream h.outcome.status old (record new { sink = h.sink }) h.opens h.attended.attends eleven (places_untroubled h.after h.closed h.closes) in
+    let same : new.sink ≡ h.sink = closing_silent h.outcome.status h.closed.failed h.sink new.sink eleven h.printed in
+    record { named = k.named; none = k.none; printed = subst (λ (s : SinkTold). Prints (number_line 20007) old.sink s) (sym same) k.printed }
