@@ -187,7 +187,7 @@ module _ (at : PlaceAt) where
   last_of (Unsaid refused) last = Some at
   last_of Ticked last = Some at
   last_of Nothing last = last
-  last_of (Broke stream) last = Some at
+  last_of (Broke stream full) last = Some at
   last_of (Stopped stream) last = last
   last_of Gone last = last
 
@@ -216,12 +216,12 @@ module _ (at : PlaceAt) where
   last_holds (Unsaid refused) what now ready fault entries last h = last_held entries h.0 last h.3 h.2.at_is
   last_holds Ticked what now ready fault entries last h = last_held entries h.0 last h.1 h.2.at_is
   last_holds Nothing what now ready fault entries last h = last_unmade fault entries last h.1
-  last_holds (Broke stream) what now ready fault entries last h = last_held entries h.0 last h.1 h.2.at_is
+  last_holds (Broke stream full) what now ready fault entries last h = last_held entries h.0 last h.1 h.2.at_is
   last_holds (Stopped stream) what now ready fault entries last h = ap (λ (es : List DeskEntry). last_after es last) h.1
   last_holds Gone what now ready fault entries last h = ap (λ (es : List DeskEntry). last_after es last) h.1
 
   -- the entries of the hold lead the desk from the one scene to the other
-  pub held_alone : (holds : Image → State → Type 0) (seat : ℕ) (what : What) (now : ℕ) (outcome : Outcome) (scene : Scene) (old new : Seen) (router : Router)
+  abbrev pub held_alone : (holds : Image → State → Type 0) (seat : ℕ) (what : What) (now : ℕ) (outcome : Outcome) (scene : Scene) (old new : Seen) (router : Router)
       → slice_get scene.world.places at.place ≡ Some old.place → HoldsOn IsRoute never at holds seat what now outcome old new scene.world.router router
       → Makes (Leads SoloStep) (Holds at what now outcome) scene (with_place scene at.place (on new.place router) (last_of outcome.became scene.cursor.last))
   held_alone holds seat what now outcome scene old new router there h =

@@ -1,6 +1,9 @@
+pub mod Cataloging
+pub mod Closing
 pub mod Dropping
 pub mod Faults
-pub mod GivingBack
 pub mod Grounds
 pub mod Kept
+pub mod Lasting
+pub mod Opening
 pub mod Solo

@@ -25,7 +25,7 @@ returns-in-Ok-clause-holds g c = λ seat.
     let commits : CommitsStep P.holds (Ok c.in-Ok.step) (event_at c.args.at what) old mid =
     subst (λ (e : Event). CommitsStep P.holds (Ok c.in-Ok.step) e old mid) c.requires.event c.in-Ok.ensures.commits in
     held_made R.routes R.worn P.holds c.args.at seat what c.args.now c.follow_step-following.result _ c.in-Ok.step old mid new c.make.new.outs c.follow_step-following.new.outs _ _ _
-    (g.met.P.Place.kept c.args.place.now) (g.met.P.Place.kept c.make.new.place) commits made
+    c.law_kept.ensures.kept c.law_kept-2.ensures.kept commits made
     c.finish.ensures.became (c.follow_step-following.ensures.follows seat c.args.at) (rw c.as_slice-in-Ok.ensures at c.finish.ensures.sends)
 
 pub returns-in-Ok-clause-number : goal.returns-in-Ok-clause-number
@@ -41,7 +41,7 @@ returns-in-Err-clause-holds g c = λ seat.
     let P = g.P.Place in let R = g.R.Port in let old = P.seen c.args.place.now in let new = P.seen c.make.new.place in
     let what = c.args.event.now.what in
     held_failed R.routes R.worn P.holds c.args.at seat what c.args.now c.fail.result c.in-Err.fault c.args.stream old new c.make.new.outs c.args.port.now c.fail.new.port
-    (g.met.P.Place.kept c.args.place.now) (g.met.P.Place.kept c.make.new.place)
+    c.law_kept.ensures.kept c.law_kept-2.ensures.kept
     (subst (λ (e : Event). CommitsStep P.holds (Err c.in-Err.fault) e old new) c.requires.event c.in-Err.ensures.commits) c.fail.ensures.value c.requires.stream
     (ends_at R.routes R.worn P.holds c.args.at seat what c.args.now (Err c.in-Err.fault) c.args.event.now old.place new.place c.new-outs.result c.make.new.outs c.requires.event c.new-outs.ensures c.in-Err.ensures.ends)
     (rw c.as_slice-in-Err.ensures at c.fail.ensures.sends)
