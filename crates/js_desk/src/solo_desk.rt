@@ -100,8 +100,7 @@ impl<P: Place> SoloDesk<P> {
         now: Moment,
     ) -> Result<Option<ApiError>, DeskFault>
         requires subject { IsTrue (is_stream_subject subject.now) }
-        ensures made { Makes (λ old entries new. Leads SoloStep old entries new) (MakesStream name.now (default_config name.now subject.now) now result) self.old.scene self.new.scene }
-        ensures vols { AllZip P.keeps_vol self.old.vols self.new.vols }
+        ensures made { Makes (DeskMade P.keeps_vol P.holds P.left P.clock P.base) (MakesStream name.now (default_config name.now subject.now) now result) self.old self.new }
         ensures client { self.new.client ≡ self.old.client }
     {
         make_stream(&mut self.ground, name, subject, now)

@@ -6,7 +6,7 @@ use Rattle.std.proofs.lemmas.List.Elements.{All-cons, All-nil}
 use Rattle.js_model.specs.declared.stream.State.{State}
 use Rattle.js_model.specs.declared.stream.State.TheVariants.{Vacant}
 use Rattle.js_model.specs.PlaceStates.{VolumeAt, PlaceIn, in_memory, untold, vacant_place}
-use Rattle.place_engine.specs.InMemory.{Contents, counts_none, holds_nothing, leaves_nothing, opens_vacant, reads_nothing, refuses_in_memory}
+use Rattle.place_engine.specs.InMemory.{Contents, bases_on_nothing, counts_none, holds_nothing, leaves_nothing, opens_vacant, reads_nothing, refuses_in_memory}
 use Rattle.place_engine.specs.declared.faults.PlaceFault.{PlaceFault}
 use Rattle.js_desk.specs.Grounds.{places_by}
 use Rattle.js_desk.specs.Opening as opening
@@ -33,7 +33,7 @@ both : {X : Type 0} (a b : X) (xs ys : List X) → a ≡ b → xs ≡ ys → ◌
 both a b xs ys e f = rw (e, f) refl
 
 abbrev OpensOn : {V : Type 0} → V → Contents V → Type 0
-OpensOn = opening.OpensOn place_of volume_of holds_nothing reads_nothing leaves_nothing counts_none counts_none opens_vacant refuses_in_memory Keeps
+OpensOn = opening.OpensOn place_of volume_of holds_nothing reads_nothing leaves_nothing counts_none counts_none bases_on_nothing opens_vacant refuses_in_memory Keeps
 
 -- each is a place that never had a stream
 opened_vacant : {V : Type 0} (vols : List V) (row : List (Contents V)) → AllZip (OpensOn {V = V}) vols row → places_by place_of row ≡ replicate (length vols) vacant_place

@@ -164,8 +164,8 @@ module _ (at : PlaceAt) (config : StreamConfig) (now : ℕ) (e : ApiError) (old 
       let event = subst (λ (x : Reply). IsEvent hold.before (record { incarnation = at.incarnation; what = whats.Make None config }) now x h.outs steps.0) r.1 steps.1.event in
       made_there None config at.incarnation now r.0 h.outs hold.before steps.0 (sym a.held.was ∙ vacant hold.at.place a.place a.is_there) event
 
-  broken_there : (stream : Bytes) (hold : Hold) → IsBrokenHold at (whats.Make None config) now stream hold → AreFit (Held hold ∷ []) → ⊥
-  broken_there stream hold h fit =
+  broken_there : (stream : Bytes) (full : Bool) (hold : Hold) → IsBrokenHold at (whats.Make None config) now stream full hold → AreFit (Held hold ∷ []) → ⊥
+  broken_there stream full hold h fit =
       let clash : true ≡ false = sym (ap (λ (entries : List PlaceEntry). is_broken (entries ++ hold.deliveries)) h.steps) ∙ fit.0.unbroken in cc
 
   became_there : (became : Became) (ready : Bool) (held rest ended : List DeskEntry) → HoldsBy became at (whats.Make None config) now ready None held
@@ -175,7 +175,7 @@ module _ (at : PlaceAt) (config : StreamConfig) (now : ℕ) (e : ApiError) (old 
   became_there (Unsaid refused) ready held rest ended h making fit run = making
   became_there Ticked ready held rest ended h making fit run = making
   became_there Nothing ready held rest ended h making fit run = making
-  became_there (Broke stream) ready held rest ended h making fit run = broken_there stream h.0 h.2 (subst AreFit h.1 fit)
+  became_there (Broke stream full) ready held rest ended h making fit run = broken_there stream full h.0 h.2 (subst AreFit h.1 fit)
   became_there (Stopped stream) ready held rest ended h making fit run = let k = subst AreFit h.1 fit in k.0
   became_there Gone ready held rest ended h making fit run = making
 

@@ -6,7 +6,7 @@ use Rattle.js_desk.specs.Opening.{FailsToOpen, OpensDesk}
 use Rattle.js_desk.specs.Solo.{Solo, DeskMade}
 use Rattle.js_desk.specs.declared.faults.Closed.{Closed}
 use Rattle.js_desk.specs.declared.faults.HubFault.{HubFault}
-use Rattle.place_engine.specs.InMemory.{Contents, counts_none, holds_nothing, leaves_nothing, opens_vacant, reads_nothing, refuses_in_memory, seen_of}
+use Rattle.place_engine.specs.InMemory.{Contents, bases_on_nothing, counts_none, holds_nothing, leaves_nothing, opens_vacant, reads_nothing, refuses_in_memory, seen_of}
 use Rattle.place_engine.specs.Stepping.{Seen}
 use Rattle.server.specs.declared.words.NamedStream.{NamedStream}
 use Rattle.server.specs.Ending.{PipeEnds}
@@ -27,16 +27,16 @@ module _ {V : Type 0} where
 
   -- of desks whose places are in memory: as what one is opened on volumes, why none is, what entries make of it, and what is left of it at its closing
   abbrev pub Opens : List V → Solo V → Type 0
-  Opens = OpensDesk place_of volume_of holds_nothing reads_nothing leaves_nothing counts_none counts_none opens_vacant refuses_in_memory Keeps
+  Opens = OpensDesk place_of volume_of holds_nothing reads_nothing leaves_nothing counts_none counts_none bases_on_nothing opens_vacant refuses_in_memory Keeps
 
   abbrev pub Refuses : List V → HubFault V → Type 0
-  Refuses = FailsToOpen place_of volume_of holds_nothing reads_nothing leaves_nothing counts_none counts_none opens_vacant refuses_in_memory Keeps
+  Refuses = FailsToOpen place_of volume_of holds_nothing reads_nothing leaves_nothing counts_none counts_none bases_on_nothing opens_vacant refuses_in_memory Keeps
 
   abbrev pub Made : Solo V → List DeskEntry → Solo V → Type 0
-  Made = DeskMade Keeps
+  Made = DeskMade Keeps holds_nothing leaves_nothing counts_none bases_on_nothing
 
   abbrev pub Leaves : Solo V → Closed V → Type 0
-  Leaves desk closed = Closes place_of volume_of holds_nothing reads_nothing leaves_nothing counts_none Keeps desk.vols desk.scene.world.places closed
+  Leaves desk closed = Closes place_of volume_of holds_nothing reads_nothing leaves_nothing counts_none bases_on_nothing Keeps desk.vols desk.scene.world.places closed
 
   -- how a run of `pipe` ends
   abbrev pub EndsInMemory : Option NamedStream → ℕ → List V → List V → Outside → Outside → Type 0

@@ -16,10 +16,10 @@ use place_engine::Place;
 /// if, in every run that agrees with all that was told, the client is not stale when nothing comes, and at no time waits more for it than may.
 pub fn law_complete<P: Place>()
     ensures complete { LawComplete
-        (OpensDesk P.seen P.vol P.holds P.reads P.left P.clock P.faults P.opens P.refuses P.keeps_vol)
-        (FailsToOpen P.seen P.vol P.holds P.reads P.left P.clock P.faults P.opens P.refuses P.keeps_vol)
-        (DeskMade P.keeps_vol)
-        (λ desk closed. Closes P.seen P.vol P.holds P.reads P.left P.clock P.keeps_vol desk.vols desk.scene.world.places closed) }
+        (OpensDesk P.seen P.vol P.holds P.reads P.left P.clock P.faults P.base P.opens P.refuses P.keeps_vol)
+        (FailsToOpen P.seen P.vol P.holds P.reads P.left P.clock P.faults P.base P.opens P.refuses P.keeps_vol)
+        (DeskMade P.keeps_vol P.holds P.left P.clock P.base)
+        (λ desk closed. Closes P.seen P.vol P.holds P.reads P.left P.clock P.base P.keeps_vol desk.vols desk.scene.world.places closed) }
 {}
 
 /// Places that never had a stream refuse none, if there is one of them.

@@ -44,7 +44,7 @@ fn attend<P: Place, R: Door, C: Clock, O: Sink>(
     requires opened { desk.old.scene ≡ opening desk.old.scene.world.places }
     requires closed { desk.old.client.is_open ≡ false }
     requires subject { IfSome stream.now (λ named. IsTrue (is_stream_subject named.subject)) }
-    ensures attended { IsAttendedOver (DeskMade P.keeps_vol) desk.old desk.new stream.now result
+    ensures attended { IsAttendedOver (DeskMade P.keeps_vol P.holds P.left P.clock P.base) desk.old desk.new stream.now result
         (record {
           door = record { answered = R.answered door.old; gave = R.gave door.old; back = R.back door.old; starved = R.starved door.old; faults = R.faults door.old };
           clock = C.to_come clock.old;
@@ -81,10 +81,10 @@ fn pipe<P: Place, R: Door, C: Clock, O: Sink>(
     requires volumes { vec_len vols ≤ 32 }
     requires subject { IfSome stream.now (λ named. IsTrue (is_stream_subject named.subject)) }
     ensures ends { PipeEnds
-        (OpensDesk P.seen P.vol P.holds P.reads P.left P.clock P.faults P.opens P.refuses P.keeps_vol)
-        (FailsToOpen P.seen P.vol P.holds P.reads P.left P.clock P.faults P.opens P.refuses P.keeps_vol)
-        (DeskMade P.keeps_vol)
-        (λ desk closed. Closes P.seen P.vol P.holds P.reads P.left P.clock P.keeps_vol desk.vols desk.scene.world.places closed)
+        (OpensDesk P.seen P.vol P.holds P.reads P.left P.clock P.faults P.base P.opens P.refuses P.keeps_vol)
+        (FailsToOpen P.seen P.vol P.holds P.reads P.left P.clock P.faults P.base P.opens P.refuses P.keeps_vol)
+        (DeskMade P.keeps_vol P.holds P.left P.clock P.base)
+        (λ desk closed. Closes P.seen P.vol P.holds P.reads P.left P.clock P.base P.keeps_vol desk.vols desk.scene.world.places closed)
         stream.now result.0 vols.items result.1.items
         (record {
           door = record { answered = R.answered door.old; gave = R.gave door.old; back = R.back door.old; starved = R.starved door.old; faults = R.faults door.old };
@@ -138,10 +138,10 @@ pub fn run<P: Place, R: Door, C: Clock, G: Gate, O: Sink>(
     // desk with the stream, or why none came, and which place could not be brought to its volume as the desk was closed in the world that was reached by
     // then. The volumes are those before and after.
     ensures ends { IfSome (command_of (texts words.now)) (λ command. CommandEnds
-        (OpensDesk P.seen P.vol P.holds P.reads P.left P.clock P.faults P.opens P.refuses P.keeps_vol)
-        (FailsToOpen P.seen P.vol P.holds P.reads P.left P.clock P.faults P.opens P.refuses P.keeps_vol)
-        (DeskMade P.keeps_vol)
-        (λ desk closed. Closes P.seen P.vol P.holds P.reads P.left P.clock P.keeps_vol desk.vols desk.scene.world.places closed)
+        (OpensDesk P.seen P.vol P.holds P.reads P.left P.clock P.faults P.base P.opens P.refuses P.keeps_vol)
+        (FailsToOpen P.seen P.vol P.holds P.reads P.left P.clock P.faults P.base P.opens P.refuses P.keeps_vol)
+        (DeskMade P.keeps_vol P.holds P.left P.clock P.base)
+        (λ desk closed. Closes P.seen P.vol P.holds P.reads P.left P.clock P.base P.keeps_vol desk.vols desk.scene.world.places closed)
         command result.status vols.items result.vols.items
         (record {
           door = record { answered = R.answered door; gave = R.gave door; back = R.back door; starved = R.starved door; faults = R.faults door };
@@ -159,7 +159,7 @@ pub fn run<P: Place, R: Door, C: Clock, G: Gate, O: Sink>(
     ensures unprinted { result.status ≢ 2 → result.status ≢ 4 → result.status ≢ 5 → result.status ≢ 11 → O.written out.new ≡ O.written out.old }
 {
     match read_words(alloc, words) {
-        Ok(Command::Pipe { stream, .. }) => {
+        Ok(Command::Pipe { dir: _dir, stream }) => {
             let mut door = door;
             let (status, vols) = pipe::<P, R, C, O>(alloc, &stream, &mut door, vols, clock, out);
             Finish { status, door, vols }
