@@ -221,7 +221,7 @@ module _ (at : PlaceAt) where
   last_holds Gone what now ready fault entries last h = ap (λ (es : List DeskEntry). last_after es last) h.1
 
   -- the entries of the hold lead the desk from the one scene to the other
-  abbrev pub held_alone : (holds : Image → State → Type 0) (seat : ℕ) (what : What) (now : ℕ) (outcome : Outcome) (scene : Scene) (old new : Seen) (router : Router)
+  pub held_alone : (holds : Image → State → Type 0) (seat : ℕ) (what : What) (now : ℕ) (outcome : Outcome) (scene : Scene) (old new : Seen) (router : Router)
       → slice_get scene.world.places at.place ≡ Some old.place → HoldsOn IsRoute never at holds seat what now outcome old new scene.world.router router
       → Makes (Leads SoloStep) (Holds at what now outcome) scene (with_place scene at.place (on new.place router) (last_of outcome.became scene.cursor.last))
   held_alone holds seat what now outcome scene old new router there h =
@@ -237,3 +237,10 @@ module _ (at : PlaceAt) where
         led = subst (λ (o : Option PlaceAt). Leads SoloStep scene h.entries (with_place scene at.place (on new.place router) o)) last
             (steps_alone h.entries scene (on old.place scene.world.router) (on new.place router) refl there h.led);
       }
+
+  -- by the same entries
+  pub held_entries : (holds : Image → State → Type 0) (seat : ℕ) (what : What) (now : ℕ) (outcome : Outcome) (scene : Scene) (old new : Seen) (router : Router)
+      → (there : slice_get scene.world.places at.place ≡ Some old.place) (h : HoldsOn IsRoute never at holds seat what now outcome old new scene.world.router router)
+      → (held_alone holds seat what now outcome scene old new router there h).entries ≡ h.entries
+  unfolding held_alone
+  held_entries holds seat what now outcome scene old new router there h = refl

@@ -30,13 +30,11 @@ ever_fine : (timed : List Timed) → AreFine (Unit {0}) Ever timed
 ever_fine [] = tt
 ever_fine (e ∷ more) = ((λ u. tt), ever_fine more)
 
-first_of : List PlaceEntry → PlaceEntry → PlaceEntry
-unfolding first_of
+abbrev first_of : List PlaceEntry → PlaceEntry → PlaceEntry
 first_of [] e = e
 first_of (x ∷ xs) e = x
 
-rest_of : List PlaceEntry → List PlaceEntry
-unfolding rest_of
+abbrev rest_of : List PlaceEntry → List PlaceEntry
 rest_of [] = []
 rest_of (x ∷ xs) = xs
 

@@ -83,9 +83,9 @@ module _ {P V : Type 0} (seen : P → Seen) (vol : P → V) (holds : Image → S
       where
         ends : (told : Result (Unit {0}) PlaceFault) → Flushes holds told (seen p) (seen q) → EndsSo seen vol holds reads left clock base keeps p (Some told) end
         ends (Ok done) h = (
-          (q, record { going = going; flushes = h; keeps = keeps_it }, same),
+          (q, record { going = going; flushes = h; volume = keeps_it }, same),
           subst (λ (v : V). AllHold holds reads left clock v (lasting (seen p).place.state)) (sym same)
               (all_hold seen vol holds reads left clock faults base bases leaves stands q still (read h.ends.goes) (lasting (seen p).place.state)
               (λ b is. h.ends.flushed.base b is ∙ ap lasting (state_kept holds (seen p) (seen q) (Ok done) h))),
         )
-        ends (Err fault) h = (q, record { going = going; flushes = h; keeps = keeps_it }, same)
+        ends (Err fault) h = (q, record { going = going; flushes = h; volume = keeps_it }, same)

@@ -31,12 +31,13 @@ use Rattle.js_desk.specs.declared.turn.Turn.{Turn}
 use Rattle.js_desk.specs.declared.turn.Turn.TheVariants as turns
 use Rattle.js_desk.specs.Dropping.{is_drop}
 use Rattle.js_desk.specs.Grounds.{AreAgreed, AreSingle, IsGrounded, SoloMade, after_hold, is_held, phase_of, places_by, standing, told_incarnation}
-use Rattle.desk_hold.proofs.Alone.{held_alone, last_of, never, with_place}
+use Rattle.desk_hold.proofs.Alone.{held_alone, held_entries, last_of, never, with_place}
 use Rattle.js_desk.proofs.HoldFacts.{Facts, hold_facts}
 use Rattle.js_desk.specs.Kept.{kept_set}
 use Rattle.crash_laws.specs.Outlasting.{Outlasts}
 use Rattle.crash_laws.specs.Timed.{timed_at}
 use Rattle.js_desk.proofs.HeldTimes.{timed_elsewhere}
+use Rattle.js_desk.specs.Lasting.{PlacesOutlast}
 use Rattle.js_desk.proofs.Lasting.{outlast_set}
 use Rattle.js_desk.proofs.Looked.{within_is}
 use Rattle.js_desk.proofs.Sets.{get_other, get_set, length_set}
@@ -191,7 +192,7 @@ module _ (c : Catalog) (places : List PlaceIn) (last : Option PlaceAt) (turn : T
       by (became.Unsaid refused) e = tt
       by became.Ticked e = tt
       by became.Nothing e = tt
-      by (became.Broke stream) e = tt
+      by (became.Broke stream full) e = tt
       by (became.Stopped stream) e = tt
       by became.Gone e = let gone = f.gone e in gone.1 (known_kept (slice_get c at.place) refl known gone.0)
 
@@ -208,7 +209,7 @@ module _ {V : Type 0} (keeps : V → V → Type 0) (none : (v : V) → keeps v v
   last_so (became.Unsaid refused) = refl
   last_so became.Ticked = refl
   last_so became.Nothing = refl
-  last_so (became.Broke stream) = refl
+  last_so (became.Broke stream full) = refl
   last_so (became.Stopped stream) = refl
   last_so became.Gone = refl
 
@@ -225,5 +226,7 @@ module _ {V : Type 0} (keeps : V → V → Type 0) (none : (v : V) → keeps v v
       record {
         entries = m.entries;
         are = m.are;
-        led = (subst (λ (x : Scene). Leads SoloStep s m.entries x) ends m.led, kept_set keeps none vols at.place vol vol_new stands kept, lasts);
+        led = (subst (λ (x : Scene). Leads SoloStep s m.entries x) ends m.led, kept_set keeps none vols at.place vol vol_new stands kept,
+            subst (λ (es : List DeskEntry). PlacesOutlast holds left clock base (record { places = places; vols = vols }) es (record { places = slice_set places at.place new.place; vols = slice_set vols at.place vol_new }))
+                (sym (held_entries at holds 0 what now outcome s old new router there h)) lasts);
       }

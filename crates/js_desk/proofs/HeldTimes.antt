@@ -103,10 +103,12 @@ module _ (at : PlaceAt) where
     pub later : old.place.volume.moment ≤ new.place.volume.moment
     pub between : AreBetween old.place.volume.moment new.place.volume.moment (timed_at at.place entries)
 
-  quiet_then : (entries : List DeskEntry) (old mid new : OnPlace Router) → old.place.volume.moment ≤ mid.place.volume.moment → Between entries mid new → Between entries old new
-  quiet_then entries old mid new le h = record {
+  quiet_then : (entry : DeskEntry) (more : List DeskEntry) (old mid new : OnPlace Router) → timed_at at.place more ≡ timed_at at.place (entry ∷ more) → old.place.volume.moment ≤ mid.place.volume.moment
+      → Between more mid new → Between (entry ∷ more) old new
+  quiet_then entry more old mid new same le h = record {
     later = omega (arith, le, h.later);
-    between = wider_between mid.place.volume.moment new.place.volume.moment old.place.volume.moment new.place.volume.moment le (omega arith) (timed_at at.place entries) h.between;
+    between = subst (λ (es : List Timed). AreBetween old.place.volume.moment new.place.volume.moment es) same
+        (wider_between mid.place.volume.moment new.place.volume.moment old.place.volume.moment new.place.volume.moment le (omega arith) (timed_at at.place more) h.between);
   }
 
   pub timed_between : (entries : List DeskEntry) (old new : OnPlace Router) → Led old entries new → Between entries old new
@@ -134,13 +136,13 @@ module _ (at : PlaceAt) where
             (wider_between h.0.place.volume.moment new.place.volume.moment old.place.volume.moment new.place.volume.moment first (omega arith) (timed_at at.place more) next.between);
       }
   timed_between (Stirred there before after failed ∷ more) old new h =
-      quiet_then more old h.0 new
+      quiet_then (Stirred there before after failed) more old h.0 new refl
       (omega (arith, ap (λ (v : VolumeAt). v.moment) h.1.stirred.volume_was, ap (λ (v : VolumeAt). v.moment) h.1.stirred.volume_is, h.1.stirred.later.moments))
       (timed_between more h.0 new h.2)
   timed_between (Halted there state ∷ more) old new h =
-      quiet_then more old h.0 new (omega (arith, ap (λ (o : OnPlace Router). o.place.volume.moment) h.1.same)) (timed_between more h.0 new h.2)
+      quiet_then (Halted there state) more old h.0 new refl (omega (arith, ap (λ (o : OnPlace Router). o.place.volume.moment) h.1.same)) (timed_between more h.0 new h.2)
   timed_between (Missed there kept ∷ more) old new h =
-      quiet_then more old h.0 new (omega (arith, ap (λ (o : OnPlace Router). o.place.volume.moment) h.1.same)) (timed_between more h.0 new h.2)
+      quiet_then (Missed there kept) more old h.0 new refl (omega (arith, ap (λ (o : OnPlace Router). o.place.volume.moment) h.1.same)) (timed_between more h.0 new h.2)
   timed_between (Spent number ∷ more) old new h = absurd h.1
 
   -- ---- what may be lost
@@ -158,7 +160,7 @@ module _ (at : PlaceAt) where
   one_hold became.Nothing what now ready (Some faults.TooManySubs) entries h = absurd h.1
   one_hold became.Nothing what now ready (Some (faults.Worn last)) entries h = ⊎_elim (λ e. inl (λ number. ap (timed_at number) e)) (λ e. inl (λ number. ap (timed_at number) e.2)) h.1
   one_hold became.Nothing what now ready (Some (faults.NoSession latest)) entries h = absurd h.1
-  one_hold (became.Broke stream) what now ready fault entries h = inr (h.0, h.1)
+  one_hold (became.Broke stream full) what now ready fault entries h = inr (h.0, h.1)
   one_hold (became.Stopped stream) what now ready fault entries h = inl (λ number. ap (timed_at number) h.1)
   one_hold became.Gone what now ready fault entries h = inl (λ number. ap (timed_at number) h.1)
 

@@ -1,11 +1,12 @@
 pub mod Added
 pub mod Cataloged
-pub mod Closing
 pub mod Converted
 pub mod Edits
+pub mod Failures
 pub mod Flushed
 pub mod Found
 pub mod HeldGround
+pub mod HeldLasting
 pub mod HeldTimes
 pub mod HoldFacts
 pub mod Incarnations

@@ -39,7 +39,7 @@ module _ {P V : Type 0} (seen : P → Seen) (vol : P → V) (holds : Image → S
   pub record Flushed (told : Result (Unit {0}) PlaceFault) (p q : P) : Type 0 where
     pub going : (seen p).place.stopped ≡ None
     pub flushes : Flushes holds told (seen p) (seen q)
-    pub keeps : keeps (vol p) (vol q)
+    pub volume : keeps (vol p) (vol q)
 
   -- A place that was not stopped was flushed; one that was stopped has its volume as it was. After a flush that succeeded the volume holds what outlives a
   -- crash of the state of its place.

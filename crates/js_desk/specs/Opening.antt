@@ -24,7 +24,7 @@ module _ {P V : Type 0} (seen : P → Seen) (vol : P → V) (holds : Image → S
   -- have left holds it.
   pub record OpensOn (before : V) (p : P) : Type 0 where
     pub opened : IsOpened holds reads left clock opens before (seen p)
-    pub keeps : keeps before (vol p)
+    pub volume : keeps before (vol p)
     pub now : AllHold holds reads left clock (vol p) (seen p).place.state
     pub since : AllHold holds reads left clock before (seen p).place.state → IsOpenedAt holds left clock (base None (vol p)) (clock before) (seen p).place.state (vol p)
 
@@ -33,7 +33,7 @@ module _ {P V : Type 0} (seen : P → Seen) (vol : P → V) (holds : Image → S
     pub refused : refuses before fault
     pub cause : fault ≡ Fault → Rose (faults before) (faults after)
     pub unopened : IsUnopened holds reads left clock opens before after
-    pub keeps : keeps before after
+    pub volume : keeps before after
 
   -- a place was opened on each volume, no two of their streams share a name or have subjects that meet, and the desk begins with them
   pub record OpensDesk (before : List V) (desk : Solo V) : Type 0 where

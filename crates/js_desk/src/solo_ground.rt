@@ -61,7 +61,7 @@ fn is_dropped(asked: bool, became: &Became) -> bool
         Became::Unsaid { refused } => !*refused,
         Became::Ticked => false,
         Became::Nothing => false,
-        Became::Broke { stream: _ } => false,
+        Became::Broke { stream: _, full: _ } => false,
         Became::Stopped { stream: _ } => false,
         Became::Gone => false,
     };
@@ -83,7 +83,7 @@ fn last_of(became: &Became, at: PlaceAt, before: Option<PlaceAt>) -> Option<Plac
         Became::Made(_) => Some(at),
         Became::Unsaid { refused: _ } => Some(at),
         Became::Ticked => Some(at),
-        Became::Broke { stream: _ } => Some(at),
+        Became::Broke { stream: _, full: _ } => Some(at),
         Became::Nothing => before,
         Became::Stopped { stream: _ } => before,
         Became::Gone => before,
@@ -272,14 +272,9 @@ impl<P: Place> Ground for SoloGround<P> {
 
     fn hold(&mut self, at: PlaceAt, what: What, now: Moment) -> Outcome {
         let asked = is_drop(&what);
-        let outcome = hold_on(
-            self.alloc,
-            &mut self.places[at.place as usize],
-            &mut self.router,
-            at,
-            what,
-            now,
-        );
+        let place = &mut self.places[at.place as usize];
+        let outcome = hold_on(self.alloc, place, &mut self.router, at, what, now);
+        place.law_kept();
         let dropped = is_dropped(asked, &outcome.became);
         self.turn = self.turn.after_hold(dropped, at.place);
         self.last = last_of(&outcome.became, at, self.last);

@@ -1,6 +1,6 @@
 //! The volumes of a desk: each becomes a place, and is given back at the end.
 
-ghost use Rattle.std.specs.Prelude.{◌≡◌, ◌≤◌, ◌+◌, ◌++◌, [], IfErr, IfOk, OnOk, length, map, reverse, vec_capacity, vec_len};
+ghost use Rattle.std.specs.Prelude.{◌≡◌, ◌<◌, ◌≤◌, ◌+◌, ◌++◌, [], IfErr, IfOk, OnOk, length, map, reverse, vec_capacity, vec_len};
 ghost use Rattle.std.specs.List.{AllZip};
 ghost use Rattle.js_desk.specs.Opening.{FailsToOpen, OpensOn, RefusesOn, StopsAt};
 
@@ -47,7 +47,9 @@ fn open_each<P: Place>(
     ensures opened { OnOk result (AllZip (OpensOn P.seen P.vol P.holds P.reads P.left P.clock P.faults P.base P.opens P.refuses P.keeps_vol) (reverse vols.old.items) places.new.items) }
     ensures emptied { OnOk result (vols.new.items ≡ []) }
     ensures stopped { IfErr result (λ stop. StopsAt P.seen P.vol P.holds P.reads P.left P.clock P.faults P.base P.opens P.refuses P.keeps_vol vols.old.items stop.0 stop.1 vols.new.items places.new.items) }
-    ensures capacity { vec_capacity vols.new ≡ vec_capacity vols.old }
+    ensures room { OnOk result (vec_len vols.new + length places.new.items ≤ vec_capacity vols.new) }
+    ensures more { IfErr result (λ _. vec_len vols.new + length places.new.items < vec_capacity vols.new) }
+    ensures few { length places.new.items ≤ length vols.old.items }
 {
     while !vols.is_empty() {
         match open_place(alloc, vols.take_last()) {
