@@ -187,11 +187,13 @@ module _ {V : Type 0} (Made : Solo V → List DeskEntry → Solo V → Type 0) w
   -- no link came, for a reason that gives this status
   module _ (none : (desk : Solo V) → Made desk [] desk) (desk : Solo V) (a0 a1 : Option (List Accepted)) (g0 g1 : Option ℕ) (b0 b1 : Option (List Report)) (n0 n1 : Option Starved) (f0 f1 : ℕ) (c : Option (List ℕ)) (gave : g1 ≡ g0) (back : b1 ≡ b0) where
     abbrev Unlinked : ℕ → Type 0
-    Unlinked status =
-        IsAwaitedOver Made desk desk (record { status = status; served = false }) (record { answered = a0; gave = g0; back = b0; starved = n0; faults = f0 }) (record { answered = a1; gave = g1; back = b1; starved = n1; faults = f1 }) c c
+    Unlinked status = (outcome : Outcome) → outcome ≡ record { status = status; served = false }
+        → IsAwaitedOver Made desk desk outcome (record { answered = a0; gave = g0; back = b0; starved = n0; faults = f0 }) (record { answered = a1; gave = g1; back = b1; starved = n1; faults = f1 }) c c
 
     unlinked : (status : ℕ) → IsUnserved status (record { answered = a0; gave = g0; back = b0; starved = n0; faults = f0 }) (record { answered = a1; gave = g1; back = b1; starved = n1; faults = f1 }) → Unlinked status
-    unlinked status h = record { waits = inl (record { gave = gave; back = back; unserved = h; idle = refl; unread = refl }); served_is = refl; made = none desk }
+    unlinked status h outcome e =
+        subst (λ (o : Outcome). IsAwaitedOver Made desk desk o (record { answered = a0; gave = g0; back = b0; starved = n0; faults = f0 }) (record { answered = a1; gave = g1; back = b1; starved = n1; faults = f1 }) c c) (sym e)
+        (record { waits = inl (record { gave = gave; back = back; unserved = h; idle = refl; unread = refl }); served_is = refl; made = none desk })
 
     pub was_closed : NoneStarves n0 n1 → IsAccepted a0 a1 (accepted.Closed ∷ []) → Unlinked 0
     was_closed n a = unlinked 0 (WasClosed refl a n)
@@ -213,21 +215,24 @@ module _ {V : Type 0} (Made : Solo V → List DeskEntry → Solo V → Type 0) w
 module _ {V : Type 0} (Made : Solo V → List DeskEntry → Solo V → Type 0) (stream : Option NamedStream) (desk : Solo V) where
   -- the stream was made, or none was to be, and then a link was waited for
   pub awaited_over : (more : (a b c : Solo V) (first more : List DeskEntry) → Made a first b → Made b more c → Made a (first ++ more) c)
-      → (mid new : Solo V) (outcome : Outcome) (c0 c1 c2 : Option (List ℕ)) (d0 d1 : DoorTold) (s0 s1 : SinkTold)
-      → IsPrepared Made desk mid stream (Ok None) c0 c1 → IsAwaitedOver Made mid new outcome d0 d1 c1 c2
+      → (mid new : Solo V) (outcome : Outcome) (c0 c1 c2 : Option (List ℕ)) (d0 d1 : DoorTold) (s0 s1 : SinkTold) (refused : Option ApiError)
+      → refused ≡ None → IsPrepared Made desk mid stream (Ok refused) c0 c1 → IsAwaitedOver Made mid new outcome d0 d1 c1 c2
       → IsAttendedOver Made desk new stream outcome (record { door = d0; clock = c0; sink = s0 }) (record { door = d1; clock = c2; sink = s1 })
-  awaited_over more mid new outcome c0 c1 c2 d0 d1 s0 s1 p w = record {
-    attends = Awaited (record { scene = mid.scene; rest = c1; prepared = p.prepares; waits = w.waits });
-    served_is = w.served_is;
-    made = more desk mid new _ _ p.made w.made;
-  }
+  awaited_over more mid new outcome c0 c1 c2 d0 d1 s0 s1 refused e h w =
+      let p = subst (λ (o : Option ApiError). IsPrepared Made desk mid stream (Ok o) c0 c1) e h in
+      record {
+        attends = Awaited (record { scene = mid.scene; rest = c1; prepared = p.prepares; waits = w.waits });
+        served_is = w.served_is;
+        made = more desk mid new _ _ p.made w.made;
+      }
 
   -- the stream was not made
-  pub unmade_over : (result : Result (Option ApiError) DeskFault) (new : Solo V) (status : ℕ) (c0 c1 : Option (List ℕ)) (d : DoorTold) (s0 s1 : SinkTold)
-      → IsPrepared Made desk new stream result c0 c1 → Unmakes result status s0 s1
-      → IsAttendedOver Made desk new stream (record { status = status; served = false }) (record { door = d; clock = c0; sink = s0 }) (record { door = d; clock = c1; sink = s1 })
-  unmade_over result new status c0 c1 d s0 s1 p u = record {
-    attends = Unmade (record { result = result; prepared = p.prepares; unmade = u; door = refl });
-    served_is = refl;
-    made = p.made;
-  }
+  pub unmade_over : (result : Result (Option ApiError) DeskFault) (new : Solo V) (status : ℕ) (outcome : Outcome) (c0 c1 : Option (List ℕ)) (d : DoorTold) (s0 s1 : SinkTold)
+      → outcome ≡ record { status = status; served = false } → IsPrepared Made desk new stream result c0 c1 → Unmakes result status s0 s1
+      → IsAttendedOver Made desk new stream outcome (record { door = d; clock = c0; sink = s0 }) (record { door = d; clock = c1; sink = s1 })
+  unmade_over result new status outcome c0 c1 d s0 s1 e p u =
+      subst (λ (o : Outcome). IsAttendedOver Made desk new stream o (record { door = d; clock = c0; sink = s0 }) (record { door = d; clock = c1; sink = s1 })) (sym e) (record {
+        attends = Unmade (record { result = result; prepared = p.prepares; unmade = u; door = refl });
+        served_is = refl;
+        made = p.made;
+      })

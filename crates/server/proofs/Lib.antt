@@ -10,7 +10,9 @@ pub mod Untroubled
 pub mod Numbered
 pub mod Slowed
 pub mod Opened
+pub mod Made
 pub mod Prepared
 pub mod Placeless
 pub mod Completes
+pub mod Keeping
 pub mod Memory

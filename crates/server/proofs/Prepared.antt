@@ -32,6 +32,6 @@ module _ {V : Type 0} (Made : Solo V → List DeskEntry → Solo V → Type 0) w
   })
 
   -- none was to be made
-  pub made_none : (none : (desk : Solo V) → Made desk [] desk) (found : Option NamedStream) (c : Option (List ℕ)) (desk : Solo V) → found ≡ None → desk.scene ≡ opening desk.scene.world.places
+  pub unmade : (none : (desk : Solo V) → Made desk [] desk) (found : Option NamedStream) (c : Option (List ℕ)) (desk : Solo V) → found ≡ None → desk.scene ≡ opening desk.scene.world.places
       → IsPrepared Made desk desk found (Ok None) c c
-  made_none none found c desk is o = subst (λ (f : Option NamedStream). IsPrepared Made desk desk f (Ok None) c c) (sym is) (record { prepares = (refl, o, refl); made = none desk })
+  unmade none found c desk is o = subst (λ (f : Option NamedStream). IsPrepared Made desk desk f (Ok None) c c) (sym is) (record { prepares = (refl, o, refl); made = none desk })

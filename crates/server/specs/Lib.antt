@@ -10,4 +10,5 @@ pub mod Refusing
 pub mod Closing
 pub mod Ending
 pub mod Laws
+pub mod Keeping
 pub mod Memory

@@ -65,3 +65,8 @@ pub record IsPlaceless {V : Type 0} (stream : Option NamedStream) (vols : List V
 abbrev pub LawPlaceless : Type 0 → Type 0
 LawPlaceless V = (stream : Option NamedStream) (vols_old vols_new : List V) (old new : Outside)
     → EndsInMemory stream 11 vols_old vols_new old new → IsPlaceless stream vols_old old.sink new.sink
+
+-- the volumes come back as they were
+abbrev pub LawUnchanged : Type 0 → Type 0
+LawUnchanged V = (stream : Option NamedStream) (status : ℕ) (vols_old vols_new : List V) (old new : Outside)
+    → EndsInMemory stream status vols_old vols_new old new → vols_new ≡ vols_old

@@ -3,8 +3,9 @@
 ghost use Rattle.js_desk.specs.Closing.{Closes};
 ghost use Rattle.js_desk.specs.Opening.{FailsToOpen, OpensDesk};
 ghost use Rattle.js_desk.specs.Solo.{DeskMade};
+ghost use Rattle.server.specs.Keeping.{LawKept};
 ghost use Rattle.server.specs.Laws.{LawComplete, LawWelcome};
-ghost use Rattle.server.specs.Memory.{LawMayOpen, LawPlaceless, LawUntroubled, LawWelcoming};
+ghost use Rattle.server.specs.Memory.{LawMayOpen, LawPlaceless, LawUnchanged, LawUntroubled, LawWelcoming};
 
 use place_engine::Place;
 
@@ -22,16 +23,22 @@ pub fn law_complete<P: Place>()
         (λ desk closed. Closes P.seen P.vol P.holds P.reads P.left P.clock P.base P.keeps_vol desk.vols desk.scene.world.places closed) }
 {}
 
+/// Each volume comes back in its place, as the calls of its place may have left it.
+pub fn law_kept<P: Place>()
+    ensures kept { LawKept P.seen P.vol P.holds P.reads P.left P.clock P.faults P.base P.opens P.refuses P.keeps_vol }
+{}
+
 /// Places that never had a stream refuse none, if there is one of them.
 pub fn law_welcome()
     ensures welcome { LawWelcome }
 {}
 
-/// In memory only want of memory can keep a desk from being opened, a stream is refused only if there is no volume, which is error 20007, and the volumes are
-/// untroubled as the desk is closed.
+/// In memory only want of memory can keep a desk from being opened, a stream is refused only if there is no volume, which is error 20007, the volumes are
+/// untroubled as the desk is closed, and they come back as they were.
 pub fn law_memory<V>()
     ensures may_open { LawMayOpen V }
     ensures welcoming { LawWelcoming V }
     ensures untroubled { LawUntroubled V }
     ensures placeless { LawPlaceless V }
+    ensures unchanged { LawUnchanged V }
 {}

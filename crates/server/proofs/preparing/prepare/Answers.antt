@@ -1,13 +1,12 @@
-use Rattle.js_api.specs.Leading.{leads_nothing}
-use Rattle.js_api.specs.Worlds.{SoloStep}
-use Rattle.js_desk.specs.Kept.{kept_none}
-use Rattle.js_desk.specs.Solo.{row_in}
-use Rattle.js_desk.proofs.Lasting.{outlast_none}
-use Rattle.server.proofs.Prepared.{made_so, made_none}
+use Rattle.js_desk.specs.Solo.{DeskMade}
+use Rattle.server.proofs.Made.{made_none}
+use Rattle.server.proofs.Prepared.{made_so, unmade}
 use Rattle.server.proofs.preparing.prepare.Goals as goal
 
 pub returns-in-Some-clause-prepared : goal.returns-in-Some-clause-prepared
-returns-in-Some-clause-prepared g c = made_so _ (λ a b entries made. made.0) _ c.in-Some.named _ _ _ _ _ _ _ c.in-Some.is c.requires.opened c.as_slice.ensures c.now-now.ensures.reads c.make_stream.ensures.made
+returns-in-Some-clause-prepared g c =
+    made_so _ (λ a b entries made. made.0) _ c.in-Some.named _ _ _ _ _ _ _ c.in-Some.is c.requires.opened c.as_slice.ensures c.now-now.ensures.reads c.make_stream.ensures.made
 
 pub returns-in-None-clause-prepared : goal.returns-in-None-clause-prepared
-returns-in-None-clause-prepared g c = made_none _ (λ desk. (leads_nothing SoloStep desk.scene, kept_none g.P.Place.keeps_vol g.met.P.Place.keeps_none desk.vols, outlast_none g.P.Place.holds g.P.Place.left g.P.Place.clock g.P.Place.base g.met.P.Place.earlier (row_in desk))) _ _ _ c.in-None.is c.requires.opened
+returns-in-None-clause-prepared g c =
+    unmade (DeskMade g.P.Place.keeps_vol g.P.Place.holds g.P.Place.left g.P.Place.clock g.P.Place.base) (made_none g.P.Place.keeps_vol g.P.Place.holds g.P.Place.left g.P.Place.clock g.P.Place.base g.met.P.Place.keeps_none g.met.P.Place.earlier) _ _ _ c.in-None.is c.requires.opened
