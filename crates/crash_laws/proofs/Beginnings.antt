@@ -1,10 +1,8 @@
 -- Chains of entries, and what is left of entries that others follow.
-use Rattle.std.proofs.Common.{◌≡◌, ◌⊎◌, ⊎_elim, inl, inr, ℕ, ◌<◌, ◌≤◌, ◌++◌, List, [], ◌∷◌, append-nil, append_assoc, refl, sym, ap, subst, ◌∙◌, arith}
+use Rattle.std.proofs.Common.{◌≡◌, ℕ, ◌<◌, ◌≤◌, ◌++◌, List, [], ◌∷◌, append_assoc, refl, sym, ap, subst, ◌∙◌, arith}
 use Rattle.js_model.specs.declared.stream.State.{State}
-use Rattle.js_model.specs.Firm.{IsFirm}
-use Rattle.js_model.specs.Lasting.{lasting}
 use Rattle.crash_laws.specs.Timed.{Timed}
-use Rattle.crash_laws.specs.Beginnings.{Beginning, Chain, Ever, IsLeftOf}
+use Rattle.crash_laws.specs.Beginnings.{Beginning, Chain, Ever}
 use Rattle.crash_laws.specs.Outlasting.{AreBetween}
 
 -- ---- chains

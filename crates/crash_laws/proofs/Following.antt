@@ -1,5 +1,5 @@
 -- What a crash may leave after no entries, and after entries that others follow.
-use Rattle.std.proofs.Common.{◌≡◌, ◌⊎◌, ⊎_elim, inl, inr, ℕ, ◌<◌, ◌≤◌, ◌++◌, List, [], refl, arith}
+use Rattle.std.proofs.Common.{⊎_elim, inl, inr, ℕ, ◌<◌, ◌≤◌, ◌++◌, List, [], refl, arith}
 use Rattle.std.proofs.lemmas.Bool.{cases_lt}
 use Rattle.js_model.specs.declared.stream.State.{State}
 use Rattle.crash_laws.specs.Timed.{Timed}
@@ -39,9 +39,9 @@ module _ {V Image : Type 0} (holds : Image → State → Type 0) (left : V → �
     left_behind t l is = ⊎_elim
         (λ e. record { beginning = begins_behind t old entries mid more new h.led is.beginning; left_is = inl e })
         (λ e.
-            let b = h.base l e.1 in
-            left_before t l (record { beginning = begins_since t (clock v) (clock u) old entries mid h.between b.beginning; left_is = b.left_is })
-            (nothing_stands t mid more new is.beginning e.0))
+        let b = h.base l e.1 in
+        left_before t l (record { beginning = begins_since t (clock v) (clock u) old entries mid h.between b.beginning; left_is = b.left_is })
+        (nothing_stands t mid more new is.beginning e.0))
         is.left_is
 
     lasted_more : (w : V) → Lasted holds left clock mid_base is_base more mid new v w → Lasted holds left clock was_base is_base (entries ++ more) old new u w

@@ -1,5 +1,5 @@
 -- What a crash may leave of what was made at a place since it was opened.
-use Rattle.std.proofs.Common.{◌≡◌, ⊎_elim, ℕ, ◌≤◌, List, sym, ◌∙◌}
+use Rattle.std.proofs.Common.{⊎_elim, ℕ, ◌≤◌, List, sym, ◌∙◌}
 use Rattle.js_model.specs.declared.stream.State.{State}
 use Rattle.crash_laws.specs.Timed.{Timed}
 use Rattle.crash_laws.specs.Beginnings.{IsLastingOf, IsLeftOf}

@@ -1,11 +1,10 @@
 //! The desk of one caller, who owns the router, the catalog and the places.
 
 ghost use Rattle.std.specs.Prelude.{◌≡◌, ◌≤◌, IfErr, IfOk, IsTrue, false, length};
-ghost use Rattle.std.specs.List.{AllZip};
 ghost use Rattle.js_model.specs.Configs.{is_stream_subject};
 ghost use Rattle.stream_config.specs.Defaults.{default_config};
 ghost use Rattle.js_api.specs.Clients.{closed, new_client};
-ghost use Rattle.js_api.specs.Leading.{Leads, Makes, leads_more, leads_nothing};
+ghost use Rattle.js_api.specs.Leading.{Makes, leads_more, leads_nothing};
 ghost use Rattle.js_api.specs.Making.{MakesStream};
 ghost use Rattle.js_api.specs.Worlds.{SoloStep};
 ghost use Rattle.js_desk.specs.Closing.{Closes};
@@ -100,7 +99,7 @@ impl<P: Place> SoloDesk<P> {
         now: Moment,
     ) -> Result<Option<ApiError>, DeskFault>
         requires subject { IsTrue (is_stream_subject subject.now) }
-        ensures made { Makes (DeskMade P.keeps_vol P.holds P.left P.clock P.base) (MakesStream name.now (default_config name.now subject.now) now result) self.old self.new }
+        ensures made { Makes (λ old entries new. DeskMade P.keeps_vol P.holds P.left P.clock P.base old entries new) (MakesStream name.now (default_config name.now subject.now) now result) self.old self.new }
         ensures client { self.new.client ≡ self.old.client }
     {
         make_stream(&mut self.ground, name, subject, now)
