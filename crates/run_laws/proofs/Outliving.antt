@@ -106,13 +106,13 @@ module _ {P V : Type 0} (seen : P → Seen) (vol : P → V) (holds : Image → S
         let ends = zip_at EndsAt c.row c.closes.ends number q c.closes.ended last.is_there in
         let end = ends.y in
         let closed : Outlasts holds left clock (base m.after.stopped m.end) (base ends.holds.stopped end.vol) [] m.after.state m.after.state m.end end.vol =
-            subst (λ (v : V). Outlasts holds left clock (base m.after.stopped v) (base ends.holds.stopped end.vol) [] m.after.state m.after.state v end.vol) kept
-            (subst (λ (a : PlaceIn). Outlasts holds left clock (base a.stopped (vol q)) (base ends.holds.stopped end.vol) [] a.state a.state (vol q) end.vol) last.gives ends.holds.outlasts)
+        subst (λ (v : V). Outlasts holds left clock (base m.after.stopped v) (base ends.holds.stopped end.vol) [] m.after.state m.after.state v end.vol) kept
+        (subst (λ (a : PlaceIn). Outlasts holds left clock (base a.stopped (vol q)) (base ends.holds.stopped end.vol) [] a.state a.state (vol q) end.vol) last.gives ends.holds.outlasts)
         in
         let whole = more opened.stopped m.after.stopped ends.holds.stopped (timed_at number entries) [] opened.state m.after.state m.after.state (vol p) m.end end.vol m.outlasts closed in
         let all : Outlasts holds left clock (base opened.stopped (vol p)) (base ends.holds.stopped end.vol) (timed_at number entries) opened.state m.after.state (vol p) end.vol =
-            subst (λ (es : List Timed). Outlasts holds left clock (base opened.stopped (vol p)) (base ends.holds.stopped end.vol) es opened.state m.after.state (vol p) end.vol)
-            (append-nil (timed_at number entries)) whole
+        subst (λ (es : List Timed). Outlasts holds left clock (base opened.stopped (vol p)) (base ends.holds.stopped end.vol) es opened.state m.after.state (vol p) end.vol)
+        (append-nil (timed_at number entries)) whole
         in
         let going : opened.stopped ≡ None = ap (λ (a : PlaceIn). a.stopped) same ∙ first.holds.opened.going in
         let since = subst (λ (s : State). AllHold holds reads left clock before s → opened_at.IsOpenedAt holds left clock (base None (vol p)) (clock before) s (vol p)) (sym (ap (λ (a : PlaceIn). a.state) same)) first.holds.since in

@@ -72,8 +72,8 @@ module _ {P V : Type 0} (seen : P → Seen) (vol : P → V) (holds : Image → S
       let c = h.closes in
       let opened : AllZip keeps v0 h.desk.vols = subst (λ (vs : List V). AllZip keeps v0 vs) (sym o.vols) (kept_row v0 o.row o.opened) in
       let ended : AllZip keeps h.after.vols h.closed.vols.items =
-          subst (λ (vs : List V). AllZip keeps vs h.closed.vols.items) c.before
-          (subst (λ (vs : List V). AllZip keeps (map vol c.row) vs) (sym c.closes.after) (kept_ends c.row c.closes.ends c.closes.ended))
+      subst (λ (vs : List V). AllZip keeps vs h.closed.vols.items) c.before
+      (subst (λ (vs : List V). AllZip keeps (map vol c.row) vs) (sym c.closes.after) (kept_ends c.row c.closes.ends c.closes.ended))
       in
       let done = kept_more keeps more v0 h.desk.vols h.after.vols opened h.attended.made.1 in
       subst (λ (vs : List V). AllZip keeps v0 vs) (sym h.vols) (kept_more keeps more v0 h.after.vols h.closed.vols.items done ended)

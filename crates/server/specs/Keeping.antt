@@ -19,9 +19,9 @@ module _ {P V : Type 0} (seen : P → Seen) (vol : P → V) (holds : Image → S
   abbrev pub LawKept : Type 0
   LawKept = (stream : Option NamedStream) (status : ℕ) (vols_old vols_new : List V) (old new : Outside)
       → PipeEnds
-          (OpensDesk seen vol holds reads left clock faults base opens refuses keeps)
-          (FailsToOpen seen vol holds reads left clock faults base opens refuses keeps)
-          (DeskMade keeps holds left clock base)
-          (λ desk closed. Closes seen vol holds reads left clock base keeps desk.vols desk.scene.world.places closed)
-          stream status vols_old vols_new old new
+      (OpensDesk seen vol holds reads left clock faults base opens refuses keeps)
+      (FailsToOpen seen vol holds reads left clock faults base opens refuses keeps)
+      (DeskMade keeps holds left clock base)
+      (λ desk closed. Closes seen vol holds reads left clock base keeps desk.vols desk.scene.world.places closed)
+      stream status vols_old vols_new old new
       → AllZip keeps vols_old vols_new

@@ -41,11 +41,6 @@ abbrev pub command_of : List Bytes → Option Command
 command_of [] = None
 command_of (word ∷ words) = if same word (codes "pipe") && are_settings (settings_of words) then pipe_with (settings_of words) else None
 
--- it is a command that has a stream to make
-abbrev pub NamesStream : Option Command → Type 0
-NamesStream None = ⊥
-NamesStream (Some (Pipe dir stream)) = IsSome stream
-
 -- what was returned was read, and memory may run out for what is there alone
 abbrev pub Reads : {T : Type 0} → Result T WordsFault → Option T → Type 0
 Reads (Ok value) read = read ≡ Some value

@@ -137,9 +137,7 @@ fn serve(rt: &HostRuntime, words: &[String]) -> Result<u8, AllocError> {
             let vols = vec![in alloc; (); VOLUMES as usize]?;
             Ok(serve_over::<MemoryPlace<()>>(rt, words, vols))
         }
-        Err(WordsFault::Words) => {
-            Ok(serve_over::<MemoryPlace<()>>(rt, words, Vec::new(alloc)))
-        }
+        Err(WordsFault::Words) => { Ok(serve_over::<MemoryPlace<()>>(rt, words, Vec::new(alloc))) }
         Err(WordsFault::NoMemory) => Err(AllocError),
     }
 }
