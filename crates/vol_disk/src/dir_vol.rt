@@ -103,4 +103,6 @@ impl Vol for DirVol {
     fn faults(&self) -> u64 {
         self.faults
     }
+
+    fn law_bytes(&self) {}
 }
