@@ -11,3 +11,5 @@ pub mod RecordedStreams
 pub mod RecordedConsumers
 pub mod RecordedTime
 pub mod RecordedPlaces
+pub mod Opening
+pub mod Restorable

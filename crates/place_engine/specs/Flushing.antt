@@ -13,10 +13,11 @@ pub record KeepsState (old new : Seen) : Type 0 where
   pub state : new.place.state ≡ old.place.state
   pub stored : new.place.stored ≡ old.place.stored
 
--- all that was made is on the volume, and nothing waits
+-- all that was made is on the volume, and nothing waits; the log had room for what waited
 pub record Flushed (old new : Seen) : Type 0 where
   pub keeps : KeepsState old new
   pub goes : new.place.stopped ≡ None
+  pub fits : ¬ old.is_full old.waiting
   pub flushed : IsFlushed new
 
 -- nothing was committed
