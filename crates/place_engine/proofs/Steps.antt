@@ -19,11 +19,11 @@ use Rattle.place_engine.specs.Delivering.{Delivers}
 use Rattle.place_engine.specs.InMemory.{seen_of, holds_nothing}
 use Rattle.place_engine.specs.Stepping.{Elapses, IsFlushed, IsUndone, KeepsBase, Passes, Steps}
 
-pub elapses : (old new : State) → Elapses holds_nothing (seen_of old) (seen_of new)
+elapses : (old new : State) → Elapses holds_nothing (seen_of old) (seen_of new)
 elapses old new = record { faults = omega arith; moments = omega arith; generations = omega arith; goes_on = λ t image le left. absurd left }
 
 -- nothing ever waits
-pub flushed : (state : State) → IsFlushed (seen_of state)
+flushed : (state : State) → IsFlushed (seen_of state)
 flushed state = record { base = λ b is. absurd is; waiting = refl }
 
 -- its volume holds no state

@@ -7,6 +7,7 @@ ghost use Rattle.js_model.specs.Events.{kept_incarnation};
 ghost use Rattle.js_model.specs.Proper.{is_proper};
 ghost use Rattle.js_model.specs.Ready.{some_ready};
 ghost use Rattle.js_base.specs.Causes.{Rose};
+ghost use Rattle.place_engine.specs.declared.faults.OpenFault.{OpenFault};
 ghost use Rattle.place_engine.specs.Delivering.{Delivers};
 ghost use Rattle.place_engine.specs.Flushing.{Flushes};
 ghost use Rattle.place_engine.specs.Opening.{IsBaseOn, IsOpened, IsUnopened};

@@ -19,6 +19,7 @@ use Rattle.js_model.specs.Proper.{if_given, is_proper, is_proper_what, reply_of}
 use Rattle.js_model.specs.Runs.{IsStep, IsDeliverStep, RunFrom, is_few, new_messages}
 use Rattle.place_engine.specs.Stepping.{Image, IsKept, Seen, Steps, Does, Rests, tick_of}
 use Rattle.place_engine.specs.Delivering.{Delivers, Makes, tick_at}
+use Rattle.place_engine.specs.Flushing.{EndsFlush, KeepsState}
 use Rattle.place_engine.specs.declared.faults.PlaceFault.{PlaceFault}
 use Rattle.place_engine.specs.declared.faults.PlaceFault.TheVariants.{NoMemory, StoreFault, Full, Stopped, Gone, Worn}
 use Rattle.place_engine.specs.declared.faults.Left.TheVariants.{Nothing, Ticked, Unsaid}
@@ -170,3 +171,38 @@ delivery_stopped holds old new n seat now listening (Err Full) before after is h
 delivery_stopped holds old new n seat now listening (Err (Stopped m)) before after is h = rests_stopped old new before after h.ends.rests
 delivery_stopped holds old new n seat now listening (Err (Gone other)) before after is h = absurd h.ends
 delivery_stopped holds old new n seat now listening (Err (Worn refused)) before after is h = going_not n old.place.stopped is h.ends.hides.makes.going
+
+-- ---- a flush
+
+-- it leaves the state and what counts against the store
+pub record StaysSame (old new : Seen) : Type 0 where
+  pub state : new.place.state ≡ old.place.state
+  pub stored : new.place.stored ≡ old.place.stored
+
+keeps_same : (old new : Seen) → KeepsState old new → StaysSame old new
+keeps_same old new h = record { state = h.state; stored = h.stored }
+
+rests_same : (old new : Seen) (before after : List Out) → Rests old new before after → StaysSame old new
+rests_same old new before after h = record { state = h.state; stored = h.stored }
+
+pub flush_same : (old new : Seen) (result : Result (Unit {0}) PlaceFault) → EndsFlush result old new → StaysSame old new
+flush_same old new (Ok done) h = keeps_same old new h.keeps
+flush_same old new (Err (NoMemory Nothing)) h = rests_same old new [] [] h.rests
+flush_same old new (Err (NoMemory Ticked)) h = absurd h
+flush_same old new (Err (NoMemory (Unsaid refused))) h = absurd h
+flush_same old new (Err StoreFault) h = keeps_same old new h.keeps
+flush_same old new (Err Full) h = keeps_same old new h.keeps
+flush_same old new (Err (Stopped m)) h = rests_same old new [] [] h.rests
+flush_same old new (Err (Gone other)) h = absurd h
+flush_same old new (Err (Worn refused)) h = rests_same old new [] [] h.unflushed.rests
+
+pub flush_stopped : (old new : Seen) (n : ℕ) (result : Result (Unit {0}) PlaceFault) → old.place.stopped ≡ Some n → EndsFlush result old new → StaysStopped old new []
+flush_stopped old new n (Ok done) is h = going_not n old.place.stopped is h.keeps.going
+flush_stopped old new n (Err (NoMemory Nothing)) is h = going_not n old.place.stopped is h.going
+flush_stopped old new n (Err (NoMemory Ticked)) is h = absurd h
+flush_stopped old new n (Err (NoMemory (Unsaid refused))) is h = absurd h
+flush_stopped old new n (Err StoreFault) is h = going_not n old.place.stopped is h.keeps.going
+flush_stopped old new n (Err Full) is h = going_not n old.place.stopped is h.keeps.going
+flush_stopped old new n (Err (Stopped m)) is h = rests_stopped old new [] [] h.rests
+flush_stopped old new n (Err (Gone other)) is h = absurd h
+flush_stopped old new n (Err (Worn refused)) is h = going_not n old.place.stopped is h.unflushed.going

@@ -13,6 +13,7 @@ use Rattle.js_model.specs.Events.{answered, kept_incarnation}
 use Rattle.js_model.specs.Proper.{is_proper}
 use Rattle.place_engine.specs.Stepping.{Image, IsKept, Seen, Steps, tick_of}
 use Rattle.place_engine.specs.Delivering.{Delivers, EndsDelivery, tick_at}
+use Rattle.place_engine.specs.Flushing.{Flushes}
 use Rattle.place_engine.specs.declared.faults.PlaceFault.{PlaceFault}
 use Rattle.place_engine.specs.declared.faults.PlaceFault.TheVariants.{NoMemory, StoreFault, Full, Stopped, Gone, Worn}
 use Rattle.place_engine.specs.declared.faults.Left.TheVariants.{Nothing, Ticked, Unsaid}
@@ -80,8 +81,14 @@ pub record DeliverCall (holds : Image → State → Type 0) (old new : Seen) (ma
   pub delivers : Delivers holds result now listening old new before after
   pub made_is : made ≡ made_by_delivery seat now listening old new before after result delivers.ends
 
+-- a call of `flush`, which makes nothing
+pub record FlushCall (holds : Image → State → Type 0) (old new : Seen) : Type 0 where
+  pub result : Result (Unit {0}) PlaceFault
+  pub flushes : Flushes holds result old new
+
 -- the calls of a place from one look at it to another, and all that they made
 pub data Calls {P : Type 0} (seen : P → Seen) (holds : Image → State → Type 0) : P → List PlaceEntry → P → Type 0 where
   NoCall : (place : P) → Calls seen holds place [] place
   AStep : (old mid new : P) (made more : List PlaceEntry) → StepCall holds (seen old) (seen mid) made → Calls seen holds mid more new → Calls seen holds old (made ++ more) new
   ADelivery : (old mid new : P) (made more : List PlaceEntry) → DeliverCall holds (seen old) (seen mid) made → Calls seen holds mid more new → Calls seen holds old (made ++ more) new
+  AFlush : (old mid new : P) (more : List PlaceEntry) → FlushCall holds (seen old) (seen mid) → Calls seen holds mid more new → Calls seen holds old more new
