@@ -1,5 +1,5 @@
 -- A disk that is told by its calls keeps the laws of a volume.
-use Rattle.std.proofs.Common.{◌≡◌, ◌≢◌, ◌⊎◌, inl, inr, ℕ, zero, suc, ◌+◌, ◌<◌, ◌≤◌, ◌==◌, Bool, true, false, cond, List, [], ◌∷◌, ◌++◌, Option, Some, None, All, IfSome, length, refl, sym, ◌∙◌, ap, subst, arith, length-append}
+use Rattle.std.proofs.Common.{◌≡◌, ◌≢◌, ◌⊎◌, inl, inr, ℕ, zero, suc, ◌+◌, ◌<◌, ◌≤◌, ◌==◌, Bool, true, false, cond, List, [], ◌∷◌, ◌++◌, Option, Some, None, length, refl, sym, ◌∙◌, ap, subst, arith, length-append}
 use Rattle.std.specs.Prelude.{unwrap_or}
 use Rattle.std.specs.BTreeMap.{is_at}
 use Rattle.std.specs.Map.{lookup}
@@ -9,8 +9,7 @@ use Rattle.std.proofs.lemmas.Bool.{cases_eq}
 use Rattle.std.proofs.lemmas.Bool.Decides.{nat_tests}
 use Rattle.std.proofs.lemmas.List.{take_all, take-append-le}
 use Rattle.vol_disk.specs.Disk.{Disk, Files}
-use Rattle.std.proofs.lemmas.Map.Entries.{All-lookup}
-use Rattle.vol_disk.specs.Images.{AreBytes, IsImage}
+use Rattle.vol_disk.specs.Images.{IsImage}
 use Rattle.vol_disk.specs.Sound.{sound_of}
 use Rattle.vol_disk.specs.Does.{Follows, Elapses, Does}
 use Rattle.vol_disk.specs.FileState.{FileState, at_rest}
@@ -201,15 +200,6 @@ picked_at pick (f ∷ files) (i ∷ images) file h =
         IsPicked pick (unwrap_or (cond b (Some f.1) (lookup (is_at (nat_cmp file)) files)) (at_rest [])) (unwrap_or (cond b (Some i.1) (lookup (is_at (nat_cmp file)) images)) [])
     go true rest = h.0.1
     go false rest = rest
-
--- reads of these files give bytes
-pub read_bytes : (files : List (ℕ × FileState)) (start : List (ℕ × List ℕ)) (calls : List Call) → IsReplayed files start calls → All (λ entry. AreBytes entry.1.bytes) files →
-    (file : ℕ) → AreBytes (state_of start calls file).bytes
-read_bytes files start calls kept all file = subst (λ (s : FileState). AreBytes s.bytes) (kept file) (go (lookup (is_at (nat_cmp file)) files) (All-lookup (λ (s : FileState). AreBytes s.bytes) (is_at (nat_cmp file)) files all))
-  where
-    go : (o : Option FileState) → IfSome o (λ s. AreBytes s.bytes) → AreBytes (unwrap_or o (at_rest [])).bytes
-    go (Some s) h = h
-    go None h = λ k d lt. absurd (omega (arith, lt))
 
 -- what is picked for all files is what a crash may leave of them
 pub picked_left : (pick : ℕ) (files : List (ℕ × FileState)) (start images : List (ℕ × List ℕ)) (calls : List Call) → IsReplayed files start calls → ArePicked pick files images →

@@ -103,6 +103,4 @@ impl Vol for DirVol {
     fn faults(&self) -> u64 {
         self.faults
     }
-
-    fn law_bytes(&self) {}
 }

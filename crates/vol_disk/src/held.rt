@@ -1,10 +1,9 @@
 //! The files of a volume in memory, and the calls on them.
 
-ghost use Rattle.std.specs.Prelude.{All, ◌≡◌, ◌<◌, [], ◌∷◌, ◌++◌, ℕ, false, None, Some, length, unwrap_or, IfOk, OnOk, OnErr, vec_len, vec_capacity};
+ghost use Rattle.std.specs.Prelude.{◌≡◌, ◌<◌, [], ◌∷◌, ◌++◌, ℕ, false, None, Some, length, unwrap_or, IfOk, OnOk, OnErr, vec_len, vec_capacity};
 ghost use Rattle.std.specs.BTreeMap.{get, is_at};
 ghost use Rattle.std.specs.Ordering.{nat_cmp};
 ghost use Rattle.vol_disk.specs.FileState.{at_rest};
-ghost use Rattle.vol_disk.specs.Images.{AreBytes};
 ghost use Rattle.vol_disk.specs.Replay.{bytes_in, after_call};
 ghost use Rattle.vol_disk.specs.MemDisk.{AreLeft};
 ghost use Rattle.vol_disk.specs.Calls.{CanDo};
@@ -12,7 +11,7 @@ ghost use Rattle.vol_disk.specs.Held.{held_file, with_one, state_in, ArePicked};
 
 use crate::call::{Call, Deed};
 use crate::drafts::pick_of_file;
-use crate::mem_file::{MemFile, law_bytes};
+use crate::mem_file::MemFile;
 use js_base::{List, NoMemory};
 use std::alloc::Global;
 use std::collections::BTreeMap;
@@ -147,15 +146,6 @@ fn rest(alloc: Global, start: &[(u32, List<u8>)]) -> Result<BTreeMap<u32, MemFil
     Ok(files)
 }
 
-/// Each byte that a read of one of these files gives is below 256.
-fn law_files(files: &BTreeMap<u32, MemFile>)
-    ensures bytes { All (λ entry. AreBytes entry.1.bytes) files.now.entries }
-{
-    for (_, file) in files {
-        law_bytes(file.bytes());
-    }
-}
-
 impl Held {
     /// No file, on which no call was made.
     pub fn empty(alloc: Global) -> Held
@@ -191,13 +181,6 @@ impl Held {
             Some(held) => held.bytes(),
             None => &[],
         }
-    }
-
-    /// Each byte that a read of a file gives is below 256.
-    pub fn law_bytes(&self)
-        ensures bytes { (file : ℕ) → AreBytes (held_file self.now file).bytes }
-    {
-        law_files(&self.files);
     }
 
     /// Files that hold at rest what a crash now may leave of these, as the number picks it: at 0 what each was

@@ -1,7 +1,7 @@
 //! A volume in memory that holds its syncs.
 
 ghost use Rattle.std.specs.Prelude.{◌≡◌, ◌+◌, ◌≤◌, ℕ, length, take, drop, IfOk, OnOk, OnErr, IsErr};
-ghost use Rattle.vol_disk.specs.Images.{AreBytes, IsDurable};
+ghost use Rattle.vol_disk.specs.Images.{IsDurable};
 ghost use Rattle.vol_disk.specs.Steps.{written, Torn, CutTo, Kept};
 ghost use Rattle.vol_disk.specs.Does.{Does};
 ghost use Rattle.js_base.specs.Causes.{HasCause};
@@ -143,11 +143,5 @@ impl Vol for HoldVol {
 
     fn faults(&self) -> u64 {
         self.vol.faults()
-    }
-
-    fn law_bytes(&self)
-        ensures bytes { (file : ℕ) → AreBytes ((disk_of self.now).seen file) }
-    {
-        self.vol.law_bytes();
     }
 }

@@ -98,11 +98,6 @@ fn copy_of(alloc: Global, bytes: &[u8]) -> Result<Vec<u8>, NoMemory>
     }
 }
 
-/// Each byte of a slice is below 256. The type says so, and clauses that speak of numbers need it said.
-pub(crate) fn law_bytes(bytes: &[u8])
-    ensures bytes { AreBytes bytes.now }
-{}
-
 impl MemFile {
     /// A file without bytes. It takes no memory.
     pub fn empty(alloc: Global) -> MemFile

@@ -1,7 +1,7 @@
 //! A volume in memory.
 
 ghost use Rattle.std.specs.Prelude.{◌≡◌, ◌+◌, ◌≤◌, [], ℕ, None, length, take, drop, IfOk, OnOk, OnErr, IsErr};
-ghost use Rattle.vol_disk.specs.Images.{AreBytes, IsImage, IsDurable, IsAllDurable};
+ghost use Rattle.vol_disk.specs.Images.{IsImage, IsDurable, IsAllDurable};
 ghost use Rattle.vol_disk.specs.Steps.{written, Torn, CutTo, Kept};
 ghost use Rattle.vol_disk.specs.Does.{Does};
 ghost use Rattle.vol_disk.specs.Calls.{CanDo};
@@ -293,11 +293,5 @@ impl Vol for MemVol {
 
     fn faults(&self) -> u64 {
         self.faults
-    }
-
-    fn law_bytes(&self)
-        ensures bytes { (file : ℕ) → AreBytes ((disk_of self.now).seen file) }
-    {
-        self.held.law_bytes();
     }
 }

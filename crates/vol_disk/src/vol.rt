@@ -2,7 +2,7 @@
 
 ghost use Rattle.std.specs.Prelude.{◌≡◌, ℕ, ◌+◌, ◌≤◌, length, take, drop, OnOk, OnErr, IfOk, IsErr};
 ghost use Rattle.vol_disk.specs.Disk.{Disk};
-ghost use Rattle.vol_disk.specs.Images.{AreBytes, IsDurable, IsHonest};
+ghost use Rattle.vol_disk.specs.Images.{IsDurable, IsHonest};
 ghost use Rattle.vol_disk.specs.Steps.{written, Torn, CutTo, Kept};
 ghost use Rattle.vol_disk.specs.Does.{Does};
 ghost use Rattle.vol_disk.specs.Clock.{IsClocked};
@@ -76,10 +76,6 @@ pub trait Vol {
     /// How often it failed. The count stops at the greatest number of its type.
     fn faults(&self) -> u64
         ensures value { result ≡ faults self.now };
-
-    /// Reads give bytes: their type says so, and clauses that speak of numbers need it said. It changes nothing.
-    fn law_bytes(&self)
-        ensures bytes { told → (file : ℕ) → AreBytes ((disk self.now).seen file) };
 
     /// The clock of its disk goes with the images.
     ghost clocked: { (vol : Self) → IsClocked (disk vol) };
