@@ -11,10 +11,9 @@ use Rattle.effects.specs.declared.durable.Durable.{Durable}
 use Rattle.restore_laws.proofs.Holding.{held, opened}
 use Rattle.vol_disk.specs.Clock.{IsClocked}
 use Rattle.vol_disk.specs.Disk.{Disk}
-use Rattle.vol_disk.specs.Images.{AreBytes, IsHonest, IsImage}
-use Rattle.vol_disk.proofs.Moments.{read_is_image}
+use Rattle.vol_disk.specs.Images.{IsImage}
 use Rattle.stream_store.specs.StoreState.{StoreState}
-use Rattle.place_engine.specs.Opening.{IsBaseOn}
+use Rattle.stream_store.specs.Waiting.{Waits}
 use Rattle.place_engine.specs.Stepping.{Image}
 use Rattle.volume_place.specs.Images.{clock, holds, left}
 use Rattle.volume_place.specs.Laws.{only_held}
@@ -28,33 +27,35 @@ lasts_twice s = sym (opened (lasting s)) ∙ ap state_of (held s) ∙ opened s
 pub same_held : (a b : State) → durable_of a ≡ durable_of b → lasting a ≡ lasting b
 same_held a b e = sym (opened a) ∙ ap state_of e ∙ opened b
 
-module _ {V : Type 0} (told : Type 0) (disk : V → Disk) (vol : V) where
-  -- what a crash now may leave
-  pub left_now : told → IsClocked (disk vol) → (image : Image) → IsImage (disk vol) image → left told disk vol (clock disk vol) image
-  left_now t clocked image is = (t, clocked.counts_now (disk vol).moment image (le_refl (disk vol).moment) is)
+-- what leads to a state leads to what outlives a crash of it
+pub leads_lasting : (b state : State) (waiting : List Effect) → Waits (durable_of b) waiting state → Leads b waiting (lasting state)
+leads_lasting b state waiting waits = waits ∙ ap (λ (d : Durable). Some d) (sym (held state))
 
-  module _ (store : StoreState) (waiting : List Effect) (state : State) (k : IsBacked (disk vol) store waiting state) where
-    -- a crash may leave what reads give, which holds it
-    pub on_base : told → IsClocked (disk vol) → IsHonest (disk vol) → ((file : ℕ) → AreBytes ((disk vol).seen file)) → IsBaseOn holds (left told disk) (clock disk) vol k.base
-    on_base t clocked honest bytes = record {
-      image = (disk vol).seen;
-      is_left = left_now t clocked (disk vol).seen (read_is_image (disk vol) honest bytes);
-      held = (k.is_base.holds, k.all_lasts);
-    }
+-- what a crash now may leave
+pub left_now : {V : Type 0} (told : Type 0) (disk : V → Disk) (vol : V) → told → IsClocked (disk vol) → (image : Image) → IsImage (disk vol) image → left told disk vol (clock disk vol) image
+left_now told disk vol t clocked image is = (t, clocked.counts_now (disk vol).moment image (le_refl (disk vol).moment) is)
 
-    pub only_base : IsClocked (disk vol) → (b : State) → IsBaseOn holds (left told disk) (clock disk) vol b → b ≡ k.base
-    only_base clocked b on = only_held on.image b k.base on.held (k.is_base.images on.image (clocked.only_now on.image on.is_left.1), k.all_lasts)
+module _ (disk : Disk) (store : StoreState) (waiting : List Effect) (state : State) (k : IsBacked disk store waiting state) where
+  -- what reads give holds it
+  pub read_base : holds disk.seen k.base
+  read_base = (k.is_base.holds, k.all_lasts)
 
-    pub leads_on : IsClocked (disk vol) → (b : State) → IsBaseOn holds (left told disk) (clock disk) vol b → Leads b waiting (lasting state)
-    leads_on clocked b on =
-        ap (λ (s : State). fold_all waiting (Some (durable_of s))) (only_base clocked b on) ∙ k.waits ∙ ap (λ (d : Durable). Some d) (sym (held state))
+  -- and so does each image that a crash now may leave
+  pub left_base : (image : Image) → IsImage disk image → holds image k.base
+  left_base image is = (k.is_base.images image is, k.all_lasts)
 
-    -- where nothing waits, it is what outlives a crash of what stands
-    pub base_stands : waiting ≡ [] → k.base ≡ lasting state
-    base_stands none =
-        let e : Some (durable_of k.base) ≡ Some (durable_of state) = subst (λ (l : List Effect). fold_all l (Some (durable_of k.base)) ≡ Some (durable_of state)) none k.waits in
-        let same : durable_of k.base ≡ durable_of state = cc in
-        sym k.all_lasts ∙ same_held k.base state same
+  pub only_base : (b : State) → holds disk.seen b → b ≡ k.base
+  only_base b h = only_held disk.seen b k.base h read_base
 
-    pub flushed_base : waiting ≡ [] → IsClocked (disk vol) → (b : State) → IsBaseOn holds (left told disk) (clock disk) vol b → b ≡ lasting state
-    flushed_base none clocked b on = only_base clocked b on ∙ base_stands none
+  pub leads_on : (b : State) → holds disk.seen b → Leads b waiting (lasting state)
+  leads_on b h = ap (λ (s : State). fold_all waiting (Some (durable_of s))) (only_base b h) ∙ leads_lasting k.base state waiting k.waits
+
+  -- where nothing waits, it is what outlives a crash of what stands
+  base_stands : waiting ≡ [] → k.base ≡ lasting state
+  base_stands none =
+      let e : Some (durable_of k.base) ≡ Some (durable_of state) = subst (λ (l : List Effect). fold_all l (Some (durable_of k.base)) ≡ Some (durable_of state)) none k.waits in
+      let same : durable_of k.base ≡ durable_of state = cc in
+      sym k.all_lasts ∙ same_held k.base state same
+
+  pub flushed_base : waiting ≡ [] → (b : State) → holds disk.seen b → b ≡ lasting state
+  flushed_base none b h = only_base b h ∙ base_stands none

@@ -111,6 +111,7 @@ module _ {V : Type 0} (told : Type 0) (disk : V → Disk) (faults : V → ℕ) (
         goes = h.0.rests.stopped ∙ going;
         outs = h.2 ∙ delivers.outs_are;
         put_off = record { base = h.0.rests.base; waiting = h.0.rests.waiting ∙ waits_as n.state h.0.rests.state };
+        volume = record { volume = h.0.volume.volume; images = h.0.volume.images };
       }
       ends_as (Err StoreFault) n after h = record {
         delivery = delivery;
@@ -129,6 +130,7 @@ module _ {V : Type 0} (told : Type 0) (disk : V → Disk) (faults : V → ℕ) (
         stops = h.0.stops;
         cause = subst (seen_of told disk faults a).is_full (waits_as n.state h.0.keeps.state) h.0.cause;
         base = h.0.base;
+        volume = record { volume = h.0.volume.volume; images = h.0.volume.images };
         outs = cut_back after h.1;
       }
       ends_as (Err (NoMemory Nothing)) n after h = absurd h

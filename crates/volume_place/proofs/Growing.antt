@@ -4,6 +4,7 @@ use Rattle.std.specs.Prelude.{IsTrue, IfErr, IfOk, ◌&&◌, nat_le}
 use Rattle.std.specs.List.{list_all}
 use Rattle.std.proofs.lemmas.Bool.{and_parts}
 use Rattle.std.proofs.lemmas.List.{append-nil}
+use Rattle.std.proofs.lemmas.Option.{none-some}
 use Rattle.js_base.specs.Bytes.{Bytes}
 use Rattle.js_base.specs.declared.out.Out.{Out}
 use Rattle.js_model.specs.declared.stream.State.{State}
@@ -52,12 +53,13 @@ step_of old new e now kept proper moment is = record {
 tick_proper : (e : Event) → IsTrue (is_proper e) → IsTrue (is_proper (record e { what = Tick }))
 tick_proper e proper = ap (λ (b : Bool). (b && true) && true) (and_parts _ _ (and_parts _ _ proper).0).0
 
-module _ (told : Type 0) (disk : Disk) (store : StoreState) (tail : List Effect) (stopped : Option ℕ) (old : State) where
+-- Of a place that goes on.
+module _ (told : Type 0) (disk : Disk) (store : StoreState) (tail : List Effect) (stopped : Option ℕ) (goes : stopped ≡ None) (old : State) where
   -- records that lead from what stood to what stands wait behind the others
-  grows_on_disk : (o : Option ℕ) (effects : List Effect) (new : State) → Leads old effects new → IsOnDisk o disk store tail old → IsOnDisk o disk store (tail ++ effects) new
-  grows_on_disk None effects new leads k =
+  grows_on_disk : (o : Option ℕ) (effects : List Effect) (new : State) → o ≡ None → Leads old effects new → IsOnDisk o disk store tail old → IsOnDisk o disk store (tail ++ effects) new
+  grows_on_disk None effects new none leads k =
       record { base = k.base; all_lasts = k.all_lasts; is_base = k.is_base; waits = waits_more (durable_of k.base) tail effects old new k.waits leads }
-  grows_on_disk (Some count) effects new leads all = all
+  grows_on_disk (Some count) effects new none leads both = absurd (none-some count (sym none))
 
   module _ (h : IsSoundPlace told disk store tail stopped old) where
     pub grown_event : (new : State) (e : Event) (now : ℕ) → e.incarnation ≡ kept_incarnation old → IsTrue (is_proper e) → now < 2 ^ 62 → new ≡ (answered old e now true).state
@@ -72,7 +74,7 @@ module _ (told : Type 0) (disk : Disk) (store : StoreState) (tail : List Effect)
           bounded = law_bounded 0 old new entries h.sound h.bounded (new, step, refl);
           restorable = restorable_event 0 old new e now reply outs h.restorable step;
           records = together tail (event_effects old e.what now true) h.records (event_records old e now true proper moment h.sound h.bounded);
-          on_disk = λ t. grows_on_disk stopped (event_effects old e.what now true) new (law_events 0 old new e now reply outs step h.sound h.bounded) (h.on_disk t);
+          on_disk = λ t. grows_on_disk stopped (event_effects old e.what now true) new goes (law_events 0 old new e now reply outs step h.sound h.bounded) (h.on_disk t);
         }
 
     pub grown_delivery : (new : State) (now : ℕ) (listening : List Bytes) (d : Delivery) (outs : List Out) → now < 2 ^ 62 → IsDelivered old now listening d outs new
@@ -85,7 +87,7 @@ module _ (told : Type 0) (disk : Disk) (store : StoreState) (tail : List Effect)
           bounded = law_bounded 0 old new entries h.sound h.bounded (new, step, refl);
           restorable = restorable_delivery old new now listening d outs h.restorable delivered;
           records = together tail (delivery_effects old now d new) h.records (delivery_records old new now listening d outs step h.sound h.bounded);
-          on_disk = λ t. grows_on_disk stopped (delivery_effects old now d new) new (law_deliveries old new now listening d outs delivered h.sound h.bounded) (h.on_disk t);
+          on_disk = λ t. grows_on_disk stopped (delivery_effects old now d new) new goes (law_deliveries old new now listening d outs delivered h.sound h.bounded) (h.on_disk t);
         }
 
     -- nothing was made

@@ -17,7 +17,7 @@ use Rattle.stream_store.specs.StoreState.{StoreState}
 use Rattle.place_engine.specs.Opening.{IsOpened, IsUnopened, KeepsHeld}
 use Rattle.place_engine.specs.Stepping.{Image}
 use Rattle.volume_place.specs.Contents.{Contents}
-use Rattle.volume_place.specs.Images.{clock, holds, left}
+use Rattle.volume_place.specs.Images.{clock, holds, left, reads}
 use Rattle.volume_place.specs.Opening.{opens}
 use Rattle.volume_place.specs.Seeing.{seen_of}
 use Rattle.volume_place.specs.Sound.{IsBacked, IsSoundPlace}
@@ -26,15 +26,15 @@ use Rattle.volume_place.proofs.Bases.{flushed_base, left_now}
 module _ {V : Type 0} (told : Type 0) (disk : V → Disk) (faults : V → ℕ) (clocked : (vol : V) → IsClocked (disk vol)) (old vol : V)
     (any : told → KeepsImages (disk old) (disk vol)) where
   -- whatever the opening comes to, a crash leaves what each image held
-  pub keeps_held : (state : State) → opens told disk old state → KeepsHeld holds (left told disk) (clock disk) old state (left told disk vol)
+  pub keeps_held : (state : State) → opens told disk old state → KeepsHeld holds (reads told disk) (left told disk) (clock disk) old state (left told disk vol)
   keeps_held state opening all t image le is =
-      go is.0 ((any is.0 (durable_of state) (opening is.0).0 (λ other now. (all other (left_now told disk old is.0 (clocked old) other now)).0)).before t image le is.1)
+      go is.0 ((any is.0 (durable_of state) (opening is.0).0 (λ other now. (all.now other (left_now told disk old is.0 (clocked old) other now)).0)).before t image le is.1)
     where
       go : told → (disk old).may_leave t image ⊎ Holds image (durable_of state) → left told disk old t image ⊎ holds image state
       go is_told (inl before) = inl (is_told, before)
       go is_told (inr same) = inr (same, (opening is_told).1)
 
-  pub unopened : IsUnopened holds (left told disk) (clock disk) (opens told disk) old vol
+  pub unopened : IsUnopened holds (reads told disk) (left told disk) (clock disk) (opens told disk) old vol
   unopened = keeps_held
 
   -- what was read
@@ -71,13 +71,13 @@ module _ {V : Type 0} (told : Type 0) (disk : V → Disk) (faults : V → ℕ) (
       opening : opens told disk old state
       opening t = (subst (Holds (disk old).seen) (sym held_here) (found t), kept.lasting)
 
-      pub opened_of : IsOpened holds (left told disk) (clock disk) (opens told disk) old
+      pub opened_of : IsOpened holds (reads told disk) (left told disk) (clock disk) (opens told disk) old
           (seen_of told disk faults (record { state = state; store = store; vol = vol; waiting = waiting; stopped = None }))
       opened_of = record {
         going = refl;
         state = opening;
         all_lasts = kept.lasting;
-        flushed = record { base = λ b on. flushed_base told disk vol store waiting state (backs on.is_left.0) none (clocked vol) b on; waiting = none };
+        flushed = record { base = λ b on. flushed_base (disk vol) store waiting state (backs on.0) none b on.1; waiting = none };
         sound = kept.sound;
         bounded = kept.bounded;
         writable = kept.writable;

@@ -149,6 +149,7 @@ module _ {V : Type 0} (told : Type 0) (disk : V → Disk) (faults : V → ℕ) w
           goes = h.0.rests.stopped ∙ going;
           outs = h.2 ∙ given_outs;
           put_off = record { base = h.0.rests.base; waiting = h.0.rests.waiting ∙ waits };
+          volume = record { volume = h.0.volume.volume; images = h.0.volume.images };
         };
         refused_is = h.1 ∙ ap is_refused given_reply;
       }
@@ -165,6 +166,7 @@ module _ {V : Type 0} (told : Type 0) (disk : V → Disk) (faults : V → ℕ) w
         stops = h.0.stops;
         cause = subst (seen_of told disk faults a).is_full waits h.0.cause;
         base = h.0.base;
+        volume = record { volume = h.0.volume.volume; images = h.0.volume.images };
         outs = cut_back after h.1;
       }
       ends_as (Err (NoMemory Nothing)) n after h = absurd h

@@ -4,10 +4,9 @@ use Rattle.effects.specs.declared.effect.Effect.{Effect}
 use Rattle.vol_disk.specs.Disk.{Disk}
 use Rattle.stream_store.specs.Committing.{length_with}
 use Rattle.stream_store.specs.StoreState.{StoreState}
-use Rattle.place_engine.specs.Opening.{IsBaseOn}
 use Rattle.place_engine.specs.Stepping.{Seen}
 use Rattle.volume_place.specs.Contents.{Contents}
-use Rattle.volume_place.specs.Images.{clock, holds, left}
+use Rattle.volume_place.specs.Images.{base, left}
 
 -- there are such records, and with a batch of them the log would be longer than 2^31 bytes
 abbrev pub IsFull : StoreState → List Effect → Type 0
@@ -22,7 +21,7 @@ seen_of told disk faults place = record {
     stopped = place.stopped;
     volume = record { faults = faults place.vol; moment = (disk place.vol).moment; generation = unwrap_or place.store.log.head 0 };
   };
-  is_base = IsBaseOn holds (left told disk) (clock disk) place.vol;
+  is_base = base told disk place.stopped place.vol;
   waiting = place.waiting;
   room = λ what. true;
   is_full = IsFull place.store;

@@ -1,5 +1,5 @@
 -- What holds of a place on a volume between any two calls.
-use Rattle.std.specs.Prelude.{◌≡◌, ℕ, List, IsTrue, Option, None, Some}
+use Rattle.std.specs.Prelude.{◌≡◌, ◌⊎◌, ℕ, List, IsTrue, Option, None, Some}
 use Rattle.std.specs.List.{list_all}
 use Rattle.js_model.specs.declared.stream.State.{State}
 use Rattle.js_model.specs.Lasting.{lasting}
@@ -24,14 +24,14 @@ pub record IsBacked (disk : Disk) (store : StoreState) (waiting : List Effect) (
   pub is_base : IsBase store (durable_of base) disk
   pub waits : Waits (durable_of base) waiting state
 
--- each image that a crash now may leave holds some state
-abbrev pub AllHoldSome : Disk → Type 0
-AllHoldSome disk = (image : Image) → IsImage disk image → (state : State) × holds image state
+-- each image that a crash now may leave holds a state from which what waits leads to what stands, or what outlives a crash of the latter
+abbrev pub IsLeftByBoth : Disk → List Effect → State → Type 0
+IsLeftByBoth disk waiting state = (image : Image) → IsImage disk image → (b : State) × holds image b × (Waits (durable_of b) waiting state ⊎ (b ≡ lasting state))
 
 -- of a place that goes on, and of one that is stopped
 abbrev pub IsOnDisk : Option ℕ → Disk → StoreState → List Effect → State → Type 0
 IsOnDisk None disk store waiting state = IsBacked disk store waiting state
-IsOnDisk (Some count) disk store waiting state = AllHoldSome disk
+IsOnDisk (Some count) disk store waiting state = IsLeftByBoth disk waiting state
 
 -- what stands can be committed, with records that a log may have; and where the disk is told, it is on it
 pub record IsSoundPlace (told : Type 0) (disk : Disk) (store : StoreState) (waiting : List Effect) (stopped : Option ℕ) (state : State) : Type 0 where

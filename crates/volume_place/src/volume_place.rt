@@ -12,7 +12,7 @@ ghost use Rattle.place_engine.specs.Places.{IsTold};
 ghost use Rattle.place_engine.specs.Shown.{IsShown};
 ghost use Rattle.place_engine.specs.Stepping.{Elapses, IsKept, Steps};
 ghost use Rattle.volume_place.specs.Bringing.{Brings, Confirms};
-ghost use Rattle.volume_place.specs.Images.{Keeps, clock, holds, left};
+ghost use Rattle.volume_place.specs.Images.{Keeps, base, clock, holds, left, reads};
 ghost use Rattle.volume_place.specs.Making.{KeepsStore, RecordsDelivery, RecordsEvent};
 ghost use Rattle.volume_place.specs.Opening.{fault_of, opens, refuses};
 ghost use Rattle.volume_place.specs.Seeing.{seen_of};
@@ -83,6 +83,7 @@ impl<V: Vol> VolumePlace<V> {
         requires told { IsTold event.now.what }
         requires proper { IsTrue (is_proper event.now) }
         requires kept { event.now.incarnation ≡ kept_incarnation self.old.state }
+        requires going { self.old.stopped ≡ None }
         ensures answers { IfOk result (λ reply. PlaceAnswers self.old.state event.now.what now reply outs.old outs.new self.new.state) }
         ensures shown { IfOk result IsShown }
         ensures err { IfErr result (λ left. LeftBy left self.old.state now outs.old outs.new self.new.state) }
@@ -104,6 +105,7 @@ impl<V: Vol> VolumePlace<V> {
         listening: &Listening,
         outs: &mut Outs,
     ) -> Result<Option<Delivery>, Left>
+        requires going { self.old.stopped ≡ None }
         ensures delivers { MayDeliver result self.old.state now listening.now outs.old outs.new self.new.state }
         ensures recorded { RecordsDelivery result now self.old self.new }
         ensures rests { KeepsStore self.old self.new }
@@ -129,7 +131,6 @@ impl<V: Vol> VolumePlace<V> {
         if self.waiting.is_empty() {
             return Ok(());
         }
-        self.vol.law_bytes();
         match self
             .store
             .commit(self.alloc, &mut self.vol, self.waiting.as_slice())
@@ -175,7 +176,7 @@ impl<V: Vol> VolumePlace<V> {
 
 impl<V: Vol> Place for VolumePlace<V> {
     ghost use Rattle.std.specs.Prelude.{refl};
-    ghost use Rattle.volume_place.specs.Laws.{earlier_left, keeps_more, keeps_none, only_held};
+    ghost use Rattle.volume_place.specs.Laws.{all_lasts, earlier_left, keeps_later, keeps_more, keeps_none, only_held, opens_read, refuses_read};
 
     type Vol = V;
 
@@ -187,11 +188,15 @@ impl<V: Vol> Place for VolumePlace<V> {
 
     ghost keeps_vol = { Keeps V.disk V.faults };
 
+    ghost reads = { reads V.told V.disk };
+
     ghost left = { left V.told V.disk };
 
     ghost clock = { clock V.disk };
 
     ghost faults = { V.faults };
+
+    ghost base = { base V.told V.disk };
 
     ghost opens = { opens V.told V.disk };
 
@@ -314,13 +319,21 @@ impl<V: Vol> Place for VolumePlace<V> {
 
     ghost holds_one = { only_held };
 
-    ghost bases = { λ place b is. is };
+    ghost holds_lasting = { all_lasts };
 
-    ghost leaves = { λ place t image is. is };
+    ghost opens_read = { opens_read V.told V.disk };
+
+    ghost refuses_read = { refuses_read V.told V.disk };
+
+    ghost bases = { λ place b. (λ is. is, λ is. is) };
+
+    ghost leaves = { λ place t image. (λ is. is, λ is. is) };
 
     ghost earlier = { earlier_left V.told V.disk V.clocked };
 
     ghost stands = { λ place. (refl, refl) };
+
+    ghost keeps_later = { keeps_later V.disk V.faults };
 
     ghost keeps_none = { keeps_none V.disk V.faults };
 
