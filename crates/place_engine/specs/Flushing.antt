@@ -18,7 +18,6 @@ pub record Flushed (old new : Seen) : Type 0 where
   pub keeps : KeepsState old new
   pub fits : ¬ old.is_full old.waiting
   pub goes : new.place.stopped ≡ None
-  pub fits : ¬ old.is_full old.waiting
   pub flushed : IsFlushed new
 
 -- nothing was committed
