@@ -1,5 +1,5 @@
 -- A stream can be restored to what outlived a crash.
-use Rattle.std.proofs.Common.{◌≡◌, ℕ, ◌+◌, ◌≤◌, ◌<◌, ◌^◌, true, List, [], ◌∷◌, length, map, subst, arith}
+use Rattle.std.proofs.Common.{◌≡◌, ℕ, ◌+◌, ◌≤◌, ◌^◌, true, List, [], ◌∷◌, length, subst, arith}
 use Rattle.std.specs.Prelude.{All, IsTrue}
 use Rattle.std.proofs.lemmas.Bool.{and_parts, leb-true}
 use Rattle.std.proofs.lemmas.List.Elements.{All-nil, All-cons, All-weaker}
@@ -13,7 +13,7 @@ use Rattle.js_model.specs.declared.stream.State.TheVariants.{Live}
 use Rattle.js_model.specs.declared.consumer.Consumer.{Consumer}
 use Rattle.js_model.specs.Configs.{is_consumer_config, is_name}
 use Rattle.js_model.specs.Streams.{seqs, pending_seqs}
-use Rattle.js_model.proofs.Members.{all_in, find_none}
+use Rattle.js_model.proofs.Members.{find_none}
 use Rattle.model_laws.specs.Sound.{AreDifferent, AreStored, IsWellStoredConsumer}
 use Rattle.model_laws.specs.Bounds.{IsWritableMessage}
 use Rattle.model_laws.proofs.Whole.{all_from_in}
