@@ -28,7 +28,7 @@ pub enum Failing {
 }
 
 /// The volume as it reads, of which such calls fail.
-fn failing(alloc: Global, start: &MemVol, calls: Failing) -> Result<MemVol, Fail> {
+fn volume_failing(alloc: Global, start: &MemVol, calls: Failing) -> Result<MemVol, Fail> {
     let mut once = List::new(alloc);
     let stop = match calls {
         Failing::Once(number) => {
@@ -64,11 +64,19 @@ pub fn attempt(
     deed: Deed,
     calls: Failing,
 ) -> Result<(Came, MemVol), Fail> {
-    let vol = failing(alloc, start, calls)?;
+    let vol = volume_failing(alloc, start, calls)?;
     match Kept::open(alloc, vol) {
         Ok(kept) => Ok(acted(kept, deed)),
         Err((OpenFault::Fault, vol)) => Ok((Came::Unopened, vol)),
         Err((_, vol)) => Ok((Came::Wrong, vol)),
+    }
+}
+
+/// How many calls an opening of the volume makes.
+pub fn opening_calls(alloc: Global, start: &MemVol) -> Result<u64, Fail> {
+    match Kept::open(alloc, start.image(1)?) {
+        Ok(kept) => Ok(kept.into_vol().calls().len() as u64),
+        Err((fault, _)) => Err(fault.into()),
     }
 }
 

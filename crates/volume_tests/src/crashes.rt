@@ -1,18 +1,22 @@
 //! Each deed, while each call of the volume fails in turn, and the volume stops at each call.
 
-use crate::attempts::{Came, Failing, attempt, reopened};
+use crate::attempts::{Came, Failing, attempt, opening_calls, reopened};
 use crate::kept::{Deed, Told};
 use std::alloc::Global;
 use std::process::Abort;
 use std::test::Fail;
 use vol_disk::MemVol;
 
-/// What is done, one after the other.
-const DEEDS: [Deed; 9] = [
+/// A stream, a consumer and two messages.
+const MESSAGES: [Deed; 4] = [
     Deed::Make,
     Deed::MakeConsumer,
     Deed::Publish,
     Deed::PublishWithId,
+];
+
+/// What is done with these.
+const CHANGES: [Deed; 5] = [
     Deed::Deliver,
     Deed::Acknowledge,
     Deed::Update,
@@ -38,7 +42,7 @@ fn holds_one(
     before: Told,
     after: Told,
 ) -> Result<bool, Fail> {
-    for pick in [0, 1, 2, 5, 77] {
+    for pick in [0, 1, 5] {
         let told = reopened(alloc, vol, pick)?;
         let fits = match came {
             Came::Done => told == after,
@@ -69,18 +73,20 @@ impl Turn {
     }
 }
 
-/// Does it again and again, while each call of the volume fails in turn, until it is answered. How often it was not.
+/// Does it again and again, while each call of the volume from one on fails in turn, until it is answered. How many of them did.
 fn failures(
     rt: &impl Abort,
     alloc: Global,
     start: &MemVol,
     deed: Deed,
     turn: Turn,
+    first: u64,
 ) -> Result<u64, Fail> {
     let before = reopened(alloc, start, 1)?;
     let (_, after) = next(alloc, start, deed)?;
     for number in 0..MANY {
-        let (came, vol) = attempt(alloc, start, deed, turn.calls(number))?;
+        let calls = turn.calls(first.saturating_add(number));
+        let (came, vol) = attempt(alloc, start, deed, calls)?;
         assert!(rt; holds_one(alloc, &vol, came, before, after)?, "{deed:?} {number}");
         if came == Came::Done {
             return Ok(number);
@@ -90,23 +96,64 @@ fn failures(
 }
 
 /// Does one deed after the other so. Each makes calls that can fail, and is answered once none does.
-fn check_deeds(rt: &impl Abort, alloc: Global, turn: Turn) -> Result<(), Fail> {
-    let mut vol = MemVol::new(alloc);
-    for deed in DEEDS {
-        let count = failures(rt, alloc, &vol, deed, turn)?;
+fn check_deeds(
+    rt: &impl Abort,
+    alloc: Global,
+    start: MemVol,
+    deeds: &[Deed],
+    turn: Turn,
+) -> Result<MemVol, Fail> {
+    let mut vol = start;
+    for deed in deeds {
+        let first = opening_calls(alloc, &vol)?;
+        let count = failures(rt, alloc, &vol, *deed, turn, first)?;
         assert!(rt; 0 < count && count < MANY, "{deed:?}: {count}");
+        let (then, _) = next(alloc, &vol, *deed)?;
+        vol = then;
+    }
+    Ok(vol)
+}
+
+/// A volume with the messages.
+fn with_messages(alloc: Global) -> Result<MemVol, Fail> {
+    let mut vol = MemVol::new(alloc);
+    for deed in MESSAGES {
         let (then, _) = next(alloc, &vol, deed)?;
         vol = then;
+    }
+    Ok(vol)
+}
+
+#[test]
+fn volume_that_fails_is_not_opened(rt: HostRuntime) -> Result<(), Fail> {
+    let alloc = rt.alloc();
+    for turn in [Turn::Once, Turn::From] {
+        let vol = MemVol::new(alloc);
+        let calls = opening_calls(alloc, &vol)?;
+        let count = failures(&rt, alloc, &vol, Deed::Make, turn, 0)?;
+        assert!(&rt; calls < count && count < MANY);
     }
     Ok(())
 }
 
 #[test]
-fn crash_leaves_what_was_answered(rt: HostRuntime) -> Result<(), Fail> {
-    check_deeds(&rt, rt.alloc(), Turn::From)
+fn crash_leaves_the_messages_that_were_answered(rt: HostRuntime) -> Result<(), Fail> {
+    let alloc = rt.alloc();
+    let _ = check_deeds(&rt, alloc, MemVol::new(alloc), &MESSAGES, Turn::From)?;
+    Ok(())
+}
+
+#[test]
+fn crash_leaves_the_changes_that_were_answered(rt: HostRuntime) -> Result<(), Fail> {
+    let alloc = rt.alloc();
+    let _ = check_deeds(&rt, alloc, with_messages(alloc)?, &CHANGES, Turn::From)?;
+    Ok(())
 }
 
 #[test]
 fn failed_call_stops_the_place(rt: HostRuntime) -> Result<(), Fail> {
-    check_deeds(&rt, rt.alloc(), Turn::Once)
+    let alloc = rt.alloc();
+    let vol = check_deeds(&rt, alloc, MemVol::new(alloc), &MESSAGES, Turn::Once)?;
+    let _ = check_deeds(&rt, alloc, vol, &CHANGES, Turn::Once)?;
+    Ok(())
 }
