@@ -97,10 +97,8 @@ fn ended_by(fault: PlaceFault) -> Ending
 {
     match fault {
         PlaceFault::NoMemory(_) => Ending::Short,
-        PlaceFault::StoreFault
-        | PlaceFault::Full
-        | PlaceFault::Stopped(_)
-        | PlaceFault::Gone(_) => Ending::Broke,
+        PlaceFault::StoreFault | PlaceFault::Full | PlaceFault::Stopped(_) | PlaceFault::Gone(_) =>
+            Ending::Broke,
         PlaceFault::Worn { refused: _ } => Ending::WornOut,
     }
 }
