@@ -48,7 +48,7 @@ standing router catalog places vols ticked last turn = record {
 
 -- its places, and their volumes
 abbrev pub row_of : {V : Type 0} → Standing V → Row V
-row_of ground = record { places = ground.scene.world.places; vols = ground.vols }
+row_of s = record { places = s.scene.world.places; vols = s.vols }
 
 -- entries lead from the one ground to the other, whose volumes are what the calls of its places may make of those from before; and of what the entries made at
 -- each place a crash may leave a beginning
