@@ -74,6 +74,12 @@ none_failed from (Some (Err fault) ∷ more) n told h e = absurd (cc)
 
 module _ {P V : Type 0} (seen : P → Seen) (vol : P → V) (holds : Image → State → Type 0) (reads : V → Image → Type 0) (left : V → ℕ → Image → Type 0) (clock faults : V → ℕ)
     (base : Option ℕ → V → State → Type 0) (opens : V → State → Type 0) (refuses : V → OpenFault → Type 0) (keeps : V → V → Type 0) where
+  abbrev OpensOn : V → P → Type 0
+  OpensOn = opening.OpensOn seen vol holds reads left clock faults base opens refuses keeps
+
+  abbrev place_of : P → PlaceIn
+  place_of p = (seen p).place
+
   abbrev EndsAt : P → End V → Type 0
   EndsAt = closing.EndsAt seen vol holds reads left clock base keeps
 
@@ -91,16 +97,15 @@ module _ {P V : Type 0} (seen : P → Seen) (vol : P → V) (holds : Image → S
     pub outlives : LawRunOutlives seen vol holds reads left clock faults base opens refuses keeps
     outlives stream status v0 v1 old new run number before opened there is =
         let o = run.opens in
-        let OpensOn = opening.OpensOn seen vol holds reads left clock faults base opens refuses keeps in
         let entries = run_entries run.desk.scene.world.places stream run.after.scene run.outcome.status old (record new { sink = run.sink }) run.attended.attends in
         let first = zip_at OpensOn v0 o.row number before o.opened there in
         let p = first.y in
         let places : run.desk.scene.world.places ≡ places_by seen o.row = ap (λ (s : Scene). s.world.places) o.scene in
-        let same : opened ≡ (seen p).place = same_at run.desk.scene.world.places (places_by seen o.row) number opened (seen p).place places is (map_at (λ q. (seen q).place) o.row number p first.is_there) in
-        let on : slice_get run.desk.vols number ≡ Some (vol p) = ap (λ vs. slice_get vs number) o.vols ∙ map_at vol o.row number p first.is_there in
+        let same : opened ≡ (seen p).place = same_at run.desk.scene.world.places (places_by seen o.row) number opened (seen p).place places is (map_at place_of o.row number p first.is_there) in
+        let on : slice_get run.desk.vols number ≡ Some (vol p) = ap (λ (vs : List V). slice_get vs number) o.vols ∙ map_at vol o.row number p first.is_there in
         let m = run.attended.made.2 number opened (vol p) is on in
         let c = run.closes in
-        let last = from_at (λ q. (seen q).place) c.row number m.after (ap (λ ps. slice_get ps number) c.stand ∙ m.is_there) in
+        let last = from_at place_of c.row number m.after (ap (λ (ps : List PlaceIn). slice_get ps number) c.stand ∙ m.is_there) in
         let q = last.x in
         let kept : vol q ≡ m.end = same_at (map vol c.row) run.after.vols number (vol q) m.end c.before (map_at vol c.row number q last.is_there) m.is_vol in
         let ends = zip_at EndsAt c.row c.closes.ends number q c.closes.ended last.is_there in
@@ -120,11 +125,11 @@ module _ {P V : Type 0} (seen : P → Seen) (vol : P → V) (holds : Image → S
           after = m.after;
           end = end.vol;
           is_there = m.is_there;
-          is_vol = ap (λ vs. slice_get vs number) (run.vols ∙ c.closes.after) ∙ map_at (λ (e : End V). e.vol) c.closes.ends number end ends.is_there;
-          outlives = λ held t image le there.
+          is_vol = ap (λ (vs : List V). slice_get vs number) (run.vols ∙ c.closes.after) ∙ map_at (λ (e : End V). e.vol) c.closes.ends number end ends.is_there;
+          outlives = λ held t image le is_left.
               law ends.holds.stopped (clock before) (timed_at number entries) opened.state m.after.state (vol p) end.vol (since held)
               (subst (λ (o : Option ℕ). Outlasts holds left clock (base o (vol p)) (base ends.holds.stopped end.vol) (timed_at number entries) opened.state m.after.state (vol p) end.vol) going all)
-              t image le there;
+              t image le is_left;
           flushed = λ none goes.
               let sound = none_failed 0 (map (λ (e : End V). e.told) c.closes.ends) number end.told (sym c.closes.failed_is ∙ none) (map_at (λ (e : End V). e.told) c.closes.ends number end ends.is_there) in
               subst (λ (a : PlaceIn). AllHold holds reads left clock end.vol (lasting a.state)) last.gives

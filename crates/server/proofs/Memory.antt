@@ -2,9 +2,8 @@
 use Rattle.std.proofs.Common.{◌≡◌, ◌<◌, ◌-◌, ◌^◌, ◌+◌, ℕ, zero, suc, true, List, [], ◌∷◌, Option, Some, None, Result, Ok, Err, length, map, replicate, refl, ap, sym, subst, ◌∙◌, arith}
 use Rattle.std.specs.List.{All, AllZip}
 use Rattle.std.proofs.lemmas.List.Elements.{All-cons, All-nil, same_from_all_zip}
-use Rattle.js_model.specs.declared.stream.State.{State}
-use Rattle.js_model.specs.declared.stream.State.TheVariants.{Vacant}
-use Rattle.js_model.specs.PlaceStates.{VolumeAt, PlaceIn, in_memory, untold, vacant_place}
+use Rattle.js_base.specs.Bytes.{Bytes}
+use Rattle.js_model.specs.PlaceStates.{PlaceIn, in_memory, vacant_place}
 use Rattle.place_engine.specs.InMemory.{Contents, bases_on_nothing, counts_none, holds_nothing, leaves_nothing, opens_vacant, reads_nothing, refuses_in_memory}
 use Rattle.place_engine.specs.declared.faults.PlaceFault.{PlaceFault}
 use Rattle.place_engine.specs.declared.faults.PlaceFault.TheVariants as faults
@@ -62,7 +61,9 @@ kept_nothing (suc count) zero = refl
 kept_nothing (suc count) (suc n) = kept_nothing count n
 
 no_conflict : (count first second : ℕ) → conflict_at (map kept_in (replicate count vacant_place)) first second ≡ true → ⊥
-no_conflict count first second h = let k : conflicts None (kept_at (map kept_in (replicate count vacant_place)) second) ≡ true = rw (kept_nothing count first) at h in cc
+no_conflict count first second h =
+    let other = kept_at (map kept_in (replicate count vacant_place)) second in
+    let clash : conflicts None other ≡ true = subst (λ (one : Option (Bytes × List Bytes)). conflicts one other ≡ true) (kept_nothing count first) h in cc
 
 pub may_open : {V : Type 0} → LawMayOpen V
 may_open vols (hubs.Open place fault back) h = ap open_status h.refused.refused
@@ -140,7 +141,7 @@ placeless stream v0 v1 old new (Attended h) =
 -- ---- the volumes
 
 pub unchanged : {V : Type 0} → LawUnchanged V
-unchanged stream status v0 v1 old new run =
-    same_from_all_zip (Keeps {V = _}) v0 v1
+unchanged {V = V} stream status v0 v1 old new run =
+    same_from_all_zip (Keeps {V = V}) v0 v1
     (kept place_of volume_of holds_nothing reads_nothing leaves_nothing counts_none counts_none bases_on_nothing opens_vacant refuses_in_memory Keeps (λ v. refl) (λ a b c first more. more ∙ first) stream status v0 v1 old new run)
     (λ a b same. same)

@@ -128,16 +128,30 @@ fn serve_folder(rt: &HostRuntime, words: &[String], dir: &str) -> Result<u8, All
     Ok(serve_over::<VolumePlace<DirVol>>(rt, words, vols))
 }
 
-/// Serves what the command line asks for, and returns the status. One that is refused has no volumes.
+/// Serves over places in memory, and returns the status.
+fn serve_memory(rt: &HostRuntime, words: &[String]) -> Result<u8, AllocError> {
+    let vols = vec![in rt.alloc(); (); VOLUMES as usize]?;
+    Ok(serve_over::<MemoryPlace<()>>(rt, words, vols))
+}
+
+/// Prints that the command line is refused, and returns the status. No volumes are made for it.
+fn refuse_words(rt: &HostRuntime, words: &[String]) -> u8 {
+    serve_over::<MemoryPlace<()>>(rt, words, Vec::new(rt.alloc()))
+}
+
+/// Serves what the command line asks for, and returns the status.
 fn serve(rt: &HostRuntime, words: &[String]) -> Result<u8, AllocError> {
-    let alloc = rt.alloc();
-    match read_words(alloc, words) {
-        Ok(Command::Pipe { dir: Some(dir), .. }) => serve_folder(rt, words, dir.as_str()),
-        Ok(Command::Pipe { dir: None, .. }) => {
-            let vols = vec![in alloc; (); VOLUMES as usize]?;
-            Ok(serve_over::<MemoryPlace<()>>(rt, words, vols))
-        }
-        Err(WordsFault::Words) => { Ok(serve_over::<MemoryPlace<()>>(rt, words, Vec::new(alloc))) }
+    match read_words(rt.alloc(), words) {
+        Ok(
+            Command::Pipe {
+                dir,
+                stream: _stream,
+            },
+        ) => match dir {
+            Some(dir) => serve_folder(rt, words, dir.as_str()),
+            None => serve_memory(rt, words),
+        },
+        Err(WordsFault::Words) => Ok(refuse_words(rt, words)),
         Err(WordsFault::NoMemory) => Err(AllocError),
     }
 }
