@@ -49,8 +49,7 @@ module _ {V : Type 0} (told : Type 0) (disk : V → Disk) (faults : V → ℕ) (
 
     now : (o : Option ℕ) → OnDisk o → (image : Image) → left told disk place.vol (clock disk place.vol) image → (b : State) × holds image b × base told disk o place.vol b
     now None on_disk image is =
-        let k = on_disk is.0 in
-        (
+        let k = on_disk is.0 in (
           k.base,
           left_base (disk place.vol) place.store place.waiting place.state k image (clocked.only_now image is.1),
           (is.0, read_base (disk place.vol) place.store place.waiting place.state k),

@@ -149,12 +149,7 @@ impl<V: Vol> VolumePlace<V> {
 
     /// Commits all that waits once something was made, which was refused or not; before it there were so many outputs, to which they are cut back
     /// if the place is stopped.
-    fn confirm(
-        &mut self,
-        refused: bool,
-        count: usize,
-        outs: &mut Outs,
-    ) -> Result<(), PlaceFault>
+    fn confirm(&mut self, refused: bool, count: usize, outs: &mut Outs) -> Result<(), PlaceFault>
         requires going { self.old.stopped ≡ None }
         ensures confirms { Confirms refused count result (seen_of V.told V.disk V.faults self.old) (seen_of V.told V.disk V.faults self.new) outs.old outs.new }
         ensures time { Elapses holds (seen_of V.told V.disk V.faults self.old) (seen_of V.told V.disk V.faults self.new) }

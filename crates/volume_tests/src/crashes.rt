@@ -87,7 +87,10 @@ fn failures(
     for number in 0..MANY {
         let calls = turn.calls(first.saturating_add(number));
         let (came, vol) = attempt(alloc, start, deed, calls)?;
-        assert!(rt; holds_one(alloc, &vol, came, before, after)?, "{deed:?} {number}");
+        assert!(rt;
+            holds_one(alloc, &vol, came, before, after)?,
+            "{deed:?} {number}"
+        );
         if came == Came::Done {
             return Ok(number);
         }
