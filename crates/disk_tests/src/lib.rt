@@ -9,6 +9,8 @@ mod contents;
 #[cfg(test)]
 mod folder;
 #[cfg(test)]
+mod folder_lock;
+#[cfg(test)]
 mod stopped_appends;
 #[cfg(test)]
 mod volumes;
