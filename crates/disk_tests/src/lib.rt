@@ -5,6 +5,8 @@
 #[cfg(test)]
 mod append_calls;
 #[cfg(test)]
+mod blind;
+#[cfg(test)]
 mod contents;
 #[cfg(test)]
 mod folder;
@@ -12,5 +14,7 @@ mod folder;
 mod folder_lock;
 #[cfg(test)]
 mod stopped_appends;
+#[cfg(test)]
+mod stores;
 #[cfg(test)]
 mod volumes;
