@@ -11,7 +11,7 @@ mod contents;
 #[cfg(test)]
 mod folder;
 #[cfg(test)]
-mod folder_lock;
+mod locked_folder;
 #[cfg(test)]
 mod stopped_appends;
 #[cfg(test)]

@@ -1,14 +1,19 @@
 //! `stream_store`: a store that is opened and committed to over volumes in memory, each of whose calls fails once, and what is found in what a crash leaves.
 
+ghost use Rattle.std.specs.Prelude.{IfOk, IsTrue};
+ghost use Rattle.std.specs.List.{list_all};
+ghost use Rattle.op_records.specs.Allowed.{is_record};
+
 use crate::blind::Blind;
 use crate::contents::holds;
+use effects::Effect;
 use js_base::NoMemory;
 use op_records::{law_records, read_records};
 use std::alloc::Global;
 use std::process::Abort;
 use std::test::Fail;
 use stream_store::{CommitFault, OpenFault, Store};
-use vol_disk::{Deed, MemVol, Vol};
+use vol_disk::{Deed, Failed, MemVol, Vol};
 
 /// The configuration of a stream.
 const CONFIG: &[u8] = br#"{"discard":"old","duplicate_window":120000000000,"max_age":0,"max_bytes":-1,"max_consumers":-1,"max_msg_size":-1,"max_msgs":-1,"max_msgs_per_subject":-1,"name":"A","num_replicas":1,"retention":"limits","storage":"file","subjects":["A"]}"#;
@@ -39,10 +44,20 @@ enum Ended {
     Failed,
 }
 
+/// The records that the bytes spell.
+fn records(alloc: Global, bytes: &[u8]) -> Result<Vec<Effect>, Fail>
+    ensures allowed { IfOk result (λ effects. IsTrue (list_all is_record effects.items)) }
+{
+    if bytes.len() >= 1 << 32 {
+        return Err(Failed)?;
+    }
+    law_records();
+    Ok(read_records(alloc, bytes)?)
+}
+
 /// Commits the records that the bytes spell.
 fn commit(alloc: Global, store: &mut Store, vol: &mut Blind, bytes: &[u8]) -> Result<Ended, Fail> {
-    let effects = read_records(alloc, bytes)?;
-    law_records();
+    let effects = records(alloc, bytes)?;
     match store.commit(alloc, vol, effects.as_slice()) {
         Ok(()) => Ok(Ended::Done),
         Err(CommitFault::Fault) => Ok(Ended::Failed),
@@ -162,6 +177,44 @@ fn crash_leaves_a_commit_whole_or_not_at_all(rt: HostRuntime) -> Result<(), Fail
         check_images(&rt, alloc, ended, &vol)?;
         let (ended, vol) = third(alloc, &[], Some(at))?;
         check_images(&rt, alloc, ended, &vol)?;
+    }
+    Ok(())
+}
+
+/// The bytes of the log of a volume.
+fn log_bytes(alloc: Global, vol: &mut MemVol) -> Result<Vec<u8>, Fail> {
+    let len = vol.len(0)?;
+    let mut bytes = vec![in alloc; 0u8; len as usize]?;
+    vol.read_at(0, 0, &mut bytes)?;
+    Ok(bytes)
+}
+
+/// Opens a volume with a log of these bytes, and checks that it opens, or that the log is damaged or of another version.
+fn check_opening(rt: &impl Abort, alloc: Global, bytes: &[u8], at: usize) -> Result<(), Fail> {
+    let mut vol = MemVol::new(alloc);
+    vol.write_at(0, 0, bytes)?;
+    match Store::open(alloc, &mut vol) {
+        Ok(_) | Err(OpenFault::UnknownVersion(_)) => {}
+        Err(OpenFault::Damaged { file, at: told }) => {
+            assert_eq!(rt; file, 0, "{at}");
+            assert!(rt; told <= bytes.len() as u64, "{at}");
+        }
+        Err(fault) => Err(fault)?,
+    }
+    Ok(())
+}
+
+#[test]
+fn log_with_another_byte_or_end_is_opened_or_refused(rt: HostRuntime) -> Result<(), Fail> {
+    let alloc = rt.alloc();
+    let whole = log_bytes(alloc, &mut with_messages(alloc, 2)?)?;
+    for (at, byte) in whole.iter().enumerate() {
+        for other in [0, 1, 255, byte ^ 1] {
+            let mut bytes = Vec::from_slice(alloc, whole.as_slice())?;
+            bytes[at] = other;
+            check_opening(&rt, alloc, bytes.as_slice(), at)?;
+        }
+        check_opening(&rt, alloc, whole.as_slice().get(..at).unwrap_or_default(), at)?;
     }
     Ok(())
 }
