@@ -12,7 +12,7 @@ use Rattle.js_model.specs.Events.{kept_incarnation}
 use Rattle.js_model.specs.Ready.{some_ready}
 use Rattle.effects.specs.Effects.{delivery_effects}
 use Rattle.effects.specs.declared.effect.Effect.{Effect}
-use Rattle.place_engine.specs.Stepping.{Image, Seen, Elapses, IsPutOff, IsStopped, IsUndone, KeepsBase, MayKeepBase, MayPutOff, Passes, Rests}
+use Rattle.place_engine.specs.Stepping.{Image, Seen, Elapses, IsPutOff, IsStopped, IsUndone, KeepsBase, LeavesVolume, MayKeepBase, MayPutOff, Passes, Rests}
 use Rattle.place_engine.specs.declared.faults.PlaceFault.{PlaceFault}
 use Rattle.place_engine.specs.declared.faults.PlaceFault.TheVariants.{NoMemory, StoreFault, Full, Stopped, Gone, Worn}
 use Rattle.place_engine.specs.declared.faults.Left.TheVariants.{Nothing, Ticked, Unsaid}
@@ -54,6 +54,7 @@ pub record HidesDelivery (now : ℕ) (listening : List Bytes) (old new : Seen) (
   pub goes : new.place.stopped ≡ None
   pub outs : after ≡ before ++ sent
   pub put_off : IsPutOff (delivery_effects old.place.state now delivery new.place.state) old new
+  pub volume : LeavesVolume old new
 
 -- it is made and not committed, since the numbers of the store's generations are used up
 pub record WearsDelivery (now : ℕ) (listening : List Bytes) (old new : Seen) (before after : List Out) : Type 0 where
@@ -80,6 +81,7 @@ pub record FillsDelivery (now : ℕ) (listening : List Bytes) (old new : Seen) (
   pub stops : new.place.stopped ≡ Some new.place.volume.faults
   pub cause : old.is_full (batch_with now delivery old new)
   pub base : KeepsBase old new
+  pub volume : LeavesVolume old new
   pub outs : after ≡ before
 
 abbrev pub EndsDelivery : Result (Option Delivery) PlaceFault → ℕ → List Bytes → Seen → Seen → List Out → List Out → Type 0

@@ -2,7 +2,7 @@
 use Rattle.std.specs.Prelude.{◌≡◌, ◌-◌, ◌^◌, [], Option, None, Some, Result, Ok, Err}
 use Rattle.js_base.specs.Causes.{Rose}
 use Rattle.js_model.specs.declared.stream.State.{State}
-use Rattle.place_engine.specs.Stepping.{Image, Seen, Elapses, IsFlushed, IsStopped, KeepsBase, MayKeepBase, Rests}
+use Rattle.place_engine.specs.Stepping.{Image, Seen, Elapses, IsFlushed, IsStopped, KeepsBase, LeavesVolume, MayKeepBase, Rests}
 use Rattle.place_engine.specs.declared.faults.PlaceFault.{PlaceFault}
 use Rattle.place_engine.specs.declared.faults.PlaceFault.TheVariants.{NoMemory, StoreFault, Full, Stopped, Gone, Worn}
 use Rattle.place_engine.specs.declared.faults.Left.TheVariants.{Nothing, Ticked, Unsaid}
@@ -13,9 +13,10 @@ pub record KeepsState (old new : Seen) : Type 0 where
   pub state : new.place.state ≡ old.place.state
   pub stored : new.place.stored ≡ old.place.stored
 
--- all that was made is on the volume, and nothing waits
+-- all that was made is on the volume, and nothing waits; the log had room for what waited
 pub record Flushed (old new : Seen) : Type 0 where
   pub keeps : KeepsState old new
+  pub fits : ¬ old.is_full old.waiting
   pub goes : new.place.stopped ≡ None
   pub flushed : IsFlushed new
 
@@ -23,6 +24,7 @@ pub record Flushed (old new : Seen) : Type 0 where
 pub record Unflushed (old new : Seen) : Type 0 where
   pub going : old.place.stopped ≡ None
   pub rests : Rests old new [] []
+  pub volume : LeavesVolume old new
 
 -- the volume failed, and the place is stopped at the count that its volume has then
 pub record FailsFlush (old new : Seen) : Type 0 where
@@ -38,6 +40,7 @@ pub record FillsFlush (old new : Seen) : Type 0 where
   pub stops : new.place.stopped ≡ Some new.place.volume.faults
   pub cause : old.is_full old.waiting
   pub base : KeepsBase old new
+  pub volume : LeavesVolume old new
 
 -- nothing was committed, since the numbers of the store's generations are used up
 pub record WearsFlush (old new : Seen) : Type 0 where

@@ -1,5 +1,5 @@
 -- A place in memory: what is seen of it, and why a call fails there.
-use Rattle.std.specs.Prelude.{◌≡◌, ◌≢◌, ℕ, true, []}
+use Rattle.std.specs.Prelude.{◌≡◌, ◌≢◌, ℕ, true, [], Option}
 use Rattle.js_model.specs.declared.stream.State.{State}
 use Rattle.js_model.specs.declared.stream.State.TheVariants.{Vacant, Live}
 use Rattle.js_model.specs.declared.event.Event.{Event}
@@ -36,7 +36,13 @@ opens_vacant vol state = state ≡ Vacant 0
 abbrev pub refuses_in_memory : {V : Type 0} → V → OpenFault → Type 0
 refuses_in_memory vol fault = fault ≡ opening.NoMemory
 
--- nothing is told of what a crash leaves of its volume, of its moment and of its faults
+-- nothing is told of what reads of its volume give and what it holds, of what a crash leaves of it, of its moment and of its faults
+abbrev pub reads_nothing : {V : Type 0} → V → Image → Type 0
+reads_nothing vol image = ⊥
+
+abbrev pub bases_on_nothing : {V : Type 0} → Option ℕ → V → State → Type 0
+bases_on_nothing stopped vol b = ⊥
+
 abbrev pub leaves_nothing : {V : Type 0} → V → ℕ → Image → Type 0
 leaves_nothing vol t image = ⊥
 

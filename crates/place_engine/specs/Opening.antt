@@ -7,26 +7,21 @@ use Rattle.model_laws.specs.Bounds.{IsBounded, IsWritable}
 use Rattle.model_laws.specs.Sound.{IsSound}
 use Rattle.place_engine.specs.Stepping.{Image, IsFlushed, Seen}
 
--- Of a kind of place: which state an image of a volume holds, what a crash of a volume at some moment from one on may have left of it, and its moment.
-module _ {V : Type 0} (holds : Image → State → Type 0) (left : V → ℕ → Image → Type 0) (clock : V → ℕ) where
-  -- a crash now may leave an image that holds this
-  pub record IsBaseOn (vol : V) (b : State) : Type 0 where
-    pub image : Image
-    pub is_left : left vol (clock vol) image
-    pub held : holds image b
+-- Of a kind of place: which state an image of a volume holds, the image that reads of a volume give, what a crash of it at some moment from one on may have
+-- left, and its moment.
+module _ {V : Type 0} (holds : Image → State → Type 0) (reads : V → Image → Type 0) (left : V → ℕ → Image → Type 0) (clock : V → ℕ) where
+  -- what reads give holds this, and so does each image that a crash now may leave
+  pub record AllHold (vol : V) (b : State) : Type 0 where
+    pub read : (image : Image) → reads vol image → holds image b
+    pub now : (image : Image) → left vol (clock vol) image → holds image b
 
-  -- each image that a crash now may leave holds this
-  abbrev pub AllHold : V → State → Type 0
-  AllHold vol b = (image : Image) → left vol (clock vol) image → holds image b
-
-  -- If whatever a crash could leave of the volume held this, then an image of a crash at some moment was left by then already, or holds it too.
+  -- If all of the volume held this, then an image of a crash at some moment was left by then already, or holds it too.
   abbrev pub KeepsHeld : V → State → (ℕ → Image → Type 0) → Type 0
   KeepsHeld vol b left_since =
       AllHold vol b → (t : ℕ) (image : Image) → t ≤ clock vol → left_since t image → left vol t image ⊎ holds image b
 
-  -- A place was opened on a volume of which this is told: what the volume opens to stands there, all of it outlives a crash and is on the volume, and it is
-  -- such as a run begins with: sound, within the bounds of a volume, with messages that can be written, and no more of them count against the store than
-  -- stand there.
+  -- A place was opened on a volume: what the volume opens to stands there, all of it outlives a crash and is on the volume, and it is such as a run begins
+  -- with: sound, within the bounds of a volume, with messages that can be written, and no more of them count against the store than stand there.
   pub record IsOpened (opens : V → State → Type 0) (vol : V) (s : Seen) : Type 0 where
     pub going : s.place.stopped ≡ None
     pub state : opens vol s.place.state

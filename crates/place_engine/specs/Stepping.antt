@@ -39,17 +39,19 @@ pub record Seen : Type 1 where
 
 -- ---- crashes
 
--- what waits leads from each base to what outlives a crash of what stands; of a stopped place it says nothing
+-- what waits leads from each base to what outlives a crash of what stands; on the volume of a stopped place the latter may be already
 abbrev pub Waits : Option ℕ → (State → Type 0) → List Effect → State → Type 0
 Waits None is_base waiting state = (b : State) → is_base b → Leads b waiting (lasting state)
-Waits (Some count) is_base waiting state = Unit {0}
+Waits (Some count) is_base waiting state = (b : State) → is_base b → Leads b waiting (lasting state) ⊎ (b ≡ lasting state)
 
--- between two calls: each image of a crash now holds a base, so that there is one wherever a crash may leave anything. A store has a block for one more
--- message if few count against it
+-- between two calls: each image of a crash now holds a base, so that there is one wherever a crash may leave anything, and one alone unless the place is
+-- stopped. A store has a block for one more message if few count against it, and its log has room if nothing is to be committed
 pub record IsKept (holds : Image → State → Type 0) (s : Seen) : Type 0 where
   pub waits : Waits s.place.stopped s.is_base s.waiting s.place.state
+  pub one : s.place.stopped ≡ None → (a b : State) → s.is_base a → s.is_base b → a ≡ b
   pub now : (image : Image) → s.left_since s.place.volume.moment image → (b : State) × holds image b × s.is_base b
   pub free : is_few s.place.stored ≡ true → (what : What) → s.room what ≡ true
+  pub fits_none : ¬ s.is_full []
   pub earlier : (t u : ℕ) (image : Image) → t ≤ u → s.left_since u image → s.left_since t image
 
 -- within a call: a crash leaves what it could leave before, or a base from before, or what outlives a crash of the state after it
@@ -129,12 +131,18 @@ pub record Passes (event : Event) (now : ℕ) (old new : Seen) (before after : L
   pub outs : after ≡ before ++ (answered old.place.state (tick_of event) now (old.room Tick)).outs
   pub may : MayPutOff (effects_of (tick_of event) now old) old new
 
+-- no call on it changes its volume
+pub record LeavesVolume (old new : Seen) : Type 0 where
+  pub volume : new.place.volume ≡ old.place.volume
+  pub images : (t : ℕ) (image : Image) → new.left_since t image → old.left_since t image
+
 -- it is made and not committed, and its reply is told to nobody
 pub record Hides (event : Event) (now : ℕ) (old new : Seen) (before after : List Out) : Type 0 where
   pub does : Does event now old new
   pub goes : new.place.stopped ≡ None
   pub outs : after ≡ before ++ (answered old.place.state event now (old.room event.what)).outs
   pub put_off : IsPutOff (effects_of event now old) old new
+  pub volume : LeavesVolume old new
 
 -- it is made, and of its reply only whether it is a refusal is told
 pub record Withholds (refused : Bool) (event : Event) (now : ℕ) (old new : Seen) (before after : List Out) : Type 0 where
@@ -160,12 +168,8 @@ pub record Fills (event : Event) (now : ℕ) (old new : Seen) (before after : Li
   pub stops : new.place.stopped ≡ Some new.place.volume.faults
   pub cause : old.is_full (batch_of event now old)
   pub base : KeepsBase old new
+  pub volume : LeavesVolume old new
   pub outs : after ≡ before
-
--- no call on it changes its volume
-pub record LeavesVolume (old new : Seen) : Type 0 where
-  pub volume : new.place.volume ≡ old.place.volume
-  pub images : (t : ℕ) (image : Image) → new.left_since t image → old.left_since t image
 
 -- nothing was made. The volume of a place that goes on may have been called
 pub record IsUndone (old new : Seen) (before after : List Out) : Type 0 where

@@ -7,7 +7,7 @@ ghost use Rattle.js_model.specs.Proper.{is_proper};
 ghost use Rattle.place_engine.specs.declared.faults.OpenFault.TheVariants as opening;
 ghost use Rattle.place_engine.specs.Delivering.{Delivers};
 ghost use Rattle.place_engine.specs.Flushing.{Flushes};
-ghost use Rattle.place_engine.specs.InMemory.{HasCause, IsWantOfMemory, counts_none, holds_nothing, leaves_nothing, opens_vacant, refuses_in_memory, seen_of};
+ghost use Rattle.place_engine.specs.InMemory.{HasCause, IsWantOfMemory, bases_on_nothing, counts_none, holds_nothing, leaves_nothing, opens_vacant, reads_nothing, refuses_in_memory, seen_of};
 ghost use Rattle.place_engine.specs.Opening.{IsOpened, IsUnopened};
 ghost use Rattle.place_engine.specs.Places.{IsTold};
 ghost use Rattle.place_engine.specs.Shown.{IsShown};
@@ -51,7 +51,11 @@ impl<V> Place for MemoryPlace<V> {
 
     ghost keeps_vol = { λ old new. new ≡ old };
 
+    ghost reads = { reads_nothing };
+
     ghost left = { leaves_nothing };
+
+    ghost base = { bases_on_nothing };
 
     ghost clock = { counts_none };
 
@@ -63,11 +67,11 @@ impl<V> Place for MemoryPlace<V> {
 
     /// It is vacant, and never had a stream. It takes no memory.
     fn open(alloc: Global, volume: V) -> Result<MemoryPlace<V>, (OpenFault, V)>
-        ensures opened { IfOk result (λ place. IsOpened holds_nothing leaves_nothing counts_none opens_vacant volume (seen_of place.state)) }
+        ensures opened { IfOk result (λ place. IsOpened holds_nothing reads_nothing leaves_nothing counts_none opens_vacant volume (seen_of place.state)) }
         ensures vol { IfOk result (λ place. place.vol ≡ volume) }
         ensures refused { IfErr result (λ stop. stop.0 ≡ opening.NoMemory) }
         ensures cause { IfErr result (λ stop. stop.0 ≡ OpenFault.Fault → Rose 0 0) }
-        ensures unopened { IfErr result (λ stop. IsUnopened holds_nothing leaves_nothing counts_none opens_vacant volume stop.1) }
+        ensures unopened { IfErr result (λ stop. IsUnopened holds_nothing reads_nothing leaves_nothing counts_none opens_vacant volume stop.1) }
         ensures given_back { IfErr result (λ stop. stop.1 ≡ volume) }
     {
         Ok(MemoryPlace {
@@ -160,13 +164,21 @@ impl<V> Place for MemoryPlace<V> {
 
     ghost holds_one = { λ image a b one other. absurd one };
 
-    ghost bases = { λ place b is. absurd is };
+    ghost holds_lasting = { λ image b one. absurd one };
 
-    ghost leaves = { λ place t image left. left };
+    ghost opens_read = { λ v state image opens read. absurd read };
+
+    ghost refuses_read = { λ v fault image b read. absurd read };
+
+    ghost bases = { λ place b. (λ is. is, λ is. is) };
+
+    ghost leaves = { λ place t image. (λ left. left, λ left. left) };
 
     ghost earlier = { λ v t u image le left. absurd left };
 
     ghost stands = { λ place. (refl, refl) };
+
+    ghost keeps_later = { λ a b kept. (refl, refl) };
 
     ghost keeps_none = { λ vol. refl };
 
