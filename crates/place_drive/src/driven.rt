@@ -122,4 +122,7 @@ impl Driven {
     pub fn forget(&mut self) {
         self.outs = List::new(self.alloc);
     }
+
+    /// Lets the place go. Whoever has one calls this: a proof writes out all that is let go, once for each path on which it may be.
+    pub fn close(self) {}
 }

@@ -1,5 +1,5 @@
 -- What a place promises of a flush, in memory and on a volume alike: all that was made is brought to the volume.
-use Rattle.std.specs.Prelude.{◌≡◌, ◌-◌, ◌^◌, [], Option, None, Some, Result, Ok, Err}
+use Rattle.std.specs.Prelude.{◌≡◌, ◌-◌, ◌^◌, [], None, Some, Result, Ok, Err}
 use Rattle.js_base.specs.Causes.{Rose}
 use Rattle.js_model.specs.declared.stream.State.{State}
 use Rattle.place_engine.specs.Stepping.{Image, Seen, Elapses, IsFlushed, IsStopped, KeepsBase, LeavesVolume, MayKeepBase, Rests}

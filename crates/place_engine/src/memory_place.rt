@@ -1,7 +1,7 @@
 //! A place in memory.
 
 ghost use Rattle.std.specs.Prelude.{◌≡◌, IfOk, IfErr, IsOk, IsTrue, refl};
-ghost use Rattle.std.proofs.Common.{◌∙◌};
+ghost use Rattle.std.proofs.Common.{◌∙◌, arith};
 ghost use Rattle.js_base.specs.Causes.{Rose};
 ghost use Rattle.js_model.specs.Proper.{is_proper};
 ghost use Rattle.place_engine.specs.declared.faults.OpenFault.TheVariants as opening;
@@ -178,7 +178,7 @@ impl<V> Place for MemoryPlace<V> {
 
     ghost stands = { λ place. (refl, refl) };
 
-    ghost keeps_later = { λ a b kept. (refl, refl) };
+    ghost keeps_later = { λ a b kept. (omega arith, omega arith) };
 
     ghost keeps_none = { λ vol. refl };
 

@@ -2,12 +2,13 @@
 
 ghost use Rattle.std.specs.Prelude.{◌≡◌, ◌≤◌, ◌<◌, ◌^◌, ◌⊎◌, ◌↔◌, ℕ, Option, None, length, option_map, slice_get, IfOk, IfErr, IfSome, IsTrue, IsUtf8};
 ghost use Rattle.std.specs.Option.{option_copied};
+ghost use Rattle.js_base.specs.Causes.{Rose};
 ghost use Rattle.js_model.specs.declared.stream.State.{State};
 ghost use Rattle.js_model.specs.Events.{kept_incarnation};
 ghost use Rattle.js_model.specs.Lasting.{lasting};
 ghost use Rattle.js_model.specs.Proper.{is_proper};
 ghost use Rattle.js_model.specs.Ready.{some_ready};
-ghost use Rattle.js_base.specs.Causes.{Rose};
+ghost use Rattle.place_engine.specs.declared.faults.OpenFault.{OpenFault};
 ghost use Rattle.place_engine.specs.Delivering.{Delivers};
 ghost use Rattle.place_engine.specs.Flushing.{Flushes};
 ghost use Rattle.place_engine.specs.Opening.{IsOpened, IsUnopened};

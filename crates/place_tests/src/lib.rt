@@ -6,4 +6,6 @@ mod deliveries;
 #[cfg(test)]
 mod outputs;
 #[cfg(test)]
+mod restoring;
+#[cfg(test)]
 mod retentions;
