@@ -35,7 +35,12 @@ fn lies_within(at: u64, count: usize, len: u64) -> bool
 
 impl Blind {
     /// The volume, of which the calls with these numbers fail, and all from the stop on, counted from now.
-    pub fn over(alloc: Global, vol: MemVol, failing: &[u64], stop: Option<u64>) -> Result<Blind, NoMemory> {
+    pub fn over(
+        alloc: Global,
+        vol: MemVol,
+        failing: &[u64],
+        stop: Option<u64>,
+    ) -> Result<Blind, NoMemory> {
         let made = vol.calls().len() as u64;
         let mut numbers = List::new(alloc);
         for number in failing {

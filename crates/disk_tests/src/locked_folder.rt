@@ -21,6 +21,9 @@ fn folder_has_one_lock_until_it_is_given_up(rt: HostRuntime) -> Result<(), Fail>
         assert_eq!(rt; refusal(&rt), None);
     }
     fs::remove_dir_all(&rt, FOLDER)?;
-    assert_eq!(rt; FolderLock::take(&rt, "no/folder").err(), Some(LockFault::Failed));
+    assert_eq!(rt;
+        FolderLock::take(&rt, "no/folder").err(),
+        Some(LockFault::Failed)
+    );
     Ok(())
 }

@@ -16,7 +16,8 @@ use stream_store::{CommitFault, OpenFault, Store};
 use vol_disk::{Deed, Failed, MemVol, Vol};
 
 /// The configuration of a stream.
-const CONFIG: &[u8] = br#"{"discard":"old","duplicate_window":120000000000,"max_age":0,"max_bytes":-1,"max_consumers":-1,"max_msg_size":-1,"max_msgs":-1,"max_msgs_per_subject":-1,"name":"A","num_replicas":1,"retention":"limits","storage":"file","subjects":["A"]}"#;
+const CONFIG: &[u8] =
+    br#"{"discard":"old","duplicate_window":120000000000,"max_age":0,"max_bytes":-1,"max_consumers":-1,"max_msg_size":-1,"max_msgs":-1,"max_msgs_per_subject":-1,"name":"A","num_replicas":1,"retention":"limits","storage":"file","subjects":["A"]}"#;
 
 /// A log of generation 1 that says that no stream was ever there.
 const BEGUN: &[u8] = b"JSLOG\0\0\x01\0\0\0\0\0\0\0\x01\x01\0\0\0\x09\x20\0\0\0\0\0\0\0\0\0";
@@ -71,7 +72,12 @@ fn with_messages(alloc: Global, count: u64) -> Result<MemVol, Fail> {
     let (mut store, _) = Store::open(alloc, &mut vol)?;
     commit(alloc, &mut store, &mut vol, making(alloc)?.as_slice())?;
     for seq in 1..=count {
-        commit(alloc, &mut store, &mut vol, publishing(alloc, seq)?.as_slice())?;
+        commit(
+            alloc,
+            &mut store,
+            &mut vol,
+            publishing(alloc, seq)?.as_slice(),
+        )?;
     }
     Ok(vol.into_vol())
 }
@@ -152,7 +158,12 @@ fn third(alloc: Global, failing: &[u64], stop: Option<u64>) -> Result<(Ended, Me
     let mut vol = Blind::over(alloc, with_messages(alloc, 2)?, &[], None)?;
     let (mut store, _) = Store::open(alloc, &mut vol)?;
     let mut vol = Blind::over(alloc, vol.into_vol(), failing, stop)?;
-    let ended = commit(alloc, &mut store, &mut vol, publishing(alloc, 3)?.as_slice())?;
+    let ended = commit(
+        alloc,
+        &mut store,
+        &mut vol,
+        publishing(alloc, 3)?.as_slice(),
+    )?;
     Ok((ended, vol.into_vol()))
 }
 
@@ -214,7 +225,12 @@ fn log_with_another_byte_or_end_is_opened_or_refused(rt: HostRuntime) -> Result<
             bytes[at] = other;
             check_opening(&rt, alloc, bytes.as_slice(), at)?;
         }
-        check_opening(&rt, alloc, whole.as_slice().get(..at).unwrap_or_default(), at)?;
+        check_opening(
+            &rt,
+            alloc,
+            whole.as_slice().get(..at).unwrap_or_default(),
+            at,
+        )?;
     }
     Ok(())
 }

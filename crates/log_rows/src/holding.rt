@@ -23,7 +23,12 @@ fn message_text(alloc: Global, message: &Message) -> Result<String, LineFault> {
 }
 
 fn id_text(alloc: Global, id: &Id) -> Result<String, LineFault> {
-    Ok(format!(in alloc; "; id {} of {} at {}", shown(&id.id), id.seq, id.at.as_nanos())?)
+    Ok(format!(in alloc;
+        "; id {} of {} at {}",
+        shown(&id.id),
+        id.seq,
+        id.at.as_nanos()
+    )?)
 }
 
 /// The consumer with each pick, each delivery that waits and each that was given up.

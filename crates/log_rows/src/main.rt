@@ -54,12 +54,7 @@ fn log_told(alloc: Global, volume: &Volume) -> Result<String, LineFault> {
 }
 
 /// The row, and what is told of the volume that it damages.
-fn row_line(
-    alloc: Global,
-    volume: &Volume,
-    word: &[u8],
-    row: &[u8],
-) -> Result<Vec<u8>, LineFault> {
+fn row_line(alloc: Global, volume: &Volume, word: &[u8], row: &[u8]) -> Result<Vec<u8>, LineFault> {
     let volume = damaged(alloc, volume, row)?;
     let text = match word {
         b"open" => opened(alloc, &volume)?,
