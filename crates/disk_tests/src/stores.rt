@@ -6,7 +6,7 @@ ghost use Rattle.op_records.specs.Allowed.{is_record};
 
 use crate::blind::Blind;
 use crate::contents::holds;
-use effects::Effect;
+use effects::{Durable, Effect};
 use js_base::NoMemory;
 use op_records::{law_records, read_records};
 use std::alloc::Global;
@@ -82,9 +82,14 @@ fn with_messages(alloc: Global, count: u64) -> Result<MemVol, Fail> {
     Ok(vol.into_vol())
 }
 
+/// The store of a volume in memory, and what the volume holds.
+fn open(alloc: Global, vol: &mut MemVol) -> Result<(Store, Durable), OpenFault> {
+    Store::open(alloc, vol)
+}
+
 /// How many messages a volume holds of its stream, or `None` if it has none.
 fn count(alloc: Global, vol: &mut MemVol) -> Result<Option<usize>, Fail> {
-    let (_, durable) = Store::open(alloc, vol)?;
+    let (_, durable) = open(alloc, vol)?;
     Ok(durable.body.map(|body| body.messages.len()))
 }
 
@@ -101,7 +106,7 @@ fn is_unwritten(vol: &MemVol, from: usize) -> bool {
 fn new_volume_gets_a_log_that_says_so(rt: HostRuntime) -> Result<(), Fail> {
     let alloc = rt.alloc();
     let mut vol = MemVol::new(alloc);
-    let (store, durable) = Store::open(alloc, &mut vol)?;
+    let (store, durable) = open(alloc, &mut vol)?;
     assert_eq!(rt; store.generation(), 1);
     assert_eq!(rt; durable.incarnation, 0);
     assert!(rt; durable.body.is_none());
@@ -204,7 +209,7 @@ fn log_bytes(alloc: Global, vol: &mut MemVol) -> Result<Vec<u8>, Fail> {
 fn check_opening(rt: &impl Abort, alloc: Global, bytes: &[u8], at: usize) -> Result<(), Fail> {
     let mut vol = MemVol::new(alloc);
     vol.write_at(0, 0, bytes)?;
-    match Store::open(alloc, &mut vol) {
+    match open(alloc, &mut vol) {
         Ok(_) | Err(OpenFault::UnknownVersion(_)) => {}
         Err(OpenFault::Damaged { file, at: told }) => {
             assert_eq!(rt; file, 0, "{at}");

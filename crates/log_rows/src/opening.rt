@@ -3,6 +3,7 @@
 use crate::holding::held_text;
 use crate::line::LineFault;
 use crate::volume::Volume;
+use effects::Durable;
 use std::alloc::Global;
 use stream_store::{OpenFault, Store};
 use vol_disk::{MemVol, Vol};
@@ -19,15 +20,23 @@ fn written(alloc: Global, volume: &Volume) -> Result<MemVol, LineFault> {
     Ok(vol)
 }
 
-/// What is told of the volume as it is opened: the generation of its log and what it holds, or its first fault.
+/// The store of the volume, and what it holds.
+fn open(alloc: Global, vol: &mut MemVol) -> Result<(Store, Durable), OpenFault> {
+    Store::open(alloc, vol)
+}
+
+/// The generation of a store's log, and what the volume holds.
+fn store_text(alloc: Global, store: &Store, durable: &Durable) -> Result<String, LineFault> {
+    let mut text = format!(in alloc; "generation {}; ", store.generation())?;
+    text.push_str(held_text(alloc, durable)?.as_str())?;
+    Ok(text)
+}
+
+/// What is told of the volume as it is opened: what it holds, or its first fault.
 pub(crate) fn opened(alloc: Global, volume: &Volume) -> Result<String, LineFault> {
     let mut vol = written(alloc, volume)?;
-    match Store::open(alloc, &mut vol) {
-        Ok((store, durable)) => {
-            let mut text = format!(in alloc; "generation {}; ", store.generation())?;
-            text.push_str(held_text(alloc, &durable)?.as_str())?;
-            Ok(text)
-        }
+    match open(alloc, &mut vol) {
+        Ok((store, durable)) => store_text(alloc, &store, &durable),
         Err(OpenFault::Fault | OpenFault::NoMemory) => Err(LineFault::NoMemory),
         Err(fault) => Ok(format!(in alloc; "{fault}")?),
     }
