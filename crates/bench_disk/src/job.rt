@@ -9,6 +9,8 @@ pub(crate) enum Job {
     Fill { records: u64 },
     /// Opens the log, and reads all its records.
     Open,
+    /// Opens the volume as a store.
+    Store,
     /// Opens or begins a log, and appends so many batches of so many bytes.
     Append { batches: u64, size: u32 },
     /// Writes so many pieces of so many bytes behind each other, and syncs nothing.
@@ -28,6 +30,7 @@ impl Job {
     pub(crate) fn read(name: &str, count: Option<String>, bytes: Option<String>) -> Option<Job> {
         match name {
             "open" => Some(Job::Open),
+            "store" => Some(Job::Store),
             "fill" => Some(Job::Fill {
                 records: number(count)?,
             }),

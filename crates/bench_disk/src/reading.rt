@@ -1,8 +1,9 @@
-//! Logs as they are opened.
+//! Logs and stores as they are opened.
 
 use gate_log::GateLog;
 use op_records::{read_records, read_vacant};
 use std::alloc::Global;
+use stream_store::Store;
 use vol_disk::DirVol;
 
 /// How many records the batch has whose gate is at an offset.
@@ -27,4 +28,10 @@ pub(crate) fn open(alloc: Global, vol: &mut DirVol) -> Option<u64> {
         at = next;
     }
     Some(count)
+}
+
+/// Opens the volume as a store, and tells how many messages it holds of its stream.
+pub(crate) fn open_store(alloc: Global, vol: &mut DirVol) -> Option<u64> {
+    let (_, durable) = Store::open(alloc, vol).ok()?;
+    Some(durable.body?.messages.len() as u64)
 }

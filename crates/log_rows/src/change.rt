@@ -56,6 +56,15 @@ impl LogFile {
         Ok(())
     }
 
+    /// Ends the file so many bytes behind the beginning of a part.
+    pub(crate) fn cut(&mut self, name: &[u8], count: usize) -> Result<(), LineFault> {
+        let Some(offset) = self.offset(name) else {
+            return Err(LineFault::Bad);
+        };
+        self.limit = offset.saturating_add(count);
+        Ok(())
+    }
+
     /// Leaves a part out.
     pub(crate) fn leave_out(&mut self, name: &[u8]) -> Result<(), LineFault> {
         match self.place(name) {

@@ -1,14 +1,15 @@
-//! Rows that damage a log file.
+//! Rows that damage a volume.
 
 use crate::line::{LineFault, number, spelled_bytes, split_word};
-use crate::log_file::LogFile;
+use crate::volume::{Volume, file_number};
 use js_base::Blob;
 use std::alloc::Global;
 
-/// Makes a change of the parts.
-fn make(alloc: Global, file: &mut LogFile, change: &[u8]) -> Result<(), LineFault> {
+/// Makes a change of the file that has the part which is named first.
+fn make(alloc: Global, volume: &mut Volume, change: &[u8]) -> Result<(), LineFault> {
     let (word, rest) = split_word(change);
     let (name, text) = split_word(rest);
+    let file = volume.file_of(name)?;
     match word {
         b"put" => file.put(name, spelled_bytes(alloc, text)?),
         b"say" => file.put(name, Blob::of(alloc, text)?),
@@ -16,31 +17,23 @@ fn make(alloc: Global, file: &mut LogFile, change: &[u8]) -> Result<(), LineFaul
         b"without" if text.is_empty() => file.leave_out(name),
         b"twice" if text.is_empty() => file.double(name),
         b"exchange" => file.exchange(name, text),
+        b"cut" => file.cut(name, number(text)?),
+        b"move" => {
+            file.number = file_number(text)?;
+            Ok(())
+        }
         _ => Err(LineFault::Bad),
     }
 }
 
-/// The bytes of the file up to so many behind the beginning of a part, as the text tells.
-fn cut(alloc: Global, file: &LogFile, text: &[u8]) -> Result<Vec<u8>, LineFault> {
-    let (name, count) = split_word(text);
-    let Some(offset) = file.offset(name) else {
-        return Err(LineFault::Bad);
-    };
-    let mut bytes = file.bytes(alloc)?;
-    bytes.truncate(offset.saturating_add(number(count)?));
-    Ok(bytes)
-}
-
-/// The bytes of the file with a row's changes.
-pub(crate) fn damaged(alloc: Global, file: &LogFile, row: &[u8]) -> Result<Vec<u8>, LineFault> {
-    let mut file = file.try_clone(alloc)?;
+/// The volume with a row's changes.
+pub(crate) fn damaged(alloc: Global, volume: &Volume, row: &[u8]) -> Result<Volume, LineFault> {
+    let mut volume = volume.try_clone(alloc)?;
     for change in row.split(|byte| *byte == b';') {
         let change = change.strip_prefix(b" ").unwrap_or(change);
-        match change.strip_prefix(b"cut ") {
-            Some(text) => return cut(alloc, &file, text),
-            None if change.is_empty() => {}
-            None => make(alloc, &mut file, change)?,
+        if !change.is_empty() {
+            make(alloc, &mut volume, change)?;
         }
     }
-    file.bytes(alloc)
+    Ok(volume)
 }

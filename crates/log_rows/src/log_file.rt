@@ -11,6 +11,8 @@ pub(crate) enum Role {
     Gate,
     /// The length of the batch behind it.
     Length,
+    /// The length of the field behind it.
+    Size,
     Field,
 }
 
@@ -48,14 +50,20 @@ impl Part {
 /// The parts of a log file, in their order.
 #[derive(Drop)]
 pub(crate) struct LogFile {
+    /// The file's number in its volume.
+    pub(crate) number: u32,
     pub(crate) parts: Vec<Part>,
+    /// How many of the bytes there are at most.
+    pub(crate) limit: usize,
 }
 
 impl LogFile {
     /// A file without parts.
-    pub(crate) fn new(alloc: Global) -> LogFile {
+    pub(crate) fn new(alloc: Global, number: u32) -> LogFile {
         LogFile {
+            number,
             parts: Vec::new(alloc),
+            limit: usize::MAX,
         }
     }
 
@@ -73,6 +81,7 @@ impl LogFile {
             b"text" => self.add(name, Role::Field, Some(Blob::of(alloc, text)?)),
             b"gate" => self.add(name, Role::Gate, Some(spelled_bytes(alloc, text)?)),
             b"length" if text.is_empty() => self.add(name, Role::Length, None),
+            b"size" if text.is_empty() => self.add(name, Role::Size, None),
             _ => Err(LineFault::Bad),
         }
     }
@@ -93,18 +102,23 @@ impl LogFile {
         for part in &self.parts {
             parts.push(part.try_clone()?)?;
         }
-        Ok(LogFile { parts })
+        Ok(LogFile {
+            number: self.number,
+            parts,
+            limit: self.limit,
+        })
     }
 
-    /// The bytes of the file, in which a counted length tells the bytes from behind it to the next gate.
+    /// The bytes of the file, in which a length that is counted tells what stands behind it.
     pub(crate) fn bytes(&self, alloc: Global) -> Result<Vec<u8>, LineFault> {
         let mut bytes = Vec::new(alloc);
         for (place, part) in self.parts.iter().enumerate() {
             match &part.bytes {
                 Some(own) => bytes.extend_from_slice(own.as_slice())?,
-                None => bytes.extend_from_slice(&batch_len(&self.parts, place).to_be_bytes())?,
+                None => bytes.extend_from_slice(&counted(&self.parts, place).to_be_bytes())?,
             }
         }
+        bytes.truncate(self.limit);
         Ok(bytes)
     }
 
@@ -121,14 +135,28 @@ impl LogFile {
     }
 }
 
-/// How many bytes stand from behind the part at the place to the next gate.
+/// The length that is counted at this place: of the next part, or of all up to the next gate.
+fn counted(parts: &[Part], place: usize) -> u32 {
+    let behind = place.saturating_add(1);
+    match parts.get(place) {
+        Some(part) if part.role == Role::Size => parts.get(behind).map_or(0, short_len),
+        _ => batch_len(parts, behind),
+    }
+}
+
+/// How many bytes the part has, as a number of four bytes.
+fn short_len(part: &Part) -> u32 {
+    u32::try_from(part.len()).unwrap_or(u32::MAX)
+}
+
+/// How many bytes stand from a place to the next gate.
 fn batch_len(parts: &[Part], place: usize) -> u32 {
     let mut len: u32 = 0;
-    for part in parts.iter().skip(place.saturating_add(1)) {
+    for part in parts.iter().skip(place) {
         if part.role == Role::Gate {
             return len;
         }
-        len = len.saturating_add(u32::try_from(part.len()).unwrap_or(u32::MAX));
+        len = len.saturating_add(short_len(part));
     }
     len
 }

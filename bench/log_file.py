@@ -1,0 +1,78 @@
+"""Logs of a stream as they lie in file 0 of a volume: what `bench/openings` opens."""
+import json
+import os
+import struct
+
+MADE = 1_700_000_000_000_000_000
+PAYLOAD = 100 * b"x"
+SECOND = 1_000_000_000
+
+
+def number(n):
+    return struct.pack(">Q", n)
+
+
+def long(data):
+    return struct.pack(">I", len(data)) + data
+
+
+def text(data):
+    return struct.pack(">H", len(data)) + data
+
+
+def name(data):
+    return bytes([len(data)]) + data
+
+
+def batch(*records):
+    return b"\1" + long(b"".join(records))
+
+
+def stream(**config):
+    """The record of the stream A."""
+    usual = {
+        **{"discard": "old", "duplicate_window": 120 * SECOND, "max_age": 0, "max_bytes": -1, "max_consumers": -1, "max_msg_size": -1, "max_msgs": -1},
+        **{"max_msgs_per_subject": -1, "name": "A", "num_replicas": 1, "retention": "limits", "storage": "file", "subjects": ["A"]},
+    }
+    printed = json.dumps({**usual, **config}, separators=(",", ":"), sort_keys=True)
+    return b"\1" + number(1) + number(MADE) + long(printed.encode())
+
+
+def consumer():
+    """The record of the consumer C, to which each message is still to be delivered."""
+    config = {
+        **{"ack_policy": "explicit", "ack_wait": 30 * SECOND, "deliver_policy": "all", "durable_name": "C", "max_ack_pending": 1000, "max_deliver": -1},
+        **{"max_waiting": 512, "name": "C", "replay_policy": "instant"},
+    }
+    printed = json.dumps(config, separators=(",", ":"), sort_keys=True)
+    return b"\7" + name(b"C") + number(MADE) + long(printed.encode()) + number(1) + struct.pack(">I", 0)
+
+
+def now(at):
+    return b"\x0d" + number(at)
+
+
+def put(seq, at, message_id=b""):
+    return b"\4" + number(seq) + number(at) + text(message_id) + text(b"A") + long(b"") + long(PAYLOAD)
+
+
+def remove(low, high):
+    return b"\6" + number(low) + number(high)
+
+
+def deliver(seq, at):
+    return b"\x09" + name(b"C") + number(seq) + number(1) + number(at + 30 * SECOND) + number(seq)
+
+
+def acked(seq):
+    return b"\x0a" + name(b"C") + number(seq) + number(seq)
+
+
+def write(folder, batches):
+    """Writes a log of generation 1, which begins with a vacant place, and returns its length."""
+    os.makedirs(f"{folder}/place-00")
+    with open(f"{folder}/place-00/f00000", "wb") as log:
+        log.write(b"JSLOG\0\0\1" + number(1) + batch(b"\x20" + number(0)))
+        log.writelines(batches)
+        log.write(b"\0")
+        return log.tell()
