@@ -38,7 +38,7 @@ fn open(alloc: Global) -> Result<SoloDesk<MemoryPlace<()>>, NoMemory>
     ensures closed { IfOk result (λ desk. desk.client.is_open ≡ false) }
 {
     let vols = vec![in alloc; (); 32]?;
-    match SoloDesk::open(alloc, vols) {
+    match SoloDesk::<MemoryPlace<()>>::open(alloc, vols) {
         Ok(desk) => Ok(desk),
         Err(_) => Err(NoMemory),
     }

@@ -8,3 +8,4 @@ pub mod Finding
 pub mod Catalogs
 pub mod Using
 pub mod Scripts
+pub mod Conflicting

@@ -4,3 +4,4 @@ pub mod Entries
 pub mod Apart
 pub mod Used
 pub mod Holding
+pub mod Conflicts

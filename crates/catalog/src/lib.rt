@@ -2,9 +2,11 @@
 #![tactic(auto)]
 
 mod catalog;
+mod conflict;
 mod entry;
 mod listing;
 mod names;
 mod used;
 
 pub use catalog::Catalog;
+pub use conflict::first_conflict;

@@ -187,7 +187,7 @@ module _ (at : PlaceAt) where
   last_of (Unsaid refused) last = Some at
   last_of Ticked last = Some at
   last_of Nothing last = last
-  last_of (Broke stream) last = Some at
+  last_of (Broke stream full) last = Some at
   last_of (Stopped stream) last = last
   last_of Gone last = last
 
@@ -216,7 +216,7 @@ module _ (at : PlaceAt) where
   last_holds (Unsaid refused) what now ready fault entries last h = last_held entries h.0 last h.3 h.2.at_is
   last_holds Ticked what now ready fault entries last h = last_held entries h.0 last h.1 h.2.at_is
   last_holds Nothing what now ready fault entries last h = last_unmade fault entries last h.1
-  last_holds (Broke stream) what now ready fault entries last h = last_held entries h.0 last h.1 h.2.at_is
+  last_holds (Broke stream full) what now ready fault entries last h = last_held entries h.0 last h.1 h.2.at_is
   last_holds (Stopped stream) what now ready fault entries last h = ap (λ (es : List DeskEntry). last_after es last) h.1
   last_holds Gone what now ready fault entries last h = ap (λ (es : List DeskEntry). last_after es last) h.1
 
@@ -237,3 +237,10 @@ module _ (at : PlaceAt) where
         led = subst (λ (o : Option PlaceAt). Leads SoloStep scene h.entries (with_place scene at.place (on new.place router) o)) last
             (steps_alone h.entries scene (on old.place scene.world.router) (on new.place router) refl there h.led);
       }
+
+  -- by the same entries
+  pub held_entries : (holds : Image → State → Type 0) (seat : ℕ) (what : What) (now : ℕ) (outcome : Outcome) (scene : Scene) (old new : Seen) (router : Router)
+      → (there : slice_get scene.world.places at.place ≡ Some old.place) (h : HoldsOn IsRoute never at holds seat what now outcome old new scene.world.router router)
+      → (held_alone holds seat what now outcome scene old new router there h).entries ≡ h.entries
+  unfolding held_alone
+  held_entries holds seat what now outcome scene old new router there h = refl

@@ -103,6 +103,7 @@ number_failed what (places.NoMemory left.Nothing) stream at now old new before a
 number_failed what (places.NoMemory left.Ticked) stream at now old new before after numbered h = number_undone what _ at refl
 number_failed what (places.NoMemory (left.Unsaid refused)) stream at now old new before after numbered h = number_withheld what refused at now old new before after numbered h
 number_failed what places.StoreFault stream at now old new before after numbered h = number_undone what _ at refl
+number_failed what places.Full stream at now old new before after numbered h = number_undone what _ at refl
 number_failed what (places.Stopped count) stream at now old new before after numbered h = number_undone what _ at refl
 number_failed what (places.Gone kept) stream at now old new before after numbered h = number_undone what _ at refl
 number_failed what (places.Worn refused) stream at now old new before after numbered h = number_withheld what refused at now old new before after numbered h.withholds

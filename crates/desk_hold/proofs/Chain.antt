@@ -30,9 +30,9 @@ later_then a b c h k = record {
   generations = omega (arith, h.generations, k.generations);
 }
 
-pub stops_since : (broken : Bool) (a b c : VolumeAt) (stopped : Option ℕ) → IsLater a b → Stops broken b c stopped → Stops broken a c stopped
-stops_since true a b c stopped later h = (h.0, rose_before a.faults b.faults c.faults later.faults h.1)
-stops_since false a b c stopped later h = h
+pub stops_since : (broken full : Bool) (a b c : VolumeAt) (stopped : Option ℕ) → IsLater a b → Stops broken full b c stopped → Stops broken full a c stopped
+stops_since true full a b c stopped later h = (h.0, λ failed. rose_before a.faults b.faults c.faults later.faults (h.1 failed))
+stops_since false full a b c stopped later h = h
 
 -- ---- the run
 
@@ -66,7 +66,7 @@ runs_from (Step seat event now reply outs unsaid ∷ more) old sent new count le
       run = (new.state, step_from old.stored count old.state event now reply outs new.state le made.step, refl);
       stored = omega (arith, le, made.stored);
     })
-runs_from (Broken seat now (DeliverOf listening d) ∷ more) old sent new count le (outs, step, stops, sent_is, none) =
+runs_from (Broken seat now (DeliverOf listening d) ∷ more) old sent new count le (outs, full, step, stops, sent_is, none) =
     subst (λ (entries : List PlaceEntry). RunsFrom count old new (Broken seat now (DeliverOf listening d) ∷ entries)) (sym none)
     (record { run = (outs, step.step); stored = omega (arith, le, step.stored) })
 runs_from (Broken seat now (StepOf event) ∷ more) old sent new count le h = absurd h
@@ -85,7 +85,7 @@ none_firm (Step seat event now reply outs unsaid ∷ more) old sent new (made, t
       (λ firm. subst (λ (what : What). IsFirmStep old.state what reply new.state) tick firm.1),
       refl,
     )
-none_firm (Broken seat now (DeliverOf listening d) ∷ more) old sent new (outs, step, stops, is, none) =
+none_firm (Broken seat now (DeliverOf listening d) ∷ more) old sent new (outs, full, step, stops, is, none) =
     subst (λ (entries : List PlaceEntry). Chain ⊥ old.state (Broken seat now (DeliverOf listening d) ∷ entries) new.state) (sym none)
     (new.state, (old.stored, (outs, step.step)), (λ no. no), refl)
 none_firm (Broken seat now (StepOf event) ∷ more) old sent new h = absurd h
@@ -107,27 +107,29 @@ sent_is (Deliver seat now listening d outs ∷ entry ∷ more) stream old sent n
 sent_is (Step seat event now reply outs unsaid ∷ []) stream old sent new (made, tick, silent, goes, is, none) =
     is ∙ sym (append-nil outs) ∙ ap (λ (os : List Out). outs ++ os) (sym (tick_answer stream event reply unsaid tick))
 sent_is (Step seat event now reply outs unsaid ∷ entry ∷ more) stream old sent new (made, tick, silent, goes, is, none) = let no : ⊥ = cc in absurd no
-sent_is (Broken seat now (DeliverOf listening d) ∷ []) stream old sent new (outs, step, stops, is, none) = is
-sent_is (Broken seat now (DeliverOf listening d) ∷ entry ∷ more) stream old sent new (outs, step, stops, is, none) = let no : ⊥ = cc in absurd no
+sent_is (Broken seat now (DeliverOf listening d) ∷ []) stream old sent new (outs, full, step, stops, is, none) = is
+sent_is (Broken seat now (DeliverOf listening d) ∷ entry ∷ more) stream old sent new (outs, full, step, stops, is, none) = let no : ⊥ = cc in absurd no
 sent_is (Broken seat now (StepOf event) ∷ more) stream old sent new h = absurd h
 
--- ---- whether the volume failed
+-- ---- whether they broke
 
 pub led_later : (entries : List PlaceEntry) (old : PlaceIn) (sent : List Out) (new : PlaceIn) → Led old entries sent new → IsLater old.volume new.volume
 led_later [] old sent new h = h.0.later
 led_later (Deliver seat now listening d outs ∷ more) old sent new (mid, rest, step, goes, is, next) =
     later_then old.volume mid.volume new.volume step.later (led_later more mid rest new next)
 led_later (Step seat event now reply outs unsaid ∷ more) old sent new (made, tick, silent, goes, is, none) = made.later
-led_later (Broken seat now (DeliverOf listening d) ∷ more) old sent new (outs, step, stops, is, none) = step.later
+led_later (Broken seat now (DeliverOf listening d) ∷ more) old sent new (outs, full, step, stops, is, none) = step.later
 led_later (Broken seat now (StepOf event) ∷ more) old sent new h = absurd h
 
-pub led_stops : (entries : List PlaceEntry) (old : PlaceIn) (sent : List Out) (new : PlaceIn) → Led old entries sent new → Stops (is_broken entries) old.volume new.volume new.stopped
-led_stops [] old sent new h = h.0.stopped
+pub led_stops : (entries : List PlaceEntry) (old : PlaceIn) (sent : List Out) (new : PlaceIn) → Led old entries sent new
+    → (full : Bool) × Stops (is_broken entries) full old.volume new.volume new.stopped
+led_stops [] old sent new h = (false, (h.0.stopped, refl))
 led_stops (Deliver seat now listening d outs ∷ more) old sent new (mid, rest, step, goes, is, next) =
-    stops_since (is_broken more) old.volume mid.volume new.volume new.stopped step.later (led_stops more mid rest new next)
+    let behind = led_stops more mid rest new next in
+    (behind.0, stops_since (is_broken more) behind.0 old.volume mid.volume new.volume new.stopped step.later behind.1)
 led_stops (Step seat event now reply outs unsaid ∷ more) old sent new (made, tick, silent, goes, is, none) =
-    subst (λ (entries : List PlaceEntry). Stops (is_broken entries) old.volume new.volume new.stopped) (sym none) goes
-led_stops (Broken seat now (DeliverOf listening d) ∷ more) old sent new (outs, step, stops, is, none) = stops
+    (false, subst (λ (entries : List PlaceEntry). Stops (is_broken entries) false old.volume new.volume new.stopped) (sym none) (goes, refl))
+led_stops (Broken seat now (DeliverOf listening d) ∷ more) old sent new (outs, full, step, stops, is, none) = (full, stops)
 led_stops (Broken seat now (StepOf event) ∷ more) old sent new h = absurd h
 
 -- the two words for it say the same

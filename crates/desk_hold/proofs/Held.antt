@@ -30,7 +30,7 @@ use Rattle.js_api.specs.declared.outcome.Outcome.{Outcome}
 use Rattle.js_api.specs.Entries.{Reading, Sending, Sent, Short, Unsent, Hold, entries_in, Held, Stirred, Halted, Missed}
 use Rattle.js_api.specs.Holding.{AreAsked, AreDeliveries, AreFirstReadings, AreReadings, Explains, HoldsBy, MayEnd, bytes_of, delivery_broke, event_at, is_ready_at, listening_of, most_bytes, most_deliveries, push_consumers, step}
 use Rattle.js_api.specs.Outputs.{answer_of, name_behind, outs_of, said, stream_name}
-use Rattle.js_api.specs.Worlds.{IsHeld, IsLater, is_broken}
+use Rattle.js_api.specs.Worlds.{IsHeld, IsLater, Stops, is_broken}
 use Rattle.js_model.specs.Firm.{IsFirm}
 use Rattle.place_engine.specs.Stepping.{Image, IsKept, Seen}
 use Rattle.place_engine.specs.declared.faults.PlaceFault.{PlaceFault}
@@ -45,7 +45,7 @@ use Rattle.desk_hold.specs.Following.{AskedSo, Follows, IsFault, LeftSo}
 use Rattle.desk_hold.specs.OnePlace.{HoldsOn, IsBy, IsHeldOn, on}
 use Rattle.desk_hold.specs.Outcomes.{SendsFollowed, SendsMade, SendsThem, absent_by, failed_by, fault_of, quietly, shortly}
 use Rattle.desk_hold.specs.Ports.{Sends}
-use Rattle.desk_hold.specs.Steps.{EndsStep, IsMade, IsUndoneStep, WithholdsStep}
+use Rattle.desk_hold.specs.Steps.{BreaksStep, EndsStep, IsMade, IsUndoneStep, WithholdsStep}
 use Rattle.desk_hold.proofs.Beginnings.{one_entry, outlasts_call, outlasts_if, outlasts_more}
 use Rattle.desk_hold.proofs.Chain.{led_later, led_stops, none_firm, runs_from, sent_is, stops_since}
 use Rattle.desk_hold.proofs.Committed.{outlasts_step}
@@ -55,8 +55,8 @@ use Rattle.desk_hold.proofs.Stepped.{same_place}
 -- ---- the entry of a step
 
 -- a hold whose step led from the one place to the next, and whose deliveries led on from there
-abbrev hold_of : ℕ → PlaceAt → What → ℕ → Reply → List Out → Bool → List Reading → List PlaceEntry → Sending → PlaceIn → PlaceIn → PlaceIn → Hold
-hold_of seat at what now reply outs unsaid readings entries sending old mid new = record {
+abbrev hold_of : ℕ → PlaceAt → What → ℕ → Reply → List Out → Bool → List Reading → List PlaceEntry → Bool → Sending → PlaceIn → PlaceIn → PlaceIn → Hold
+hold_of seat at what now reply outs unsaid readings entries full sending old mid new = record {
   at = at;
   before = old.state;
   steps = step seat at what now reply outs unsaid;
@@ -64,6 +64,7 @@ hold_of seat at what now reply outs unsaid readings entries sending old mid new 
   readings = readings;
   deliveries = entries;
   after = new.state;
+  full = full;
   sending = sending;
   volume_before = old.volume;
   volume_between = mid.volume;
@@ -72,14 +73,15 @@ hold_of seat at what now reply outs unsaid readings entries sending old mid new 
 
 -- one without deliveries
 abbrev hold_alone : ℕ → PlaceAt → What → ℕ → Reply → List Out → Bool → Sending → PlaceIn → PlaceIn → Hold
-hold_alone seat at what now reply outs unsaid sending old new = hold_of seat at what now reply outs unsaid [] [] sending old new new
+hold_alone seat at what now reply outs unsaid sending old new = hold_of seat at what now reply outs unsaid [] [] false sending old new new
 
 same_volume : (p : PlaceIn) → IsLater p.volume p.volume
 same_volume p = record { faults = omega arith; moments = omega arith; generations = omega arith }
 
-held_steps : (seat : ℕ) (at : PlaceAt) (what : What) (now : ℕ) (reply : Reply) (outs sent : List Out) (unsaid : Bool) (readings : List Reading) (entries : List PlaceEntry) (sending : Sending) (old mid new : PlaceIn)
-    → IsMade (event_at at what) now reply outs old mid → Led mid entries sent new → IsHeld (hold_of seat at what now reply outs unsaid readings entries sending old mid new) old new
-held_steps seat at what now reply outs sent unsaid readings entries sending old mid new made led =
+held_steps : (seat : ℕ) (at : PlaceAt) (what : What) (now : ℕ) (reply : Reply) (outs sent : List Out) (unsaid : Bool) (readings : List Reading) (entries : List PlaceEntry) (full : Bool) (sending : Sending) (old mid new : PlaceIn)
+    → IsMade (event_at at what) now reply outs old mid → Led mid entries sent new → Stops (is_broken entries) full mid.volume new.volume new.stopped
+    → IsHeld (hold_of seat at what now reply outs unsaid readings entries full sending old mid new) old new
+held_steps seat at what now reply outs sent unsaid readings entries full sending old mid new made led stops =
     let total : ℕ = old.stored + length (new_messages old.state mid.state) in
     let runs = runs_from entries mid sent new total made.stored led in
     record {
@@ -90,7 +92,7 @@ held_steps seat at what now reply outs sent unsaid readings entries sending old 
       ends = λ broken. let no : ⊥ = cc in absurd no;
       is_state = refl;
       stored = runs.stored;
-      stops = stops_since (is_broken entries) old.volume mid.volume new.volume new.stopped made.later (led_stops entries mid sent new led);
+      stops = stops_since (is_broken entries) full old.volume mid.volume new.volume new.stopped made.later stops;
       volume_was = refl;
       volume_is = refl;
       before_between = made.later;
@@ -103,17 +105,17 @@ pauses p goes = (record { going = goes; state = refl; stored = refl; stopped = g
 
 held_step : (seat : ℕ) (at : PlaceAt) (what : What) (now : ℕ) (reply : Reply) (outs : List Out) (unsaid : Bool) (sending : Sending) (old new : PlaceIn) → IsMade (event_at at what) now reply outs old new
     → new.stopped ≡ None → IsHeld (hold_alone seat at what now reply outs unsaid sending old new) old new
-held_step seat at what now reply outs unsaid sending old new made goes = held_steps seat at what now reply outs [] unsaid [] [] sending old new new made (pauses new goes)
+held_step seat at what now reply outs unsaid sending old new made goes = held_steps seat at what now reply outs [] unsaid [] [] false sending old new new made (pauses new goes) (goes, refl)
 
 -- ---- what it sends
 
 -- what the step and then the deliveries send is what the hold sends
-all_sent : (seat : ℕ) (at : PlaceAt) (what : What) (now : ℕ) (reply : Reply) (outs sent : List Out) (unsaid : Bool) (readings : List Reading) (entries : List PlaceEntry) (sending : Sending) (old mid new : PlaceIn)
+all_sent : (seat : ℕ) (at : PlaceAt) (what : What) (now : ℕ) (reply : Reply) (outs sent : List Out) (unsaid : Bool) (readings : List Reading) (entries : List PlaceEntry) (full : Bool) (sending : Sending) (old mid new : PlaceIn)
     → Led mid entries sent new → (outs ++ said unsaid (answer_of (stream_name old.state) what reply)) ++ sent
-    ≡ outs_of old.state (entries_in (hold_of seat at what now reply outs unsaid readings entries sending old mid new))
-all_sent seat at what now reply outs sent unsaid readings [] sending old mid new led =
+    ≡ outs_of old.state (entries_in (hold_of seat at what now reply outs unsaid readings entries full sending old mid new))
+all_sent seat at what now reply outs sent unsaid readings [] full sending old mid new led =
     let own : List Out = outs ++ said unsaid (answer_of (stream_name old.state) what reply) in ap (λ (os : List Out). own ++ os) led.1 ∙ append-nil own
-all_sent seat at what now reply outs sent unsaid readings (entry ∷ more) sending old mid new led =
+all_sent seat at what now reply outs sent unsaid readings (entry ∷ more) full sending old mid new led =
     let own : List Out = outs ++ said unsaid (answer_of (stream_name old.state) what reply) in
     ap (λ (os : List Out). own ++ os) (sent_is (entry ∷ more) (name_behind (stream_name old.state) (Step seat (event_at at what) now reply outs unsaid)) mid sent new led)
 
@@ -201,11 +203,11 @@ module _ {R : Type 0} (routes : R → RouteCall → RouteTold → R → Type 0) 
       (subst (λ (e : Event). EndsStep result e now old new before outs) same h)
 
   -- what a crash leaves of a step and of deliveries behind it
-  outlasts_hold : (old mid new : Seen) (reply : Reply) (outs sent : List Out) (unsaid : Bool) (readings : List Reading) (entries : List PlaceEntry) (sending : Sending)
+  outlasts_hold : (old mid new : Seen) (reply : Reply) (outs sent : List Out) (unsaid : Bool) (readings : List Reading) (entries : List PlaceEntry) (full : Bool) (sending : Sending)
       → Outlasts holds (λ t. t < mid.place.volume.moment) (step seat at what now reply outs unsaid) old mid → Outlasts holds Never entries mid new → Led mid.place entries sent new.place
-      → let hold : Hold = hold_of seat at what now reply outs unsaid readings entries sending old.place mid.place new.place in Outlasts holds (IsEarlyIn (Held hold ∷ [])) (made_by (Held hold ∷ [])) old new
-  outlasts_hold old mid new reply outs sent unsaid readings entries sending h k led =
-      let hold : Hold = hold_of seat at what now reply outs unsaid readings entries sending old.place mid.place new.place in
+      → let hold : Hold = hold_of seat at what now reply outs unsaid readings entries full sending old.place mid.place new.place in Outlasts holds (IsEarlyIn (Held hold ∷ [])) (made_by (Held hold ∷ [])) old new
+  outlasts_hold old mid new reply outs sent unsaid readings entries full sending h k led =
+      let hold : Hold = hold_of seat at what now reply outs unsaid readings entries full sending old.place mid.place new.place in
       let steps : List PlaceEntry = step seat at what now reply outs unsaid in
       subst (λ (es : List PlaceEntry). Outlasts holds (IsEarlyIn (Held hold ∷ [])) es old new) (sym (append-nil (entries_in hold)))
       (outlasts_more holds (IsEarlyIn (Held hold ∷ [])) steps entries old mid new
@@ -253,9 +255,10 @@ module _ {R : Type 0} (routes : R → RouteCall → RouteTold → R → Type 0) 
       → HoldsOn routes worn at holds seat what now (record { became = Made made.reply; ready = ready; fault = option_or fault (fault_of sending made.unsaid) }) old new r s
   made_heard made old mid new outs all r t s ready fault sending kept keeps c h f sends =
       let next : Option DeskFault = fault_of sending made.unsaid in
-      let hold : Hold = hold_of seat at what now made.reply h.outs made.unsaid f.readings f.entries sending old.place mid.place new.place in
+      let stops = led_stops f.entries mid.place f.sent new.place f.led in
+      let hold : Hold = hold_of seat at what now made.reply h.outs made.unsaid f.readings f.entries stops.0 sending old.place mid.place new.place in
       let whole : all ≡ outs_of hold.before (entries_in hold) =
-      f.added ∙ ap (λ (os : List Out). os ++ f.sent) h.added ∙ all_sent seat at what now made.reply h.outs f.sent made.unsaid f.readings f.entries sending old.place mid.place new.place f.led in
+      f.added ∙ ap (λ (os : List Out). os ++ f.sent) h.added ∙ all_sent seat at what now made.reply h.outs f.sent made.unsaid f.readings f.entries stops.0 sending old.place mid.place new.place f.led in
       held_as (record { became = Made made.reply; ready = ready; fault = option_or fault next }) hold old new r s (refl, deliveries_by seat at now (listening_of f.readings) fault f.entries f.followed.are) (
         hold,
         refl,
@@ -278,12 +281,12 @@ module _ {R : Type 0} (routes : R → RouteCall → RouteTold → R → Type 0) 
       )
       (record {
         at_is = refl;
-        held = held_steps seat at what now made.reply h.outs f.sent made.unsaid f.readings f.entries sending old.place mid.place new.place h.made f.led;
+        held = held_steps seat at what now made.reply h.outs f.sent made.unsaid f.readings f.entries stops.0 sending old.place mid.place new.place h.made f.led stops.1;
         told = t;
         heard = f.followed.heard;
         sent = subst (λ (os : List Out). Sends routes worn t os sending s) whole sends;
       })
-      (outlasts_hold old mid new made.reply h.outs f.sent made.unsaid f.readings f.entries sending (outlasts_told made old mid outs kept keeps c h) f.outlasts f.led)
+      (outlasts_hold old mid new made.reply h.outs f.sent made.unsaid f.readings f.entries stops.0 sending (outlasts_told made old mid outs kept keeps c h) f.outlasts f.led)
 
   -- no turn of the router was left before who listens was told
   made_unheard : (made : MadeStep) (old mid new : Seen) (outs all : List Out) (r t : R) (number : ℕ)
@@ -291,7 +294,8 @@ module _ {R : Type 0} (routes : R → RouteCall → RouteTold → R → Type 0) 
       → EndsStep (Ok made) (event_at at what) now old.place mid.place [] outs → Follows routes worn seat at now holds (Unheard number) mid new r t outs all
       → HoldsOn routes worn at holds seat what now (record { became = Made made.reply; ready = false; fault = Some (faults.Worn number) }) old new r t
   made_unheard made old mid new outs all r t number kept keeps c h f =
-      let hold : Hold = hold_of seat at what now made.reply h.outs made.unsaid f.readings f.entries (Unsent number) old.place mid.place new.place in
+      let stops = led_stops f.entries mid.place f.sent new.place f.led in
+      let hold : Hold = hold_of seat at what now made.reply h.outs made.unsaid f.readings f.entries stops.0 (Unsent number) old.place mid.place new.place in
       held_as (record { became = Made made.reply; ready = false; fault = Some (faults.Worn number) }) hold old new r t (refl, subst (λ (es : List PlaceEntry). AllByRecursion (λ (e : PlaceEntry). seat_of e ≡ seat) es) (sym f.followed.none) tt) (
         hold,
         refl,
@@ -314,7 +318,7 @@ module _ {R : Type 0} (routes : R → RouteCall → RouteTold → R → Type 0) 
       )
       (record {
         at_is = refl;
-        held = held_steps seat at what now made.reply h.outs f.sent made.unsaid f.readings f.entries (Unsent number) old.place mid.place new.place h.made f.led;
+        held = held_steps seat at what now made.reply h.outs f.sent made.unsaid f.readings f.entries stops.0 (Unsent number) old.place mid.place new.place h.made f.led stops.1;
         told = f.followed.mid;
         heard = f.followed.heard;
         sent = inr (record {
@@ -329,7 +333,7 @@ module _ {R : Type 0} (routes : R → RouteCall → RouteTold → R → Type 0) 
           sending_is = refl;
         });
       })
-      (outlasts_hold old mid new made.reply h.outs f.sent made.unsaid f.readings f.entries (Unsent number) (outlasts_told made old mid outs kept keeps c h) f.outlasts f.led)
+      (outlasts_hold old mid new made.reply h.outs f.sent made.unsaid f.readings f.entries stops.0 (Unsent number) (outlasts_told made old mid outs kept keeps c h) f.outlasts f.led)
 
   same_outcome : (outcome : Outcome) (became : Became) (ready : Bool) (fault : Option DeskFault) → outcome.became ≡ became → outcome.ready ≡ ready → outcome.fault ≡ fault
       → outcome ≡ record { became = became; ready = ready; fault = fault }
@@ -428,7 +432,7 @@ module _ {R : Type 0} (routes : R → RouteCall → RouteTold → R → Type 0) 
           on new.place s,
           record {
             at_is = refl;
-            stirred = record { going = is; state = h.state; stored = h.stored; stops = h.stopped ∙ is; volume_was = refl; volume_is = refl; later = h.later };
+            stirred = record { going = is; state = h.state; stored = h.stored; stops = (h.stopped ∙ is, refl); volume_was = refl; volume_is = refl; later = h.later };
             port = same;
           },
           refl,
@@ -543,11 +547,11 @@ module _ {R : Type 0} (routes : R → RouteCall → RouteTold → R → Type 0) 
             (made_step old new h.reply h.outs true h.made) (λ firm. let no : ⊥ = cc in no);
       }
 
-  -- the volume failed
-  broke : (stream : Bytes) (old new : Seen) (outs : List Out) (r s : R) → IsKept holds old → IsKept holds new → MayCommit holds old new → stream ≡ stream_name old.place.state
-      → EndsStep (Err places.StoreFault) (event_at at what) now old.place new.place [] outs → s ≡ r → HoldsOn routes worn at holds seat what now (quietly (Broke stream)) old new r s
-  broke stream old new outs r s kept keeps commits name h same =
-      let hold : Hold = record (hold_alone seat at what now h.reply [] false Sent old.place new.place) { steps = Broken seat now (StepOf (event_at at what)) ∷ [] } in
+  -- the volume failed, or its log was full
+  broke : (full : Bool) (stream : Bytes) (old new : Seen) (r s : R) → IsKept holds old → IsKept holds new → MayCommit holds old new → stream ≡ stream_name old.place.state
+      → BreaksStep full (event_at at what) now old.place new.place → s ≡ r → HoldsOn routes worn at holds seat what now (quietly (Broke stream full)) old new r s
+  broke full stream old new r s kept keeps commits name h same =
+      let hold : Hold = record (hold_alone seat at what now h.reply [] false Sent old.place new.place) { steps = Broken seat now (StepOf (event_at at what)) ∷ []; full = full } in
       record {
         entries = Held hold ∷ [];
         holds = record {
@@ -566,6 +570,7 @@ module _ {R : Type 0} (routes : R → RouteCall → RouteTold → R → Type 0) 
               deliveries = refl;
               sending = refl;
               stream_is = name;
+              full_is = refl;
             },
             (refl, refl),
           );
@@ -605,7 +610,8 @@ module _ {R : Type 0} (routes : R → RouteCall → RouteTold → R → Type 0) 
       undone old new r s h (outlasts_call holds old new kept keeps commits [] (sym h.state)) sends
   failed (places.NoMemory left.Ticked) stream old new outs r s kept keeps commits name h sends = ticked old new outs r s kept keeps commits h sends
   failed (places.NoMemory (left.Unsaid refused)) stream old new outs r s kept keeps commits name h sends = withheld refused faults.NoMemory old new outs r s kept keeps commits h sends tt
-  failed places.StoreFault stream old new outs r s kept keeps commits name h sends = broke stream old new outs r s kept keeps commits name h sends
+  failed places.StoreFault stream old new outs r s kept keeps commits name h sends = broke false stream old new r s kept keeps commits name h sends
+  failed places.Full stream old new outs r s kept keeps commits name h sends = broke true stream old new r s kept keeps commits name h sends
   failed (places.Stopped count) stream old new outs r s kept keeps commits name h sends =
       held_stopped old new r s h.same sends (outlasts_call holds old new kept keeps commits [] (ap (λ (p : PlaceIn). p.state) (sym h.same))) stream count name h.stopped
   failed (places.Gone other) stream old new outs r s kept keeps commits name h sends =

@@ -1,5 +1,5 @@
 -- What a place promises of a delivery is one of the deliveries of a hold, or their end.
-use Rattle.std.proofs.Common.{inl, ◌≡◌, ◌≤◌, ◌<◌, ◌^◌, ◌++◌, ◌&&◌, ℕ, true, false, List, [], ◌∷◌, append-nil, Option, None, Some, Result, Ok, Err, refl, sym, subst, ◌∙◌, arith, IsTrue}
+use Rattle.std.proofs.Common.{inl, ◌≡◌, ◌≤◌, ◌<◌, ◌^◌, ◌++◌, ◌&&◌, ℕ, Bool, true, false, List, [], ◌∷◌, append-nil, Option, None, Some, Result, Ok, Err, refl, sym, subst, ◌∙◌, arith, IsTrue}
 use Rattle.std.specs.Prelude.{nat_le, sum_by}
 use Rattle.std.proofs.lemmas.Bool.{and_from, le-leb}
 use Rattle.js_base.specs.Bytes.{Bytes}
@@ -17,11 +17,11 @@ use Rattle.js_model.specs.PlaceStates.{PlaceIn}
 use Rattle.js_model.specs.Proper.{is_proper}
 use Rattle.js_model.specs.Ready.{some_ready}
 use Rattle.js_api.specs.Holding.{bytes_of, most_bytes}
-use Rattle.js_api.specs.Worlds.{IsLater}
+use Rattle.js_api.specs.Worlds.{IsLater, Stops}
 use Rattle.place_engine.specs.Delivering.{Delivers, Makes, tick_at}
 use Rattle.place_engine.specs.Stepping.{Elapses, Image, IsKept, MayKeepBase, Seen, Steps}
 use Rattle.place_engine.specs.declared.faults.PlaceFault.{PlaceFault}
-use Rattle.place_engine.specs.declared.faults.PlaceFault.TheVariants.{NoMemory, StoreFault, Stopped, Gone, Worn}
+use Rattle.place_engine.specs.declared.faults.PlaceFault.TheVariants.{NoMemory, StoreFault, Full, Stopped, Gone, Worn}
 use Rattle.place_engine.specs.declared.faults.Left.TheVariants.{Nothing, Ticked, Unsaid}
 use Rattle.desk_hold.specs.declared.delivering.Ending.{Ending}
 use Rattle.desk_hold.specs.declared.delivering.Ending.TheVariants.{Quiet, Broke, Short, WornOut}
@@ -63,6 +63,7 @@ module _ (holds : Image → State → Type 0) (now : ℕ) (listening : List Byte
       by (Err (NoMemory Ticked)) h = base_of h.ends.may
       by (Err (NoMemory (Unsaid refused))) h = λ b is. inl (h.ends.put_off.base b is)
       by (Err StoreFault) h = h.ends.base
+      by (Err Full) h = λ b is. inl (h.ends.base b is)
       by (Err (Stopped count)) h = λ b is. inl (h.ends.rests.base b is)
       by (Err (Gone other)) h = absurd h.ends
       by (Err (Worn refused)) h = λ b is. inl (h.ends.hides.put_off.base b is)
@@ -141,20 +142,20 @@ module _ (holds : Image → State → Type 0) (now : ℕ) (listening : List Byte
         ends = tt;
       }
 
-  -- the volume failed in it
-  broke : Delivers holds (Err StoreFault) now listening old new before after → (seat : ℕ) (at : PlaceAt) → DeliversOn holds 1 seat at now listening Broke old new before after
-  broke h seat at =
-      let led : Led old.place (Broken seat now (DeliverOf listening h.ends.delivery) ∷ []) [] new.place =
-      (h.ends.sent, sent_at h.ends.delivery h.ends.sent h.ends.makes h.stored h.time, (h.ends.stops, h.ends.cause), refl, refl) in
+  -- one was made and told to nobody, and the place stopped
+  broke : (full : Bool) (d : Delivery) (os : List Out) → MayCommit holds old new → IsSentAt now listening d os old.place new.place → Stops true full old.place.volume new.place.volume new.place.stopped
+      → after ≡ before → (seat : ℕ) (at : PlaceAt) → DeliversOn holds 1 seat at now listening Broke old new before after
+  broke full d os commits step stops outs seat at =
+      let led : Led old.place (Broken seat now (DeliverOf listening d) ∷ []) [] new.place = (os, full, step, stops, refl, refl) in
       record {
-        entries = Broken seat now (DeliverOf listening h.ends.delivery) ∷ [];
+        entries = Broken seat now (DeliverOf listening d) ∷ [];
         sent = [];
         few = omega arith;
-        room = one_room before (Broken seat now (DeliverOf listening h.ends.delivery)) room;
+        room = one_room before (Broken seat now (DeliverOf listening d)) room;
         are = (refl, refl, refl, refl);
         led = led;
-        outlasts = outlasts_of (commits_of (Err StoreFault) h) (Broken seat now (DeliverOf listening h.ends.delivery) ∷ []) [] led;
-        added = h.ends.outs ∙ sym (append-nil before);
+        outlasts = outlasts_of commits (Broken seat now (DeliverOf listening d) ∷ []) [] led;
+        added = outs ∙ sym (append-nil before);
         ends = refl;
       }
 
@@ -166,7 +167,12 @@ module _ (holds : Image → State → Type 0) (now : ℕ) (listening : List Byte
   next_failed (NoMemory Ticked) h = ticked h
   next_failed (NoMemory (Unsaid refused)) h =
       last_sent Short h.ends.delivery h.ends.sent (commits_of (Err (NoMemory (Unsaid refused))) h) (sent_at h.ends.delivery h.ends.sent h.ends.makes h.stored h.time) h.ends.goes h.ends.outs (λ seat es is. tt)
-  next_failed StoreFault h = broke h
+  next_failed StoreFault h =
+      let e = h.ends in
+      broke false e.delivery e.sent (commits_of (Err StoreFault) h) (sent_at e.delivery e.sent e.makes h.stored h.time) (e.stops, λ failed. e.cause) e.outs
+  next_failed Full h =
+      let e = h.ends in
+      broke true e.delivery e.sent (commits_of (Err Full) h) (sent_at e.delivery e.sent e.makes h.stored h.time) (e.stops, λ failed. let no : ⊥ = cc in absurd no) e.outs
   next_failed (Stopped count) h = absurd (was_stopped count h.ends.stopped)
   next_failed (Gone kept) h = absurd h.ends
   next_failed (Worn refused) h =

@@ -16,7 +16,7 @@ use Rattle.js_api.specs.Outputs.{answer_of, stream_name, said}
 use Rattle.js_api.specs.Worlds.{IsLater}
 use Rattle.place_engine.specs.Stepping.{Image, LeavesVolume, Rests, Seen, Steps, Elapses, Does, Withholds, tick_of}
 use Rattle.place_engine.specs.declared.faults.PlaceFault.{PlaceFault}
-use Rattle.place_engine.specs.declared.faults.PlaceFault.TheVariants.{NoMemory, StoreFault, Stopped, Gone, Worn}
+use Rattle.place_engine.specs.declared.faults.PlaceFault.TheVariants.{NoMemory, StoreFault, Full, Stopped, Gone, Worn}
 use Rattle.place_engine.specs.declared.faults.Left.TheVariants.{Nothing, Ticked, Unsaid}
 use Rattle.desk_hold.specs.Steps.{IsMade, EndsStep, WithholdsStep}
 use Rattle.desk_hold.proofs.Ticks.{tick_silent, tick_proper}
@@ -102,7 +102,13 @@ module _ (holds : Image → State → Type 0) (event : Event) (now : ℕ) (old n
     reply = (answer_to event).reply;
     outs = (answer_to event).outs;
     made = made event proper h.ends.does h.stored h.time;
-    stops = (h.ends.stops, h.ends.cause);
+    stops = (h.ends.stops, λ failed. h.ends.cause);
+  }
+  failed_step Full before after h = record {
+    reply = (answer_to event).reply;
+    outs = (answer_to event).outs;
+    made = made event proper h.ends.does h.stored h.time;
+    stops = (h.ends.stops, λ failed. let no : ⊥ = cc in absurd no);
   }
   failed_step (Stopped count) before after h = record { stopped = h.ends.stopped; same = all_rests old new before after h.ends.rests h.ends.volume }
   failed_step (Gone kept) before after h = record {

@@ -1,5 +1,5 @@
 -- An event on one place, and what became of it.
-use Rattle.std.specs.Prelude.{◌≡◌, ◌≢◌, ◌<◌, ◌≤◌, ◌+◌, ◌-◌, ◌^◌, ◌++◌, ℕ, Bool, true, List, length, None, Some, Result, Ok, Err}
+use Rattle.std.specs.Prelude.{◌≡◌, ◌≢◌, ◌<◌, ◌≤◌, ◌+◌, ◌-◌, ◌^◌, ◌++◌, ℕ, Bool, true, false, List, length, None, Some, Result, Ok, Err}
 use Rattle.js_base.specs.declared.out.Out.{Out}
 use Rattle.js_model.specs.declared.stream.State.{State}
 use Rattle.js_model.specs.declared.stream.State.TheVariants.{Live}
@@ -14,7 +14,7 @@ use Rattle.js_api.specs.Outputs.{answer_of, stream_name, said}
 use Rattle.js_api.specs.Worlds.{IsLater, Stops}
 use Rattle.place_engine.specs.Stepping.{tick_of}
 use Rattle.place_engine.specs.declared.faults.PlaceFault.{PlaceFault}
-use Rattle.place_engine.specs.declared.faults.PlaceFault.TheVariants.{NoMemory, StoreFault, Stopped, Gone, Worn}
+use Rattle.place_engine.specs.declared.faults.PlaceFault.TheVariants.{NoMemory, StoreFault, Full, Stopped, Gone, Worn}
 use Rattle.place_engine.specs.declared.faults.Left.TheVariants.{Nothing, Ticked, Unsaid}
 use Rattle.desk_hold.specs.declared.stepping.MadeStep.{MadeStep}
 
@@ -57,12 +57,12 @@ pub record WearsStep (refused : Bool) (event : Event) (now : ℕ) (old new : Pla
   pub withholds : WithholdsStep refused event now old new before after
   pub last : new.volume.generation ≡ 2 ^ 62 - 1
 
--- the volume failed in it
-pub record BreaksStep (event : Event) (now : ℕ) (old new : PlaceIn) : Type 0 where
+-- the volume failed in it, or its log was full
+pub record BreaksStep (full : Bool) (event : Event) (now : ℕ) (old new : PlaceIn) : Type 0 where
   pub reply : Reply
   pub outs : List Out
   pub made : IsMade event now reply outs old new
-  pub stops : Stops true old.volume new.volume new.stopped
+  pub stops : Stops true full old.volume new.volume new.stopped
 
 -- nothing was made; the volume may have been called unless the place is stopped
 pub record IsUndoneStep (old new : PlaceIn) : Type 0 where
@@ -88,7 +88,8 @@ EndsStep (Ok step) event now old new before after = AddsStep step event now old 
 EndsStep (Err (NoMemory Nothing)) event now old new before after = IsUndoneStep old new
 EndsStep (Err (NoMemory Ticked)) event now old new before after = AddsTick event now old new before after
 EndsStep (Err (NoMemory (Unsaid refused))) event now old new before after = WithholdsStep refused event now old new before after
-EndsStep (Err StoreFault) event now old new before after = BreaksStep event now old new
+EndsStep (Err StoreFault) event now old new before after = BreaksStep false event now old new
+EndsStep (Err Full) event now old new before after = BreaksStep true event now old new
 EndsStep (Err (Stopped count)) event now old new before after = FindsStopped count old new
 EndsStep (Err (Gone kept)) event now old new before after = FindsOther event old new
 EndsStep (Err (Worn refused)) event now old new before after = WearsStep refused event now old new before after

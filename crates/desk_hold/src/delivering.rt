@@ -23,7 +23,7 @@ pub enum Ending {
     Quiet,
     /// As much was done as a hold does.
     Full,
-    /// The volume failed in the last one, and the place is stopped.
+    /// The volume failed in the last one, or its log was full, and the place is stopped.
     Broke,
     /// Memory ran out.
     Short,
@@ -43,6 +43,7 @@ pub fn deliver_all<P: Place>(
     ensures delivers { (seat : ℕ) (at : PlaceAt) → DeliversOn P.holds most_deliveries seat at now listening.now result (P.seen place.old) (P.seen place.new) outs.old outs.new }
     ensures vol { P.keeps_vol (P.vol place.old) (P.vol place.new) }
 {
+    place.law_kept();
     let mut size = size_of(outs.as_slice());
     for _ in 0..MOST_DELIVERIES {
         if size >= MOST_BYTES {
@@ -52,6 +53,7 @@ pub fn deliver_all<P: Place>(
         if let Some(ending) = deliver_next(place, now, listening, outs) {
             return ending;
         }
+        place.law_kept();
         size = size.saturating_add(size_of(outs.as_slice().split_at(from).1));
     }
     Ending::Full
@@ -72,7 +74,9 @@ fn deliver_next<P: Place>(
     law_moment(now);
     // that the incarnation is at most 2^62 is what the proof takes from this call
     let _ = place.incarnation();
+    place.law_kept();
     let told = place.deliver_one(now, listening, outs);
+    place.law_kept();
     ending_after(told)
 }
 
@@ -93,7 +97,8 @@ fn ended_by(fault: PlaceFault) -> Ending
 {
     match fault {
         PlaceFault::NoMemory(_) => Ending::Short,
-        PlaceFault::StoreFault | PlaceFault::Stopped(_) | PlaceFault::Gone(_) => Ending::Broke,
+        PlaceFault::StoreFault | PlaceFault::Full | PlaceFault::Stopped(_) | PlaceFault::Gone(_) =>
+            Ending::Broke,
         PlaceFault::Worn { refused: _ } => Ending::WornOut,
     }
 }

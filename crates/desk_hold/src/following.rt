@@ -48,6 +48,7 @@ pub fn follow<P: Place, R: Port>(
     ensures follows { (seat : ℕ) (at : PlaceAt) → Follows R.routes R.worn seat at now P.holds result (P.seen place.old) (P.seen place.new) port.old port.new outs.old outs.new }
     ensures vol { P.keeps_vol (P.vol place.old) (P.vol place.new) }
 {
+    place.law_kept();
     let listening = match hear(alloc, place, port) {
         Ok(listening) => listening,
         Err(PortFault::NoMemory) => return failed(DeskFault::NoMemory),

@@ -75,6 +75,7 @@ fn follow_step<P: Place, R: Port>(
     ensures vol { P.keeps_vol (P.vol place.old) (P.vol place.new) }
 {
     if unsaid {
+        place.law_kept();
         return failed(DeskFault::NoMemory);
     }
     follow(alloc, place, port, now, outs)
@@ -137,7 +138,11 @@ fn fail<R: Port>(port: &mut R, outs: &[Out], fault: PlaceFault, stream: Blob) ->
             let _ = send_all(port, outs);
             worn_out(Became::Unsaid { refused })
         }
-        PlaceFault::StoreFault => quietly(Became::Broke { stream }),
+        PlaceFault::StoreFault => quietly(Became::Broke {
+            stream,
+            full: false,
+        }),
+        PlaceFault::Full => quietly(Became::Broke { stream, full: true }),
         PlaceFault::Stopped(_) => quietly(Became::Stopped { stream }),
         PlaceFault::Gone(_) => quietly(Became::Gone),
     }
@@ -166,7 +171,10 @@ fn hold_named<P: Place, R: Port>(
     ensures vol { P.keeps_vol (P.vol place.old) (P.vol place.new) }
 {
     let mut outs = List::new(alloc);
-    match make(alloc, place, stream.as_slice(), event, now, &mut outs) {
+    place.law_kept();
+    let made = make(alloc, place, stream.as_slice(), event, now, &mut outs);
+    place.law_kept();
+    match made {
         Ok(step) => {
             let following = follow_step(alloc, place, port, step.unsaid, now, &mut outs);
             finish(port, outs.as_slice(), step, following)
@@ -208,6 +216,7 @@ fn hold_event<P: Place, R: Port>(
     ensures number { NumbersDropped event.now.what result.became at }
     ensures vol { P.keeps_vol (P.vol place.old) (P.vol place.new) }
 {
+    place.law_kept();
     let stream = match stream_name(place) {
         Ok(stream) => stream,
         Err(_) => return shortly(Became::Nothing),

@@ -73,6 +73,7 @@ pub fn make<P: Place>(
     ensures vol { P.keeps_vol (P.vol place.old) (P.vol place.new) }
 {
     law_moment(now);
+    place.law_kept();
     match place.step(event, now, outs) {
         Ok(reply) => {
             let unsaid = add_answer(alloc, stream, &event.what, &reply, outs);

@@ -90,7 +90,7 @@ fn is_heard(reply: &Reply) -> bool
     !matches!(reply, Reply::Nobody | Reply::Refused(_))
 }
 
-/// Whether somebody took it, by what became of the hold. A stream whose volume failed is there.
+/// Whether somebody took it, by what became of the hold. A stream whose hold broke is there.
 fn heard(became: &Became) -> bool
     requires explained { IsExplained None became.now }
     ensures heard { IsHeard became.now (Ok result) [] }
@@ -100,7 +100,7 @@ fn heard(became: &Became) -> bool
         Became::Unsaid { refused: _ } => unreachable!(),
         Became::Ticked => unreachable!(),
         Became::Nothing => unreachable!(),
-        Became::Broke { stream: _ } => true,
+        Became::Broke { .. } => true,
         Became::Stopped { stream: _ } => true,
         Became::Gone => false,
     }

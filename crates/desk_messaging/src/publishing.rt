@@ -53,7 +53,7 @@ fn ask_store<G: Ground>(ground: &mut G, at: PlaceAt, message: &Out, now: Moment)
     }
 }
 
-/// Whether a stream took the message. If its volume failed, the server answers that.
+/// Whether a stream took the message. If the hold broke, the server answers why.
 fn reached<G: Ground>(ground: &mut G, message: &Out, became: &Became) -> Result<bool, DeskFault>
     requires explained { IsExplained None became.now }
     requires shown { CanBeShown became.now }
@@ -66,8 +66,8 @@ fn reached<G: Ground>(ground: &mut G, message: &Out, became: &Became) -> Result<
         Became::Unsaid { refused: _ } => unreachable!(),
         Became::Ticked => unreachable!(),
         Became::Nothing => unreachable!(),
-        Became::Broke { stream } => {
-            refuse_publish(ground, &message.reply, stream, Reason::StoreFault)
+        Became::Broke { stream, full } => {
+            refuse_publish(ground, &message.reply, stream, Reason::broken(*full))
         }
         Became::Stopped { stream } => {
             refuse_publish(ground, &message.reply, stream, Reason::StreamStopped)

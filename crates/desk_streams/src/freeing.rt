@@ -28,7 +28,7 @@ fn is_done(reply: &Reply) -> bool
 
 // ---- the catalog
 
-/// Frees a place that was taken for a stream, unless the stream was made there. The place is stopped if its volume failed or had failed before.
+/// Frees a place that was taken for a stream, unless the stream was made there. The place is stopped if the hold broke or it was stopped before.
 pub fn free_unless_made<G: Ground>(ground: &mut G, at: PlaceAt, became: &Became)
     requires turn { G.phase ground.old ≡ Within }
     requires known { Knows (G.kept ground.old) at }
@@ -47,12 +47,12 @@ pub fn free_unless_made<G: Ground>(ground: &mut G, at: PlaceAt, became: &Became)
                 ground.remove(at.place, false);
             }
         }
-        Became::Broke { stream: _ } | Became::Stopped { stream: _ } => ground.stop(at.place),
+        Became::Broke { .. } | Became::Stopped { .. } => ground.stop(at.place),
         Became::Ticked | Became::Nothing | Became::Gone => ground.remove(at.place, false),
     }
 }
 
-/// Keeps the new subjects of a stream that was changed, and the old ones of any other. With both it is stopped if its volume failed.
+/// Keeps the new subjects of a stream that was changed, and the old ones of any other. With both it is stopped if the hold broke.
 pub fn keep_subjects<G: Ground>(ground: &mut G, at: PlaceAt, became: &Became)
     requires turn { G.phase ground.old ≡ Between at.place }
     requires between { HasPlace (G.kept ground.old) at.place (IsBetween at) }
@@ -63,13 +63,13 @@ pub fn keep_subjects<G: Ground>(ground: &mut G, at: PlaceAt, became: &Became)
     match became {
         Became::Made(reply) => ground.keep(at.place, is_info(reply)),
         Became::Unsaid { refused } => ground.keep(at.place, !*refused),
-        Became::Broke { stream: _ } => ground.stop(at.place),
+        Became::Broke { .. } => ground.stop(at.place),
         Became::Stopped { stream: _ } => ground.keep(at.place, false),
         Became::Ticked | Became::Nothing | Became::Gone => ground.keep(at.place, false),
     }
 }
 
-/// Frees the place of a stream that was dropped. The place is stopped if its volume failed.
+/// Frees the place of a stream that was dropped. The place is stopped if the hold broke.
 pub fn free_if_dropped<G: Ground>(ground: &mut G, at: PlaceAt, became: &Became)
     requires turn { G.phase ground.old ≡ (if is_dropped became.now then Owing at.place else Within) }
     requires known { Knows (G.kept ground.old) at }
@@ -89,7 +89,7 @@ pub fn free_if_dropped<G: Ground>(ground: &mut G, at: PlaceAt, became: &Became)
                 ground.remove(at.place, true);
             }
         }
-        Became::Broke { stream: _ } => ground.stop(at.place),
+        Became::Broke { .. } => ground.stop(at.place),
         Became::Ticked | Became::Nothing | Became::Stopped { stream: _ } | Became::Gone => {}
     }
 }

@@ -5,10 +5,16 @@
 #[cfg(test)]
 mod append_calls;
 #[cfg(test)]
+mod blind;
+#[cfg(test)]
 mod contents;
 #[cfg(test)]
 mod folder;
 #[cfg(test)]
+mod locked_folder;
+#[cfg(test)]
 mod stopped_appends;
+#[cfg(test)]
+mod stores;
 #[cfg(test)]
 mod volumes;

@@ -1,5 +1,5 @@
 -- The calls of a desk and what they answer.
-use Rattle.std.specs.Prelude.{ℕ, Bool, true, false, List, Option, option_map, Result, Ok, Err}
+use Rattle.std.specs.Prelude.{ℕ, Bool, List, Option, Result, Ok, Err}
 use Rattle.js_base.specs.Bytes.{Bytes}
 use Rattle.js_base.specs.declared.out.Out.{Out}
 use Rattle.js_base.specs.declared.frame.Frame.{Frame}

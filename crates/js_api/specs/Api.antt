@@ -1,5 +1,5 @@
 -- What a publish to a subject of the JetStream API makes, by the JetStream API reference, and what an acknowledgement does: whether somebody took it.
-use Rattle.std.specs.Prelude.{◌≡◌, ◌⊎◌, ℕ, Bool, true, false, List, [], Option, Some, None, MatchBool, Result, Ok, Err}
+use Rattle.std.specs.Prelude.{ℕ, Bool, true, List, Option, Some, None, MatchBool, Result, Ok, Err}
 use Rattle.js_base.specs.declared.out.Out.{Out}
 use Rattle.js_base.specs.declared.out.ApiError.{ApiError}
 use Rattle.js_base.specs.Bytes.{Bytes}

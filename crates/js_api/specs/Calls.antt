@@ -1,5 +1,5 @@
 -- Which entries each call of a desk makes, and with which answer.
-use Rattle.std.specs.Prelude.{◌≡◌, ◌⊎◌, ℕ, ◌^◌, ◌-◌, Bool, true, false, List, [], ◌∷◌, Option, Some, None, MatchBool, MatchOption, Result, Ok, Err, IsTrue}
+use Rattle.std.specs.Prelude.{◌≡◌, ◌⊎◌, ℕ, ◌^◌, ◌-◌, Bool, true, false, List, [], ◌∷◌, Option, MatchBool, MatchOption, Result, Ok, Err, IsTrue}
 use Rattle.js_base.specs.declared.out.Out.{Out}
 use Rattle.js_model.specs.declared.event.What.TheVariants.{Tick as LetPass}
 use Rattle.js_model.specs.declared.desk.Taken.{Taken}

@@ -1,7 +1,6 @@
 -- What a desk knows of the client of its session.
 use Rattle.std.specs.Prelude.{ℕ, Bool, true, false, ◌&&◌, Result, Ok, Err}
 use Rattle.js_api.specs.declared.fault.DeskFault.{DeskFault}
-use Rattle.js_api.specs.declared.fault.DeskFault.TheVariants as faults
 use Rattle.js_api.specs.Answering.{DeskCall, Open, Options, Sub, Unsub, Publish, Tick, Settle, Collect, Close, DeskAnswer, Opened, Done, Took, Settled, Gave, Slow}
 
 -- the number of the last session of the desk, whether it is open, and whether its client is told if nobody took a message

@@ -1,6 +1,6 @@
 -- Calls of the JetStream API on the consumers of one stream, and acknowledgements. A question for messages and an acknowledgement have no answer but what
 -- the stream itself sends; somebody took them if their stream is there, and for a question its consumer too.
-use Rattle.std.specs.Prelude.{◌≡◌, ℕ, Bool, true, false, List, [], MatchBool, Option, Result, Ok, Err}
+use Rattle.std.specs.Prelude.{ℕ, Bool, true, false, List, [], MatchBool, Option, Result, Ok, Err}
 use Rattle.js_base.specs.Bytes.{Bytes}
 use Rattle.js_base.specs.Names.{name_of}
 use Rattle.js_base.specs.declared.name.NameFault.{NameFault}
@@ -62,13 +62,13 @@ is_heard Silent = true
 is_heard Nobody = false
 is_heard (Refused e) = false
 
--- whether somebody took it, by what became of the hold. A stream whose volume failed is there
+-- whether somebody took it, by what became of the hold. A stream whose hold broke is there
 abbrev pub IsHeard : Became → Result Bool DeskFault → List DeskEntry → Type 0
 IsHeard (Made reply) result entries = Gives (is_heard reply) result entries
 IsHeard (Unsaid refused) result entries = ⊥
 IsHeard Ticked result entries = ⊥
 IsHeard Nothing result entries = ⊥
-IsHeard (Broke stream) result entries = Gives true result entries
+IsHeard (Broke stream full) result entries = Gives true result entries
 IsHeard (Stopped stream) result entries = Gives true result entries
 IsHeard Gone result entries = Gives false result entries
 

@@ -1,5 +1,5 @@
 -- What a desk of one caller stands on, and how its entries lead from one state of it to another.
-use Rattle.std.specs.Prelude.{◌≡◌, ◌≢◌, ◌≤◌, ◌+◌, ℕ, Bool, true, false, List, [], ◌∷◌, ◌++◌, map, length, Option, None, Some, slice_get, slice_set}
+use Rattle.std.specs.Prelude.{◌≡◌, ◌≢◌, ◌≤◌, ℕ, Bool, true, false, List, [], ◌∷◌, map, Option, None, Some, slice_get, slice_set}
 use Rattle.js_base.specs.Bytes.{Bytes}
 use Rattle.js_base.specs.Causes.{Rose}
 use Rattle.js_base.specs.declared.out.Out.{Out}
@@ -67,10 +67,10 @@ is_broken (Step seat e now reply outs unsaid ∷ more) = is_broken more
 is_broken (Deliver seat now listening d outs ∷ more) = is_broken more
 is_broken (Broken seat now call ∷ more) = true
 
--- a hold that broke stops its place, at the count that its volume has then, which rose
-abbrev pub Stops : Bool → VolumeAt → VolumeAt → Option ℕ → Type 0
-Stops true before after stopped = (stopped ≡ Some after.faults) × Rose before.faults after.faults
-Stops false before after stopped = stopped ≡ None
+-- a hold that broke stops its place, at the count that its volume has then, which rose unless the log of the store was full
+abbrev pub Stops : (broken full : Bool) → VolumeAt → VolumeAt → Option ℕ → Type 0
+Stops true full before after stopped = (stopped ≡ Some after.faults) × (full ≡ false → Rose before.faults after.faults)
+Stops false full before after stopped = (stopped ≡ None) × (full ≡ false)
 
 -- its count of faults, its calls and its generations do not fall
 pub record IsLater (before after : VolumeAt) : Type 0 where
@@ -87,18 +87,18 @@ pub record IsHeld (hold : Hold) (old new : PlaceIn) : Type 0 where
   pub ends : is_broken hold.steps ≡ true → hold.deliveries ≡ []
   pub is_state : new.state ≡ hold.after
   pub stored : new.stored ≤ total_of (total_of old.stored hold.before hold.steps hold.between steps) hold.between hold.deliveries hold.after deliveries
-  pub stops : Stops (is_broken (entries_in hold)) hold.volume_before hold.volume_after new.stopped
+  pub stops : Stops (is_broken (entries_in hold)) hold.full hold.volume_before hold.volume_after new.stopped
   pub volume_was : old.volume ≡ hold.volume_before
   pub volume_is : new.volume ≡ hold.volume_after
   pub before_between : IsLater hold.volume_before hold.volume_between
   pub between_after : IsLater hold.volume_between hold.volume_after
 
--- the volume of a place was called without an entry of its run
+-- the volume of a place was called without an entry of its run. No log is full in that
 pub record IsStirred (before after : VolumeAt) (failed : Bool) (old new : PlaceIn) : Type 0 where
   pub going : old.stopped ≡ None
   pub state : new.state ≡ old.state
   pub stored : new.stored ≡ old.stored
-  pub stops : Stops failed before after new.stopped
+  pub stops : Stops failed false before after new.stopped
   pub volume_was : old.volume ≡ before
   pub volume_is : new.volume ≡ after
   pub later : IsLater before after

@@ -1,5 +1,5 @@
 -- What a hold makes of the ground of one caller.
-use Rattle.std.proofs.Common.{◌≡◌, ◌<◌, ◌+◌, ℕ, Bool, get_or, true, false, ◌&&◌, List, length, Option, Some, None, refl, sym, ap, subst, ◌∙◌, if◌then◌else◌, IfSome, arith}
+use Rattle.std.proofs.Common.{◌≡◌, ◌≤◌, ◌<◌, ◌+◌, ℕ, Bool, get_or, true, false, ◌&&◌, List, length, Option, Some, None, refl, sym, ap, subst, ◌∙◌, if◌then◌else◌, IfSome, arith}
 use Rattle.std.specs.Prelude.{◌==◌, slice_get, slice_set}
 use Rattle.std.proofs.lemmas.Bool.{eq-eqb, eqb-true}
 use Rattle.std.specs.Option.{IsSomeAnd}
@@ -31,9 +31,14 @@ use Rattle.js_desk.specs.declared.turn.Turn.{Turn}
 use Rattle.js_desk.specs.declared.turn.Turn.TheVariants as turns
 use Rattle.js_desk.specs.Dropping.{is_drop}
 use Rattle.js_desk.specs.Grounds.{AreAgreed, AreSingle, IsGrounded, SoloMade, after_hold, is_held, phase_of, places_by, standing, told_incarnation}
-use Rattle.desk_hold.proofs.Alone.{held_alone, last_of, never, with_place}
+use Rattle.desk_hold.proofs.Alone.{held_alone, held_entries, last_of, never, with_place}
 use Rattle.js_desk.proofs.HoldFacts.{Facts, hold_facts}
 use Rattle.js_desk.specs.Kept.{kept_set}
+use Rattle.crash_laws.specs.Outlasting.{Outlasts}
+use Rattle.crash_laws.specs.Timed.{timed_at}
+use Rattle.js_desk.proofs.HeldTimes.{timed_elsewhere}
+use Rattle.js_desk.specs.Lasting.{PlacesOutlast}
+use Rattle.js_desk.proofs.Lasting.{outlast_set}
 use Rattle.js_desk.proofs.Looked.{within_is}
 use Rattle.js_desk.proofs.Sets.{get_other, get_set, length_set}
 
@@ -187,13 +192,14 @@ module _ (c : Catalog) (places : List PlaceIn) (last : Option PlaceAt) (turn : T
       by (became.Unsaid refused) e = tt
       by became.Ticked e = tt
       by became.Nothing e = tt
-      by (became.Broke stream) e = tt
+      by (became.Broke stream full) e = tt
       by (became.Stopped stream) e = tt
       by became.Gone e = let gone = f.gone e in gone.1 (known_kept (slice_get c at.place) refl known gone.0)
 
 -- ---- the entries
 
-module _ {V : Type 0} (keeps : V → V → Type 0) (none : (v : V) → keeps v v) (r router : Router) (c : Catalog) (places : List PlaceIn) (vols : List V) (ticked : ℕ) (last : Option PlaceAt) (turn : Turn) (at : PlaceAt)
+module _ {V : Type 0} (keeps : V → V → Type 0) (none : (v : V) → keeps v v) (left : V → ℕ → Image → Type 0) (clock : V → ℕ) (base : Option ℕ → V → State → Type 0)
+    (earlier : (v : V) (t u : ℕ) (image : Image) → t ≤ u → left v u image → left v t image) (r router : Router) (c : Catalog) (places : List PlaceIn) (vols : List V) (ticked : ℕ) (last : Option PlaceAt) (turn : Turn) (at : PlaceAt)
     (holds : Image → State → Type 0) (old new : Seen) (there : slice_get places at.place ≡ Some old.place) (what : What) (now : ℕ) (outcome : Outcome) (h : HoldsOn IsRoute never at holds 0 what now outcome old new r router) where
   pub facts_of : Facts at what outcome.became h.entries old.place new.place
   facts_of = hold_facts at what now outcome h.entries (on old.place r) (on new.place router) h.holds h.led
@@ -203,19 +209,24 @@ module _ {V : Type 0} (keeps : V → V → Type 0) (none : (v : V) → keeps v v
   last_so (became.Unsaid refused) = refl
   last_so became.Ticked = refl
   last_so became.Nothing = refl
-  last_so (became.Broke stream) = refl
+  last_so (became.Broke stream full) = refl
   last_so (became.Stopped stream) = refl
   last_so became.Gone = refl
 
   pub made_of : (later : Option PlaceAt) (after : Turn) (vol vol_new : V) → later ≡ (if is_held outcome.became then Some at else last) → slice_get vols at.place ≡ Some vol → keeps vol vol_new
-      → Makes (SoloMade keeps) (Holds at what now outcome) (standing r c places vols ticked last turn) (standing router c (slice_set places at.place new.place) (slice_set vols at.place vol_new) ticked later after)
-  made_of later after vol vol_new later_is stands kept =
+      → Outlasts holds left clock (base old.place.stopped vol) (base new.place.stopped vol_new) (timed_at at.place h.entries) old.place.state new.place.state vol vol_new
+      → Makes (SoloMade keeps holds left clock base) (Holds at what now outcome) (standing r c places vols ticked last turn) (standing router c (slice_set places at.place new.place) (slice_set vols at.place vol_new) ticked later after)
+  made_of later after vol vol_new later_is stands kept outlasts =
       let s : Scene = (standing r c places vols ticked last turn).scene in
       let m = held_alone at holds 0 what now outcome s old new router there h in
+      let lasts = outlast_set holds left clock base earlier h.entries places vols at.place old.place new.place vol vol_new there stands outlasts
+          (timed_elsewhere at h.entries (on old.place r) (on new.place router) h.led) in
       let ends : with_place s at.place (on new.place router) (last_of at outcome.became last) ≡ (standing router c (slice_set places at.place new.place) (slice_set vols at.place vol_new) ticked later after).scene =
       ap (λ (l : Option PlaceAt). with_place s at.place (on new.place router) l) (last_so outcome.became ∙ sym later_is) in
       record {
         entries = m.entries;
         are = m.are;
-        led = (subst (λ (x : Scene). Leads SoloStep s m.entries x) ends m.led, kept_set keeps none vols at.place vol vol_new stands kept);
+        led = (subst (λ (x : Scene). Leads SoloStep s m.entries x) ends m.led, kept_set keeps none vols at.place vol vol_new stands kept,
+            subst (λ (es : List DeskEntry). PlacesOutlast holds left clock base (record { places = places; vols = vols }) es (record { places = slice_set places at.place new.place; vols = slice_set vols at.place vol_new }))
+                (sym (held_entries at holds 0 what now outcome s old new router there h)) lasts);
       }

@@ -1,13 +1,14 @@
 -- What contracts see of the ground of one caller, and what holds of it.
 use Rattle.std.specs.Prelude.{◌≡◌, ◌≤◌, ◌<◌, ◌+◌, ◌==◌, ℕ, Bool, true, false, List, [], ◌∷◌, map, length, Option, None, Some, IsNone, IfSome, Result, Ok, Err, slice_get, if◌then◌else◌}
 use Rattle.std.specs.List.{AllZip}
+use Rattle.js_model.specs.declared.stream.State.{State}
 use Rattle.js_model.specs.declared.desk.PlaceAt.{PlaceAt}
 use Rattle.js_model.specs.declared.catalog_fault.CatalogFault.{CatalogFault}
 use Rattle.js_model.specs.Catalog.{Catalog, Used, Place}
 use Rattle.js_model.specs.Events.{kept_incarnation}
-use Rattle.js_model.specs.PlaceStates.{PlaceIn, vacant_place}
+use Rattle.js_model.specs.PlaceStates.{PlaceIn}
 use Rattle.js_model.specs.Router.{Router, is_open}
-use Rattle.place_engine.specs.Stepping.{Seen}
+use Rattle.place_engine.specs.Stepping.{Image, Seen}
 use Rattle.js_api.specs.declared.outcome.Became.{Became}
 use Rattle.js_api.specs.declared.outcome.Became.TheVariants.{Made, Unsaid, Ticked, Nothing, Broke, Stopped, Gone}
 use Rattle.js_api.specs.Entries.{DeskEntry}
@@ -15,6 +16,7 @@ use Rattle.js_api.specs.Leading.{Leads}
 use Rattle.js_api.specs.Worlds.{Scene, SoloStep}
 use Rattle.desk_ground.specs.Grounds.{Phase, Setting}
 use Rattle.desk_ground.specs.Grounds as phases
+use Rattle.js_desk.specs.Lasting.{PlacesOutlast, Row}
 use Rattle.js_desk.specs.declared.turn.Turn.{Turn}
 use Rattle.js_desk.specs.declared.turn.Turn.TheVariants as turns
 
@@ -44,9 +46,15 @@ standing router catalog places vols ticked last turn = record {
   phase = phase_of turn;
 }
 
--- entries lead from the one ground to the other, whose volumes are what the calls of its places may make of those from before
-abbrev pub SoloMade : {V : Type 0} → (V → V → Type 0) → Standing V → List DeskEntry → Standing V → Type 0
-SoloMade keeps old entries new = Leads SoloStep old.scene entries new.scene × AllZip keeps old.vols new.vols
+-- its places, and their volumes
+abbrev pub row_of : {V : Type 0} → Standing V → Row V
+row_of s = record { places = s.scene.world.places; vols = s.vols }
+
+-- entries lead from the one ground to the other, whose volumes are what the calls of its places may make of those from before; and of what the entries made at
+-- each place a crash may leave a beginning
+abbrev pub SoloMade : {V : Type 0} → (V → V → Type 0) → (Image → State → Type 0) → (V → ℕ → Image → Type 0) → (V → ℕ) → (Option ℕ → V → State → Type 0) → Standing V → List DeskEntry → Standing V → Type 0
+SoloMade keeps holds left clock base old entries new =
+    Leads SoloStep old.scene entries new.scene × AllZip keeps old.vols new.vols × PlacesOutlast holds left clock base (row_of old) entries (row_of new)
 
 -- which sessions are open, and how many places there are
 abbrev pub setting_of : Scene → Setting
@@ -95,11 +103,6 @@ pub record IsGrounded (catalog : Catalog) (places : List PlaceIn) (last : Option
   pub agreed : AreAgreed turn catalog places
   pub within : IfSome last (λ at. at.place < length places)
 
--- places that never had a stream, and that nothing stopped
-abbrev pub AreFresh : List PlaceIn → Type 0
-AreFresh [] = Unit {0}
-AreFresh (place ∷ places) = (place ≡ vacant_place) × AreFresh places
-
 -- ---- the turn after a call
 
 -- after the subjects of the stream of a place were changed, or were not
@@ -117,6 +120,6 @@ is_held (Made reply) = true
 is_held (Unsaid refused) = true
 is_held Ticked = true
 is_held Nothing = false
-is_held (Broke stream) = true
+is_held (Broke stream full) = true
 is_held (Stopped stream) = false
 is_held Gone = false

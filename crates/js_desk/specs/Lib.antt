@@ -1,6 +1,10 @@
+pub mod Cataloging
+pub mod Closing
 pub mod Dropping
 pub mod Faults
-pub mod GivingBack
 pub mod Grounds
 pub mod Kept
+pub mod Lasting
+pub mod Opening
+pub mod Outlasting
 pub mod Solo

@@ -10,27 +10,29 @@ use place_engine::{OpenFault, PlaceFault};
 /// The greatest number that a session can have.
 const LAST_SESSION: u64 = (1 << 62) - 1;
 
-/// Why a desk was not opened. The volumes are given back in their order. In memory it is `NoMemory` alone.
+/// Why a desk was not opened. The volumes are given back in their order.
 #[derive(Drop, Debug)]
 pub enum HubFault<V> {
-    /// The place of this number was not opened.
+    /// The place of this number, the lowest one that was not opened, was not for this reason.
     Open {
         place: u32,
         fault: OpenFault,
         vols: Vec<V>,
     },
-    /// The streams of these two places have one name, or subjects that meet.
+    /// The streams of these two places share a name or have subjects that meet: the lowest place that has such another behind it, and the lowest of those.
+    /// Each place had been opened.
     Conflict {
         first: u32,
         second: u32,
         vols: Vec<V>,
     },
+    /// Memory ran out beside the places. A place that finds none is told as `Open`.
     NoMemory {
         vols: Vec<V>,
     },
 }
 
-/// What is left of a desk: its volumes, in their order, and the first place that could not be brought to its volume.
+/// What is left of a desk: its volumes, in their order, and the first place whose flush failed, with its answer.
 #[derive(Drop, Debug)]
 pub struct Closed<V> {
     pub vols: Vec<V>,

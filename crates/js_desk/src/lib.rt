@@ -1,6 +1,8 @@
 //! The desk of one caller, who owns the router, the catalog and the places.
 #![tactic(auto)]
 
+mod cataloging;
+mod closing;
 mod faults;
 mod solo_desk;
 mod solo_ground;

@@ -1,22 +1,23 @@
 //! The desk of one caller, who owns the router, the catalog and the places.
 
-ghost use Rattle.std.specs.Prelude.{◌≡◌, ◌≤◌, IfErr, IfOk, IsTrue, None, false, length, map, replicate};
-ghost use Rattle.std.specs.List.{AllZip};
+ghost use Rattle.std.specs.Prelude.{◌≡◌, ◌≤◌, IfErr, IfOk, IsTrue, false, length};
 ghost use Rattle.js_model.specs.Configs.{is_stream_subject};
-ghost use Rattle.js_model.specs.PlaceStates.{vacant_place};
 ghost use Rattle.stream_config.specs.Defaults.{default_config};
 ghost use Rattle.js_api.specs.Clients.{closed, new_client};
-ghost use Rattle.js_api.specs.Leading.{Leads, Makes, leads_more, leads_nothing};
+ghost use Rattle.js_api.specs.Leading.{Makes, leads_more, leads_nothing};
 ghost use Rattle.js_api.specs.Making.{MakesStream};
-ghost use Rattle.js_api.specs.Worlds.{SoloStep, opening};
-ghost use Rattle.js_desk.specs.GivingBack.{Closes, GivesBack};
-ghost use Rattle.js_desk.specs.Solo.{DeskMade, frames_left};
+ghost use Rattle.js_api.specs.Worlds.{SoloStep};
+ghost use Rattle.js_desk.specs.Closing.{Closes};
+ghost use Rattle.js_desk.specs.Opening.{FailsToOpen, OpensDesk};
+ghost use Rattle.js_desk.specs.Solo.{DeskMade, frames_left, row_in};
+ghost use Rattle.js_desk.specs.Outlasting.{outlast_more, outlast_none};
 ghost use Rattle.js_desk.specs.Kept.{kept_more, kept_none};
 
+use crate::cataloging::{Uncataloged, catalog_of};
+use crate::closing::close_places;
 use crate::faults::{Closed, HubFault};
 use crate::solo_ground::SoloGround;
 use crate::volumes::{give_back, open_places};
-use catalog::Catalog;
 use desk_calls::publish;
 use desk_ground::{Caller, Ground};
 use desk_messaging::{close, collect, options, settle, sub, tick, unsub};
@@ -24,7 +25,7 @@ use desk_streams::make_stream;
 use js_api::{Desk, DeskFault};
 use js_base::{ApiError, Moment, Name, Out};
 use js_model::{Collected, Taken};
-use place_engine::{MemoryPlace, Place};
+use place_engine::Place;
 use std::alloc::Global;
 use std::marker::Model;
 
@@ -49,36 +50,45 @@ impl<P: Place> Model for SoloDesk<P> {
     ghost invariant = { λ desk. IsConsistent desk.ground desk.caller desk.vols.items (vec_capacity desk.vols) };
 }
 
-impl<V> SoloDesk<MemoryPlace<V>> {
-    /// Opens a place on each volume, at most 32, in their order. No stream is there, and no session was opened. An `Err` gives the volumes back.
-    pub fn open(alloc: Global, vols: Vec<V>) -> Result<SoloDesk<MemoryPlace<V>>, HubFault<V>>
+impl<P: Place> SoloDesk<P> {
+    /// Opens a place on each volume, at most 32, in their order. No session was opened. An `Err` gives the volumes back, each as its place left it: of the
+    /// places that were opened by then, nothing is left but their volumes.
+    pub fn open(
+        alloc: Global,
+        vols: Vec<P::Vol>,
+    ) -> Result<SoloDesk<P>, HubFault<P::Vol>>
         requires few { length vols.items ≤ 32 }
-        ensures scene { IfOk result (λ desk. desk.scene ≡ opening (replicate (length vols.items) vacant_place)) }
-        ensures vols { IfOk result (λ desk. desk.vols ≡ vols.items) }
+        ensures opened { IfOk result (OpensDesk P.seen P.vol P.holds P.reads P.left P.clock P.faults P.base P.opens P.refuses P.keeps_vol vols.items) }
         ensures client { IfOk result (λ desk. desk.client ≡ closed (new_client 0)) }
-        ensures err { IfErr result (GivesBack vols.items) }
+        ensures err { IfErr result (FailsToOpen P.seen P.vol P.holds P.reads P.left P.clock P.faults P.base P.opens P.refuses P.keeps_vol vols.items) }
     {
+        let (places, vols) = open_places(alloc, vols)?;
         let mut vols = vols;
-        let catalog = match Catalog::new(alloc, vols.len() as u32) {
-            Ok(catalog) => catalog,
-            Err(_) => return Err(HubFault::NoMemory { vols }),
+        let stop = match catalog_of(alloc, places.as_slice()) {
+            Ok(catalog) => {
+                return Ok(SoloDesk {
+                    ground: SoloGround::of(alloc, catalog, places),
+                    caller: Caller {
+                        session: 0,
+                        is_open: false,
+                        told: false,
+                    },
+                    vols,
+                });
+            }
+            Err(stop) => stop,
         };
-        match open_places(alloc, &mut vols) {
-            Ok(places) => Ok(SoloDesk {
-                ground: SoloGround::of(alloc, catalog, places),
-                caller: Caller {
-                    session: 0,
-                    is_open: false,
-                    told: false,
-                },
+        give_back(places, &mut vols);
+        match stop {
+            Uncataloged::Conflict { first, second } => Err(HubFault::Conflict {
+                first,
+                second,
                 vols,
             }),
-            Err(_) => Err(HubFault::NoMemory { vols }),
+            Uncataloged::NoMemory => Err(HubFault::NoMemory { vols }),
         }
     }
-}
 
-impl<P: Place> SoloDesk<P> {
     /// Makes the stream of this name and this one subject, with every default of JetStream, and answers why it was not made. A
     /// stream of this name that is there is left as it is. It needs no session. An `Err` leaves open whether the stream was made; in memory it is
     /// `NoMemory`.
@@ -89,18 +99,16 @@ impl<P: Place> SoloDesk<P> {
         now: Moment,
     ) -> Result<Option<ApiError>, DeskFault>
         requires subject { IsTrue (is_stream_subject subject.now) }
-        ensures made { Makes (λ old entries new. Leads SoloStep old entries new) (MakesStream name.now (default_config name.now subject.now) now result) self.old.scene self.new.scene }
-        ensures vols { AllZip P.keeps_vol self.old.vols self.new.vols }
+        ensures made { Makes (λ old entries new. DeskMade P.keeps_vol P.holds P.left P.clock P.base old entries new) (MakesStream name.now (default_config name.now subject.now) now result) self.old self.new }
         ensures client { self.new.client ≡ self.old.client }
     {
         make_stream(&mut self.ground, name, subject, now)
     }
 
-    /// Gives the volumes back, in their order, as the places in the world at the closing, which is that of `self`, have them.
+    /// Brings all that was made at each place that is not stopped to its volume, in their order, and gives the volumes back, also after a failure. The places
+    /// are those of the world at the closing, which is that of `self`.
     pub fn close_all(self) -> Closed<P::Vol>
-        ensures vols { result.vols.items ≡ self.vols }
-        ensures failed { result.failed ≡ None }
-        ensures closes { Closes P.seen P.vol self.scene.world result }
+        ensures closes { Closes P.seen P.vol P.holds P.reads P.left P.clock P.base P.keeps_vol self.vols self.scene.world.places result }
     {
         let SoloDesk {
             ground,
@@ -108,17 +116,15 @@ impl<P: Place> SoloDesk<P> {
             vols,
         } = self;
         let mut vols = vols;
-        let mut places = ground.into_places();
-        places.reverse();
-        give_back(places, &mut vols);
-        Closed { vols, failed: None }
+        let failed = close_places(ground.into_places(), &mut vols);
+        Closed { vols, failed }
     }
 }
 
 impl<P: Place> Desk for SoloDesk<P> {
     ghost client = { λ desk. desk.client };
 
-    ghost made = { λ old entries new. DeskMade P.keeps_vol old entries new };
+    ghost made = { λ old entries new. DeskMade P.keeps_vol P.holds P.left P.clock P.base old entries new };
 
     ghost left = { λ desk. frames_left desk };
 
@@ -168,7 +174,7 @@ impl<P: Place> Desk for SoloDesk<P> {
         closed
     }
 
-    ghost made_nothing = { λ desk. (leads_nothing SoloStep desk.scene, kept_none P.keeps_vol P.keeps_none desk.vols) };
+    ghost made_nothing = { λ desk. (leads_nothing SoloStep desk.scene, kept_none P.keeps_vol P.keeps_none desk.vols, outlast_none P.holds P.left P.clock P.base P.earlier (row_in desk)) };
 
-    ghost made_more = { λ a b c first more h k. (leads_more SoloStep a.scene b.scene c.scene first more h.0 k.0, kept_more P.keeps_vol P.keeps_more a.vols b.vols c.vols h.1 k.1) };
+    ghost made_more = { λ a b c first more h k. (leads_more SoloStep a.scene b.scene c.scene first more h.0 k.0, kept_more P.keeps_vol P.keeps_more a.vols b.vols c.vols h.1 k.1, outlast_more P.holds P.left P.clock P.base first more (row_in a) (row_in b) (row_in c) h.2 k.2) };
 }

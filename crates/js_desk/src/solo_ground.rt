@@ -1,14 +1,15 @@
 //! What the desk of one caller stands on: the router, the catalog and the places, which all are its own.
 
-ghost use Rattle.std.specs.Prelude.{◌≡◌, ◌≤◌, ◌&&◌, OnErr, None, Some, true, if◌then◌else◌, length, map, replicate};
+ghost use Rattle.std.specs.Prelude.{◌≡◌, ◌≤◌, ◌&&◌, OnErr, None, Some, true, if◌then◌else◌, length, map};
 ghost use Rattle.js_api.specs.Leading.{leads_more, leads_nothing};
-ghost use Rattle.js_api.specs.Worlds.{SoloStep, opening, place_or};
-ghost use Rattle.js_model.specs.Catalog.{Add, IsCatalogCall, new_place};
+ghost use Rattle.js_api.specs.Worlds.{SoloStep, kept_in, opening, place_or};
+ghost use Rattle.js_model.specs.Catalog.{Add, IsCatalogCall, catalog_of};
 ghost use Rattle.js_model.specs.Cataloging.{add_told};
 ghost use Rattle.js_model.specs.Routing.{waiting_for};
 ghost use Rattle.std.proofs.Common.{refl, ◌∙◌};
 ghost use Rattle.js_desk.specs.Dropping.{is_drop};
-ghost use Rattle.js_desk.specs.Grounds.{AreFresh, SoloMade, is_held, places_by, setting_of};
+ghost use Rattle.js_desk.specs.Grounds.{SoloMade, is_held, places_by, row_of, setting_of};
+ghost use Rattle.js_desk.specs.Outlasting.{outlast_more, outlast_none};
 ghost use Rattle.js_desk.specs.Kept.{kept_more, kept_none};
 ghost use Rattle.desk_ground.specs.Grounds.{Outside};
 ghost use Rattle.desk_answers.specs.Became.{is_dropped};
@@ -60,7 +61,7 @@ fn is_dropped(asked: bool, became: &Became) -> bool
         Became::Unsaid { refused } => !*refused,
         Became::Ticked => false,
         Became::Nothing => false,
-        Became::Broke { stream: _ } => false,
+        Became::Broke { stream: _, full: _ } => false,
         Became::Stopped { stream: _ } => false,
         Became::Gone => false,
     };
@@ -82,7 +83,7 @@ fn last_of(became: &Became, at: PlaceAt, before: Option<PlaceAt>) -> Option<Plac
         Became::Made(_) => Some(at),
         Became::Unsaid { refused: _ } => Some(at),
         Became::Ticked => Some(at),
-        Became::Broke { stream: _ } => Some(at),
+        Became::Broke { stream: _, full: _ } => Some(at),
         Became::Nothing => before,
         Became::Stopped { stream: _ } => before,
         Became::Gone => before,
@@ -111,11 +112,10 @@ fn add_named(catalog: &mut Catalog, name: &Name, subjects: &[Blob]) -> Result<Pl
 }
 
 impl<P: Place> SoloGround<P> {
-    /// A ground without sessions, of places that never had a stream.
+    /// A ground without sessions, of places with the streams of a catalog.
     pub fn of(alloc: Global, catalog: Catalog, places: Vec<P>) -> SoloGround<P>
         requires few { length places.items ≤ 32 }
-        requires fresh { AreFresh (places_by P.seen places.items) }
-        requires catalog { catalog ≡ replicate (length places.items) new_place }
+        requires catalog { catalog ≡ catalog_of (map kept_in (places_by P.seen places.items)) }
         ensures scene { result.scene ≡ opening (places_by P.seen places.items) }
         ensures vols { result.vols ≡ map P.vol places.items }
         ensures outside { result.phase ≡ Outside }
@@ -152,7 +152,7 @@ impl<P: Place> SoloGround<P> {
 }
 
 impl<P: Place> Ground for SoloGround<P> {
-    ghost made = { λ old entries new. SoloMade P.keeps_vol old entries new };
+    ghost made = { λ old entries new. SoloMade P.keeps_vol P.holds P.left P.clock P.base old entries new };
 
     ghost setting = { λ ground. setting_of ground.scene };
 
@@ -272,21 +272,16 @@ impl<P: Place> Ground for SoloGround<P> {
 
     fn hold(&mut self, at: PlaceAt, what: What, now: Moment) -> Outcome {
         let asked = is_drop(&what);
-        let outcome = hold_on(
-            self.alloc,
-            &mut self.places[at.place as usize],
-            &mut self.router,
-            at,
-            what,
-            now,
-        );
+        let place = &mut self.places[at.place as usize];
+        let outcome = hold_on(self.alloc, place, &mut self.router, at, what, now);
+        place.law_kept();
         let dropped = is_dropped(asked, &outcome.became);
         self.turn = self.turn.after_hold(dropped, at.place);
         self.last = last_of(&outcome.became, at, self.last);
         outcome
     }
 
-    ghost made_nothing = { λ ground. (leads_nothing SoloStep ground.scene, kept_none P.keeps_vol P.keeps_none ground.vols) };
+    ghost made_nothing = { λ ground. (leads_nothing SoloStep ground.scene, kept_none P.keeps_vol P.keeps_none ground.vols, outlast_none P.holds P.left P.clock P.base P.earlier (row_of ground)) };
 
-    ghost made_more = { λ a b c first more h k. (leads_more SoloStep a.scene b.scene c.scene first more h.0 k.0, kept_more P.keeps_vol P.keeps_more a.vols b.vols c.vols h.1 k.1) };
+    ghost made_more = { λ a b c first more h k. (leads_more SoloStep a.scene b.scene c.scene first more h.0 k.0, kept_more P.keeps_vol P.keeps_more a.vols b.vols c.vols h.1 k.1, outlast_more P.holds P.left P.clock P.base first more (row_of a) (row_of b) (row_of c) h.2 k.2) };
 }

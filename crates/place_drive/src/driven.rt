@@ -2,6 +2,8 @@
 
 ghost use Rattle.std.specs.Prelude.{IsTrue};
 ghost use Rattle.js_model.specs.Configs.{is_name};
+ghost use Rattle.js_model.specs.Proper.{is_proper};
+ghost use Rattle.place_engine.specs.Places.{IsTold};
 ghost use Rattle.place_drive.specs.Asked.{IsAsked};
 
 use crate::asked::{info, stream_info};
@@ -33,8 +35,8 @@ struct Told {
 }
 
 impl Told {
-    fn of(reply: Reply) -> Told {
-        let (messages, pending) = match &reply {
+    fn of(reply: &Reply) -> Told {
+        let (messages, pending) = match reply {
             Reply::Info(told) => (Some(told.messages), None),
             Reply::ConsumerInfo(told) => (None, Some(told.info.ack_pending)),
             _ => (None, None),
@@ -42,6 +44,12 @@ impl Told {
         Told { messages, pending }
     }
 }
+
+/// Lets go of a reply. The prover writes this out case by case wherever it stands, so it stands here alone.
+fn let_go_of_reply(_reply: Reply) {}
+
+/// Lets go of an event, for the same reason.
+fn let_go_of_event(_event: Event) {}
 
 impl Driven {
     /// A place that never had a stream, at [`START`].
@@ -74,8 +82,21 @@ impl Driven {
             incarnation: self.place.incarnation(),
             what,
         };
-        match self.place.step(&event, self.now, &mut self.outs) {
-            Ok(reply) => Ok(Told::of(reply)),
+        let told = self.step(&event);
+        let_go_of_event(event);
+        told
+    }
+
+    fn step(&mut self, event: &Event) -> Result<Told, NoMemory>
+        requires proper { IsTrue (is_proper event.now) }
+        requires told { IsTold event.now.what }
+    {
+        match self.place.step(event, self.now, &mut self.outs) {
+            Ok(reply) => {
+                let told = Told::of(&reply);
+                let_go_of_reply(reply);
+                Ok(told)
+            }
             Err(_) => Err(NoMemory),
         }
     }
@@ -122,4 +143,7 @@ impl Driven {
     pub fn forget(&mut self) {
         self.outs = List::new(self.alloc);
     }
+
+    /// Lets the place go. Whoever has one calls this: a proof writes out all that is let go, once for each path on which it may be.
+    pub fn close(self) {}
 }

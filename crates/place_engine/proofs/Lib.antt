@@ -11,3 +11,4 @@ pub mod RecordedStreams
 pub mod RecordedConsumers
 pub mod RecordedTime
 pub mod RecordedPlaces
+pub mod Restorable

@@ -1,5 +1,5 @@
 -- What a place in memory answers and delivers is a step and a delivery by the relations that each place keeps.
-use Rattle.std.proofs.Common.{◌≡◌, ◌∙◌, ℕ, List, Option, Some, None, Result, Ok, Err, ap, refl, arith, inl}
+use Rattle.std.proofs.Common.{◌≡◌, ℕ, List, Option, Some, None, Result, Ok, Err, refl, arith, inl}
 use Rattle.std.proofs.lemmas.Option.{none-some}
 use Rattle.js_base.specs.Bytes.{Bytes}
 use Rattle.js_base.specs.declared.out.Out.{Out}
@@ -10,7 +10,6 @@ use Rattle.js_model.specs.declared.event.What.TheVariants.{Tick}
 use Rattle.js_model.specs.declared.reply.Reply.{Reply}
 use Rattle.js_model.specs.declared.reply.Reply.TheVariants.{Silent}
 use Rattle.js_model.specs.Events.{kept_incarnation}
-use Rattle.js_model.specs.Lasting.{lasting}
 use Rattle.place_engine.specs.declared.faults.Left.{Left}
 use Rattle.place_engine.specs.declared.faults.Left.TheVariants.{Nothing, Ticked, Unsaid}
 use Rattle.place_engine.specs.declared.faults.PlaceFault.{PlaceFault}
@@ -25,15 +24,15 @@ elapses old new = record { faults = omega arith; moments = omega arith; generati
 
 -- nothing ever waits
 flushed : (state : State) → IsFlushed (seen_of state)
-flushed state = record { base = λ b is. is; waiting = refl }
+flushed state = record { base = λ b is. absurd is; waiting = refl }
 
--- what is as it was keeps its base
-kept_base : (old new : State) → new ≡ old → KeepsBase (seen_of old) (seen_of new)
-kept_base old new same b is = is ∙ ap lasting same
+-- its volume holds no state
+kept_base : (old new : State) → KeepsBase (seen_of old) (seen_of new)
+kept_base old new b is = absurd is
 
 undone : (old new : State) (outs_old outs_new : List Out) → new ≡ old → outs_new ≡ outs_old → IsUndone (seen_of old) (seen_of new) outs_old outs_new
 undone old new outs_old outs_new same outs = record {
-  rests = record { state = same; stored = refl; stopped = refl; base = kept_base old new same; waiting = refl; outs = outs };
+  rests = record { state = same; stored = refl; stopped = refl; base = kept_base old new; waiting = refl; outs = outs };
   volume = λ count stopped. absurd (none-some count stopped);
 }
 
@@ -56,7 +55,7 @@ tells old e now reply new outs_old outs_new kept answers =
         goes = refl;
         reply_is = given.reply_is;
         outs = given.outs_are;
-        commits = record { firm = λ firm. flushed new; may = inl (flushed new) };
+        commits = record { fits = λ full. full; firm = λ firm. flushed new; may = inl (flushed new) };
       };
       stored = omega arith;
       time = elapses old new;
@@ -74,7 +73,7 @@ starves old e now (Unsaid refused) new outs_old outs_new kept h = absurd h
 pub delivers_some : (old : State) (now : ℕ) (listening : List Bytes) (made : Delivery) (new : State) (outs_old outs_new : List Out) → DeliversSome old now listening made outs_old outs_new new
     → Delivers holds_nothing (Ok (Some made)) now listening (seen_of old) (seen_of new) outs_old outs_new
 delivers_some old now listening made new outs_old outs_new h = record {
-  ends = record { sent = h.sent; makes = record { going = refl; delivered = h.delivered }; goes = refl; outs = h.outs_are; may = inl (flushed new) };
+  ends = record { sent = h.sent; makes = record { going = refl; delivered = h.delivered }; goes = refl; outs = h.outs_are; fits = λ full. full; may = inl (flushed new) };
   stored = omega arith;
   time = elapses old new;
 }
@@ -85,7 +84,7 @@ delivers_none old now listening new outs_old outs_new h = record {
   ends = record {
     going = refl;
     none = h.none;
-    rests = record { state = h.same; stored = refl; stopped = refl; base = kept_base old new h.same; waiting = refl; outs = h.outs_same };
+    rests = record { state = h.same; stored = refl; stopped = refl; base = kept_base old new; waiting = refl; outs = h.outs_same };
     volume = refl;
   };
   stored = omega arith;

@@ -1,31 +1,53 @@
 -- A place in memory: what is seen of it, and why a call fails there.
-use Rattle.std.specs.Prelude.{◌≡◌, ◌≢◌, true, []}
+use Rattle.std.specs.Prelude.{◌≡◌, ◌≢◌, ℕ, true, [], Option}
 use Rattle.js_model.specs.declared.stream.State.{State}
 use Rattle.js_model.specs.declared.stream.State.TheVariants.{Vacant, Live}
 use Rattle.js_model.specs.declared.event.Event.{Event}
 use Rattle.js_model.specs.declared.event.What.{What}
 use Rattle.js_model.specs.declared.event.What.TheVariants.{Tick}
 use Rattle.js_model.specs.Events.{kept_incarnation}
-use Rattle.js_model.specs.Lasting.{lasting}
 use Rattle.js_model.specs.PlaceStates.{in_memory}
 use Rattle.place_engine.specs.Stepping.{Image, Seen}
 use Rattle.place_engine.specs.declared.faults.Left.{Left}
 use Rattle.place_engine.specs.declared.faults.Left.TheVariants.{Nothing, Ticked, Unsaid}
+use Rattle.place_engine.specs.declared.faults.OpenFault.{OpenFault}
+use Rattle.place_engine.specs.declared.faults.OpenFault.TheVariants as opening
 use Rattle.place_engine.specs.declared.faults.PlaceFault.{PlaceFault}
-use Rattle.place_engine.specs.declared.faults.PlaceFault.TheVariants.{NoMemory, StoreFault, Stopped, Gone, Worn}
+use Rattle.place_engine.specs.declared.faults.PlaceFault.TheVariants.{NoMemory, StoreFault, Full, Stopped, Gone, Worn}
 
 -- the state of a place, and its volume
 pub record Contents (V : Type 0) : Type 0 where
   pub state : State
   pub vol : V
 
--- it has a block for each message, what outlives a crash is kept at once, so that nothing waits, and of crashes nothing is said
+-- it has a block for each message, nothing waits and no log is full; a crash leaves nothing, so that its volume holds no state
 abbrev pub seen_of : State → Seen
-seen_of state = record { place = in_memory state; is_base = λ b. b ≡ lasting state; waiting = []; room = λ what. true; left_since = λ t image. ⊥ }
+seen_of state = record { place = in_memory state; is_base = λ b. ⊥; waiting = []; room = λ what. true; is_full = λ effects. ⊥; left_since = λ t image. ⊥ }
 
 -- no image of a volume holds a state
 abbrev pub holds_nothing : Image → State → Type 0
 holds_nothing image state = ⊥
+
+-- whatever its volume is, it opens to a place that never had a stream
+abbrev pub opens_vacant : {V : Type 0} → V → State → Type 0
+opens_vacant vol state = state ≡ Vacant 0
+
+-- only memory may be wanting for that
+abbrev pub refuses_in_memory : {V : Type 0} → V → OpenFault → Type 0
+refuses_in_memory vol fault = fault ≡ opening.NoMemory
+
+-- nothing is told of what reads of its volume give and what it holds, of what a crash leaves of it, of its moment and of its faults
+abbrev pub reads_nothing : {V : Type 0} → V → Image → Type 0
+reads_nothing vol image = ⊥
+
+abbrev pub bases_on_nothing : {V : Type 0} → Option ℕ → V → State → Type 0
+bases_on_nothing stopped vol b = ⊥
+
+abbrev pub leaves_nothing : {V : Type 0} → V → ℕ → Image → Type 0
+leaves_nothing vol t image = ⊥
+
+abbrev pub counts_none : {V : Type 0} → V → ℕ
+counts_none vol = 0
 
 -- what a step leaves that finds no memory once time has passed: the latter if there is a stream
 abbrev pub left_of : State → Left
@@ -44,6 +66,7 @@ MayLeave old what (Unsaid refused) = ⊥
 abbrev pub HasCause : State → Event → PlaceFault → Type 0
 HasCause old event (NoMemory left) = (event.incarnation ≡ kept_incarnation old) × MayLeave old event.what left
 HasCause old event StoreFault = ⊥
+HasCause old event Full = ⊥
 HasCause old event (Stopped count) = ⊥
 HasCause old event (Gone kept) = (event.incarnation ≢ kept_incarnation old) × (kept ≡ kept_incarnation old)
 HasCause old event (Worn refused) = ⊥
@@ -54,6 +77,7 @@ IsWantOfMemory (NoMemory Nothing) = Unit {0}
 IsWantOfMemory (NoMemory Ticked) = Unit {0}
 IsWantOfMemory (NoMemory (Unsaid refused)) = ⊥
 IsWantOfMemory StoreFault = ⊥
+IsWantOfMemory Full = ⊥
 IsWantOfMemory (Stopped count) = ⊥
 IsWantOfMemory (Gone kept) = ⊥
 IsWantOfMemory (Worn refused) = ⊥

@@ -7,3 +7,5 @@ pub mod Pushes
 pub mod Delivering
 pub mod InMemory
 pub mod Recording
+pub mod Flushing
+pub mod Opening

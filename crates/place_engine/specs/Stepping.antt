@@ -17,7 +17,7 @@ use Rattle.effects.specs.Effects.{event_effects}
 use Rattle.effects.specs.Laws.{Leads}
 use Rattle.effects.specs.declared.effect.Effect.{Effect}
 use Rattle.place_engine.specs.declared.faults.PlaceFault.{PlaceFault}
-use Rattle.place_engine.specs.declared.faults.PlaceFault.TheVariants.{NoMemory, StoreFault, Stopped, Gone, Worn}
+use Rattle.place_engine.specs.declared.faults.PlaceFault.TheVariants.{NoMemory, StoreFault, Full, Stopped, Gone, Worn}
 use Rattle.place_engine.specs.declared.faults.Left.TheVariants.{Nothing, Ticked, Unsaid}
 
 -- the bytes of each file of a volume
@@ -25,7 +25,8 @@ abbrev pub Image : Type 0
 Image = ℕ → Bytes
 
 -- A place as it is seen: what stands there; which states its volume may hold, its bases; the records of what was made since, which wait for a commit;
--- whether the store has a block for what is asked; and what a crash at some moment of the volume from one on may have left, which is nothing in memory.
+-- whether the store has a block for what is asked; whether its log would be too long with such records, which it never is in memory; and what a crash at
+-- some moment of the volume from one on may have left, which is nothing in memory.
 -- A base is told by a predicate and is no value: once records wait, the bytes of the volume alone have it, and of a volume of which nothing is known there
 -- is none. The commit that stopped a place may have been made or not, so that a stopped place can have two.
 pub record Seen : Type 1 where
@@ -33,21 +34,24 @@ pub record Seen : Type 1 where
   pub is_base : State → Type 0
   pub waiting : List Effect
   pub room : What → Bool
+  pub is_full : List Effect → Type 0
   pub left_since : ℕ → Image → Type 0
 
 -- ---- crashes
 
--- what waits leads from each base to what outlives a crash of what stands; of a stopped place it says nothing
+-- what waits leads from each base to what outlives a crash of what stands; on the volume of a stopped place the latter may be already
 abbrev pub Waits : Option ℕ → (State → Type 0) → List Effect → State → Type 0
 Waits None is_base waiting state = (b : State) → is_base b → Leads b waiting (lasting state)
-Waits (Some count) is_base waiting state = Unit {0}
+Waits (Some count) is_base waiting state = (b : State) → is_base b → Leads b waiting (lasting state) ⊎ (b ≡ lasting state)
 
--- between two calls: each image of a crash now holds a base, so that there is one wherever a crash may leave anything. A store has a block for one more
--- message if few count against it
+-- between two calls: each image of a crash now holds a base, so that there is one wherever a crash may leave anything, and one alone unless the place is
+-- stopped. A store has a block for one more message if few count against it, and its log has room if nothing is to be committed
 pub record IsKept (holds : Image → State → Type 0) (s : Seen) : Type 0 where
   pub waits : Waits s.place.stopped s.is_base s.waiting s.place.state
+  pub one : s.place.stopped ≡ None → (a b : State) → s.is_base a → s.is_base b → a ≡ b
   pub now : (image : Image) → s.left_since s.place.volume.moment image → (b : State) × holds image b × s.is_base b
   pub free : is_few s.place.stored ≡ true → (what : What) → s.room what ≡ true
+  pub fits_none : ¬ s.is_full []
   pub earlier : (t u : ℕ) (image : Image) → t ≤ u → s.left_since u image → s.left_since t image
 
 -- within a call: a crash leaves what it could leave before, or a base from before, or what outlives a crash of the state after it
@@ -82,6 +86,10 @@ MayPutOff made old new = IsFlushed new ⊎ IsPutOff made old new
 abbrev pub effects_of : Event → ℕ → Seen → List Effect
 effects_of event now old = event_effects old.place.state event.what now (old.room event.what)
 
+-- the records that are to be committed with an event: those that wait, and its own
+abbrev pub batch_of : Event → ℕ → Seen → List Effect
+batch_of event now old = old.waiting ++ effects_of event now old
+
 -- ---- what became of the event
 
 -- all but where the volume stands is as it was
@@ -99,8 +107,9 @@ pub record Does (event : Event) (now : ℕ) (old new : Seen) : Type 0 where
   pub kept : event.incarnation ≡ kept_incarnation old.place.state
   pub state : new.place.state ≡ (answered old.place.state event now (old.room event.what)).state
 
--- a confirmed step is on the volume with all before it; another one may be
+-- a confirmed step is on the volume with all before it; another one may be. The log had room for what is to be committed
 pub record Commits (event : Event) (now : ℕ) (reply : Reply) (old new : Seen) : Type 0 where
+  pub fits : ¬ old.is_full (batch_of event now old)
   pub firm : IsFirmStep old.place.state event.what reply new.place.state → IsFlushed new
   pub may : MayPutOff (effects_of event now old) old new
 
@@ -122,12 +131,18 @@ pub record Passes (event : Event) (now : ℕ) (old new : Seen) (before after : L
   pub outs : after ≡ before ++ (answered old.place.state (tick_of event) now (old.room Tick)).outs
   pub may : MayPutOff (effects_of (tick_of event) now old) old new
 
+-- no call on it changes its volume
+pub record LeavesVolume (old new : Seen) : Type 0 where
+  pub volume : new.place.volume ≡ old.place.volume
+  pub images : (t : ℕ) (image : Image) → new.left_since t image → old.left_since t image
+
 -- it is made and not committed, and its reply is told to nobody
 pub record Hides (event : Event) (now : ℕ) (old new : Seen) (before after : List Out) : Type 0 where
   pub does : Does event now old new
   pub goes : new.place.stopped ≡ None
   pub outs : after ≡ before ++ (answered old.place.state event now (old.room event.what)).outs
   pub put_off : IsPutOff (effects_of event now old) old new
+  pub volume : LeavesVolume old new
 
 -- it is made, and of its reply only whether it is a refusal is told
 pub record Withholds (refused : Bool) (event : Event) (now : ℕ) (old new : Seen) (before after : List Out) : Type 0 where
@@ -143,13 +158,18 @@ pub record Breaks (event : Event) (now : ℕ) (old new : Seen) (before after : L
   pub does : Does event now old new
   pub stops : new.place.stopped ≡ Some new.place.volume.faults
   pub cause : Rose old.place.volume.faults new.place.volume.faults
+  pub fits : ¬ old.is_full (batch_of event now old)
   pub base : MayKeepBase old new
   pub outs : after ≡ before
 
--- no call on it changes its volume
-pub record LeavesVolume (old new : Seen) : Type 0 where
-  pub volume : new.place.volume ≡ old.place.volume
-  pub images : (t : ℕ) (image : Image) → new.left_since t image → old.left_since t image
+-- it is made, the log of the store is too full for it, and the place is stopped at the count that its volume has then
+pub record Fills (event : Event) (now : ℕ) (old new : Seen) (before after : List Out) : Type 0 where
+  pub does : Does event now old new
+  pub stops : new.place.stopped ≡ Some new.place.volume.faults
+  pub cause : old.is_full (batch_of event now old)
+  pub base : KeepsBase old new
+  pub volume : LeavesVolume old new
+  pub outs : after ≡ before
 
 -- nothing was made. The volume of a place that goes on may have been called
 pub record IsUndone (old new : Seen) (before after : List Out) : Type 0 where
@@ -181,6 +201,7 @@ Ends (Err (NoMemory Nothing)) event now old new before after = IsUndone old new 
 Ends (Err (NoMemory Ticked)) event now old new before after = Passes event now old new before after
 Ends (Err (NoMemory (Unsaid refused))) event now old new before after = Withholds refused event now old new before after
 Ends (Err StoreFault) event now old new before after = Breaks event now old new before after
+Ends (Err Full) event now old new before after = Fills event now old new before after
 Ends (Err (Stopped count)) event now old new before after = IsStopped count old new before after
 Ends (Err (Gone kept)) event now old new before after = IsGone kept event old new before after
 Ends (Err (Worn refused)) event now old new before after = IsWornOut refused event now old new before after

@@ -30,7 +30,8 @@ pub enum Left {
     },
 }
 
-/// Why an event was not made, or not answered. A place in memory answers `Gone`, or `NoMemory` with `Left::Nothing` or `Left::Ticked`.
+/// Why an event or a delivery was not made, or not answered, or what was made not brought to the volume. A place in memory answers `Gone`, or `NoMemory`
+/// with `Left::Nothing` or `Left::Ticked`.
 #[derive(Clone, Copy, Debug, PartialEq, Eq, Error)]
 pub enum PlaceFault {
     #[error("out of memory")]
@@ -39,7 +40,11 @@ pub enum PlaceFault {
     /// volume has now.
     #[error("the store failed")]
     StoreFault,
-    /// The store failed before, and had failed so often then. All is as it was.
+    /// The log of the store would be longer than it may be. The event was made, the outputs are as they were, nothing was written, and the place is stopped
+    /// at the count of faults that its volume has now.
+    #[error("log full")]
+    Full,
+    /// The store failed before, or its log was full, and the volume had failed so often then. All is as it was.
     #[error("stopped at fault {0}")]
     Stopped(u64),
     /// The event is for another stream than the one of this incarnation, or than the next one if there is none. All is as it was.

@@ -10,6 +10,7 @@ mod messages;
 mod place;
 mod push;
 mod recording;
+mod restoring;
 mod sameness;
 mod serving;
 mod slot;

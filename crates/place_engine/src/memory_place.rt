@@ -1,14 +1,14 @@
 //! A place in memory.
 
-ghost use Rattle.std.specs.Prelude.{◌≡◌, IfOk, IfErr, IsTrue, Some, refl};
-ghost use Rattle.std.proofs.Common.{◌∙◌, ap};
-ghost use Rattle.js_model.specs.declared.stream.State.{State};
-ghost use Rattle.js_model.specs.declared.stream.State.TheVariants.{Vacant};
+ghost use Rattle.std.specs.Prelude.{◌≡◌, IfOk, IfErr, IsOk, IsTrue, refl};
+ghost use Rattle.std.proofs.Common.{◌∙◌, arith};
+ghost use Rattle.js_base.specs.Causes.{Rose};
 ghost use Rattle.js_model.specs.Proper.{is_proper};
-ghost use Rattle.effects.specs.Durables.{durable_of};
 ghost use Rattle.place_engine.specs.declared.faults.OpenFault.TheVariants as opening;
 ghost use Rattle.place_engine.specs.Delivering.{Delivers};
-ghost use Rattle.place_engine.specs.InMemory.{HasCause, IsWantOfMemory, holds_nothing, seen_of};
+ghost use Rattle.place_engine.specs.Flushing.{Flushes};
+ghost use Rattle.place_engine.specs.InMemory.{HasCause, IsWantOfMemory, bases_on_nothing, counts_none, holds_nothing, leaves_nothing, opens_vacant, reads_nothing, refuses_in_memory, seen_of};
+ghost use Rattle.place_engine.specs.Opening.{IsOpened, IsUnopened};
 ghost use Rattle.place_engine.specs.Places.{IsTold};
 ghost use Rattle.place_engine.specs.Shown.{IsShown};
 ghost use Rattle.place_engine.specs.Stepping.{Steps};
@@ -40,22 +40,6 @@ impl<V> Model for MemoryPlace<V> {
     ghost view = { λ place. record { state = place.slot; vol = place.vol } };
 }
 
-impl<V> MemoryPlace<V> {
-    /// Opens the place of a volume. It is vacant, and never had a stream. An `Err` gives the volume back, and is `NoMemory`.
-    pub fn open(alloc: Global, vol: V) -> Result<MemoryPlace<V>, (OpenFault, V)>
-        ensures opened { IfOk result (λ place. place.state ≡ Vacant 0) }
-        ensures vol { IfOk result (λ place. place.vol ≡ vol) }
-        ensures fault { IfErr result (λ stop. stop.0 ≡ opening.NoMemory) }
-        ensures given_back { IfErr result (λ stop. stop.1 ≡ vol) }
-    {
-        Ok(MemoryPlace {
-            slot: Slot::new(alloc),
-            vol,
-            made: Made::new(alloc),
-        })
-    }
-}
-
 impl<V> Place for MemoryPlace<V> {
     type Vol = V;
 
@@ -66,6 +50,36 @@ impl<V> Place for MemoryPlace<V> {
     ghost vol = { λ place. place.vol };
 
     ghost keeps_vol = { λ old new. new ≡ old };
+
+    ghost reads = { reads_nothing };
+
+    ghost left = { leaves_nothing };
+
+    ghost base = { bases_on_nothing };
+
+    ghost clock = { counts_none };
+
+    ghost faults = { counts_none };
+
+    ghost opens = { opens_vacant };
+
+    ghost refuses = { refuses_in_memory };
+
+    /// It is vacant, and never had a stream. It takes no memory.
+    fn open(alloc: Global, volume: V) -> Result<MemoryPlace<V>, (OpenFault, V)>
+        ensures opened { IfOk result (λ place. IsOpened holds_nothing reads_nothing leaves_nothing counts_none opens_vacant volume (seen_of place.state)) }
+        ensures vol { IfOk result (λ place. place.vol ≡ volume) }
+        ensures refused { IfErr result (λ stop. stop.0 ≡ opening.NoMemory) }
+        ensures cause { IfErr result (λ stop. stop.0 ≡ OpenFault.Fault → Rose 0 0) }
+        ensures unopened { IfErr result (λ stop. IsUnopened holds_nothing reads_nothing leaves_nothing counts_none opens_vacant volume stop.1) }
+        ensures given_back { IfErr result (λ stop. stop.1 ≡ volume) }
+    {
+        Ok(MemoryPlace {
+            slot: Slot::new(alloc),
+            vol: volume,
+            made: Made::new(alloc),
+        })
+    }
 
     fn incarnation(&self) -> u64 {
         self.slot.incarnation()
@@ -128,6 +142,17 @@ impl<V> Place for MemoryPlace<V> {
         }
     }
 
+    /// There is nothing to bring: it always succeeds.
+    fn flush(&mut self) -> Result<(), PlaceFault>
+        ensures flushes { Flushes holds_nothing result (seen_of self.old.state) (seen_of self.new.state) }
+        ensures vol { self.new.vol ≡ self.old.vol }
+        ensures ok { IsOk result }
+    {
+        Ok(())
+    }
+
+    fn law_kept(&self) {}
+
     fn into_vol(self) -> V {
         let MemoryPlace {
             slot: _,
@@ -137,9 +162,23 @@ impl<V> Place for MemoryPlace<V> {
         vol
     }
 
-    ghost kept = { λ place. record { waits = λ b is. ap (λ (s : State). Some (durable_of s)) is; free = λ few what. refl; now = λ image left. absurd left; earlier = λ t u image le left. absurd left } };
-
     ghost holds_one = { λ image a b one other. absurd one };
+
+    ghost holds_lasting = { λ image b one. absurd one };
+
+    ghost opens_read = { λ v state image opens read. absurd read };
+
+    ghost refuses_read = { λ v fault image b read. absurd read };
+
+    ghost bases = { λ place b. (λ is. is, λ is. is) };
+
+    ghost leaves = { λ place t image. (λ left. left, λ left. left) };
+
+    ghost earlier = { λ v t u image le left. absurd left };
+
+    ghost stands = { λ place. (refl, refl) };
+
+    ghost keeps_later = { λ a b kept. (omega arith, omega arith) };
 
     ghost keeps_none = { λ vol. refl };
 

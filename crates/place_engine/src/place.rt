@@ -1,21 +1,27 @@
 //! A place for one stream, in memory or on a volume.
 
-ghost use Rattle.std.specs.Prelude.{◌≡◌, ◌≤◌, ◌<◌, ◌^◌, length, option_map, slice_get, IfOk, IfErr, IfSome, IsTrue, IsUtf8};
+ghost use Rattle.std.specs.Prelude.{◌≡◌, ◌≤◌, ◌<◌, ◌^◌, ◌⊎◌, ◌↔◌, ℕ, Option, None, length, option_map, slice_get, IfOk, IfErr, IfSome, IsTrue, IsUtf8};
 ghost use Rattle.std.specs.Option.{option_copied};
+ghost use Rattle.js_base.specs.Causes.{Rose};
 ghost use Rattle.js_model.specs.declared.stream.State.{State};
 ghost use Rattle.js_model.specs.Events.{kept_incarnation};
+ghost use Rattle.js_model.specs.Lasting.{lasting};
 ghost use Rattle.js_model.specs.Proper.{is_proper};
 ghost use Rattle.js_model.specs.Ready.{some_ready};
+ghost use Rattle.place_engine.specs.declared.faults.OpenFault.{OpenFault};
 ghost use Rattle.place_engine.specs.Delivering.{Delivers};
+ghost use Rattle.place_engine.specs.Flushing.{Flushes};
+ghost use Rattle.place_engine.specs.Opening.{IsOpened, IsUnopened};
 ghost use Rattle.place_engine.specs.Places.{IsTold, name_in, subjects_in};
 ghost use Rattle.place_engine.specs.Pushes.{push_of, pushes_in};
 ghost use Rattle.place_engine.specs.Shown.{IsShown};
 ghost use Rattle.place_engine.specs.Stepping.{Image, IsKept, Seen, Steps};
 
-use crate::faults::PlaceFault;
+use crate::faults::{OpenFault, PlaceFault};
 use crate::push::Push;
 use js_base::{Blob, Moment, Outs};
 use js_model::{Delivery, Event, Listening, Reply};
+use std::alloc::Global;
 
 /// A place, vacant or with a stream, and its volume.
 pub trait Place {
@@ -33,6 +39,36 @@ pub trait Place {
 
     /// What a call may make of the volume.
     ghost keeps_vol: { Self.Vol → Self.Vol → Type 0 };
+
+    /// What reads of a volume give.
+    ghost reads: { Self.Vol → Image → Type 0 };
+
+    /// What a crash at some moment of a volume, from one on, may have left of it.
+    ghost left: { Self.Vol → ℕ → Image → Type 0 };
+
+    /// The moment of a volume: how many of its calls it has answered, if that is told.
+    ghost clock: { Self.Vol → ℕ };
+
+    /// How often a volume failed.
+    ghost faults: { Self.Vol → ℕ };
+
+    /// Which states a volume may hold whose place is stopped at a count of faults, or not stopped.
+    ghost base: { Option ℕ → Self.Vol → State → Type 0 };
+
+    /// To which states a place may be opened on a volume.
+    ghost opens: { Self.Vol → State → Type 0 };
+
+    /// Why a place may not be opened on a volume.
+    ghost refuses: { Self.Vol → OpenFault → Type 0 };
+
+    /// Opens the place of a volume. An `Err` gives the volume back; `Fault` comes only if its count of faults rose.
+    fn open(alloc: Global, volume: Self::Vol) -> Result<Self, (OpenFault, Self::Vol)>
+        ensures opened { IfOk result (λ place. IsOpened holds reads left clock opens volume (seen place)) }
+        ensures vol { IfOk result (λ place. keeps_vol volume (vol place)) }
+        ensures refused { IfErr result (λ stop. refuses volume stop.0) }
+        ensures cause { IfErr result (λ stop. stop.0 ≡ OpenFault.Fault → Rose (faults volume) (faults stop.1)) }
+        ensures unopened { IfErr result (λ stop. IsUnopened holds reads left clock opens volume stop.1) }
+        ensures given_back { IfErr result (λ stop. keeps_vol volume stop.1) };
 
     /// The incarnation of the stream, or the one that the next stream will have. At 2^62 no stream can be made any more.
     fn incarnation(&self) -> u64
@@ -88,15 +124,47 @@ pub trait Place {
         ensures delivers { Delivers holds result now listening.now (seen self.old) (seen self.new) outs.old outs.new }
         ensures vol { keeps_vol (vol self.old) (vol self.new) };
 
-    /// Ends the place, and gives its volume back.
+    /// Brings all that was made to the volume. What each fault leaves of the place is said at [`PlaceFault`]: of `NoMemory` only `Left::Nothing` comes, and
+    /// `Gone` does not come. After `Worn` all is as it was.
+    fn flush(&mut self) -> Result<(), PlaceFault>
+        ensures flushes { Flushes holds result (seen self.old) (seen self.new) }
+        ensures vol { keeps_vol (vol self.old) (vol self.new) };
+
+    /// What holds between any two calls: also that what reads give is a base, unless the place is stopped. It does nothing.
+    fn law_kept(&self)
+        ensures kept { IsKept holds (seen self.now) }
+        ensures reads { (seen self.now).place.stopped ≡ None → (image : Image) → reads (vol self.now) image → (b : State) × holds image b × (seen self.now).is_base b };
+
+    /// Ends the place, and gives its volume back. What waits is not on it.
     fn into_vol(self) -> Self::Vol
         ensures value { result ≡ vol self };
 
-    /// What holds between any two calls.
-    ghost kept: { (place : Self) → IsKept holds (seen place) };
-
     /// An image holds one state, or none.
     ghost holds_one: { (image : Image) → (a b : State) → holds image a → holds image b → a ≡ b };
+
+    /// A state that an image holds outlives a crash as a whole.
+    ghost holds_lasting: { (image : Image) (b : State) → holds image b → lasting b ≡ b };
+
+    /// A place opens to what reads give.
+    ghost opens_read: { (v : Self.Vol) (state : State) (image : Image) → opens v state → reads v image → holds image state };
+
+    /// A volume of which reads give something that an image may hold is refused only if it fails, or memory runs out.
+    ghost refuses_read: { (v : Self.Vol) (fault : OpenFault) (image : Image) (b : State) → reads v image → holds image b → refuses v fault → (fault ≡ OpenFault.Fault) ⊎ (fault ≡ OpenFault.NoMemory) };
+
+    /// The bases of a place are those of its volume.
+    ghost bases: { (place : Self) (b : State) → (seen place).is_base b ↔ base (seen place).place.stopped (vol place) b };
+
+    /// What a crash may have left of a place it may have left of its volume.
+    ghost leaves: { (place : Self) (t : ℕ) (image : Image) → (seen place).left_since t image ↔ left (vol place) t image };
+
+    /// What was left since a moment was left since each earlier one.
+    ghost earlier: { (v : Self.Vol) (t u : ℕ) (image : Image) → t ≤ u → left v u image → left v t image };
+
+    /// Where the volume of a place stands is told of the place.
+    ghost stands: { (place : Self) → ((seen place).place.volume.moment ≡ clock (vol place)) × ((seen place).place.volume.faults ≡ faults (vol place)) };
+
+    /// Neither the moment of a volume nor its count of faults falls.
+    ghost keeps_later: { (a b : Self.Vol) → keeps_vol a b → (clock a ≤ clock b) × (faults a ≤ faults b) };
 
     /// A call may leave the volume as it is.
     ghost keeps_none: { (v : Self.Vol) → keeps_vol v v };

@@ -43,8 +43,8 @@ pub enum Held {
 /// Room for one stream.
 #[derive(Drop)]
 pub struct Slot {
-    alloc: Global,
-    held: Held,
+    pub(crate) alloc: Global,
+    pub(crate) held: Held,
 }
 
 impl Model for Slot {

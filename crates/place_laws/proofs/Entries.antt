@@ -19,8 +19,9 @@ use Rattle.js_model.specs.Proper.{if_given, is_proper, is_proper_what, reply_of}
 use Rattle.js_model.specs.Runs.{IsStep, IsDeliverStep, RunFrom, is_few, new_messages}
 use Rattle.place_engine.specs.Stepping.{Image, IsKept, Seen, Steps, Does, Rests, tick_of}
 use Rattle.place_engine.specs.Delivering.{Delivers, Makes, tick_at}
+use Rattle.place_engine.specs.Flushing.{EndsFlush, KeepsState}
 use Rattle.place_engine.specs.declared.faults.PlaceFault.{PlaceFault}
-use Rattle.place_engine.specs.declared.faults.PlaceFault.TheVariants.{NoMemory, StoreFault, Stopped, Gone, Worn}
+use Rattle.place_engine.specs.declared.faults.PlaceFault.TheVariants.{NoMemory, StoreFault, Full, Stopped, Gone, Worn}
 use Rattle.place_engine.specs.declared.faults.Left.TheVariants.{Nothing, Ticked, Unsaid}
 use Rattle.place_laws.specs.Calls.{stepped, made_by_step, made_by_delivery}
 
@@ -80,7 +81,7 @@ module _ (holds : Image → State → Type 0) (count now : ℕ) (old mid : Seen)
   rested : (before after : List Out) → Rests old mid before after → RunFrom count old.place.state more last
   rested before after rests = idle rests.state (subst (λ (n : ℕ). n ≤ count) (sym rests.stored) le)
 
-  -- the volume failed in the event
+  -- the volume failed in the event, or its log was full
   broken : (seat : ℕ) (e : Event) (n : ℕ) → IsTrue (is_proper e) → Does e now old mid → mid.place.stopped ≡ Some n → RunFrom count old.place.state (made_by_step (Err StoreFault) seat e now old ++ more) last
   broken seat e n proper does is =
       let ended = stopped n is in
@@ -94,6 +95,7 @@ module _ (holds : Image → State → Type 0) (count now : ℕ) (old mid : Seen)
   step_runs (Err (NoMemory Ticked)) seat event before after proper h = made seat (tick_of event) false (tick_proper event proper) h.ends.does h.stored
   step_runs (Err (NoMemory (Unsaid refused))) seat event before after proper h = made seat event true proper h.ends.hides.does h.stored
   step_runs (Err StoreFault) seat event before after proper h = broken seat event mid.place.volume.faults proper h.ends.does h.ends.stops
+  step_runs (Err Full) seat event before after proper h = broken seat event mid.place.volume.faults proper h.ends.does h.ends.stops
   step_runs (Err (Stopped n)) seat event before after proper h = rested before after h.ends.rests
   step_runs (Err (Gone other)) seat event before after proper h = rested before after h.ends.rests
   step_runs (Err (Worn refused)) seat event before after proper h = made seat event true proper h.ends.withholds.hides.does h.stored
@@ -107,7 +109,7 @@ module _ (holds : Image → State → Type 0) (count now : ℕ) (old mid : Seen)
     behind (count + length (new_messages old.place.state mid.place.state)) (omega (arith, le, stored)),
   )
 
-  -- the volume failed in it
+  -- the volume failed in it, or its log was full
   broken_in : (seat : ℕ) (listening : List Bytes) (d : Delivery) (outs : List Out) (n : ℕ) → Makes now listening d outs old mid → mid.place.stopped ≡ Some n
       → RunFrom count old.place.state (Broken seat now (DeliverOf listening d) ∷ more) last
   broken_in seat listening d outs n makes is =
@@ -125,6 +127,7 @@ module _ (holds : Image → State → Type 0) (count now : ℕ) (old mid : Seen)
       made seat (tick_at old.place.state) false (kept_proper old.place.state bound) h.ends.does (omega (arith, h.stored))
   delivery_runs (Err (NoMemory (Unsaid refused))) seat listening before after bound h = sent seat listening h.ends.delivery h.ends.sent h.ends.makes h.stored
   delivery_runs (Err StoreFault) seat listening before after bound h = broken_in seat listening h.ends.delivery h.ends.sent mid.place.volume.faults h.ends.makes h.ends.stops
+  delivery_runs (Err Full) seat listening before after bound h = broken_in seat listening h.ends.delivery h.ends.sent mid.place.volume.faults h.ends.makes h.ends.stops
   delivery_runs (Err (Stopped n)) seat listening before after bound h = rested before after h.ends.rests
   delivery_runs (Err (Gone other)) seat listening before after bound h = absurd h.ends
   delivery_runs (Err (Worn refused)) seat listening before after bound h = sent seat listening h.ends.hides.delivery h.ends.hides.sent h.ends.hides.makes h.stored
@@ -150,6 +153,7 @@ step_stopped holds old new n seat event now (Err (NoMemory Nothing)) before afte
 step_stopped holds old new n seat event now (Err (NoMemory Ticked)) before after is h = going_not n old.place.stopped is h.ends.does.going
 step_stopped holds old new n seat event now (Err (NoMemory (Unsaid refused))) before after is h = going_not n old.place.stopped is h.ends.hides.does.going
 step_stopped holds old new n seat event now (Err StoreFault) before after is h = going_not n old.place.stopped is h.ends.does.going
+step_stopped holds old new n seat event now (Err Full) before after is h = going_not n old.place.stopped is h.ends.does.going
 step_stopped holds old new n seat event now (Err (Stopped m)) before after is h = rests_stopped old new before after h.ends.rests
 step_stopped holds old new n seat event now (Err (Gone other)) before after is h = going_not n old.place.stopped is h.ends.going
 step_stopped holds old new n seat event now (Err (Worn refused)) before after is h = going_not n old.place.stopped is h.ends.withholds.hides.does.going
@@ -163,6 +167,42 @@ delivery_stopped holds old new n seat now listening (Err (NoMemory Nothing)) bef
 delivery_stopped holds old new n seat now listening (Err (NoMemory Ticked)) before after is h = going_not n old.place.stopped is h.ends.does.going
 delivery_stopped holds old new n seat now listening (Err (NoMemory (Unsaid refused))) before after is h = going_not n old.place.stopped is h.ends.makes.going
 delivery_stopped holds old new n seat now listening (Err StoreFault) before after is h = going_not n old.place.stopped is h.ends.makes.going
+delivery_stopped holds old new n seat now listening (Err Full) before after is h = going_not n old.place.stopped is h.ends.makes.going
 delivery_stopped holds old new n seat now listening (Err (Stopped m)) before after is h = rests_stopped old new before after h.ends.rests
 delivery_stopped holds old new n seat now listening (Err (Gone other)) before after is h = absurd h.ends
 delivery_stopped holds old new n seat now listening (Err (Worn refused)) before after is h = going_not n old.place.stopped is h.ends.hides.makes.going
+
+-- ---- a flush
+
+-- it leaves the state and what counts against the store
+pub record StaysSame (old new : Seen) : Type 0 where
+  pub state : new.place.state ≡ old.place.state
+  pub stored : new.place.stored ≡ old.place.stored
+
+keeps_same : (old new : Seen) → KeepsState old new → StaysSame old new
+keeps_same old new h = record { state = h.state; stored = h.stored }
+
+rests_same : (old new : Seen) (before after : List Out) → Rests old new before after → StaysSame old new
+rests_same old new before after h = record { state = h.state; stored = h.stored }
+
+pub flush_same : (old new : Seen) (result : Result (Unit {0}) PlaceFault) → EndsFlush result old new → StaysSame old new
+flush_same old new (Ok done) h = keeps_same old new h.keeps
+flush_same old new (Err (NoMemory Nothing)) h = rests_same old new [] [] h.rests
+flush_same old new (Err (NoMemory Ticked)) h = absurd h
+flush_same old new (Err (NoMemory (Unsaid refused))) h = absurd h
+flush_same old new (Err StoreFault) h = keeps_same old new h.keeps
+flush_same old new (Err Full) h = keeps_same old new h.keeps
+flush_same old new (Err (Stopped m)) h = rests_same old new [] [] h.rests
+flush_same old new (Err (Gone other)) h = absurd h
+flush_same old new (Err (Worn refused)) h = rests_same old new [] [] h.unflushed.rests
+
+pub flush_stopped : (old new : Seen) (n : ℕ) (result : Result (Unit {0}) PlaceFault) → old.place.stopped ≡ Some n → EndsFlush result old new → StaysStopped old new []
+flush_stopped old new n (Ok done) is h = going_not n old.place.stopped is h.keeps.going
+flush_stopped old new n (Err (NoMemory Nothing)) is h = going_not n old.place.stopped is h.going
+flush_stopped old new n (Err (NoMemory Ticked)) is h = absurd h
+flush_stopped old new n (Err (NoMemory (Unsaid refused))) is h = absurd h
+flush_stopped old new n (Err StoreFault) is h = going_not n old.place.stopped is h.keeps.going
+flush_stopped old new n (Err Full) is h = going_not n old.place.stopped is h.keeps.going
+flush_stopped old new n (Err (Stopped m)) is h = rests_stopped old new [] [] h.rests
+flush_stopped old new n (Err (Gone other)) is h = absurd h
+flush_stopped old new n (Err (Worn refused)) is h = going_not n old.place.stopped is h.unflushed.going

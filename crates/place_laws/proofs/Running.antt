@@ -4,9 +4,9 @@ use Rattle.js_model.specs.declared.stream.State.{State}
 use Rattle.js_model.specs.declared.entry.PlaceEntry.{PlaceEntry}
 use Rattle.js_model.specs.Runs.{RunFrom, messages_of}
 use Rattle.place_engine.specs.Stepping.{Image, Seen}
-use Rattle.place_laws.specs.Calls.{Calls, NoCall, AStep, ADelivery}
+use Rattle.place_laws.specs.Calls.{Calls, NoCall, AStep, ADelivery, AFlush}
 use Rattle.place_laws.specs.Laws.{LawCalls}
-use Rattle.place_laws.proofs.Entries.{StaysStopped, delivery_runs, delivery_stopped, step_runs, step_stopped}
+use Rattle.place_laws.proofs.Entries.{StaysStopped, delivery_runs, delivery_stopped, flush_same, flush_stopped, step_runs, step_stopped}
 
 module _ {P : Type 0} (seen : P → Seen) (holds : Image → State → Type 0) where
   -- the calls of a stopped place make nothing
@@ -29,6 +29,9 @@ module _ {P : Type 0} (seen : P → Seen) (holds : Image → State → Type 0) w
       subst (λ (xs : List PlaceEntry). StaysStopped (seen old) (seen mid) xs) (sym call.made_is)
       (delivery_stopped holds (seen old) (seen mid) n call.seat call.now call.listening call.result call.before call.after is call.delivers) in
       after_that old mid new made more stays (nothing n mid new more (stays.stopped ∙ is) rest)
+  nothing n old new entries is (AFlush old_ mid new_ more call rest) =
+      let stays : StaysStopped (seen old) (seen mid) [] = flush_stopped (seen old) (seen mid) n call.result is call.flushes.ends in
+      after_that old mid new [] more stays (nothing n mid new more (stays.stopped ∙ is) rest)
 
   ends : (mid new : P) (more : List PlaceEntry) → Calls seen holds mid more new → (n : ℕ) → (seen mid).place.stopped ≡ Some n → (more ≡ []) × ((seen new).place.state ≡ (seen mid).place.state)
   ends mid new more rest n is = let h = nothing n mid new more is rest in (h.none, h.state)
@@ -43,6 +46,9 @@ module _ {P : Type 0} (seen : P → Seen) (holds : Image → State → Type 0) w
       subst (λ (xs : List PlaceEntry). RunFrom count (seen old).place.state (xs ++ more) (seen new).place.state) (sym call.made_is)
       (delivery_runs holds count call.now (seen old) (seen mid) more (seen new).place.state call.kept call.moment le (λ later below. runs later mid new more below rest) (ends mid new more rest)
       call.result call.seat call.listening call.before call.after call.bound call.delivers)
+  runs count old new entries le (AFlush old_ mid new_ more call rest) =
+      let same = flush_same (seen old) (seen mid) call.result call.flushes.ends in
+      subst (λ (s : State). RunFrom count s more (seen new).place.state) same.state (runs count mid new more (subst (λ (n : ℕ). n ≤ count) (sym same.stored) le) rest)
 
 pub law_calls : {P : Type 0} (seen : P → Seen) (holds : Image → State → Type 0) → LawCalls seen holds
 law_calls seen holds old new entries le calls = runs seen holds (length (messages_of (seen old).place.state)) old new entries le calls

@@ -13,8 +13,9 @@ use Rattle.js_model.specs.Events.{answered, kept_incarnation}
 use Rattle.js_model.specs.Proper.{is_proper}
 use Rattle.place_engine.specs.Stepping.{Image, IsKept, Seen, Steps, tick_of}
 use Rattle.place_engine.specs.Delivering.{Delivers, EndsDelivery, tick_at}
+use Rattle.place_engine.specs.Flushing.{Flushes}
 use Rattle.place_engine.specs.declared.faults.PlaceFault.{PlaceFault}
-use Rattle.place_engine.specs.declared.faults.PlaceFault.TheVariants.{NoMemory, StoreFault, Stopped, Gone, Worn}
+use Rattle.place_engine.specs.declared.faults.PlaceFault.TheVariants.{NoMemory, StoreFault, Full, Stopped, Gone, Worn}
 use Rattle.place_engine.specs.declared.faults.Left.TheVariants.{Nothing, Ticked, Unsaid}
 
 -- ---- what one call makes
@@ -24,13 +25,14 @@ abbrev pub stepped : ℕ → Event → ℕ → Bool → Seen → PlaceEntry
 stepped seat event now unsaid old =
     Step seat event now (answered old.place.state event now (old.room event.what)).reply (answered old.place.state event now (old.room event.what)).outs unsaid
 
--- a step makes its event, or lets time pass, or changes nothing. If the volume failed, the entry is broken
+-- a step makes its event, or lets time pass, or changes nothing. If the volume failed, or its log was full, the entry is broken
 abbrev pub made_by_step : Result Reply PlaceFault → ℕ → Event → ℕ → Seen → List PlaceEntry
 made_by_step (Ok reply) seat event now old = stepped seat event now false old ∷ []
 made_by_step (Err (NoMemory Nothing)) seat event now old = []
 made_by_step (Err (NoMemory Ticked)) seat event now old = stepped seat (tick_of event) now false old ∷ []
 made_by_step (Err (NoMemory (Unsaid refused))) seat event now old = stepped seat event now true old ∷ []
 made_by_step (Err StoreFault) seat event now old = Broken seat now (StepOf event) ∷ []
+made_by_step (Err Full) seat event now old = Broken seat now (StepOf event) ∷ []
 made_by_step (Err (Stopped count)) seat event now old = []
 made_by_step (Err (Gone kept)) seat event now old = []
 made_by_step (Err (Worn refused)) seat event now old = stepped seat event now true old ∷ []
@@ -44,6 +46,7 @@ made_by_delivery seat now listening old new before after (Err (NoMemory Nothing)
 made_by_delivery seat now listening old new before after (Err (NoMemory Ticked)) ends = stepped seat (tick_at old.place.state) now false old ∷ []
 made_by_delivery seat now listening old new before after (Err (NoMemory (Unsaid refused))) ends = Deliver seat now listening ends.delivery ends.sent ∷ []
 made_by_delivery seat now listening old new before after (Err StoreFault) ends = Broken seat now (DeliverOf listening ends.delivery) ∷ []
+made_by_delivery seat now listening old new before after (Err Full) ends = Broken seat now (DeliverOf listening ends.delivery) ∷ []
 made_by_delivery seat now listening old new before after (Err (Stopped count)) ends = []
 made_by_delivery seat now listening old new before after (Err (Gone kept)) ends = []
 made_by_delivery seat now listening old new before after (Err (Worn refused)) ends = Deliver seat now listening ends.hides.delivery ends.hides.sent ∷ []
@@ -78,8 +81,14 @@ pub record DeliverCall (holds : Image → State → Type 0) (old new : Seen) (ma
   pub delivers : Delivers holds result now listening old new before after
   pub made_is : made ≡ made_by_delivery seat now listening old new before after result delivers.ends
 
+-- a call of `flush`, which makes nothing
+pub record FlushCall (holds : Image → State → Type 0) (old new : Seen) : Type 0 where
+  pub result : Result (Unit {0}) PlaceFault
+  pub flushes : Flushes holds result old new
+
 -- the calls of a place from one look at it to another, and all that they made
 pub data Calls {P : Type 0} (seen : P → Seen) (holds : Image → State → Type 0) : P → List PlaceEntry → P → Type 0 where
   NoCall : (place : P) → Calls seen holds place [] place
   AStep : (old mid new : P) (made more : List PlaceEntry) → StepCall holds (seen old) (seen mid) made → Calls seen holds mid more new → Calls seen holds old (made ++ more) new
   ADelivery : (old mid new : P) (made more : List PlaceEntry) → DeliverCall holds (seen old) (seen mid) made → Calls seen holds mid more new → Calls seen holds old (made ++ more) new
+  AFlush : (old mid new : P) (more : List PlaceEntry) → FlushCall holds (seen old) (seen mid) → Calls seen holds mid more new → Calls seen holds old more new

@@ -51,6 +51,7 @@ fn with_worker(
 }
 
 fn check_pull_at_once(rt: &impl Abort, place: &mut Driven, alloc: Global) -> Result<(), Fail> {
+    with_worker(place, alloc, None)?;
     place.make(publish(alloc, b"hello")?)?;
     place.make(pull(alloc, b"W", AT_ONCE)?)?;
     assert!(rt;
@@ -78,11 +79,13 @@ fn check_pull_at_once(rt: &impl Abort, place: &mut Driven, alloc: Global) -> Res
 #[test]
 fn pull_that_does_not_wait_gets_what_is_there(rt: HostRuntime) -> Result<(), Fail> {
     let mut place = Driven::open(rt.alloc())?;
-    with_worker(&mut place, rt.alloc(), None)?;
-    check_pull_at_once(&rt, &mut place, rt.alloc())
+    let done = check_pull_at_once(&rt, &mut place, rt.alloc());
+    place.close();
+    done
 }
 
 fn check_pull_for_a_second(rt: &impl Abort, place: &mut Driven, alloc: Global) -> Result<(), Fail> {
+    with_worker(place, alloc, None)?;
     place.make(pull(alloc, b"W", FOR_A_SECOND)?)?;
     place.wait(999_999_999);
     place.make(What::Tick)?;
@@ -98,11 +101,13 @@ fn check_pull_for_a_second(rt: &impl Abort, place: &mut Driven, alloc: Global) -
 #[test]
 fn pull_ends_at_its_moment(rt: HostRuntime) -> Result<(), Fail> {
     let mut place = Driven::open(rt.alloc())?;
-    with_worker(&mut place, rt.alloc(), None)?;
-    check_pull_for_a_second(&rt, &mut place, rt.alloc())
+    let done = check_pull_for_a_second(&rt, &mut place, rt.alloc());
+    place.close();
+    done
 }
 
 fn check_one_at_a_time(rt: &impl Abort, place: &mut Driven, alloc: Global) -> Result<(), Fail> {
+    with_worker(place, alloc, Some(1))?;
     place.make(publish(alloc, b"a")?)?;
     place.make(publish(alloc, b"b")?)?;
     place.make(pull(alloc, b"W", TWO)?)?;
@@ -128,11 +133,13 @@ fn check_one_at_a_time(rt: &impl Abort, place: &mut Driven, alloc: Global) -> Re
 #[test]
 fn delivery_waits_for_the_one_before(rt: HostRuntime) -> Result<(), Fail> {
     let mut place = Driven::open(rt.alloc())?;
-    with_worker(&mut place, rt.alloc(), Some(1))?;
-    check_one_at_a_time(&rt, &mut place, rt.alloc())
+    let done = check_one_at_a_time(&rt, &mut place, rt.alloc());
+    place.close();
+    done
 }
 
 fn check_second_delivery(rt: &impl Abort, place: &mut Driven, alloc: Global) -> Result<(), Fail> {
+    with_worker(place, alloc, None)?;
     place.make(publish(alloc, b"hello")?)?;
     place.make(pull(alloc, b"W", TWO)?)?;
     assert!(rt; place.deliver()?.is_some());
@@ -158,6 +165,7 @@ fn check_second_delivery(rt: &impl Abort, place: &mut Driven, alloc: Global) -> 
 #[test]
 fn message_comes_again_after_its_wait(rt: HostRuntime) -> Result<(), Fail> {
     let mut place = Driven::open(rt.alloc())?;
-    with_worker(&mut place, rt.alloc(), None)?;
-    check_second_delivery(&rt, &mut place, rt.alloc())
+    let done = check_second_delivery(&rt, &mut place, rt.alloc());
+    place.close();
+    done
 }

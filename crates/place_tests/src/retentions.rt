@@ -33,6 +33,7 @@ fn add(place: &mut Driven, alloc: Global, name: &[u8]) -> Result<(), NoMemory>
 }
 
 fn check_work_queue(rt: &impl Abort, place: &mut Driven, alloc: Global) -> Result<(), Fail> {
+    keep_by(place, alloc, Retention::WorkQueue)?;
     add(place, alloc, b"W")?;
     place.make(publish(alloc, b"hello")?)?;
     assert!(rt; place.deliver()?.is_some());
@@ -47,11 +48,13 @@ fn check_work_queue(rt: &impl Abort, place: &mut Driven, alloc: Global) -> Resul
 #[test]
 fn message_of_a_work_queue_goes_once_it_is_acknowledged(rt: HostRuntime) -> Result<(), Fail> {
     let mut place = Driven::open(rt.alloc())?;
-    keep_by(&mut place, rt.alloc(), Retention::WorkQueue)?;
-    check_work_queue(&rt, &mut place, rt.alloc())
+    let done = check_work_queue(&rt, &mut place, rt.alloc());
+    place.close();
+    done
 }
 
 fn check_unwanted(rt: &impl Abort, place: &mut Driven, alloc: Global) -> Result<(), Fail> {
+    keep_by(place, alloc, Retention::Interest)?;
     place.make(publish(alloc, b"hello")?)?;
     assert_eq!(rt; place.messages()?, Some(0));
     Ok(())
@@ -60,8 +63,9 @@ fn check_unwanted(rt: &impl Abort, place: &mut Driven, alloc: Global) -> Result<
 #[test]
 fn message_that_nobody_wants_is_not_kept(rt: HostRuntime) -> Result<(), Fail> {
     let mut place = Driven::open(rt.alloc())?;
-    keep_by(&mut place, rt.alloc(), Retention::Interest)?;
-    check_unwanted(&rt, &mut place, rt.alloc())
+    let done = check_unwanted(&rt, &mut place, rt.alloc());
+    place.close();
+    done
 }
 
 fn check_two_acknowledgements(
@@ -69,6 +73,7 @@ fn check_two_acknowledgements(
     place: &mut Driven,
     alloc: Global,
 ) -> Result<(), Fail> {
+    keep_by(place, alloc, Retention::Interest)?;
     add(place, alloc, b"V")?;
     add(place, alloc, b"W")?;
     place.make(publish(alloc, b"hello")?)?;
@@ -84,6 +89,7 @@ fn check_two_acknowledgements(
 #[test]
 fn message_goes_at_the_second_acknowledgement(rt: HostRuntime) -> Result<(), Fail> {
     let mut place = Driven::open(rt.alloc())?;
-    keep_by(&mut place, rt.alloc(), Retention::Interest)?;
-    check_two_acknowledgements(&rt, &mut place, rt.alloc())
+    let done = check_two_acknowledgements(&rt, &mut place, rt.alloc());
+    place.close();
+    done
 }

@@ -6,6 +6,7 @@ use crate::outcome::Outcome;
 use crate::row::{DoorScript, LinkScript, Row, Turn, begin};
 use js_base::{Blob, List, Moment, NoMemory};
 use link_edge::{Knock, MemClock, MemDoor, MemLink, MemSink, OpenGate, Said};
+use place_engine::MemoryPlace;
 use server::{Finish, run};
 use std::alloc::Global;
 
@@ -79,13 +80,20 @@ fn add_moments(moments: &mut List<Moment>, turn: &Turn, size: usize) -> Result<(
     Ok(())
 }
 
+/// Whether the command line names a stream.
+fn names_stream(words: &[String]) -> bool {
+    words
+        .iter()
+        .any(|word| word.as_bytes().starts_with(b"--stream"))
+}
+
 /// The clock that tells the moments of a row. It is read once for the stream that the command line names, if it names one, and then once a take.
 fn clock_of(alloc: Global, row: &Row, size: usize) -> Result<MemClock, NoMemory>
     requires size { 0 < size }
 {
     let mut last = begin();
     let mut moments = List::new(alloc);
-    if row.words.len() > 1 {
+    if names_stream(&row.words) {
         moments.push(last)?;
     }
     for link in row.door.links.iter() {
@@ -115,7 +123,7 @@ pub(crate) fn run_row(alloc: Global, row: &Row, size: usize) -> Result<Outcome, 
     let volumes = vec![in alloc; (); row.volumes.count]?;
     let mut clock = clock_of(alloc, row, size)?;
     let mut sink = MemSink::failing(alloc, numbers(alloc, &row.sink_failing)?);
-    let finish: Finish<MemDoor, ()> = run(
+    let finish: Finish<MemDoor, ()> = run::<MemoryPlace<()>, _, _, _, _>(
         alloc, &row.words, door, volumes, &mut clock, &OpenGate, &mut sink,
     );
     Ok(Outcome {

@@ -6,8 +6,8 @@ use Rattle.js_api.specs.Worlds.{opening}
 use Rattle.talk_laws.specs.Parts.{Part, IsPartOf}
 use Rattle.talk_laws.specs.Talks.{InEachTalk}
 use Rattle.talk_laws.specs.Confirming.{StaysConfirmed, LawTalkConfirmed}
-use Rattle.talk_laws.specs.TalkLaws.{LawOpening, LawTalkAcked, LawTalkEnds}
-use Rattle.run_laws.specs.Runs.{run_entries}
+use Rattle.talk_laws.specs.TalkLaws.{LawTalkAcked, LawTalkEnds}
+use Rattle.server.specs.Attending.{run_entries}
 use Rattle.run_laws.specs.Laws.{StaysAcked, InEachRun, LawRunAcked, LawRunConfirmed}
 use Rattle.run_laws.proofs.Runs.{run_led}
 
@@ -31,12 +31,12 @@ stays_acked ends acked old new entries led place before there sound =
       };
     }
 
-in_each_run : (Holds : Part → Type 0) → LawOpening → InEachTalk Holds → InEachRun Holds
-in_each_run Holds opens talk volumes stream after status old new attends place before there =
-    talk (opening _) after (run_entries _ stream after status old new attends) (run_led _ stream after status old new attends) place before there (opens volumes place before there).0
+in_each_run : (Holds : Part → Type 0) → InEachTalk Holds → InEachRun Holds
+in_each_run Holds talk opened stream after status old new attends place before there sound =
+    talk (opening opened) after (run_entries opened stream after status old new attends) (run_led opened stream after status old new attends) place before there sound
 
-pub law_run_acked : LawOpening → LawTalkEnds → LawTalkAcked → LawRunAcked
-law_run_acked opens ends acked = in_each_run StaysAcked opens (stays_acked ends acked)
+pub law_run_acked : LawTalkEnds → LawTalkAcked → LawRunAcked
+law_run_acked ends acked = in_each_run StaysAcked (stays_acked ends acked)
 
-pub law_run_confirmed : LawOpening → LawTalkConfirmed → LawRunConfirmed
-law_run_confirmed opens confirmed = in_each_run StaysConfirmed opens confirmed
+pub law_run_confirmed : LawTalkConfirmed → LawRunConfirmed
+law_run_confirmed confirmed = in_each_run StaysConfirmed confirmed

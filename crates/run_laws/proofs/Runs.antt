@@ -7,10 +7,10 @@ use Rattle.js_api.specs.declared.fault.DeskFault.{DeskFault}
 use Rattle.js_api.specs.Leading.{Leads, leads_more}
 use Rattle.js_api.specs.Worlds.{Scene, SoloStep, opening}
 use Rattle.server.specs.declared.words.NamedStream.{NamedStream}
+use Rattle.server.specs.Attending.{prepared_entries, session_entries, run_entries}
 use Rattle.server.specs.Outside.{DoorTold, Outside}
 use Rattle.server.specs.Preparing.{Prepares}
 use Rattle.server.specs.Running.{Waits, Attends, Unmade, Awaited}
-use Rattle.run_laws.specs.Runs.{prepared_entries, session_entries, run_entries}
 
 prepared_led : (opened : List PlaceIn) (stream : Option NamedStream) (result : Result (Option ApiError) DeskFault) (clock_old clock_new : Option (List ℕ)) (after : Scene)
     → (p : Prepares opened stream result clock_old clock_new after) → Leads SoloStep (opening opened) (prepared_entries opened stream result clock_old clock_new after p) after

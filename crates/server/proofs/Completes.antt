@@ -20,6 +20,9 @@ use Rattle.nats_frames.specs.declared.op.FrameFault.{FrameFault}
 use Rattle.nats_frames.specs.Grammar.{Fronts}
 use Rattle.nats_frames.specs.Reading.{op_at}
 use Rattle.place_engine.specs.declared.faults.PlaceFault.{PlaceFault}
+use Rattle.js_desk.specs.Solo.{Solo}
+use Rattle.js_desk.specs.declared.faults.Closed.{Closed}
+use Rattle.js_desk.specs.declared.faults.HubFault.{HubFault}
 use Rattle.stream_config.specs.Defaults.{default_config}
 use Rattle.js_api.specs.declared.fault.DeskFault.{DeskFault}
 use Rattle.js_api.specs.declared.fault.DeskFault.TheVariants as faults
@@ -44,7 +47,9 @@ use Rattle.server.specs.declared.words.NamedStream.{NamedStream}
 use Rattle.server.specs.Outside.{DoorTold, SinkTold, Outside}
 use Rattle.server.specs.Accepting.{IsQuiet}
 use Rattle.server.specs.Preparing.{Prepares}
-use Rattle.server.specs.Running.{pipe_limits, status_of, IsUnserved, WasClosed, HasFailed, WasQuiet, HasStarved, WasUnasked, Waits, Unmakes, Attends, Unmade, Awaited, Unopened, Attended, flush_status, status_with, closing_status, is_session}
+use Rattle.server.specs.Running.{pipe_limits, status_of, IsUnserved, WasClosed, HasFailed, WasQuiet, HasStarved, WasUnasked, Waits, Unmakes, Attends, Unmade, Awaited}
+use Rattle.server.specs.Closing.{flush_status, status_with, closing_status}
+use Rattle.server.specs.Ending.{Starved, Unopened, Attended}
 use Rattle.server.specs.Laws.{IsSound, IsValid, piece_of, bytes_of, ops_of, IsWelcome, AreUntroubled, IsFlushed, IsCalmSession, IsCalmWait, IsCalmOver, IsAnswered, AreAnsweredAt, AreAnsweredOver, LawComplete}
 use Rattle.server.proofs.Whole.{none_partial, fronts_on, Leaves, leaves, leaves_none, leaves_sound, idle_sound}
 use Rattle.server.proofs.Taken.{answers_in, ops_in, acts-append, front_ops, Taken, taken}
@@ -509,8 +514,12 @@ settled served talked status None P f e (inl h) = inl (e ∙ h.0, h.1)
 settled served talked status None P f e (inr h) = inr (e ∙ h)
 settled served talked status (Some failed) P f e h = inr (e ∙ closed_with served talked (flush_status failed.1) P f h)
 
-pub complete : {V : Type 0} → LawComplete V
-complete opened stream status failed v0 v1 old new input ops welcome valid calm flushed (Unopened h) untroubled = inr h.status_is
-complete opened stream status failed v0 v1 old new input ops welcome valid calm flushed (Attended h) untroubled =
-    settled (is_session h.attends) h.talked status failed (AreAnsweredOver ops h.attends) flushed h.status_is
-    (attended opened stream h.after h.talked old new h.attends input ops welcome untroubled valid (calm h untroubled))
+module _ {V : Type 0} (Opens : List V → Solo V → Type 0) (Refuses : List V → HubFault V → Type 0) (Made : Solo V → List DeskEntry → Solo V → Type 0) (Closes : Solo V → Closed V → Type 0) where
+  pub complete : LawComplete Opens Refuses Made Closes
+  complete stream status v0 v1 old new input ops may welcome valid calm (Starved h) untroubled = inr h.status_is
+  complete stream status v0 v1 old new input ops may welcome valid calm (Unopened h) untroubled = inr (h.status_is ∙ may h.fault h.refused)
+  complete stream status v0 v1 old new input ops may welcome valid calm (Attended h) untroubled =
+      let attends = h.attended.attends in
+      let opened = h.desk.scene.world.places in
+      settled h.outcome.served h.outcome.status status h.closed.failed (AreAnsweredOver ops attends) untroubled.1 h.status_is
+      (attended opened stream h.after.scene h.outcome.status old (record new { sink = h.sink }) attends input ops (welcome h.desk h.opens) untroubled.0 valid (calm h untroubled.0))

@@ -1,5 +1,7 @@
+pub mod Spelled
 pub mod Arriving
 pub mod Ending
+pub mod Ended
 pub mod Printed
 pub mod Worded
 pub mod Whole
@@ -8,7 +10,9 @@ pub mod Untroubled
 pub mod Numbered
 pub mod Slowed
 pub mod Opened
+pub mod Made
 pub mod Prepared
-pub mod Closing
 pub mod Placeless
 pub mod Completes
+pub mod Keeping
+pub mod Memory

@@ -31,17 +31,14 @@ use Rattle.js_api.specs.OneStream.{IsAdding, free_unless_made}
 use Rattle.js_api.specs.Stages.{Gives, Ending}
 use Rattle.js_api.specs.Worlds.{Scene, SoloStep, kept_in, opening, is_broken}
 use Rattle.server.specs.declared.words.NamedStream.{NamedStream}
-use Rattle.server.specs.declared.words.Command.{Command}
-use Rattle.server.specs.declared.words.Command.TheVariants.{Pipe}
-use Rattle.server.specs.Words.{NamesStream}
-use Rattle.server.specs.Outside.{Outside, SinkTold, Prints, number_line}
+use Rattle.server.specs.Lines.{number_line}
+use Rattle.server.specs.Outside.{Outside, SinkTold, Prints}
 use Rattle.server.specs.Preparing as preparing
-use Rattle.server.specs.Running.{PipeEnds, Unopened, Attended, Unmakes, opened_of}
+use Rattle.server.specs.Running.{Unmakes}
 use Rattle.server.specs.Laws.{AreUntroubled, HasPlace, LawWelcome}
-use Rattle.server.proofs.Ending.{WasRefused, attends_refused}
+use Rattle.server.proofs.Ending.{WasRefused}
 use Rattle.server.proofs.Untroubled.{AreFit, fit_front, fit_behind, run_fit}
 use Rattle.server.proofs.Slowed.{reaches}
-use Rattle.server.proofs.Closing.{left_untroubled}
 
 -- no place is there, and that is why
 pub record IsPlaceless (count : ℕ) (error : ApiError) : Type 0 where
@@ -167,8 +164,8 @@ module _ (at : PlaceAt) (config : StreamConfig) (now : ℕ) (e : ApiError) (old 
       let event = subst (λ (x : Reply). IsEvent hold.before (record { incarnation = at.incarnation; what = whats.Make None config }) now x h.outs steps.0) r.1 steps.1.event in
       made_there None config at.incarnation now r.0 h.outs hold.before steps.0 (sym a.held.was ∙ vacant hold.at.place a.place a.is_there) event
 
-  broken_there : (stream : Bytes) (hold : Hold) → IsBrokenHold at (whats.Make None config) now stream hold → AreFit (Held hold ∷ []) → ⊥
-  broken_there stream hold h fit =
+  broken_there : (stream : Bytes) (full : Bool) (hold : Hold) → IsBrokenHold at (whats.Make None config) now stream full hold → AreFit (Held hold ∷ []) → ⊥
+  broken_there stream full hold h fit =
       let clash : true ≡ false = sym (ap (λ (entries : List PlaceEntry). is_broken (entries ++ hold.deliveries)) h.steps) ∙ fit.0.unbroken in cc
 
   became_there : (became : Became) (ready : Bool) (held rest ended : List DeskEntry) → HoldsBy became at (whats.Make None config) now ready None held
@@ -178,7 +175,7 @@ module _ (at : PlaceAt) (config : StreamConfig) (now : ℕ) (e : ApiError) (old 
   became_there (Unsaid refused) ready held rest ended h making fit run = making
   became_there Ticked ready held rest ended h making fit run = making
   became_there Nothing ready held rest ended h making fit run = making
-  became_there (Broke stream) ready held rest ended h making fit run = broken_there stream h.0 h.2 (subst AreFit h.1 fit)
+  became_there (Broke stream full) ready held rest ended h making fit run = broken_there stream full h.0 h.2 (subst AreFit h.1 fit)
   became_there (Stopped stream) ready held rest ended h making fit run = let k = subst AreFit h.1 fit in k.0
   became_there Gone ready held rest ended h making fit run = making
 
@@ -276,23 +273,15 @@ refused_placeless count (Some stream) result error c0 c1 after h e u =
 printed_so : (result : Result (Option ApiError) DeskFault) (error : ApiError) (status : ℕ) (old new : SinkTold) → Unmakes result status old new → result ≡ Ok (Some error) → Prints (number_line error.err_code) old new
 printed_so result error status old new h e = let k = subst (λ (r : Result (Option ApiError) DeskFault). Unmakes r status old new) e h in k.1
 
-module _ {V : Type 0} (v0 v1 : List V) (read : Option Command) (stream : Option NamedStream) (is : read ≡ Some (Pipe stream)) (old new : Outside) where
-  refused_over : (after : Scene) (status : ℕ) → WasRefused (opened_of v0) stream after status old new → AreUntroubled after.world
-      → NamesStream read × (length v0 ≡ 0) × Prints (number_line 20007) old.sink new.sink
-  refused_over after status h u =
-      let error = h.refusal.error in
-      let k = refused_placeless (length v0) stream h.unmade.result error old.clock new.clock after h.unmade.prepared h.refusal.is u in (
-        subst NamesStream (sym is) k.1,
-        k.0.none,
-        subst (λ (e : ApiError). Prints (number_line e.err_code) old.sink new.sink) k.0.error_is (printed_so h.unmade.result error status old.sink new.sink h.unmade.unmade h.refusal.is),
-      )
-
-  -- a run that tells so had a stream to make and no volume, and printed that number
-  pub run_placeless : (status : ℕ) → PipeEnds (opened_of v0) stream status None v0 v1 old new → status ≡ 11
-      → NamesStream read × (length v0 ≡ 0) × Prints (number_line 20007) old.sink new.sink
-  run_placeless status (Unopened h) eleven = absurd (omega (arith, h.status_is, eleven))
-  run_placeless status (Attended h) eleven =
-      refused_over h.after h.talked (attends_refused (opened_of v0) stream h.after h.talked old new h.attends (sym h.status_is ∙ eleven)) (left_untroubled h.after.world v1 h.closed)
+pub refused_over : (count : ℕ) (stream : Option NamedStream) (after : Scene) (status : ℕ) (old new : Outside) → WasRefused (replicate count vacant_place) stream after status old new → AreUntroubled after.world
+    → IsSome stream × (count ≡ 0) × Prints (number_line 20007) old.sink new.sink
+refused_over count stream after status old new h u =
+    let error = h.refusal.error in
+    let k = refused_placeless count stream h.unmade.result error old.clock new.clock after h.unmade.prepared h.refusal.is u in (
+      k.1,
+      k.0.none,
+      subst (λ (e : ApiError). Prints (number_line e.err_code) old.sink new.sink) k.0.error_is (printed_so h.unmade.result error status old.sink new.sink h.unmade.unmade h.refusal.is),
+    )
 
 -- ---- the law
 

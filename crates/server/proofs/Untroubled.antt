@@ -61,13 +61,13 @@ not_unsent [] number e = cc
 not_unsent (true ∷ more) number e = not_unsent more number e
 not_unsent (false ∷ more) number e = cc
 
-not_broken : (broken : Bool) (before after : VolumeAt) (stopped : Option ℕ) → Stops broken before after stopped → stopped ≡ None → broken ≡ false
-not_broken true before after stopped h e = let clash : Some after.faults ≡ None = sym h.0 ∙ e in cc
-not_broken false before after stopped h e = refl
+not_broken : (broken full : Bool) (before after : VolumeAt) (stopped : Option ℕ) → Stops broken full before after stopped → stopped ≡ None → broken ≡ false
+not_broken true full before after stopped h e = let clash : Some after.faults ≡ None = sym h.0 ∙ e in cc
+not_broken false full before after stopped h e = refl
 
 held_fit : (hold : Hold) (old new : PlaceIn) (taken : List Bool) → IsHeld hold old new → hold.sending ≡ sending_of taken → IsUntroubled new → IsHoldFit hold
 held_fit hold old new taken h s u = record {
-  unbroken = not_broken (is_broken (entries_in hold)) hold.volume_before hold.volume_after new.stopped h.stops u.going;
+  unbroken = not_broken (is_broken (entries_in hold)) hold.full hold.volume_before hold.volume_after new.stopped h.stops u.going;
   sent = λ number e. not_unsent taken number (sym s ∙ e);
   generation = subst (λ (v : VolumeAt). v.generation < 2 ^ 62 - 1) h.volume_is u.generation;
 }
@@ -99,7 +99,7 @@ step_back old new (Stirred at before after failed) h u =
       generation = omega (arith, there.generation, ap (λ (v : VolumeAt). v.generation) i.volume_was, ap (λ (v : VolumeAt). v.generation) i.volume_is, i.later.generations);
     } in (
       changed_before old.world.places at.place a.place a.stirred a.is_there was set,
-      (not_broken failed before after a.stirred.stopped i.stops there.going, subst (λ (v : VolumeAt). v.generation < 2 ^ 62 - 1) i.volume_is there.generation),
+      (not_broken failed false before after a.stirred.stopped i.stops there.going, subst (λ (v : VolumeAt). v.generation < 2 ^ 62 - 1) i.volume_is there.generation),
     )
 step_back old new (Halted at state) h u =
     let halted = h.0 in

@@ -1,51 +1,66 @@
 -- Laws of the command line.
-use Rattle.std.proofs.Common.{◌≡◌, Bool, true, false, ◌&&◌, List, Option, None, Some, Result, Ok, Err, refl, subst}
+use Rattle.std.proofs.Common.{◌≡◌, Bool, true, false, ◌&&◌, List, [], ◌∷◌, Option, None, Some, Result, Ok, Err, codes, option_map, refl, subst}
 use Rattle.std.specs.Prelude.{IsTrue, IfSome, if◌then◌else◌}
-use Rattle.js_base.specs.Bytes.{Bytes}
+use Rattle.js_base.specs.Bytes.{Bytes, same}
 use Rattle.js_base.specs.Names.{name_of}
 use Rattle.js_base.specs.Subjects.{is_stream_subject}
 use Rattle.js_base.specs.declared.name.NameFault.{NameFault}
+use Rattle.server.specs.Settings.{Setting, settings_of, are_settings, value_of, dir_option, stream_option, subject_option}
 use Rattle.server.specs.declared.words.NamedStream.{NamedStream}
-use Rattle.server.specs.Words.{is_value, values_of, named, checked, stream_of, is_pipe, over, command_of}
 use Rattle.server.specs.declared.words.Command.{Command}
 use Rattle.server.specs.declared.words.Command.TheVariants.{Pipe}
-
--- of three facts the last
-last_of_three : (a b c : Bool) → a && b && c ≡ true → c ≡ true
-last_of_three true true c e = e
-last_of_three true false c e = cc
-last_of_three false b c e = cc
+use Rattle.server.specs.Words.{named, named_stream, stream_of, pipe_with, command_of}
 
 abbrev IsFine : Bytes → Type 0
 IsFine subject = IsTrue (is_stream_subject subject)
 
-named_subject : (subject : Bytes) (stream : NamedStream) (read : Result Bytes NameFault) → IsFine subject → named subject read ≡ Some stream → IsFine stream.subject
-named_subject subject stream (Ok name) fine e =
-    let same : record { name = name; subject = subject } ≡ stream = cc in
-    subst (λ (s : NamedStream). IsFine s.subject) same fine
-named_subject subject stream (Err fault) fine e = cc
+-- the subject of the stream, if there is one, may be that of a stream
+abbrev AreFine : Option NamedStream → Type 0
+AreFine stream = IfSome stream (λ s. IsFine s.subject)
 
-checked_subject : (values : Option (Bytes × Bytes)) (stream : NamedStream) → checked values ≡ Some stream → IsFine stream.subject
-checked_subject None stream e = cc
-checked_subject (Some values) stream e = by (is_value values.0 && is_value values.1 && is_stream_subject values.1) refl
+of_named : (subject : Bytes) (read : Result Bytes NameFault) → IsFine subject → AreFine (named subject read)
+of_named subject (Ok name) fine = fine
+of_named subject (Err fault) fine = tt
+
+of_named_stream : (name subject : Bytes) → AreFine (named_stream name subject)
+of_named_stream name subject = by (is_stream_subject subject) refl
   where
-    by : (b : Bool) → (is_value values.0 && is_value values.1 && is_stream_subject values.1) ≡ b → IsFine stream.subject
-    by true t =
-        named_subject values.1 stream (name_of values.0) (last_of_three (is_value values.0) (is_value values.1) (is_stream_subject values.1) t) (rw t at e)
-    by false t = let k = rw t at e in cc
+    by : (b : Bool) → is_stream_subject subject ≡ b → AreFine (if b then named subject (name_of name) else None)
+    by true is = of_named subject (name_of name) is
+    by false is = tt
+
+-- the same for what was read
+abbrev IsRead : Option (Option NamedStream) → Type 0
+IsRead read = IfSome read AreFine
+
+read_of : (found : Option NamedStream) → AreFine found → IsRead (option_map Some found)
+read_of None fine = tt
+read_of (Some stream) fine = fine
+
+of_stream : (name subject : Option Bytes) → IsRead (stream_of name subject)
+of_stream None None = tt
+of_stream None (Some subject) = tt
+of_stream (Some name) None = tt
+of_stream (Some name) (Some subject) = read_of (named_stream name subject) (of_named_stream name subject)
 
 -- the subject of a command's stream may be one
 abbrev pub HasSubject : Command → Type 0
-HasSubject (Pipe stream) = IfSome stream (λ s. IsFine s.subject)
+HasSubject (Pipe dir stream) = AreFine stream
 
-over_subject : (found : Option NamedStream) (command : Command) → ((stream : NamedStream) → found ≡ Some stream → IsFine stream.subject) → over found ≡ Some command → HasSubject command
-over_subject None command fine e = cc
-over_subject (Some stream) command fine e = let same : Pipe (Some stream) ≡ command = cc in subst HasSubject same (fine stream refl)
+over_stream : (dir : Option Bytes) (read : Option (Option NamedStream)) → IsRead read → IfSome (option_map (Pipe dir) read) HasSubject
+over_stream dir None fine = tt
+over_stream dir (Some stream) fine = fine
 
-read_subject : (alone : Bool) (found : Option NamedStream) (command : Command) → ((stream : NamedStream) → found ≡ Some stream → IsFine stream.subject)
-    → (if alone then Some (Pipe None) else over found) ≡ Some command → HasSubject command
-read_subject true found command fine e = let same : Pipe None ≡ command = cc in subst HasSubject same tt
-read_subject false found command fine e = over_subject found command fine e
+with_settings : (settings : List Setting) → IfSome (pipe_with settings) HasSubject
+with_settings settings = over_stream (value_of dir_option settings) _ (of_stream (value_of stream_option settings) (value_of subject_option settings))
+
+of_words : (words : List Bytes) → IfSome (command_of words) HasSubject
+of_words [] = tt
+of_words (word ∷ words) = by (same word (codes "pipe") && are_settings (settings_of words))
+  where
+    by : (b : Bool) → IfSome (if b then pipe_with (settings_of words) else None) HasSubject
+    by true = with_settings (settings_of words)
+    by false = tt
 
 pub command_subject : (words : List Bytes) (command : Command) → command_of words ≡ Some command → HasSubject command
-command_subject words command e = read_subject (is_pipe words) (stream_of words) command (checked_subject (values_of words)) e
+command_subject words command e = let k : IfSome (Some command) HasSubject = rw e at (of_words words) in k

@@ -11,6 +11,9 @@ use Rattle.link_edge.specs.declared.answers.Answer.{Answer}
 use Rattle.link_edge.specs.declared.answers.Answer.TheVariants as answers
 use Rattle.nats_frames.specs.declared.op.Op.{Op}
 use Rattle.nats_frames.specs.Grammar.{Fronts}
+use Rattle.js_desk.specs.Solo.{Solo}
+use Rattle.js_desk.specs.declared.faults.Closed.{Closed}
+use Rattle.js_desk.specs.declared.faults.HubFault.{HubFault}
 use Rattle.place_engine.specs.declared.faults.PlaceFault.{PlaceFault}
 use Rattle.js_api.specs.Entries.{DeskEntry, Routed, Looked, Turned, Resumed, Held, Stirred, Halted, Missed, Spent, entries_in}
 use Rattle.js_api.specs.Leading.{Leads}
@@ -23,7 +26,10 @@ use Rattle.server.specs.declared.words.NamedStream.{NamedStream}
 use Rattle.server.specs.Outside.{DoorTold, Outside}
 use Rattle.server.specs.Accepting.{IsQuiet}
 use Rattle.server.specs.Preparing.{IsMaking}
-use Rattle.server.specs.Running.{Waits, IsAttended, PipeEnds, Attends, Unopened, Attended, Unmade, Awaited, flush_status, pipe_limits}
+use Rattle.server.specs.Running.{Waits, Attends, Unmade, Awaited, pipe_limits}
+use Rattle.server.specs.Closing.{flush_status}
+use Rattle.server.specs.Refusing.{refused_status}
+use Rattle.server.specs.Ending.{IsAttended, PipeEnds, Starved, Unopened, Attended}
 
 -- ---- what the client sends
 
@@ -112,18 +118,6 @@ abbrev pub IsCalmOver : {opened : List PlaceIn} {stream : Option NamedStream} {a
 IsCalmOver input (Unmade unmade) = Unit {0}
 IsCalmOver input (Awaited awaited) = IsCalmWait input awaited.waits
 
--- Each way in which it can have gone is calm, by all that was told: the status, what the door and the link answered, what the link was given, the
--- moments that the clock told, and the volumes, which came back untroubled.
-abbrev pub IsCalm : {V : Type 0} → Bytes → List PlaceIn → Option NamedStream → ℕ → Option (ℕ × PlaceFault) → List V → List V → Outside → Outside → Type 0
-IsCalm input opened stream status failed vols_old vols_new old new =
-    (run : IsAttended opened stream status failed vols_old vols_new old new) → AreUntroubled run.after.world → IsCalmOver input run.attends
-
--- the volumes came back untroubled
-abbrev pub LeavesUntroubled : {V : Type 0} {opened : List PlaceIn} {stream : Option NamedStream} {status : ℕ} {failed : Option (ℕ × PlaceFault)} {vols_old vols_new : List V} {old new : Outside}
-    → PipeEnds opened stream status failed vols_old vols_new old new → Type 0
-LeavesUntroubled (Unopened run) = Unit {0}
-LeavesUntroubled (Attended run) = AreUntroubled run.after.world
-
 -- ---- what it comes to
 
 -- an operation that was carried out, if it is no tick
@@ -172,17 +166,42 @@ abbrev pub AreAnsweredOver : {opened : List PlaceIn} {stream : Option NamedStrea
 AreAnsweredOver ops (Unmade unmade) = ⊥
 AreAnsweredOver ops (Awaited awaited) = AreAnsweredAt ops awaited.waits
 
-abbrev pub AreAnswered : {V : Type 0} {opened : List PlaceIn} {stream : Option NamedStream} {status : ℕ} {failed : Option (ℕ × PlaceFault)} {vols_old vols_new : List V} {old new : Outside}
-    → List Op → PipeEnds opened stream status failed vols_old vols_new old new → Type 0
-AreAnswered ops (Unopened run) = ⊥
-AreAnswered ops (Attended run) = AreAnsweredOver ops run.attends
+-- ---- the law of completeness
 
--- a calm run over whole operations, with a place for its stream and volumes that came back untroubled, ends with status 0, and a link that was
--- given out was answered each of them; or memory ran out
-abbrev pub LawComplete : Type 0 → Type 0
-LawComplete V = (opened : List PlaceIn) (stream : Option NamedStream) (status : ℕ) (failed : Option (ℕ × PlaceFault)) (vols_old vols_new : List V) (old new : Outside)
-    (input : Bytes) (ops : List Op) → IsWelcome opened stream → IsValid input ops → IsCalm input opened stream status failed vols_old vols_new old new → IsFlushed failed
-    → (run : PipeEnds opened stream status failed vols_old vols_new old new) → LeavesUntroubled run → ((status ≡ 0) × AreAnswered ops run) ⊎ (status ≡ 7)
+-- Of places of one kind, and the desks over them, as in `PipeEnds`:
+module _ {V : Type 0} (Opens : List V → Solo V → Type 0) (Refuses : List V → HubFault V → Type 0) (Made : Solo V → List DeskEntry → Solo V → Type 0) (Closes : Solo V → Closed V → Type 0) where
+  -- only want of memory can keep a desk from being opened on the volumes
+  abbrev pub MayOpen : List V → Type 0
+  MayOpen vols = (fault : HubFault V) → Refuses vols fault → refused_status fault ≡ 7
+
+  -- whatever places are opened on the volumes, they do not refuse the stream
+  abbrev pub AreWelcoming : List V → Option NamedStream → Type 0
+  AreWelcoming vols stream = (desk : Solo V) → Opens vols desk → IsWelcome desk.scene.world.places stream
+
+  -- Each way in which it can have gone is calm, by all that was told: the status, what the door and the link answered, what the link was given, the
+  -- moments that the clock told, and the volumes, which were untroubled as the desk was closed.
+  abbrev pub IsCalm : Bytes → Option NamedStream → ℕ → List V → List V → Outside → Outside → Type 0
+  IsCalm input stream status vols_old vols_new old new =
+      (run : IsAttended Opens Refuses Made Closes stream status vols_old vols_new old new) → AreUntroubled run.after.scene.world → IsCalmOver input run.attended.attends
+
+  module _ {stream : Option NamedStream} {status : ℕ} {vols_old vols_new : List V} {old new : Outside} where
+    -- the volumes were untroubled as the desk was closed, and then nothing could be brought to them only because memory ran out
+    abbrev pub LeavesUntroubled : PipeEnds Opens Refuses Made Closes stream status vols_old vols_new old new → Type 0
+    LeavesUntroubled (Starved run) = Unit {0}
+    LeavesUntroubled (Unopened run) = Unit {0}
+    LeavesUntroubled (Attended run) = AreUntroubled run.after.scene.world × IsFlushed run.closed.failed
+
+    abbrev pub AreAnswered : List Op → PipeEnds Opens Refuses Made Closes stream status vols_old vols_new old new → Type 0
+    AreAnswered ops (Starved run) = ⊥
+    AreAnswered ops (Unopened run) = ⊥
+    AreAnswered ops (Attended run) = AreAnsweredOver ops run.attended.attends
+
+  -- A calm run over whole operations, on volumes that may be opened and do not refuse its stream, and which were untroubled at the closing, ends with status
+  -- 0, and a link that was given out was answered each of them; or memory ran out.
+  abbrev pub LawComplete : Type 0
+  LawComplete = (stream : Option NamedStream) (status : ℕ) (vols_old vols_new : List V) (old new : Outside) (input : Bytes) (ops : List Op)
+      → MayOpen vols_old → AreWelcoming vols_old stream → IsValid input ops → IsCalm input stream status vols_old vols_new old new
+      → (run : PipeEnds Opens Refuses Made Closes stream status vols_old vols_new old new) → LeavesUntroubled run → ((status ≡ 0) × AreAnswered ops run) ⊎ (status ≡ 7)
 
 -- places that never had a stream refuse none, if there is one
 abbrev pub HasPlace : ℕ → Option NamedStream → Type 0
@@ -191,8 +210,3 @@ HasPlace count (Some stream) = 0 < count
 
 abbrev pub LawWelcome : Type 0
 LawWelcome = (count : ℕ) (stream : Option NamedStream) → HasPlace count stream → IsWelcome (replicate count vacant_place) stream
-
--- in memory, where no place fails in the closing, volumes come back untroubled
-abbrev pub LawUntroubled : Type 0 → Type 0
-LawUntroubled V = (opened : List PlaceIn) (stream : Option NamedStream) (status : ℕ) (vols_old vols_new : List V) (old new : Outside)
-    (run : PipeEnds opened stream status None vols_old vols_new old new) → LeavesUntroubled run

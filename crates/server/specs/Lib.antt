@@ -1,6 +1,14 @@
+pub mod Settings
 pub mod Words
 pub mod Outside
+pub mod Lines
 pub mod Accepting
 pub mod Preparing
 pub mod Running
+pub mod Attending
+pub mod Refusing
+pub mod Closing
+pub mod Ending
 pub mod Laws
+pub mod Keeping
+pub mod Memory

@@ -1,5 +1,5 @@
 -- What is told of the outside of a run, and what is printed.
-use Rattle.std.specs.Prelude.{◌≡◌, ℕ, ◌⊎◌, List, [], ◌∷◌, ◌++◌, Option, codes, decimal, take}
+use Rattle.std.specs.Prelude.{◌≡◌, ℕ, ◌⊎◌, List, Option, Some, None, take}
 use Rattle.js_base.specs.Bytes.{Bytes}
 use Rattle.link_edge.specs.Told.{grown}
 use Rattle.js_base.specs.Causes.{Rose}
@@ -29,15 +29,12 @@ pub record Outside : Type 0 where
 
 -- ---- what is printed
 
--- the line that refuses the command line
-abbrev pub words_line : Bytes
-words_line = codes "words" ++ 10 ∷ []
-
--- the line of a number
-abbrev pub number_line : ℕ → Bytes
-number_line number = decimal number ++ 10 ∷ []
-
 -- the line was printed, or a prefix of it if the sink failed
 abbrev pub Prints : Bytes → SinkTold → SinkTold → Type 0
 Prints line old new =
     (new.written ≡ grown old.written line) ⊎ (Rose old.faults new.faults × ((n : ℕ) × (new.written ≡ grown old.written (take n line))))
+
+-- the line was printed, if there is one, and nothing otherwise
+abbrev pub PrintsLine : Option Bytes → SinkTold → SinkTold → Type 0
+PrintsLine None old new = new ≡ old
+PrintsLine (Some line) old new = Prints line old new

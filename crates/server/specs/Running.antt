@@ -1,22 +1,18 @@
--- What a run of the program answers, and why.
-use Rattle.std.specs.Prelude.{◌≡◌, ℕ, ◌+◌, Bool, true, false, ◌&&◌, ◌==◌, ◌⊎◌, List, [], ◌∷◌, length, replicate, Option, Some, None, IfSome, codes, option_map, Result, Ok, Err, if◌then◌else◌}
-use Rattle.std.specs.List.{All}
+-- What a run does over its desk: it makes a stream, waits for a link, and serves it.
+use Rattle.std.specs.Prelude.{◌≡◌, ℕ, ◌+◌, Bool, true, false, ◌⊎◌, List, [], ◌∷◌, Option, Some, None, IfSome, codes, option_map, Result, Ok, Err}
 use mathlib.Core.Logic.{inl, inr}
 use Rattle.js_base.specs.Bytes.{Bytes}
 use Rattle.js_base.specs.Causes.{Rose}
 use Rattle.js_base.specs.declared.out.ApiError.{ApiError}
-use Rattle.js_model.specs.PlaceStates.{PlaceIn, untold, vacant_place}
+use Rattle.js_model.specs.PlaceStates.{PlaceIn}
 use Rattle.link_edge.specs.Told.{grown}
 use Rattle.link_edge.specs.Moments.{ReadsMoments}
 use Rattle.link_edge.specs.Failings.{no_failings}
 use Rattle.link_edge.specs.Reports.{Report, HasOut}
 use Rattle.link_edge.specs.declared.answers.Accepted.TheVariants as accepted
-use Rattle.place_engine.specs.declared.faults.PlaceFault.{PlaceFault}
-use Rattle.place_engine.specs.declared.faults.PlaceFault.TheVariants as faults
 use Rattle.js_api.specs.declared.fault.DeskFault.{DeskFault}
 use Rattle.js_api.specs.Leading.{Leads}
-use Rattle.js_api.specs.Worlds.{World, Scene, SoloStep}
-use Rattle.js_desk.specs.declared.faults.Closed.{Closed}
+use Rattle.js_api.specs.Worlds.{Scene, SoloStep}
 use Rattle.session.specs.Failing.{FailsAt}
 use Rattle.session.specs.Stopping.{end_of_fault}
 use Rattle.session.specs.Talk.{Journal, Talk, entries_of, answers_of, moments_of}
@@ -24,9 +20,8 @@ use Rattle.session.specs.declared.ending.Limits.{Limits}
 use Rattle.session.specs.declared.ending.Ended.{Ended}
 use Rattle.session.specs.declared.ending.Ended.TheVariants as ends
 use Rattle.server.specs.declared.words.NamedStream.{NamedStream}
-use Rattle.server.specs.declared.words.Command.{Command}
-use Rattle.server.specs.declared.words.Command.TheVariants.{Pipe}
-use Rattle.server.specs.Outside.{DoorTold, SinkTold, Outside, Prints, number_line}
+use Rattle.server.specs.Outside.{DoorTold, SinkTold, Outside, Prints}
+use Rattle.server.specs.Lines.{number_line}
 use Rattle.server.specs.Accepting.{IsAccepted, IsQuiet, NoneStarves, OneStarves}
 use Rattle.server.specs.Preparing.{Prepares}
 
@@ -134,71 +129,3 @@ pub data Attends (opened : List PlaceIn) (stream : Option NamedStream) (after : 
 abbrev pub is_session : {opened : List PlaceIn} {stream : Option NamedStream} {after : Scene} {status : ℕ} {old new : Outside} → Attends opened stream after status old new → Bool
 is_session (Unmade unmade) = false
 is_session (Awaited awaited) = is_link_served awaited.waits
-
--- ---- the closing
-
--- the status of a place that could not be brought to its volume: the store failed, its generations are used up, or memory ran out
-abbrev pub flush_status : PlaceFault → ℕ
-flush_status (faults.NoMemory left) = 7
-flush_status faults.StoreFault = 4
-flush_status (faults.Stopped count) = 4
-flush_status (faults.Gone kept) = 4
-flush_status (faults.Worn refused) = 10
-
--- of a run that ended so and a place that failed then, the first one gives the status; but want of memory in the closing stands before what a
--- session ended by
-abbrev pub status_with : (served : Bool) (status flushed : ℕ) → ℕ
-status_with served status flushed = if status == 0 then flushed else if served && flushed == 7 then 7 else status
-
--- the status that is left by the closing
-abbrev pub closing_status : Bool → ℕ → Option (ℕ × PlaceFault) → ℕ
-closing_status served status None = status
-closing_status served status (Some failed) = status_with served status (flush_status failed.1)
-
--- What is left of the world at the closing: a volume for each place, in their order. In memory a place has its stream beside its volume, and never calls that:
--- no place is ever stopped, nothing is told of a volume, and no message counts against a store.
-pub record ClosesInMemory {V : Type 0} (world : World) (closed : Closed V) : Type 0 where
-  pub count : length closed.vols.items ≡ length world.places
-  pub going : closed.failed ≡ None → All (λ (place : PlaceIn). place.stopped ≡ None) world.places
-  pub unmoved : All (λ (place : PlaceIn). place.volume ≡ untold) world.places
-  pub unstored : All (λ (place : PlaceIn). place.stored ≡ 0) world.places
-
--- the desk was closed in this world: its volumes came back, and that is what failed
-pub record IsClosed {V : Type 0} (world : World) (failed : Option (ℕ × PlaceFault)) (vols : List V) : Type 0 where
-  pub closed : Closed V
-  pub closes : ClosesInMemory world closed
-  pub failed_is : closed.failed ≡ failed
-  pub vols_are : closed.vols.items ≡ vols
-
--- ---- the whole
-
--- nothing was opened, since memory ran out: the volumes came back as they were
-pub record IsUnopened {V : Type 0} (status : ℕ) (failed : Option (ℕ × PlaceFault)) (vols_old vols_new : List V) (old new : Outside) : Type 0 where
-  pub status_is : status ≡ 7
-  pub unfailed : failed ≡ None
-  pub vols : vols_new ≡ vols_old
-  pub unread : new.clock ≡ old.clock
-  pub door : new.door ≡ old.door
-
--- A desk was opened over places in these states, and closed in the world that was reached. In memory the volumes come back as they were.
-pub record IsAttended {V : Type 0} (opened : List PlaceIn) (stream : Option NamedStream) (status : ℕ) (failed : Option (ℕ × PlaceFault)) (vols_old vols_new : List V) (old new : Outside) : Type 0 where
-  pub after : Scene
-  pub talked : ℕ
-  pub attends : Attends opened stream after talked old new
-  pub closed : IsClosed after.world failed vols_new
-  pub kept : vols_new ≡ vols_old
-  pub status_is : status ≡ closing_status (is_session attends) talked failed
-
--- How a run of `pipe` ends over volumes that open to places in these states: its status, the place that failed in the closing, and the volumes
--- before and after.
-pub data PipeEnds {V : Type 0} (opened : List PlaceIn) (stream : Option NamedStream) (status : ℕ) (failed : Option (ℕ × PlaceFault)) (vols_old vols_new : List V) (old new : Outside) : Type 0 where
-  Unopened : IsUnopened status failed vols_old vols_new old new → PipeEnds opened stream status failed vols_old vols_new old new
-  Attended : IsAttended opened stream status failed vols_old vols_new old new → PipeEnds opened stream status failed vols_old vols_new old new
-
--- in memory each volume opens to a place that never had a stream
-abbrev pub opened_of : {V : Type 0} → List V → List PlaceIn
-opened_of vols = replicate (length vols) vacant_place
-
--- how a run of a command ends in memory, where no place fails in the closing
-abbrev pub CommandEnds : {V : Type 0} → Command → ℕ → List V → List V → Outside → Outside → Type 0
-CommandEnds (Pipe stream) status vols_old vols_new old new = PipeEnds (opened_of vols_old) stream status None vols_old vols_new old new

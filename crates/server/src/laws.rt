@@ -1,15 +1,31 @@
-//! Laws of the definitions: what a run comes to if nothing stands in the way.
+//! Laws of the definitions: what a run comes to if nothing stands in the way, and what holds of each run in memory.
 
-ghost use Rattle.server.specs.Laws.{LawComplete, LawWelcome, LawUntroubled};
+ghost use Rattle.js_desk.specs.Closing.{Closes};
+ghost use Rattle.js_desk.specs.Opening.{FailsToOpen, OpensDesk};
+ghost use Rattle.js_desk.specs.Solo.{DeskMade};
+ghost use Rattle.server.specs.Keeping.{LawKept};
+ghost use Rattle.server.specs.Laws.{LawComplete, LawWelcome};
+ghost use Rattle.server.specs.Memory.{LawMayOpen, LawPlaceless, LawUnchanged, LawUntroubled, LawWelcoming};
+
+use place_engine::Place;
 
 /// A run over whole operations ends with status 0, or with 7, out of memory. With 0 a session whose link the door gave out has carried out
 /// each of them, in the order of their coming, and none at a store that failed.
-/// This holds if the stream that is to be made, if there is one, is refused by no place; if the volumes come back untroubled: none failed, and
-/// none has used up its generations; if no count of faults of the door or the link rises, the input is shorter than a session may take, and the
-/// door and the link are not quiet as often in a row as they may be; and if, in every run that agrees with all that was told, the
-/// client is not stale when nothing comes, and at no time waits more for it than may.
-pub fn law_complete<V>()
-    ensures complete { LawComplete V }
+/// This holds if only want of memory can keep a desk from being opened on the volumes; if the stream that is to be made, if there is one, is refused by no
+/// place; if the volumes are untroubled as the desk is closed: none failed, no log is full, and none has used up its generations; if no count of faults of
+/// the door or the link rises, the input is shorter than a session may take, and the door and the link are not quiet as often in a row as they may be; and
+/// if, in every run that agrees with all that was told, the client is not stale when nothing comes, and at no time waits more for it than may.
+pub fn law_complete<P: Place>()
+    ensures complete { LawComplete
+        (OpensDesk P.seen P.vol P.holds P.reads P.left P.clock P.faults P.base P.opens P.refuses P.keeps_vol)
+        (FailsToOpen P.seen P.vol P.holds P.reads P.left P.clock P.faults P.base P.opens P.refuses P.keeps_vol)
+        (DeskMade P.keeps_vol P.holds P.left P.clock P.base)
+        (λ desk closed. Closes P.seen P.vol P.holds P.reads P.left P.clock P.base P.keeps_vol desk.vols desk.scene.world.places closed) }
+{}
+
+/// Each volume comes back in its place, as the calls of its place may have left it.
+pub fn law_kept<P: Place>()
+    ensures kept { LawKept P.seen P.vol P.holds P.reads P.left P.clock P.faults P.base P.opens P.refuses P.keeps_vol }
 {}
 
 /// Places that never had a stream refuse none, if there is one of them.
@@ -17,7 +33,12 @@ pub fn law_welcome()
     ensures welcome { LawWelcome }
 {}
 
-/// In memory the volumes come back untroubled from every run.
-pub fn law_untroubled<V>()
+/// In memory only want of memory can keep a desk from being opened, a stream is refused only if there is no volume, which is error 20007, the volumes are
+/// untroubled as the desk is closed, and they come back as they were.
+pub fn law_memory<V>()
+    ensures may_open { LawMayOpen V }
+    ensures welcoming { LawWelcoming V }
     ensures untroubled { LawUntroubled V }
+    ensures placeless { LawPlaceless V }
+    ensures unchanged { LawUnchanged V }
 {}

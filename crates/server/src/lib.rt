@@ -1,12 +1,15 @@
 //! The server as a library: `run` does all that the program does for its command line, over any door, volumes, clock and sink.
 #![tactic(auto)]
 
+mod closing;
 pub mod laws;
 mod preparing;
 mod printing;
+mod refusing;
 mod running;
 mod serving;
+mod settings;
 mod words;
 
 pub use running::{Finish, run};
-pub use words::{Command, NamedStream, WordsFault, read_words};
+pub use words::{Command, FolderPath, NamedStream, WordsFault, read_words};

@@ -2,21 +2,43 @@
 
 ghost use Rattle.std.specs.Prelude.{◌≡◌, ◌≤◌, ◌<◌, ◌^◌, false, true, IfOk};
 ghost use Rattle.js_base.specs.Causes.{HasCause};
+ghost use Rattle.js_desk.specs.Solo.{DeskMade};
 ghost use Rattle.link_edge.specs.Accepts.{IfGot, gave_after};
 ghost use Rattle.link_edge.specs.Reports.{IsFresh};
 ghost use Rattle.session.specs.Host.{is_plain};
 ghost use Rattle.server.specs.Accepting.{Arrives, Starves};
-ghost use Rattle.server.specs.Running.{pipe_limits, status_of, IsGivenBack, Waits};
+ghost use Rattle.server.specs.Attending.{IsAwaitedOver, IsServedOver};
+ghost use Rattle.server.specs.Running.{pipe_limits, status_of};
 
 use js_base::{Blob, NoMemory};
 use js_desk::SoloDesk;
 use link_edge::{Accept, Clock, Door};
-use place_engine::MemoryPlace;
+use place_engine::Place;
 use session::{Ended, Limits, serve_link};
 use std::alloc::Global;
 
 /// At how many accepts in a row that were quiet a run ends.
 const QUIET: u64 = 1_000_000;
+
+/// What came of the waiting for a link.
+#[derive(Clone, Copy, Debug, PartialEq, Eq)]
+pub struct Outcome {
+    pub status: u8,
+    /// Whether it is the status of a session.
+    pub served: bool,
+}
+
+impl Outcome {
+    /// The status if no session was served.
+    pub fn unserved(status: u8) -> Outcome
+        ensures { result ≡ record { status = status; served = false } }
+    {
+        Outcome {
+            status,
+            served: false,
+        }
+    }
+}
 
 /// The limits of a session over a pipe.
 fn pipe_limits(alloc: Global) -> Result<Limits, NoMemory>
@@ -62,9 +84,9 @@ fn accept<R: Door>(door: &mut R) -> Accept<R::Link>
 }
 
 /// Serves a fresh link over the desk, and gives it back to the door.
-fn serve<R: Door, V, C: Clock>(
+fn serve<P: Place, R: Door, C: Clock>(
     alloc: Global,
-    desk: &mut SoloDesk<MemoryPlace<V>>,
+    desk: &mut SoloDesk<P>,
     door: &mut R,
     link: R::Link,
     clock: &mut C,
@@ -74,9 +96,8 @@ fn serve<R: Door, V, C: Clock>(
     requires fresh { IsFresh (R.Link.answered link) (R.Link.given link) (R.Link.failings link) (R.Link.faults link) }
     requires input { limits.now.input < 2 ^ 62 }
     requires host { is_plain limits.now.host ≡ true }
-    ensures given_back { IsGivenBack limits.now desk.old.scene desk.new.scene result (R.gave door.old) (R.back door.old) (R.back door.new)
+    ensures served { IsServedOver (DeskMade P.keeps_vol P.holds P.left P.clock P.base) limits.now desk.old desk.new result (R.gave door.old) (R.back door.old) (R.back door.new)
         (C.to_come clock.old) (C.to_come clock.new) }
-    ensures vols { desk.new.vols ≡ desk.old.vols }
     ensures answered { R.answered door.new ≡ R.answered door.old }
     ensures gave { R.gave door.new ≡ R.gave door.old }
     ensures starved { R.starved door.new ≡ R.starved door.old }
@@ -88,30 +109,32 @@ fn serve<R: Door, V, C: Clock>(
     status_of(ended)
 }
 
-/// Serves the first link that comes over the desk, and returns the status.
-pub fn serve_first<R: Door, V, C: Clock>(
+/// Serves the first link that comes over the desk.
+pub fn serve_first<P: Place, R: Door, C: Clock>(
     alloc: Global,
-    desk: &mut SoloDesk<MemoryPlace<V>>,
+    desk: &mut SoloDesk<P>,
     door: &mut R,
     clock: &mut C,
-) -> u8
+) -> Outcome
     requires closed { desk.old.client.is_open ≡ false }
-    ensures waits { Waits desk.old.scene desk.new.scene result
+    ensures awaited { IsAwaitedOver (DeskMade P.keeps_vol P.holds P.left P.clock P.base) desk.old desk.new result
         (record { answered = R.answered door.old; gave = R.gave door.old; back = R.back door.old; starved = R.starved door.old; faults = R.faults door.old })
         (record { answered = R.answered door.new; gave = R.gave door.new; back = R.back door.new; starved = R.starved door.new; faults = R.faults door.new })
         (C.to_come clock.old) (C.to_come clock.new) }
-    ensures vols { desk.new.vols ≡ desk.old.vols }
     ensures later { R.faults door.old ≤ R.faults door.new }
 {
     let limits = match pipe_limits(alloc) {
         Ok(limits) => limits,
-        Err(_) => return 7,
+        Err(_) => return Outcome::unserved(7),
     };
     match accept(door) {
-        Accept::Got(link) => serve(alloc, desk, door, link, clock, &limits),
-        Accept::Quiet => 6,
-        Accept::Closed => 0,
-        Accept::Failed => 8,
-        Accept::NoMemory => 7,
+        Accept::Got(link) => Outcome {
+            status: serve(alloc, desk, door, link, clock, &limits),
+            served: true,
+        },
+        Accept::Quiet => Outcome::unserved(6),
+        Accept::Closed => Outcome::unserved(0),
+        Accept::Failed => Outcome::unserved(8),
+        Accept::NoMemory => Outcome::unserved(7),
     }
 }

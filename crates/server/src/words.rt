@@ -1,10 +1,13 @@
 //! The command line.
 
-ghost use Rattle.std.specs.Prelude.{◌≡◌, option_map};
-ghost use Rattle.server.specs.Words.{texts, pair_now, is_value, is_pipe, values_of, stream_of, command_of, Reads};
+ghost use Rattle.std.specs.Prelude.{◌≡◌, None, MatchOption, option_map};
+ghost use Rattle.server.specs.Settings.{settings_of};
+ghost use Rattle.server.specs.Words.{texts, named_stream, stream_of, pipe_with, command_of, Reads};
 
+use crate::settings::{DIR, STREAM, SUBJECT, are_settings, value_of};
 use js_base::{Blob, Name, NameFault};
 use std::alloc::Global;
+use std::marker::Model;
 use subject_match::is_stream_subject;
 use thiserror::Error;
 
@@ -15,11 +18,38 @@ pub struct NamedStream {
     pub subject: Blob,
 }
 
+/// The path of a folder, which contracts see as its bytes.
+#[derive(Drop, Debug)]
+pub struct FolderPath {
+    path: String,
+}
+
+impl Model for FolderPath {
+    ghost use Rattle.std.specs.Prelude.{ℕ, List, string_bytes};
+
+    ghost Value = { List ℕ };
+
+    ghost view = { λ folder. string_bytes folder.path };
+}
+
+impl FolderPath {
+    /// The path as text.
+    pub fn as_str(&self) -> &str
+        ensures { result.now ≡ self.now }
+    {
+        self.path.as_str()
+    }
+}
+
 /// What the program is asked to do.
 #[derive(Drop, Debug)]
 pub enum Command {
-    /// Serves one link over standard input and output. The stream that is named is made before, if it is not there.
-    Pipe { stream: Option<NamedStream> },
+    /// Serves one link over standard input and output. The streams are kept in the folder, if one is named, and otherwise in memory. The stream
+    /// that is named is made before, if it is not there.
+    Pipe {
+        dir: Option<FolderPath>,
+        stream: Option<NamedStream>,
+    },
 }
 
 /// Why the command line is not a command.
@@ -31,50 +61,54 @@ pub enum WordsFault {
     NoMemory,
 }
 
-/// Whether the text may be the value of an option.
-fn is_value(text: &[u8]) -> bool
-    ensures { result ≡ is_value text.now }
+/// The words behind `pipe`, if the command line begins with that and its settings follow.
+fn settings_of(words: &[String]) -> Option<&[String]>
+    ensures { MatchOption result (command_of (texts words.now) ≡ None) (λ settings. command_of (texts words.now) ≡ pipe_with (settings_of (texts settings.now))) }
 {
-    !text.starts_with(b"-")
-}
-
-/// Whether the command line is `pipe` alone.
-fn is_pipe(words: &[String]) -> bool
-    ensures { result ≡ is_pipe (texts words.now) }
-{
-    match words {
-        [command] => command.as_str() == "pipe",
-        _ => false,
-    }
-}
-
-/// The name and the subject of the stream, if the command line has the form that names one.
-fn values_of(words: &[String]) -> Option<(&[u8], &[u8])>
-    ensures { option_map pair_now result ≡ values_of (texts words.now) }
-{
-    match words {
-        [command, stream, name, subject, pattern] => {
-            if command.as_str() == "pipe"
-                && stream.as_str() == "--stream"
-                && subject.as_str() == "--subject"
-            {
-                Some((name.as_bytes(), pattern.as_bytes()))
-            } else {
-                None
-            }
+    match words.split_first() {
+        Some((command, settings)) if command.as_str() == "pipe" && are_settings(settings) => {
+            Some(settings)
         }
         _ => None,
     }
 }
 
-/// The stream that the command line names.
-fn read_stream(alloc: Global, words: &[String]) -> Result<NamedStream, WordsFault>
-    ensures { Reads result (stream_of (texts words.now)) }
+/// A copy of the path, if one is given.
+fn read_dir(alloc: Global, path: Option<&str>) -> Result<Option<FolderPath>, WordsFault>
+    ensures { Reads result (Some (option_map (λ text. text.now) path.entry)) }
 {
-    let Some((name, pattern)) = values_of(words) else {
-        return Err(WordsFault::Words);
+    let Some(path) = path else {
+        return Ok(None);
     };
-    if !is_value(name) || !is_value(pattern) || !is_stream_subject(pattern) {
+    match String::from_str(alloc, path) {
+        Ok(path) => Ok(Some(FolderPath { path })),
+        Err(_) => Err(WordsFault::NoMemory),
+    }
+}
+
+/// The stream of this name and subject. Both are given, or neither.
+fn read_stream(
+    alloc: Global,
+    name: Option<&str>,
+    subject: Option<&str>,
+) -> Result<Option<NamedStream>, WordsFault>
+    ensures { Reads result (stream_of (option_map (λ text. text.now) name.entry) (option_map (λ text. text.now) subject.entry)) }
+{
+    match (name, subject) {
+        (None, None) => Ok(None),
+        (Some(name), Some(subject)) => {
+            let stream = read_named(alloc, name.as_bytes(), subject.as_bytes())?;
+            Ok(Some(stream))
+        }
+        _ => Err(WordsFault::Words),
+    }
+}
+
+/// The stream of this name and subject.
+fn read_named(alloc: Global, name: &[u8], subject: &[u8]) -> Result<NamedStream, WordsFault>
+    ensures { Reads result (named_stream name.now subject.now) }
+{
+    if !is_stream_subject(subject) {
         return Err(WordsFault::Words);
     }
     let name = match Name::read(alloc, name) {
@@ -82,7 +116,7 @@ fn read_stream(alloc: Global, words: &[String]) -> Result<NamedStream, WordsFaul
         Err(NameFault::NoMemory) => return Err(WordsFault::NoMemory),
         Err(_) => return Err(WordsFault::Words),
     };
-    match Blob::of(alloc, pattern) {
+    match Blob::of(alloc, subject) {
         Ok(subject) => Ok(NamedStream { name, subject }),
         Err(_) => Err(WordsFault::NoMemory),
     }
@@ -92,13 +126,14 @@ fn read_stream(alloc: Global, words: &[String]) -> Result<NamedStream, WordsFaul
 pub fn read_words(alloc: Global, words: &[String]) -> Result<Command, WordsFault>
     ensures { Reads result (command_of (texts words.now)) }
 {
-    if is_pipe(words) {
-        return Ok(Command::Pipe { stream: None });
-    }
-    match read_stream(alloc, words) {
-        Ok(stream) => Ok(Command::Pipe {
-            stream: Some(stream),
-        }),
-        Err(fault) => Err(fault),
-    }
+    let Some(settings) = settings_of(words) else {
+        return Err(WordsFault::Words);
+    };
+    let stream = read_stream(
+        alloc,
+        value_of(STREAM, settings),
+        value_of(SUBJECT, settings),
+    )?;
+    let dir = read_dir(alloc, value_of(DIR, settings))?;
+    Ok(Command::Pipe { dir, stream })
 }

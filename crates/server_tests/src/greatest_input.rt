@@ -2,6 +2,7 @@
 
 use js_base::{List, Moment};
 use link_edge::{MemClock, MemSink, OpenGate, PipeDoor};
+use place_engine::MemoryPlace;
 use server::{Finish, run};
 use std::io::{self, Read, Write};
 use std::test::Fail;
@@ -39,7 +40,9 @@ fn greatest_input_ends_the_run(rt: HostRuntime) -> Result<(), Fail> {
     let door = PipeDoor::new(Endless { text, at: 0 }, io::sink());
     let mut clock = MemClock::new(List::new(alloc), Moment::of(0).ok_or("no moment")?);
     let mut sink = MemSink::new(alloc);
-    let finish: Finish<_, ()> = run(alloc, &words, door, vols, &mut clock, &OpenGate, &mut sink);
+    let finish: Finish<_, ()> = run::<MemoryPlace<()>, _, _, _, _>(
+        alloc, &words, door, vols, &mut clock, &OpenGate, &mut sink,
+    );
     assert_eq!(rt; finish.status, 6);
     Ok(())
 }

@@ -2,6 +2,7 @@
 
 use js_base::{List, Moment};
 use link_edge::{Accept, Door, Give, Link, MemClock, MemSink, OpenGate, Take};
+use place_engine::MemoryPlace;
 use server::{Finish, run};
 use std::alloc::Global;
 use std::test::Fail;
@@ -84,7 +85,7 @@ fn status(alloc: Global, at: Call) -> Result<u8, Fail> {
     let vols: Vec<()> = Vec::new(alloc);
     let mut clock = MemClock::new(List::new(alloc), Moment::of(0).ok_or("no moment")?);
     let mut sink = MemSink::new(alloc);
-    let finish: Finish<_, ()> = run(
+    let finish: Finish<_, ()> = run::<MemoryPlace<()>, _, _, _, _>(
         alloc,
         &words,
         Starved { at },

@@ -20,8 +20,9 @@ returns-clause-delivers g c = λ seat at. full_there g.P.Place.holds seat at _ _
 
 pub loop-init : goal.loop-init
 loop-init g c = record {
-  so_far = λ seat. none_so_far g.P.Place.holds seat _ _ _ _ (g.met.P.Place.kept c.args.place.now) c.requires.going;
+  so_far = λ seat. none_so_far g.P.Place.holds seat _ _ _ _ c.law_kept.ensures.kept c.requires.going;
   size = subst (λ (outs : List Out). c.size_of-size.result ≡ min (sum_by bytes_of outs) (2 ^ 64 - 1)) c.as_slice.ensures c.size_of-size.ensures.value;
+  kept = c.law_kept.ensures.kept;
   vol = g.met.P.Place.keeps_none _;
 }
 
@@ -33,7 +34,8 @@ loop-preserved g c =
     let more : c.size_of.result ≡ min (sum_by bytes_of (drop (length c.loop.outs) c.deliver_next.new.outs)) (2 ^ 64 - 1) =
     subst (λ (outs : List Out). c.size_of.result ≡ min (sum_by bytes_of outs) (2 ^ 64 - 1)) added c.size_of.ensures.value in
     record {
-      so_far = λ seat. next_so_far g.P.Place.holds seat _ _ _ _ _ _ _ _ _ c.deliver_next.result c.in_default.is (g.met.P.Place.kept c.loop.place) (g.met.P.Place.kept c.deliver_next.new.place) (i.so_far seat) c.deliver_next.ensures.goes_on (omega (arith, i.size));
+      so_far = λ seat. next_so_far g.P.Place.holds seat _ _ _ _ _ _ _ _ _ c.deliver_next.result c.in_default.is i.kept c.law_kept-in-loop.ensures.kept (i.so_far seat) c.deliver_next.ensures.goes_on (omega (arith, i.size));
       size = larger g.P.Place.holds c.loop.size c.size_of.result _ c.loop.outs c.deliver_next.new.outs c.args.now c.args.listening.now _ _ _ c.in_default.is c.deliver_next.ensures.goes_on i.size more c.saturating_add-size.ensures;
+      kept = c.law_kept-in-loop.ensures.kept;
       vol = g.met.P.Place.keeps_more _ _ _ i.vol c.deliver_next.ensures.vol;
     }

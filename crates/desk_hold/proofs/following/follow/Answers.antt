@@ -10,7 +10,7 @@ use Rattle.desk_hold.proofs.following.follow.Goals as goal
 pub returns-in-Err-NoMemory-clause-follows : goal.returns-in-Err-NoMemory-clause-follows
 returns-in-Err-NoMemory-clause-follows g c = λ seat at.
     let P = g.P.Place in let R = g.R.Port in let place = P.seen c.args.place.now in
-    not_heard R.routes R.worn P.holds seat at c.args.now c.failed.result place c.args.port.now c.hear.new.port c.args.outs.now (g.met.P.Place.kept c.args.place.now) c.requires.going
+    not_heard R.routes R.worn P.holds seat at c.args.now c.failed.result place c.args.port.now c.hear.new.port c.args.outs.now c.law_kept.ensures.kept c.requires.going
     (subst (λ (fault : PortFault). Hears R.routes R.worn (Err fault) place.place.state c.args.port.now c.hear.new.port) c.in-Err-NoMemory.field-0-is c.in-Err-NoMemory.ensures.hears)
     c.failed.ensures.value
 
@@ -18,7 +18,7 @@ pub returns-in-Err-Worn-clause-follows : goal.returns-in-Err-Worn-clause-follows
 returns-in-Err-Worn-clause-follows g c = λ seat at.
     let P = g.P.Place in let R = g.R.Port in let place = P.seen c.args.place.now in
     subst (λ (number : ℕ). Follows R.routes R.worn seat at c.args.now P.holds (Unheard number) place place c.args.port.now c.hear.new.port c.args.outs.now c.args.outs.now) (sym c.in-Err-Worn.number-is)
-    (no_turn R.routes R.worn P.holds seat at c.args.now c.in-Err-Worn.number place c.args.port.now c.hear.new.port c.args.outs.now (g.met.P.Place.kept c.args.place.now) c.requires.going
+    (no_turn R.routes R.worn P.holds seat at c.args.now c.in-Err-Worn.number place c.args.port.now c.hear.new.port c.args.outs.now c.law_kept.ensures.kept c.requires.going
     (subst (λ (fault : PortFault). Hears R.routes R.worn (Err fault) place.place.state c.args.port.now c.hear.new.port) c.in-Err-Worn.field-0-is c.in-Err-Worn.ensures.hears))
 
 pub returns-in-Quiet-clause-follows : goal.returns-in-Quiet-clause-follows

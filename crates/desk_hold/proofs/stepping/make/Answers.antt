@@ -4,13 +4,13 @@ use Rattle.desk_hold.proofs.stepping.make.Goals as goal
 
 pub returns-in-Ok-clause-ends : goal.returns-in-Ok-clause-ends
 returns-in-Ok-clause-ends g c =
-    let P = g.P.Place in let kept = g.met.P.Place.kept c.args.place.now in
+    let P = g.P.Place in let kept = c.law_kept.ensures.kept in
     told_step P.holds c.args.event.now c.args.now _ _ c.requires.proper c.law_moment.ensures.bound kept.free
     c.in-Ok.reply c.add_answer-unsaid.result c.args.stream.now _ _ _ c.in-Ok.ensures.steps c.requires.stream c.add_answer-unsaid.ensures.added
 
 pub returns-in-Err-clause-ends : goal.returns-in-Err-clause-ends
 returns-in-Err-clause-ends g c =
-    let P = g.P.Place in let kept = g.met.P.Place.kept c.args.place.now in
+    let P = g.P.Place in let kept = c.law_kept.ensures.kept in
     failed_step P.holds c.args.event.now c.args.now _ _ c.requires.proper c.law_moment.ensures.bound kept.free
     c.in-Err.fault _ _ c.in-Err.ensures.steps
 

@@ -1,15 +1,12 @@
-use Rattle.std.proofs.Common.{◌≡◌, sym, subst}
-use Rattle.std.proofs.lemmas.List.Elements.{same_from_all_zip}
-use Rattle.server.specs.Preparing.{Prepares}
-use Rattle.server.specs.Running.{opened_of}
-use Rattle.server.proofs.Prepared.{made_so}
+use Rattle.js_desk.specs.Solo.{DeskMade}
+use Rattle.server.proofs.Made.{made_none}
+use Rattle.server.proofs.Prepared.{made_so, unmade}
 use Rattle.server.proofs.preparing.prepare.Goals as goal
 
-pub returns-in-Some-clause-prepares : goal.returns-in-Some-clause-prepares
-returns-in-Some-clause-prepares g c =
-    let opened = opened_of c.args.desk.now.vols in
-    subst (λ s. Prepares opened s c.make_stream.result (g.C.Clock.to_come c.args.clock.now) (g.C.Clock.to_come c.now-now.new.self) c.make_stream.new.self.scene) (sym c.in-Some.is)
-    (made_so opened c.in-Some.named _ _ _ _ _ _ _ c.requires.opened c.as_slice.ensures c.now-now.ensures.reads c.make_stream.ensures.made)
+pub returns-in-Some-clause-prepared : goal.returns-in-Some-clause-prepared
+returns-in-Some-clause-prepared g c =
+    made_so _ (λ a b entries made. made.0) _ c.in-Some.named _ _ _ _ _ _ _ c.in-Some.is c.requires.opened c.as_slice.ensures c.now-now.ensures.reads c.make_stream.ensures.made
 
-pub returns-in-Some-clause-vols : goal.returns-in-Some-clause-vols
-returns-in-Some-clause-vols g c = same_from_all_zip (λ old new. new ≡ old) _ _ c.make_stream.ensures.vols (λ x y same. same)
+pub returns-in-None-clause-prepared : goal.returns-in-None-clause-prepared
+returns-in-None-clause-prepared g c =
+    unmade (DeskMade g.P.Place.keeps_vol g.P.Place.holds g.P.Place.left g.P.Place.clock g.P.Place.base) (made_none g.P.Place.keeps_vol g.P.Place.holds g.P.Place.left g.P.Place.clock g.P.Place.base g.met.P.Place.keeps_none g.met.P.Place.earlier) _ _ _ c.in-None.is c.requires.opened

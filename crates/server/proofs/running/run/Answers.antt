@@ -1,19 +1,15 @@
-use Rattle.std.proofs.Common.{arith}
-use Rattle.std.proofs.lemmas.Grind.{common_steps}
+use Rattle.std.proofs.Common.{◌∙◌, ap, Some}
 use Rattle.server.specs.Words.{texts, command_of}
-use Rattle.server.proofs.Ending.{ends_starved}
-use Rattle.server.proofs.Placeless.{run_placeless}
-use Rattle.server.proofs.Worded.{HasSubject, command_subject}
+use Rattle.server.proofs.Ended.{ends_kept, ends_starved, words_kept}
 use Rattle.server.proofs.running.run.Goals as goal
 
-pub pipe-status-requires-clause-subject : goal.pipe-status-requires-clause-subject
-pipe-status-requires-clause-subject g c =
-    let k : HasSubject c.in-Ok-Pipe.field-0 = command_subject (texts c.args.words.now) c.in-Ok-Pipe.field-0 c.in-Ok-Pipe.ensures in
-    grind (arith, common_steps)
+pub returns-in-Ok-Pipe-clause-words : goal.returns-in-Ok-Pipe-clause-words
+returns-in-Ok-Pipe-clause-words g c =
+    words_kept _ _ _ _ _ _ (command_of (texts c.args.words.now)) _ _ (c.in-Ok-Pipe.ensures ∙ ap Some c.in-Ok-Pipe.is) _ _ _ c.pipe-status.ensures.ends
 
-pub returns-in-Ok-Pipe-clause-placeless : goal.returns-in-Ok-Pipe-clause-placeless
-returns-in-Ok-Pipe-clause-placeless g c =
-    let h = c.in-Ok-Pipe.ensures in run_placeless _ _ (command_of (texts c.args.words.now)) _ (grind (arith, common_steps)) _ _ _ c.pipe-status.ensures.ends
+pub returns-in-Ok-Pipe-clause-ends : goal.returns-in-Ok-Pipe-clause-ends
+returns-in-Ok-Pipe-clause-ends g c =
+    ends_kept _ _ _ _ _ _ (command_of (texts c.args.words.now)) _ _ (c.in-Ok-Pipe.ensures ∙ ap Some c.in-Ok-Pipe.is) _ _ _ c.pipe-status.ensures.ends
 
 pub returns-in-Err-NoMemory-clause-ends : goal.returns-in-Err-NoMemory-clause-ends
-returns-in-Err-NoMemory-clause-ends g c = ends_starved _ (command_of (texts c.args.words.now)) _
+returns-in-Err-NoMemory-clause-ends g c = ends_starved _ _ _ _ _ (command_of (texts c.args.words.now)) _

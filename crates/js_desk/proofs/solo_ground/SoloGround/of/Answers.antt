@@ -1,4 +1,4 @@
-use Rattle.std.proofs.Common.{map, sym}
+use Rattle.std.proofs.Common.{map, ◌≤◌, subst, sym, length, ℕ}
 use Rattle.std.proofs.lemmas.List.{length-map}
 use Rattle.js_desk.specs.Grounds.{places_by}
 use Rattle.js_desk.proofs.Opened.{opened_grounded, opened_scene}
@@ -6,8 +6,9 @@ use Rattle.js_desk.proofs.solo_ground.SoloGround.of.Goals as goal
 
 pub returns-clause-scene : goal.returns-clause-scene
 returns-clause-scene g c =
-    rw c.new.ensures.empty (opened_scene (places_by g.P.Place.seen c.args.places.items) (map g.P.Place.vol c.args.places.items) c.args.catalog _ c.requires.catalog (sym (length-map c.args.places.items (λ p. (g.P.Place.seen p).place))) c.requires.fresh)
+    rw c.new.ensures.empty (opened_scene (places_by g.P.Place.seen c.args.places.items) (map g.P.Place.vol c.args.places.items) c.args.catalog c.requires.catalog)
 
 pub invariant_of-result : goal.invariant_of-result
 invariant_of-result g c =
-    opened_grounded (places_by g.P.Place.seen c.args.places.items) c.args.catalog _ c.requires.catalog (sym (length-map c.args.places.items (λ p. (g.P.Place.seen p).place))) c.requires.fresh c.requires.few
+    opened_grounded (places_by g.P.Place.seen c.args.places.items) c.args.catalog c.requires.catalog
+    (subst (λ (n : ℕ). n ≤ 32) (sym (length-map c.args.places.items (λ p. (g.P.Place.seen p).place))) c.requires.few)

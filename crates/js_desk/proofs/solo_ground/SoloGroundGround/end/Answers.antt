@@ -1,5 +1,7 @@
 use Rattle.std.proofs.Common.{map, refl}
+use Rattle.js_desk.specs.Grounds.{places_by}
 use Rattle.js_desk.specs.Kept.{kept_none}
+use Rattle.js_desk.specs.Outlasting.{outlast_none}
 use Rattle.js_desk.proofs.Looked.{ended_grounded}
 use Rattle.js_desk.proofs.solo_ground.SoloGroundGround.end.Goals as goal
 
@@ -7,4 +9,7 @@ pub invariant_of-self : goal.invariant_of-self
 invariant_of-self g c = ended_grounded _ _ _ _ (rw (← c.self.view_is) at c.requires.turn) c.self.invariant
 
 pub returns-clause-made : goal.returns-clause-made
-returns-clause-made g c = rw (← c.self.view_is) (refl, kept_none g.P.Place.keeps_vol g.met.P.Place.keeps_none (map g.P.Place.vol c.self.inside.places.items))
+returns-clause-made g c =
+    let P = g.P.Place in
+    let row = c.self.inside.places.items in
+    rw (← c.self.view_is) (refl, kept_none P.keeps_vol g.met.P.Place.keeps_none (map P.vol row), outlast_none P.holds P.left P.clock P.base g.met.P.Place.earlier (record { places = places_by P.seen row; vols = map P.vol row }))

@@ -1,0 +1,4 @@
+pub mod Beginnings
+pub mod Following
+pub mod Opened
+pub mod Timed

@@ -1,0 +1,137 @@
+//! A volume in memory of which nothing is told, so that records may be committed to it of which nobody has shown that they fit.
+
+ghost use Rattle.std.specs.Prelude.{◌≡◌, ◌+◌, nat_le, IsErr};
+ghost use Rattle.js_base.specs.Causes.{HasCause};
+
+use js_base::{List, NoMemory};
+use std::alloc::Global;
+use std::marker::Model;
+use vol_disk::{Failed, MemVol, Vol};
+
+/// A volume in memory, which counts its own faults. A read, a write or a cut past the end fails.
+#[derive(Drop)]
+pub struct Blind {
+    vol: MemVol,
+    faults: u64,
+}
+
+impl Model for Blind {
+    ghost use Rattle.std.specs.Prelude.{ℕ};
+
+    ghost Value = { ℕ };
+
+    ghost view = { λ s. s.faults };
+}
+
+/// Whether so many bytes from an offset on lie in a file of this length.
+fn lies_within(at: u64, count: usize, len: u64) -> bool
+    ensures value { result ≡ nat_le (at + count) len }
+{
+    match at.checked_add(count as u64) {
+        Some(end) => end <= len,
+        None => false,
+    }
+}
+
+impl Blind {
+    /// The volume, of which the calls with these numbers fail, and all from the stop on, counted from now.
+    pub fn over(
+        alloc: Global,
+        vol: MemVol,
+        failing: &[u64],
+        stop: Option<u64>,
+    ) -> Result<Blind, NoMemory> {
+        let made = vol.calls().len() as u64;
+        let mut numbers = List::new(alloc);
+        for number in failing {
+            numbers.push(made.saturating_add(*number))?;
+        }
+        let stop = stop.map(|number| made.saturating_add(number));
+        Ok(Blind {
+            vol: vol.with_failures(numbers, stop),
+            faults: 0,
+        })
+    }
+
+    /// The volume in memory.
+    pub fn into_vol(self) -> MemVol {
+        self.vol
+    }
+
+    /// The answer of a call, which is counted if it failed.
+    fn counted<T: Drop>(&mut self, answer: Result<T, Failed>) -> Result<T, Failed>
+        ensures cause { HasCause self.old self.new (IsErr result) }
+    {
+        if answer.is_err() {
+            self.faults = self.faults.saturating_add(1);
+        }
+        answer
+    }
+
+    fn try_read(&mut self, file: u32, at: u64, into: &mut [u8]) -> Result<(), Failed> {
+        let len = self.vol.len(file)?;
+        if !lies_within(at, into.len(), len) {
+            return Err(Failed);
+        }
+        self.vol.read_at(file, at, into)
+    }
+
+    fn try_write(&mut self, file: u32, at: u64, bytes: &[u8]) -> Result<(), Failed> {
+        let len = self.vol.len(file)?;
+        if at > len {
+            return Err(Failed);
+        }
+        self.vol.write_at(file, at, bytes)
+    }
+
+    fn try_cut(&mut self, file: u32, to: u64) -> Result<(), Failed> {
+        let len = self.vol.len(file)?;
+        if to > len {
+            return Err(Failed);
+        }
+        self.vol.cut(file, to)
+    }
+}
+
+impl Vol for Blind {
+    ghost use Rattle.vol_disk.specs.Untold.{untold, untold_clocked};
+
+    ghost disk = { λ _. untold };
+
+    ghost told = { ⊥ };
+
+    ghost faults = { λ faults. faults };
+
+    ghost clocked = { λ _. untold_clocked };
+
+    ghost honest = { λ told _. absurd told };
+
+    fn len(&mut self, file: u32) -> Result<u64, Failed> {
+        let len = self.vol.len(file);
+        self.counted(len)
+    }
+
+    fn read_at(&mut self, file: u32, at: u64, into: &mut [u8]) -> Result<(), Failed> {
+        let read = self.try_read(file, at, into);
+        self.counted(read)
+    }
+
+    fn write_at(&mut self, file: u32, at: u64, bytes: &[u8]) -> Result<(), Failed> {
+        let written = self.try_write(file, at, bytes);
+        self.counted(written)
+    }
+
+    fn cut(&mut self, file: u32, to: u64) -> Result<(), Failed> {
+        let cut = self.try_cut(file, to);
+        self.counted(cut)
+    }
+
+    fn sync(&mut self, file: u32) -> Result<(), Failed> {
+        let synced = self.vol.sync(file);
+        self.counted(synced)
+    }
+
+    fn faults(&self) -> u64 {
+        self.faults
+    }
+}

@@ -1,0 +1,16 @@
+use Rattle.std.proofs.Common.{◌∙◌, ap, Err}
+use Rattle.js_desk.specs.Solo.{DeskMade}
+use Rattle.server.specs.Running.{status_of}
+use Rattle.server.proofs.Ending.{awaited_over, unmade_over}
+use Rattle.server.proofs.Made.{made_more}
+use Rattle.server.proofs.running.attend.Goals as goal
+
+pub returns-in-Ok-None-clause-attended : goal.returns-in-Ok-None-clause-attended
+returns-in-Ok-None-clause-attended g c =
+    awaited_over (DeskMade g.P.Place.keeps_vol g.P.Place.holds g.P.Place.left g.P.Place.clock g.P.Place.base) _ _ (made_more g.P.Place.keeps_vol g.P.Place.holds g.P.Place.left g.P.Place.clock g.P.Place.base g.met.P.Place.keeps_more)
+    _ _ _ _ _ _ _ _ _ _ _ c.in-Ok-None.is c.in-Ok-None.ensures.prepared c.serve_first.ensures.awaited
+
+pub returns-in-Err-clause-attended : goal.returns-in-Err-clause-attended
+returns-in-Err-clause-attended g c =
+    unmade_over (DeskMade g.P.Place.keeps_vol g.P.Place.holds g.P.Place.left g.P.Place.clock g.P.Place.base) _ _ (Err c.in-Err.fault) _ _ _ _ _ _ _ _ c.unserved-in-Err.ensures c.in-Err.ensures.prepared
+    (c.status_of.ensures.status ∙ ap status_of c.from.ensures)

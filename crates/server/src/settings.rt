@@ -1,0 +1,96 @@
+//! The options of the command line, each with its value.
+
+ghost use Rattle.std.specs.Prelude.{◌≡◌, ◌<◌, true, false, [], ◌∷◌, MatchOption, IfSome, length, option_map};
+ghost use Rattle.js_base.specs.Bytes.{has};
+ghost use Rattle.server.specs.Settings.{halves_of, settings_of, value_of, is_option, is_value, are_settings, dir_option, stream_option, subject_option};
+ghost use Rattle.server.specs.Words.{texts};
+
+/// The option that gives the folder.
+pub(crate) const DIR: &str = "--dir";
+
+/// The option that gives the name of a stream.
+pub(crate) const STREAM: &str = "--stream";
+
+/// The option that gives the subject of a stream.
+pub(crate) const SUBJECT: &str = "--subject";
+
+/// An option and its value.
+#[derive(Clone, Copy)]
+struct Setting<'a> {
+    option: &'a str,
+    value: &'a str,
+}
+
+/// The option and the value that the word holds, if it holds both.
+fn halves_of(word: &str) -> Option<Setting<'_>>
+    ensures { MatchOption result (has word.now 61 ≡ false) (λ s. (has word.now 61 ≡ true) × ((s.option.now, s.value.now) ≡ halves_of word.now)) }
+{
+    match word.split_once('=') {
+        Some((option, value)) => Some(Setting { option, value }),
+        None => None,
+    }
+}
+
+/// The first setting that the words spell, and the words behind it.
+fn cut_setting(words: &[String]) -> Option<(Setting<'_>, &[String])>
+    ensures cut { MatchOption result (words.now ≡ []) (λ p. settings_of (texts words.now) ≡ (p.0.option.now, p.0.value.now) ∷ settings_of (texts p.1.now)) }
+    ensures shorter { IfSome result (λ p. length p.1.now < length words.now) }
+{
+    let (word, more) = words.split_first()?;
+    let option = word.as_str();
+    if let Some(setting) = halves_of(option) {
+        return Some((setting, more));
+    }
+    match more.split_first() {
+        Some((text, behind)) => {
+            let value = text.as_str();
+            Some((Setting { option, value }, behind))
+        }
+        None => Some((Setting { option, value: "" }, more)),
+    }
+}
+
+/// The value that the words give the option, the first one if it comes more than once.
+pub(crate) fn value_of<'a>(option: &str, words: &'a [String]) -> Option<&'a str>
+    ensures value { option_map (λ value. value.now) result ≡ value_of option.now (settings_of (texts words.now)) }
+{
+    let mut rest = words;
+    while let Some((setting, more)) = cut_setting(rest) {
+        if setting.option == option {
+            return Some(setting.value);
+        }
+        rest = more;
+    }
+    None
+}
+
+/// Whether this is an option of `pipe`.
+fn is_option(word: &str) -> bool
+    ensures value { result ≡ is_option word.now }
+{
+    word == DIR || word == STREAM || word == SUBJECT
+}
+
+/// Whether the text may be the value of an option.
+fn is_value(text: &str) -> bool
+    ensures value { result ≡ is_value text.now }
+{
+    !text.is_empty() && !text.as_bytes().starts_with(b"-")
+}
+
+/// Whether the words are options of `pipe`, each with a value, and none of them comes twice.
+pub(crate) fn are_settings(words: &[String]) -> bool
+    ensures value { result ≡ are_settings (settings_of (texts words.now)) }
+{
+    let mut rest = words;
+    while let Some((setting, more)) = cut_setting(rest) {
+        if !is_option(setting.option)
+            || !is_value(setting.value)
+            || value_of(setting.option, more).is_some()
+        {
+            return false;
+        }
+        rest = more;
+    }
+    true
+}

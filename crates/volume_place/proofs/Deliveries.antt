@@ -1,0 +1,161 @@
+-- What a delivery of a place on a volume comes to.
+use Rattle.std.proofs.Common.{◌≡◌, ◌≤◌, ◌⊎◌, inl, inr, ℕ, Bool, false, List, [], ◌++◌, length, take, Option, Some, None, Result, Ok, Err, refl, sym, ap, subst, ◌∙◌, arith}
+use Rattle.std.proofs.Math.Seq.{take-append_seam}
+use Rattle.std.proofs.lemmas.List.{append-nil}
+use Rattle.js_base.specs.Bytes.{Bytes}
+use Rattle.js_base.specs.declared.out.Out.{Out}
+use Rattle.js_model.specs.declared.stream.State.{State}
+use Rattle.js_model.specs.declared.entry.Delivery.{Delivery}
+use Rattle.js_model.specs.Deliver.{IsDelivered}
+use Rattle.effects.specs.Effects.{delivery_effects}
+use Rattle.effects.specs.declared.effect.Effect.{Effect}
+use Rattle.vol_disk.specs.Disk.{Disk}
+use Rattle.place_engine.specs.Answers.{DeliversNone, DeliversSome, LeftBy, MayDeliver}
+use Rattle.place_engine.specs.Delivering.{Delivers, EndsDelivery, tick_at}
+use Rattle.place_engine.specs.Recording.{TellsLeft}
+use Rattle.place_engine.specs.Stepping.{Elapses}
+use Rattle.place_engine.specs.declared.faults.Left.{Left}
+use Rattle.place_engine.specs.declared.faults.Left.TheVariants.{Nothing, Ticked, Unsaid}
+use Rattle.place_engine.specs.declared.faults.PlaceFault.{PlaceFault}
+use Rattle.place_engine.specs.declared.faults.PlaceFault.TheVariants.{NoMemory, StoreFault, Full, Stopped, Gone, Worn}
+use Rattle.volume_place.specs.Bringing.{Confirms}
+use Rattle.volume_place.specs.Contents.{Contents}
+use Rattle.volume_place.specs.Images.{holds}
+use Rattle.volume_place.specs.Making.{KeepsStore, RecordsDelivery}
+use Rattle.volume_place.specs.Seeing.{seen_of}
+use Rattle.volume_place.proofs.Steps.{no_time, passes, rests_still, told_as, undone}
+
+module _ {V : Type 0} (told : Type 0) (disk : V → Disk) (faults : V → ℕ) (a : Contents V) where
+  pub delivery_stopped : (count now : ℕ) (listening : List Bytes) (outs : List Out) → a.stopped ≡ Some count
+      → Delivers holds (Err (Stopped count)) now listening (seen_of told disk faults a) (seen_of told disk faults a) outs outs
+  delivery_stopped count now listening outs is = record {
+    ends = record { stopped = is; rests = rests_still told disk faults a outs; volume = record { volume = refl; images = λ t image left. left } };
+    stored = omega arith;
+    time = no_time told disk faults a a.state a.waiting;
+  }
+
+  module _ (going : a.stopped ≡ None) where
+    starved : (left : Left) (state : State) (waiting effects : List Effect) (now : ℕ) (listening : List Bytes) (before after : List Out) → LeftBy left a.state now before after state
+        → TellsLeft left a.state now effects → waiting ≡ a.waiting ++ effects
+        → EndsDelivery (Err (NoMemory left)) now listening (seen_of told disk faults a) (seen_of told disk faults (record a { state = state; waiting = waiting })) before after
+    starved Nothing state waiting effects now listening before after leaves tells waits =
+        undone told disk faults a going state waiting before after leaves.0 (waits ∙ ap (λ (l : List Effect). a.waiting ++ l) tells ∙ append-nil a.waiting) leaves.1
+    starved Ticked state waiting effects now listening before after leaves tells waits =
+        passes told disk faults a going state waiting (tick_at a.state) now before after refl leaves (waits ∙ ap (λ (l : List Effect). a.waiting ++ l) tells)
+    starved (Unsaid refused) state waiting effects now listening before after leaves tells waits = absurd leaves
+
+    pub delivery_starves : (left : Left) (m : Contents V) (now : ℕ) (listening : List Bytes) (before after : List Out) → KeepsStore a m → LeftBy left a.state now before after m.state
+        → RecordsDelivery (Err left) now a m → Delivers holds (Err (NoMemory left)) now listening (seen_of told disk faults a) (seen_of told disk faults m) before after
+    delivery_starves left m now listening before after rests leaves records =
+        subst (λ (n : Contents V). Delivers holds (Err (NoMemory left)) now listening (seen_of told disk faults a) (seen_of told disk faults n) before after) (sym rests)
+        (record {
+          ends = starved left m.state m.waiting records.effects now listening before after leaves records.told records.waiting;
+          stored = omega arith;
+          time = no_time told disk faults a m.state m.waiting;
+        })
+
+    -- no consumer is ready
+    pub delivers_none : (m : Contents V) (now : ℕ) (listening : List Bytes) (before after : List Out) → KeepsStore a m → DeliversNone a.state now listening before after m.state
+        → RecordsDelivery (Ok None) now a m → Delivers holds (Ok None) now listening (seen_of told disk faults a) (seen_of told disk faults m) before after
+    delivers_none m now listening before after rests none records =
+        subst (λ (n : Contents V). Delivers holds (Ok None) now listening (seen_of told disk faults a) (seen_of told disk faults n) before after) (sym rests)
+        (record {
+          ends = record {
+            going = going;
+            none = none.none;
+            rests = record {
+              state = none.same;
+              stored = refl;
+              stopped = refl;
+              base = λ b on. on;
+              waiting = records.waiting ∙ ap (λ (l : List Effect). a.waiting ++ l) records.told ∙ append-nil a.waiting;
+              outs = none.outs_same;
+            };
+            volume = refl;
+          };
+          stored = omega arith;
+          time = no_time told disk faults a m.state m.waiting;
+        })
+
+    -- some delivery is made in memory, and waits
+    module _ (state : State) (waiting : List Effect) (delivery : Delivery) (now : ℕ) (listening : List Bytes) (before middle : List Out)
+        (delivers : DeliversSome a.state now listening delivery before middle state) (waits : waiting ≡ a.waiting ++ delivery_effects a.state now delivery state) where
+      abbrev Made : Contents V
+      Made = record a { state = state; waiting = waiting }
+
+      cut_back : (after : List Out) → after ≡ take (length before) middle → after ≡ before
+      cut_back after is = is ∙ ap (take (length before)) delivers.outs_are ∙ take-append_seam before delivers.sent
+
+      -- what stands then is what was made
+      delivered_as : (new : State) → new ≡ state → IsDelivered a.state now listening delivery delivers.sent new
+      delivered_as new same = subst (λ (s : State). IsDelivered a.state now listening delivery delivers.sent s) (sym same) delivers.delivered
+
+      waits_as : (new : State) → new ≡ state → waiting ≡ a.waiting ++ delivery_effects a.state now delivery new
+      waits_as new same = subst (λ (s : State). waiting ≡ a.waiting ++ delivery_effects a.state now delivery s) (sym same) waits
+
+      ends_as : (result : Result (Unit {0}) PlaceFault) (n : Contents V) (after : List Out)
+          → Confirms false (length before) result (seen_of told disk faults Made) (seen_of told disk faults n) middle after
+          → EndsDelivery (told_as (Some delivery) result) now listening (seen_of told disk faults a) (seen_of told disk faults n) before after
+      ends_as (Ok done) n after h = record {
+        sent = delivers.sent;
+        makes = record { going = going; delivered = delivered_as n.state h.0.keeps.state };
+        goes = h.0.goes;
+        outs = h.1 ∙ delivers.outs_are;
+        fits = λ full. h.0.fits (subst (seen_of told disk faults a).is_full (sym (waits_as n.state h.0.keeps.state)) full);
+        may = inl h.0.flushed;
+      }
+      ends_as (Err (NoMemory (Unsaid refused))) n after h = record {
+        delivery = delivery;
+        sent = delivers.sent;
+        makes = record { going = going; delivered = delivered_as n.state h.0.rests.state };
+        goes = h.0.rests.stopped ∙ going;
+        outs = h.2 ∙ delivers.outs_are;
+        put_off = record { base = h.0.rests.base; waiting = h.0.rests.waiting ∙ waits_as n.state h.0.rests.state };
+        volume = record { volume = h.0.volume.volume; images = h.0.volume.images };
+      }
+      ends_as (Err StoreFault) n after h = record {
+        delivery = delivery;
+        sent = delivers.sent;
+        makes = record { going = going; delivered = delivered_as n.state h.0.keeps.state };
+        stops = h.0.stops;
+        cause = h.0.cause;
+        fits = λ full. h.0.fits (subst (seen_of told disk faults a).is_full (sym (waits_as n.state h.0.keeps.state)) full);
+        base = h.0.base;
+        outs = cut_back after h.1;
+      }
+      ends_as (Err Full) n after h = record {
+        delivery = delivery;
+        sent = delivers.sent;
+        makes = record { going = going; delivered = delivered_as n.state h.0.keeps.state };
+        stops = h.0.stops;
+        cause = subst (seen_of told disk faults a).is_full (waits_as n.state h.0.keeps.state) h.0.cause;
+        base = h.0.base;
+        volume = record { volume = h.0.volume.volume; images = h.0.volume.images };
+        outs = cut_back after h.1;
+      }
+      ends_as (Err (NoMemory Nothing)) n after h = absurd h
+      ends_as (Err (NoMemory Ticked)) n after h = absurd h
+      ends_as (Err (Stopped kept)) n after h = absurd h
+      ends_as (Err (Gone kept)) n after h = absurd h
+      ends_as (Err (Worn refused)) n after h = absurd h
+
+      delivers_as : (result : Result (Unit {0}) PlaceFault) (n : Contents V) (after : List Out)
+          → Confirms false (length before) result (seen_of told disk faults Made) (seen_of told disk faults n) middle after
+          → Elapses holds (seen_of told disk faults Made) (seen_of told disk faults n)
+          → Delivers holds (told_as (Some delivery) result) now listening (seen_of told disk faults a) (seen_of told disk faults n) before after
+      delivers_as result n after h time = record {
+        ends = ends_as result n after h;
+        stored = omega arith;
+        time = record { faults = time.faults; moments = time.moments; generations = time.generations; goes_on = time.goes_on };
+      }
+
+    pub delivers_made : (m n : Contents V) (delivery : Delivery) (now : ℕ) (listening : List Bytes) (before middle after : List Out) (count : ℕ) (result : Result (Unit {0}) PlaceFault)
+        → KeepsStore a m → DeliversSome a.state now listening delivery before middle m.state → RecordsDelivery (Ok (Some delivery)) now a m → count ≡ length before
+        → Confirms false count result (seen_of told disk faults m) (seen_of told disk faults n) middle after → Elapses holds (seen_of told disk faults m) (seen_of told disk faults n)
+        → Delivers holds (told_as (Some delivery) result) now listening (seen_of told disk faults a) (seen_of told disk faults n) before after
+    delivers_made m n delivery now listening before middle after count result rests delivers records counts confirms time =
+        let so_many = subst (λ (k : ℕ). Confirms false k result (seen_of told disk faults m) (seen_of told disk faults n) middle after) counts confirms in
+        let from = subst (λ (p : Contents V). Confirms false (length before) result (seen_of told disk faults p) (seen_of told disk faults n) middle after) rests so_many in
+        let waits = records.waiting ∙ ap (λ (l : List Effect). a.waiting ++ l) records.told in
+        delivers_as m.state m.waiting delivery now listening before middle delivers waits result n after from
+        (subst (λ (p : Contents V). Elapses holds (seen_of told disk faults p) (seen_of told disk faults n)) rests time)

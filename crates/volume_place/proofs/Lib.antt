@@ -1,0 +1,7 @@
+mod Bases
+mod Kept
+mod Growing
+mod Brought
+mod Steps
+mod Deliveries
+mod Opened

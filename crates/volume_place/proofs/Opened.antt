@@ -1,0 +1,86 @@
+-- What a place is opened to on a volume.
+use Rattle.std.proofs.Common.{◌≡◌, ◌≤◌, ◌⊎◌, inl, inr, ℕ, List, [], Some, None, refl, sym, ap, subst, ◌∙◌, arith}
+use Rattle.js_model.specs.declared.stream.State.{State}
+use Rattle.js_model.specs.Lasting.{lasting}
+use Rattle.effects.specs.declared.durable.Durable.{Durable}
+use Rattle.effects.specs.declared.effect.Effect.{Effect}
+use Rattle.effects.specs.Durables.{durable_of, state_of}
+use Rattle.restore_laws.specs.Restored.{IsRestored}
+use Rattle.restore_laws.proofs.Holding.{held_opened, restored}
+use Rattle.durable_checks.specs.Storable.{IsFormed, IsOpenable, IsStorable}
+use Rattle.vol_disk.specs.Clock.{IsClocked}
+use Rattle.vol_disk.specs.Disk.{Disk}
+use Rattle.stream_store.specs.Base.{IsBase}
+use Rattle.stream_store.specs.Holding.{Holds}
+use Rattle.stream_store.specs.Opening.{KeepsHeld as KeepsImages}
+use Rattle.stream_store.specs.StoreState.{StoreState}
+use Rattle.place_engine.specs.Opening.{IsOpened, IsUnopened, KeepsHeld}
+use Rattle.place_engine.specs.Stepping.{Image}
+use Rattle.volume_place.specs.Contents.{Contents}
+use Rattle.volume_place.specs.Images.{clock, holds, left, reads}
+use Rattle.volume_place.specs.Opening.{opens}
+use Rattle.volume_place.specs.Seeing.{seen_of}
+use Rattle.volume_place.specs.Sound.{IsBacked, IsSoundPlace}
+use Rattle.volume_place.proofs.Bases.{flushed_base, left_now}
+
+module _ {V : Type 0} (told : Type 0) (disk : V → Disk) (faults : V → ℕ) (clocked : (vol : V) → IsClocked (disk vol)) (old vol : V)
+    (any : told → KeepsImages (disk old) (disk vol)) where
+  -- whatever the opening comes to, a crash leaves what each image held
+  pub keeps_held : (state : State) → opens told disk old state → KeepsHeld holds (reads told disk) (left told disk) (clock disk) old state (left told disk vol)
+  keeps_held state opening all t image le is =
+      go is.0 ((any is.0 (durable_of state) (opening is.0).0 (λ other now. (all.now other (left_now told disk old is.0 (clocked old) other now)).0)).before t image le is.1)
+    where
+      go : told → (disk old).may_leave t image ⊎ Holds image (durable_of state) → left told disk old t image ⊎ holds image state
+      go is_told (inl before) = inl (is_told, before)
+      go is_told (inr same) = inr (same, (opening is_told).1)
+
+  pub unopened : IsUnopened holds (reads told disk) (left told disk) (clock disk) (opens told disk) old vol
+  unopened = keeps_held
+
+  -- what was read
+  module _ (d : Durable) (formed : IsFormed d) (storable : IsStorable d) (openable : IsOpenable d) where
+    pub restored_of : IsRestored (state_of d)
+    restored_of = restored d formed storable openable
+
+    module _ (store : StoreState) (state : State) (same : state ≡ state_of d) (waiting : List Effect) (none : waiting ≡ [])
+        (found : told → Holds (disk old).seen d) (base : told → IsBase store d (disk vol)) where
+      kept : IsRestored state
+      kept = subst IsRestored (sym same) restored_of
+
+      held_here : durable_of state ≡ d
+      held_here = ap durable_of same ∙ held_opened d formed
+
+      backs : told → IsBacked (disk vol) store waiting state
+      backs t = subst (λ (l : List Effect). IsBacked (disk vol) store l state) (sym none) (record {
+        base = state;
+        all_lasts = kept.lasting;
+        is_base = subst (λ (e : Durable). IsBase store e (disk vol)) (sym held_here) (base t);
+        waits = refl;
+      })
+
+      pub opened_sound : IsSoundPlace told (disk vol) store waiting None state
+      opened_sound = subst (λ (l : List Effect). IsSoundPlace told (disk vol) store l None state) (sym none)
+          (record {
+            sound = kept.sound;
+            bounded = kept.bounded;
+            restorable = kept.restorable;
+            records = refl;
+            on_disk = λ t. subst (λ (l : List Effect). IsBacked (disk vol) store l state) none (backs t);
+          })
+
+      opening : opens told disk old state
+      opening t = (subst (Holds (disk old).seen) (sym held_here) (found t), kept.lasting)
+
+      pub opened_of : IsOpened holds (reads told disk) (left told disk) (clock disk) (opens told disk) old
+          (seen_of told disk faults (record { state = state; store = store; vol = vol; waiting = waiting; stopped = None }))
+      opened_of = record {
+        going = refl;
+        state = opening;
+        all_lasts = kept.lasting;
+        flushed = record { base = λ b on. flushed_base (disk vol) store waiting state (backs on.0) none b on.1; waiting = none };
+        sound = kept.sound;
+        bounded = kept.bounded;
+        writable = kept.writable;
+        counted = omega arith;
+        earlier = keeps_held state opening;
+      }

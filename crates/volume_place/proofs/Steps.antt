@@ -1,0 +1,200 @@
+-- What a step of a place on a volume comes to.
+use Rattle.std.proofs.Common.{◌≡◌, ◌≢◌, ◌≤◌, ◌⊎◌, inl, inr, ℕ, Bool, true, List, [], ◌++◌, length, take, Option, Some, None, Result, Ok, Err, refl, sym, ap, subst, ◌∙◌, arith}
+use Rattle.std.proofs.Math.Nat.{le_refl}
+use Rattle.std.proofs.Math.Seq.{take-append_seam}
+use Rattle.std.proofs.lemmas.Option.{none-some}
+use Rattle.std.proofs.lemmas.List.{append-nil}
+use Rattle.std.specs.Prelude.{unwrap_or}
+use Rattle.js_base.specs.declared.out.Out.{Out}
+use Rattle.js_model.specs.declared.stream.State.{State}
+use Rattle.js_model.specs.declared.event.Event.{Event}
+use Rattle.js_model.specs.declared.event.What.TheVariants.{Tick}
+use Rattle.js_model.specs.declared.reply.Reply.{Reply}
+use Rattle.js_model.specs.Events.{answered, is_refused, kept_incarnation}
+use Rattle.effects.specs.Effects.{event_effects}
+use Rattle.effects.specs.declared.effect.Effect.{Effect}
+use Rattle.vol_disk.specs.Disk.{Disk}
+use Rattle.place_engine.specs.Answers.{LeftBy, PlaceAnswers}
+use Rattle.place_engine.specs.Recording.{TellsEvent, TellsLeft}
+use Rattle.place_engine.specs.Stepping.{Elapses, Ends, IsFlushed, IsUndone, Passes, Rests, Steps}
+use Rattle.place_engine.specs.declared.faults.Left.{Left}
+use Rattle.place_engine.specs.declared.faults.Left.TheVariants.{Nothing, Ticked, Unsaid}
+use Rattle.place_engine.specs.declared.faults.PlaceFault.{PlaceFault}
+use Rattle.place_engine.specs.declared.faults.PlaceFault.TheVariants.{NoMemory, StoreFault, Full, Stopped, Gone, Worn}
+use Rattle.volume_place.specs.Bringing.{Confirms}
+use Rattle.volume_place.specs.Contents.{Contents}
+use Rattle.volume_place.specs.Images.{Keeps, holds}
+use Rattle.volume_place.specs.Making.{KeepsStore, RecordsEvent}
+use Rattle.volume_place.specs.Seeing.{seen_of}
+
+-- the call's result, once something was made and its reply is known
+abbrev pub told_as : {T : Type 0} → T → Result (Unit {0}) PlaceFault → Result T PlaceFault
+told_as value (Ok done) = Ok value
+told_as value (Err fault) = Err fault
+
+module _ {V : Type 0} (told : Type 0) (disk : V → Disk) (faults : V → ℕ) where
+  pub keeps_of : (a b : Contents V) → Elapses holds (seen_of told disk faults a) (seen_of told disk faults b) → Keeps disk faults a.vol b.vol
+  keeps_of a b time = record { faults_later = time.faults; moment_later = time.moments }
+
+  -- ---- calls that make nothing
+
+  pub rests_still : (a : Contents V) (outs : List Out) → Rests (seen_of told disk faults a) (seen_of told disk faults a) outs outs
+  rests_still a outs = record { state = refl; stored = refl; stopped = refl; base = λ b on. on; waiting = refl; outs = refl }
+
+  -- whatever stands and waits then
+  pub no_time : (a : Contents V) (state : State) (waiting : List Effect) → Elapses holds (seen_of told disk faults a) (seen_of told disk faults (record a { state = state; waiting = waiting }))
+  no_time a state waiting = record {
+    faults = le_refl (faults a.vol);
+    moments = le_refl (disk a.vol).moment;
+    generations = le_refl (unwrap_or a.store.log.head 0);
+    goes_on = λ t image le is. inl is;
+  }
+
+  pub is_stopped : (a : Contents V) (count : ℕ) (e : Event) (now : ℕ) (outs : List Out) → a.stopped ≡ Some count
+      → Steps holds (Err (Stopped count)) e now (seen_of told disk faults a) (seen_of told disk faults a) outs outs
+  is_stopped a count e now outs is = record {
+    ends = record { stopped = is; rests = rests_still a outs; volume = record { volume = refl; images = λ t image left. left } };
+    stored = omega arith;
+    time = no_time a a.state a.waiting;
+  }
+
+  pub is_gone : (a : Contents V) (kept : ℕ) (e : Event) (now : ℕ) (outs : List Out) → a.stopped ≡ None → kept ≡ kept_incarnation a.state → e.incarnation ≢ kept
+      → Steps holds (Err (Gone kept)) e now (seen_of told disk faults a) (seen_of told disk faults a) outs outs
+  is_gone a kept e now outs going is other = record {
+    ends = record { going = going; kept_is = is; other = other; rests = rests_still a outs; volume = record { volume = refl; images = λ t image left. left } };
+    stored = omega arith;
+    time = no_time a a.state a.waiting;
+  }
+
+  -- ---- calls that find no memory
+
+  -- Of a place that goes on, and an event for what it keeps.
+  module _ (a : Contents V) (going : a.stopped ≡ None) where
+    pub undone : (state : State) (waiting : List Effect) (before after : List Out) → state ≡ a.state → waiting ≡ a.waiting → after ≡ before
+        → IsUndone (seen_of told disk faults a) (seen_of told disk faults (record a { state = state; waiting = waiting })) before after
+    undone state waiting before after same waits outs = record {
+      rests = record { state = same; stored = refl; stopped = refl; base = λ b on. on; waiting = waits; outs = outs };
+      volume = λ count is. absurd (none-some count (sym going ∙ is));
+    }
+
+    pub passes : (state : State) (waiting : List Effect) (e : Event) (now : ℕ) (before after : List Out) → e.incarnation ≡ kept_incarnation a.state
+        → LeftBy Ticked a.state now before after state → waiting ≡ a.waiting ++ event_effects a.state Tick now true
+        → Passes e now (seen_of told disk faults a) (seen_of told disk faults (record a { state = state; waiting = waiting })) before after
+    passes state waiting e now before after kept ticks waits =
+        let given = ticks e.incarnation in
+        record {
+          does = record { going = going; kept = kept; state = given.state_is };
+          goes = going;
+          outs = given.outs_are;
+          may = inr (record { base = λ b on. on; waiting = waits });
+        }
+
+    starved : (left : Left) (state : State) (waiting effects : List Effect) (e : Event) (now : ℕ) (before after : List Out) → e.incarnation ≡ kept_incarnation a.state
+        → LeftBy left a.state now before after state → TellsLeft left a.state now effects → waiting ≡ a.waiting ++ effects
+        → Ends (Err (NoMemory left)) e now (seen_of told disk faults a) (seen_of told disk faults (record a { state = state; waiting = waiting })) before after
+    starved Nothing state waiting effects e now before after kept leaves tells waits =
+        undone state waiting before after leaves.0 (waits ∙ ap (λ (l : List Effect). a.waiting ++ l) tells ∙ append-nil a.waiting) leaves.1
+    starved Ticked state waiting effects e now before after kept leaves tells waits =
+        passes state waiting e now before after kept leaves (waits ∙ ap (λ (l : List Effect). a.waiting ++ l) tells)
+    starved (Unsaid refused) state waiting effects e now before after kept leaves tells waits = absurd leaves
+
+    pub starves : (left : Left) (m : Contents V) (e : Event) (now : ℕ) (before after : List Out) → e.incarnation ≡ kept_incarnation a.state → KeepsStore a m
+        → LeftBy left a.state now before after m.state → RecordsEvent (Err left) e.what now a m
+        → Steps holds (Err (NoMemory left)) e now (seen_of told disk faults a) (seen_of told disk faults m) before after
+    starves left m e now before after kept rests leaves records =
+        subst (λ (n : Contents V). Steps holds (Err (NoMemory left)) e now (seen_of told disk faults a) (seen_of told disk faults n) before after) (sym rests)
+        (record {
+          ends = starved left m.state m.waiting records.effects e now before after kept leaves records.told records.waiting;
+          stored = omega arith;
+          time = no_time a m.state m.waiting;
+        })
+
+    -- ---- calls that make the event
+
+    -- it is made in memory, and waits
+    module _ (state : State) (waiting : List Effect) (e : Event) (now : ℕ) (reply : Reply) (before middle : List Out) (kept : e.incarnation ≡ kept_incarnation a.state)
+        (answers : PlaceAnswers a.state e.what now reply before middle state) (waits : waiting ≡ a.waiting ++ event_effects a.state e.what now true) where
+      abbrev Made : Contents V
+      Made = record a { state = state; waiting = waiting }
+
+      given_reply : reply ≡ (answered a.state e now true).reply
+      given_reply = (answers e.incarnation).reply_is
+
+      given_outs : middle ≡ before ++ (answered a.state e now true).outs
+      given_outs = (answers e.incarnation).outs_are
+
+      given_state : state ≡ (answered a.state e now true).state
+      given_state = (answers e.incarnation).state_is
+
+      cut_back : (after : List Out) → after ≡ take (length before) middle → after ≡ before
+      cut_back after is = is ∙ ap (take (length before)) given_outs ∙ take-append_seam before (answered a.state e now true).outs
+
+      ends_as : (result : Result (Unit {0}) PlaceFault) (n : Contents V) (after : List Out)
+          → Confirms (is_refused reply) (length before) result (seen_of told disk faults Made) (seen_of told disk faults n) middle after
+          → Ends (told_as reply result) e now (seen_of told disk faults a) (seen_of told disk faults n) before after
+      ends_as (Ok done) n after h = record {
+        does = record { going = going; kept = kept; state = h.0.keeps.state ∙ given_state };
+        goes = h.0.goes;
+        reply_is = given_reply;
+        outs = h.1 ∙ given_outs;
+        commits = record {
+          fits = λ full. h.0.fits (subst (seen_of told disk faults a).is_full (sym waits) full);
+          firm = λ firm. h.0.flushed;
+          may = inl h.0.flushed;
+        };
+      }
+      ends_as (Err (NoMemory (Unsaid refused))) n after h = record {
+        hides = record {
+          does = record { going = going; kept = kept; state = h.0.rests.state ∙ given_state };
+          goes = h.0.rests.stopped ∙ going;
+          outs = h.2 ∙ given_outs;
+          put_off = record { base = h.0.rests.base; waiting = h.0.rests.waiting ∙ waits };
+          volume = record { volume = h.0.volume.volume; images = h.0.volume.images };
+        };
+        refused_is = h.1 ∙ ap is_refused given_reply;
+      }
+      ends_as (Err StoreFault) n after h = record {
+        does = record { going = going; kept = kept; state = h.0.keeps.state ∙ given_state };
+        stops = h.0.stops;
+        cause = h.0.cause;
+        fits = λ full. h.0.fits (subst (seen_of told disk faults a).is_full (sym waits) full);
+        base = h.0.base;
+        outs = cut_back after h.1;
+      }
+      ends_as (Err Full) n after h = record {
+        does = record { going = going; kept = kept; state = h.0.keeps.state ∙ given_state };
+        stops = h.0.stops;
+        cause = subst (seen_of told disk faults a).is_full waits h.0.cause;
+        base = h.0.base;
+        volume = record { volume = h.0.volume.volume; images = h.0.volume.images };
+        outs = cut_back after h.1;
+      }
+      ends_as (Err (NoMemory Nothing)) n after h = absurd h
+      ends_as (Err (NoMemory Ticked)) n after h = absurd h
+      ends_as (Err (Stopped kept)) n after h = absurd h
+      ends_as (Err (Gone kept)) n after h = absurd h
+      ends_as (Err (Worn refused)) n after h = absurd h
+
+      steps_as : (result : Result (Unit {0}) PlaceFault) (n : Contents V) (after : List Out)
+          → Confirms (is_refused reply) (length before) result (seen_of told disk faults Made) (seen_of told disk faults n) middle after
+          → Elapses holds (seen_of told disk faults Made) (seen_of told disk faults n)
+          → Steps holds (told_as reply result) e now (seen_of told disk faults a) (seen_of told disk faults n) before after
+      steps_as result n after h time = record {
+        ends = ends_as result n after h;
+        stored = omega arith;
+        time = record { faults = time.faults; moments = time.moments; generations = time.generations; goes_on = time.goes_on };
+      }
+
+    pub steps_made : (m n : Contents V) (e : Event) (now : ℕ) (reply : Reply) (before middle after : List Out) (refused : Bool) (count : ℕ) (result : Result (Unit {0}) PlaceFault)
+        → e.incarnation ≡ kept_incarnation a.state → KeepsStore a m → PlaceAnswers a.state e.what now reply before middle m.state → RecordsEvent (Ok reply) e.what now a m
+        → refused ≡ is_refused reply → count ≡ length before
+        → Confirms refused count result (seen_of told disk faults m) (seen_of told disk faults n) middle after → Elapses holds (seen_of told disk faults m) (seen_of told disk faults n)
+        → Steps holds (told_as reply result) e now (seen_of told disk faults a) (seen_of told disk faults n) before after
+    steps_made m n e now reply before middle after refused count result kept rests answers records refuses counts confirms time =
+        let made = record a { state = m.state; waiting = m.waiting } in
+        let told_so = subst (λ (b : Bool). Confirms b count result (seen_of told disk faults m) (seen_of told disk faults n) middle after) refuses confirms in
+        let so_many = subst (λ (k : ℕ). Confirms (is_refused reply) k result (seen_of told disk faults m) (seen_of told disk faults n) middle after) counts told_so in
+        let from = subst (λ (p : Contents V). Confirms (is_refused reply) (length before) result (seen_of told disk faults p) (seen_of told disk faults n) middle after) rests so_many in
+        let waits = records.waiting ∙ ap (λ (l : List Effect). a.waiting ++ l) records.told in
+        steps_as m.state m.waiting e now reply before middle kept answers waits result n after from
+        (subst (λ (p : Contents V). Elapses holds (seen_of told disk faults p) (seen_of told disk faults n)) rests time)

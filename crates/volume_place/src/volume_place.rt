@@ -1,0 +1,336 @@
+//! A place on a volume.
+
+ghost use Rattle.std.specs.Prelude.{◌≡◌, ◌≤◌, ◌^◌, ℕ, IfErr, IfOk, IsTrue, None, length};
+ghost use Rattle.js_base.specs.Causes.{Rose};
+ghost use Rattle.js_model.specs.Events.{kept_incarnation};
+ghost use Rattle.js_model.specs.Proper.{is_proper};
+ghost use Rattle.place_engine.specs.Answers.{LeftBy, MayDeliver, PlaceAnswers};
+ghost use Rattle.place_engine.specs.Delivering.{Delivers};
+ghost use Rattle.place_engine.specs.Flushing.{Flushes};
+ghost use Rattle.place_engine.specs.Opening.{IsOpened, IsUnopened};
+ghost use Rattle.place_engine.specs.Places.{IsTold};
+ghost use Rattle.place_engine.specs.Shown.{IsShown};
+ghost use Rattle.place_engine.specs.Stepping.{Elapses, IsKept, Steps};
+ghost use Rattle.volume_place.specs.Bringing.{Brings, Confirms};
+ghost use Rattle.volume_place.specs.Images.{Keeps, base, clock, holds, left, reads};
+ghost use Rattle.volume_place.specs.Making.{KeepsStore, RecordsDelivery, RecordsEvent};
+ghost use Rattle.volume_place.specs.Opening.{fault_of, opens, refuses};
+ghost use Rattle.volume_place.specs.Seeing.{seen_of};
+
+use crate::outputs::{cut_to, is_refused};
+use effects::Effect;
+use js_base::{Blob, Moment, NoMemory, Outs};
+use js_model::{Delivery, Event, Listening, Reply};
+use place_engine::{Left, OpenFault, Place, PlaceFault, Push, Slot};
+use place_records::Made;
+use std::alloc::Global;
+use std::marker::Model;
+use stream_store::{CommitFault, Store};
+use vol_disk::Vol;
+
+/// A place whose stream is kept on a volume. Each step and each delivery that changes what outlives a crash is committed before it is answered, together
+/// with what waits since an earlier commit found no memory. In memory it keeps the stream, and the records that wait.
+#[derive(Drop)]
+pub struct VolumePlace<V: Vol> {
+    alloc: Global,
+    slot: Slot,
+    store: Store,
+    vol: V,
+    /// The records that wait for a commit.
+    waiting: Vec<Effect>,
+    /// The records of the last event or delivery, which wait behind those.
+    made: Made,
+    /// The volume's count of faults as it stopped the place, if it did.
+    stopped: Option<u64>,
+}
+
+impl<V: Vol> Model for VolumePlace<V> {
+    ghost use Rattle.std.specs.Prelude.{◌++◌};
+    ghost use Rattle.place_records.specs.Records.{effects_in};
+    ghost use Rattle.volume_place.specs.Contents.{Contents};
+    ghost use Rattle.volume_place.specs.Sound.{IsSoundPlace};
+
+    ghost Value = { Contents V };
+
+    ghost view = { λ place. record {
+      state = place.slot;
+      store = place.store;
+      vol = place.vol;
+      waiting = place.waiting.items ++ effects_in place.made;
+      stopped = place.stopped;
+    } };
+
+    ghost invariant = { λ place. IsSoundPlace V.told (V.disk place.vol) place.store (place.waiting.items ++ effects_in place.made) place.stopped place.slot };
+}
+
+/// Why a store was not opened, as a place tells it.
+fn fault_of(fault: stream_store::OpenFault) -> OpenFault
+    ensures value { result ≡ fault_of fault }
+{
+    match fault {
+        stream_store::OpenFault::Fault => OpenFault::Fault,
+        stream_store::OpenFault::Damaged { file, at } => OpenFault::Damaged { file, at },
+        stream_store::OpenFault::UnknownVersion(version) => {
+            OpenFault::UnknownVersion(u64::from(version))
+        }
+        stream_store::OpenFault::NoMemory => OpenFault::NoMemory,
+    }
+}
+
+impl<V: Vol> VolumePlace<V> {
+    /// Makes an event at a moment in memory, answers it, adds what it sends to the outputs, and lets its records wait. An `Err` says what is left.
+    fn answer(&mut self, event: &Event, now: Moment, outs: &mut Outs) -> Result<Reply, Left>
+        requires told { IsTold event.now.what }
+        requires proper { IsTrue (is_proper event.now) }
+        requires kept { event.now.incarnation ≡ kept_incarnation self.old.state }
+        requires going { self.old.stopped ≡ None }
+        ensures answers { IfOk result (λ reply. PlaceAnswers self.old.state event.now.what now reply outs.old outs.new self.new.state) }
+        ensures shown { IfOk result IsShown }
+        ensures err { IfErr result (λ left. LeftBy left self.old.state now outs.old outs.new self.new.state) }
+        ensures recorded { RecordsEvent result event.now.what now self.old self.new }
+        ensures rests { KeepsStore self.old self.new }
+    {
+        // that the moment is below 2^62 is what the proof takes from this call
+        let _ = now.as_nanos();
+        let Ok(()) = self.made.give_to(&mut self.waiting) else {
+            return Err(Left::Nothing);
+        };
+        self.slot.answer(&event.what, now, outs, &mut self.made)
+    }
+
+    /// Makes one delivery at a moment in memory, adds what it sends to the outputs, and lets its records wait. An `Err` says what is left.
+    fn deliver(
+        &mut self,
+        now: Moment,
+        listening: &Listening,
+        outs: &mut Outs,
+    ) -> Result<Option<Delivery>, Left>
+        requires going { self.old.stopped ≡ None }
+        ensures delivers { MayDeliver result self.old.state now listening.now outs.old outs.new self.new.state }
+        ensures recorded { RecordsDelivery result now self.old self.new }
+        ensures rests { KeepsStore self.old self.new }
+    {
+        let _ = now.as_nanos();
+        // that the incarnation is at most 2^62 is what the proof takes from this call
+        let _ = self.slot.incarnation();
+        let Ok(()) = self.made.give_to(&mut self.waiting) else {
+            return Err(Left::Nothing);
+        };
+        self.slot.deliver_one(now, listening, outs, &mut self.made)
+    }
+
+    /// Commits all that waits, if anything does. A fault, or a log that is full, stops the place. `NoMemory` leaves all as it was.
+    fn bring(&mut self) -> Result<(), CommitFault>
+        requires going { self.old.stopped ≡ None }
+        ensures brings { Brings result (seen_of V.told V.disk V.faults self.old) (seen_of V.told V.disk V.faults self.new) }
+        ensures time { Elapses holds (seen_of V.told V.disk V.faults self.old) (seen_of V.told V.disk V.faults self.new) }
+    {
+        let Ok(()) = self.made.give_to(&mut self.waiting) else {
+            return Err(CommitFault::NoMemory);
+        };
+        if self.waiting.is_empty() {
+            return Ok(());
+        }
+        match self
+            .store
+            .commit(self.alloc, &mut self.vol, self.waiting.as_slice())
+        {
+            Ok(()) => {
+                self.waiting.clear();
+                Ok(())
+            }
+            Err(CommitFault::NoMemory) => Err(CommitFault::NoMemory),
+            Err(fault) => {
+                self.stopped = Some(self.vol.faults());
+                Err(fault)
+            }
+        }
+    }
+
+    /// Commits all that waits once something was made, which was refused or not; before it there were so many outputs, to which they are cut back
+    /// if the place is stopped.
+    fn confirm(&mut self, refused: bool, count: usize, outs: &mut Outs) -> Result<(), PlaceFault>
+        requires going { self.old.stopped ≡ None }
+        ensures confirms { Confirms refused count result (seen_of V.told V.disk V.faults self.old) (seen_of V.told V.disk V.faults self.new) outs.old outs.new }
+        ensures time { Elapses holds (seen_of V.told V.disk V.faults self.old) (seen_of V.told V.disk V.faults self.new) }
+    {
+        match self.bring() {
+            Ok(()) => Ok(()),
+            Err(CommitFault::NoMemory) => Err(PlaceFault::NoMemory(Left::Unsaid { refused })),
+            Err(CommitFault::Fault) => {
+                cut_to(self.alloc, count, outs);
+                Err(PlaceFault::StoreFault)
+            }
+            Err(CommitFault::Full) => {
+                cut_to(self.alloc, count, outs);
+                Err(PlaceFault::Full)
+            }
+        }
+    }
+}
+
+impl<V: Vol> Place for VolumePlace<V> {
+    ghost use Rattle.std.specs.Prelude.{refl};
+    ghost use Rattle.volume_place.specs.Laws.{all_lasts, earlier_left, keeps_later, keeps_more, keeps_none, only_held, opens_read, refuses_read};
+
+    type Vol = V;
+
+    ghost seen = { seen_of V.told V.disk V.faults };
+
+    ghost holds = { holds };
+
+    ghost vol = { λ place. place.vol };
+
+    ghost keeps_vol = { Keeps V.disk V.faults };
+
+    ghost reads = { reads V.told V.disk };
+
+    ghost left = { left V.told V.disk };
+
+    ghost clock = { clock V.disk };
+
+    ghost faults = { V.faults };
+
+    ghost base = { base V.told V.disk };
+
+    ghost opens = { opens V.told V.disk };
+
+    ghost refuses = { refuses V.told V.disk };
+
+    /// What the volume holds is read, and a stream restored to it. If the volume never had a place, a log is begun on it that says so.
+    fn open(alloc: Global, volume: V) -> Result<VolumePlace<V>, (OpenFault, V)> {
+        let mut vol = volume;
+        let (store, durable) = match Store::open(alloc, &mut vol) {
+            Ok(opened) => opened,
+            Err(fault) => return Err((fault_of(fault), vol)),
+        };
+        let Ok(slot) = Slot::restore(alloc, durable) else {
+            return Err((OpenFault::NoMemory, vol));
+        };
+        Ok(VolumePlace {
+            alloc,
+            slot,
+            store,
+            vol,
+            waiting: Vec::new(alloc),
+            made: Made::new(alloc),
+            stopped: None,
+        })
+    }
+
+    fn incarnation(&self) -> u64 {
+        self.slot.incarnation()
+    }
+
+    fn name(&self) -> Option<&Blob> {
+        self.slot.name()
+    }
+
+    fn subjects(&self) -> &[Blob] {
+        self.slot.subjects()
+    }
+
+    fn stopped(&self) -> Option<u64> {
+        self.stopped
+    }
+
+    fn push(&self, at: usize) -> Option<Push<'_>> {
+        self.slot.push(at)
+    }
+
+    fn ready(&self, now: Moment, listening: &Listening) -> bool {
+        self.slot.ready(now, listening)
+    }
+
+    /// Nothing is written if nothing of what outlives a crash changed since the last commit.
+    fn step(&mut self, event: &Event, now: Moment, outs: &mut Outs) -> Result<Reply, PlaceFault> {
+        if let Some(count) = self.stopped {
+            return Err(PlaceFault::Stopped(count));
+        }
+        let kept = self.slot.incarnation();
+        if event.incarnation != kept {
+            return Err(PlaceFault::Gone(kept));
+        }
+        let count = outs.len();
+        match self.answer(event, now, outs) {
+            Ok(reply) => {
+                self.confirm(is_refused(&reply), count, outs)?;
+                Ok(reply)
+            }
+            Err(left) => Err(PlaceFault::NoMemory(left)),
+        }
+    }
+
+    /// Nothing is written if nothing of what outlives a crash changed since the last commit.
+    fn deliver_one(
+        &mut self,
+        now: Moment,
+        listening: &Listening,
+        outs: &mut Outs,
+    ) -> Result<Option<Delivery>, PlaceFault> {
+        if let Some(count) = self.stopped {
+            return Err(PlaceFault::Stopped(count));
+        }
+        let count = outs.len();
+        match self.deliver(now, listening, outs) {
+            Ok(None) => Ok(None),
+            Ok(Some(delivery)) => {
+                self.confirm(false, count, outs)?;
+                Ok(Some(delivery))
+            }
+            Err(left) => Err(PlaceFault::NoMemory(left)),
+        }
+    }
+
+    fn flush(&mut self) -> Result<(), PlaceFault> {
+        if let Some(count) = self.stopped {
+            return Err(PlaceFault::Stopped(count));
+        }
+        match self.bring() {
+            Ok(()) => Ok(()),
+            Err(CommitFault::NoMemory) => Err(PlaceFault::NoMemory(Left::Nothing)),
+            Err(CommitFault::Fault) => Err(PlaceFault::StoreFault),
+            Err(CommitFault::Full) => Err(PlaceFault::Full),
+        }
+    }
+
+    fn law_kept(&self) {
+        // what holds of the place is what the proof takes from this field
+        let _ = &self.slot;
+    }
+
+    fn into_vol(self) -> V {
+        let VolumePlace {
+            alloc: _,
+            slot: _,
+            store: _,
+            vol,
+            waiting: _,
+            made: _,
+            stopped: _,
+        } = self;
+        vol
+    }
+
+    ghost holds_one = { only_held };
+
+    ghost holds_lasting = { all_lasts };
+
+    ghost opens_read = { opens_read V.told V.disk };
+
+    ghost refuses_read = { refuses_read V.told V.disk };
+
+    ghost bases = { λ place b. (λ is. is, λ is. is) };
+
+    ghost leaves = { λ place t image. (λ is. is, λ is. is) };
+
+    ghost earlier = { earlier_left V.told V.disk V.clocked };
+
+    ghost stands = { λ place. (refl, refl) };
+
+    ghost keeps_later = { keeps_later V.disk V.faults };
+
+    ghost keeps_none = { keeps_none V.disk V.faults };
+
+    ghost keeps_more = { keeps_more V.disk V.faults };
+}
