@@ -37,15 +37,15 @@ module _ {V : Type 0} (told : Type 0) (disk : V → Disk) (faults : V → ℕ) (
   reads_of sound goes image is = read place.stopped sound.on_disk goes image is
 
   module _ (clocked : IsClocked (disk place.vol)) where
+    lead_or_last : (b s : State) → b ≡ s → WaitsOn (durable_of s) place.waiting place.state ⊎ (s ≡ lasting place.state) → Leads b place.waiting (lasting place.state) ⊎ (b ≡ lasting place.state)
+    lead_or_last b s same (inl before) = inl (ap (λ (r : State). fold_all place.waiting (Some (durable_of r))) same ∙ leads_lasting s place.state place.waiting before)
+    lead_or_last b s same (inr after) = inr (same ∙ after)
+
     waits : (o : Option ℕ) → OnDisk o → Waits o (base told disk o place.vol) place.waiting place.state
-    waits None on_disk b is = leads_on (disk place.vol) place.store place.waiting place.state (on_disk is.0) b is.1
-    waits (Some count) on_disk b is =
+    waits None on_disk = λ b is. leads_on (disk place.vol) place.store place.waiting place.state (on_disk is.0) b is.1
+    waits (Some count) on_disk = λ b is.
         let one = on_disk is.is_left.0 is.image (clocked.only_now is.image is.is_left.1) in
-        go one.0 (only_held is.image b one.0 is.held one.1) one.2
-      where
-        go : (s : State) → b ≡ s → WaitsOn (durable_of s) place.waiting place.state ⊎ (s ≡ lasting place.state) → Leads b place.waiting (lasting place.state) ⊎ (b ≡ lasting place.state)
-        go s same (inl before) = inl (ap (λ (r : State). fold_all place.waiting (Some (durable_of r))) same ∙ leads_lasting s place.state place.waiting before)
-        go s same (inr after) = inr (same ∙ after)
+        lead_or_last b one.0 (only_held is.image b one.0 is.held one.1) one.2
 
     now : (o : Option ℕ) → OnDisk o → (image : Image) → left told disk place.vol (clock disk place.vol) image → (b : State) × holds image b × base told disk o place.vol b
     now None on_disk image is =
