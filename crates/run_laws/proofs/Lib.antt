@@ -1,3 +1,4 @@
 mod Runs
 mod Acked
 mod Outliving
+mod Unopened

@@ -1,5 +1,5 @@
 -- What a crash over a run may leave of its volumes.
-use Rattle.std.proofs.Common.{◌≡◌, ◌≤◌, ◌+◌, ℕ, zero, suc, List, [], ◌∷◌, ◌++◌, Option, None, Some, Result, Ok, Err, map, refl, sym, ap, subst, ◌∙◌}
+use Rattle.std.proofs.Common.{◌≡◌, ◌+◌, ℕ, zero, suc, List, [], ◌∷◌, Option, None, Some, Result, Ok, Err, map, refl, sym, ap, subst, ◌∙◌}
 use Rattle.std.specs.List.{AllZip}
 use Rattle.std.specs.Prelude.{slice_get}
 use Rattle.std.proofs.lemmas.List.{append-nil}
@@ -20,10 +20,8 @@ use Rattle.js_desk.specs.Closing as closing
 use Rattle.js_desk.specs.Closing.{End, first_failure}
 use Rattle.js_desk.specs.Grounds.{places_by}
 use Rattle.js_desk.specs.Opening as opening
-use Rattle.server.specs.declared.words.NamedStream.{NamedStream}
 use Rattle.server.specs.Attending.{run_entries}
-use Rattle.server.specs.Outside.{Outside}
-use Rattle.run_laws.specs.Crashes.{IsRun, LawRunOutlives, Outlives, PlaceOutlives}
+use Rattle.run_laws.specs.Crashes.{LawRunOutlives}
 
 -- ---- what stands at a place of a list
 

@@ -1,6 +1,6 @@
-//! The law of crashes, of a run from the beginning of its opening on.
+//! The laws of crashes, of a run from the beginning of its opening on.
 
-ghost use Rattle.run_laws.specs.Crashes.{LawRunOutlives};
+ghost use Rattle.run_laws.specs.Crashes.{LawRunOutlives, LawUnopenedHolds};
 
 use crash_laws::{law_opened, law_outlasting};
 use place_engine::Place;
@@ -14,3 +14,9 @@ pub fn law_run_outlives<P: Place>()
     law_outlasting::<P>();
     law_opened::<P>();
 }
+
+/// Of a run that ended before its places were opened, with status 4 or 5 or for want of memory: what each of its volumes held as the run began, each image of a
+/// crash since then still holds, so that it opens to what it would have opened to.
+pub fn law_unopened_holds<P: Place>()
+    ensures law { LawUnopenedHolds P.seen P.vol P.holds P.reads P.left P.clock P.faults P.base P.opens P.refuses P.keeps_vol }
+{}

@@ -5,5 +5,5 @@
 mod crashes;
 mod laws;
 
-pub use crashes::law_run_outlives;
+pub use crashes::{law_run_outlives, law_unopened_holds};
 pub use laws::law_run_acked;

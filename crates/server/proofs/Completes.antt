@@ -473,7 +473,7 @@ made_fault (faults.NoSession latest) status e n = e
 
 made_numbered : (opened : List PlaceIn) (stream : Option NamedStream) (result : Result (Option ApiError) DeskFault) (c0 c1 : Option (List ℕ)) (after : Scene)
     → Prepares opened stream result c0 c1 after → AreUntroubled after.world → NoWorn result
-made_numbered opened None result c0 c1 after h u = subst NoWorn (sym h.0) tt
+made_numbered _ None result c0 c1 after h u = subst NoWorn (sym h.0) tt
 made_numbered opened (Some stream) result c0 c1 after h u =
     makes_stream_keeps stream.name (default_config stream.name stream.subject) h.moment result h.entries h.makes (run_fit (opening opened) after h.entries h.led u)
 
@@ -484,7 +484,7 @@ not_welcome opened (Some stream) error c0 c1 after h w u = w error c0 c1 after h
 
 unmade : (opened : List PlaceIn) (stream : Option NamedStream) (result : Result (Option ApiError) DeskFault) (c0 c1 : Option (List ℕ)) (after : Scene) (status : ℕ) (old new : SinkTold)
     → Prepares opened stream result c0 c1 after → Unmakes result status old new → IsWelcome opened stream → AreUntroubled after.world → status ≡ 7
-unmade opened stream (Ok None) c0 c1 after status old new h m w u = absurd m
+unmade _ stream (Ok None) c0 c1 after status old new h m w u = absurd m
 unmade opened stream (Ok (Some error)) c0 c1 after status old new h m w u = absurd (not_welcome opened stream error c0 c1 after h w u)
 unmade opened stream (Err fault) c0 c1 after status old new h m w u = made_fault fault status m (made_numbered opened stream (Err fault) c0 c1 after h u)
 
@@ -517,7 +517,7 @@ settled served talked status (Some failed) P f e h = inr (e ∙ closed_with serv
 module _ {V : Type 0} (Opens : List V → Solo V → Type 0) (Refuses : List V → HubFault V → Type 0) (Made : Solo V → List DeskEntry → Solo V → Type 0) (Closes : Solo V → Closed V → Type 0) where
   pub complete : LawComplete Opens Refuses Made Closes
   complete stream status v0 v1 old new input ops may welcome valid calm (Starved h) untroubled = inr h.status_is
-  complete stream status v0 v1 old new input ops may welcome valid calm (Unopened h) untroubled = inr (h.status_is ∙ may h.fault h.refused)
+  complete stream status v0 v1 old new input ops may welcome valid calm (Unopened h) untroubled = inr (h.status_is ∙ may h.fault h.refused h.vols)
   complete stream status v0 v1 old new input ops may welcome valid calm (Attended h) untroubled =
       let attends = h.attended.attends in
       let opened = h.desk.scene.world.places in

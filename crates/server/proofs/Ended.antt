@@ -1,8 +1,7 @@
 -- Laws of the status of a run, and of what is printed with it.
-use Rattle.std.proofs.Common.{◌≡◌, ◌==◌, ◌&&◌, ℕ, Bool, true, false, List, Option, None, Some, arith, refl, sym, ◌∙◌, ap, subst}
+use Rattle.std.proofs.Common.{◌≡◌, ◌==◌, ◌&&◌, ℕ, Bool, true, false, List, Option, None, Some, arith, refl, sym, ◌∙◌, subst}
 use Rattle.std.specs.Prelude.{◌↔◌, IfSome, if◌then◌else◌}
 use Rattle.std.proofs.lemmas.Bool.{eqb-true}
-use Rattle.js_base.specs.Bytes.{Bytes}
 use Rattle.place_engine.specs.declared.faults.OpenFault.{OpenFault}
 use Rattle.place_engine.specs.declared.faults.OpenFault.TheVariants as opening
 use Rattle.place_engine.specs.declared.faults.PlaceFault.{PlaceFault}
@@ -14,14 +13,14 @@ use Rattle.js_desk.specs.declared.faults.HubFault.{HubFault}
 use Rattle.js_desk.specs.declared.faults.HubFault.TheVariants as hubs
 use Rattle.server.specs.declared.serving.Outcome.{Outcome}
 use Rattle.server.specs.declared.words.Command.{Command}
-use Rattle.server.specs.declared.words.Command.TheVariants.{Pipe}
 use Rattle.server.specs.declared.words.NamedStream.{NamedStream}
 use Rattle.server.specs.Attending.{IsAttendedOver}
 use Rattle.server.specs.Closing.{closing_line, closing_status, flush_status, status_with}
-use Rattle.server.specs.Ending.{CommandEnds, IsAttended, PipeEnds, Starved, Unopened, Attended}
+use Rattle.server.specs.Ending.{CommandEnds, PipeEnds, Starved, Unopened, Attended}
 use Rattle.server.specs.Lines.{disk_fault_line}
-use Rattle.server.specs.Outside.{Outside, SinkTold, Prints, PrintsLine}
+use Rattle.server.specs.Outside.{Outside, SinkTold, PrintsLine}
 use Rattle.server.specs.Refusing.{open_line, open_status, refused_line, refused_status}
+use Rattle.server.specs.Words.{stream_in}
 use Rattle.server.proofs.Ending.{attends_worded, unserved_refused}
 
 -- ---- of volumes that were not opened
@@ -119,13 +118,13 @@ closing_silent talked (Some failed) old new t h = rw t at h
 
 -- ---- the whole
 
-module _ {V : Type 0} (Opens : List V → Solo V → Type 0) (Refuses : List V → HubFault V → Type 0) (Made : Solo V → List DeskEntry → Solo V → Type 0) (Closes : Solo V → Closed V → Type 0) where
-  -- unless the stream was refused, and that gave the status, it was not refused
-  pub attended_unrefused : (desk after : Solo V) (stream : Option NamedStream) (outcome : Outcome) (old new : Outside) (failed : Option (ℕ × PlaceFault))
-      → IsAttendedOver Made desk after stream outcome old new → (closing_status outcome.served outcome.status failed ≡ 11 → ⊥) → outcome.status ≡ 11 → ⊥
-  attended_unrefused desk after stream outcome old new failed h not e =
-      not (closing_refused outcome.served outcome.status failed (h.served_is ∙ unserved_refused desk.scene.world.places stream after.scene outcome.status old new h.attends e) e)
+-- unless the stream was refused, and that gave the status, it was not refused
+pub attended_unrefused : {V : Type 0} (Made : Solo V → List DeskEntry → Solo V → Type 0) (desk after : Solo V) (stream : Option NamedStream) (outcome : Outcome) (old new : Outside) (failed : Option (ℕ × PlaceFault))
+    → IsAttendedOver Made desk after stream outcome old new → (closing_status outcome.served outcome.status failed ≡ 11 → ⊥) → outcome.status ≡ 11 → ⊥
+attended_unrefused Made desk after stream outcome old new failed h not e =
+    not (closing_refused outcome.served outcome.status failed (h.served_is ∙ unserved_refused desk.scene.world.places stream after.scene outcome.status old new h.attends e) e)
 
+module _ {V : Type 0} (Opens : List V → Solo V → Type 0) (Refuses : List V → HubFault V → Type 0) (Made : Solo V → List DeskEntry → Solo V → Type 0) (Closes : Solo V → Closed V → Type 0) where
   -- no run of `pipe` ends with the status of another command line
   pipe_worded : (stream : Option NamedStream) (status : ℕ) (v0 v1 : List V) (old new : Outside) → PipeEnds Opens Refuses Made Closes stream status v0 v1 old new → status ≡ 2 → ⊥
   pipe_worded stream status v0 v1 old new (Starved h) e = omega (arith, h.status_is, e)
@@ -134,19 +133,18 @@ module _ {V : Type 0} (Opens : List V → Solo V → Type 0) (Refuses : List V �
       closing_other h.outcome.served h.outcome.status h.closed.failed
       (attends_worded h.desk.scene.world.places stream h.after.scene h.outcome.status old (record new { sink = h.sink }) h.attended.attends) (sym h.status_is ∙ e)
 
-  module _ (v0 v1 : List V) (read : Option Command) (dir : Option Bytes) (stream : Option NamedStream) (is : read ≡ Some (Pipe dir stream)) where
+  module _ (v0 v1 : List V) (read : Option Command) (command : Command) (stream : Option NamedStream) (is : read ≡ Some command) (streamed : stream ≡ stream_in command) where
     -- the status is not that of another command line
     pub words_kept : (status : ℕ) (old new : Outside) → PipeEnds Opens Refuses Made Closes stream status v0 v1 old new → (status ≡ 2) ↔ (read ≡ None)
     words_kept status old new h = (λ two. absurd (pipe_worded stream status v0 v1 old new h two), λ none. cc)
 
     -- the command was run
     pub ends_kept : (status : ℕ) (old new : Outside) → PipeEnds Opens Refuses Made Closes stream status v0 v1 old new → IfSome read (λ command. CommandEnds Opens Refuses Made Closes command status v0 v1 old new)
-    ends_kept status old new h = subst (λ (o : Option Command). IfSome o (λ command. CommandEnds Opens Refuses Made Closes command status v0 v1 old new)) (sym is) h
-
-  command_starved : (vols : List V) (command : Command) (outside : Outside) → CommandEnds Opens Refuses Made Closes command 7 vols vols outside outside
-  command_starved vols (Pipe dir stream) outside = Starved (record { status_is = refl; vols = refl; outside = refl })
+    ends_kept status old new h =
+        let run : CommandEnds Opens Refuses Made Closes command status v0 v1 old new = subst (λ (s : Option NamedStream). PipeEnds Opens Refuses Made Closes s status v0 v1 old new) streamed h in
+        subst (λ (o : Option Command). IfSome o (λ c. CommandEnds Opens Refuses Made Closes c status v0 v1 old new)) (sym is) run
 
   -- nothing was run: out of memory
   pub ends_starved : (vols : List V) (read : Option Command) (outside : Outside) → IfSome read (λ command. CommandEnds Opens Refuses Made Closes command 7 vols vols outside outside)
   ends_starved vols None outside = tt
-  ends_starved vols (Some command) outside = command_starved vols command outside
+  ends_starved vols (Some command) outside = Starved (record { status_is = refl; vols = refl; outside = refl })

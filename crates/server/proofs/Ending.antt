@@ -26,9 +26,10 @@ use Rattle.session.specs.declared.ending.Limits.{Limits}
 use Rattle.session.specs.declared.ending.Ended.{Ended}
 use Rattle.session.specs.declared.ending.Ended.TheVariants as ends
 use Rattle.server.specs.declared.words.NamedStream.{NamedStream}
-use Rattle.server.specs.Outside.{DoorTold, SinkTold, Outside}
+use Rattle.server.specs.Lines.{number_line}
+use Rattle.server.specs.Outside.{DoorTold, SinkTold, Outside, Prints}
 use Rattle.server.specs.Accepting.{IsAccepted, IsQuiet, NoneStarves, OneStarves}
-use Rattle.server.specs.Running.{IsUnserved, WasClosed, HasFailed, WasQuiet, HasStarved, WasUnasked, IsGivenBack, Waits, Unmakes, Attends, Unmade, Awaited, IsUnmade, is_session, pipe_limits, status_of}
+use Rattle.server.specs.Running.{IsUnserved, WasClosed, HasFailed, WasQuiet, HasStarved, WasUnasked, Waits, Unmakes, Attends, Unmade, Awaited, IsUnmade, is_session, pipe_limits, status_of}
 use Rattle.server.specs.Attending.{IsPrepared, IsServedOver, IsAwaitedOver, IsAttendedOver}
 use Rattle.server.specs.declared.serving.Outcome.{Outcome}
 use Rattle.server.proofs.Arriving.{told_whole}
@@ -236,3 +237,10 @@ module _ {V : Type 0} (Made : Solo V → List DeskEntry → Solo V → Type 0) (
         served_is = refl;
         made = p.made;
       })
+
+  -- the stream was refused, and the number of the error was printed
+  pub refused_over : (refused : Option ApiError) (error : ApiError) (new : Solo V) (outcome : Outcome) (c0 c1 : Option (List ℕ)) (d : DoorTold) (s0 s1 : SinkTold)
+      → refused ≡ Some error → outcome ≡ record { status = 11; served = false } → IsPrepared Made desk new stream (Ok refused) c0 c1 → Prints (number_line error.err_code) s0 s1
+      → IsAttendedOver Made desk new stream outcome (record { door = d; clock = c0; sink = s0 }) (record { door = d; clock = c1; sink = s1 })
+  refused_over refused error new outcome c0 c1 d s0 s1 is e p printed =
+      unmade_over (Ok (Some error)) new 11 outcome c0 c1 d s0 s1 e (subst (λ (o : Option ApiError). IsPrepared Made desk new stream (Ok o) c0 c1) is p) (refl, printed)

@@ -1,5 +1,5 @@
 -- Laws of the volumes that come back.
-use Rattle.std.proofs.Common.{◌≡◌, ℕ, List, [], ◌∷◌, ◌++◌, Option, Some, None, Result, Ok, Err, map, inl, inr, sym, subst}
+use Rattle.std.proofs.Common.{ℕ, List, [], ◌∷◌, Option, Some, None, Result, Ok, Err, map, sym, subst}
 use Rattle.std.specs.List.{AllZip}
 use Rattle.js_model.specs.declared.stream.State.{State}
 use Rattle.place_engine.specs.declared.faults.OpenFault.{OpenFault}
@@ -9,11 +9,9 @@ use Rattle.js_desk.specs.Closing as closing
 use Rattle.js_desk.specs.Closing.{End}
 use Rattle.js_desk.specs.Kept.{kept_more, kept_none}
 use Rattle.js_desk.specs.Opening as opening
-use Rattle.js_desk.specs.declared.faults.HubFault.{HubFault}
-use Rattle.js_desk.specs.declared.faults.HubFault.TheVariants as hubs
 use Rattle.server.specs.Ending.{Starved, Unopened, Attended}
 use Rattle.server.specs.Keeping.{LawKept}
-use Rattle.server.specs.Refusing.{vols_of}
+use Rattle.server.proofs.Rows.{opened_row, unopened_row}
 
 module _ {P V : Type 0} (seen : P → Seen) (vol : P → V) (holds : Image → State → Type 0) (reads : V → Image → Type 0) (left : V → ℕ → Image → Type 0) (clock faults : V → ℕ)
     (base : Option ℕ → V → State → Type 0) (opens : V → State → Type 0) (refuses : V → OpenFault → Type 0) (keeps : V → V → Type 0)
@@ -21,39 +19,13 @@ module _ {P V : Type 0} (seen : P → Seen) (vol : P → V) (holds : Image → S
   abbrev OpensOn : V → P → Type 0
   OpensOn = opening.OpensOn seen vol holds reads left clock faults base opens refuses keeps
 
-  abbrev FailsToOpen : List V → HubFault V → Type 0
-  FailsToOpen = opening.FailsToOpen seen vol holds reads left clock faults base opens refuses keeps
-
   abbrev EndsSo : P → Option (Result (Unit {0}) PlaceFault) → V → Type 0
   EndsSo = closing.EndsSo seen vol holds reads left clock base keeps
 
   abbrev EndsAt : P → End V → Type 0
   EndsAt = closing.EndsAt seen vol holds reads left clock base keeps
 
-  kept_row : (vols : List V) (row : List P) → AllZip OpensOn vols row → AllZip keeps vols (map vol row)
-  kept_row [] [] h = tt
-  kept_row [] (p ∷ row) h = absurd h
-  kept_row (v ∷ vols) [] h = absurd h
-  kept_row (v ∷ vols) (p ∷ row) h = (h.0.volume, kept_row vols row h.1)
-
-  kept_behind : (xs ys : List V) (a b : V) (rest : List V) → AllZip keeps xs ys → keeps a b → AllZip keeps (xs ++ a ∷ rest) (ys ++ b ∷ rest)
-  kept_behind [] [] a b rest h k = (k, kept_none keeps none rest)
-  kept_behind [] (y ∷ ys) a b rest h k = absurd h
-  kept_behind (x ∷ xs) [] a b rest h k = absurd h
-  kept_behind (x ∷ xs) (y ∷ ys) a b rest h k = (h.0, kept_behind xs ys a b rest h.1 k)
-
-  -- of volumes that were not opened
-  kept_unopened : (before : List V) (fault : HubFault V) → FailsToOpen before fault → AllZip keeps before (vols_of fault)
-  kept_unopened before (hubs.Open place fault back) h =
-      subst (λ (vs : List V). AllZip keeps vs back.items) (sym h.before_are)
-      (subst (λ (vs : List V). AllZip keeps (h.first ++ h.at ∷ h.more) vs) (sym h.after_are)
-      (kept_behind h.first (map vol h.row) h.at h.left_of h.more (kept_row h.first h.row h.opened) h.refused.volume))
-  kept_unopened before (hubs.Conflict first second back) h =
-      subst (λ (vs : List V). AllZip keeps before vs) (sym h.lets_go.after_are) (kept_row before h.row h.lets_go.opened)
-  kept_unopened before (hubs.NoMemory back) (inl e) = subst (λ (vs : List V). AllZip keeps before vs) (sym e) (kept_none keeps none before)
-  kept_unopened before (hubs.NoMemory back) (inr h) = subst (λ (vs : List V). AllZip keeps before vs) (sym h.1.after_are) (kept_row before h.0 h.1.opened)
-
-  kept_end : (p : P) (told : Option (Result (Unit {0}) PlaceFault)) (end : V) → EndsSo p told end → keeps (vol p) end
+  pub kept_end : (p : P) (told : Option (Result (Unit {0}) PlaceFault)) (end : V) → EndsSo p told end → keeps (vol p) end
   kept_end p None end h = subst (λ (v : V). keeps (vol p) v) (sym h.1) (none (vol p))
   kept_end p (Some (Ok done)) end h = subst (λ (v : V). keeps (vol p) v) (sym h.0.2) h.0.1.volume
   kept_end p (Some (Err fault)) end h = subst (λ (v : V). keeps (vol p) v) (sym h.2) h.1.volume
@@ -66,11 +38,11 @@ module _ {P V : Type 0} (seen : P → Seen) (vol : P → V) (holds : Image → S
 
   pub kept : LawKept seen vol holds reads left clock faults base opens refuses keeps
   kept stream status v0 v1 old new (Starved h) = subst (λ (vs : List V). AllZip keeps v0 vs) (sym h.vols) (kept_none keeps none v0)
-  kept stream status v0 v1 old new (Unopened h) = subst (λ (vs : List V). AllZip keeps v0 vs) (sym h.vols) (kept_unopened v0 h.fault h.refused)
+  kept stream status v0 v1 old new (Unopened h) = subst (λ (vs : List V). AllZip keeps v0 vs) (sym h.vols) (unopened_row seen vol holds reads left clock faults base opens refuses keeps keeps none (λ v p o. o.volume) (λ v w fault r. r.volume) v0 h.fault h.refused)
   kept stream status v0 v1 old new (Attended h) =
       let o = h.opens in
       let c = h.closes in
-      let opened : AllZip keeps v0 h.desk.vols = subst (λ (vs : List V). AllZip keeps v0 vs) (sym o.vols) (kept_row v0 o.row o.opened) in
+      let opened : AllZip keeps v0 h.desk.vols = subst (λ (vs : List V). AllZip keeps v0 vs) (sym o.vols) (opened_row seen vol holds reads left clock faults base opens refuses keeps keeps (λ v p o. o.volume) v0 o.row o.opened) in
       let ended : AllZip keeps h.after.vols h.closed.vols.items =
       subst (λ (vs : List V). AllZip keeps vs h.closed.vols.items) c.before
       (subst (λ (vs : List V). AllZip keeps (map vol c.row) vs) (sym c.closes.after) (kept_ends c.row c.closes.ends c.closes.ended))

@@ -14,5 +14,8 @@ pub mod Made
 pub mod Prepared
 pub mod Placeless
 pub mod Completes
+pub mod Rows
 pub mod Keeping
+pub mod Readable
+pub mod Unfailed
 pub mod Memory

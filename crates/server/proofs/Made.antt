@@ -1,13 +1,13 @@
 -- What entries make of a desk: of none, and of some behind others.
-use Rattle.std.proofs.Common.{◌≡◌, ◌≤◌, ℕ, List, [], ◌++◌, Option}
+use Rattle.std.proofs.Common.{◌≤◌, ℕ, List, [], ◌++◌, Option}
 use Rattle.js_model.specs.declared.stream.State.{State}
 use Rattle.place_engine.specs.Stepping.{Image}
 use Rattle.js_api.specs.Entries.{DeskEntry}
 use Rattle.js_api.specs.Leading.{leads_more, leads_nothing}
 use Rattle.js_api.specs.Worlds.{SoloStep}
 use Rattle.js_desk.specs.Kept.{kept_more, kept_none}
+use Rattle.js_desk.specs.Outlasting.{outlast_more, outlast_none}
 use Rattle.js_desk.specs.Solo.{DeskMade, Solo, row_in}
-use Rattle.js_desk.proofs.Lasting.{outlast_more, outlast_none}
 
 module _ {V : Type 0} (keeps : V → V → Type 0) (holds : Image → State → Type 0) (left : V → ℕ → Image → Type 0) (clock : V → ℕ) (base : Option ℕ → V → State → Type 0) where
   pub made_none : ((v : V) → keeps v v) → ((v : V) (t u : ℕ) (image : Image) → t ≤ u → left v u image → left v t image) → (desk : Solo V) → DeskMade keeps holds left clock base desk [] desk

@@ -1,5 +1,5 @@
 -- Laws of runs over places in memory.
-use Rattle.std.proofs.Common.{◌≡◌, ◌<◌, ◌-◌, ◌^◌, ◌+◌, ℕ, zero, suc, true, List, [], ◌∷◌, Option, Some, None, Result, Ok, Err, length, map, replicate, refl, ap, sym, subst, ◌∙◌, arith}
+use Rattle.std.proofs.Common.{◌≡◌, ◌+◌, ℕ, zero, suc, true, List, [], ◌∷◌, Option, Some, None, Result, Ok, Err, length, map, replicate, refl, ap, sym, subst, ◌∙◌, arith}
 use Rattle.std.specs.List.{All, AllZip}
 use Rattle.std.proofs.lemmas.List.Elements.{All-cons, All-nil, same_from_all_zip}
 use Rattle.js_base.specs.Bytes.{Bytes}
@@ -15,14 +15,13 @@ use Rattle.js_desk.specs.Grounds.{places_by}
 use Rattle.js_desk.specs.Opening as opening
 use Rattle.js_desk.specs.Solo.{Solo}
 use Rattle.js_desk.specs.declared.faults.Closed.{Closed}
-use Rattle.js_desk.specs.declared.faults.HubFault.{HubFault}
 use Rattle.js_desk.specs.declared.faults.HubFault.TheVariants as hubs
 use Rattle.js_api.specs.Worlds.{Scene, kept_in}
 use Rattle.server.specs.declared.words.NamedStream.{NamedStream}
 use Rattle.server.specs.Closing.{flush_status}
 use Rattle.server.specs.Refusing.{open_status}
 use Rattle.server.specs.Ending.{Starved, Unopened, Attended}
-use Rattle.server.specs.Laws.{AreUntroubled, HasPlace, IsFlushed, IsUntroubled, IsWelcome}
+use Rattle.server.specs.Laws.{AreUntroubled, IsFlushed, IsUntroubled, IsWelcome}
 use Rattle.server.specs.Lines.{number_line}
 use Rattle.server.specs.Memory.{IsPlaceless, LawMayOpen, LawPlaceless, LawUnchanged, LawUntroubled, LawWelcoming, Keeps, Leaves, Opens, place_of, volume_of}
 use Rattle.server.specs.Outside.{Outside, SinkTold, Prints}
@@ -66,11 +65,11 @@ no_conflict count first second h =
     let clash : conflicts None other ≡ true = subst (λ (one : Option (Bytes × List Bytes)). conflicts one other ≡ true) (kept_nothing count first) h in cc
 
 pub may_open : {V : Type 0} → LawMayOpen V
-may_open vols (hubs.Open place fault back) h = ap open_status h.refused.refused
-may_open vols (hubs.Conflict first second back) h =
+may_open vols after (hubs.Open place _ back) h e = ap open_status h.refused.refused
+may_open vols after (hubs.Conflict first second back) h e =
     absurd (no_conflict (length vols) first second
     (subst (λ (ps : List PlaceIn). conflict_at (map kept_in ps) first second ≡ true) (opened_vacant vols h.row h.lets_go.opened) h.conflict.is_behind.conflict))
-may_open vols (hubs.NoMemory back) h = refl
+may_open vols after (hubs.NoMemory back) h e = refl
 
 -- ---- what is left at the closing
 
@@ -131,7 +130,7 @@ placeless_over vols desk after stream status old new opens attends eleven u =
 
 pub placeless : {V : Type 0} → LawPlaceless V
 placeless stream v0 v1 old new (Starved h) = absurd (omega (arith, h.status_is))
-placeless stream v0 v1 old new (Unopened h) = absurd (omega (arith, h.status_is, may_open v0 h.fault h.refused))
+placeless stream v0 v1 old new (Unopened h) = absurd (omega (arith, h.status_is, may_open v0 v1 h.fault h.refused h.vols))
 placeless stream v0 v1 old new (Attended h) =
     let eleven : h.outcome.status ≡ 11 = refused_closing h.outcome.served h.outcome.status h.closed.failed (sym h.status_is) in
     let k = placeless_over v0 h.desk h.after stream h.outcome.status old (record new { sink = h.sink }) h.opens h.attended.attends eleven (places_untroubled h.after h.closed h.closes) in

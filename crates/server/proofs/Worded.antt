@@ -1,5 +1,5 @@
 -- Laws of the command line.
-use Rattle.std.proofs.Common.{◌≡◌, Bool, true, false, ◌&&◌, List, [], ◌∷◌, Option, None, Some, Result, Ok, Err, codes, option_map, refl, subst}
+use Rattle.std.proofs.Common.{◌≡◌, Bool, true, false, ◌&&◌, List, [], ◌∷◌, Option, None, Some, Result, Ok, Err, codes, option_map, refl, sym, subst}
 use Rattle.std.specs.Prelude.{IsTrue, IfSome, if◌then◌else◌}
 use Rattle.js_base.specs.Bytes.{Bytes, same}
 use Rattle.js_base.specs.Names.{name_of}
@@ -9,13 +9,13 @@ use Rattle.server.specs.Settings.{Setting, settings_of, are_settings, value_of, 
 use Rattle.server.specs.declared.words.NamedStream.{NamedStream}
 use Rattle.server.specs.declared.words.Command.{Command}
 use Rattle.server.specs.declared.words.Command.TheVariants.{Pipe}
-use Rattle.server.specs.Words.{named, named_stream, stream_of, pipe_with, command_of}
+use Rattle.server.specs.Words.{named, named_stream, stream_of, stream_in, pipe_with, command_of}
 
-abbrev IsFine : Bytes → Type 0
+abbrev pub IsFine : Bytes → Type 0
 IsFine subject = IsTrue (is_stream_subject subject)
 
 -- the subject of the stream, if there is one, may be that of a stream
-abbrev AreFine : Option NamedStream → Type 0
+abbrev pub AreFine : Option NamedStream → Type 0
 AreFine stream = IfSome stream (λ s. IsFine s.subject)
 
 of_named : (subject : Bytes) (read : Result Bytes NameFault) → IsFine subject → AreFine (named subject read)
@@ -45,7 +45,7 @@ of_stream (Some name) (Some subject) = read_of (named_stream name subject) (of_n
 
 -- the subject of a command's stream may be one
 abbrev pub HasSubject : Command → Type 0
-HasSubject (Pipe dir stream) = AreFine stream
+HasSubject command = AreFine (stream_in command)
 
 over_stream : (dir : Option Bytes) (read : Option (Option NamedStream)) → IsRead read → IfSome (option_map (Pipe dir) read) HasSubject
 over_stream dir None fine = tt
@@ -62,5 +62,9 @@ of_words (word ∷ words) = by (same word (codes "pipe") && are_settings (settin
     by true = with_settings (settings_of words)
     by false = tt
 
-pub command_subject : (words : List Bytes) (command : Command) → command_of words ≡ Some command → HasSubject command
+command_subject : (words : List Bytes) (command : Command) → command_of words ≡ Some command → HasSubject command
 command_subject words command e = let k : IfSome (Some command) HasSubject = rw e at (of_words words) in k
+
+-- so may that of the stream that is taken out of it
+pub named_subject : (words : List Bytes) (command : Command) (stream : Option NamedStream) → command_of words ≡ Some command → stream ≡ stream_in command → AreFine stream
+named_subject words command stream e taken = subst AreFine (sym taken) (command_subject words command e)

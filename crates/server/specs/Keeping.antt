@@ -4,11 +4,8 @@ use Rattle.std.specs.List.{AllZip}
 use Rattle.js_model.specs.declared.stream.State.{State}
 use Rattle.place_engine.specs.declared.faults.OpenFault.{OpenFault}
 use Rattle.place_engine.specs.Stepping.{Image, Seen}
-use Rattle.js_desk.specs.Closing.{Closes}
-use Rattle.js_desk.specs.Opening.{FailsToOpen, OpensDesk}
-use Rattle.js_desk.specs.Solo.{DeskMade}
 use Rattle.server.specs.declared.words.NamedStream.{NamedStream}
-use Rattle.server.specs.Ending.{PipeEnds}
+use Rattle.server.specs.Kinds.{Ends}
 use Rattle.server.specs.Outside.{Outside}
 
 -- Of a kind of place: what contracts see of it, its volume, which state an image holds, what reads of a volume give and what a crash may have left of it, its
@@ -18,10 +15,5 @@ module _ {P V : Type 0} (seen : P → Seen) (vol : P → V) (holds : Image → S
   -- each volume comes back in its place, as the calls of its place may have left it
   abbrev pub LawKept : Type 0
   LawKept = (stream : Option NamedStream) (status : ℕ) (vols_old vols_new : List V) (old new : Outside)
-      → PipeEnds
-      (OpensDesk seen vol holds reads left clock faults base opens refuses keeps)
-      (FailsToOpen seen vol holds reads left clock faults base opens refuses keeps)
-      (DeskMade keeps holds left clock base)
-      (λ desk closed. Closes seen vol holds reads left clock base keeps desk.vols desk.scene.world.places closed)
-      stream status vols_old vols_new old new
+      → Ends seen vol holds reads left clock faults base opens refuses keeps stream status vols_old vols_new old new
       → AllZip keeps vols_old vols_new

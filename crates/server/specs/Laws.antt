@@ -28,7 +28,7 @@ use Rattle.server.specs.Accepting.{IsQuiet}
 use Rattle.server.specs.Preparing.{IsMaking}
 use Rattle.server.specs.Running.{Waits, Attends, Unmade, Awaited, pipe_limits}
 use Rattle.server.specs.Closing.{flush_status}
-use Rattle.server.specs.Refusing.{refused_status}
+use Rattle.server.specs.Refusing.{refused_status, vols_of}
 use Rattle.server.specs.Ending.{IsAttended, PipeEnds, Starved, Unopened, Attended}
 
 -- ---- what the client sends
@@ -170,9 +170,9 @@ AreAnsweredOver ops (Awaited awaited) = AreAnsweredAt ops awaited.waits
 
 -- Of places of one kind, and the desks over them, as in `PipeEnds`:
 module _ {V : Type 0} (Opens : List V → Solo V → Type 0) (Refuses : List V → HubFault V → Type 0) (Made : Solo V → List DeskEntry → Solo V → Type 0) (Closes : Solo V → Closed V → Type 0) where
-  -- only want of memory can keep a desk from being opened on the volumes
-  abbrev pub MayOpen : List V → Type 0
-  MayOpen vols = (fault : HubFault V) → Refuses vols fault → refused_status fault ≡ 7
+  -- only want of memory can keep a desk from being opened on the volumes, if these come back
+  abbrev pub MayOpen : List V → List V → Type 0
+  MayOpen vols_old vols_new = (fault : HubFault V) → Refuses vols_old fault → vols_new ≡ vols_of fault → refused_status fault ≡ 7
 
   -- whatever places are opened on the volumes, they do not refuse the stream
   abbrev pub AreWelcoming : List V → Option NamedStream → Type 0
@@ -200,7 +200,7 @@ module _ {V : Type 0} (Opens : List V → Solo V → Type 0) (Refuses : List V �
   -- 0, and a link that was given out was answered each of them; or memory ran out.
   abbrev pub LawComplete : Type 0
   LawComplete = (stream : Option NamedStream) (status : ℕ) (vols_old vols_new : List V) (old new : Outside) (input : Bytes) (ops : List Op)
-      → MayOpen vols_old → AreWelcoming vols_old stream → IsValid input ops → IsCalm input stream status vols_old vols_new old new
+      → MayOpen vols_old vols_new → AreWelcoming vols_old stream → IsValid input ops → IsCalm input stream status vols_old vols_new old new
       → (run : PipeEnds Opens Refuses Made Closes stream status vols_old vols_new old new) → LeavesUntroubled run → ((status ≡ 0) × AreAnswered ops run) ⊎ (status ≡ 7)
 
 -- places that never had a stream refuse none, if there is one

@@ -10,5 +10,8 @@ pub mod Refusing
 pub mod Closing
 pub mod Ending
 pub mod Laws
+pub mod Kinds
 pub mod Keeping
+pub mod Readable
+pub mod Unfailed
 pub mod Memory

@@ -44,7 +44,7 @@ module _ {V : Type 0} where
 
 -- only want of memory keeps a desk from being opened
 abbrev pub LawMayOpen : Type 0 → Type 0
-LawMayOpen V = (vols : List V) → MayOpen Opens Refuses Made Leaves vols
+LawMayOpen V = (vols_old vols_new : List V) → MayOpen Opens Refuses Made Leaves vols_old vols_new
 
 -- a stream is welcome if there is a volume
 abbrev pub LawWelcoming : Type 0 → Type 0

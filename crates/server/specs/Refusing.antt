@@ -33,6 +33,6 @@ module _ {V : Type 0} where
 
   -- the volumes that come back
   abbrev pub vols_of : HubFault V → List V
-  vols_of (hubs.Open place fault vols) = vols.items
+  vols_of (hubs.Open place _ vols) = vols.items
   vols_of (hubs.Conflict first second vols) = vols.items
   vols_of (hubs.NoMemory vols) = vols.items

@@ -32,6 +32,10 @@ stream_of None (Some subject) = None
 stream_of (Some name) None = None
 stream_of (Some name) (Some subject) = option_map Some (named_stream name subject)
 
+-- the stream that a command names
+abbrev pub stream_in : Command → Option NamedStream
+stream_in (Pipe dir stream) = stream
+
 -- `pipe` with these settings
 abbrev pub pipe_with : List Setting → Option Command
 pipe_with settings = option_map (Pipe (value_of dir_option settings)) (stream_of (value_of stream_option settings) (value_of subject_option settings))

@@ -17,7 +17,7 @@ use crate::preparing::prepare;
 use crate::printing::{print_number, print_words};
 use crate::refusing::refuse;
 use crate::serving::{Outcome, serve_first, status_of};
-use crate::words::{Command, NamedStream, WordsFault, read_words};
+use crate::words::{NamedStream, WordsFault, read_words};
 use js_desk::{Closed, SoloDesk};
 use link_edge::{Clock, Door, Gate, Sink};
 use place_engine::Place;
@@ -159,7 +159,8 @@ pub fn run<P: Place, R: Door, C: Clock, G: Gate, O: Sink>(
     ensures unprinted { result.status ≢ 2 → result.status ≢ 4 → result.status ≢ 5 → result.status ≢ 11 → O.written out.new ≡ O.written out.old }
 {
     match read_words(alloc, words) {
-        Ok(Command::Pipe { dir: _dir, stream }) => {
+        Ok(command) => {
+            let stream = command.into_stream();
             let mut door = door;
             let (status, vols) = pipe::<P, R, C, O>(alloc, &stream, &mut door, vols, clock, out);
             Finish { status, door, vols }

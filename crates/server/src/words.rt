@@ -2,7 +2,7 @@
 
 ghost use Rattle.std.specs.Prelude.{◌≡◌, None, MatchOption, option_map};
 ghost use Rattle.server.specs.Settings.{settings_of};
-ghost use Rattle.server.specs.Words.{texts, named_stream, stream_of, pipe_with, command_of, Reads};
+ghost use Rattle.server.specs.Words.{texts, named_stream, stream_of, stream_in, pipe_with, command_of, Reads};
 
 use crate::settings::{DIR, STREAM, SUBJECT, are_settings, value_of};
 use js_base::{Blob, Name, NameFault};
@@ -50,6 +50,17 @@ pub enum Command {
         dir: Option<FolderPath>,
         stream: Option<NamedStream>,
     },
+}
+
+impl Command {
+    /// The stream that is made before, if one is named.
+    pub(crate) fn into_stream(self) -> Option<NamedStream>
+        ensures value { result ≡ stream_in self }
+    {
+        match self {
+            Command::Pipe { dir: _dir, stream } => stream,
+        }
+    }
 }
 
 /// Why the command line is not a command.

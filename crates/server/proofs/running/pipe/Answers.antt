@@ -1,5 +1,7 @@
-use Rattle.std.proofs.Common.{refl}
+use Rattle.std.proofs.Common.{◌∙◌, ap, refl}
 use Rattle.server.specs.Ending.{Attended, Unopened}
+use Rattle.server.specs.Outside.{SinkTold}
+use Rattle.server.proofs.Ended.{attended_unrefused, closing_unprinted, refused_unprinted}
 use Rattle.server.proofs.running.pipe.Goals as goal
 
 pub returns-in-Ok-clause-ends : goal.returns-in-Ok-clause-ends
@@ -27,3 +29,16 @@ returns-in-Err-clause-ends g c = Unopened (record {
   unread = refl;
   door = refl;
 })
+
+pub returns-in-Ok-clause-unprinted : goal.returns-in-Ok-clause-unprinted
+returns-in-Ok-clause-unprinted g c = λ four five eleven.
+    let outcome = c.attend-outcome.result in
+    let failed = c.close_all-vols.result.failed in
+    let closing = c.settle.ensures in
+    ap (λ (sink : SinkTold). sink.written) (closing_unprinted outcome.served outcome.status failed _ _ closing.printed (λ e. four (closing.status ∙ e)))
+    ∙ c.attend-outcome.ensures.unprinted (attended_unrefused _ _ _ _ outcome _ _ failed c.attend-outcome.ensures.attended (λ e. eleven (closing.status ∙ e)))
+
+pub returns-in-Err-clause-unprinted : goal.returns-in-Err-clause-unprinted
+returns-in-Err-clause-unprinted g c = λ four five eleven.
+    let refused = c.refuse.ensures in
+    ap (λ (sink : SinkTold). sink.written) (refused_unprinted c.in-Err.fault _ _ refused.printed (λ e. four (refused.status ∙ e)) (λ e. five (refused.status ∙ e)))
