@@ -1,5 +1,5 @@
 -- What a crash may leave of entries at a place, told of what is seen of the place, is told of its volume.
-use Rattle.std.proofs.Common.{◌≡◌, ◌⊎◌, ⊎_elim, inl, inr, ℕ, ◌<◌, ◌≤◌, ◌++◌, List, [], ◌∷◌, Option, refl, sym, ap, subst, ◌∙◌, arith}
+use Rattle.std.proofs.Common.{◌≡◌, ⊎_elim, inl, inr, ℕ, ◌<◌, ◌≤◌, ◌++◌, List, [], ◌∷◌, Option, refl, sym, ap, subst, ◌∙◌, arith}
 use Rattle.std.specs.Prelude.{◌↔◌}
 use Rattle.js_model.specs.declared.stream.State.{State}
 use Rattle.js_model.specs.declared.entry.PlaceEntry.{PlaceEntry}
@@ -7,7 +7,7 @@ use Rattle.place_engine.specs.Opening.{AllHold}
 use Rattle.place_engine.specs.Stepping.{Image, IsKept, Seen}
 use Rattle.crash_laws.specs.Timed.{Timed}
 use Rattle.crash_laws.specs.Beginnings.{Beginning, Chain, Ever, IsLeftOf}
-use Rattle.crash_laws.specs.Outlasting.{AreBetween, HasBases, Lasted, Outlasts}
+use Rattle.crash_laws.specs.Outlasting.{AreBetween, HasBases, Outlasts}
 use Rattle.crash_laws.proofs.Timed.{entries_of}
 use Rattle.desk_hold.specs.Crashes as seen_so
 
@@ -86,7 +86,6 @@ module _ {P V : Type 0} (seen : P → Seen) (vol : P → V) (holds : Image → S
     (bases : (p : P) (b : State) → (seen p).is_base b ↔ base (seen p).place.stopped (vol p) b)
     (leaves : (p : P) (t : ℕ) (image : Image) → (seen p).left_since t image ↔ left (vol p) t image)
     (stands : (p : P) → ((seen p).place.volume.moment ≡ clock (vol p)) × ((seen p).place.volume.faults ≡ faults (vol p))) where
-
   -- a crash now may leave an image of a base alone
   pub has_bases : (p : P) → IsKept holds (seen p) → HasBases holds left clock (base (seen p).place.stopped (vol p)) (vol p)
   has_bases p kept image is_left =
@@ -106,7 +105,6 @@ module _ {P V : Type 0} (seen : P → Seen) (vol : P → V) (holds : Image → S
       (between : AreBetween (seen p).place.volume.moment (seen q).place.volume.moment timed)
       (early : (t : ℕ) → AreFine (IsEarly t) (λ by. t < by) timed)
       (h : seen_so.Outlasts holds IsEarly (entries_of timed) (seen p) (seen q)) where
-
     left_so : (t : ℕ) (l : State) → (may : Type 0) → AreFine may (λ by. t < by) timed → seen_so.IsLeftOf may (seen p).is_base (seen p).place.state (entries_of timed) (seen q).place.state l
         → IsLeftOf t (base (seen p).place.stopped (vol p)) (seen p).place.state timed (seen q).place.state l
     left_so t l may fine k = timed_left may t (seen p).is_base (base (seen p).place.stopped (vol p)) (λ b is. (bases p b).0 is) (seen p).place.state timed (seen q).place.state l fine k

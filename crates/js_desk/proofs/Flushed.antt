@@ -1,5 +1,5 @@
 -- A place that was flushed at the closing.
-use Rattle.std.proofs.Common.{◌≡◌, ◌⊎◌, inl, inr, ℕ, ◌≤◌, List, [], Option, None, Some, Result, Ok, Err, refl, sym, ap, subst, ◌∙◌, arith}
+use Rattle.std.proofs.Common.{◌≡◌, inl, inr, ℕ, ◌≤◌, [], Option, None, Some, Result, Ok, Err, sym, ap, subst, ◌∙◌}
 use Rattle.std.specs.Prelude.{◌↔◌}
 use Rattle.js_model.specs.declared.stream.State.{State}
 use Rattle.js_model.specs.Lasting.{lasting}
@@ -13,7 +13,7 @@ use Rattle.crash_laws.specs.Outlasting.{Outlasts}
 use Rattle.crash_laws.proofs.Following.{outlasts_nothing}
 use Rattle.desk_hold.specs.Crashes.{MayCommit}
 use Rattle.desk_hold.proofs.Beginnings.{outlasts_call}
-use Rattle.js_desk.specs.Closing.{EndsAt, EndsSo, Flushed}
+use Rattle.js_desk.specs.Closing.{EndsAt, EndsSo}
 use Rattle.js_desk.proofs.Converted.{all_hold, outlasts_so}
 
 -- ---- what a flush leaves as it was
@@ -49,7 +49,6 @@ module _ {P V : Type 0} (seen : P → Seen) (vol : P → V) (holds : Image → S
     (leaves : (p : P) (t : ℕ) (image : Image) → (seen p).left_since t image ↔ left (vol p) t image)
     (earlier : (v : V) (t u : ℕ) (image : Image) → t ≤ u → left v u image → left v t image)
     (stands : (p : P) → ((seen p).place.volume.moment ≡ clock (vol p)) × ((seen p).place.volume.faults ≡ faults (vol p))) where
-
   -- nothing was made, and the volume was left so
   abbrev Leaves : P → Option ℕ → V → Type 0
   Leaves p still end = Outlasts holds left clock (base (seen p).place.stopped (vol p)) (base still end) [] (seen p).place.state (seen p).place.state (vol p) end

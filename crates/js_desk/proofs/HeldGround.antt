@@ -220,13 +220,16 @@ module _ {V : Type 0} (keeps : V → V → Type 0) (none : (v : V) → keeps v v
       let s : Scene = (standing r c places vols ticked last turn).scene in
       let m = held_alone at holds 0 what now outcome s old new router there h in
       let lasts = outlast_set holds left clock base earlier h.entries places vols at.place old.place new.place vol vol_new there stands outlasts
-          (timed_elsewhere at h.entries (on old.place r) (on new.place router) h.led) in
+      (timed_elsewhere at h.entries (on old.place r) (on new.place router) h.led) in
       let ends : with_place s at.place (on new.place router) (last_of at outcome.became last) ≡ (standing router c (slice_set places at.place new.place) (slice_set vols at.place vol_new) ticked later after).scene =
       ap (λ (l : Option PlaceAt). with_place s at.place (on new.place router) l) (last_so outcome.became ∙ sym later_is) in
       record {
         entries = m.entries;
         are = m.are;
-        led = (subst (λ (x : Scene). Leads SoloStep s m.entries x) ends m.led, kept_set keeps none vols at.place vol vol_new stands kept,
-            subst (λ (es : List DeskEntry). PlacesOutlast holds left clock base (record { places = places; vols = vols }) es (record { places = slice_set places at.place new.place; vols = slice_set vols at.place vol_new }))
-                (sym (held_entries at holds 0 what now outcome s old new router there h)) lasts);
+        led = (
+          subst (λ (x : Scene). Leads SoloStep s m.entries x) ends m.led,
+          kept_set keeps none vols at.place vol vol_new stands kept,
+          subst (λ (es : List DeskEntry). PlacesOutlast holds left clock base (record { places = places; vols = vols }) es (record { places = slice_set places at.place new.place; vols = slice_set vols at.place vol_new }))
+              (sym (held_entries at holds 0 what now outcome s old new router there h)) lasts,
+        );
       }

@@ -13,7 +13,7 @@ use Rattle.js_api.specs.declared.outcome.Became.{Became}
 use Rattle.js_api.specs.declared.outcome.Became.TheVariants as became
 use Rattle.js_api.specs.declared.outcome.Outcome.{Outcome}
 use Rattle.js_api.specs.Entries.{Hold, entries_in, DeskEntry, Routed, Looked, Turned, Resumed, Held, Stirred, Halted, Missed, Spent}
-use Rattle.js_api.specs.Holding.{Holds, HoldsBy, Prepares}
+use Rattle.js_api.specs.Holding.{Holds, HoldsBy}
 use Rattle.js_api.specs.Leading.{Leads}
 use Rattle.js_api.specs.Worlds.{IsHeld}
 use Rattle.crash_laws.specs.Outlasting.{AreBetween}
@@ -132,7 +132,7 @@ module _ (at : PlaceAt) where
         between =
             both_between old.place.volume.moment new.place.volume.moment (timed_held_at at.place hold) (timed_at at.place more)
             (subst (λ (es : List Timed). AreBetween old.place.volume.moment new.place.volume.moment es) (sym (here hold at h.1.at_is))
-                (wider_between old.place.volume.moment h.0.place.volume.moment old.place.volume.moment new.place.volume.moment (omega arith) next.later (timed_in hold) held))
+            (wider_between old.place.volume.moment h.0.place.volume.moment old.place.volume.moment new.place.volume.moment (omega arith) next.later (timed_in hold) held))
             (wider_between h.0.place.volume.moment new.place.volume.moment old.place.volume.moment new.place.volume.moment first (omega arith) (timed_at at.place more) next.between);
       }
   timed_between (Stirred there before after failed ∷ more) old new h =
@@ -179,8 +179,8 @@ module _ (at : PlaceAt) where
   held_fine hold old new h t =
       subst (λ (es : List Timed). AreFine (IsEarlyIn (Held hold ∷ []) t) (λ by. t < by) es) (sym (append-nil (timed_held_at at.place hold) ∙ here hold at h.1.at_is))
       (both_fine (IsEarlyIn (Held hold ∷ []) t) (λ by. t < by) (map (answered_by hold.volume_between.moment) hold.steps) (map (answered_by hold.volume_after.moment) hold.deliveries)
-          (fine_by (IsEarlyIn (Held hold ∷ []) t) t hold.volume_between.moment early hold.steps)
-          (fine_by (IsEarlyIn (Held hold ∷ []) t) t hold.volume_after.moment (λ e. omega (arith, early e, h.1.held.between_after.moments)) hold.deliveries))
+      (fine_by (IsEarlyIn (Held hold ∷ []) t) t hold.volume_between.moment early hold.steps)
+      (fine_by (IsEarlyIn (Held hold ∷ []) t) t hold.volume_after.moment (λ e. omega (arith, early e, h.1.held.between_after.moments)) hold.deliveries))
     where
       early : IsEarlyIn (Held hold ∷ []) t → t < hold.volume_between.moment
       early (inl lt) = lt

@@ -1,5 +1,5 @@
 -- What a crash may leave of the volumes of a row of places after a call of one of them.
-use Rattle.std.proofs.Common.{◌≡◌, ◌≤◌, ◌++◌, ℕ, Bool, true, false, List, [], Option, Some, refl, sym, ap, subst, ◌∙◌}
+use Rattle.std.proofs.Common.{◌≡◌, ◌≤◌, ℕ, Bool, true, false, List, [], Option, Some, refl, sym, ap, subst, ◌∙◌}
 use Rattle.std.specs.Prelude.{◌==◌, slice_get, slice_set}
 use Rattle.std.proofs.lemmas.Bool.{eq-eqb, eqb-true}
 use Rattle.std.proofs.lemmas.Option.{same_Some}
@@ -7,7 +7,7 @@ use Rattle.js_model.specs.declared.stream.State.{State}
 use Rattle.js_model.specs.PlaceStates.{PlaceIn}
 use Rattle.js_api.specs.Entries.{DeskEntry}
 use Rattle.crash_laws.specs.Outlasting.{Outlasts}
-use Rattle.crash_laws.specs.Timed.{Timed, timed_at}
+use Rattle.crash_laws.specs.Timed.{timed_at}
 use Rattle.place_engine.specs.Stepping.{Image}
 use Rattle.js_desk.specs.Lasting.{PlaceOutlasts, PlacesOutlast}
 use Rattle.js_desk.specs.Outlasting.{outlast_stays}

@@ -6,7 +6,6 @@ use Rattle.std.proofs.lemmas.Option.{same_Some}
 use Rattle.js_base.specs.Bytes.{Bytes}
 use Rattle.js_model.specs.Router.{empty_router}
 use Rattle.js_model.specs.Catalog.{Catalog, Place, catalog_of, kept_place, kept_stream}
-use Rattle.js_model.specs.Events.{kept_incarnation}
 use Rattle.js_model.specs.PlaceStates.{PlaceIn}
 use Rattle.js_api.specs.Worlds.{kept_in, opening, stream_in}
 use Rattle.js_desk.specs.declared.turn.Turn.TheVariants.{Outside}
@@ -23,7 +22,7 @@ there (p ∷ places) (suc i) place stands h k = there places i place stands h k
 
 one_list : (stream : Option (Bytes × List Bytes)) → HasOneList (option_map kept_stream stream)
 one_list None = tt
-one_list (Some stream) = λ going. tt
+one_list (Some stream) = λ going. refl
 
 single : (places : List PlaceIn) (i : ℕ) (place : Place) → slice_get (catalog_of (map kept_in places)) i ≡ Some place → HasOneList place.used
 single [] i place h = absurd (cc)

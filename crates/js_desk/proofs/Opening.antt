@@ -1,22 +1,17 @@
 -- A place that was opened on a volume, and what a crash may leave of it.
-use Rattle.std.proofs.Common.{◌≡◌, ⊎_elim, ℕ, ◌≤◌, List, [], ◌∷◌, ◌++◌, length, map, append-nil, Option, None, sym, ap, subst, ◌∙◌, arith}
+use Rattle.std.proofs.Common.{◌≡◌, ⊎_elim, ℕ, ◌≤◌, List, [], ◌∷◌, ◌++◌, length, map, Option, None, sym, ap, subst, ◌∙◌, arith}
 use Rattle.std.specs.Prelude.{◌↔◌, reverse}
-use Rattle.std.specs.List.{AllZip}
 use Rattle.std.proofs.lemmas.List.{reverse-reverse}
+use Rattle.std.proofs.lemmas.Slice.Zip.{AllZip-long}
 use Rattle.js_model.specs.declared.stream.State.{State}
 use Rattle.place_engine.specs.Opening.{AllHold, IsOpened}
 use Rattle.place_engine.specs.Stepping.{Image, IsKept, Seen}
 use Rattle.place_engine.specs.declared.faults.OpenFault.{OpenFault}
 use Rattle.crash_laws.specs.Opened.{IsOpenedAt}
 use Rattle.crash_laws.specs.Outlasting.{HasBases}
-use Rattle.catalog.specs.Apart.{IsApart}
-use Rattle.js_model.specs.Catalog.{Catalog, catalog_of}
-use Rattle.js_api.specs.Worlds.{Scene, kept_in, opening}
-use Rattle.js_desk.specs.Grounds.{places_by}
-use Rattle.js_desk.specs.Opening.{FailsAt, LetsGo, OpensDesk, OpensOn, StopsAt}
-use Rattle.js_desk.specs.Solo.{Solo}
+use Rattle.js_desk.specs.Opening.{FailsAt, OpensOn, StopsAt}
 use Rattle.js_desk.proofs.Converted.{all_hold, has_bases}
-use Rattle.js_desk.proofs.Rows.{last_first, zip_length}
+use Rattle.js_desk.proofs.Rows.{last_first}
 
 module _ {P V : Type 0} (seen : P → Seen) (vol : P → V) (holds : Image → State → Type 0) (reads : V → Image → Type 0) (left : V → ℕ → Image → Type 0) (clock faults : V → ℕ)
     (base : Option ℕ → V → State → Type 0) (opens : V → State → Type 0) (refuses : V → OpenFault → Type 0) (keeps : V → V → Type 0)
@@ -24,7 +19,6 @@ module _ {P V : Type 0} (seen : P → Seen) (vol : P → V) (holds : Image → S
     (leaves : (p : P) (t : ℕ) (image : Image) → (seen p).left_since t image ↔ left (vol p) t image)
     (earlier : (v : V) (t u : ℕ) (image : Image) → t ≤ u → left v u image → left v t image)
     (stands : (p : P) → ((seen p).place.volume.moment ≡ clock (vol p)) × ((seen p).place.volume.faults ≡ faults (vol p))) where
-
   pub opens_on : (before : V) (p : P) → IsOpened holds reads left clock opens before (seen p) → keeps before (vol p) → IsKept holds (seen p)
       → ((seen p).place.stopped ≡ None → (image : Image) → reads (vol p) image → (b : State) × holds image b × (seen p).is_base b)
       → OpensOn seen vol holds reads left clock faults base opens refuses keeps before p
@@ -53,30 +47,10 @@ module _ {P V : Type 0} (seen : P → Seen) (vol : P → V) (holds : Image → S
     at = s.at;
     more = reverse after;
     before_are = sym (ap reverse is ∙ reverse-reverse before) ∙ s.before_are;
-    number = count ∙ sym (zip_length (OpensOn seen vol holds reads left clock faults base opens refuses keeps) s.first row s.opened);
+    number = count ∙ AllZip-long (OpensOn seen vol holds reads left clock faults base opens refuses keeps) s.first row s.opened;
     row = row;
     opened = s.opened;
     left_of = left_of;
     refused = s.refused;
     after_are = back ∙ ap (λ (vs : List V). map vol row ++ reverse vs) more ∙ ap (λ (vs : List V). map vol row ++ vs) (last_first after left_of);
-  }
-
-  -- where all are opened, the desk begins with them
-  pub opens_desk : (before : List V) (row : List P) (c : Catalog) (desk : Solo V) → AllZip (OpensOn seen vol holds reads left clock faults base opens refuses keeps) before row
-      → c ≡ catalog_of (map kept_in (places_by seen row)) → IsApart c → desk.scene ≡ opening (places_by seen row) → desk.vols ≡ map vol row
-      → OpensDesk seen vol holds reads left clock faults base opens refuses keeps before desk
-  opens_desk before row c desk opened is apart scene vols = record {
-    row = row;
-    opened = opened;
-    apart = subst IsApart (is ∙ sym (ap (λ (s : Scene). s.world.catalog) scene)) apart;
-    scene = scene;
-    vols = vols;
-  }
-
-  -- or they are let go again
-  pub lets_go : (before emptied given : List V) (row : List P) → AllZip (OpensOn seen vol holds reads left clock faults base opens refuses keeps) before row → emptied ≡ []
-      → given ≡ map vol row ++ reverse emptied → LetsGo seen vol holds reads left clock faults base opens refuses keeps row before given
-  lets_go before emptied given row opened none back = record {
-    opened = opened;
-    after_are = back ∙ ap (λ (vs : List V). map vol row ++ reverse vs) none ∙ append-nil (map vol row);
   }

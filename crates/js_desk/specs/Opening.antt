@@ -1,5 +1,5 @@
 -- What became of the volumes on which a desk was to be opened, in the order of its places.
-use Rattle.std.specs.Prelude.{◌≡◌, ◌≤◌, ◌⊎◌, ◌++◌, ℕ, List, ◌∷◌, length, map, reverse, Option, None}
+use Rattle.std.specs.Prelude.{◌≡◌, ◌⊎◌, ◌++◌, ℕ, List, ◌∷◌, length, map, reverse, Option, None}
 use Rattle.std.specs.List.{AllZip}
 use Rattle.js_base.specs.Causes.{Rose}
 use Rattle.js_model.specs.declared.stream.State.{State}

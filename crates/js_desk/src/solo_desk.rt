@@ -53,10 +53,7 @@ impl<P: Place> Model for SoloDesk<P> {
 impl<P: Place> SoloDesk<P> {
     /// Opens a place on each volume, at most 32, in their order. No session was opened. An `Err` gives the volumes back, each as its place left it: of the
     /// places that were opened by then, nothing is left but their volumes.
-    pub fn open(
-        alloc: Global,
-        vols: Vec<P::Vol>,
-    ) -> Result<SoloDesk<P>, HubFault<P::Vol>>
+    pub fn open(alloc: Global, vols: Vec<P::Vol>) -> Result<SoloDesk<P>, HubFault<P::Vol>>
         requires few { length vols.items ≤ 32 }
         ensures opened { IfOk result (OpensDesk P.seen P.vol P.holds P.reads P.left P.clock P.faults P.base P.opens P.refuses P.keeps_vol vols.items) }
         ensures client { IfOk result (λ desk. desk.client ≡ closed (new_client 0)) }

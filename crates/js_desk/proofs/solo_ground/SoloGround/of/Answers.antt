@@ -1,4 +1,4 @@
-use Rattle.std.proofs.Common.{map, ◌≤◌, subst, sym, length, ℕ}
+use Rattle.std.proofs.Common.{map, ◌≤◌, subst, sym, ℕ}
 use Rattle.std.proofs.lemmas.List.{length-map}
 use Rattle.js_desk.specs.Grounds.{places_by}
 use Rattle.js_desk.proofs.Opened.{opened_grounded, opened_scene}

@@ -14,9 +14,9 @@ invariant_of-self g c =
     let P = g.P.Place in
     let row = c.self.inside.places.items in
     let places : List PlaceIn = places_by P.seen row in
-    let there : slice_get row c.args.at.place ≡ Some c.index_mut.result.now = there_is P.seen row c.args.at c.index_mut.result.now (rw (← c.self.view_is) at c.requires.within) c.index_mut.ensures.value in
-    let stands : slice_get places c.args.at.place ≡ Some (P.seen c.index_mut.result.now).place = map_get (λ p. (P.seen p).place) row c.args.at.place c.index_mut.result.now there in
-    let old = P.seen c.index_mut.result.now in let new = P.seen c.hold_on-outcome.new.place in
+    let there : slice_get row c.args.at.place ≡ Some c.index_mut-place.result.now = there_is P.seen row c.args.at c.index_mut-place.result.now (rw (← c.self.view_is) at c.requires.within) c.index_mut-place.ensures.value in
+    let stands : slice_get places c.args.at.place ≡ Some (P.seen c.index_mut-place.result.now).place = map_get (λ p. (P.seen p).place) row c.args.at.place c.index_mut-place.result.now there in
+    let old = P.seen c.index_mut-place.result.now in let new = P.seen c.hold_on-outcome.new.place in
     let h = c.hold_on-outcome.ensures.holds 0 in
     let facts = facts_of P.keeps_vol g.met.P.Place.keeps_none P.left P.clock P.base g.met.P.Place.earlier c.self.inside.router c.hold_on-outcome.new.port c.self.inside.catalog places (map P.vol row) c.self.inside.ticked c.self.inside.last c.self.inside.turn c.args.at P.holds old new stands c.args.what c.args.now c.hold_on-outcome.result h in
     let mapped : places_by P.seen (slice_set row c.args.at.place c.hold_on-outcome.new.place) ≡ slice_set places c.args.at.place new.place = map_set (λ p. (P.seen p).place) row c.args.at.place c.hold_on-outcome.new.place in
@@ -29,28 +29,28 @@ returns-clause-made g c =
     let P = g.P.Place in
     let row = c.self.inside.places.items in
     let places : List PlaceIn = places_by P.seen row in
-    let there : slice_get row c.args.at.place ≡ Some c.index_mut.result.now = there_is P.seen row c.args.at c.index_mut.result.now (rw (← c.self.view_is) at c.requires.within) c.index_mut.ensures.value in
-    let stands : slice_get places c.args.at.place ≡ Some (P.seen c.index_mut.result.now).place = map_get (λ p. (P.seen p).place) row c.args.at.place c.index_mut.result.now there in
-    let old = P.seen c.index_mut.result.now in let new = P.seen c.hold_on-outcome.new.place in
+    let there : slice_get row c.args.at.place ≡ Some c.index_mut-place.result.now = there_is P.seen row c.args.at c.index_mut-place.result.now (rw (← c.self.view_is) at c.requires.within) c.index_mut-place.ensures.value in
+    let stands : slice_get places c.args.at.place ≡ Some (P.seen c.index_mut-place.result.now).place = map_get (λ p. (P.seen p).place) row c.args.at.place c.index_mut-place.result.now there in
+    let old = P.seen c.index_mut-place.result.now in let new = P.seen c.hold_on-outcome.new.place in
     let h = c.hold_on-outcome.ensures.holds 0 in
     let facts = facts_of P.keeps_vol g.met.P.Place.keeps_none P.left P.clock P.base g.met.P.Place.earlier c.self.inside.router c.hold_on-outcome.new.port c.self.inside.catalog places (map P.vol row) c.self.inside.ticked c.self.inside.last c.self.inside.turn c.args.at P.holds old new stands c.args.what c.args.now c.hold_on-outcome.result h in
     let mapped : places_by P.seen (slice_set row c.args.at.place c.hold_on-outcome.new.place) ≡ slice_set places c.args.at.place new.place = map_set (λ p. (P.seen p).place) row c.args.at.place c.hold_on-outcome.new.place in
-    let lasts = held_outlasts P.seen P.vol P.holds P.reads P.left P.clock P.faults P.base g.met.P.Place.bases g.met.P.Place.leaves g.met.P.Place.stands c.index_mut.result.now c.hold_on-outcome.new.place
-        c.law_kept.ensures.kept c.args.at c.self.inside.router c.hold_on-outcome.new.port c.args.what c.args.now c.hold_on-outcome.result h in
+    let lasts = held_outlasts P.seen P.vol P.holds P.reads P.left P.clock P.faults P.base g.met.P.Place.bases g.met.P.Place.leaves g.met.P.Place.stands c.index_mut-place.result.now c.hold_on-outcome.new.place
+    c.law_kept.ensures.kept c.args.at c.self.inside.router c.hold_on-outcome.new.port c.args.what c.args.now c.hold_on-outcome.result h in
     rw (← c.self.view_is)
     (rw (mapped, map_set P.vol row c.args.at.place c.hold_on-outcome.new.place)
     (made_of P.keeps_vol g.met.P.Place.keeps_none P.left P.clock P.base g.met.P.Place.earlier c.self.inside.router c.hold_on-outcome.new.port c.self.inside.catalog places (map P.vol row) c.self.inside.ticked c.self.inside.last c.self.inside.turn c.args.at P.holds old new stands c.args.what c.args.now c.hold_on-outcome.result h
-    c.last_of-self-inside.result c.after_hold-self-inside.result (P.vol c.index_mut.result.now) (P.vol c.hold_on-outcome.new.place) c.last_of-self-inside.ensures.value
-    (map_get P.vol row c.args.at.place c.index_mut.result.now there) c.hold_on-outcome.ensures.vol lasts))
+    c.last_of-self-inside.result c.after_hold-self-inside.result (P.vol c.index_mut-place.result.now) (P.vol c.hold_on-outcome.new.place) c.last_of-self-inside.ensures.value
+    (map_get P.vol row c.args.at.place c.index_mut-place.result.now there) c.hold_on-outcome.ensures.vol lasts))
 
 pub returns-clause-there : goal.returns-clause-there
 returns-clause-there g c =
     let P = g.P.Place in
     let row = c.self.inside.places.items in
     let places : List PlaceIn = places_by P.seen row in
-    let there : slice_get row c.args.at.place ≡ Some c.index_mut.result.now = there_is P.seen row c.args.at c.index_mut.result.now (rw (← c.self.view_is) at c.requires.within) c.index_mut.ensures.value in
-    let stands : slice_get places c.args.at.place ≡ Some (P.seen c.index_mut.result.now).place = map_get (λ p. (P.seen p).place) row c.args.at.place c.index_mut.result.now there in
-    let old = P.seen c.index_mut.result.now in let new = P.seen c.hold_on-outcome.new.place in
+    let there : slice_get row c.args.at.place ≡ Some c.index_mut-place.result.now = there_is P.seen row c.args.at c.index_mut-place.result.now (rw (← c.self.view_is) at c.requires.within) c.index_mut-place.ensures.value in
+    let stands : slice_get places c.args.at.place ≡ Some (P.seen c.index_mut-place.result.now).place = map_get (λ p. (P.seen p).place) row c.args.at.place c.index_mut-place.result.now there in
+    let old = P.seen c.index_mut-place.result.now in let new = P.seen c.hold_on-outcome.new.place in
     let h = c.hold_on-outcome.ensures.holds 0 in
     let facts = facts_of P.keeps_vol g.met.P.Place.keeps_none P.left P.clock P.base g.met.P.Place.earlier c.self.inside.router c.hold_on-outcome.new.port c.self.inside.catalog places (map P.vol row) c.self.inside.ticked c.self.inside.last c.self.inside.turn c.args.at P.holds old new stands c.args.what c.args.now c.hold_on-outcome.result h in
     let mapped : places_by P.seen (slice_set row c.args.at.place c.hold_on-outcome.new.place) ≡ slice_set places c.args.at.place new.place = map_set (λ p. (P.seen p).place) row c.args.at.place c.hold_on-outcome.new.place in
@@ -62,9 +62,9 @@ returns-clause-setting g c =
     let P = g.P.Place in
     let row = c.self.inside.places.items in
     let places : List PlaceIn = places_by P.seen row in
-    let there : slice_get row c.args.at.place ≡ Some c.index_mut.result.now = there_is P.seen row c.args.at c.index_mut.result.now (rw (← c.self.view_is) at c.requires.within) c.index_mut.ensures.value in
-    let stands : slice_get places c.args.at.place ≡ Some (P.seen c.index_mut.result.now).place = map_get (λ p. (P.seen p).place) row c.args.at.place c.index_mut.result.now there in
-    let old = P.seen c.index_mut.result.now in let new = P.seen c.hold_on-outcome.new.place in
+    let there : slice_get row c.args.at.place ≡ Some c.index_mut-place.result.now = there_is P.seen row c.args.at c.index_mut-place.result.now (rw (← c.self.view_is) at c.requires.within) c.index_mut-place.ensures.value in
+    let stands : slice_get places c.args.at.place ≡ Some (P.seen c.index_mut-place.result.now).place = map_get (λ p. (P.seen p).place) row c.args.at.place c.index_mut-place.result.now there in
+    let old = P.seen c.index_mut-place.result.now in let new = P.seen c.hold_on-outcome.new.place in
     let h = c.hold_on-outcome.ensures.holds 0 in
     let facts = facts_of P.keeps_vol g.met.P.Place.keeps_none P.left P.clock P.base g.met.P.Place.earlier c.self.inside.router c.hold_on-outcome.new.port c.self.inside.catalog places (map P.vol row) c.self.inside.ticked c.self.inside.last c.self.inside.turn c.args.at P.holds old new stands c.args.what c.args.now c.hold_on-outcome.result h in
     let mapped : places_by P.seen (slice_set row c.args.at.place c.hold_on-outcome.new.place) ≡ slice_set places c.args.at.place new.place = map_set (λ p. (P.seen p).place) row c.args.at.place c.hold_on-outcome.new.place in
@@ -77,9 +77,9 @@ returns-clause-phase g c =
     let P = g.P.Place in
     let row = c.self.inside.places.items in
     let places : List PlaceIn = places_by P.seen row in
-    let there : slice_get row c.args.at.place ≡ Some c.index_mut.result.now = there_is P.seen row c.args.at c.index_mut.result.now (rw (← c.self.view_is) at c.requires.within) c.index_mut.ensures.value in
-    let stands : slice_get places c.args.at.place ≡ Some (P.seen c.index_mut.result.now).place = map_get (λ p. (P.seen p).place) row c.args.at.place c.index_mut.result.now there in
-    let old = P.seen c.index_mut.result.now in let new = P.seen c.hold_on-outcome.new.place in
+    let there : slice_get row c.args.at.place ≡ Some c.index_mut-place.result.now = there_is P.seen row c.args.at c.index_mut-place.result.now (rw (← c.self.view_is) at c.requires.within) c.index_mut-place.ensures.value in
+    let stands : slice_get places c.args.at.place ≡ Some (P.seen c.index_mut-place.result.now).place = map_get (λ p. (P.seen p).place) row c.args.at.place c.index_mut-place.result.now there in
+    let old = P.seen c.index_mut-place.result.now in let new = P.seen c.hold_on-outcome.new.place in
     let h = c.hold_on-outcome.ensures.holds 0 in
     let facts = facts_of P.keeps_vol g.met.P.Place.keeps_none P.left P.clock P.base g.met.P.Place.earlier c.self.inside.router c.hold_on-outcome.new.port c.self.inside.catalog places (map P.vol row) c.self.inside.ticked c.self.inside.last c.self.inside.turn c.args.at P.holds old new stands c.args.what c.args.now c.hold_on-outcome.result h in
     let mapped : places_by P.seen (slice_set row c.args.at.place c.hold_on-outcome.new.place) ≡ slice_set places c.args.at.place new.place = map_set (λ p. (P.seen p).place) row c.args.at.place c.hold_on-outcome.new.place in
