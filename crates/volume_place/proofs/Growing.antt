@@ -64,6 +64,7 @@ module _ (told : Type 0) (disk : Disk) (store : StoreState) (tail : List Effect)
   module _ (h : IsSoundPlace told disk store tail stopped old) where
     pub grown_event : (new : State) (e : Event) (now : ℕ) → e.incarnation ≡ kept_incarnation old → IsTrue (is_proper e) → now < 2 ^ 62 → new ≡ (answered old e now true).state
         → IsSoundPlace told disk store (tail ++ event_effects old e.what now true) stopped new
+    unfolding step_of
     grown_event new e now kept proper moment is =
         let reply = (answered old e now true).reply in
         let outs = (answered old e now true).outs in
@@ -80,7 +81,7 @@ module _ (told : Type 0) (disk : Disk) (store : StoreState) (tail : List Effect)
     pub grown_delivery : (new : State) (now : ℕ) (listening : List Bytes) (d : Delivery) (outs : List Out) → now < 2 ^ 62 → IsDelivered old now listening d outs new
         → IsSoundPlace told disk store (tail ++ delivery_effects old now d new) stopped new
     grown_delivery new now listening d outs moment delivered =
-        let step = record { delivered = delivered; moment = moment } in
+        let step : IsDeliverStep old now listening d outs new = record { delivered = delivered; moment = moment } in
         let entries = Deliver 0 now listening d outs ∷ [] in
         record {
           sound = law_sound 0 old new entries h.sound (new, step, refl);

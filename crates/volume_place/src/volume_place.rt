@@ -120,6 +120,7 @@ impl<V: Vol> VolumePlace<V> {
     }
 
     /// Commits all that waits, if anything does. A fault, or a log that is full, stops the place. `NoMemory` leaves all as it was.
+    #[tactic(none)]
     fn bring(&mut self) -> Result<(), CommitFault>
         requires going { self.old.stopped ≡ None }
         ensures brings { Brings result (seen_of V.told V.disk V.faults self.old) (seen_of V.told V.disk V.faults self.new) }
@@ -140,9 +141,13 @@ impl<V: Vol> VolumePlace<V> {
                 Ok(())
             }
             Err(CommitFault::NoMemory) => Err(CommitFault::NoMemory),
-            Err(fault) => {
+            Err(CommitFault::Fault) => {
                 self.stopped = Some(self.vol.faults());
-                Err(fault)
+                Err(CommitFault::Fault)
+            }
+            Err(CommitFault::Full) => {
+                self.stopped = Some(self.vol.faults());
+                Err(CommitFault::Full)
             }
         }
     }
