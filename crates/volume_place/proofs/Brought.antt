@@ -1,6 +1,6 @@
 -- What it comes to that all that waits is committed.
-use Rattle.std.proofs.Common.{◌≡◌, ◌≢◌, ◌≤◌, ◌<◌, ◌+◌, ◌^◌, ◌⊎◌, inl, inr, ℕ, true, List, [], ◌++◌, Option, Some, None, Result, Ok, Err, refl, sym, ap, subst, ◌∙◌, arith}
-use Rattle.std.specs.Prelude.{IsTrue, length, unwrap_or}
+use Rattle.std.proofs.Common.{◌≡◌, ◌≢◌, ◌≤◌, ◌<◌, ◌^◌, ◌⊎◌, inl, inr, ℕ, List, [], Option, Some, None, refl, sym, ap, subst, ◌∙◌, arith}
+use Rattle.std.specs.Prelude.{IsTrue, unwrap_or}
 use Rattle.std.specs.List.{list_all}
 use Rattle.std.proofs.Math.Nat.{le_refl}
 use Rattle.js_base.specs.Causes.{Rose}
@@ -24,7 +24,7 @@ use Rattle.stream_store.specs.Waiting.{Waits}
 use Rattle.place_engine.specs.Flushing.{FailsFlush, FillsFlush, Flushed, Unflushed}
 use Rattle.place_engine.specs.Stepping.{Elapses, Image, LeavesVolume}
 use Rattle.volume_place.specs.Contents.{Contents}
-use Rattle.volume_place.specs.Images.{IsLeftNow, base, clock, holds, left}
+use Rattle.volume_place.specs.Images.{IsLeftNow, base, holds, left}
 use Rattle.volume_place.specs.Laws.{only_held}
 use Rattle.volume_place.specs.Seeing.{IsFull, seen_of}
 use Rattle.volume_place.specs.Sound.{IsBacked, IsLeftByBoth, IsOnDisk, IsSoundPlace}

@@ -1,5 +1,5 @@
 -- What a delivery of a place on a volume comes to.
-use Rattle.std.proofs.Common.{◌≡◌, ◌≤◌, ◌⊎◌, inl, inr, ℕ, Bool, false, List, [], ◌++◌, length, take, Option, Some, None, Result, Ok, Err, refl, sym, ap, subst, ◌∙◌, arith}
+use Rattle.std.proofs.Common.{◌≡◌, inl, ℕ, false, List, ◌++◌, length, take, Some, None, Result, Ok, Err, refl, sym, ap, subst, ◌∙◌, arith}
 use Rattle.std.proofs.Math.Seq.{take-append_seam}
 use Rattle.std.proofs.lemmas.List.{append-nil}
 use Rattle.js_base.specs.Bytes.{Bytes}
@@ -10,7 +10,7 @@ use Rattle.js_model.specs.Deliver.{IsDelivered}
 use Rattle.effects.specs.Effects.{delivery_effects}
 use Rattle.effects.specs.declared.effect.Effect.{Effect}
 use Rattle.vol_disk.specs.Disk.{Disk}
-use Rattle.place_engine.specs.Answers.{DeliversNone, DeliversSome, LeftBy, MayDeliver}
+use Rattle.place_engine.specs.Answers.{DeliversNone, DeliversSome, LeftBy}
 use Rattle.place_engine.specs.Delivering.{Delivers, EndsDelivery, tick_at}
 use Rattle.place_engine.specs.Recording.{TellsLeft}
 use Rattle.place_engine.specs.Stepping.{Elapses}

@@ -1,7 +1,6 @@
 -- A place stays sound as events and deliveries are made and their records wait.
-use Rattle.std.proofs.Common.{◌≡◌, ◌<◌, ◌^◌, ℕ, Bool, true, List, [], ◌∷◌, ◌++◌, Option, Some, None, Result, Ok, Err, OnErr, refl, sym, ap, subst, ◌∙◌}
+use Rattle.std.proofs.Common.{◌≡◌, ◌<◌, ◌^◌, ℕ, Bool, true, List, [], ◌∷◌, ◌++◌, Option, Some, None, Result, Ok, Err, refl, sym, ap, subst, ◌∙◌}
 use Rattle.std.specs.Prelude.{IsTrue, IfErr, IfOk, ◌&&◌, nat_le}
-use Rattle.std.specs.List.{list_all}
 use Rattle.std.proofs.lemmas.Bool.{and_parts}
 use Rattle.std.proofs.lemmas.List.{append-nil}
 use Rattle.std.proofs.lemmas.Option.{none-some}
@@ -13,7 +12,6 @@ use Rattle.js_model.specs.declared.entry.PlaceEntry.TheVariants.{Step, Deliver}
 use Rattle.js_model.specs.declared.event.Event.{Event}
 use Rattle.js_model.specs.declared.event.What.TheVariants.{Tick}
 use Rattle.js_model.specs.declared.reply.Reply.{Reply}
-use Rattle.js_model.specs.declared.reply.Reply.TheVariants.{Silent}
 use Rattle.js_model.specs.Deliver.{IsDelivered}
 use Rattle.js_model.specs.Events.{answered, kept_incarnation}
 use Rattle.js_model.specs.Proper.{is_proper}
@@ -27,16 +25,15 @@ use Rattle.effects.proofs.Leading.{law_deliveries, law_events}
 use Rattle.restore_laws.proofs.Restorable.{restorable_delivery, restorable_event}
 use Rattle.record_laws.proofs.Allowing.{together}
 use Rattle.record_laws.proofs.Recording.{delivery_records, event_records}
-use Rattle.op_records.specs.Allowed.{is_record}
 use Rattle.vol_disk.specs.Disk.{Disk}
 use Rattle.effects.specs.Durables.{durable_of}
 use Rattle.stream_store.specs.StoreState.{StoreState}
 use Rattle.stream_store.proofs.Behind.{waiting as waits_more}
-use Rattle.place_engine.specs.Answers.{DeliversNone, DeliversSome, LeftBy, MayDeliver, PlaceAnswers}
+use Rattle.place_engine.specs.Answers.{LeftBy, MayDeliver, PlaceAnswers}
 use Rattle.place_engine.specs.Recording.{TellsEvent, TellsLeft, TellsSent}
 use Rattle.place_engine.specs.declared.faults.Left.{Left}
 use Rattle.place_engine.specs.declared.faults.Left.TheVariants.{Nothing, Ticked, Unsaid}
-use Rattle.volume_place.specs.Sound.{IsBacked, IsOnDisk, IsSoundPlace}
+use Rattle.volume_place.specs.Sound.{IsOnDisk, IsSoundPlace}
 
 -- ---- an event, and a delivery, as the machine makes them
 

@@ -1,7 +1,6 @@
 -- What a place is opened to on a volume.
-use Rattle.std.proofs.Common.{◌≡◌, ◌≤◌, ◌⊎◌, inl, inr, ℕ, List, [], Some, None, refl, sym, ap, subst, ◌∙◌, arith}
+use Rattle.std.proofs.Common.{◌≡◌, ◌⊎◌, inl, inr, ℕ, List, [], None, refl, sym, ap, subst, ◌∙◌, arith}
 use Rattle.js_model.specs.declared.stream.State.{State}
-use Rattle.js_model.specs.Lasting.{lasting}
 use Rattle.effects.specs.declared.durable.Durable.{Durable}
 use Rattle.effects.specs.declared.effect.Effect.{Effect}
 use Rattle.effects.specs.Durables.{durable_of, state_of}
@@ -15,8 +14,6 @@ use Rattle.stream_store.specs.Holding.{Holds}
 use Rattle.stream_store.specs.Opening.{KeepsHeld as KeepsImages}
 use Rattle.stream_store.specs.StoreState.{StoreState}
 use Rattle.place_engine.specs.Opening.{IsOpened, IsUnopened, KeepsHeld}
-use Rattle.place_engine.specs.Stepping.{Image}
-use Rattle.volume_place.specs.Contents.{Contents}
 use Rattle.volume_place.specs.Images.{clock, holds, left, reads}
 use Rattle.volume_place.specs.Opening.{opens}
 use Rattle.volume_place.specs.Seeing.{seen_of}

@@ -1,5 +1,5 @@
 -- What a step of a place on a volume comes to.
-use Rattle.std.proofs.Common.{◌≡◌, ◌≢◌, ◌≤◌, ◌⊎◌, inl, inr, ℕ, Bool, true, List, [], ◌++◌, length, take, Option, Some, None, Result, Ok, Err, refl, sym, ap, subst, ◌∙◌, arith}
+use Rattle.std.proofs.Common.{◌≡◌, ◌≢◌, inl, inr, ℕ, Bool, true, List, ◌++◌, length, take, Some, None, Result, Ok, Err, refl, sym, ap, subst, ◌∙◌, arith}
 use Rattle.std.proofs.Math.Nat.{le_refl}
 use Rattle.std.proofs.Math.Seq.{take-append_seam}
 use Rattle.std.proofs.lemmas.Option.{none-some}
@@ -15,8 +15,8 @@ use Rattle.effects.specs.Effects.{event_effects}
 use Rattle.effects.specs.declared.effect.Effect.{Effect}
 use Rattle.vol_disk.specs.Disk.{Disk}
 use Rattle.place_engine.specs.Answers.{LeftBy, PlaceAnswers}
-use Rattle.place_engine.specs.Recording.{TellsEvent, TellsLeft}
-use Rattle.place_engine.specs.Stepping.{Elapses, Ends, IsFlushed, IsUndone, Passes, Rests, Steps}
+use Rattle.place_engine.specs.Recording.{TellsLeft}
+use Rattle.place_engine.specs.Stepping.{Elapses, Ends, IsUndone, Passes, Rests, Steps}
 use Rattle.place_engine.specs.declared.faults.Left.{Left}
 use Rattle.place_engine.specs.declared.faults.Left.TheVariants.{Nothing, Ticked, Unsaid}
 use Rattle.place_engine.specs.declared.faults.PlaceFault.{PlaceFault}

@@ -1,5 +1,4 @@
 -- To which state a place is opened on a volume, and why it is not.
-use Rattle.std.specs.Prelude.{ℕ}
 use Rattle.js_model.specs.declared.stream.State.{State}
 use Rattle.vol_disk.specs.Disk.{Disk, Files}
 use Rattle.stream_store.specs.Damage.{IsDamaged, IsOfAnotherVersion}
