@@ -14,6 +14,7 @@ use Rattle.js_desk.specs.Opening as opening
 use Rattle.js_desk.specs.declared.faults.HubFault.TheVariants as hubs
 use Rattle.server.specs.Readable as readable
 use Rattle.server.specs.Readable.{kept_of}
+use Rattle.server.specs.Kinds.{Opens, Refuses, Made, Leaves}
 use Rattle.server.specs.Refusing.{open_status}
 use Rattle.server.specs.Unfailed.{LawReadable}
 use Rattle.server.proofs.Rows.{opened_row}
@@ -75,7 +76,7 @@ module _ {P V : Type 0} (seen : P → Seen) (vol : P → V) (holds : Image → S
       let held = holds_one k.0.image (seen p).place.state b (opens_read v (seen p).place.state k.0.image h.0.opened.state k.0.read) k.0.held in
       both (kept_of (seen p).place.state) (kept_of b) (map kept_in (places_by seen row)) (map kept_of states) (ap kept_of held) (same_streams vols row states h.1 k.1)
 
-  pub may_open : LawReadable seen vol holds reads left clock faults base opens refuses keeps
+  pub may_open : LawReadable (Opens seen vol holds reads left clock faults base opens refuses keeps) (Refuses seen vol holds reads left clock faults base opens refuses keeps) (Made seen vol holds reads left clock faults base opens refuses keeps) (Leaves seen vol holds reads left clock faults base opens refuses keeps) holds reads faults
   may_open v0 v1 r unfailed (hubs.Open place fault back) h e =
       let kept = opened_row seen vol holds reads left clock faults base opens refuses keeps keeps (λ v p o. o.volume) h.first h.row h.opened in
       let front = subst (λ (vs : List V). AllZip IsUnfailed vs v1) h.before_are unfailed in

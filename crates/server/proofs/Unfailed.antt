@@ -24,6 +24,7 @@ use Rattle.js_desk.specs.Opening as opening
 use Rattle.server.specs.Attending.{run_entries}
 use Rattle.server.specs.Closing.{flush_status}
 use Rattle.server.specs.Ending.{Starved, Unopened, Attended}
+use Rattle.server.specs.Kinds.{Opens, Refuses, Made, Leaves}
 use Rattle.server.specs.Laws.{IsFlushed, IsUntroubled}
 use Rattle.server.specs.Unfailed.{HadRoom, AllHadRoom, IsUnworn, LawUnfailed}
 use Rattle.server.proofs.Keeping.{kept_end}
@@ -233,7 +234,7 @@ module _ {P V : Type 0} (seen : P → Seen) (vol : P → V) (holds : Image → S
   untroubled_all [] g w = tt
   untroubled_all (place ∷ places) g w = (record { going = g.0; generation = w.0 }, untroubled_all places g.1 w.1)
 
-  pub unfailed : LawUnfailed seen vol holds reads left clock faults base opens refuses keeps
+  pub unfailed : LawUnfailed (Opens seen vol holds reads left clock faults base opens refuses keeps) (Refuses seen vol holds reads left clock faults base opens refuses keeps) (Made seen vol holds reads left clock faults base opens refuses keeps) (Leaves seen vol holds reads left clock faults base opens refuses keeps) faults
   unfailed stream status v0 v1 old new (Starved h) u room = tt
   unfailed stream status v0 v1 old new (Unopened h) u room = tt
   unfailed stream status v0 v1 old new (Attended h) u room =

@@ -4,13 +4,14 @@ use Rattle.std.specs.List.{AllZip}
 use Rattle.js_base.specs.Causes.{Rose}
 use Rattle.js_model.specs.declared.stream.State.{State}
 use Rattle.js_model.specs.PlaceStates.{PlaceIn}
-use Rattle.place_engine.specs.declared.faults.OpenFault.{OpenFault}
-use Rattle.place_engine.specs.Stepping.{Image, Seen}
+use Rattle.place_engine.specs.Stepping.{Image}
 use Rattle.js_api.specs.Entries.{DeskEntry, Routed, Looked, Turned, Resumed, Held, Stirred, Halted, Missed, Spent}
+use Rattle.js_desk.specs.Solo.{Solo}
+use Rattle.js_desk.specs.declared.faults.Closed.{Closed}
+use Rattle.js_desk.specs.declared.faults.HubFault.{HubFault}
 use Rattle.server.specs.declared.words.NamedStream.{NamedStream}
 use Rattle.server.specs.Attending.{run_entries}
-use Rattle.server.specs.Ending.{Starved, Unopened, Attended}
-use Rattle.server.specs.Kinds.{Opens, Refuses, Made, Leaves, Ends}
+use Rattle.server.specs.Ending.{PipeEnds, Starved, Unopened, Attended}
 use Rattle.server.specs.Laws.{LeavesUntroubled, MayOpen}
 use Rattle.server.specs.Outside.{Outside}
 use Rattle.server.specs.Readable.{AreReadable}
@@ -39,12 +40,11 @@ AllHadRoom (entry ∷ more) = HadRoom entry × AllHadRoom more
 abbrev pub IsUnworn : PlaceIn → Type 0
 IsUnworn place = place.volume.generation < 2 ^ 62 - 1
 
--- Of a kind of place: what contracts see of it, its volume, which state an image holds, what reads of a volume give and what a crash may have left of it, its
--- moment and its faults, which states it may hold, to which states a place may be opened on it and why not, and what a call may make of it.
-module _ {P V : Type 0} (seen : P → Seen) (vol : P → V) (holds : Image → State → Type 0) (reads : V → Image → Type 0) (left : V → ℕ → Image → Type 0) (clock faults : V → ℕ)
-    (base : Option ℕ → V → State → Type 0) (opens : V → State → Type 0) (refuses : V → OpenFault → Type 0) (keeps : V → V → Type 0) where
+-- Of places of one kind, and the desks over them, as in `PipeEnds`:
+module _ {V : Type 0} (Opens : List V → Solo V → Type 0) (Refuses : List V → HubFault V → Type 0) (Made : Solo V → List DeskEntry → Solo V → Type 0) (Closes : Solo V → Closed V → Type 0) where
   -- no log was full in what was made over the desk, and at the end of that no volume was at its last generation
-  abbrev pub LeavesRoom : {stream : Option NamedStream} {status : ℕ} {vols_old vols_new : List V} {old new : Outside} → Ends seen vol holds reads left clock faults base opens refuses keeps stream status vols_old vols_new old new → Type 0
+  abbrev pub LeavesRoom : {stream : Option NamedStream} {status : ℕ} {vols_old vols_new : List V} {old new : Outside}
+      → PipeEnds Opens Refuses Made Closes stream status vols_old vols_new old new → Type 0
   LeavesRoom (Starved run) = Unit {0}
   LeavesRoom (Unopened run) = Unit {0}
   LeavesRoom {stream = stream} {old = old} {new = new} (Attended run) =
@@ -52,11 +52,12 @@ module _ {P V : Type 0} (seen : P → Seen) (vol : P → V) (holds : Image → S
       × All IsUnworn run.after.scene.world.places
 
   -- only want of memory keeps a desk from being opened on volumes that can be read, if none of them fails
-  abbrev pub LawReadable : Type 0
-  LawReadable = (vols_old vols_new : List V) → AreReadable holds reads vols_old → AreUnfailed faults vols_old vols_new
-      → MayOpen (Opens seen vol holds reads left clock faults base opens refuses keeps) (Refuses seen vol holds reads left clock faults base opens refuses keeps) (Made seen vol holds reads left clock faults base opens refuses keeps) (Leaves seen vol holds reads left clock faults base opens refuses keeps) vols_old vols_new
+  abbrev pub LawReadable : (Image → State → Type 0) → (V → Image → Type 0) → (V → ℕ) → Type 0
+  LawReadable holds reads faults = (vols_old vols_new : List V) → AreReadable holds reads vols_old → AreUnfailed faults vols_old vols_new
+      → MayOpen Opens Refuses Made Closes vols_old vols_new
 
   -- if none of them fails, and there is room for all, they are untroubled as the desk is closed
-  abbrev pub LawUnfailed : Type 0
-  LawUnfailed = (stream : Option NamedStream) (status : ℕ) (vols_old vols_new : List V) (old new : Outside) (run : Ends seen vol holds reads left clock faults base opens refuses keeps stream status vols_old vols_new old new)
-      → AreUnfailed faults vols_old vols_new → LeavesRoom run → LeavesUntroubled (Opens seen vol holds reads left clock faults base opens refuses keeps) (Refuses seen vol holds reads left clock faults base opens refuses keeps) (Made seen vol holds reads left clock faults base opens refuses keeps) (Leaves seen vol holds reads left clock faults base opens refuses keeps) run
+  abbrev pub LawUnfailed : (V → ℕ) → Type 0
+  LawUnfailed faults = (stream : Option NamedStream) (status : ℕ) (vols_old vols_new : List V) (old new : Outside)
+      (run : PipeEnds Opens Refuses Made Closes stream status vols_old vols_new old new)
+      → AreUnfailed faults vols_old vols_new → LeavesRoom run → LeavesUntroubled Opens Refuses Made Closes run

@@ -1,9 +1,7 @@
 //! Laws of the definitions: what a run comes to if nothing stands in the way, and what holds of each run in memory.
 
-ghost use Rattle.js_desk.specs.Closing.{Closes};
-ghost use Rattle.js_desk.specs.Opening.{FailsToOpen, OpensDesk};
-ghost use Rattle.js_desk.specs.Solo.{DeskMade};
 ghost use Rattle.server.specs.Keeping.{LawKept};
+ghost use Rattle.server.specs.Kinds.{Leaves, Made, Opens, Refuses};
 ghost use Rattle.server.specs.Laws.{LawComplete, LawWelcome};
 ghost use Rattle.server.specs.Memory.{LawMayOpen, LawPlaceless, LawUnchanged, LawUntroubled, LawWelcoming};
 ghost use Rattle.server.specs.Unfailed.{LawReadable, LawUnfailed};
@@ -12,24 +10,34 @@ use place_engine::Place;
 
 /// A run over whole operations ends with status 0, or with 7, out of memory. With 0 a session whose link the door gave out has carried out
 /// each of them, in the order of their coming, and none at a store that failed.
-/// This holds if only want of memory can keep a desk from being opened on the volumes, by those that came back; if the stream that is to be made, if there is one, is refused by no
-/// place; if the volumes are untroubled as the desk is closed: none failed, no log is full, and none has used up its generations; if no count of faults of
-/// the door or the link rises, the input is shorter than a session may take, and the door and the link are not quiet as often in a row as they may be; and
-/// if, in every run that agrees with all that was told, the client is not stale when nothing comes, and at no time waits more for it than may.
+/// This holds if only want of memory can keep a desk from being opened on the volumes, by those that came back; if the stream that is to be made, if there is
+/// one, is refused by no place; if the volumes are untroubled as the desk is closed: none failed, no log is full, and none has used up its generations; if no
+/// count of faults of the door or the link rises, the input is shorter than a session may take, and the door and the link are not quiet as often in a row as
+/// they may be; and if, in every run that agrees with all that was told, the client is not stale when nothing comes, and at no time waits more for it than may.
 pub fn law_complete<P: Place>()
     ensures complete { LawComplete
-        (OpensDesk P.seen P.vol P.holds P.reads P.left P.clock P.faults P.base P.opens P.refuses P.keeps_vol)
-        (FailsToOpen P.seen P.vol P.holds P.reads P.left P.clock P.faults P.base P.opens P.refuses P.keeps_vol)
-        (DeskMade P.keeps_vol P.holds P.left P.clock P.base)
-        (λ desk closed. Closes P.seen P.vol P.holds P.reads P.left P.clock P.base P.keeps_vol desk.vols desk.scene.world.places closed) }
+        (Opens P.seen P.vol P.holds P.reads P.left P.clock P.faults P.base P.opens P.refuses P.keeps_vol)
+        (Refuses P.seen P.vol P.holds P.reads P.left P.clock P.faults P.base P.opens P.refuses P.keeps_vol)
+        (Made P.seen P.vol P.holds P.reads P.left P.clock P.faults P.base P.opens P.refuses P.keeps_vol)
+        (Leaves P.seen P.vol P.holds P.reads P.left P.clock P.faults P.base P.opens P.refuses P.keeps_vol) }
 {}
 
 /// If the volumes that a run is handed can be read, no two of their streams conflict, and no count of faults of one rose until they came back, then only want
 /// of memory can keep a desk from being opened on them.
 /// If no count rose, no log was full, and none has used up its generations, then they are untroubled as the desk is closed.
 pub fn law_unfailed<P: Place>()
-    ensures readable { LawReadable P.seen P.vol P.holds P.reads P.left P.clock P.faults P.base P.opens P.refuses P.keeps_vol }
-    ensures unfailed { LawUnfailed P.seen P.vol P.holds P.reads P.left P.clock P.faults P.base P.opens P.refuses P.keeps_vol }
+    ensures readable { LawReadable
+        (Opens P.seen P.vol P.holds P.reads P.left P.clock P.faults P.base P.opens P.refuses P.keeps_vol)
+        (Refuses P.seen P.vol P.holds P.reads P.left P.clock P.faults P.base P.opens P.refuses P.keeps_vol)
+        (Made P.seen P.vol P.holds P.reads P.left P.clock P.faults P.base P.opens P.refuses P.keeps_vol)
+        (Leaves P.seen P.vol P.holds P.reads P.left P.clock P.faults P.base P.opens P.refuses P.keeps_vol)
+        P.holds P.reads P.faults }
+    ensures unfailed { LawUnfailed
+        (Opens P.seen P.vol P.holds P.reads P.left P.clock P.faults P.base P.opens P.refuses P.keeps_vol)
+        (Refuses P.seen P.vol P.holds P.reads P.left P.clock P.faults P.base P.opens P.refuses P.keeps_vol)
+        (Made P.seen P.vol P.holds P.reads P.left P.clock P.faults P.base P.opens P.refuses P.keeps_vol)
+        (Leaves P.seen P.vol P.holds P.reads P.left P.clock P.faults P.base P.opens P.refuses P.keeps_vol)
+        P.faults }
 {}
 
 /// Each volume comes back in its place, as the calls of its place may have left it.
