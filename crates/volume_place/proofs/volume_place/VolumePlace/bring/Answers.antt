@@ -97,7 +97,8 @@ returns-then-is_empty-clause-brings g c =
     let none = nothing_in c.give_to.new.effects.len given c.give_to.new.effects.ok.0 c.if-is_empty.ensures in
     let same = joined c.give_to.new.effects.items c.give_to.new.self x.waiting c.in-Ok.ensures.ok c.in-Ok.ensures.none in
     rw (← c.self.view_is)
-    (brings_none V.told V.disk V.faults g.met.V.Vol.clocked x going c.self.invariant (c.give_to.new.effects.items ++ effects_in c.give_to.new.self) (sym c.in-Ok.ensures.ok ∙ none) (joined given c.give_to.new.self [] none c.in-Ok.ensures.none))
+    (brings_none V.told V.disk V.faults g.met.V.Vol.clocked x going c.self.invariant (c.give_to.new.effects.items ++ effects_in c.give_to.new.self)
+    (sym c.in-Ok.ensures.ok ∙ none) (joined given c.give_to.new.self [] none c.in-Ok.ensures.none))
 
 pub returns-then-is_empty-clause-time : goal.returns-then-is_empty-clause-time
 returns-then-is_empty-clause-time g c =
@@ -130,7 +131,8 @@ invariant_of-self-in-Ok-commit g c =
     let going = rw (← c.self.view_is) at c.requires.going in
     let are = c.as_slice.ensures.value ∙ c.in-Ok.ensures.ok in
     let nothing = joined c.clear.new.self.items c.give_to.new.self [] c.clear.ensures.items c.in-Ok.ensures.none in
-    brought_sound V.told V.disk V.faults g.met.V.Vol.clocked x going c.self.invariant c.as_slice.result.now are c.commit.new.vol c.commit.new.self c.in-Ok-commit.ensures.committed (c.clear.new.self.items ++ effects_in c.give_to.new.self) nothing
+    brought_sound V.told V.disk V.faults g.met.V.Vol.clocked x going c.self.invariant c.as_slice.result.now are c.commit.new.vol c.commit.new.self
+    c.in-Ok-commit.ensures.committed (c.clear.new.self.items ++ effects_in c.give_to.new.self) nothing
 
 pub returns-in-Ok-commit-clause-brings : goal.returns-in-Ok-commit-clause-brings
 returns-in-Ok-commit-clause-brings g c =
@@ -140,7 +142,8 @@ returns-in-Ok-commit-clause-brings g c =
     let are = c.as_slice.ensures.value ∙ c.in-Ok.ensures.ok in
     let nothing = joined c.clear.new.self.items c.give_to.new.self [] c.clear.ensures.items c.in-Ok.ensures.none in
     rw (← c.self.view_is)
-    (brings V.told V.disk V.faults g.met.V.Vol.clocked x going c.self.invariant c.as_slice.result.now are c.commit.new.vol c.commit.new.self c.in-Ok-commit.ensures.committed (c.clear.new.self.items ++ effects_in c.give_to.new.self) nothing c.in-Ok-commit.ensures.fits_in)
+    (brings V.told V.disk V.faults g.met.V.Vol.clocked x going c.self.invariant c.as_slice.result.now are c.commit.new.vol c.commit.new.self
+    c.in-Ok-commit.ensures.committed (c.clear.new.self.items ++ effects_in c.give_to.new.self) nothing c.in-Ok-commit.ensures.fits_in)
 
 pub returns-in-Ok-commit-clause-time : goal.returns-in-Ok-commit-clause-time
 returns-in-Ok-commit-clause-time g c =
@@ -149,7 +152,10 @@ returns-in-Ok-commit-clause-time g c =
     let going = rw (← c.self.view_is) at c.requires.going in
     let are = c.as_slice.ensures.value ∙ c.in-Ok.ensures.ok in
     rw (← c.self.view_is)
-    (time_goes_on V.told V.disk V.faults g.met.V.Vol.clocked x going c.self.invariant c.as_slice.result.now are c.commit.new.vol c.commit.ensures.later c.commit.ensures.any_moment (view _ V (record c.self.inside { store = c.commit.new.self; vol = c.commit.new.vol; waiting = c.clear.new.self; made = c.give_to.new.self })) refl refl (ap (λ (l : LogState). l.head) c.in-Ok-commit.ensures.log) c.commit.ensures.cause.later)
+    (time_goes_on V.told V.disk V.faults g.met.V.Vol.clocked x going c.self.invariant c.as_slice.result.now are c.commit.new.vol
+    c.commit.ensures.later c.commit.ensures.any_moment
+    (view _ V (record c.self.inside { store = c.commit.new.self; vol = c.commit.new.vol; waiting = c.clear.new.self; made = c.give_to.new.self }))
+    refl refl (ap (λ (l : LogState). l.head) c.in-Ok-commit.ensures.log) c.commit.ensures.cause.later)
 
 pub invariant_of-self-in-Err-NoMemory : goal.invariant_of-self-in-Err-NoMemory
 invariant_of-self-in-Err-NoMemory g c =
@@ -157,7 +163,9 @@ invariant_of-self-in-Err-NoMemory g c =
     let x = view _ V c.self.inside in
     let going = rw (← c.self.view_is) at c.requires.going in
     let same = joined c.give_to.new.effects.items c.give_to.new.self x.waiting c.in-Ok.ensures.ok c.in-Ok.ensures.none in
-    unbrought_sound V.told V.disk V.faults g.met.V.Vol.clocked x going c.self.invariant c.commit.new.self c.commit.new.vol (c.give_to.new.effects.items ++ effects_in c.give_to.new.self) c.in-Err-NoMemory.ensures.err (c.in-Err-NoMemory.ensures.no_memory (ap (λ (f : CommitFault). Err f) c.in-Err-NoMemory.field-0-is)) same
+    unbrought_sound V.told V.disk V.faults g.met.V.Vol.clocked x going c.self.invariant c.commit.new.self c.commit.new.vol
+    (c.give_to.new.effects.items ++ effects_in c.give_to.new.self) c.in-Err-NoMemory.ensures.err
+    (c.in-Err-NoMemory.ensures.no_memory (ap (λ (f : CommitFault). Err f) c.in-Err-NoMemory.field-0-is)) same
 
 pub returns-in-Err-NoMemory-clause-brings : goal.returns-in-Err-NoMemory-clause-brings
 returns-in-Err-NoMemory-clause-brings g c =
@@ -166,7 +174,9 @@ returns-in-Err-NoMemory-clause-brings g c =
     let going = rw (← c.self.view_is) at c.requires.going in
     let same = joined c.give_to.new.effects.items c.give_to.new.self x.waiting c.in-Ok.ensures.ok c.in-Ok.ensures.none in
     rw (← c.self.view_is)
-    (unbrought V.told V.disk V.faults g.met.V.Vol.clocked x going c.self.invariant c.commit.new.self c.commit.new.vol (c.give_to.new.effects.items ++ effects_in c.give_to.new.self) c.in-Err-NoMemory.ensures.err (c.in-Err-NoMemory.ensures.no_memory (ap (λ (f : CommitFault). Err f) c.in-Err-NoMemory.field-0-is)) same)
+    (unbrought V.told V.disk V.faults g.met.V.Vol.clocked x going c.self.invariant c.commit.new.self c.commit.new.vol
+    (c.give_to.new.effects.items ++ effects_in c.give_to.new.self) c.in-Err-NoMemory.ensures.err
+    (c.in-Err-NoMemory.ensures.no_memory (ap (λ (f : CommitFault). Err f) c.in-Err-NoMemory.field-0-is)) same)
 
 pub returns-in-Err-NoMemory-clause-time : goal.returns-in-Err-NoMemory-clause-time
 returns-in-Err-NoMemory-clause-time g c =
@@ -175,7 +185,10 @@ returns-in-Err-NoMemory-clause-time g c =
     let going = rw (← c.self.view_is) at c.requires.going in
     let are = c.as_slice.ensures.value ∙ c.in-Ok.ensures.ok in
     rw (← c.self.view_is)
-    (time_goes_on V.told V.disk V.faults g.met.V.Vol.clocked x going c.self.invariant c.as_slice.result.now are c.commit.new.vol c.commit.ensures.later c.commit.ensures.any_moment (view _ V (record c.self.inside { store = c.commit.new.self; vol = c.commit.new.vol; waiting = c.give_to.new.effects; made = c.give_to.new.self })) refl refl (ap (λ (s : StoreState). s.log.head) c.in-Err-NoMemory.ensures.err) c.commit.ensures.cause.later)
+    (time_goes_on V.told V.disk V.faults g.met.V.Vol.clocked x going c.self.invariant c.as_slice.result.now are c.commit.new.vol
+    c.commit.ensures.later c.commit.ensures.any_moment
+    (view _ V (record c.self.inside { store = c.commit.new.self; vol = c.commit.new.vol; waiting = c.give_to.new.effects; made = c.give_to.new.self }))
+    refl refl (ap (λ (s : StoreState). s.log.head) c.in-Err-NoMemory.ensures.err) c.commit.ensures.cause.later)
 
 pub invariant_of-self-in-Err-Fault : goal.invariant_of-self-in-Err-Fault
 invariant_of-self-in-Err-Fault g c =
@@ -184,7 +197,9 @@ invariant_of-self-in-Err-Fault g c =
     let going = rw (← c.self.view_is) at c.requires.going in
     let are = c.as_slice.ensures.value ∙ c.in-Ok.ensures.ok in
     let same = joined c.give_to.new.effects.items c.give_to.new.self x.waiting c.in-Ok.ensures.ok c.in-Ok.ensures.none in
-    stopped_sound V.told V.disk V.faults g.met.V.Vol.clocked x going c.self.invariant c.as_slice.result.now are c.commit.new.vol c.commit.ensures.later c.commit.ensures.any_moment c.commit.new.self (c.give_to.new.effects.items ++ effects_in c.give_to.new.self) c.faults.result same
+    stopped_sound V.told V.disk V.faults g.met.V.Vol.clocked x going c.self.invariant c.as_slice.result.now are c.commit.new.vol
+    c.commit.ensures.later c.commit.ensures.any_moment c.commit.new.self (c.give_to.new.effects.items ++ effects_in c.give_to.new.self)
+    c.faults.result same
 
 pub returns-in-Err-Fault-clause-brings : goal.returns-in-Err-Fault-clause-brings
 returns-in-Err-Fault-clause-brings g c =
@@ -193,7 +208,10 @@ returns-in-Err-Fault-clause-brings g c =
     let going = rw (← c.self.view_is) at c.requires.going in
     let are = c.as_slice.ensures.value ∙ c.in-Ok.ensures.ok in
     rw (← c.self.view_is)
-    (fails V.told V.disk V.faults g.met.V.Vol.clocked x going c.self.invariant c.as_slice.result.now are c.commit.new.vol c.commit.ensures.later c.commit.ensures.any_moment c.commit.new.self (c.give_to.new.effects.items ++ effects_in c.give_to.new.self) c.faults.result c.faults.ensures.value (c.in-Err-Fault.ensures.cause.failed (ap (λ (f : CommitFault). Err f) c.in-Err-Fault.field-0-is)) (c.in-Err-Fault.ensures.fault_fits (ap (λ (f : CommitFault). Err f) c.in-Err-Fault.field-0-is)))
+    (fails V.told V.disk V.faults g.met.V.Vol.clocked x going c.self.invariant c.as_slice.result.now are c.commit.new.vol c.commit.ensures.later
+    c.commit.ensures.any_moment c.commit.new.self (c.give_to.new.effects.items ++ effects_in c.give_to.new.self) c.faults.result
+    c.faults.ensures.value (c.in-Err-Fault.ensures.cause.failed (ap (λ (f : CommitFault). Err f) c.in-Err-Fault.field-0-is))
+    (c.in-Err-Fault.ensures.fault_fits (ap (λ (f : CommitFault). Err f) c.in-Err-Fault.field-0-is)))
 
 pub returns-in-Err-Fault-clause-time : goal.returns-in-Err-Fault-clause-time
 returns-in-Err-Fault-clause-time g c =
@@ -202,7 +220,10 @@ returns-in-Err-Fault-clause-time g c =
     let going = rw (← c.self.view_is) at c.requires.going in
     let are = c.as_slice.ensures.value ∙ c.in-Ok.ensures.ok in
     rw (← c.self.view_is)
-    (time_goes_on V.told V.disk V.faults g.met.V.Vol.clocked x going c.self.invariant c.as_slice.result.now are c.commit.new.vol c.commit.ensures.later c.commit.ensures.any_moment (view _ V (record c.self.inside { store = c.commit.new.self; vol = c.commit.new.vol; waiting = c.give_to.new.effects; made = c.give_to.new.self; stopped = Some c.faults.result })) refl refl (ap (λ (s : StoreState). s.log.head) c.in-Err-Fault.ensures.err) c.commit.ensures.cause.later)
+    (time_goes_on V.told V.disk V.faults g.met.V.Vol.clocked x going c.self.invariant c.as_slice.result.now are c.commit.new.vol
+    c.commit.ensures.later c.commit.ensures.any_moment
+    (view _ V (record c.self.inside { store = c.commit.new.self; vol = c.commit.new.vol; waiting = c.give_to.new.effects; made = c.give_to.new.self; stopped = Some c.faults.result }))
+    refl refl (ap (λ (s : StoreState). s.log.head) c.in-Err-Fault.ensures.err) c.commit.ensures.cause.later)
 
 pub invariant_of-self-in-Err-Full : goal.invariant_of-self-in-Err-Full
 invariant_of-self-in-Err-Full g c =
@@ -211,7 +232,9 @@ invariant_of-self-in-Err-Full g c =
     let going = rw (← c.self.view_is) at c.requires.going in
     let are = c.as_slice.ensures.value ∙ c.in-Ok.ensures.ok in
     let same = joined c.give_to.new.effects.items c.give_to.new.self x.waiting c.in-Ok.ensures.ok c.in-Ok.ensures.none in
-    stopped_sound V.told V.disk V.faults g.met.V.Vol.clocked x going c.self.invariant c.as_slice.result.now are c.commit.new.vol c.commit.ensures.later c.commit.ensures.any_moment c.commit.new.self (c.give_to.new.effects.items ++ effects_in c.give_to.new.self) c.faults-in-Err-Full.result same
+    stopped_sound V.told V.disk V.faults g.met.V.Vol.clocked x going c.self.invariant c.as_slice.result.now are c.commit.new.vol
+    c.commit.ensures.later c.commit.ensures.any_moment c.commit.new.self (c.give_to.new.effects.items ++ effects_in c.give_to.new.self)
+    c.faults-in-Err-Full.result same
 
 pub returns-in-Err-Full-clause-brings : goal.returns-in-Err-Full-clause-brings
 returns-in-Err-Full-clause-brings g c =
@@ -221,7 +244,10 @@ returns-in-Err-Full-clause-brings g c =
     let are = c.as_slice.ensures.value ∙ c.in-Ok.ensures.ok in
     let some : x.waiting ≢ [] = λ none. something_in c.give_to.new.effects.len c.give_to.new.effects.items c.give_to.new.effects.ok.0 c.if-is_empty.ensures (c.in-Ok.ensures.ok ∙ none) in
     rw (← c.self.view_is)
-    (fills V.told V.disk V.faults g.met.V.Vol.clocked x going c.self.invariant c.as_slice.result.now are c.commit.new.self c.commit.new.vol (c.give_to.new.effects.items ++ effects_in c.give_to.new.self) c.faults-in-Err-Full.result c.faults-in-Err-Full.ensures.value c.in-Err-Full.ensures.err (c.in-Err-Full.ensures.full_leaves (ap (λ (f : CommitFault). Err f) c.in-Err-Full.field-0-is)) some (c.in-Err-Full.ensures.full (ap (λ (f : CommitFault). Err f) c.in-Err-Full.field-0-is)))
+    (fills V.told V.disk V.faults g.met.V.Vol.clocked x going c.self.invariant c.as_slice.result.now are c.commit.new.self c.commit.new.vol
+    (c.give_to.new.effects.items ++ effects_in c.give_to.new.self) c.faults-in-Err-Full.result c.faults-in-Err-Full.ensures.value
+    c.in-Err-Full.ensures.err (c.in-Err-Full.ensures.full_leaves (ap (λ (f : CommitFault). Err f) c.in-Err-Full.field-0-is)) some
+    (c.in-Err-Full.ensures.full (ap (λ (f : CommitFault). Err f) c.in-Err-Full.field-0-is)))
 
 pub returns-in-Err-Full-clause-time : goal.returns-in-Err-Full-clause-time
 returns-in-Err-Full-clause-time g c =
@@ -230,4 +256,7 @@ returns-in-Err-Full-clause-time g c =
     let going = rw (← c.self.view_is) at c.requires.going in
     let are = c.as_slice.ensures.value ∙ c.in-Ok.ensures.ok in
     rw (← c.self.view_is)
-    (time_goes_on V.told V.disk V.faults g.met.V.Vol.clocked x going c.self.invariant c.as_slice.result.now are c.commit.new.vol c.commit.ensures.later c.commit.ensures.any_moment (view _ V (record c.self.inside { store = c.commit.new.self; vol = c.commit.new.vol; waiting = c.give_to.new.effects; made = c.give_to.new.self; stopped = Some c.faults-in-Err-Full.result })) refl refl (ap (λ (s : StoreState). s.log.head) c.in-Err-Full.ensures.err) c.commit.ensures.cause.later)
+    (time_goes_on V.told V.disk V.faults g.met.V.Vol.clocked x going c.self.invariant c.as_slice.result.now are c.commit.new.vol
+    c.commit.ensures.later c.commit.ensures.any_moment
+    (view _ V (record c.self.inside { store = c.commit.new.self; vol = c.commit.new.vol; waiting = c.give_to.new.effects; made = c.give_to.new.self; stopped = Some c.faults-in-Err-Full.result }))
+    refl refl (ap (λ (s : StoreState). s.log.head) c.in-Err-Full.ensures.err) c.commit.ensures.cause.later)
