@@ -33,6 +33,33 @@ fn lies_within(at: u64, count: usize, len: u64) -> bool
     }
 }
 
+/// Reads a range, or fails where it goes past the end.
+fn read_within(vol: &mut MemVol, file: u32, at: u64, into: &mut [u8]) -> Result<(), Failed> {
+    let len = vol.len(file)?;
+    if !lies_within(at, into.len(), len) {
+        return Err(Failed);
+    }
+    vol.read_at(file, at, into)
+}
+
+/// Writes, or fails where the write begins past the end.
+fn write_within(vol: &mut MemVol, file: u32, at: u64, bytes: &[u8]) -> Result<(), Failed> {
+    let len = vol.len(file)?;
+    if at > len {
+        return Err(Failed);
+    }
+    vol.write_at(file, at, bytes)
+}
+
+/// Cuts the file, or fails where it is shorter.
+fn cut_within(vol: &mut MemVol, file: u32, to: u64) -> Result<(), Failed> {
+    let len = vol.len(file)?;
+    if to > len {
+        return Err(Failed);
+    }
+    vol.cut(file, to)
+}
+
 impl Blind {
     /// The volume, of which the calls with these numbers fail, and all from the stop on, counted from now.
     pub fn over(
@@ -67,30 +94,6 @@ impl Blind {
         }
         answer
     }
-
-    fn try_read(&mut self, file: u32, at: u64, into: &mut [u8]) -> Result<(), Failed> {
-        let len = self.vol.len(file)?;
-        if !lies_within(at, into.len(), len) {
-            return Err(Failed);
-        }
-        self.vol.read_at(file, at, into)
-    }
-
-    fn try_write(&mut self, file: u32, at: u64, bytes: &[u8]) -> Result<(), Failed> {
-        let len = self.vol.len(file)?;
-        if at > len {
-            return Err(Failed);
-        }
-        self.vol.write_at(file, at, bytes)
-    }
-
-    fn try_cut(&mut self, file: u32, to: u64) -> Result<(), Failed> {
-        let len = self.vol.len(file)?;
-        if to > len {
-            return Err(Failed);
-        }
-        self.vol.cut(file, to)
-    }
 }
 
 impl Vol for Blind {
@@ -112,17 +115,17 @@ impl Vol for Blind {
     }
 
     fn read_at(&mut self, file: u32, at: u64, into: &mut [u8]) -> Result<(), Failed> {
-        let read = self.try_read(file, at, into);
+        let read = read_within(&mut self.vol, file, at, into);
         self.counted(read)
     }
 
     fn write_at(&mut self, file: u32, at: u64, bytes: &[u8]) -> Result<(), Failed> {
-        let written = self.try_write(file, at, bytes);
+        let written = write_within(&mut self.vol, file, at, bytes);
         self.counted(written)
     }
 
     fn cut(&mut self, file: u32, to: u64) -> Result<(), Failed> {
-        let cut = self.try_cut(file, to);
+        let cut = cut_within(&mut self.vol, file, to);
         self.counted(cut)
     }
 
