@@ -155,42 +155,42 @@ fn later_run_finds_what_was_kept(rt: HostRuntime) -> Result<(), Fail> {
     Ok(())
 }
 
-/// A run over an empty volume and one whose file has these bytes.
-fn run_over_file(alloc: Global, file: u32, bytes: &[u8]) -> Result<Outcome, Fail> {
+/// A run over a volume whose file 0 has these bytes.
+fn run_over_bytes(alloc: Global, bytes: &[u8]) -> Result<Outcome, Fail> {
     let mut vol = MemVol::new(alloc);
-    vol.write_at(file, 0, bytes)?;
-    serve(alloc, vec![in alloc; MemVol::new(alloc), vol]?, b"")
+    vol.write_at(0, 0, bytes)?;
+    serve(alloc, vec![in alloc; vol]?, b"")
 }
 
 #[test]
-fn volume_that_no_server_wrote_is_told(rt: HostRuntime) -> Result<(), Fail> {
-    for (file, bytes, line) in [
+fn bytes_that_no_server_wrote_are_told(rt: HostRuntime) -> Result<(), Fail> {
+    for (bytes, line) in [
         (
-            0,
-            b"JSLOX\0\0\x01\0\0\0\0\0\0\0\x01\0\0".as_slice(),
-            b"damaged place 1 file 0 at 0\n".as_slice(),
+            [0; 18].as_slice(),
+            b"damaged place 0 file 0 at 0\n".as_slice(),
         ),
         (
-            1,
-            b"JSLOG\0\0\x01\x40\0\0\0\0\0\0\x01\0\0".as_slice(),
-            b"damaged place 1 file 1 at 8\n".as_slice(),
+            b"JSLOG\0\0\x03\0\0\0\0\0\0\0\0\0\0".as_slice(),
+            b"unknown version 3 in place 0\n".as_slice(),
         ),
         (
-            0,
-            b"JSLOG\0\0\x01\0\0\0\0\0\0\0\x01\x01\0\0\0\x09".as_slice(),
-            b"damaged place 1 file 0 at 16\n".as_slice(),
+            b"JSLOG\0\0\x01\x40\0\0\0\0\0\0\0\0\0".as_slice(),
+            b"damaged place 0 file 0 at 8\n".as_slice(),
         ),
         (
-            0,
-            b"JSLOG\0\0\x02\0\0\0\0\0\0\0\x01\0\0".as_slice(),
-            b"unknown version 2 in place 1\n".as_slice(),
+            b"JSLOG\0\0\x01\0\0\0\0\0\0\0\x01\x01\0\0\0\x01\xff\0".as_slice(),
+            b"damaged place 0 file 0 at 21\n".as_slice(),
         ),
     ] {
-        assert!(rt;
-            refuses(&run_over_file(rt.alloc(), file, bytes)?, 5, line),
-            "{file}"
-        );
+        assert!(rt; refuses(&run_over_bytes(rt.alloc(), bytes)?, 5, line));
     }
+    Ok(())
+}
+
+#[test]
+fn file_without_a_whole_head_is_as_good_as_empty(rt: HostRuntime) -> Result<(), Fail> {
+    let ran = run_over_bytes(rt.alloc(), &[0xff; 17])?;
+    assert!(rt; ran.status == 0 && ran.printed.is_empty());
     Ok(())
 }
 
