@@ -1,6 +1,6 @@
 //! A duplicate window.
 
-ghost use Rattle.std.specs.Prelude.{◌≡◌, ◌<◌, ◌≤◌, ◌↔◌, ◌^◌, [], ◌∷◌, ◌++◌, length, drop, option_map, nat_lt, None, OnOk, OnErr};
+ghost use Rattle.std.specs.Prelude.{◌≡◌, ◌<◌, ◌≤◌, ◌↔◌, ◌^◌, [], ◌∷◌, ◌++◌, length, drop, option_map, option_to_list, nat_lt, None, OnOk, OnErr};
 ghost use Rattle.std.specs.Bool.{OnTrue, OnFalse};
 ghost use Rattle.std.specs.List.{last_or};
 ghost use Rattle.std.specs.Option.{option_copied};
@@ -141,7 +141,7 @@ impl DedupWindow {
         ensures left { self.new ≡ record self.old { ids = remembered self.old now } }
     {
         while self.is_oldest_expired(now) {
-            self.drop_oldest();
+            self.pop();
         }
     }
 
@@ -157,14 +157,16 @@ impl DedupWindow {
         }
     }
 
-    /// Lets the oldest id go.
-    fn drop_oldest(&mut self)
+    /// Takes the oldest id out, if there is one. It takes no memory.
+    pub fn pop(&mut self) -> Option<Id>
+        ensures oldest { self.old.ids ≡ option_to_list result ++ self.new.ids }
         ensures left { self.new ≡ record self.old { ids = drop 1 self.old.ids } }
     {
         let Some(oldest) = self.ids.pop_front() else {
-            return;
+            return None;
         };
         self.known.remove(oldest.id.as_slice());
+        Some(oldest)
     }
 }
 

@@ -2,7 +2,7 @@ use Rattle.std.proofs.Common.{None, subst}
 use Rattle.js_base.specs.Bytes.{Bytes}
 use Rattle.dedup_window.specs.Known.{Sets}
 use Rattle.dedup_window.proofs.Mirroring.{mirrors_rest}
-use Rattle.dedup_window.proofs.window.DedupWindow.drop_oldest.Goals as goal
+use Rattle.dedup_window.proofs.window.DedupWindow.pop.Goals as goal
 
 pub invariant_of-self-2 : goal.invariant_of-self-2
 invariant_of-self-2 c =
