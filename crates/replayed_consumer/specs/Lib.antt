@@ -1,0 +1,4 @@
+pub mod Replayed
+pub mod Delivering
+pub mod GivingUp
+pub mod Storable
