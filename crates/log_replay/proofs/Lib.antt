@@ -1,0 +1,8 @@
+mod Ranges
+mod Moving
+mod Ids
+mod Streams
+mod Holders
+mod Changes
+mod Picking
+mod Makings

@@ -1,0 +1,43 @@
+use Rattle.std.proofs.Common.{◌≡◌, List, refl, sym, subst, ◌∙◌}
+use Rattle.std.proofs.lemmas.List.{with_items_is}
+use Rattle.js_model.specs.declared.consumer.Consumer.{Consumer}
+use Rattle.js_model.specs.Acknowledge.{with_due}
+use Rattle.js_model.specs.Streams.{in_place_of}
+use Rattle.model_laws.specs.Sound.{AreOrdered}
+use Rattle.effects.specs.declared.durable.Body.{Body}
+use Rattle.replayed_consumer.specs.Storable.{Keeps}
+use Rattle.log_replay.specs.Kept.{shown}
+use Rattle.log_replay.specs.Made.{Replaces}
+use Rattle.log_replay.specs.Taken.{HasPending, IsThere}
+use Rattle.log_replay.proofs.Changes.{dues}
+use Rattle.log_replay.proofs.Holders.{as_many}
+use Rattle.log_replay.proofs.body.ReplayedBody.set_due.Goals as goal
+
+pub set_due_at_one-requires : goal.set_due_at_one-requires
+set_due_at_one-requires c =
+    let ordered = subst (λ (b : Body). AreOrdered b.consumers) (sym c.self.view_is) c.requires.ordered in
+    let there = subst (λ (b : Body). IsThere b.consumers c.args.name.now (HasPending c.args.seq)) (sym c.self.view_is) c.requires.there in
+    record {
+      ordered = subst AreOrdered (sym c.as_mut_slice.ensures.value) ordered;
+      there = subst (λ (cs : List Consumer). IsThere cs c.args.name.now (HasPending c.args.seq)) (sym c.as_mut_slice.ensures.value) there;
+    }
+
+pub returns-clause-value : goal.returns-clause-value
+returns-clause-value c =
+    let i = c.self.inside in
+    let b = shown i.made i.moment i.last i.config i.messages i.ids i.consumers.items in
+    let new = c.set_due_at_one.new.consumers in
+    let there = subst (λ (b : Body). IsThere b.consumers c.args.name.now (HasPending c.args.seq)) (sym c.self.view_is) c.requires.there in
+    let r = subst (λ (cs : List Consumer). Replaces c.args.name.now (λ one other. (other ≡ with_due c.args.seq c.args.due one) × Keeps one other) cs new) c.as_mut_slice.ensures.value c.set_due_at_one.ensures.value in
+    let written = with_items_is i.consumers new (as_many (in_place_of r.other) i.consumers.items i.consumers.items new refl r.replaced ∙ sym i.consumers.ok.0) in
+    rw (written, ← c.self.view_is) (dues b c.args.name.now c.args.seq c.args.due new there r).made_is
+
+pub returns-clause-keeps : goal.returns-clause-keeps
+returns-clause-keeps c =
+    let i = c.self.inside in
+    let b = shown i.made i.moment i.last i.config i.messages i.ids i.consumers.items in
+    let new = c.set_due_at_one.new.consumers in
+    let there = subst (λ (b : Body). IsThere b.consumers c.args.name.now (HasPending c.args.seq)) (sym c.self.view_is) c.requires.there in
+    let r = subst (λ (cs : List Consumer). Replaces c.args.name.now (λ one other. (other ≡ with_due c.args.seq c.args.due one) × Keeps one other) cs new) c.as_mut_slice.ensures.value c.set_due_at_one.ensures.value in
+    let written = with_items_is i.consumers new (as_many (in_place_of r.other) i.consumers.items i.consumers.items new refl r.replaced ∙ sym i.consumers.ok.0) in
+    rw (written, ← c.self.view_is) (dues b c.args.name.now c.args.seq c.args.due new there r).keeps
