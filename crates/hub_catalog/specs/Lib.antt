@@ -1,0 +1,5 @@
+pub mod Lists
+pub mod Kinds
+pub mod Calls
+pub mod Turns
+pub mod Laws
