@@ -4,7 +4,6 @@ use Rattle.effects.specs.declared.durable.Durable.{Durable}
 use Rattle.effects.specs.declared.effect.Effect.{Effect}
 use Rattle.durable_checks.specs.Storable.{IsStorable}
 use Rattle.log_replay.specs.Given.{IsGiven}
-use Rattle.log_replay.specs.Made.{Makes}
 use Rattle.log_replay.specs.Taken.{IsTaken}
 use Rattle.log_replay.proofs.Makings.{at_ok, begun, changed}
 use Rattle.log_replay.proofs.replay.Replay.make.Goals as goal
@@ -27,6 +26,6 @@ returns-in-Some c =
     let is : d.body ≡ Some body = sym c.as_mut.ensures.value ∙ ap option_copied_mut c.in-Some.is in
     let storable = subst IsStorable (sym c.self.view_is) c.requires.storable in
     record {
-      made = at_ok c.make.result c.make.ensures.made (λ makes. rw (← c.self.view_is) (changed d body new c.args.effect is (subst (λ (e : Effect). Makes body e new) (sym c.in_default.change-is) makes) storable).made);
-      storable = at_ok c.make.result c.make.ensures.made (λ makes. (changed d body new c.args.effect is (subst (λ (e : Effect). Makes body e new) (sym c.in_default.change-is) makes) storable).storable);
+      made = at_ok c.make.result c.make.ensures.made (λ makes. rw (← c.self.view_is) (changed d body new c.args.effect is makes storable).made);
+      storable = at_ok c.make.result c.make.ensures.made (λ makes. (changed d body new c.args.effect is makes storable).storable);
     }
