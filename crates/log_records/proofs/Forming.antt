@@ -1,5 +1,5 @@
 -- What a volume holds keeps its form, whatever records are added.
-use Rattle.std.proofs.Common.{◌≡◌, ℕ, ◌+◌, ◌^◌, Bool, true, false, cond, ◌&&◌, not, List, [], ◌∷◌, length, map, Option, Some, None, IsTrue, refl, sym, subst, ◌∙◌}
+use Rattle.std.proofs.Common.{◌≡◌, ℕ, ◌+◌, ◌≤◌, ◌^◌, Bool, true, false, cond, ◌&&◌, not, List, [], ◌∷◌, length, map, Option, Some, None, IsTrue, refl, sym, subst, ◌∙◌, arith}
 use Rattle.std.specs.Prelude.{All, filter, nat_le, ◌==◌}
 use Rattle.std.specs.List.{list_any}
 use Rattle.std.proofs.lemmas.Bool.{and_parts, ltb-true, leb-true}
@@ -11,13 +11,14 @@ use Rattle.js_model.specs.declared.stream.Message.{Message}
 use Rattle.js_model.specs.declared.consumer.Pending.{Pending}
 use Rattle.js_model.specs.declared.consumer.Consumer.{Consumer}
 use Rattle.js_model.specs.Configs.{is_name, is_number, is_stream_config, is_consumer_config}
-use Rattle.js_model.specs.Streams.{by_name, in_place_of}
+use Rattle.js_model.specs.Streams.{by_name, in_place_of, size}
 use Rattle.js_model.specs.Consumers.{with_new}
 use Rattle.js_model.specs.Acknowledge.{without, with_due}
 use Rattle.js_model.proofs.Named.{in_place_of-names, some_is, none_some}
 use Rattle.js_model.proofs.Members.{found_in, all_in}
 use Rattle.model_laws.specs.Sound.{AreOrdered}
-use Rattle.model_laws.specs.Bounds.{IsWritableMessage}
+use Rattle.model_laws.specs.Bounds.{IsNumber, IsWritableMessage}
+use Rattle.log_replay.specs.Given as replay
 use Rattle.model_laws.proofs.SoundParts.{ordered_map}
 use Rattle.model_laws.proofs.NameOrder.{ordered_filter, ordered_with_new, All-with_new}
 use Rattle.effects.specs.declared.durable.Body.{Body}
@@ -52,6 +53,65 @@ given (Acked name low high) h = tt
 given (Due name seq due) h = tt
 given (GivenUp name moment) h = tt
 given (Now moment) h = tt
+
+number_of : (n : ℕ) → is_number n ≡ true → IsNumber n
+number_of n h = ltb-true n (2 ^ 62) h
+
+-- a message is as small as a store wants it
+is_small : (m : Message) → IsWritableMessage m → size m ≤ 2 ^ 21
+is_small m h =
+    let spelled = (and_parts _ _ h.subject).0 in
+    let bytes = (and_parts _ _ (and_parts _ _ (and_parts _ _ spelled).0).0).0 in
+    let subject : length m.subject ≤ 1024 = leb-true (length m.subject) 1024 (and_parts _ _ bytes).1 in
+    let rest : length m.headers + length m.payload ≤ 1048576 = h.bytes in
+    omega (arith, subject, rest)
+
+record IsAllowedMessage (m : Message) : Type 0 where
+  number : is_number m.seq ≡ true
+  written : IsWritableMessage m
+
+allowed_message : (m : Message) (id : Bytes) → IsTrue (is_record (PutHere m.seq m.at id m.subject m.headers m.payload)) → IsAllowedMessage m
+allowed_message m id is =
+    let last = and_parts (is_number m.seq && is_number m.at && is_text id && is_subject_text m.subject && is_header m.headers) (fits_block m.headers m.payload) is in
+    let block = and_parts (is_number m.seq && is_number m.at && is_text id && is_subject_text m.subject) (is_header m.headers) last.0 in
+    let addressed = and_parts (is_number m.seq && is_number m.at && is_text id) (is_subject_text m.subject) block.0 in
+    let numbers = and_parts (is_number m.seq && is_number m.at) (is_text id) addressed.0 in
+    record {
+      number = (and_parts (is_number m.seq) (is_number m.at) numbers.0).0;
+      written = record { subject = addressed.1; headers = block.1; bytes = leb-true (length m.headers + length m.payload) 1048576 last.1 };
+    }
+
+record IsAllowedConsumer (name : Bytes) (config : ConsumerConfig) : Type 0 where
+  valid : IsTrue (is_consumer_config config)
+  named : IsTrue (same config.name name)
+
+allowed_consumer : (name : Bytes) (made : ℕ) (config : ConsumerConfig) (cursor : ℕ) (picks : List ℕ) → IsTrue (is_record (MakeConsumer name made config cursor picks)) → IsAllowedConsumer name config
+allowed_consumer name made config cursor picks is =
+    let fourth = and_parts (is_name name && is_number made && is_consumer_config config && same config.name name && is_cursor cursor) (are_picks picks) is in
+    let third = and_parts (is_name name && is_number made && is_consumer_config config && same config.name name) (is_cursor cursor) fourth.0 in
+    let second = and_parts (is_name name && is_number made && is_consumer_config config) (same config.name name) third.0 in
+    let first = and_parts (is_name name && is_number made) (is_consumer_config config) second.0 in
+    record { valid = first.1; named = second.1 }
+
+pub replayed : (e : Effect) → IsTrue (is_record e) → replay.IsGiven e
+replayed (MakeStream incarnation made config) h =
+    let parts = and_parts (is_number incarnation && is_number made) (is_stream_config config) h in
+    record { number = number_of incarnation (and_parts (is_number incarnation) (is_number made) parts.0).0; valid = parts.1 }
+replayed (ChangeStream config) h = h
+replayed DropStream h = tt
+replayed (PutHere seq at id subject headers payload) h =
+    let message : Message = record { seq = seq; at = at; subject = subject; headers = headers; payload = payload } in
+    let a = allowed_message message id h in
+    record { number = number_of seq a.number; small = is_small message a.written }
+replayed (Skip seq at id) h = number_of seq (and_parts (is_number seq) (is_number at) (and_parts (is_number seq && is_number at) (is_text id) h).0).0
+replayed (Remove low high) h = tt
+replayed (MakeConsumer name made config cursor picks) h = let a = allowed_consumer name made config cursor picks h in record { valid = a.valid; named = a.named }
+replayed (DropConsumer name) h = tt
+replayed (Deliver name seq count due dseq) h = tt
+replayed (Acked name low high) h = tt
+replayed (Due name seq due) h = tt
+replayed (GivenUp name moment) h = tt
+replayed (Now moment) h = tt
 
 -- ---- parts
 
@@ -146,10 +206,7 @@ live_forms i b (ChangeStream config) f is new h =
 live_forms i b DropStream f is new h = subst IsFormed (some_is h) tt
 live_forms i b (PutHere seq at id subject headers payload) f is new h =
     let message : Message = record { seq = seq; at = at; subject = subject; headers = headers; payload = payload } in
-    let last = and_parts (is_number seq && is_number at && is_text id && is_subject_text subject && is_header headers) (fits_block headers payload) is in
-    let block = and_parts (is_number seq && is_number at && is_text id && is_subject_text subject) (is_header headers) last.0 in
-    let addressed = and_parts (is_number seq && is_number at && is_text id) (is_subject_text subject) block.0 in
-    let written : IsWritableMessage message = record { subject = addressed.1; headers = block.1; bytes = leb-true (length headers + length payload) 1048576 last.1 } in
+    let written = (allowed_message message id is).written in
     tested_forms (is_next seq at b) (live i (put message id b)) new (kept_whole b (put message id b) f refl (All-push IsWritableMessage b.messages message f.writable written) refl) h
 live_forms i b (Skip seq at id) f is new h = tested_forms (is_next seq at b) (live i (numbered seq at id b)) new (kept_whole b (numbered seq at id b) f refl f.writable refl) h
 live_forms i b (Remove low high) f is new h =
@@ -167,12 +224,7 @@ live_forms i b (MakeConsumer name made config cursor picks) f is new h = go (by_
     added = consumer_from name made config cursor picks
 
     configured : IsConfigured added
-    configured =
-        let fourth = and_parts (is_name name && is_number made && is_consumer_config config && same config.name name && is_cursor cursor) (are_picks picks) is in
-        let third = and_parts (is_name name && is_number made && is_consumer_config config && same config.name name) (is_cursor cursor) fourth.0 in
-        let second = and_parts (is_name name && is_number made && is_consumer_config config) (same config.name name) third.0 in
-        let first = and_parts (is_name name && is_number made) (is_consumer_config config) second.0 in
-        record { config = first.1; named = second.1; waiting = refl; mark = refl }
+    configured = let a = allowed_consumer name made config cursor picks is in record { config = a.valid; named = a.named; waiting = refl; mark = refl }
 
     go : (o : Option Consumer) → by_name b.consumers name ≡ o → live_if i (with_made b added o) ≡ Some new → IsFormed new
     go None at e =

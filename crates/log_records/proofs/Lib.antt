@@ -9,4 +9,3 @@ pub mod Forming
 pub mod Adding
 pub mod Reaching
 pub mod Telling
-pub mod Lightly

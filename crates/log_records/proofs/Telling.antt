@@ -1,12 +1,12 @@
 -- How what is known of the bytes of a batch is told of its log.
-use Rattle.std.proofs.Common.{◌≡◌, ◌≢◌, inr, ℕ, ◌==◌, true, false, [], ◌∷◌, Some, None, Err, length, refl, sym, subst, arith}
+use Rattle.std.proofs.Common.{◌≡◌, ◌≢◌, inr, ℕ, ◌==◌, true, false, [], ◌∷◌, Option, Some, None, Err, length, refl, sym, subst, arith}
 use Rattle.std.proofs.lemmas.Bool.{eqb-true, true≢false}
 use Rattle.js_base.specs.Bytes.{Bytes}
 use Rattle.effects.specs.declared.durable.Durable.{Durable}
 use Rattle.op_records.specs.Reading.{vacant_field}
 use Rattle.op_records.specs.declared.fault.RecordFault.{RecordFault}
 use Rattle.log_records.specs.Damage.{IsAt}
-use Rattle.log_records.specs.Reading.{IsStartFault, IsBatchFault, IsTold, IsFirstFault, IsLaterFault, IsAdded, IsAddedAt, IsOffset}
+use Rattle.log_records.specs.Reading.{IsStartFault, IsBatchFault, IsTold, IsFirstFault, IsLaterFault, IsAdded, IsAddedAt, IsLastFrom, IsOffsetOf}
 use Rattle.log_records.specs.declared.batch.BatchFault.{BatchFault}
 use Rattle.log_records.specs.declared.fault.ReadFault.{ReadFault}
 use Rattle.log_records.specs.declared.fault.ReadFault.TheVariants.{Fault, Damaged, NoMemory as OutOfMemory}
@@ -31,8 +31,6 @@ later_told gate old bytes fault Fault h t = absurd t
 later_told gate old bytes fault (Damaged at) h (place, is, here) = (place, subst (IsBatchFault old bytes) is h, here)
 later_told gate old bytes fault OutOfMemory h t = tt
 
-pub none_added : (gate : ℕ) (old : Durable) (bytes : Bytes) (new : Durable) → IsAdded old bytes new None → IsAddedAt gate old bytes new None
-none_added gate old bytes new a = record { adds = a.adds; last_is = a.last_is }
-
-pub some_added : (gate : ℕ) (old : Durable) (bytes : Bytes) (new : Durable) (place at : ℕ) → IsAdded old bytes new (Some place) → IsOffset gate place (Some at) → IsAddedAt gate old bytes new (Some at)
-some_added gate old bytes new place at a is = record { adds = a.adds; last_is = (place, a.last_is, is) }
+pub placed_added : (gate : ℕ) (old : Durable) (bytes : Bytes) (new : Durable) (last at : Option ℕ) → IsAdded old bytes new last → IsOffsetOf gate last at → IsAddedAt gate old bytes new at
+placed_added gate old bytes new None at a is = record { adds = a.adds; last_is = subst (IsLastFrom gate old bytes new) (sym is) a.last_is }
+placed_added gate old bytes new (Some place) at a is = record { adds = a.adds; last_is = subst (IsLastFrom gate old bytes new) (sym is) (place, a.last_is, refl) }

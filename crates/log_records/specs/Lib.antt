@@ -2,4 +2,4 @@ pub mod Batches
 pub mod Damage
 pub mod Reading
 pub mod Laws
-pub mod Light
+pub mod Holding

@@ -91,6 +91,11 @@ abbrev pub IsOffset : ℕ → ℕ → Option ℕ → Type 0
 IsOffset gate place (Some at) = at ≡ gate + 5 + place
 IsOffset gate place None = Unit {0}
 
+-- where the last record of the batch behind a gate stands; it may have none
+abbrev pub IsOffsetOf : ℕ → Option ℕ → Option ℕ → Type 0
+IsOffsetOf gate None at = at ≡ None
+IsOffsetOf gate (Some place) at = at ≡ Some (gate + 5 + place)
+
 -- the fault of the batch behind a gate
 abbrev pub IsTold : ℕ → BatchFault → ReadFault → Type 0
 IsTold gate fault Fault = ⊥

@@ -3,6 +3,7 @@
 
 mod batch;
 mod fault;
+mod held;
 pub mod laws;
 mod log;
 

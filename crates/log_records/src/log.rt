@@ -8,14 +8,17 @@ ghost use Rattle.gate_log.specs.Settled.{IsSettled};
 ghost use Rattle.gate_log.specs.Reading.{IsReadAt, IsSomeGate};
 ghost use Rattle.durable_checks.specs.Storable.{IsFormed, IsOpenable, IsStorable};
 ghost use Rattle.log_records.specs.Batches.{Begins};
-ghost use Rattle.log_records.specs.Reading.{GivesIn, IsAddedAt, IsBatch, IsBegun, IsFirstFault, IsFurther, IsLaterFault, IsOffset, IsOutside, IsReadFault, IsTold};
+ghost use Rattle.log_records.specs.Holding.{held_in, IsReplayStorable};
+ghost use Rattle.log_records.specs.Reading.{GivesIn, IsAddedAt, IsBatch, IsBegun, IsFirstFault, IsFurther, IsLaterFault, IsOffset, IsOffsetOf, IsOutside, IsReadFault, IsTold};
 
 use crate::batch::{BatchFault, add_batch, begin};
 use crate::fault::ReadFault;
+use crate::held::Held;
 use durable_checks::is_openable;
 use effects::Durable;
 use gate_log::{GateLog, LogFault};
-use js_base::Blob;
+use js_base::{Blob, NoMemory};
+use log_replay::Replay;
 use std::alloc::Global;
 use vol_disk::Vol;
 
@@ -36,6 +39,19 @@ fn offset(gate: u64, place: usize) -> Option<u64>
     begin.checked_add(place as u64)
 }
 
+/// The offset of the last record of the batch behind a gate, if there is any.
+fn offset_of(gate: u64, last: Option<usize>) -> Result<Option<u64>, NoMemory>
+    ensures value { IfOk result (IsOffsetOf gate last) }
+{
+    let Some(place) = last else {
+        return Ok(None);
+    };
+    match offset(gate, place) {
+        Some(at) => Ok(Some(at)),
+        None => Err(NoMemory),
+    }
+}
+
 /// The fault of the batch behind a gate.
 fn told(gate: u64, fault: BatchFault) -> ReadFault
     ensures value { IsTold gate fault result }
@@ -50,7 +66,7 @@ fn told(gate: u64, fault: BatchFault) -> ReadFault
 }
 
 /// What the first batch of a log tells: where its place began.
-fn add_first(alloc: Global, records: &[u8]) -> Result<Durable, ReadFault>
+fn add_first(alloc: Global, records: &[u8]) -> Result<Replay, ReadFault>
     requires batch { IsBatch records.now }
     ensures begun { IfOk result (Begins records.now) }
     ensures formed { IfOk result IsFormed }
@@ -61,30 +77,32 @@ fn add_first(alloc: Global, records: &[u8]) -> Result<Durable, ReadFault>
         return Err(ReadFault::Damaged(FIRST_GATE));
     }
     match begin(alloc, records) {
-        Ok(durable) => Ok(durable),
+        Ok(replay) => Ok(replay),
         Err(fault) => Err(told(FIRST_GATE, fault)),
     }
 }
 
 /// Adds the later batch behind a gate, and tells the offset of its last record, if there is any.
+#[tactic(auto, using(crate::proofs::Telling::placed_added))]
 fn add_later(
     alloc: Global,
     gate: u64,
     records: &[u8],
-    durable: &mut Durable,
-) -> Result<Option<u64>, ReadFault>
+    held: Held,
+) -> Result<(Held, Option<u64>), ReadFault>
     requires batch { IsBatch records.now }
-    requires formed { IsFormed durable.old }
-    requires storable { IsStorable durable.old }
-    ensures added { IfOk result (IsAddedAt gate durable.old records.now durable.new) }
-    ensures formed { IfOk result (λ last. IsFormed durable.new) }
-    ensures fault { IfErr result (IsLaterFault gate durable.old records.now) }
+    requires formed { IsFormed (held_in held) }
+    requires sound { IsReplayStorable held }
+    requires storable { IsStorable (held_in held) }
+    ensures added { IfOk result (λ r. IsAddedAt gate (held_in held) records.now (held_in r.0) r.1) }
+    ensures formed { IfOk result (λ r. IsFormed (held_in r.0)) }
+    ensures sound { IfOk result (λ r. IsReplayStorable r.0) }
+    ensures fault { IfErr result (IsLaterFault gate (held_in held) records.now) }
 {
-    match add_batch(alloc, records, durable) {
-        Ok(None) => Ok(None),
-        Ok(Some(place)) => match offset(gate, place) {
-            Some(at) => Ok(Some(at)),
-            None => Err(ReadFault::NoMemory),
+    match add_batch(alloc, records, held) {
+        Ok((made, last)) => match offset_of(gate, last) {
+            Ok(at) => Ok((made, at)),
+            Err(NoMemory) => Err(ReadFault::NoMemory),
         },
         Err(fault) => Err(told(gate, fault)),
     }
@@ -139,7 +157,7 @@ fn read_later<V: Vol>(
     vol: &mut V,
     log: &GateLog,
     first_end: u64,
-    begun: Durable,
+    begun: Replay,
 ) -> Result<Durable, ReadFault>
     requires formed { IsFormed begun }
     requires storable { IsStorable begun }
@@ -154,14 +172,16 @@ fn read_later<V: Vol>(
     ensures cause { HasCause (V.faults vol.old) (V.faults vol.new) (IsErrOf result ReadFault.Fault) }
     ensures later { (V.disk vol.old).moment ≤ (V.disk vol.new).moment }
 {
-    let mut durable = begun;
+    let mut held = Held::Replayed(begun);
     let mut last = FIRST_GATE;
     let mut gate = first_end;
     while let Some((records, next)) = next_batch(alloc, vol, log, gate)? {
-        let later = add_later(alloc, gate, records.as_slice(), &mut durable)?;
+        let (made, later) = add_later(alloc, gate, records.as_slice(), held)?;
+        held = made;
         last = later.unwrap_or(last);
         gate = next;
     }
+    let durable = held.into_durable(alloc)?;
     let openable = is_openable(alloc, &durable)?;
     if openable {
         Ok(durable)

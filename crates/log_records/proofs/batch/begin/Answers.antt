@@ -9,7 +9,7 @@ returns-in_err-incarnation-clause-fault c =
     rw (p.1, p.2) (start_fault c.args.records.now c.in_err-incarnation.field-0.0 c.in_err-incarnation.ensures.reading)
 
 pub returns-clause-begun : goal.returns-clause-begun
-returns-clause-begun c = record { incarnation = c.in_ok-incarnation.incarnation; reads = c.in_ok-incarnation.ensures.reading; begun_is = refl }
+returns-clause-begun c = record { incarnation = c.in_ok-incarnation.incarnation; reads = c.in_ok-incarnation.ensures.reading; begun_is = c.vacant.ensures.value }
 
 pub returns-clause-storable : goal.returns-clause-storable
-returns-clause-storable c = vacant_stored c.args.records.now c.in_ok-incarnation.incarnation (λ k. (c.type_inv.records k).fits) c.requires.batch c.in_ok-incarnation.ensures.reading
+returns-clause-storable c = rw c.vacant.ensures.value (vacant_stored c.args.records.now c.in_ok-incarnation.incarnation (λ k. (c.type_inv.records k).fits) c.requires.batch c.in_ok-incarnation.ensures.reading)
