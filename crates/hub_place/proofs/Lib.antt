@@ -1,0 +1,10 @@
+mod Converted
+mod HeldTimes
+mod Lasts
+mod Sending
+mod Standings
+mod Calm
+mod Steps
+mod Made
+mod Heard
+mod Values
