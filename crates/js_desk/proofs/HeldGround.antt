@@ -49,7 +49,7 @@ there_is seen row at old within is = slice_get_read row (length row) at.place ol
 -- ---- the turn
 
 -- a stream is dropped within one
-drops_within : (what : What) (turn : Turn) → is_drop what ≡ true → MayHold what (phase_of turn) → turn ≡ turns.Within
+pub drops_within : (what : What) (turn : Turn) → is_drop what ≡ true → MayHold what (phase_of turn) → turn ≡ turns.Within
 drops_within (whats.Drop reply) turn d may = within_is turn may
 drops_within (whats.Make reply config) turn d may = absurd (cc)
 drops_within (whats.Change reply config) turn d may = absurd (cc)

@@ -52,7 +52,7 @@ fn desk_fault(fault: RouteFault) -> DeskFault
 }
 
 /// What a call of a desk answers, by what its router answered.
-pub(crate) fn desk_answer<T>(answer: Result<T, RouteFault>) -> Result<T, DeskFault>
+pub fn desk_answer<T>(answer: Result<T, RouteFault>) -> Result<T, DeskFault>
     ensures value { result ≡ desk_answer answer }
 {
     match answer {
@@ -62,7 +62,7 @@ pub(crate) fn desk_answer<T>(answer: Result<T, RouteFault>) -> Result<T, DeskFau
 }
 
 /// What the sending of a message answers, by what the router answered.
-pub(crate) fn sent(answer: Result<u64, RouteFault>) -> Result<(), DeskFault>
+pub fn sent(answer: Result<u64, RouteFault>) -> Result<(), DeskFault>
     ensures value { result ≡ sent answer }
 {
     match answer {

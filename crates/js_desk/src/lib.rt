@@ -9,5 +9,10 @@ mod solo_ground;
 mod turn;
 mod volumes;
 
-pub use faults::{Closed, HubFault};
+pub use cataloging::{Uncataloged, catalog_of};
+pub use closing::close_places;
+pub use faults::{Closed, HubFault, desk_answer, sent};
 pub use solo_desk::SoloDesk;
+pub use solo_ground::{is_drop, is_dropped, last_of, place_or};
+pub use turn::Turn;
+pub use volumes::{give_back, open_places};

@@ -53,7 +53,7 @@ impl<P: Place> Model for SoloGround<P> {
 }
 
 /// Whether a stream was dropped by what became so, if that was asked.
-fn is_dropped(asked: bool, became: &Became) -> bool
+pub fn is_dropped(asked: bool, became: &Became) -> bool
     ensures value { result ≡ (asked && is_dropped became.now) }
 {
     let done = match became {
@@ -69,14 +69,14 @@ fn is_dropped(asked: bool, became: &Became) -> bool
 }
 
 /// Whether a stream is asked to be dropped.
-fn is_drop(what: &What) -> bool
+pub fn is_drop(what: &What) -> bool
     ensures value { result ≡ is_drop what.now }
 {
     matches!(what, What::Drop { .. })
 }
 
 /// The place of the last hold after one at a place that became so. One counts if a step was made there, also if the volume failed in it.
-fn last_of(became: &Became, at: PlaceAt, before: Option<PlaceAt>) -> Option<PlaceAt>
+pub fn last_of(became: &Became, at: PlaceAt, before: Option<PlaceAt>) -> Option<PlaceAt>
     ensures value { result ≡ (if is_held became.now then Some at else before) }
 {
     match became {
@@ -91,7 +91,7 @@ fn last_of(became: &Became, at: PlaceAt, before: Option<PlaceAt>) -> Option<Plac
 }
 
 /// The place that was found, or the one before.
-fn place_or(before: u32, found: Option<PlaceAt>) -> u32
+pub fn place_or(before: u32, found: Option<PlaceAt>) -> u32
     ensures value { result ≡ place_or before found }
 {
     match found {

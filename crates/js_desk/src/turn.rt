@@ -7,7 +7,7 @@ use js_model::CatalogFault;
 
 /// Whether a caller is in a turn of the catalog, and what of it is still to be told there.
 #[derive(Clone, Copy, Debug, PartialEq, Eq)]
-pub(crate) enum Turn {
+pub enum Turn {
     /// In none.
     Outside,
     Within,
@@ -19,7 +19,7 @@ pub(crate) enum Turn {
 
 impl Turn {
     /// The turn after the subjects of the stream of a place were changed, or were not.
-    pub(crate) fn after_change(self, changed: &Result<(), CatalogFault>, place: u32) -> Turn
+    pub fn after_change(self, changed: &Result<(), CatalogFault>, place: u32) -> Turn
         ensures value { result ≡ after_change self changed.now place }
     {
         match changed {
@@ -29,7 +29,7 @@ impl Turn {
     }
 
     /// The turn after a hold at a place, by which its stream was dropped or not.
-    pub(crate) fn after_hold(self, dropped: bool, place: u32) -> Turn
+    pub fn after_hold(self, dropped: bool, place: u32) -> Turn
         ensures value { result ≡ after_hold self dropped place }
     {
         if dropped { Turn::Owing(place) } else { self }
