@@ -9,10 +9,12 @@ ghost use Rattle.route_core.specs.Sessions.{InOrder};
 use crate::delivery::Delivery;
 use crate::groups::next_of_groups;
 use crate::open_sessions::{place_of, takes_headers};
+use crate::roused::Roused;
 use crate::session::Session;
 use crate::table::{Heard, Table};
 use js_base::{NoMemory, Out};
 use std::alloc::Global;
+use std::sync::Arc;
 
 /// A message for a subscription, and the number of the subscription in the table.
 #[derive(Drop)]
@@ -116,5 +118,15 @@ pub(crate) fn hand_over_all(sessions: &mut [Session], subscriptions: &mut Table,
         let Posted { number, delivery } = posted;
         subscriptions.count_sent(number, delivery.session, delivery.sid.as_slice());
         hand_over(sessions, delivery);
+    }
+}
+
+/// Adds the sessions of these messages to those that were handed some, if anybody takes note of that.
+pub(crate) fn rouse(roused: &Option<Arc<Roused>>, list: &[Posted]) {
+    let Some(roused) = roused else {
+        return;
+    };
+    for posted in list {
+        roused.add(posted.delivery.session);
     }
 }

@@ -7,10 +7,12 @@ mod groups;
 mod measured_frame;
 mod open_sessions;
 mod parcel;
+mod roused;
 mod router;
 mod session;
 mod subscription;
 mod table;
 mod waiting;
 
+pub use roused::Roused;
 pub use router::Router;

@@ -8,16 +8,18 @@ ghost use Rattle.js_model.specs.declared.desk.Collected.TheVariants.{Frames};
 ghost use Rattle.route_core.specs.Spreading.{Spreads};
 ghost use Rattle.route_core.specs.Idle.{IsIdle};
 
-use crate::dispatch::{deliveries, hand_over_all};
+use crate::dispatch::{deliveries, hand_over_all, rouse};
 use crate::open_sessions::{
     add_session, deaf_of, is_open, is_publisher_open, place_of, remove_session, set_options,
 };
+use crate::roused::Roused;
 use crate::session::Session;
 use crate::table::Table;
 use js_base::Out;
 use js_model::{Collected, RouteFault};
 use std::alloc::Global;
 use std::marker::Model;
+use std::sync::Arc;
 
 /// The first number that no session can have.
 const END: u64 = 1 << 62;
@@ -30,6 +32,8 @@ pub struct Router {
     subscriptions: Table,
     /// The last number that was given to a session, 0 for none.
     latest: u64,
+    /// Where it adds the sessions that it hands messages, if anybody takes note of that.
+    roused: Option<Arc<Roused>>,
 }
 
 impl Model for Router {
@@ -52,6 +56,19 @@ impl Router {
             sessions: Vec::new(alloc),
             subscriptions: Table::new(alloc),
             latest: 0,
+            roused: None,
+        }
+    }
+
+    /// A router without sessions, which adds the sessions that it hands messages to these. It takes no memory.
+    pub fn rousing(alloc: Global, roused: Arc<Roused>) -> Router
+        ensures empty { result ≡ empty_router }
+    {
+        Router {
+            sessions: Vec::new(alloc),
+            subscriptions: Table::new(alloc),
+            latest: 0,
+            roused: Some(roused),
         }
     }
 
@@ -151,6 +168,7 @@ impl Router {
         let deaf = deaf_of(&self.sessions, from);
         let list = deliveries(alloc, &self.sessions, &self.subscriptions, out, deaf)?;
         let count = list.len() as u64;
+        rouse(&self.roused, list.as_slice());
         hand_over_all(&mut self.sessions, &mut self.subscriptions, list);
         Ok(count)
     }

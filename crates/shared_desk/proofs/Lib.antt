@@ -1,0 +1,13 @@
+pub mod Routed
+pub mod Seats
+pub mod Looked
+pub mod Held
+pub mod Rows
+pub mod Numbers
+pub mod Halves
+pub mod Gathering
+pub mod Joined
+pub mod Leaving
+pub mod Closed
+pub mod Desks
+pub mod Grounded

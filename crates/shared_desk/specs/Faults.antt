@@ -1,0 +1,10 @@
+-- Why a hub is not opened if it has no catalog.
+use Rattle.js_desk.specs.declared.cataloging.Uncataloged.{Uncataloged}
+use Rattle.js_desk.specs.declared.cataloging.Uncataloged.TheVariants as stops
+use Rattle.js_desk.specs.declared.faults.HubFault.{HubFault}
+use Rattle.js_desk.specs.declared.faults.HubFault.TheVariants as faults
+use Rattle.std.specs.Global.{Vec}
+
+abbrev pub fault_of : {V : Type 0} → Uncataloged → Vec V → HubFault V
+fault_of (stops.Conflict first second) vols = faults.Conflict first second vols
+fault_of stops.NoMemory vols = faults.NoMemory vols

@@ -1,0 +1,14 @@
+pub mod Hubs
+pub mod Seats
+pub mod Passes
+pub mod Sides
+pub mod Grounds
+pub mod Desks
+pub mod Opening
+pub mod Meeting
+pub mod Histories
+pub mod Joining
+pub mod Closing
+pub mod Dealing
+pub mod Laws
+pub mod Faults
