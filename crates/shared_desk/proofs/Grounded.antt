@@ -1,100 +1,30 @@
 -- What holds of the ground of one caller of many before and after each call.
-use Rattle.std.proofs.Common.{◌≡◌, ◌≢◌, ◌<◌, ℕ, Bool, true, false, List, [], ◌∷◌, map, Option, Some, None, IfSome, refl, sym, ap, subst, ◌∙◌, if◌then◌else◌}
+use Rattle.std.proofs.Common.{◌≡◌, ◌<◌, ℕ, Bool, true, false, List, map, Option, Some, None, IfSome, refl, sym, ap, subst, ◌∙◌, if◌then◌else◌}
 use Rattle.std.specs.Prelude.{is_some, length, slice_get, slice_set}
 use Rattle.std.specs.List.{AllZip}
 use Rattle.js_model.specs.declared.desk.PlaceAt.{PlaceAt}
-use Rattle.js_model.specs.Catalog.{Catalog}
 use Rattle.js_api.specs.declared.outcome.Became.{Became}
-use Rattle.desk_ground.specs.Grounds as phases
 use Rattle.histories.specs.Entries.{Opening}
 use Rattle.turn_lock.specs.Seats.{LockView, SeatView}
-use Rattle.hub_catalog.specs.Lists.{AreSingle, AreSingleBut}
-use Rattle.hub_catalog.specs.Turns.{TurnView}
 use Rattle.hub_place.specs.Holds.{SendsTo}
 use Rattle.js_desk.specs.declared.turn.Turn.{Turn}
 use Rattle.js_desk.specs.declared.turn.Turn.TheVariants as turns
-use Rattle.js_desk.specs.Grounds.{is_held, phase_of}
-use Rattle.js_desk.proofs.Looked.{outside_is, within_is}
+use Rattle.js_desk.specs.Grounds.{is_held}
+use Rattle.js_desk.proofs.Sets.{length_set}
 use Rattle.shared_desk.specs.declared.side.Side.{Side}
 use Rattle.shared_desk.specs.declared.side.Side.TheVariants as sides
 use Rattle.shared_desk.specs.Grounds.{IsGrounded}
 use Rattle.shared_desk.specs.Hubs.{HubView, IsHub}
 use Rattle.shared_desk.specs.Passes.{IsPass, IsPassOf, scene_by}
-use Rattle.shared_desk.specs.Seats.{AreThere, IsSeatOf, IsSeated, seat_in, seats_in}
-use Rattle.shared_desk.specs.Sides.{IsBeside, IsInside, IsOutside, MayStand}
+use Rattle.shared_desk.specs.Seats.{IsSeatOf, IsSeated, seat_in, seats_in}
+use Rattle.shared_desk.specs.Sides.{IsBeside}
 use Rattle.shared_desk.proofs.Held.{last_after}
+use Rattle.shared_desk.proofs.Rows.{row_long}
 use Rattle.shared_desk.proofs.Seats.{all_at, all_there, row_is, zip_get, zip_long, zip_set}
-
--- ---- the caller's side of the catalog
-
-pub is_outside : (of : LockView) (turn : Turn) (side : Side) → IsBeside of turn side → phase_of turn ≡ phases.Outside → IsOutside side
-is_outside of turn (sides.Outside seat) h e = tt
-is_outside of turn (sides.Inside going) h e = absurd (subst (λ (t : Turn). MayStand t going.kept) (outside_is turn e) h.0)
-is_outside of turn sides.Away h e = absurd h
-
-pub is_inside : (of : LockView) (turn : Turn) (side : Side) → IsBeside of turn side → (phase_of turn ≡ phases.Outside → ⊥) → IsInside side
-is_inside of turn (sides.Outside seat) h no = absurd (no (ap phase_of h.0))
-is_inside of turn (sides.Inside going) h no = tt
-is_inside of turn sides.Away h no = absurd h
-
-pub outside_seat : (of : LockView) (turn : Turn) (side : Side) (seat : SeatView) → IsBeside of turn side → side ≡ sides.Outside seat → (turn ≡ turns.Outside) × IsSeatOf of seat
-outside_seat of turn side seat h e = subst (IsBeside of turn) e h
-
-pub inside_turn : (of : LockView) (turn : Turn) (side : Side) (going : TurnView) → IsBeside of turn side → side ≡ sides.Inside going → MayStand turn going.kept × IsSeatOf of going.seat
-inside_turn of turn side going h e = subst (IsBeside of turn) e h
-
--- by its phase
-pub stands_within : (turn : Turn) (c : Catalog) → phase_of turn ≡ phases.Within → MayStand turn c → AreSingle c
-stands_within turn c e h = subst (λ (t : Turn). MayStand t c) (within_is turn e) h
-
-between_is : (turn : Turn) (place : ℕ) → phase_of turn ≡ phases.Between place → (n : ℕ) × (turn ≡ turns.Between n) × (n ≡ place)
-between_is turns.Outside place e = absurd (cc)
-between_is turns.Within place e = absurd (cc)
-between_is (turns.Between n) place e = (n, refl, cc)
-between_is (turns.Owing n) place e = absurd (cc)
-
-owing_is : (turn : Turn) (place : ℕ) → phase_of turn ≡ phases.Owing place → (n : ℕ) × (turn ≡ turns.Owing n)
-owing_is turns.Outside place e = absurd (cc)
-owing_is turns.Within place e = absurd (cc)
-owing_is (turns.Between n) place e = absurd (cc)
-owing_is (turns.Owing n) place e = (n, refl)
-
-single_but : (place : ℕ) (c : Catalog) → AreSingle c → AreSingleBut place c
-single_but place c h = λ n p there other. h n p there
-
-pub stands_between : (turn : Turn) (place : ℕ) (c : Catalog) → phase_of turn ≡ phases.Between place → MayStand turn c → AreSingleBut place c
-stands_between turn place c e h =
-    let is = between_is turn place e in subst (λ (n : ℕ). AreSingleBut n c) is.2 (subst (λ (t : Turn). MayStand t c) is.1 h)
-
--- before a place is freed
-pub stands_freeing : (turn : Turn) (place : ℕ) (dropped : Bool) (c : Catalog) → phase_of turn ≡ phases.before_freeing dropped place → MayStand turn c → AreSingleBut place c
-stands_freeing turn place true c e h = let is = owing_is turn place e in single_but place c (subst (λ (t : Turn). MayStand t c) is.1 h)
-stands_freeing turn place false c e h = single_but place c (stands_within turn c e h)
-
--- before it is marked stopped
-pub stands_stopping : (turn : Turn) (place : ℕ) (c : Catalog) → phases.MayStop place (phase_of turn) → MayStand turn c → AreSingleBut place c
-stands_stopping turns.Outside place c may h = absurd may
-stands_stopping turns.Within place c may h = single_but place c h
-stands_stopping (turns.Between n) place c may h = subst (λ (m : ℕ). AreSingleBut m c) may h
-stands_stopping (turns.Owing n) place c may h = absurd may
-
--- a caller that may do so is in a turn
-pub freeing_inside : (place : ℕ) (dropped : Bool) (turn : Turn) → phase_of turn ≡ phases.before_freeing dropped place → phase_of turn ≡ phases.Outside → ⊥
-freeing_inside place true turn e out = cc
-freeing_inside place false turn e out = cc
-
-pub stopping_inside : (place : ℕ) (turn : Turn) → phases.MayStop place (phase_of turn) → phase_of turn ≡ phases.Outside → ⊥
-stopping_inside place turn may out = subst (phases.MayStop place) out may
 
 -- ---- after each call
 
 module _ (hub : HubView) (router : Option SeatView) (side : Side) (row : List (Option SeatView)) (last : Option PlaceAt) (turn : Turn) (g : IsGrounded hub router side row last turn) where
-  pub with_router : (new : SeatView) → IsSeatOf hub.router new → IsGrounded hub (Some new) side row last turn
-  with_router new is = record { is_hub = g.is_hub; router = is; catalog = g.catalog; there = g.there; places = g.places; within = g.within }
-
-  pub with_beside : (new : Side) (next : Turn) → IsBeside hub.catalog next new → IsGrounded hub router new row last next
-  with_beside new next is = record { is_hub = g.is_hub; router = g.router; catalog = is; there = g.there; places = g.places; within = g.within }
-
   last_within : (b : Bool) (at : PlaceAt) → at.place < length hub.places → IfSome (if b then Some at else last) (λ (p : PlaceAt). p.place < length hub.places)
   last_within true at within = within
   last_within false at within = g.within
@@ -111,6 +41,17 @@ module _ (hub : HubView) (router : Option SeatView) (side : Side) (row : List (O
         (zip_set hub.places (seats_in row) at.place of seat g.places there is);
     within = last_within (is_held told) at within;
   }
+
+  -- ---- a place of the row
+
+  pub at_row : (n : ℕ) → n < length hub.places → n < length (seats_in row)
+  at_row n within = subst (λ (m : ℕ). n < m) (sym (zip_long hub.places (seats_in row) g.places)) within
+
+  pub at_rest : (n : ℕ) (rest : List (Option SeatView)) → rest ≡ slice_set row n None → n < length hub.places → n < length rest
+  at_rest n rest is within = subst (λ (m : ℕ). n < m) (sym (ap (λ (r : List (Option SeatView)). length r) is ∙ (length_set row n None ∙ row_long row g.there))) (at_row n within)
+
+  pub rest_is : (n : ℕ) (rest : List (Option SeatView)) → rest ≡ slice_set row n None → rest ≡ slice_set (map Some (seats_in row)) n None
+  rest_is n rest is = is ∙ ap (λ (r : List (Option SeatView)). slice_set r n None) g.there
 
 -- ---- before a hold
 
@@ -138,10 +79,6 @@ seated_some : (of : LockView) (seat : Option SeatView) → IsSeated of seat → 
 seated_some of None is = absurd is
 seated_some of (Some seat) is = refl
 
-seated_is : (of : LockView) (seat : Option SeatView) → IsSeated of seat → IsSeatOf of (seat_in seat)
-seated_is of None is = absurd is
-seated_is of (Some seat) is = is
-
 last_long : (last : Option PlaceAt) (m n : ℕ) → m ≡ n → IfSome last (λ (at : PlaceAt). at.place < m) → IfSome last (λ (at : PlaceAt). at.place < n)
 last_long None m n e h = tt
 last_long (Some at) m n e h = subst (λ (k : ℕ). at.place < k) e h
@@ -165,11 +102,4 @@ module _ (hub : HubView) (router : Option SeatView) (side : Side) (row : List (O
     at_catalog = refl;
     there = g.there;
     within = last_long last (length hub.places) (length (seats_in row)) (sym (zip_long hub.places (seats_in row) g.places)) g.within;
-  }
-
-  pub of_hub : (ticked : ℕ) → IsPassOf hub (scene_by (seat_in router) (seat_in (Some seat)) row ticked last)
-  of_hub ticked = record {
-    router = seated_is hub.router router g.router;
-    catalog = (outside_seat hub.catalog turn side seat g.catalog is).1;
-    places = g.places;
   }

@@ -1,11 +1,9 @@
 -- A hold of a caller of many, as the entries that it makes.
-use Rattle.std.proofs.Common.{◌≡◌, ℕ, Bool, true, false, List, [], ◌∷◌, ◌++◌, Option, Some, None, refl, sym, ap, subst, ◌∙◌, inl, inr, if◌then◌else◌, ◌&&◌}
+use Rattle.std.proofs.Common.{◌≡◌, ℕ, Bool, true, false, List, [], ◌∷◌, ◌++◌, map, Option, Some, None, refl, sym, ap, subst, ◌∙◌, inl, inr, if◌then◌else◌, ◌&&◌}
 use Rattle.std.specs.Prelude.{slice_get, slice_set}
-use Rattle.js_model.specs.declared.stream.State.{State}
 use Rattle.js_model.specs.declared.event.What.{What}
 use Rattle.js_model.specs.declared.desk.PlaceAt.{PlaceAt}
 use Rattle.js_model.specs.Catalog.{Catalog}
-use Rattle.js_model.specs.PlaceStates.{VolumeAt}
 use Rattle.js_api.specs.declared.fault.DeskFault.{DeskFault}
 use Rattle.js_api.specs.declared.fault.DeskFault.TheVariants as faults
 use Rattle.js_api.specs.declared.outcome.Became.{Became}
@@ -15,26 +13,28 @@ use Rattle.js_api.specs.Entries.{Hold, DeskEntry, Routed, Looked, Turned, Resume
 use Rattle.js_api.specs.Holding.{Holds, HoldsBy, Prepares, Unmakes}
 use Rattle.js_api.specs.Leading.{Leads, Makes}
 use Rattle.desk_answers.specs.Became.{is_dropped}
-use Rattle.desk_ground.specs.Outcomes.{MayHold}
+use Rattle.desk_ground.specs.Outcomes.{MayHold, phase_after}
 use Rattle.histories.specs.Lawful.{IsPlaceHistory}
-use Rattle.turn_lock.specs.Calls.{worn}
 use Rattle.turn_lock.specs.Ruled.{last_ticket}
 use Rattle.turn_lock.specs.Seats.{LockView, SeatView}
-use Rattle.hub_fronts.specs.Fronts.{Fronts, SharedScene}
+use Rattle.hub_fronts.specs.Fronts.{SharedScene}
 use Rattle.hub_fronts.specs.Making.{MakesOne, SeesMore, SharedMade}
-use Rattle.hub_fronts.specs.Stepping.{AtThePlace, HoldsThere, StirsThere, HaltsThere, MissesThere, LeavesAt, Wears}
+use Rattle.hub_fronts.specs.Stepping.{AtThePlace, HoldsThere, StirsThere, HaltsThere, MissesThere, Wears}
 use Rattle.hub_fronts.proofs.Seen.{made_one, one_seen, seen_first, sees_nothing}
 use Rattle.hub_place.specs.Holds.{HoldsBySeat, HoldsInTurn, SeatStep}
 use Rattle.js_desk.specs.declared.turn.Turn.{Turn}
 use Rattle.js_desk.specs.declared.turn.Turn.TheVariants as turns
 use Rattle.js_desk.specs.Dropping.{is_drop}
 use Rattle.js_desk.specs.Grounds.{after_hold, is_held, phase_of}
-use Rattle.js_desk.proofs.HeldGround.{drops_within}
+use Rattle.js_desk.proofs.HeldGround.{drops_within, phase_held}
 use Rattle.js_desk.proofs.Sets.{get_set, set_twice}
-use Rattle.shared_desk.specs.Grounds.{HubMade, Standing}
-use Rattle.shared_desk.specs.Seats.{IsSeatOf}
-use Rattle.shared_desk.specs.Sides.{MayStand}
-use Rattle.shared_desk.proofs.Seats.{left_seat, seen_seat, worn_seat}
+use Rattle.shared_desk.specs.declared.side.Side.{Side}
+use Rattle.shared_desk.specs.declared.side.Side.TheVariants as sides
+use Rattle.shared_desk.specs.Grounds.{HubMade, Standing, standing}
+use Rattle.shared_desk.specs.Hubs.{HubView}
+use Rattle.shared_desk.specs.Seats.{IsSeatOf, seat_in, seats_in}
+use Rattle.shared_desk.specs.Sides.{IsBeside, MayStand, seat_beside}
+use Rattle.shared_desk.proofs.Seats.{left_seat, row_is, seen_seat, worn_seat}
 
 -- ---- the scene with another seat at a place, and another place of the last hold
 
@@ -195,6 +195,20 @@ held at what now outcome old new first seat there h scene hub = record {
   );
 }
 
+pub held_so : (hub : HubView) (router : Option SeatView) (side : Side) (row new : List (Option SeatView)) (ticked : ℕ) (last after : Option PlaceAt) (turn next : Turn) (at : PlaceAt) (what : What) (now : ℕ) (outcome : Outcome)
+    (first seat : SeatView) → slice_get (seats_in row) at.place ≡ Some first → Makes (HoldsBySeat at) (Holds at what now outcome) first seat → new ≡ map Some (slice_set (seats_in row) at.place seat)
+    → after ≡ last_after outcome.became at last → Makes HubMade (Holds at what now outcome) (standing hub router side row ticked last turn) (standing hub router side new ticked after next)
+held_so hub router side row new ticked last after turn next at what now outcome first seat there h new_is after_is =
+    held at what now outcome (standing hub router side row ticked last turn) (standing hub router side new ticked after next) first seat there h
+    (ap (λ (seats : List SeatView). scene seats after) (row_is new (slice_set (seats_in row) at.place seat) new_is)
+    ∙ ap (λ (l : Option PlaceAt). scene (slice_set (seats_in row) at.place seat) l) after_is) refl
+  where
+    scene : List SeatView → Option PlaceAt → SharedScene
+    scene seats l = record {
+      fronts = record { router = seat_in router; catalog = seat_beside side; places = seats };
+      cursor = record { ticked = ticked; last = l };
+    }
+
 -- ---- the seat stays one of its lock
 
 module _ (of : LockView) (at : PlaceAt) where
@@ -226,3 +240,30 @@ held_stands what told place turn c may stands = by (is_drop what && is_dropped t
     by : (b : Bool) → (is_drop what && is_dropped told) ≡ b → MayStand (after_hold turn b place) c
     by false e = stands
     by true e = subst (λ (t : Turn). MayStand t c) (drops_within what turn (dropped_so (is_drop what) (is_dropped told) e) may) stands
+
+-- ---- the turn of the catalog after it
+
+pub held_beside : (of : LockView) (what : What) (told : Became) (place : ℕ) (turn : Turn) (side : Side) → MayHold what (phase_of turn) → IsBeside of turn side → IsBeside of (after_hold turn (is_drop what && is_dropped told) place) side
+held_beside of what told place turn (sides.Outside seat) may h = (by (is_drop what && is_dropped told) refl, h.1)
+  where
+    by : (b : Bool) → (is_drop what && is_dropped told) ≡ b → after_hold turn b place ≡ turns.Outside
+    by false e = h.0
+    by true e = let within : turn ≡ turns.Within = drops_within what turn (dropped_so (is_drop what) (is_dropped told) e) may in let outside : turn ≡ turns.Outside = h.0 in absurd (cc)
+held_beside of what told place turn (sides.Inside going) may h = (held_stands what told place turn going.kept may h.0, h.1)
+held_beside of what told place turn sides.Away may h = absurd h
+
+-- what was asked, and what became of it
+pub record IsNext (what : What) (told : Became) (place : ℕ) (turn next : Turn) (asked dropped : Bool) : Type 0 where
+  pub asked_is : asked ≡ is_drop what
+  pub dropped_is : dropped ≡ (asked && is_dropped told)
+  pub next_is : next ≡ after_hold turn dropped place
+
+module _ (what : What) (told : Became) (at : PlaceAt) (turn next : Turn) (asked dropped : Bool) (h : IsNext what told at.place turn next asked dropped) where
+  next_so : next ≡ after_hold turn (is_drop what && is_dropped told) at.place
+  next_so = h.next_is ∙ ap (λ (b : Bool). after_hold turn b at.place) (h.dropped_is ∙ ap (λ (b : Bool). b && is_dropped told) h.asked_is)
+
+  pub phase_so : phase_of next ≡ phase_after what at told (phase_of turn)
+  phase_so = ap phase_of next_so ∙ phase_held what at told turn
+
+  pub beside_so : (of : LockView) (side : Side) → MayHold what (phase_of turn) → IsBeside of turn side → IsBeside of next side
+  beside_so of side may is = subst (λ (t : Turn). IsBeside of t side) (sym next_so) (held_beside of what told at.place turn side may is)

@@ -1,35 +1,30 @@
 -- Calls of the catalog by a caller of many, as the entries that they make.
-use Rattle.std.proofs.Common.{◌≡◌, ◌<◌, ◌≤◌, ℕ, Bool, true, false, List, [], ◌∷◌, Option, Some, None, Result, Ok, Err, IfErr, IfSome, refl, sym, ap, subst, ◌∙◌, inl, inr}
-use Rattle.std.specs.Option.{IsSome, IsSomeAnd}
-use Rattle.std.specs.Prelude.{length, slice_get, ◌≢◌}
+use Rattle.std.proofs.Common.{◌≡◌, ◌<◌, ◌≤◌, ℕ, Bool, true, false, List, [], ◌∷◌, Option, Some, None, Result, Ok, Err, IfErr, IfOk, IfSome, IsErrAnd, refl, sym, ap, subst, ◌∙◌, inl, inr, arith}
 use Rattle.js_model.specs.declared.desk.PlaceAt.{PlaceAt}
-use Rattle.js_model.specs.declared.catalog_fault.CatalogFault.{CatalogFault}
-use Rattle.js_model.specs.declared.catalog_fault.CatalogFault.TheVariants as refusals
 use Rattle.js_model.specs.Catalog as catalog
-use Rattle.js_model.specs.Catalog.{Catalog, CatCall, CatTold, Place, Used}
-use Rattle.js_model.specs.Cataloging.{HasPlace, IsUsed, MayChange, MayKeep, add_told, change_told}
+use Rattle.js_model.specs.Catalog.{CatCall, CatTold}
 use Rattle.js_api.specs.declared.fault.DeskFault.{DeskFault}
 use Rattle.js_api.specs.declared.fault.DeskFault.TheVariants as faults
 use Rattle.js_api.specs.Calls.{Resumes, Turns}
 use Rattle.js_api.specs.Entries.{DeskEntry, Looked, Turned, Resumed, Spent}
 use Rattle.js_api.specs.Leading.{Makes}
 use Rattle.js_api.specs.Stages.{LooksUp}
-use Rattle.js_api.specs.Worlds.{Cursor, place_or}
-use Rattle.desk_ground.specs.Grounds.{IsBetween, IsKnown, IsTold, Knows, Setting}
+use Rattle.js_api.specs.Worlds.{place_or}
 use Rattle.histories.specs.Lawful.{IsCatalogHistory}
-use Rattle.turn_lock.specs.Calls.{number_of, worn}
+use Rattle.turn_lock.specs.Calls.{worn}
 use Rattle.turn_lock.specs.Ruled.{last_ticket}
-use Rattle.turn_lock.specs.Seats.{LockView, SeatView}
+use Rattle.turn_lock.specs.Seats.{SeatView}
 use Rattle.turn_lock.specs.Views.{first_of}
 use Rattle.hub_fronts.specs.Fronts.{Fronts, SharedScene}
-use Rattle.hub_fronts.specs.Making.{SharedMade}
 use Rattle.hub_fronts.specs.Stepping.{CatalogTurn, looked_by}
 use Rattle.hub_fronts.specs.Turns.{HasSeen, Leaves}
 use Rattle.hub_fronts.proofs.Seen.{made_nothing, made_one, sees_nothing}
-use Rattle.hub_catalog.specs.Lists.{HasChanging, HasSettled, HasText, IsChanging, IsSettled}
-use Rattle.shared_desk.specs.Grounds.{HubMade, IsLookedBy, IsUnlooked, Standing, setting_of, with_catalog}
-use Rattle.shared_desk.specs.Seats.{IsSeatOf}
-use Rattle.shared_desk.proofs.Seats.{left_seat, turned_seat, worn_seat}
+use Rattle.hub_catalog.specs.Turns.{IsCalled, TurnView}
+use Rattle.js_desk.specs.declared.turn.Turn.{Turn}
+use Rattle.shared_desk.specs.declared.side.Side.{Side}
+use Rattle.shared_desk.specs.declared.side.Side.TheVariants as sides
+use Rattle.shared_desk.specs.Grounds.{HubMade, IsLookedBy, IsUnlooked, Standing, standing}
+use Rattle.shared_desk.specs.Hubs.{HubView}
 
 -- ---- a call that was made
 
@@ -62,9 +57,6 @@ but_of joined call told old new h = record { scene = ap (λ (s : Standing). s.sc
 pub looked_up : (call : CatCall) (found : Option PlaceAt) (old new : Standing) → IsLookedBy false call (catalog.At found) old new → Makes HubMade (LooksUp call (Ok found)) old new
 looked_up call found old new h = looks_up call found old new h.turn (but_of false call (catalog.At found) old new h)
 
-pub looked_setting : (joined : Bool) (call : CatCall) (told : CatTold) (old new : Standing) → IsLookedBy joined call told old new → setting_of new ≡ setting_of old
-looked_setting joined call told old new h = ap setting_of h.same
-
 -- ---- a call that was not made
 
 module _ (old new : Standing) (seat : new.scene.fronts.catalog ≡ worn old.scene.fronts.catalog) (but : IsBut old new) where
@@ -95,13 +87,15 @@ module _ (fault : DeskFault) (old new : Standing) (h : IsUnlooked fault old new)
   pub unlooked_up : (call : CatCall) → Makes HubMade (LooksUp call (Err fault)) old new
   unlooked_up call = worn_look (λ (f : DeskFault). LooksUp call (Err f)) refl
 
-  pub unturned : Makes HubMade (Turns (Err fault)) old new
+  unturned : Makes HubMade (Turns (Err fault)) old new
   unturned = worn_look (λ (f : DeskFault). Turns (Err f)) refl
 
-  pub unlooked_setting : setting_of new ≡ setting_of old
-  unlooked_setting = ap setting_of h.same
+-- one that ended the desk's call, whose fault was handed on
+pub unturned_exit : (fault : DeskFault) (result : Result (Option PlaceAt) DeskFault) (old new : Standing) → IsErrAnd result (λ (e : DeskFault). e ≡ fault) → IsUnlooked fault old new → Makes HubMade (Turns result) old new
+unturned_exit fault (Ok found) old new handed h = absurd handed
+unturned_exit fault (Err e) old new handed h = unturned e old new (subst (λ (f : DeskFault). IsUnlooked f old new) (sym handed) h)
 
--- ---- a tick's look-up, the place of the last hold, and the end of a turn
+-- ---- a tick's look-up, and the place of the last hold
 
 -- the scene with the place of the tick
 abbrev pub ticked_at : SharedScene → ℕ → SharedScene
@@ -135,6 +129,15 @@ turned found old mid new h scene hub =
       );
     }
 
+pub ticked_made : (found : Option PlaceAt) (old mid : Standing) (before : ℕ) (hub : HubView) (router : Option SeatView) (side : Side) (row : List (Option SeatView)) (ticked after : ℕ) (last : Option PlaceAt) (turn : Turn)
+    → before ≡ old.scene.cursor.ticked → IsLookedBy false (catalog.NextUsed before) (catalog.At found) old mid → standing hub router side row ticked last turn ≡ mid → after ≡ place_or ticked found
+    → Makes HubMade (Turns (Ok found)) old (standing hub router side row after last turn)
+ticked_made found old mid before hub router side row ticked after last turn before_is h mid_is after_is =
+    let same : ticked ≡ old.scene.cursor.ticked = ap (λ (s : Standing). s.scene.cursor.ticked) mid_is ∙ ap (λ (s : Standing). s.scene.cursor.ticked) h.same in
+    turned found old mid (standing hub router side row after last turn) (subst (λ (n : ℕ). IsLookedBy false (catalog.NextUsed n) (catalog.At found) old mid) before_is h)
+    (ap (λ (s : Standing). ticked_at s.scene after) mid_is ∙ ap (λ (n : ℕ). ticked_at mid.scene n) (after_is ∙ ap (λ (n : ℕ). place_or n found) same))
+    (ap (λ (s : Standing). s.hub) mid_is)
+
 pub resumed : (old : Standing) → Makes HubMade (Resumes (Ok old.scene.cursor.last)) old old
 resumed old = record {
   entries = Resumed old.scene.cursor.last ∷ [];
@@ -145,9 +148,6 @@ resumed old = record {
     refl,
   );
 }
-
-pub ended : (old new : Standing) → new.scene ≡ old.scene → new.hub ≡ old.hub → HubMade old [] new
-ended old new scene hub = (subst (λ (s : SharedScene). SharedMade old.scene [] s) (sym scene) (made_nothing old.scene), hub)
 
 -- ---- the first call of a turn
 
@@ -160,43 +160,65 @@ begun_turn call told seat inside new sees ticket low joins = record {
   leaves = subst (λ (n : ℕ). Leaves IsCatalogHistory (looked_by n call told ∷ []) inside new) (ap first_of sees.numbers) joins;
 }
 
--- ---- the seat stays one of its lock
+-- ---- a look-up that was made or not
 
-pub looked_seat : (joined : Bool) (call : CatCall) (told : CatTold) (of : LockView) (old new : SeatView) → CatalogTurn joined call told old new → IsSeatOf of old → IsSeatOf of new
-looked_seat true call told of old new turn is = left_seat of old new IsCatalogHistory (looked_by (number_of old) call told ∷ []) turn is
-looked_seat false call told of old new turn is = turned_seat of old new IsCatalogHistory (looked_by (number_of old) call told ∷ []) turn is
+module _ (call : CatCall) where
+  abbrev IsMade : Result (Option PlaceAt) DeskFault → Standing → Standing → Type 0
+  IsMade result old new = IfOk result (λ (found : Option PlaceAt). IsLookedBy false call (catalog.At found) old new)
 
--- ---- what is known within a turn
+  abbrev IsUnmade : Result (Option PlaceAt) DeskFault → Standing → Standing → Type 0
+  IsUnmade result old new = IfErr result (λ (fault : DeskFault). IsUnlooked fault old new)
 
-map_some : {X : Type 0} (P Q : X → Type 0) (o : Option X) → ((x : X) → P x → Q x) → IsSomeAnd o P → IsSomeAnd o Q
-map_some P Q None h p = p
-map_some P Q (Some x) h p = h x p
+  pub looks_so : (result : Result (Option PlaceAt) DeskFault) (old new : Standing) → IsMade result old new → IsUnmade result old new → Makes HubMade (LooksUp call result) old new
+  looks_so (Ok found) old new made unmade = looked_up call found old new made
+  looks_so (Err fault) old new made unmade = unlooked_up fault old new unmade call
 
-used_by : (Q : Used → Type 0) (o : Option Used) → IsSomeAnd o Q → IsSome o
-used_by Q None h = absurd h
-used_by Q (Some u) h = refl
+-- a place that was found has a number below that of all places
+pub found_few : (m : ℕ) (result : Result (Option PlaceAt) DeskFault) → m ≤ 32 → IfOk result (λ (found : Option PlaceAt). IfSome found (λ (at : PlaceAt). at.place < m))
+    → IfOk result (λ (found : Option PlaceAt). IfSome found (λ (at : PlaceAt). at.place < 32))
+found_few m (Ok (Some at)) few within = omega arith
+found_few m (Ok None) few within = tt
+found_few m (Err fault) few within = tt
 
-pub knows : (c : Catalog) (at : PlaceAt) → HasSettled c at → Knows c at
-knows c at h = map_some (IsSettled at) (IsKnown at) (slice_get c at.place) (λ place is. record { used = used_by _ place.used is.0; single = is.0; incarnation = is.1 }) h
+-- ---- by the caller's side of the catalog
 
-pub knows_found : (c : Catalog) (found : Option PlaceAt) → IfSome found (HasSettled c) → IfSome found (Knows c)
-knows_found c None h = tt
-knows_found c (Some at) h = knows c at h
+module _ (hub : HubView) (router : Option SeatView) (row : List (Option SeatView)) (ticked : ℕ) (last : Option PlaceAt) where
+  abbrev Stands : Side → Turn → Standing
+  Stands side turn = standing hub router side row ticked last turn
 
-pub settled : (c : Catalog) (at : PlaceAt) → Knows c at → HasSettled c at
-settled c at h = map_some (IsKnown at) (IsSettled at) (slice_get c at.place) (λ place is. (is.single, is.incarnation)) h
+  pub unlooked_outside : (turn : Turn) (side new : Side) (seat after : SeatView) (number : ℕ) → side ≡ sides.Outside seat → new ≡ sides.Outside after → number ≡ last_ticket → after ≡ worn seat
+      → IsUnlooked (faults.Worn number) (Stands side turn) (Stands new turn)
+  unlooked_outside turn side new seat after number was is number_is wears =
+      subst (λ (s : Side). IsUnlooked (faults.Worn number) (Stands s turn) (Stands new turn)) (sym was)
+      (subst (λ (s : Side). IsUnlooked (faults.Worn number) (Stands (sides.Outside seat) turn) (Stands s turn)) (sym is)
+      (record { fault_is = ap (λ (n : ℕ). faults.Worn n) number_is; same = ap (λ (s : SeatView). Stands (sides.Outside s) turn) wears }))
 
-pub between : (c : Catalog) (at : PlaceAt) → HasChanging c at → HasPlace c at.place (IsBetween at)
-between c at h = map_some (IsChanging at) (IsBetween at) (slice_get c at.place) (λ place is. record { used = used_by _ place.used is.0; both = is.0; incarnation = is.1 }) h
+  -- a call within a turn
+  pub called_made : (turn next : Turn) (side new : Side) (was is : TurnView) (call : CatCall) (told : CatTold) → side ≡ sides.Inside was → new ≡ sides.Inside is → IsCalled call told was is
+      → HubMade (Stands side turn) (Looked true call told ∷ []) (Stands new next)
+  called_made turn next side new was is call told e f called =
+      subst (λ (s : Side). HubMade (Stands s turn) (Looked true call told ∷ []) (Stands new next)) (sym e)
+      (subst (λ (s : Side). HubMade (Stands (sides.Inside was) turn) (Looked true call told ∷ []) (Stands s next)) (sym f)
+      (made_looked true call told (Stands (sides.Inside was) turn) (Stands (sides.Inside is) next) called.joins (record { scene = refl; hub = refl })))
 
--- ---- what a refusal tells
+  -- the first call of a turn
+  pub begun_made : (turn next : Turn) (side new : Side) (seat : SeatView) (inside is : TurnView) (call : CatCall) (found : Option PlaceAt) → side ≡ sides.Outside seat → new ≡ sides.Inside is → HasSeen seat inside.seat
+      → (seat.drawn < inside.seat.drawn) × (inside.seat.drawn ≤ last_ticket) → IsCalled call (catalog.At found) inside is → Makes HubMade (LooksUp call (Ok found)) (Stands side turn) (Stands new next)
+  begun_made turn next side new seat inside is call found e f sees drawn called =
+      subst (λ (s : Side). Makes HubMade (LooksUp call (Ok found)) (Stands s turn) (Stands new next)) (sym e)
+      (subst (λ (s : Side). Makes HubMade (LooksUp call (Ok found)) (Stands (sides.Outside seat) turn) (Stands s next)) (sym f)
+      (looks_up call found (Stands (sides.Outside seat) turn) (Stands (sides.Inside is) next)
+      (begun_turn call (catalog.At found) seat inside.seat is.seat sees drawn.0 drawn.1 called.joins)
+      (record { scene = refl; hub = refl })))
 
-pub add_tells : (answer : Result PlaceAt CatalogFault) → HasText (add_told answer) → IfErr answer IsTold
-add_tells (Ok at) h = tt
-add_tells (Err (refusals.Refused refusal)) h = h
-add_tells (Err refusals.NoMemory) h = tt
+  pub unbegun_made : (turn : Turn) (side new : Side) (seat after : SeatView) (number : ℕ) (call : CatCall) → side ≡ sides.Outside seat → new ≡ sides.Outside after → number ≡ last_ticket → after ≡ worn seat
+      → Makes HubMade (LooksUp call (Err (faults.Worn number))) (Stands side turn) (Stands new turn)
+  unbegun_made turn side new seat after number call was is number_is wears =
+      unlooked_up (faults.Worn number) (Stands side turn) (Stands new turn) (unlooked_outside turn side new seat after number was is number_is wears) call
 
-pub change_tells : (answer : Result (Unit {0}) CatalogFault) → HasText (change_told answer) → IfErr answer IsTold
-change_tells (Ok done) h = tt
-change_tells (Err (refusals.Refused refusal)) h = h
-change_tells (Err refusals.NoMemory) h = tt
+  -- a turn ends
+  pub ended_made : (turn next : Turn) (side new : Side) (was : TurnView) (seat : SeatView) → side ≡ sides.Inside was → new ≡ sides.Outside seat → seat ≡ was.seat → HubMade (Stands side turn) [] (Stands new next)
+  ended_made turn next side new was seat e f g =
+      subst (λ (s : Side). HubMade (Stands s turn) [] (Stands new next)) (sym e)
+      (subst (λ (s : Side). HubMade (Stands (sides.Inside was) turn) [] (Stands s next)) (sym (f ∙ ap (λ (s : SeatView). sides.Outside s) g))
+      (made_nothing (Stands (sides.Inside was) turn).scene, refl))

@@ -1,5 +1,5 @@
 -- Calls of the router by a caller of many, as the entries that they make.
-use Rattle.std.proofs.Common.{◌≡◌, ◌<◌, ◌-◌, ℕ, Bool, true, false, List, [], ◌∷◌, Option, Some, None, Result, Ok, Err, IfOk, refl, sym, ap, subst, ◌∙◌, inl, inr, arith}
+use Rattle.std.proofs.Common.{◌≡◌, ◌-◌, ℕ, true, List, [], ◌∷◌, Option, Some, None, Result, Ok, Err, IfOk, IfErr, IsErrAnd, refl, sym, ap, subst, ◌∙◌, inl, inr}
 use Rattle.std.specs.Prelude.{length}
 use Rattle.js_base.specs.Bytes.{Bytes}
 use Rattle.js_base.specs.declared.out.Out.{Out}
@@ -13,26 +13,21 @@ use Rattle.js_api.specs.declared.fault.DeskFault.{DeskFault}
 use Rattle.js_api.specs.declared.fault.DeskFault.TheVariants as faults
 use Rattle.js_api.specs.Answering.{DeskAnswer, Done, Opened, done, gave, gives, opened}
 use Rattle.js_api.specs.Calls.{MaySay, Routes, Says}
-use Rattle.js_api.specs.Collecting.{LeavesLess}
 use Rattle.js_api.specs.Entries.{DeskEntry, Routed, Spent}
 use Rattle.js_api.specs.Leading.{Makes}
 use Rattle.js_api.specs.Publishing.{Offers}
 use Rattle.js_api.specs.Stages.{SendsOne}
 use Rattle.desk_ground.specs.Callers.{client_of}
 use Rattle.desk_ground.specs.declared.caller.Caller.{Caller}
-use Rattle.desk_ground.specs.Grounds.{Setting}
 use Rattle.desk_hold.proofs.Refused.{wants, never, publish_done, sending_done, unsub_done, collect_done}
-use Rattle.turn_lock.specs.Calls.{left, worn}
+use Rattle.turn_lock.specs.Calls.{worn}
 use Rattle.turn_lock.specs.Ruled.{last_ticket}
 use Rattle.turn_lock.specs.Seats.{SeatView}
-use Rattle.hub_fronts.specs.Fronts.{Fronts, SharedScene}
-use Rattle.hub_fronts.specs.Stepping.{RouterTurn}
 use Rattle.hub_fronts.proofs.Seen.{made_one, sees_nothing}
-use Rattle.hub_router.specs.Calls.{is_own}
 use Rattle.hub_router.proofs.Sessions.{KeepsSessions, same_own, opened_own}
 use Rattle.js_desk.specs.Faults.{desk_answer, desk_fault, sent}
 use Rattle.js_desk.proofs.Routed.{open_refused, sub_refused}
-use Rattle.shared_desk.specs.Grounds.{HubMade, IsRoutedBy, IsUnrouted, Standing, collects_left, setting_of}
+use Rattle.shared_desk.specs.Grounds.{HubMade, IsRoutedBy, IsUnrouted, Standing, setting_of}
 
 -- ---- a call that was made
 
@@ -54,16 +49,6 @@ module _ (call : routes.RouteCall) (told : routes.RouteTold) (old new : Standing
     opened = λ n. same_own call told old.scene.fronts.router new.scene.fronts.router h.called.turn keeps n i;
     places = length (h.same i).hub.places;
   }
-
-  pub same_places : (setting_of new).places ≡ (setting_of old).places
-  same_places = ap (λ (s : Standing). length s.hub.places) h.same
-
-  -- fewer tickets are left
-  pub fewer_left : collects_left new < collects_left old
-  fewer_left =
-      let turn = h.called.turn in
-      let drawn : new.scene.fronts.router.drawn ≡ turn.inside.drawn = ap (λ (s : SeatView). s.drawn) turn.leaves.behind in
-      omega (arith, turn.ticket, turn.low, drawn)
 
   pub routes_so : (result : Result DeskAnswer DeskFault) → MaySay call told → Says told result → Makes HubMade (Routes call result) old new
   routes_so result may says = record { entries = Routed call told ∷ []; are = inl (told, refl, may, says); led = made_routed }
@@ -165,9 +150,27 @@ module _ (old new : Standing) where
       wanted call fault h (wants h.called.was h.called.is call fault (collect_done h.called.was n max h.called.for_open) h.called.route)
       (λ (f : DeskFault). Routes call (Err f)) (inl (routes.NoMemory, refl, refl, refl))
 
-  pub collect_leaves_less : (n max : ℕ) (answer : Result Collected RouteFault) → IsRoutedBy (routes.Collect n max) (collected_told answer) old new
-      → LeavesLess (desk_answer answer) (collects_left old) (collects_left new)
-  collect_leaves_less n max (Ok (Frames list true)) h = fewer_left (routes.Collect n max) (routes.Frames list true) old new h
-  collect_leaves_less n max (Ok (Frames list false)) h = tt
-  collect_leaves_less n max (Ok (Slow size)) h = tt
-  collect_leaves_less n max (Err fault) h = tt
+-- ---- made or not
+
+module _ {X : Type 0} (call : routes.RouteCall) (told : X → routes.RouteTold) where
+  abbrev IsMade : Result X DeskFault → Standing → Standing → Type 0
+  IsMade result old new = IfOk result (λ (answer : X). IsRoutedBy call (told answer) old new)
+
+  abbrev IsUnmade : Result X DeskFault → Standing → Standing → Type 0
+  IsUnmade result old new = IfErr result (λ (fault : DeskFault). IsUnrouted fault old new)
+
+  pub setting_stays : KeepsSessions call → (result : Result X DeskFault) (old new : Standing) → IsMade result old new → IsUnmade result old new → setting_of new ≡ setting_of old
+  setting_stays keeps (Ok answer) old new made unmade = same_setting call (told answer) old new made keeps
+  setting_stays keeps (Err fault) old new made unmade = worn_setting fault old new unmade
+
+-- one that is always done if it is made
+pub does_so : (call : routes.RouteCall) (result : Result (Unit {0}) DeskFault) (old new : Standing) → IfOk result (λ (answer : Unit {0}). IsRoutedBy call routes.Done old new)
+    → IfErr result (λ (fault : DeskFault). IsUnrouted fault old new) → Makes HubMade (Routes call (done result)) old new
+does_so call (Ok answer) old new made unmade = done_so old new call made
+does_so call (Err fault) old new made unmade = routes_worn fault old new unmade call
+
+-- one that was not made ended the desk's call, whose fault was handed on
+pub worn_exit : {X : Type 0} (fault : DeskFault) (result : Result X DeskFault) (old new : Standing) → IsErrAnd result (λ (e : DeskFault). e ≡ fault) → IsUnrouted fault old new
+    → (P : Result X DeskFault → List DeskEntry → Type 0) → P (Err (faults.Worn last_ticket)) (Spent last_ticket ∷ []) → Makes HubMade (P result) old new
+worn_exit fault (Ok x) old new handed h P are = absurd handed
+worn_exit fault (Err e) old new handed h P are = worn_so e old new (subst (λ (f : DeskFault). IsUnrouted f old new) (sym handed) h) (λ (f : DeskFault). P (Err f)) are

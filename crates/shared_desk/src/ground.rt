@@ -1,6 +1,6 @@
 //! What the desk of one caller of many stands on: its seats at the router, at the catalog and at each place of a hub.
 
-ghost use Rattle.std.specs.Prelude.{◌≡◌, ◌<◌, ◌&&◌, IfErr, IfOk, IfSome, false, length};
+ghost use Rattle.std.specs.Prelude.{◌≡◌, ◌<◌, ◌≤◌, ◌&&◌, IfErr, IfOk, IfSome, false, length};
 ghost use Rattle.js_model.specs.Catalog.{At};
 ghost use Rattle.desk_ground.specs.Grounds.{Outside};
 ghost use Rattle.hub_catalog.specs.Calls.{look_call};
@@ -136,6 +136,7 @@ impl<'a, P: Place, W: Wait> HubGround<'a, P, W> {
         ensures looked { IfOk result (λ found. IsLookedBy false (look_call look.entry) (At found) self.old self.new) }
         ensures within { IfOk result (λ found. IfSome found (λ at. at.place < length self.old.hub.places)) }
         ensures worn { IfErr result (λ fault. IsUnlooked fault self.old self.new) }
+        ensures few { length self.old.hub.places ≤ 32 }
         ensures phase { self.new.phase ≡ Outside }
     {
         let seat = self.catalog.take_seat();

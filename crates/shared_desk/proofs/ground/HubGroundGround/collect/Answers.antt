@@ -1,0 +1,19 @@
+use Rattle.std.proofs.Common.{Result, inr, refl}
+use Rattle.js_model.specs.declared.desk.Collected.{Collected}
+use Rattle.js_api.specs.declared.fault.DeskFault.{DeskFault}
+use Rattle.turn_lock.specs.Ruled.{last_ticket}
+use Rattle.js_api.specs.Calls.{Routes}
+use Rattle.js_api.specs.Answering.{gave}
+use Rattle.js_model.specs.Routing.{collected_told}
+use Rattle.js_model.specs.Router as routes
+use Rattle.shared_desk.proofs.Routed.{collected_so, worn_exit, same_setting}
+use Rattle.shared_desk.proofs.ground.HubGroundGround.collect.Goals as goal
+
+pub returns-in_err-route-clause-made : goal.returns-in_err-route-clause-made
+returns-in_err-route-clause-made g c = worn_exit _ c.from_residual.result c.args.self.now c.route.new.self c.from_residual.ensures.1 c.in_err-route.ensures.worn (λ (r : Result Collected DeskFault). Routes (routes.Collect c.args.session c.args.max) (gave r)) (inr (last_ticket, refl, refl))
+
+pub returns-clause-made : goal.returns-clause-made
+returns-clause-made g c = rw c.desk_answer.ensures.value (collected_so c.args.self.now c.route.new.self c.args.session c.args.max c.in_ok-route.field-0 c.in_ok-route.ensures.routed)
+
+pub returns-clause-setting : goal.returns-clause-setting
+returns-clause-setting g c = same_setting (routes.Collect c.args.session c.args.max) (collected_told c.in_ok-route.field-0) c.args.self.now c.route.new.self c.in_ok-route.ensures.routed tt

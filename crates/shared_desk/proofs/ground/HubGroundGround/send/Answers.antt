@@ -1,0 +1,16 @@
+use Rattle.std.proofs.Common.{None, Result, refl}
+use Rattle.js_api.specs.declared.fault.DeskFault.{DeskFault}
+use Rattle.js_api.specs.Stages.{SendsOne}
+use Rattle.js_model.specs.Routing.{publish_told}
+use Rattle.js_model.specs.Router as routes
+use Rattle.shared_desk.proofs.Routed.{same_setting, sent_so, worn_exit}
+use Rattle.shared_desk.proofs.ground.HubGroundGround.send.Goals as goal
+
+pub returns-in_err-route-clause-made : goal.returns-in_err-route-clause-made
+returns-in_err-route-clause-made g c = worn_exit _ c.from_residual.result c.args.self.now c.route.new.self c.from_residual.ensures.1 c.in_err-route.ensures.worn (λ (r : Result (Unit {0}) DeskFault). SendsOne c.args.out.now r) refl
+
+pub returns-clause-made : goal.returns-clause-made
+returns-clause-made g c = rw c.sent.ensures.value (sent_so c.args.self.now c.route.new.self c.args.out.now c.in_ok-route.field-0 c.in_ok-route.ensures.routed)
+
+pub returns-clause-setting : goal.returns-clause-setting
+returns-clause-setting g c = same_setting (routes.Publish c.args.out.now None) (publish_told c.in_ok-route.field-0) c.args.self.now c.route.new.self c.in_ok-route.ensures.routed tt
