@@ -1,7 +1,8 @@
 -- What is left of a hub whose passes all became one.
-use Rattle.std.proofs.Common.{◌≡◌, ◌++◌, ℕ, suc, List, [], ◌∷◌, map, Option, sym, subst, ◌∙◌}
+use Rattle.std.proofs.Common.{◌≡◌, ◌++◌, ℕ, suc, List, [], ◌∷◌, map, Option, sym, subst}
 use Rattle.std.specs.List.{AllZip}
 use Rattle.js_model.specs.declared.stream.State.{State}
+use Rattle.crash_laws.specs.Laws.{LawOpened}
 use Rattle.place_engine.specs.Stepping.{Image, Seen}
 use Rattle.histories.specs.Entries.{Opening, OfPlace, OfRouter, OfCatalog}
 use Rattle.turn_lock.specs.Seats.{LockView, SeatView}
@@ -19,7 +20,7 @@ use Rattle.shared_desk.proofs.Joined.{GathersPass, GathersRow, gathers_ports, ro
 use Rattle.shared_desk.proofs.Leaving.{left_of}
 
 module _ {P V : Type 0} (seen : P → Seen) (vol : P → V) (holds : Image → State → Type 0) (reads : V → Image → Type 0) (left : V → ℕ → Image → Type 0) (clock : V → ℕ)
-    (base : Option ℕ → V → State → Type 0) (keeps : V → V → Type 0) where
+    (base : Option ℕ → V → State → Type 0) (keeps : V → V → Type 0) (law : LawOpened holds left clock base) where
   abbrev Ends : P → End V → Type 0
   Ends = EndsAt seen vol holds reads left clock base keeps
 
@@ -39,11 +40,7 @@ module _ {P V : Type 0} (seen : P → Seen) (vol : P → V) (holds : Image → S
         id = id;
         opening = sym same;
         stands = h;
-        leaves = record {
-          timed = h.lasts.timed;
-          steps_are = h.lasts.steps_are;
-          leaves = left_of holds left clock base keeps state h.standing.steps (seen place).place (vol place) end.vol h.lasts ends.stopped ends.outlasts;
-        };
+        leaves = left_of holds left clock base keeps law state h.standing.steps (seen place).place (vol place) end.vol h.lasts ends.stopped ends.outlasts seat.front h.standing.same;
       }
       by OfRouter same h = absurd h
       by (OfCatalog catalog) same h = absurd h

@@ -4,10 +4,13 @@ pub mod Looked
 pub mod Held
 pub mod Rows
 pub mod Numbers
-pub mod Halves
 pub mod Gathering
 pub mod Joined
 pub mod Leaving
 pub mod Closed
 pub mod Desks
 pub mod Grounded
+pub mod Ending
+pub mod Apart
+pub mod Unseen
+pub mod Passing

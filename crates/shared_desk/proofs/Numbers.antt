@@ -1,21 +1,20 @@
 -- Seats keep their numbers, and all passes of a hub stay all of it.
-use Rattle.std.proofs.Common.{◌≡◌, ◌++◌, ◌⊎◌, ℕ, zero, suc, Bool, true, false, List, [], ◌∷◌, Option, Some, None, refl, sym, ap, subst, ◌∙◌, inl, inr}
+use Rattle.std.proofs.Common.{◌≡◌, ◌++◌, ◌⊎◌, ℕ, zero, suc, Bool, true, false, List, [], ◌∷◌, Some, refl, sym, ap, subst, ◌∙◌, inl, inr}
 use Rattle.std.specs.Prelude.{slice_get, slice_set}
-use Rattle.std.specs.List.{AllByRecursion, AllZip}
+use Rattle.std.specs.List.{AllZip}
 use Rattle.js_model.specs.Catalog.{At, CatCall, CatTold, NextUsed}
 use Rattle.js_api.specs.Entries.{DeskEntry, Routed, Looked, Turned, Resumed, Held, Stirred, Halted, Missed, Spent}
 use Rattle.js_api.specs.Leading.{Leads}
 use Rattle.histories.specs.Entries.{Entry, Opening}
 use Rattle.histories.specs.Lawful.{IsCatalogHistory, IsPlaceHistory, IsRouterHistory}
 use Rattle.turn_lock.specs.Calls.{HasAll}
-use Rattle.turn_lock.specs.Seats.{LockView, SeatView}
+use Rattle.turn_lock.specs.Seats.{SeatView}
 use Rattle.hub_fronts.specs.Fronts.{Fronts, SharedScene}
-use Rattle.hub_fronts.specs.Making.{HaveSeen, MakesOne, SeesMore, SharedMade}
+use Rattle.hub_fronts.specs.Making.{HaveSeen, MakesOne, SeesMore}
 use Rattle.hub_fronts.specs.Stepping.{AtTheCatalog, AtThePlace, AtTheRouter, CatalogTurn, HaltsThere, HoldsThere, IsSpent, MissesThere, RouterTurn, SharedStep, StirsThere, Wears}
-use Rattle.hub_fronts.specs.Turns.{HasSeen, Leaves, TakesTurn}
-use Rattle.shared_desk.specs.Hubs.{HubView}
+use Rattle.hub_fronts.specs.Turns.{Leaves, TakesTurn}
 use Rattle.shared_desk.specs.Laws.{KeepsNumbers, LawAll, LawNumbers}
-use Rattle.shared_desk.specs.Passes.{AreAllPasses, IsPassOf, catalog_numbers, numbers_by, numbers_if, place_numbers, port_numbers, router_numbers}
+use Rattle.shared_desk.specs.Passes.{catalog_numbers, numbers_by, numbers_if, place_numbers, port_numbers, router_numbers}
 
 abbrev Same : SeatView → SeatView → Type 0
 Same was is = is.numbers ≡ was.numbers

@@ -1,15 +1,13 @@
 -- What is left of a hub: for each place one history, which all its callers share, and its volume, to which all that was made was brought as far as it could be.
-use Rattle.std.specs.Prelude.{◌≡◌, ◌++◌, ℕ, suc, List, [], ◌∷◌, map}
+use Rattle.std.specs.Prelude.{◌≡◌, ◌++◌, ℕ, suc, List, [], ◌∷◌, map, Option}
 use Rattle.js_model.specs.declared.stream.State.{State}
-use Rattle.js_model.specs.declared.entry.PlaceEntry.{PlaceEntry}
 use Rattle.js_model.specs.Router.{Router}
-use Rattle.crash_laws.specs.Beginnings.{IsLastingOf}
-use Rattle.crash_laws.specs.Timed.{Timed}
 use Rattle.place_engine.specs.Stepping.{Image, Seen}
-use Rattle.histories.specs.Entries.{Entry, AtPlace, OfPlace, SeatId}
+use Rattle.histories.specs.Entries.{Entry, OfPlace, SeatId}
 use Rattle.turn_lock.specs.Seats.{LockView, SeatView}
 use Rattle.hub_fronts.specs.Fronts.{SharedScene}
 use Rattle.hub_place.specs.Kinds.{IsHubPlace}
+use Rattle.hub_place.specs.Laws.{IsLastingOf}
 use Rattle.hub_router.specs.Kinds.{RouterIs}
 use Rattle.js_desk.specs.Closing.{AreClosed}
 use Rattle.js_desk.specs.declared.faults.Closed.{Closed}
@@ -23,12 +21,10 @@ use Rattle.shared_desk.specs.Passes.{seats_at}
 -- moment, which states it may hold, and what a call may make of it.
 module _ {P V : Type 0} (seen : P → Seen) (vol : P → V) (holds : Image → State → Type 0) (reads : V → Image → Type 0) (left : V → ℕ → Image → Type 0) (clock : V → ℕ)
     (base : Option ℕ → V → State → Type 0) (keeps : V → V → Type 0) where
-  -- Each image that a crash may leave of this volume holds what outlives a crash of the state behind a beginning of these steps, with all that were
-  -- confirmed by then.
-  pub record LeavesOf (old : State) (steps : List PlaceEntry) (new : State) (end : V) : Type 0 where
-    pub timed : List Timed
-    pub steps_are : map (λ (e : Timed). e.entry) timed ≡ steps
-    pub leaves : (image : Image) → left end (clock end) image → (l : State) × holds image l × IsLastingOf (clock end) old timed new l
+  -- each image that a crash may leave of this volume holds what outlives a crash of the state behind a beginning of this history, with all of it that is
+  -- confirmed
+  abbrev pub LeavesOf : State → List Entry → State → V → Type 0
+  LeavesOf old history new end = (image : Image) → left end (clock end) image → (l : State) × holds image l × IsLastingOf old history new l
 
   -- The place of this lock, and its port, stand for a history of all these seats, and its volume may leave what is left of that
   pub record EndsPlace (of : LockView) (seats : List SeatView) (place : P) (port : SeatView) (end : V) : Type 0 where
@@ -39,7 +35,7 @@ module _ {P V : Type 0} (seen : P → Seen) (vol : P → V) (holds : Image → S
     pub id : SeatId
     pub opening : of.opening ≡ OfPlace state faults id
     pub stands : IsHubPlace holds left clock base keeps state faults id history (seen place).place (vol place) port
-    pub leaves : LeavesOf state stands.standing.steps (seen place).place.state end
+    pub leaves : LeavesOf state history (seen place).place.state end
 
   -- so it is with each place from a number on
   abbrev pub EndEach : ℕ → List LockView → List SharedScene → List P → List SeatView → List V → Type 0

@@ -1,6 +1,6 @@
 //! The end of a hub: the seats of all callers become one at each lock, and each place gives its volume back.
 
-ghost use Rattle.std.specs.Prelude.{◌≡◌, ◌≤◌, [], length, vec_capacity};
+ghost use Rattle.std.specs.Prelude.{◌≡◌, ◌≤◌, ◌<◌, [], length, vec_capacity};
 ghost use Rattle.turn_lock.specs.Calls.{IsJoined};
 ghost use Rattle.shared_desk.specs.Closing.{ClosesHub};
 ghost use Rattle.shared_desk.specs.Joining.{HasAllSeats, HaveAll, IsPassJoined, TakesApart, UnlocksEach};
@@ -12,6 +12,7 @@ ghost use Rattle.hub_place.specs.Holds.{SendsTo};
 use crate::hub::Hub;
 use crate::pass::Pass;
 use crate::row::{put_at, take_at};
+use crash_laws::law_opened;
 use hub_place::{HubPlace, PlaceKind};
 use hub_router::RouterKind;
 use js_desk::{Closed, close_places};
@@ -64,7 +65,6 @@ fn end_locks<P: Place>(
         all = router.join(port, all);
     }
     locks.destroy_empty();
-    seats.destroy_empty();
     row.reverse();
     (row, all)
 }
@@ -81,15 +81,17 @@ impl<P: Place> Hub<P> {
         ensures own { AreThere result.items × AllZip IsSeatOf self.now.places (seats_in result.items) }
         ensures joined { AllThree IsJoined (seats_in ones.items) (seats_in others.items) (seats_in result.items) }
     {
+        self.law_hub();
         let mut ones = ones;
         let mut others = others;
-        others.reverse();
-        for at in 0..ones.len() as u32 {
-            let one = take_at(&mut ones, at);
+        while !others.is_empty() {
             let Some(other) = others.take_last() else {
                 unreachable!()
             };
-            put_at(&mut ones, at, self.place(at).join(one, other));
+            let at = others.len() as u32;
+            let one = take_at(&mut ones, at);
+            let joined = self.place(at).join(one, other);
+            put_at(&mut ones, at, joined);
         }
         others.destroy_empty();
         ones
@@ -148,6 +150,7 @@ impl<P: Place> Hub<P> {
     /// Takes in all passes of the hub, and brings all that was made at each place that is not stopped to its volume, in their order. It gives the volumes
     /// back, also after a failure. It takes no memory.
     pub fn close(self, passes: Vec<Pass<P>>) -> Closed<P::Vol>
+        requires some { 0 < length passes.items }
         requires all { AreAllPasses self passes.items }
         ensures closes { ClosesHub P.seen P.vol P.holds P.reads P.left P.clock P.base P.keeps_vol self passes.items result }
     {
@@ -156,7 +159,7 @@ impl<P: Place> Hub<P> {
         while !passes.is_empty() {
             all = self.join(passes.take_last(), all);
         }
-        passes.destroy_empty();
+        law_opened::<P>();
         self.take_apart(all)
     }
 }

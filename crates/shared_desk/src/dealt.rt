@@ -1,7 +1,8 @@
 //! A lock of a hub that is being opened, with all seats that it was given.
 
 ghost use Rattle.std.specs.Prelude.{◌≡◌, ◌≤◌, ◌<◌, List, [], IfErr, IfOk};
-ghost use Rattle.histories.specs.Entries.{Entry, Opening};
+ghost use Rattle.std.specs.List.{AllByRecursion};
+ghost use Rattle.histories.specs.Entries.{Entry};
 ghost use Rattle.turn_lock.specs.Calls.{new_seats};
 ghost use Rattle.shared_desk.specs.Dealing.{AreAllSeats};
 
@@ -28,16 +29,17 @@ impl<S, K: Standing<S>> Dealt<S, K> {
         }
     }
 
-    /// Ends the lock again, and gives its value back.
+    /// Ends the lock again, and gives its value back. If no seat has seen anything, nothing was made of it.
     pub(crate) fn undo(self) -> S
         requires all { AreAllSeats self.lock self.seats.items }
-        ensures stands { (o : Opening) × (entries : List Entry) × K.stands o entries result }
+        ensures stands { (entries : List Entry) × K.stands self.lock.opening entries result }
+        ensures unmade { AllByRecursion (λ seat. seat.front ≡ []) self.seats.items → K.stands self.lock.opening [] result }
     {
         let Dealt { lock, seats } = self;
         let mut seats = seats;
         let mut all = seats.take_last();
         while !seats.is_empty() {
-            all = lock.join(all, seats.take_last());
+            all = lock.join(seats.take_last(), all);
         }
         lock.close(all)
     }

@@ -45,10 +45,11 @@ impl<P: Place> Hub<P> {
         ensures own { AreThere ones.new.items × AllZip IsSeatOf self.now.places (seats_in ones.new.items) }
         ensures met { AllThree HasMet (seats_in ones.old.items) (seats_in others.old.items) (seats_in ones.new.items) }
     {
-        for at in 0..ones.len() as u32 {
-            let seat = take_at(ones, at);
+        self.law_hub();
+        for at in (0..ones.len() as u32).rev() {
+            let one = take_at(ones, at);
             let mut other = take_at(others, at);
-            let met = self.place(at).meet(seat, &mut other);
+            let met = self.place(at).meet(one, &mut other);
             put_at(ones, at, met);
             put_at(others, at, other);
         }
