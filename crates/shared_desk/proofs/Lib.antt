@@ -14,3 +14,7 @@ pub mod Ending
 pub mod Apart
 pub mod Unseen
 pub mod Passing
+pub mod Dealing
+pub mod Laid
+pub mod NewPlaces
+pub mod Opened

@@ -10,5 +10,6 @@ pub mod Histories
 pub mod Joining
 pub mod Closing
 pub mod Dealing
+pub mod Laying
 pub mod Laws
 pub mod Faults

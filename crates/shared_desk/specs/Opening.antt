@@ -48,6 +48,10 @@ module _ {P V : Type 0} (seen : P → Seen) (vol : P → V) (holds : Image → S
     pub all : AreAllPasses hub passes
     pub new : AllByRecursion IsNewPass passes
 
+  -- it was opened on some volume
+  abbrev pub WasOpened : P → Type 0
+  WasOpened place = (before : V) × OpensOn seen vol holds reads left clock faults base opens refuses keeps before place
+
   -- ---- where memory ran out for a lock
 
   -- A place that was opened came back as it was, or out of a lock in whose history nothing stood: what it was opened to stands there, and each image that

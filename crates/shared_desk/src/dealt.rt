@@ -3,8 +3,8 @@
 ghost use Rattle.std.specs.Prelude.{◌≡◌, ◌≤◌, ◌<◌, List, [], IfErr, IfOk};
 ghost use Rattle.std.specs.List.{AllByRecursion};
 ghost use Rattle.histories.specs.Entries.{Entry};
-ghost use Rattle.turn_lock.specs.Calls.{new_seats};
 ghost use Rattle.shared_desk.specs.Dealing.{AreAllSeats};
+ghost use Rattle.shared_desk.specs.Laying.{IsDealt};
 
 use std::alloc::Global;
 use turn_lock::{Seat, Standing, Turns};
@@ -20,7 +20,7 @@ impl<S, K: Standing<S>> Dealt<S, K> {
     pub(crate) fn new(alloc: Global, value: S, seats: u32) -> Result<Dealt<S, K>, S>
         requires seats { (0 < seats) × (seats ≤ 64) }
         requires stands { K.stands (K.opens value) [] value }
-        ensures dealt { IfOk result (λ d. (d.lock.opening ≡ K.opens value) × (d.lock.seats ≡ seats) × (d.seats.items ≡ new_seats d.lock.lock (K.opens value) seats)) }
+        ensures dealt { IfOk result (λ d. IsDealt (K.opens value) seats d.lock d.seats.items) }
         ensures err { IfErr result (λ x. x ≡ value) }
     {
         match Turns::new(alloc, value, seats) {

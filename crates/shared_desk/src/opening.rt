@@ -1,20 +1,25 @@
 //! The opening of a hub: a place on each volume, a lock round each and round the router and the catalog, and a pass for each worker.
 
-ghost use Rattle.std.specs.Prelude.{◌≡◌, ◌≤◌, ◌<◌, [], IfErr, IfOk, IfSome, length, vec_capacity};
-ghost use Rattle.std.specs.List.{AllByRecursion};
-ghost use Rattle.turn_lock.specs.Calls.{new_seats};
+ghost use Rattle.std.specs.Prelude.{◌≡◌, ◌≤◌, ◌<◌, ◌+◌, List, [], None, IfErr, IfOk, IfSome, OnOk, length, map, vec_capacity, vec_len};
+ghost use Rattle.std.specs.List.{AllByRecursion, AllZip};
+ghost use Rattle.js_model.specs.Catalog.{catalog_of};
+ghost use Rattle.js_model.specs.declared.kept_place.KeptPlace.{KeptPlace};
+ghost use Rattle.histories.specs.Entries.{OfCatalog, OfRouter};
+ghost use Rattle.turn_lock.specs.Seats.{SeatView};
 ghost use Rattle.hub_place.specs.Kinds.{IsNewPort, opening_of};
-ghost use Rattle.js_desk.specs.Opening.{OpensOn};
 ghost use Rattle.shared_desk.specs.Faults.{fault_of};
-ghost use Rattle.shared_desk.specs.Opening.{FailsToOpenHub, OpensHub};
+ghost use Rattle.shared_desk.specs.Laying.{IsDealt, IsLaid, IsSameSeat, LocksAll, passes_of, put_each, rows_of};
+ghost use Rattle.shared_desk.specs.Opening.{ComesBack, FailsToOpenHub, OpensHub, WasOpened};
+ghost use Rattle.shared_desk.specs.Seats.{AreThere};
 
 use crate::dealt::Dealt;
 use crate::hub::Hub;
 use crate::pass::Pass;
 use catalog::Catalog;
-use hub_catalog::CatalogKind;
+use hub_catalog::{CatalogKind, law_opening};
 use hub_place::{HubPlace, PlaceKind};
 use hub_router::RouterKind;
+use js_base::NoMemory;
 use js_desk::{HubFault, Uncataloged, catalog_of, give_back, open_places};
 use js_model::LAST_PLACE;
 use place_engine::Place;
@@ -26,70 +31,20 @@ use turn_lock::{Seat, Turns};
 /// The seats of one caller at the places.
 type Row<P> = Vec<Option<Seat<PlaceKind<P>>>>;
 
-/// A place behind turns, with its seats.
-type DealtPlace<P> = Dealt<HubPlace<P>, PlaceKind<P>>;
+/// A place behind turns.
+type LockedPlace<P> = Turns<HubPlace<P>, PlaceKind<P>>;
 
-/// All memory that a hub of some places and workers takes but for its locks.
-struct Rooms<P: Place> {
-    locks: Vec<Turns<HubPlace<P>, PlaceKind<P>>>,
-    dealt: Vec<DealtPlace<P>>,
-    rows: Vec<Row<P>>,
-    passes: Vec<Pass<P>>,
-}
-
-impl<P: Place> Rooms<P> {
-    /// An `Err` is want of memory.
-    fn reserve(alloc: Global, places: usize, workers: u32) -> Option<Rooms<P>>
-        ensures locks { IfSome result (λ r. (r.locks.items ≡ []) × (places ≤ vec_capacity r.locks)) }
-        ensures dealt { IfSome result (λ r. (r.dealt.items ≡ []) × (places ≤ vec_capacity r.dealt)) }
-        ensures rows { IfSome result (λ r. (length r.rows.items ≡ workers) × AllByRecursion (λ row. (row.items ≡ []) × (places ≤ vec_capacity row)) r.rows.items) }
-        ensures passes { IfSome result (λ r. (r.passes.items ≡ []) × (workers ≤ vec_capacity r.passes)) }
-    {
-        let Ok(locks) = Vec::with_capacity(alloc, places) else {
-            return None;
-        };
-        let Ok(dealt) = Vec::with_capacity(alloc, places) else {
-            locks.destroy_empty();
-            return None;
-        };
-        let (Some(rows), Ok(passes)) = (
-            rows_for(alloc, places, workers),
-            Vec::with_capacity(alloc, workers as usize),
-        ) else {
-            locks.destroy_empty();
-            dealt.destroy_empty();
-            return None;
-        };
-        Some(Rooms {
-            locks,
-            dealt,
-            rows,
-            passes,
-        })
-    }
-
-    /// Lets go of it. Nothing was put in.
-    fn give_up(self)
-        requires none { (self.locks.items ≡ []) × (self.dealt.items ≡ []) }
-    {
-        let Rooms {
-            locks,
-            dealt,
-            rows: _,
-            passes: _,
-        } = self;
-        locks.destroy_empty();
-        dealt.destroy_empty();
-    }
-}
-
-/// A row without seats for each worker, with room for one at each place.
+/// A row without seats for each worker, with room for one at each place. `None` is want of memory.
 fn rows_for<P: Place>(alloc: Global, places: usize, workers: u32) -> Option<Vec<Row<P>>>
-    ensures rows { IfSome result (λ rows. (length rows.items ≡ workers) × AllByRecursion (λ row. (row.items ≡ []) × (places ≤ vec_capacity row)) rows.items) }
+    ensures rows { IfSome result (λ rows. map (λ row. row.items) rows.items ≡ rows_of [] workers) }
+    ensures room { IfSome result (λ rows. AllByRecursion (λ row. places ≤ vec_capacity row) rows.items) }
 {
     let mut rows = Vec::with_capacity(alloc, workers as usize).ok()?;
     for _ in 0..workers {
-        rows.push_reserved(Vec::with_capacity(alloc, places).ok()?);
+        let Ok(row) = Vec::with_capacity(alloc, places) else {
+            return None;
+        };
+        rows.push_reserved(row);
     }
     Some(rows)
 }
@@ -100,11 +55,11 @@ fn lock_place<P: Place>(
     place: P,
     port: Seat<RouterKind>,
     workers: u32,
-) -> Result<DealtPlace<P>, (P, Seat<RouterKind>)>
-    requires opened { (before : P.Vol) × OpensOn P.seen P.vol P.holds P.reads P.left P.clock P.faults P.base P.opens P.refuses P.keeps_vol before place }
+) -> Result<Dealt<HubPlace<P>, PlaceKind<P>>, (P, Seat<RouterKind>)>
+    requires opened { WasOpened P.seen P.vol P.holds P.reads P.left P.clock P.faults P.base P.opens P.refuses P.keeps_vol place }
     requires new { IsNewPort port }
     requires workers { (0 < workers) × (workers ≤ 32) }
-    ensures dealt { IfOk result (λ d. (d.lock.opening ≡ opening_of (P.seen place).place port) × (d.lock.seats ≡ workers) × (d.seats.items ≡ new_seats d.lock.lock d.lock.opening workers)) }
+    ensures dealt { IfOk result (λ d. IsDealt (opening_of (P.seen place).place port) workers d.lock d.seats.items) }
     ensures err { IfErr result (λ e. (e.0 ≡ place) × (e.1 ≡ port)) }
 {
     place.law_kept();
@@ -114,88 +69,121 @@ fn lock_place<P: Place>(
     }
 }
 
-/// Puts each place, which stand in the other order, behind turns, with a port of these seats at the router. If memory runs out, the places and the ports
-/// are where they were.
+/// Puts one of the seats behind those of each row, in their order.
+fn deal<P: Place>(seats: &mut Vec<Seat<PlaceKind<P>>>, rows: &mut Vec<Row<P>>)
+    requires as_many { length seats.old.items ≡ length rows.old.items }
+    requires room { AllByRecursion (λ row. vec_len row < vec_capacity row) rows.old.items }
+    ensures dealt { map (λ row. row.items) rows.new.items ≡ put_each (map (λ row. row.items) rows.old.items) seats.old.items }
+    ensures room { map vec_capacity rows.new.items ≡ map vec_capacity rows.old.items }
+    ensures capacity { vec_capacity rows.new ≡ vec_capacity rows.old }
+{
+    if rows.is_empty() {
+        return;
+    }
+    let mut row = rows.take_last();
+    row.push_reserved(Some(seats.take_last()));
+    deal(seats, rows);
+    rows.push_reserved(row);
+}
+
+/// Puts each place behind turns with the last of these seats at the router for its port, and gives each row a seat of it. An `Err` is want of memory:
+/// all locks were ended again.
 fn lock_places<P: Place>(
     alloc: Global,
     places: &mut Vec<P>,
     ports: &mut Vec<Seat<RouterKind>>,
     workers: u32,
-    dealt: &mut Vec<DealtPlace<P>>,
-) -> bool {
-    while !places.is_empty() {
-        match lock_place(alloc, places.take_last(), ports.take_last(), workers) {
-            Ok(one) => dealt.push_reserved(one),
-            Err((place, port)) => {
+    locks: &mut Vec<LockedPlace<P>>,
+    rows: &mut Vec<Row<P>>,
+) -> Result<(), NoMemory>
+    requires opened { AllByRecursion (WasOpened P.seen P.vol P.holds P.reads P.left P.clock P.faults P.base P.opens P.refuses P.keeps_vol) places.old.items }
+    requires new { AllByRecursion IsNewPort ports.old.items }
+    requires enough { length places.old.items ≤ length ports.old.items }
+    requires workers { (0 < workers) × (workers ≤ 32) }
+    requires none { locks.old.items ≡ [] }
+    requires room { length places.old.items ≤ vec_capacity locks.old }
+    requires rows { map (λ row. row.items) rows.old.items ≡ rows_of [] workers }
+    requires rooms { AllByRecursion (λ row. length places.old.items ≤ vec_capacity row) rows.old.items }
+    ensures locked { OnOk result (LocksAll P.seen workers places.old.items ports.old.items ports.new.items locks.new.items) }
+    ensures emptied { OnOk result (places.new.items ≡ []) }
+    ensures dealt { OnOk result (map (λ row. row.items) rows.new.items ≡ rows_of locks.new.items workers) }
+    ensures back { IfErr result (λ _. AllZip (ComesBack P.seen P.vol P.holds P.reads P.left P.clock P.faults P.base P.opens P.refuses P.keeps_vol) places.old.items places.new.items) }
+    ensures ports { IfErr result (λ _. AllZip IsSameSeat ports.old.items ports.new.items) }
+    ensures none { IfErr result (λ _. locks.new.items ≡ []) }
+    ensures room { (vec_capacity places.new ≡ vec_capacity places.old) × (vec_capacity ports.new ≡ vec_capacity ports.old) × (vec_capacity locks.new ≡ vec_capacity locks.old) }
+    ensures rooms { map vec_capacity rows.new.items ≡ map vec_capacity rows.old.items }
+{
+    if places.is_empty() {
+        return Ok(());
+    }
+    match lock_place(alloc, places.take_last(), ports.take_last(), workers) {
+        Ok(dealt) => match lock_places(alloc, places, ports, workers, locks, rows) {
+            Ok(()) => {
+                let Dealt { lock, mut seats } = dealt;
+                locks.push_reserved(lock);
+                deal(&mut seats, rows);
+                Ok(())
+            }
+            Err(stop) => {
+                let (place, port) = dealt.undo().into_parts();
                 places.push_reserved(place);
                 ports.push_reserved(port);
-                unlock_places(places, ports, dealt);
-                return false;
+                Err(stop)
             }
-        }
-    }
-    true
-}
-
-/// Ends the locks again, from the last one on.
-fn unlock_places<P: Place>(
-    places: &mut Vec<P>,
-    ports: &mut Vec<Seat<RouterKind>>,
-    dealt: &mut Vec<DealtPlace<P>>,
-) {
-    while !dealt.is_empty() {
-        let (place, port) = dealt.take_last().undo().into_parts();
-        places.push_reserved(place);
-        ports.push_reserved(port);
-    }
-}
-
-/// Deals the seats of each place into the rows, in the order of the places.
-fn deal_places<P: Place>(
-    dealt: &mut Vec<DealtPlace<P>>,
-    locks: &mut Vec<Turns<HubPlace<P>, PlaceKind<P>>>,
-    rows: &mut Vec<Row<P>>,
-) {
-    dealt.reverse();
-    while !dealt.is_empty() {
-        let Dealt { lock, seats } = dealt.take_last();
-        locks.push_reserved(lock);
-        let mut seats = seats;
-        for row in rows.iter_mut() {
-            row.push_reserved(Some(seats.take_last()));
+        },
+        Err((place, port)) => {
+            places.push_reserved(place);
+            ports.push_reserved(port);
+            Err(NoMemory)
         }
     }
 }
 
-/// A pass of a row and of one seat each at the router and at the catalog for each worker.
+/// A pass of each row, with one seat each at the router and at the catalog.
 fn deal_passes<P: Place>(
     rows: Vec<Row<P>>,
     routers: Vec<Seat<RouterKind>>,
     catalogs: Vec<Seat<CatalogKind>>,
     passes: &mut Vec<Pass<P>>,
-) {
+)
+    requires none { passes.old.items ≡ [] }
+    requires room { length rows.items ≤ vec_capacity passes.old }
+    requires routers { length routers.items ≡ length rows.items }
+    requires catalogs { length catalogs.items ≡ length rows.items }
+    requires there { AllByRecursion (λ row. AreThere row.items) rows.items }
+    ensures dealt { passes.new.items ≡ passes_of (map (λ row. row.items) rows.items) routers.items catalogs.items }
+{
+    let mut rows = rows;
     let mut routers = routers;
     let mut catalogs = catalogs;
-    for places in rows {
+    while !rows.is_empty() {
         passes.push_reserved(Pass {
             router: Some(routers.take_last()),
             catalog: Some(catalogs.take_last()),
-            places,
+            places: rows.take_last(),
             // so that the first tick goes to the first used place
             ticked: LAST_PLACE,
             last: None,
         });
     }
+    passes.reverse();
 }
 
-/// The locks round the router and the catalog. An `Err` is want of memory.
+/// The locks round the router and the catalog. `None` is want of memory.
 fn lock_both(
     alloc: Global,
     roused: Arc<Roused>,
     catalog: Catalog,
     workers: u32,
     places: u32,
-) -> Option<(Dealt<Router, RouterKind>, Dealt<Catalog, CatalogKind>)> {
+) -> Option<(Dealt<Router, RouterKind>, Dealt<Catalog, CatalogKind>)>
+    requires catalog { (kept : List KeptPlace) × (catalog ≡ catalog_of kept) }
+    requires workers { (0 < workers) × (workers ≤ 32) }
+    requires few { places ≤ 32 }
+    ensures router { IfSome result (λ d. IsDealt OfRouter (workers + places) d.0.lock d.0.seats.items) }
+    ensures catalog { IfSome result (λ d. IsDealt (OfCatalog catalog) workers d.1.lock d.1.seats.items) }
+{
+    law_opening();
     let Ok(router) = Dealt::new(alloc, Router::rousing(alloc, roused), workers + places) else {
         return None;
     };
@@ -213,59 +201,73 @@ struct Laid<P: Place> {
     roused: Arc<Roused>,
     router: Turns<Router, RouterKind>,
     catalog: Turns<Catalog, CatalogKind>,
-    places: Vec<Turns<HubPlace<P>, PlaceKind<P>>>,
+    places: Vec<LockedPlace<P>>,
     passes: Vec<Pass<P>>,
 }
 
-/// Lays the locks of a hub round the places, which are left empty. `None` is want of memory, and leaves them as they were.
+/// Lays the locks of a hub round the places, which are moved out. `None` is want of memory, and leaves the places.
 fn lay<P: Place>(
     alloc: Global,
     catalog: Catalog,
     places: &mut Vec<P>,
     workers: u32,
-) -> Option<Laid<P>> {
-    let count = places.len() as u32;
+) -> Option<Laid<P>>
+    requires catalog { (kept : List KeptPlace) × (catalog ≡ catalog_of kept) }
+    requires opened { AllByRecursion (WasOpened P.seen P.vol P.holds P.reads P.left P.clock P.faults P.base P.opens P.refuses P.keeps_vol) places.old.items }
+    requires few { length places.old.items ≤ 32 }
+    requires workers { (0 < workers) × (workers ≤ 32) }
+    ensures laid { IfSome result (λ l. IsLaid P.seen catalog workers places.old.items (record { router = l.router; catalog = l.catalog; places = l.places.items }) l.passes.items) }
+    ensures emptied { IfSome result (λ _. places.new.items ≡ []) }
+    ensures back { result ≡ None → AllZip (ComesBack P.seen P.vol P.holds P.reads P.left P.clock P.faults P.base P.opens P.refuses P.keeps_vol) places.old.items places.new.items }
+    ensures room { vec_capacity places.new ≡ vec_capacity places.old }
+{
+    let count = places.len();
     let roused = Arc::new(alloc, Roused::new()).ok()?;
     let noted = Arc::try_clone(&roused).ok()?;
-    let rooms = Rooms::reserve(alloc, places.len(), workers)?;
-    let Some((router, catalog)) = lock_both(alloc, noted, catalog, workers, count) else {
-        rooms.give_up();
+    let mut rows = rows_for(alloc, count, workers)?;
+    let Ok(mut passes) = Vec::with_capacity(alloc, workers as usize) else {
         return None;
     };
-    let mut router = router;
-    let mut rooms = rooms;
-    places.reverse();
-    if !lock_places(alloc, places, &mut router.seats, workers, &mut rooms.dealt) {
-        places.reverse();
-        router.undo();
-        catalog.undo();
-        rooms.give_up();
+    let Ok(mut locks) = Vec::with_capacity(alloc, count) else {
         return None;
+    };
+    let Some((mut router, catalog)) = lock_both(alloc, noted, catalog, workers, count as u32) else {
+        locks.destroy_empty();
+        return None;
+    };
+    match lock_places(
+        alloc,
+        places,
+        &mut router.seats,
+        workers,
+        &mut locks,
+        &mut rows,
+    ) {
+        Ok(()) => {
+            let Dealt {
+                lock: router,
+                seats: routers,
+            } = router;
+            let Dealt {
+                lock: catalog,
+                seats: catalogs,
+            } = catalog;
+            deal_passes(rows, routers, catalogs, &mut passes);
+            Some(Laid {
+                roused,
+                router,
+                catalog,
+                places: locks,
+                passes,
+            })
+        }
+        Err(NoMemory) => {
+            router.undo();
+            catalog.undo();
+            locks.destroy_empty();
+            None
+        }
     }
-    let Rooms {
-        mut locks,
-        mut dealt,
-        mut rows,
-        mut passes,
-    } = rooms;
-    deal_places(&mut dealt, &mut locks, &mut rows);
-    dealt.destroy_empty();
-    let Dealt {
-        lock: router,
-        seats: routers,
-    } = router;
-    let Dealt {
-        lock: catalog,
-        seats: catalogs,
-    } = catalog;
-    deal_passes(rows, routers, catalogs, &mut passes);
-    Some(Laid {
-        roused,
-        router,
-        catalog,
-        places: locks,
-        passes,
-    })
 }
 
 impl<P: Place> Hub<P> {

@@ -1,0 +1,85 @@
+-- What a hub is opened to, or why it was not opened.
+use Rattle.std.proofs.Common.{◌≡◌, ◌≤◌, ◌++◌, ℕ, List, [], ◌∷◌, length, map, Option, refl, sym, ap, subst, ◌∙◌, inl, inr, arith}
+use Rattle.std.specs.Prelude.{reverse, vec_capacity}
+use Rattle.std.specs.List.{AllByRecursion, AllZip}
+use Rattle.std.specs.Global.{Vec}
+use Rattle.std.proofs.lemmas.List.{append-nil, length-map}
+use Rattle.std.proofs.lemmas.Slice.Zip.{AllZip-long}
+use Rattle.atomic_table.specs.Seated.{TableId}
+use Rattle.js_model.specs.declared.stream.State.{State}
+use Rattle.js_model.specs.Catalog.{Catalog, kept_place}
+use Rattle.catalog.specs.Apart.{IsApart}
+use Rattle.place_engine.specs.Stepping.{Image, Seen}
+use Rattle.place_engine.specs.declared.faults.OpenFault.{OpenFault}
+use Rattle.js_api.specs.Worlds.{kept_in}
+use Rattle.histories.specs.Entries.{Opening, OfCatalog}
+use Rattle.turn_lock.specs.Seats.{LockView}
+use Rattle.hub_catalog.specs.Kinds.{places_of}
+use Rattle.hub_fronts.specs.Fronts.{SharedScene}
+use Rattle.hub_place.specs.Holds.{SendsTo}
+use Rattle.js_desk.specs.Cataloging.{IsUncataloged}
+use Rattle.js_desk.specs.Grounds.{places_by}
+use Rattle.js_desk.specs.Opening.{FailsToOpen, OpensOn}
+use Rattle.js_desk.specs.declared.cataloging.Uncataloged.{Uncataloged}
+use Rattle.js_desk.specs.declared.cataloging.Uncataloged.TheVariants as stops
+use Rattle.js_desk.specs.declared.faults.HubFault.{HubFault}
+use Rattle.js_desk.specs.declared.faults.HubFault.TheVariants as faults_of
+use Rattle.shared_desk.specs.Faults.{fault_of}
+use Rattle.shared_desk.specs.Hubs.{HubView, IsHub}
+use Rattle.shared_desk.specs.Laying.{IsLaid}
+use Rattle.shared_desk.specs.Opening.{ComesBack, FailsToOpenHub, IsLocked, OpensHub, catalog_by}
+
+module _ {P V : Type 0} (seen : P → Seen) where
+  each_sends : (router : TableId) (workers : ℕ) (row : List P) (locks : List LockView) → AllZip (IsLocked seen router workers) row locks → AllByRecursion (λ (place : LockView). SendsTo place.opening router) locks
+  each_sends router workers [] [] z = tt
+  each_sends router workers [] (l ∷ locks) z = absurd z
+  each_sends router workers (p ∷ row) [] z = absurd z
+  each_sends router workers (p ∷ row) (l ∷ locks) z = (subst (λ (o : Opening). SendsTo o router) (sym z.0.opening) refl, each_sends router workers row locks z.1)
+
+  catalog_long : (row : List P) → length (catalog_by seen row) ≡ length row
+  catalog_long row = length-map (map kept_in (places_by seen row)) kept_place ∙ length-map (places_by seen row) kept_in ∙ length-map row (λ (p : P). (seen p).place)
+
+  pub laid_hub : (kept : Catalog) (workers : ℕ) (row : List P) (hub : HubView) (passes : List SharedScene) → kept ≡ catalog_by seen row → length row ≤ 32 → IsLaid seen kept workers row hub passes → IsHub hub
+  laid_hub kept workers row hub passes is few l =
+      let long : length hub.places ≡ length row = AllZip-long (IsLocked seen hub.router.lock workers) row hub.places l.places in
+      record {
+        few = omega (arith, long, few);
+        router = l.router;
+        catalog = ap places_of l.catalog_is ∙ ap length is ∙ catalog_long row ∙ sym long;
+        ports = each_sends hub.router.lock workers row hub.places l.places;
+      }
+
+  module _ (vol : P → V) (holds : Image → State → Type 0) (reads : V → Image → Type 0) (left : V → ℕ → Image → Type 0) (clock faults : V → ℕ)
+      (base : Option ℕ → V → State → Type 0) (opens : V → State → Type 0) (refuses : V → OpenFault → Type 0) (keeps : V → V → Type 0) where
+    pub opens_hub : (before : List V) (kept : Catalog) (workers : ℕ) (row : List P) (hub : HubView) (passes : List SharedScene) → AllZip (OpensOn seen vol holds reads left clock faults base opens refuses keeps) before row
+        → kept ≡ catalog_by seen row → IsApart kept → IsLaid seen kept workers row hub passes → OpensHub seen vol holds reads left clock faults base opens refuses keeps before workers hub passes
+    opens_hub before kept workers row hub passes opened is apart l = record {
+      row = row;
+      opened = opened;
+      apart = subst IsApart is apart;
+      router = l.router;
+      router_seats = l.router_seats;
+      catalog = subst (λ (c : Catalog). hub.catalog.opening ≡ OfCatalog c) is l.catalog_is;
+      catalog_seats = l.catalog_seats;
+      places = l.places;
+      count = l.count;
+      all = l.all;
+      new = l.new;
+    }
+
+    -- a place was not opened
+    pub unopened : (before : List V) (fault : HubFault V) → FailsToOpen seen vol holds reads left clock faults base opens refuses keeps before fault → FailsToOpenHub seen vol holds reads left clock faults base opens refuses keeps before fault
+    unopened before (faults_of.Open place fault back) h = h
+    unopened before (faults_of.Conflict first second back) h = h
+    unopened before (faults_of.NoMemory back) h = inl h
+
+    -- there is no catalog
+    pub uncataloged : (before : List V) (row : List P) (stop : Uncataloged) (vols : Vec V) → AllZip (OpensOn seen vol holds reads left clock faults base opens refuses keeps) before row
+        → IsUncataloged (map kept_in (places_by seen row)) stop → vols.items ≡ map vol row ++ reverse [] → FailsToOpenHub seen vol holds reads left clock faults base opens refuses keeps before (fault_of stop vols)
+    uncataloged before row (stops.Conflict first second) vols opened h back = record { row = row; lets_go = record { opened = opened; after_are = back ∙ append-nil (map vol row) }; conflict = h }
+    uncataloged before row stops.NoMemory vols opened h back = inl (inr (row, record { opened = opened; after_are = back ∙ append-nil (map vol row) }))
+
+    -- there is no memory for a lock
+    pub unlocked : (before : List V) (row back : List P) (vols : Vec V) → AllZip (OpensOn seen vol holds reads left clock faults base opens refuses keeps) before row
+        → AllZip (ComesBack seen vol holds reads left clock faults base opens refuses keeps) row back → vols.items ≡ map vol back ++ reverse [] → FailsToOpenHub seen vol holds reads left clock faults base opens refuses keeps before (faults_of.NoMemory vols)
+    unlocked before row back vols opened came given = inr (record { row = row; opened = opened; back = back; came = came; after_are = given ∙ append-nil (map vol back) })
