@@ -12,15 +12,13 @@ use Rattle.js_desk.specs.declared.faults.Closed.{Closed}
 use Rattle.js_desk.specs.declared.faults.HubFault.{HubFault}
 use Rattle.js_desk.specs.declared.faults.HubFault.TheVariants as hubs
 use Rattle.server.specs.declared.serving.Outcome.{Outcome}
-use Rattle.server.specs.declared.words.Command.{Command}
 use Rattle.server.specs.declared.words.NamedStream.{NamedStream}
 use Rattle.server.specs.Attending.{IsAttendedOver}
 use Rattle.server.specs.Closing.{closing_line, closing_status, flush_status, status_with}
-use Rattle.server.specs.Ending.{CommandEnds, PipeEnds, Starved, Unopened, Attended}
+use Rattle.server.specs.Ending.{PipeEnds, Starved, Unopened, Attended}
 use Rattle.server.specs.Lines.{disk_fault_line}
 use Rattle.server.specs.Outside.{Outside, SinkTold, PrintsLine}
 use Rattle.server.specs.Refusing.{open_line, open_status, refused_line, refused_status}
-use Rattle.server.specs.Words.{stream_in}
 use Rattle.server.proofs.Ending.{attends_worded, unserved_refused}
 
 -- ---- of volumes that were not opened
@@ -31,7 +29,7 @@ open_other (opening.Damaged file at) e = cc
 open_other (opening.UnknownVersion version) e = cc
 open_other opening.NoMemory e = cc
 
-refused_other : {V : Type 0} (fault : HubFault V) → refused_status fault ≡ 2 → ⊥
+pub refused_other : {V : Type 0} (fault : HubFault V) → refused_status fault ≡ 2 → ⊥
 refused_other (hubs.Open place fault vols) e = open_other fault e
 refused_other (hubs.Conflict first second vols) e = cc
 refused_other (hubs.NoMemory vols) e = cc
@@ -70,7 +68,7 @@ with_other served talked flushed status t f seven e = first (talked == 0) e
     first true k = f k
     first false k = second (served && flushed == 7) k
 
-closing_other : (served : Bool) (talked : ℕ) (failed : Option (ℕ × PlaceFault)) → (talked ≡ 2 → ⊥) → closing_status served talked failed ≡ 2 → ⊥
+pub closing_other : (served : Bool) (talked : ℕ) (failed : Option (ℕ × PlaceFault)) → (talked ≡ 2 → ⊥) → closing_status served talked failed ≡ 2 → ⊥
 closing_other served talked None t e = t e
 closing_other served talked (Some failed) t e = with_other served talked (flush_status failed.1) 2 t (flushed_other failed.1) (λ k. cc) e
 
@@ -126,25 +124,9 @@ attended_unrefused Made desk after stream outcome old new failed h not e =
 
 module _ {V : Type 0} (Opens : List V → Solo V → Type 0) (Refuses : List V → HubFault V → Type 0) (Made : Solo V → List DeskEntry → Solo V → Type 0) (Closes : Solo V → Closed V → Type 0) where
   -- no run of `pipe` ends with the status of another command line
-  pipe_worded : (stream : Option NamedStream) (status : ℕ) (v0 v1 : List V) (old new : Outside) → PipeEnds Opens Refuses Made Closes stream status v0 v1 old new → status ≡ 2 → ⊥
+  pub pipe_worded : (stream : Option NamedStream) (status : ℕ) (v0 v1 : List V) (old new : Outside) → PipeEnds Opens Refuses Made Closes stream status v0 v1 old new → status ≡ 2 → ⊥
   pipe_worded stream status v0 v1 old new (Starved h) e = omega (arith, h.status_is, e)
   pipe_worded stream status v0 v1 old new (Unopened h) e = refused_other h.fault (sym h.status_is ∙ e)
   pipe_worded stream status v0 v1 old new (Attended h) e =
       closing_other h.outcome.served h.outcome.status h.closed.failed
       (attends_worded h.desk.scene.world.places stream h.after.scene h.outcome.status old (record new { sink = h.sink }) h.attended.attends) (sym h.status_is ∙ e)
-
-  module _ (v0 v1 : List V) (read : Option Command) (command : Command) (stream : Option NamedStream) (is : read ≡ Some command) (streamed : stream ≡ stream_in command) where
-    -- the status is not that of another command line
-    pub words_kept : (status : ℕ) (old new : Outside) → PipeEnds Opens Refuses Made Closes stream status v0 v1 old new → (status ≡ 2) ↔ (read ≡ None)
-    words_kept status old new h = (λ two. absurd (pipe_worded stream status v0 v1 old new h two), λ none. cc)
-
-    -- the command was run
-    pub ends_kept : (status : ℕ) (old new : Outside) → PipeEnds Opens Refuses Made Closes stream status v0 v1 old new → IfSome read (λ command. CommandEnds Opens Refuses Made Closes command status v0 v1 old new)
-    ends_kept status old new h =
-        let run : CommandEnds Opens Refuses Made Closes command status v0 v1 old new = subst (λ (s : Option NamedStream). PipeEnds Opens Refuses Made Closes s status v0 v1 old new) streamed h in
-        subst (λ (o : Option Command). IfSome o (λ c. CommandEnds Opens Refuses Made Closes c status v0 v1 old new)) (sym is) run
-
-  -- nothing was run: out of memory
-  pub ends_starved : (vols : List V) (read : Option Command) (outside : Outside) → IfSome read (λ command. CommandEnds Opens Refuses Made Closes command 7 vols vols outside outside)
-  ends_starved vols None outside = tt
-  ends_starved vols (Some command) outside = Starved (record { status_is = refl; vols = refl; outside = refl })

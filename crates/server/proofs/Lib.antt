@@ -1,4 +1,7 @@
 pub mod Spelled
+pub mod Numbers
+pub mod Addressed
+pub mod Hosts
 pub mod Arriving
 pub mod Ending
 pub mod Ended
@@ -19,3 +22,5 @@ pub mod Keeping
 pub mod Readable
 pub mod Unfailed
 pub mod Memory
+pub mod Commanded
+pub mod Manned

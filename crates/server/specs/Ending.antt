@@ -5,13 +5,11 @@ use Rattle.js_desk.specs.Solo.{Solo}
 use Rattle.js_desk.specs.declared.faults.Closed.{Closed}
 use Rattle.js_desk.specs.declared.faults.HubFault.{HubFault}
 use Rattle.server.specs.declared.serving.Outcome.{Outcome}
-use Rattle.server.specs.declared.words.Command.{Command}
 use Rattle.server.specs.declared.words.NamedStream.{NamedStream}
 use Rattle.server.specs.Outside.{Outside, SinkTold, PrintsLine}
 use Rattle.server.specs.Attending.{IsAttendedOver}
 use Rattle.server.specs.Closing.{closing_line, closing_status}
 use Rattle.server.specs.Refusing.{refused_line, refused_status, vols_of}
-use Rattle.server.specs.Words.{stream_in}
 
 -- Of places of one kind, and the desks over them: as what a desk is opened on volumes, why none is opened, what entries make of a desk, and what is left of
 -- it at its closing.
@@ -52,7 +50,3 @@ module _ {V : Type 0} (Opens : List V → Solo V → Type 0) (Refuses : List V �
     Starved : IsStarved status vols_old vols_new old new → PipeEnds stream status vols_old vols_new old new
     Unopened : IsUnopened status vols_old vols_new old new → PipeEnds stream status vols_old vols_new old new
     Attended : IsAttended stream status vols_old vols_new old new → PipeEnds stream status vols_old vols_new old new
-
-  -- how a run of a command ends
-  abbrev pub CommandEnds : Command → ℕ → List V → List V → Outside → Outside → Type 0
-  CommandEnds command status vols_old vols_new old new = PipeEnds (stream_in command) status vols_old vols_new old new

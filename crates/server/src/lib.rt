@@ -3,6 +3,8 @@
 
 mod closing;
 pub mod laws;
+mod listening;
+mod manning;
 mod preparing;
 mod printing;
 mod refusing;
@@ -11,5 +13,6 @@ mod serving;
 mod settings;
 mod words;
 
+pub use listening::{AcceptLimit, Listening};
 pub use running::{Finish, run};
 pub use words::{Command, FolderPath, NamedStream, WordsFault, read_words};

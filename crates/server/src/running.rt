@@ -7,22 +7,29 @@ ghost use Rattle.js_desk.specs.Opening.{FailsToOpen, OpensDesk};
 ghost use Rattle.js_desk.specs.Solo.{DeskMade};
 ghost use Rattle.js_model.specs.Configs.{is_stream_subject};
 ghost use Rattle.server.specs.Attending.{IsAttendedOver};
-ghost use Rattle.server.specs.Ending.{CommandEnds, PipeEnds};
+ghost use Rattle.shared_desk.specs.Closing.{ClosesHub};
+ghost use Rattle.shared_desk.specs.Opening.{FailsToOpenHub, OpensHub};
+ghost use Rattle.server.specs.Commands.{CommandEnds};
+ghost use Rattle.server.specs.Ending.{PipeEnds};
 ghost use Rattle.server.specs.Lines.{words_line};
 ghost use Rattle.server.specs.Outside.{Prints};
 ghost use Rattle.server.specs.Words.{texts, command_of};
 
 use crate::closing::settle;
+use crate::manning::serve_hub;
 use crate::preparing::prepare;
 use crate::printing::{print_number, print_words};
 use crate::refusing::refuse;
 use crate::serving::{Outcome, serve_first, status_of};
-use crate::words::{NamedStream, WordsFault, read_words};
+use crate::words::{Command, NamedStream, WordsFault, read_words};
 use js_desk::{Closed, SoloDesk};
 use link_edge::{Clock, Door, Gate, Sink};
 use place_engine::Place;
 use session::Ended;
 use std::alloc::Global;
+use std::sync::Wait;
+use std::thread::Threads;
+use tcp_edge::Rings;
 
 /// What is left at the end of a run: its status, the door, and the volumes in their order.
 #[derive(Drop)]
@@ -117,15 +124,26 @@ fn pipe<P: Place, R: Door, C: Clock, O: Sink>(
 /// The status is 0 (input ended), 2 (command line), 3 (connection), 4 (a volume failed), 5 (what the volumes hold), 6 (limits of a session, or no
 /// link), 7 (memory), 8 (door), 10 (session refused, or numbers used up) or 11 (stream refused). The causes are looked at in the order of the work, and the
 /// first one gives the status; but want of memory in the closing stands before what a session ended by.
-pub fn run<P: Place, R: Door, C: Clock, G: Gate, O: Sink>(
+pub fn run<
+    P: Place + Send + Sync,
+    R: Door + Send,
+    C: Clock + Send + Drop,
+    G: Gate + Sync,
+    O: Sink,
+    W: Threads + Wait + Sync,
+>(
+    rt: &W,
     alloc: Global,
     words: &[String],
     door: R,
     vols: Vec<P::Vol>,
     clock: &mut C,
-    _gate: &G,
+    gate: &G,
     out: &mut O,
 ) -> Finish<R, P::Vol>
+where
+    R::Link: Rings + Send,
+    P::Vol: Sync,
     requires volumes { vec_len vols ≤ 32 }
 
     // Status 2 comes exactly if the command line is none of the forms. It is refused in a line, the door and the volumes are not touched and the clock not
@@ -142,6 +160,9 @@ pub fn run<P: Place, R: Door, C: Clock, G: Gate, O: Sink>(
         (FailsToOpen P.seen P.vol P.holds P.reads P.left P.clock P.faults P.base P.opens P.refuses P.keeps_vol)
         (DeskMade P.keeps_vol P.holds P.left P.clock P.base)
         (λ desk closed. Closes P.seen P.vol P.holds P.reads P.left P.clock P.base P.keeps_vol desk.vols desk.scene.world.places closed)
+        (OpensHub P.seen P.vol P.holds P.reads P.left P.clock P.faults P.base P.opens P.refuses P.keeps_vol)
+        (FailsToOpenHub P.seen P.vol P.holds P.reads P.left P.clock P.faults P.base P.opens P.refuses P.keeps_vol)
+        (ClosesHub P.seen P.vol P.holds P.reads P.left P.clock P.base P.keeps_vol)
         command result.status vols.items result.vols.items
         (record {
           door = record { answered = R.answered door; gave = R.gave door; back = R.back door; starved = R.starved door; faults = R.faults door };
@@ -159,11 +180,13 @@ pub fn run<P: Place, R: Door, C: Clock, G: Gate, O: Sink>(
     ensures unprinted { result.status ≢ 2 → result.status ≢ 4 → result.status ≢ 5 → result.status ≢ 11 → O.written out.new ≡ O.written out.old }
 {
     match read_words(alloc, words) {
-        Ok(command) => {
-            let stream = command.into_stream();
+        Ok(Command::Pipe { dir: _dir, stream }) => {
             let mut door = door;
             let (status, vols) = pipe::<P, R, C, O>(alloc, &stream, &mut door, vols, clock, out);
             Finish { status, door, vols }
+        }
+        Ok(Command::Serve(listening)) => {
+            serve_hub::<P, R, C, G, O, W>(rt, alloc, &listening, door, vols, clock, gate, out)
         }
         Err(WordsFault::Words) => {
             print_words(out);

@@ -2,8 +2,38 @@
 
 ghost use Rattle.std.specs.Prelude.{◌≡◌, ◌<◌, true, false, [], ◌∷◌, MatchOption, IfSome, length, option_map};
 ghost use Rattle.js_base.specs.Bytes.{has};
-ghost use Rattle.server.specs.Settings.{halves_of, settings_of, value_of, is_option, is_value, are_settings, dir_option, stream_option, subject_option};
+ghost use Rattle.server.specs.Settings.{halves_of, settings_of, value_of, verb_of, is_option, is_value, are_settings, dir_option, stream_option, subject_option, listen_option, workers_option, accepts_option};
 ghost use Rattle.server.specs.Words.{texts};
+
+/// The word that a command line begins with, which says what the program is asked to do.
+#[derive(Clone, Copy, Debug, PartialEq, Eq)]
+pub(crate) enum Verb {
+    Pipe,
+    Serve,
+}
+
+impl Verb {
+    /// The command that the word names, if it names one.
+    pub(crate) fn named(word: &str) -> Option<Verb>
+        ensures value { result ≡ verb_of word.now }
+    {
+        match word {
+            "pipe" => Some(Verb::Pipe),
+            "serve" => Some(Verb::Serve),
+            _ => None,
+        }
+    }
+
+    /// Whether the word is an option of the command.
+    fn is_option(self, word: &str) -> bool
+        ensures value { result ≡ is_option self word.now }
+    {
+        match self {
+            Verb::Pipe => word == DIR || word == STREAM || word == SUBJECT,
+            Verb::Serve => word == DIR || word == LISTEN || word == WORKERS || word == ACCEPTS,
+        }
+    }
+}
 
 /// The option that gives the folder.
 pub(crate) const DIR: &str = "--dir";
@@ -13,6 +43,15 @@ pub(crate) const STREAM: &str = "--stream";
 
 /// The option that gives the subject of a stream.
 pub(crate) const SUBJECT: &str = "--subject";
+
+/// The option that gives the address and port.
+pub(crate) const LISTEN: &str = "--listen";
+
+/// The option that gives the number of workers.
+pub(crate) const WORKERS: &str = "--workers";
+
+/// The option that gives how many connections are accepted.
+pub(crate) const ACCEPTS: &str = "--accepts";
 
 /// An option and its value.
 #[derive(Clone, Copy)]
@@ -64,13 +103,6 @@ pub(crate) fn value_of<'a>(option: &str, words: &'a [String]) -> Option<&'a str>
     None
 }
 
-/// Whether this is an option of `pipe`.
-fn is_option(word: &str) -> bool
-    ensures value { result ≡ is_option word.now }
-{
-    word == DIR || word == STREAM || word == SUBJECT
-}
-
 /// Whether the text may be the value of an option.
 fn is_value(text: &str) -> bool
     ensures value { result ≡ is_value text.now }
@@ -78,13 +110,13 @@ fn is_value(text: &str) -> bool
     !text.is_empty() && !text.as_bytes().starts_with(b"-")
 }
 
-/// Whether the words are options of `pipe`, each with a value, and none of them comes twice.
-pub(crate) fn are_settings(words: &[String]) -> bool
-    ensures value { result ≡ are_settings (settings_of (texts words.now)) }
+/// Whether the words are options of the command, each with a value, and none of them comes twice.
+pub(crate) fn are_settings(verb: Verb, words: &[String]) -> bool
+    ensures value { result ≡ are_settings verb (settings_of (texts words.now)) }
 {
     let mut rest = words;
     while let Some((setting, more)) = cut_setting(rest) {
-        if !is_option(setting.option)
+        if !verb.is_option(setting.option)
             || !is_value(setting.value)
             || value_of(setting.option, more).is_some()
         {

@@ -1,10 +1,11 @@
 //! The command line.
 
-ghost use Rattle.std.specs.Prelude.{◌≡◌, None, MatchOption, option_map};
+ghost use Rattle.std.specs.Prelude.{◌≡◌, None, IfOk, MatchOption, option_map};
 ghost use Rattle.server.specs.Settings.{settings_of};
-ghost use Rattle.server.specs.Words.{texts, named_stream, stream_of, stream_in, pipe_with, command_of, Reads};
+ghost use Rattle.server.specs.Words.{texts, named_stream, stream_of, pipe_with, serve_with, command_with, command_of, HasFewWorkers, Reads};
 
-use crate::settings::{DIR, STREAM, SUBJECT, are_settings, value_of};
+use crate::listening::{Listening, read_listening};
+use crate::settings::{DIR, STREAM, SUBJECT, Verb, are_settings, value_of};
 use js_base::{Blob, Name, NameFault};
 use std::alloc::Global;
 use std::marker::Model;
@@ -33,6 +34,16 @@ impl Model for FolderPath {
 }
 
 impl FolderPath {
+    /// A copy of the path.
+    pub(crate) fn copied(alloc: Global, path: &str) -> Result<FolderPath, WordsFault>
+        ensures { Reads result (Some path.now) }
+    {
+        match String::from_str(alloc, path) {
+            Ok(path) => Ok(FolderPath { path }),
+            Err(_) => Err(WordsFault::NoMemory),
+        }
+    }
+
     /// The path as text.
     pub fn as_str(&self) -> &str
         ensures { result.now ≡ self.now }
@@ -50,17 +61,8 @@ pub enum Command {
         dir: Option<FolderPath>,
         stream: Option<NamedStream>,
     },
-}
-
-impl Command {
-    /// The stream that is made before, if one is named.
-    pub(crate) fn into_stream(self) -> Option<NamedStream>
-        ensures value { result ≡ stream_in self }
-    {
-        match self {
-            Command::Pipe { dir: _dir, stream } => stream,
-        }
-    }
+    /// Serves the links that come to an address. The streams are kept in a folder.
+    Serve(Listening),
 }
 
 /// Why the command line is not a command.
@@ -72,15 +74,23 @@ pub enum WordsFault {
     NoMemory,
 }
 
-/// The words behind `pipe`, if the command line begins with that and its settings follow.
-fn settings_of(words: &[String]) -> Option<&[String]>
-    ensures { MatchOption result (command_of (texts words.now) ≡ None) (λ settings. command_of (texts words.now) ≡ pipe_with (settings_of (texts settings.now))) }
+/// A word for a command, and the words of its settings.
+#[derive(Clone, Copy)]
+struct Asked<'a> {
+    verb: Verb,
+    settings: &'a [String],
+}
+
+/// What the command line asks for, if it begins with the word for a command and settings of that follow.
+fn asked_of(words: &[String]) -> Option<Asked<'_>>
+    ensures { MatchOption result (command_of (texts words.now) ≡ None) (λ asked. command_of (texts words.now) ≡ command_with asked.verb (settings_of (texts asked.settings.now))) }
 {
-    match words.split_first() {
-        Some((command, settings)) if command.as_str() == "pipe" && are_settings(settings) => {
-            Some(settings)
-        }
-        _ => None,
+    let (word, settings) = words.split_first()?;
+    let verb = Verb::named(word.as_str())?;
+    if are_settings(verb, settings) {
+        Some(Asked { verb, settings })
+    } else {
+        None
     }
 }
 
@@ -88,12 +98,9 @@ fn settings_of(words: &[String]) -> Option<&[String]>
 fn read_dir(alloc: Global, path: Option<&str>) -> Result<Option<FolderPath>, WordsFault>
     ensures { Reads result (Some (option_map (λ text. text.now) path.entry)) }
 {
-    let Some(path) = path else {
-        return Ok(None);
-    };
-    match String::from_str(alloc, path) {
-        Ok(path) => Ok(Some(FolderPath { path })),
-        Err(_) => Err(WordsFault::NoMemory),
+    match path {
+        Some(path) => Ok(Some(FolderPath::copied(alloc, path)?)),
+        None => Ok(None),
     }
 }
 
@@ -133,13 +140,10 @@ fn read_named(alloc: Global, name: &[u8], subject: &[u8]) -> Result<NamedStream,
     }
 }
 
-/// The command that the command line is. Memory is taken only for one that is a command.
-pub fn read_words(alloc: Global, words: &[String]) -> Result<Command, WordsFault>
-    ensures { Reads result (command_of (texts words.now)) }
+/// `pipe` with these settings.
+fn read_pipe(alloc: Global, settings: &[String]) -> Result<Command, WordsFault>
+    ensures { Reads result (pipe_with (settings_of (texts settings.now))) }
 {
-    let Some(settings) = settings_of(words) else {
-        return Err(WordsFault::Words);
-    };
     let stream = read_stream(
         alloc,
         value_of(STREAM, settings),
@@ -147,4 +151,27 @@ pub fn read_words(alloc: Global, words: &[String]) -> Result<Command, WordsFault
     )?;
     let dir = read_dir(alloc, value_of(DIR, settings))?;
     Ok(Command::Pipe { dir, stream })
+}
+
+/// `serve` with these settings.
+fn read_serve(alloc: Global, settings: &[String]) -> Result<Command, WordsFault>
+    ensures { Reads result (serve_with (settings_of (texts settings.now))) }
+{
+    let listening = read_listening(alloc, settings)?;
+    Ok(Command::Serve(listening))
+}
+
+/// The command that the command line is. Memory is taken only for one that is a command.
+#[tactic(auto, using(crate::proofs::Worded::few_read))]
+pub fn read_words(alloc: Global, words: &[String]) -> Result<Command, WordsFault>
+    ensures command { Reads result (command_of (texts words.now)) }
+    ensures workers { IfOk result HasFewWorkers }
+{
+    let Some(asked) = asked_of(words) else {
+        return Err(WordsFault::Words);
+    };
+    match asked.verb {
+        Verb::Pipe => read_pipe(alloc, asked.settings),
+        Verb::Serve => read_serve(alloc, asked.settings),
+    }
 }

@@ -1,16 +1,26 @@
-//! The program: the server over standard input and output.
+//! The program: the server over standard input and output, or over TCP.
 #![tactic(auto)]
+
+mod help;
+mod telling;
 
 ghost use Rattle.std.specs.Prelude.{◌≤◌, ◌≡◌, IfOk, vec_len};
 
+use crate::help::Request;
+use crate::telling::{tell_address, tell_end};
 use folder_lock::{FolderLock, LockFault};
-use link_edge::{OpenGate, PipeDoor, SystemClock, WriterSink};
+use link_edge::{Door, OpenGate, PipeDoor, SystemClock, WriterSink};
 use place_engine::{MemoryPlace, Place};
-use server::{Command, Finish, WordsFault, read_words, run};
+use server::{Command, Finish, Listening, WordsFault, read_words, run};
 use std::alloc::AllocError;
 use std::env;
 use std::io::{self, ErrorKind, Write};
+use std::net::Net;
 use std::process::ExitCode;
+use std::rt::Clock;
+use std::sync::Wait;
+use std::thread::Threads;
+use tcp_edge::{Rings, TcpDoor};
 use vol_disk::DirVol;
 use volume_place::VolumePlace;
 
@@ -26,21 +36,6 @@ const UNLOCKED: u8 = 75;
 /// The status if memory runs out.
 const STARVED: u8 = 7;
 
-/// What `--version` prints.
-const VERSION: &[u8] = b"jsblock 0.1.0\n";
-
-/// What `--help` prints.
-const HELP: &[u8] = b"\
-jsblock serves one NATS connection over standard input and output, with JetStream's streams in memory or in a folder.
-
-usage: jsblock pipe [--dir DIR] [--stream NAME --subject PATTERN]
-       jsblock --help
-       jsblock --version
-
-A client makes streams by the JetStream API. With --dir they are kept in the folder DIR, which is made if it is not there, and outlive the program.
-With --stream the stream NAME, which takes the subjects of PATTERN, is there from the start. Options come in any order, also as --dir=DIR.
-";
-
 /// The command line after the program's name. If a part of it is not UTF-8 it is empty, which is none of the forms either.
 fn words_of(rt: &HostRuntime) -> io::Result<Vec<String>> {
     let mut words = Vec::new(rt.alloc());
@@ -53,15 +48,6 @@ fn words_of(rt: &HostRuntime) -> io::Result<Vec<String>> {
         }
         Err(error) if error.kind() == ErrorKind::InvalidData => Ok(words),
         Err(error) => Err(error),
-    }
-}
-
-/// The text that the command line asks for, if it asks for one.
-fn text_of(words: &[String]) -> Option<&'static [u8]> {
-    match words {
-        [word] if word.as_str() == "--help" => Some(HELP),
-        [word] if word.as_str() == "--version" => Some(VERSION),
-        _ => None,
     }
 }
 
@@ -97,16 +83,23 @@ fn folder_volumes(rt: &HostRuntime, dir: &str) -> Result<Vec<DirVol>, AllocError
     Ok(vols)
 }
 
-/// Serves standard input and output over places of one kind, and returns the status.
-fn serve_over<P: Place>(rt: &HostRuntime, words: &[String], vols: Vec<P::Vol>) -> u8
+/// Serves the links of a door over places of one kind, and returns the status.
+fn serve_door<P: Place + Send + Sync, R: Door + Send + Drop, T: Threads + Wait + Sync>(
+    rt: &HostRuntime,
+    threads: &T,
+    words: &[String],
+    door: R,
+    vols: Vec<P::Vol>,
+) -> u8
 where
-    P::Vol: Drop,
+    R::Link: Rings + Send,
+    P::Vol: Sync + Drop,
     requires few { vec_len vols ≤ 32 }
 {
-    let door = PipeDoor::new(rt.stdin(), rt.stdout());
     let mut clock = SystemClock::new(rt);
     let mut out = WriterSink::new(rt.stderr());
-    let finish: Finish<_, P::Vol> = run::<P, _, _, _, _>(
+    let finish: Finish<R, P::Vol> = run::<P, _, _, _, _, _>(
+        threads,
         rt.alloc(),
         words,
         door,
@@ -118,29 +111,83 @@ where
     finish.status
 }
 
-/// Serves over the folder `dir`, which nobody else writes meanwhile, and returns the status.
-fn serve_folder(rt: &HostRuntime, words: &[String], dir: &str) -> Result<u8, AllocError> {
+/// Serves standard input and output over places of one kind, and returns the status.
+fn serve_pipe<P: Place + Send + Sync, T: Threads + Wait + Sync>(
+    rt: &HostRuntime,
+    threads: &T,
+    words: &[String],
+    vols: Vec<P::Vol>,
+) -> u8
+where
+    P::Vol: Sync + Drop,
+    requires few { vec_len vols ≤ 32 }
+{
+    let door = PipeDoor::new(rt.stdin(), rt.stdout());
+    serve_door::<P, _, T>(rt, threads, words, door, vols)
+}
+
+/// Serves the links that come to an address over the folder, which nobody else writes meanwhile, and returns the status.
+fn serve_address<T: Threads + Wait + Net + Clock + Copy + Send + Sync + Drop>(
+    rt: &HostRuntime,
+    handles: T,
+    words: &[String],
+    listening: &Listening,
+) -> Result<u8, AllocError> {
+    let dir = listening.dir.as_str();
     let _lock = match FolderLock::take(rt, dir) {
         Ok(lock) => lock,
         Err(fault) => return Ok(refuse_folder(rt, fault)),
     };
     let vols = folder_volumes(rt, dir)?;
-    Ok(serve_over::<VolumePlace<DirVol>>(rt, words, vols))
+    let door = TcpDoor::bind(handles, rt.alloc(), listening.listen);
+    if let Some(address) = door.address() {
+        tell_address(rt, address, dir);
+    }
+    let status = serve_door::<VolumePlace<DirVol>, _, T>(rt, &handles, words, door, vols);
+    tell_end(rt, status);
+    Ok(status)
+}
+
+/// Serves over the folder `dir`, which nobody else writes meanwhile, and returns the status.
+fn serve_folder<T: Threads + Wait + Sync>(
+    rt: &HostRuntime,
+    threads: &T,
+    words: &[String],
+    dir: &str,
+) -> Result<u8, AllocError> {
+    let _lock = match FolderLock::take(rt, dir) {
+        Ok(lock) => lock,
+        Err(fault) => return Ok(refuse_folder(rt, fault)),
+    };
+    let vols = folder_volumes(rt, dir)?;
+    Ok(serve_pipe::<VolumePlace<DirVol>, T>(rt, threads, words, vols))
 }
 
 /// Serves over places in memory, and returns the status.
-fn serve_memory(rt: &HostRuntime, words: &[String]) -> Result<u8, AllocError> {
+fn serve_memory<T: Threads + Wait + Sync>(
+    rt: &HostRuntime,
+    threads: &T,
+    words: &[String],
+) -> Result<u8, AllocError> {
     let vols = vec![in rt.alloc(); (); VOLUMES as usize]?;
-    Ok(serve_over::<MemoryPlace<()>>(rt, words, vols))
+    Ok(serve_pipe::<MemoryPlace<()>, T>(rt, threads, words, vols))
 }
 
 /// Prints that the command line is refused, and returns the status. No volumes are made for it.
-fn refuse_words(rt: &HostRuntime, words: &[String]) -> u8 {
-    serve_over::<MemoryPlace<()>>(rt, words, Vec::new(rt.alloc()))
+fn refuse_words<T: Threads + Wait + Sync>(
+    rt: &HostRuntime,
+    threads: &T,
+    words: &[String],
+) -> u8 {
+    serve_pipe::<MemoryPlace<()>, T>(rt, threads, words, Vec::new(rt.alloc()))
 }
 
 /// Serves what the command line asks for, and returns the status.
-fn serve(rt: &HostRuntime, words: &[String]) -> Result<u8, AllocError> {
+fn serve<T: Threads + Wait + Net + Clock + Copy + Send + Sync + Drop>(
+    rt: &HostRuntime,
+    handles: T,
+    words: &[String],
+) -> Result<u8, AllocError> {
     match read_words(rt.alloc(), words) {
         Ok(
             Command::Pipe {
@@ -148,25 +195,32 @@ fn serve(rt: &HostRuntime, words: &[String]) -> Result<u8, AllocError> {
                 stream: _stream,
             },
         ) => match dir {
-            Some(dir) => serve_folder(rt, words, dir.as_str()),
-            None => serve_memory(rt, words),
+            Some(dir) => serve_folder(rt, &handles, words, dir.as_str()),
+            None => serve_memory(rt, &handles, words),
         },
-        Err(WordsFault::Words) => Ok(refuse_words(rt, words)),
+        Ok(Command::Serve(listening)) => serve_address(rt, handles, words, &listening),
+        Err(WordsFault::Words) => Ok(refuse_words(rt, &handles, words)),
         Err(WordsFault::NoMemory) => Err(AllocError),
     }
 }
 
 /// Does what the command line asks for, and returns the status.
-fn status(rt: &HostRuntime) -> u8 {
+fn status<T: Threads + Wait + Net + Clock + Copy + Send + Sync + Drop>(
+    rt: &HostRuntime,
+    handles: T,
+) -> u8 {
     let Ok(words) = words_of(rt) else {
         return STARVED;
     };
-    match text_of(&words) {
-        Some(text) => print(rt, text),
-        None => serve(rt, &words).unwrap_or(STARVED),
+    match Request::of(&words) {
+        Some(request) => match request.text(rt.alloc()) {
+            Ok(text) => print(rt, text.as_bytes()),
+            Err(AllocError) => STARVED,
+        },
+        None => serve(rt, handles, &words).unwrap_or(STARVED),
     }
 }
 
 fn main(rt: HostRuntime) -> ExitCode {
-    ExitCode::from(status(&rt))
+    ExitCode::from(status(&rt, rt))
 }

@@ -1,16 +1,25 @@
 -- Passes that become one, the last ones first.
-use Rattle.std.proofs.Common.{◌≡◌, ◌++◌, ◌<◌, ℕ, true, List, [], ◌∷◌, Option, None, Some, refl, sym, ap, subst, ◌∙◌}
+use Rattle.std.proofs.Common.{◌≡◌, ◌++◌, ◌<◌, ℕ, true, List, [], ◌∷◌, Option, None, Some, refl, sym, ap, subst, ◌∙◌, arith, length}
 use Rattle.std.specs.Prelude.{IfSome, is_some}
 use Rattle.std.specs.List.{AllByRecursion}
 use Rattle.std.proofs.lemmas.List.{append_assoc}
+use Rattle.js_base.specs.Bytes.{has}
 use Rattle.js_model.specs.declared.desk.PlaceAt.{PlaceAt}
 use Rattle.turn_lock.specs.Seats.{LockView, SeatView}
 use Rattle.hub_fronts.specs.Fronts.{SharedScene}
-use Rattle.shared_desk.specs.Hubs.{HubView}
+use Rattle.shared_desk.specs.Hubs.{HubView, IsHub}
 use Rattle.shared_desk.specs.Joining.{IsPassJoined}
-use Rattle.shared_desk.specs.Passes.{IsPassOf}
+use Rattle.shared_desk.specs.Passes.{AreAllPasses, IsPassOf}
 use Rattle.shared_desk.specs.Seats.{IsSeated}
 use Rattle.shared_desk.proofs.Joined.{GathersPass, gathers_pass, gathers_pass_more}
+
+-- each hub has one
+pub some_passes : (hub : HubView) (passes : List SharedScene) → IsHub hub → AreAllPasses hub passes → 0 < length passes
+some_passes hub [] is all = absurd (none (all.catalog 0 is.some))
+  where
+    none : has [] 0 ≡ true → ⊥
+    none e = cc
+some_passes hub (pass ∷ passes) is all = omega arith
 
 -- the passes behind the others are this one, and the others are still of the hub
 pub record ArePassesJoined (hub : HubView) (passes rest : List SharedScene) (all : SharedScene) : Type 0 where

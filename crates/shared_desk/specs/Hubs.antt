@@ -1,5 +1,5 @@
 -- What contracts see of a hub, and what holds of it, this server's own.
-use Rattle.std.specs.Prelude.{◌≡◌, ◌≤◌, ℕ, List, [], length}
+use Rattle.std.specs.Prelude.{◌≡◌, ◌≤◌, ◌<◌, ℕ, List, [], length}
 use Rattle.std.specs.List.{AllByRecursion}
 use Rattle.histories.specs.Entries.{OfRouter}
 use Rattle.turn_lock.specs.Seats.{LockView}
@@ -12,8 +12,9 @@ pub record HubView : Type 0 where
   pub catalog : LockView
   pub places : List LockView
 
--- there are at most 32 places, of each of which the catalog has an entry, and each sends by a seat of the router
+-- there is a caller, there are at most 32 places, of each of which the catalog has an entry, and each sends by a seat of the router
 pub record IsHub (hub : HubView) : Type 0 where
+  pub some : 0 < hub.catalog.seats
   pub few : length hub.places ≤ 32
   pub router : hub.router.opening ≡ OfRouter
   pub catalog : places_of hub.catalog.opening ≡ length hub.places

@@ -150,10 +150,10 @@ impl<P: Place> Hub<P> {
     /// Takes in all passes of the hub, and brings all that was made at each place that is not stopped to its volume, in their order. It gives the volumes
     /// back, also after a failure. It takes no memory.
     pub fn close(self, passes: Vec<Pass<P>>) -> Closed<P::Vol>
-        requires some { 0 < length passes.items }
         requires all { AreAllPasses self passes.items }
         ensures closes { ClosesHub P.seen P.vol P.holds P.reads P.left P.clock P.base P.keeps_vol self passes.items result }
     {
+        self.law_hub();
         let mut passes = passes;
         let mut all = passes.take_last();
         while !passes.is_empty() {

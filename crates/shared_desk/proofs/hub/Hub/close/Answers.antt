@@ -1,8 +1,12 @@
+use Rattle.std.proofs.Common.{arith}
 use Rattle.shared_desk.proofs.Closed.{closes_hub}
 use Rattle.shared_desk.proofs.Ending.{emptied}
 use Rattle.shared_desk.proofs.Joined.{has_all_seats}
-use Rattle.shared_desk.proofs.Passing.{all_passes, last_pass, more_passes, one_pass}
+use Rattle.shared_desk.proofs.Passing.{all_passes, last_pass, more_passes, one_pass, some_passes}
 use Rattle.shared_desk.proofs.hub.Hub.close.Goals as goal
+
+pub take_last-all-requires : goal.take_last-all-requires
+take_last-all-requires g c = omega (arith, some_passes c.args.self c.args.passes.items c.law_hub.ensures.hub c.requires.all, c.args.passes.ok.0)
 
 pub loop-self-init : goal.loop-self-init
 loop-self-init g c = one_pass c.args.self c.args.passes.items c.take_last-all.new.self.items c.take_last-all.result c.take_last-all.ensures.items c.requires.all.each
