@@ -1,6 +1,6 @@
 -- What a hub is opened to, or why it was not opened.
-use Rattle.std.proofs.Common.{◌≡◌, ◌≤◌, ◌++◌, ℕ, List, [], ◌∷◌, length, map, Option, refl, sym, ap, subst, ◌∙◌, inl, inr, arith}
-use Rattle.std.specs.Prelude.{reverse, vec_capacity}
+use Rattle.std.proofs.Common.{◌≡◌, ◌≤◌, ◌<◌, ◌++◌, ℕ, List, [], ◌∷◌, length, map, Option, refl, sym, ap, subst, ◌∙◌, inl, inr, arith, Result, Ok, Err, IfErr, IsErrAnd}
+use Rattle.std.specs.Prelude.{reverse}
 use Rattle.std.specs.List.{AllByRecursion, AllZip}
 use Rattle.std.specs.Global.{Vec}
 use Rattle.std.proofs.lemmas.List.{append-nil, length-map}
@@ -25,11 +25,11 @@ use Rattle.js_desk.specs.declared.cataloging.Uncataloged.TheVariants as stops
 use Rattle.js_desk.specs.declared.faults.HubFault.{HubFault}
 use Rattle.js_desk.specs.declared.faults.HubFault.TheVariants as faults_of
 use Rattle.shared_desk.specs.Faults.{fault_of}
-use Rattle.shared_desk.specs.Hubs.{HubView, IsHub}
+use Rattle.shared_desk.specs.Hubs.{HubView, IsHub, IsRoomy}
 use Rattle.shared_desk.specs.Laying.{IsLaid}
 use Rattle.shared_desk.specs.Opening.{ComesBack, FailsToOpenHub, IsLocked, OpensHub, catalog_by}
 
-module _ {P V : Type 0} (seen : P → Seen) where
+module _ {P : Type 0} (seen : P → Seen) where
   each_sends : (router : TableId) (workers : ℕ) (row : List P) (locks : List LockView) → AllZip (IsLocked seen router workers) row locks → AllByRecursion (λ (place : LockView). SendsTo place.opening router) locks
   each_sends router workers [] [] z = tt
   each_sends router workers [] (l ∷ locks) z = absurd z
@@ -39,14 +39,29 @@ module _ {P V : Type 0} (seen : P → Seen) where
   catalog_long : (row : List P) → length (catalog_by seen row) ≡ length row
   catalog_long row = length-map (map kept_in (places_by seen row)) kept_place ∙ length-map (places_by seen row) kept_in ∙ length-map row (λ (p : P). (seen p).place)
 
-  pub laid_hub : (kept : Catalog) (workers : ℕ) (row : List P) (hub : HubView) (passes : List SharedScene) → kept ≡ catalog_by seen row → length row ≤ 32 → IsLaid seen kept workers row hub passes → IsHub hub
-  laid_hub kept workers row hub passes is few l =
+  laid_hub : (kept : Catalog) (workers : ℕ) (row : List P) (hub : HubView) (passes : List SharedScene) → kept ≡ catalog_by seen row → length row ≤ 32 → 0 < workers → IsLaid seen kept workers row hub passes → IsHub hub
+  laid_hub kept workers row hub passes is few some l =
       let long : length hub.places ≡ length row = AllZip-long (IsLocked seen hub.router.lock workers) row hub.places l.places in
       record {
+        some = subst (λ (n : ℕ). 0 < n) (sym l.catalog_seats) some;
         few = omega (arith, long, few);
         router = l.router;
         catalog = ap places_of l.catalog_is ∙ ap length is ∙ catalog_long row ∙ sym long;
         ports = each_sends hub.router.lock workers row hub.places l.places;
+      }
+
+module _ {P V : Type 0} (seen : P → Seen) where
+  -- it is a hub, and it has room for its places and their volumes
+  pub roomy : (kept : Catalog) (workers : ℕ) (row : List P) (hub : HubView) (passes : List SharedScene) (rest : List P) (row_room : ℕ) (vols : List V) (vols_room : ℕ) → kept ≡ catalog_by seen row → length row ≤ 32 → 0 < workers
+      → IsLaid seen kept workers row hub passes → rest ≡ [] → length row ≤ row_room → vols ≡ [] → length row ≤ vols_room → IsRoomy hub rest row_room vols vols_room
+  roomy kept workers row hub passes rest row_room vols vols_room is few some l none fits no_vols fit =
+      let long : length hub.places ≡ length row = AllZip-long (IsLocked seen hub.router.lock workers) row hub.places l.places in
+      record {
+        is_hub = laid_hub seen kept workers row hub passes is few some l;
+        none = none;
+        row_fits = omega (arith, long, fits);
+        no_vols = no_vols;
+        vols_fit = omega (arith, long, fit);
       }
 
   module _ (vol : P → V) (holds : Image → State → Type 0) (reads : V → Image → Type 0) (left : V → ℕ → Image → Type 0) (clock faults : V → ℕ)
@@ -67,11 +82,16 @@ module _ {P V : Type 0} (seen : P → Seen) where
       new = l.new;
     }
 
-    -- a place was not opened
-    pub unopened : (before : List V) (fault : HubFault V) → FailsToOpen seen vol holds reads left clock faults base opens refuses keeps before fault → FailsToOpenHub seen vol holds reads left clock faults base opens refuses keeps before fault
-    unopened before (faults_of.Open place fault back) h = h
-    unopened before (faults_of.Conflict first second back) h = h
-    unopened before (faults_of.NoMemory back) h = inl h
+    fails_so : (before : List V) (fault : HubFault V) → FailsToOpen seen vol holds reads left clock faults base opens refuses keeps before fault → FailsToOpenHub seen vol holds reads left clock faults base opens refuses keeps before fault
+    fails_so before (faults_of.Open place why back) h = h
+    fails_so before (faults_of.Conflict first second back) h = h
+    fails_so before (faults_of.NoMemory back) h = inl h
+
+    -- a place was not opened, which is handed on
+    pub unopened : {T : Type 0} (before : List V) (fault : HubFault V) (result : Result T (HubFault V)) → IsErrAnd result (λ e. e ≡ fault) → FailsToOpen seen vol holds reads left clock faults base opens refuses keeps before fault
+        → IfErr result (FailsToOpenHub seen vol holds reads left clock faults base opens refuses keeps before)
+    unopened before fault (Ok value) is h = absurd is
+    unopened before fault (Err e) is h = subst (FailsToOpenHub seen vol holds reads left clock faults base opens refuses keeps before) (sym is) (fails_so before fault h)
 
     -- there is no catalog
     pub uncataloged : (before : List V) (row : List P) (stop : Uncataloged) (vols : Vec V) → AllZip (OpensOn seen vol holds reads left clock faults base opens refuses keeps) before row
