@@ -16,6 +16,8 @@ use row::Row;
 use script::{ScriptFault, read_script};
 use std::io::{self, Read};
 use std::process::ExitCode;
+use std::sync::Wait;
+use std::thread::Threads;
 
 /// All of standard input.
 fn read_all(rt: &HostRuntime) -> io::Result<Vec<u8>> {
@@ -25,10 +27,14 @@ fn read_all(rt: &HostRuntime) -> io::Result<Vec<u8>> {
 }
 
 /// Runs each row, and prints what it came to.
-fn run_all(rt: &HostRuntime, rows: &[Row]) -> io::Result<()> {
+fn run_all(
+    rt: &HostRuntime,
+    threads: &(impl Threads + Wait + Sync),
+    rows: &[Row],
+) -> io::Result<()> {
     let mut output = io::writer(rt);
     for row in rows {
-        print_row(rt.alloc(), &mut output, row)?;
+        print_row(threads, rt.alloc(), &mut output, row)?;
     }
     Ok(())
 }
@@ -37,7 +43,7 @@ fn main(rt: HostRuntime) -> io::Result<ExitCode> {
     let input = read_all(&rt)?;
     match read_script(rt.alloc(), &input) {
         Ok(rows) => {
-            run_all(&rt, &rows)?;
+            run_all(&rt, &rt, &rows)?;
             Ok(ExitCode::SUCCESS)
         }
         Err(ScriptFault::BadLine(number)) => {

@@ -8,6 +8,8 @@ use crate::running::run_row;
 use crate::text::spelling;
 use std::alloc::Global;
 use std::io::{self, ErrorKind, Write};
+use std::sync::Wait;
+use std::thread::Threads;
 
 /// The most bytes of a piece of input that is not cut.
 const PIECE: usize = 65_536;
@@ -81,21 +83,31 @@ fn print_outcome<W: Write>(alloc: Global, output: &mut W, outcome: &Outcome) -> 
 }
 
 /// What a run of the row comes to, with the links' pieces of at most so many bytes.
-fn outcome_of(alloc: Global, row: &Row, size: usize) -> io::Result<Outcome>
+fn outcome_of(
+    rt: &(impl Threads + Wait + Sync),
+    alloc: Global,
+    row: &Row,
+    size: usize,
+) -> io::Result<Outcome>
     requires size { 0 < size }
 {
-    match run_row(alloc, row, size) {
+    match run_row(rt, alloc, row, size) {
         Ok(outcome) => Ok(outcome),
         Err(_) => Err(io::Error::from(ErrorKind::OutOfMemory)),
     }
 }
 
 /// Runs the row cut into single bytes, and tells whether that came to the same.
-fn cut_line(alloc: Global, row: &Row, outcome: &Outcome) -> io::Result<&'static [u8]> {
+fn cut_line(
+    rt: &(impl Threads + Wait + Sync),
+    alloc: Global,
+    row: &Row,
+    outcome: &Outcome,
+) -> io::Result<&'static [u8]> {
     if row.is_whole {
         return Ok(b"cut none\n");
     }
-    let cut = outcome_of(alloc, row, 1)?;
+    let cut = outcome_of(rt, alloc, row, 1)?;
     if cut == *outcome {
         Ok(b"cut same\n")
     } else {
@@ -104,9 +116,14 @@ fn cut_line(alloc: Global, row: &Row, outcome: &Outcome) -> io::Result<&'static 
 }
 
 /// Runs the row, and prints its title and what it came to.
-pub(crate) fn print_row<W: Write>(alloc: Global, output: &mut W, row: &Row) -> io::Result<()> {
-    let outcome = outcome_of(alloc, row, PIECE)?;
+pub(crate) fn print_row<W: Write>(
+    rt: &(impl Threads + Wait + Sync),
+    alloc: Global,
+    output: &mut W,
+    row: &Row,
+) -> io::Result<()> {
+    let outcome = outcome_of(rt, alloc, row, PIECE)?;
     print_line(alloc, output, "row", &row.title)?;
     print_outcome(alloc, output, &outcome)?;
-    output.write_all(cut_line(alloc, row, &outcome)?)
+    output.write_all(cut_line(rt, alloc, row, &outcome)?)
 }

@@ -9,6 +9,8 @@ use link_edge::{Knock, MemClock, MemDoor, MemLink, MemSink, OpenGate, Said};
 use place_engine::MemoryPlace;
 use server::{Finish, run};
 use std::alloc::Global;
+use std::sync::Wait;
+use std::thread::Threads;
 
 fn numbers(alloc: Global, of: &[u64]) -> Result<List<u64>, NoMemory> {
     Ok(List::from_vec(Vec::from_slice(alloc, of)?))
@@ -115,7 +117,12 @@ fn given(alloc: Global, links: &[MemLink]) -> Result<Vec<u8>, NoMemory> {
 }
 
 /// Runs the row, with the links' pieces of at most so many bytes.
-pub(crate) fn run_row(alloc: Global, row: &Row, size: usize) -> Result<Outcome, NoMemory>
+pub(crate) fn run_row(
+    rt: &(impl Threads + Wait + Sync),
+    alloc: Global,
+    row: &Row,
+    size: usize,
+) -> Result<Outcome, NoMemory>
     requires size { 0 < size }
 {
     let knocks = door_of(alloc, &row.door, size)?;
@@ -123,8 +130,8 @@ pub(crate) fn run_row(alloc: Global, row: &Row, size: usize) -> Result<Outcome, 
     let volumes = vec![in alloc; (); row.volumes.count]?;
     let mut clock = clock_of(alloc, row, size)?;
     let mut sink = MemSink::failing(alloc, numbers(alloc, &row.sink_failing)?);
-    let finish: Finish<MemDoor, ()> = run::<MemoryPlace<()>, _, _, _, _>(
-        alloc, &row.words, door, volumes, &mut clock, &OpenGate, &mut sink,
+    let finish: Finish<MemDoor, ()> = run::<MemoryPlace<()>, _, _, _, _, _>(
+        rt, alloc, &row.words, door, volumes, &mut clock, &OpenGate, &mut sink,
     );
     Ok(Outcome {
         status: finish.status,

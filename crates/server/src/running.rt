@@ -117,13 +117,15 @@ fn pipe<P: Place, R: Door, C: Clock, O: Sink>(
     }
 }
 
-/// All that the program does for its command line. `pipe` opens a place of the kind `P` on each volume and a desk over the places, makes the stream that
+/// All that the program does for its command line, over places of the kind `P`, one on each volume. `pipe` opens a desk over them, makes the stream that
 /// the command line names, if it names one and no stream of its name is there, with every default, accepts one link and serves it, and closes the desk as
-/// this leaves it: what waits is brought to the volumes. Any other command line is refused. The volumes come back in their order.
+/// this leaves it. `serve` opens a hub over them and serves the links that come by as many workers as are asked for, each in a thread of its own, until the
+/// door is closed or fails or as many links were accepted as are to be, and closes the hub. What waits is brought to the volumes then. Any other command
+/// line is refused. The volumes come back in their order.
 ///
-/// The status is 0 (input ended), 2 (command line), 3 (connection), 4 (a volume failed), 5 (what the volumes hold), 6 (limits of a session, or no
-/// link), 7 (memory), 8 (door), 10 (session refused, or numbers used up) or 11 (stream refused). The causes are looked at in the order of the work, and the
-/// first one gives the status; but want of memory in the closing stands before what a session ended by.
+/// The status is 0 (input ended, or no more links come), 2 (command line), 3 (connection of `pipe`), 4 (a volume failed), 5 (what the volumes hold), 6 (limits
+/// of the session of `pipe`, or no link), 7 (memory), 8 (door), 10 (session of `pipe` refused, or numbers used up) or 11 (stream refused). The causes are
+/// looked at in the order of the work, and the first one gives the status; but want of memory in the closing stands before what a session ended by.
 pub fn run<
     P: Place + Send + Sync,
     R: Door + Send,
@@ -152,9 +154,10 @@ where
     ensures refused { command_of (texts words.now) ≡ None → (result.door ≡ door) × (result.vols.items ≡ vols.items) × (C.to_come clock.new ≡ C.to_come clock.old)
         × Prints words_line (record { written = O.written out.old; faults = O.faults out.old }) (record { written = O.written out.new; faults = O.faults out.new }) }
 
-    // Else the status tells why the run ended: why the volumes were not opened; or whether the stream was made, how the link ended that was served over a
-    // desk with the stream, or why none came, and which place could not be brought to its volume as the desk was closed in the world that was reached by
-    // then. The volumes are those before and after.
+    // Else the status tells why the run ended: why the volumes were not opened; or, for `pipe`, whether the stream was made, how the link ended that was
+    // served over a desk with the stream, or why none came, and which place could not be brought to its volume as the desk was closed in the world that was
+    // reached by then; or, for `serve`, what all workers did with their seats and what became of the links, why no more came, and which place could not be
+    // brought to its volume. The volumes are those before and after.
     ensures ends { IfSome (command_of (texts words.now)) (λ command. CommandEnds
         (OpensDesk P.seen P.vol P.holds P.reads P.left P.clock P.faults P.base P.opens P.refuses P.keeps_vol)
         (FailsToOpen P.seen P.vol P.holds P.reads P.left P.clock P.faults P.base P.opens P.refuses P.keeps_vol)

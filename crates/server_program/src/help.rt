@@ -67,9 +67,7 @@ fn pipe(alloc: Global) -> Result<Command<'static>, AllocError> {
     let stream = setting(alloc, "stream", "NAME").help(
         "Make this stream at the start, if it is not there",
     );
-    let subject = setting(alloc, "subject", "PATTERN").help(
-        "The subjects that this stream takes",
-    );
+    let subject = setting(alloc, "subject", "PATTERN").help("The subjects that this stream takes");
     command(alloc, "pipe")
         .bin_name("jsblock pipe")?
         .about("Serves one client over standard input and output")

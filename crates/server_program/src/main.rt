@@ -174,11 +174,7 @@ fn serve_memory<T: Threads + Wait + Sync>(
 }
 
 /// Prints that the command line is refused, and returns the status. No volumes are made for it.
-fn refuse_words<T: Threads + Wait + Sync>(
-    rt: &HostRuntime,
-    threads: &T,
-    words: &[String],
-) -> u8 {
+fn refuse_words<T: Threads + Wait + Sync>(rt: &HostRuntime, threads: &T, words: &[String]) -> u8 {
     serve_pipe::<MemoryPlace<()>, T>(rt, threads, words, Vec::new(rt.alloc()))
 }
 

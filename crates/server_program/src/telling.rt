@@ -12,7 +12,9 @@ fn tell(rt: &HostRuntime, text: &str) {
 
 /// Prints at which address it listens, over which folder.
 pub fn tell_address(rt: &HostRuntime, address: SocketAddr, dir: &str) {
-    if let Ok(line) = format!(in rt.alloc(); "jsblock listens at {address}, with its streams in {dir}\n") {
+    if let Ok(line) = format!(in rt.alloc();
+        "jsblock listens at {address}, with its streams in {dir}\n"
+    ) {
         tell(rt, line.as_str());
     }
 }
@@ -24,7 +26,7 @@ fn reason_of(status: u8) -> &'static str {
         4 => "jsblock ended: a volume failed\n",
         5 => "jsblock ended: the folder holds what no server may have left\n",
         7 => "jsblock ended: out of memory\n",
-        8 => "jsblock ended: it can't listen there\n",
+        8 => "jsblock ended: it could not listen there, or accept no more connections\n",
         10 => "jsblock ended: the numbers of turns, sessions or generations are used up\n",
         _ => "jsblock ended\n",
     }

@@ -4,7 +4,9 @@ use crate::failing::{failing_to_sync, one_sync_failed};
 use crate::runs::{Outcome, gives, serve, with_stream};
 use std::alloc::Global;
 use std::process::Abort;
+use std::sync::Wait;
 use std::test::Fail;
+use std::thread::Threads;
 use vol_disk::MemVol;
 
 /// Two messages, each with a reply.
@@ -27,9 +29,14 @@ const FIRST_ALONE: &[u8] =
     b"MSG _I 1 524\r\n{\"config\":{\"discard\":\"old\",\"duplicate_window\":120000000000,\"max_age\":0,\"max_bytes\":-1,\"max_consumers\":-1,\"max_msg_size\":-1,\"max_msgs\":-1,\"max_msgs_per_subject\":-1,\"name\":\"ORDERS\",\"num_replicas\":1,\"retention\":\"limits\",\"storage\":\"file\",\"subjects\":[\"orders.*\"]},\"created\":\"2023-11-14T22:13:20.000000000Z\",\"state\":{\"bytes\":53,\"consumer_count\":0,\"first_seq\":1,\"first_ts\":\"2023-11-14T22:13:20.000000000Z\",\"last_seq\":1,\"last_ts\":\"2023-11-14T22:13:20.000000000Z\",\"messages\":1},\"type\":\"io.nats.jetstream.api.v1.stream_info_response\"}\r\nMSG _I 1 158\r\n{\"message\":{\"data\":\"aGVsbG8=\",\"seq\":1,\"subject\":\"orders.a\",\"time\":\"2023-11-14T22:13:20.000000000Z\"},\"type\":\"io.nats.jetstream.api.v1.stream_msg_get_response\"}\r\n";
 
 /// A run over what a crash leaves of the first volume, as the number picks it.
-fn reopened(alloc: Global, vols: &[MemVol], pick: u64) -> Result<Outcome, Fail> {
+fn reopened(
+    rt: &(impl Threads + Wait + Sync),
+    alloc: Global,
+    vols: &[MemVol],
+    pick: u64,
+) -> Result<Outcome, Fail> {
     match vols {
-        [vol, ..] => serve(alloc, vec![in alloc; vol.image(pick)?]?, WHAT_IS_THERE),
+        [vol, ..] => serve(rt, alloc, vec![in alloc; vol.image(pick)?]?, WHAT_IS_THERE),
         [] => Err("no volume came back")?,
     }
 }
@@ -37,13 +44,13 @@ fn reopened(alloc: Global, vols: &[MemVol], pick: u64) -> Result<Outcome, Fail> 
 #[test]
 fn publish_whose_sync_failed_is_there_or_not(rt: HostRuntime) -> Result<(), Fail> {
     let alloc = rt.alloc();
-    let start = with_stream(alloc, "ORDERS", "orders.*", b"")?;
-    let vols = vec![in alloc; failing_to_sync(alloc, &start)?]?;
-    let ran = serve(alloc, vols, TWICE)?;
+    let start = with_stream(&rt, alloc, "ORDERS", "orders.*", b"")?;
+    let vols = vec![in alloc; failing_to_sync(&rt, alloc, &start)?]?;
+    let ran = serve(&rt, alloc, vols, TWICE)?;
     assert!(rt; gives(&ran, STOPPED));
     assert!(rt; one_sync_failed(ran.vols.as_slice()));
     for pick in 0..16 {
-        let again = reopened(alloc, ran.vols.as_slice(), pick)?;
+        let again = reopened(&rt, alloc, ran.vols.as_slice(), pick)?;
         assert!(rt;
             gives(&again, NOTHING) || gives(&again, FIRST_ALONE),
             "{pick}"

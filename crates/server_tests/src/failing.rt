@@ -3,7 +3,9 @@
 use crate::runs::{Outcome, serve, volume_of};
 use js_base::List;
 use std::alloc::Global;
+use std::sync::Wait;
 use std::test::Fail;
+use std::thread::Threads;
 use vol_disk::{Deed, MemVol, Vol};
 
 /// Which calls of a volume fail: the one with a number, or all from it on.
@@ -32,14 +34,22 @@ pub(crate) fn with_failing(
 }
 
 /// How many calls a run makes on the volume whose client asks for nothing. They are those of its opening.
-pub(crate) fn opening_calls(alloc: Global, vol: &MemVol) -> Result<u64, Fail> {
-    let ran = serve(alloc, vec![in alloc; vol.image(1)?]?, b"")?;
+pub(crate) fn opening_calls(
+    rt: &(impl Threads + Wait + Sync),
+    alloc: Global,
+    vol: &MemVol,
+) -> Result<u64, Fail> {
+    let ran = serve(rt, alloc, vec![in alloc; vol.image(1)?]?, b"")?;
     Ok(volume_of(&ran)?.calls().len() as u64)
 }
 
 /// The volume as it reads, of which the first sync behind its opening fails.
-pub(crate) fn failing_to_sync(alloc: Global, vol: &MemVol) -> Result<MemVol, Fail> {
-    let first = opening_calls(alloc, vol)?;
+pub(crate) fn failing_to_sync(
+    rt: &(impl Threads + Wait + Sync),
+    alloc: Global,
+    vol: &MemVol,
+) -> Result<MemVol, Fail> {
+    let first = opening_calls(rt, alloc, vol)?;
     with_failing(alloc, vol, Failing::Once, first.saturating_add(1))
 }
 

@@ -1,7 +1,9 @@
-//! Tests of the server that no row can be: memory that runs out at its door or link, an input of a gigabyte, what lies on volumes, and volumes that fail or
-//! stop.
+//! Tests of the server that no row can be: what the command lines of `serve` say, memory that runs out at its door or link, an input of a gigabyte, what
+//! lies on volumes, and volumes that fail or stop.
 #![tactic(auto)]
 
+#[cfg(test)]
+mod command_line;
 #[cfg(test)]
 mod deeds;
 #[cfg(test)]

@@ -7,7 +7,9 @@ use crate::runs::{Outcome, has, volume_of, with_stream};
 use crate::scripts::{Script, play};
 use std::alloc::Global;
 use std::process::Abort;
+use std::sync::Wait;
 use std::test::Fail;
+use std::thread::Threads;
 use vol_disk::MemVol;
 
 /// More than the calls that come after the confirmation.
@@ -62,10 +64,15 @@ fn to_confirmation(alloc: Global, size: usize) -> Result<Script, Fail>
 }
 
 /// How many calls were made on the volume by then.
-fn calls_to_confirmation(alloc: Global, start: &MemVol, size: usize) -> Result<u64, Fail>
+fn calls_to_confirmation(
+    rt: &(impl Threads + Wait + Sync),
+    alloc: Global,
+    start: &MemVol,
+    size: usize,
+) -> Result<u64, Fail>
     requires size { 0 < size }
 {
-    let ran = play(alloc, to_confirmation(alloc, size)?, start.image(1)?)?;
+    let ran = play(rt, alloc, to_confirmation(alloc, size)?, start.image(1)?)?;
     if ran.given.as_slice() != CONFIRMED {
         return Err("the acknowledgement was not confirmed")?;
     }
@@ -73,20 +80,26 @@ fn calls_to_confirmation(alloc: Global, start: &MemVol, size: usize) -> Result<u
 }
 
 /// Runs all of it over the volume, which stops at this call.
-fn run_to_stop(alloc: Global, start: &MemVol, size: usize, stop: u64) -> Result<Outcome, Fail>
+fn run_to_stop(
+    rt: &(impl Threads + Wait + Sync),
+    alloc: Global,
+    start: &MemVol,
+    size: usize,
+    stop: u64,
+) -> Result<Outcome, Fail>
     requires size { 0 < size }
 {
     let mut script = to_confirmation(alloc, size)?;
     script.say(alloc, DUE, MORE, size)?;
     let vol = with_failing(alloc, start, Failing::Onward, stop)?;
-    play(alloc, script, vol)
+    play(rt, alloc, script, vol)
 }
 
 /// What is told of the consumer and its messages by a run over the volume.
-fn told(alloc: Global, vol: MemVol) -> Result<Outcome, Fail> {
+fn told(rt: &(impl Threads + Wait + Sync), alloc: Global, vol: MemVol) -> Result<Outcome, Fail> {
     let mut script = Script::new(alloc);
     script.say(alloc, LATER, QUESTIONS, 65_536)?;
-    play(alloc, script, vol)
+    play(rt, alloc, script, vol)
 }
 
 /// Whether the first message is not pending by what was told, and was not delivered.
@@ -98,10 +111,14 @@ fn is_done_with(told: &[u8]) -> bool {
 }
 
 /// Whether this is so for each image of the run's volume.
-fn stays_acknowledged(alloc: Global, ran: &Outcome) -> Result<bool, Fail> {
+fn stays_acknowledged(
+    rt: &(impl Threads + Wait + Sync),
+    alloc: Global,
+    ran: &Outcome,
+) -> Result<bool, Fail> {
     let vol = volume_of(ran)?;
     for pick in [0, 1, 5] {
-        let told = told(alloc, vol.image(pick)?)?;
+        let told = told(rt, alloc, vol.image(pick)?)?;
         if !is_done_with(told.given.as_slice()) {
             return Ok(false);
         }
@@ -110,15 +127,15 @@ fn stays_acknowledged(alloc: Global, ran: &Outcome) -> Result<bool, Fail> {
 }
 
 /// Lets the volume stop at each call after the confirmation, until there are no more.
-fn check(rt: &impl Abort, alloc: Global, size: usize) -> Result<(), Fail>
+fn check(rt: &(impl Abort + Threads + Wait + Sync), alloc: Global, size: usize) -> Result<(), Fail>
     requires size { 0 < size }
 {
-    let start = with_stream(alloc, "ORDERS", "orders.*", b"")?;
-    let first = calls_to_confirmation(alloc, &start, size)?;
+    let start = with_stream(rt, alloc, "ORDERS", "orders.*", b"")?;
+    let first = calls_to_confirmation(rt, alloc, &start, size)?;
     for number in 0..MANY {
-        let ran = run_to_stop(alloc, &start, size, first.saturating_add(number))?;
+        let ran = run_to_stop(rt, alloc, &start, size, first.saturating_add(number))?;
         assert!(rt; ran.given.as_slice().starts_with(CONFIRMED), "{number}");
-        assert!(rt; stays_acknowledged(alloc, &ran)?, "{number}");
+        assert!(rt; stays_acknowledged(rt, alloc, &ran)?, "{number}");
         if is_untroubled(&ran) {
             assert!(rt; number > 0);
             return Ok(());

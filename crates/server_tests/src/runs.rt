@@ -4,7 +4,9 @@ use js_base::{Blob, List, Moment, NoMemory};
 use link_edge::{Knock, MemClock, MemDoor, MemSink, OpenGate, Said};
 use server::{Finish, run};
 use std::alloc::Global;
+use std::sync::Wait;
 use std::test::Fail;
+use std::thread::Threads;
 use vol_disk::MemVol;
 use volume_place::VolumePlace;
 
@@ -67,6 +69,7 @@ fn outcome_of(
 
 /// Runs the server over the volumes, with this command line.
 pub(crate) fn run_once(
+    rt: &(impl Threads + Wait + Sync),
     alloc: Global,
     words: &[&str],
     door: MemDoor,
@@ -79,8 +82,8 @@ pub(crate) fn run_once(
     let words = words_of(alloc, words)?;
     let mut clock = clock;
     let mut sink = MemSink::new(alloc);
-    let finish = run::<VolumePlace<MemVol>, _, _, _, _>(
-        alloc, &words, door, vols, &mut clock, &OpenGate, &mut sink,
+    let finish = run::<VolumePlace<MemVol>, _, _, _, _, _>(
+        rt, alloc, &words, door, vols, &mut clock, &OpenGate, &mut sink,
     );
     Ok(outcome_of(alloc, finish, &sink)?)
 }
@@ -92,6 +95,7 @@ pub(crate) fn moment_after(nanos: u64) -> Result<Moment, Fail> {
 
 /// Runs the server over the volumes at [`START`], with this command line and for a client who says this.
 pub(crate) fn run_over(
+    rt: &(impl Threads + Wait + Sync),
     alloc: Global,
     words: &[&str],
     said: &[u8],
@@ -101,17 +105,22 @@ pub(crate) fn run_over(
     script.push(Said::Piece(Blob::of(alloc, said)?))?;
     let door = door_of(alloc, script)?;
     let clock = MemClock::new(List::new(alloc), moment_after(0)?);
-    run_once(alloc, words, door, clock, vols)
+    run_once(rt, alloc, words, door, clock, vols)
 }
 
 /// Runs it for a client that is sent its answers with headers, and says this.
-pub(crate) fn serve(alloc: Global, vols: Vec<MemVol>, said: &[u8]) -> Result<Outcome, Fail> {
+pub(crate) fn serve(
+    rt: &(impl Threads + Wait + Sync),
+    alloc: Global,
+    vols: Vec<MemVol>,
+    said: &[u8],
+) -> Result<Outcome, Fail> {
     let mut text = Vec::from_slice(
         alloc,
         b"CONNECT {\"headers\":true,\"verbose\":false}\r\nSUB _I 1\r\n",
     )?;
     text.extend_from_slice(said)?;
-    run_over(alloc, &["pipe"], &text, vols)
+    run_over(rt, alloc, &["pipe"], &text, vols)
 }
 
 /// The one volume of a run.
@@ -133,6 +142,7 @@ fn only_volume(ran: Outcome) -> Result<MemVol, Fail> {
 
 /// A volume on which a run made the stream, and on which its client said this.
 pub(crate) fn with_stream(
+    rt: &(impl Threads + Wait + Sync),
     alloc: Global,
     name: &str,
     subject: &str,
@@ -140,12 +150,17 @@ pub(crate) fn with_stream(
 ) -> Result<MemVol, Fail> {
     let words = ["pipe", "--stream", name, "--subject", subject];
     let vols = vec![in alloc; MemVol::new(alloc)]?;
-    only_volume(run_over(alloc, &words, said, vols)?)
+    only_volume(run_over(rt, alloc, &words, said, vols)?)
 }
 
 /// The volume after a further run, whose client said this.
-pub(crate) fn after(alloc: Global, vol: MemVol, said: &[u8]) -> Result<MemVol, Fail> {
-    only_volume(serve(alloc, vec![in alloc; vol]?, said)?)
+pub(crate) fn after(
+    rt: &(impl Threads + Wait + Sync),
+    alloc: Global,
+    vol: MemVol,
+    said: &[u8],
+) -> Result<MemVol, Fail> {
+    only_volume(serve(rt, alloc, vec![in alloc; vol]?, said)?)
 }
 
 /// Whether the run ended well, and the client was given this at the end.

@@ -6,7 +6,9 @@ use crate::runs::{Outcome, door_of, moment_after, run_once};
 use js_base::{Blob, List, Moment, NoMemory};
 use link_edge::{MemClock, Said};
 use std::alloc::Global;
+use std::sync::Wait;
 use std::test::Fail;
+use std::thread::Threads;
 use vol_disk::MemVol;
 
 /// What a client says, and the moment of each take. Moments are told in nanoseconds after [`crate::runs::START`].
@@ -53,9 +55,14 @@ impl Script {
 }
 
 /// Runs the server over the volume, for a client that plays the script.
-pub(crate) fn play(alloc: Global, script: Script, vol: MemVol) -> Result<Outcome, Fail> {
+pub(crate) fn play(
+    rt: &(impl Threads + Wait + Sync),
+    alloc: Global,
+    script: Script,
+    vol: MemVol,
+) -> Result<Outcome, Fail> {
     let Script { said, moments } = script;
     let clock = MemClock::new(moments, moment_after(0)?);
     let vols = vec![in alloc; vol]?;
-    run_once(alloc, &["pipe"], door_of(alloc, said)?, clock, vols)
+    run_once(rt, alloc, &["pipe"], door_of(alloc, said)?, clock, vols)
 }

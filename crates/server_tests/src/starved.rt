@@ -5,7 +5,10 @@ use link_edge::{Accept, Door, Give, Link, MemClock, MemSink, OpenGate, Take};
 use place_engine::MemoryPlace;
 use server::{Finish, run};
 use std::alloc::Global;
+use std::sync::Wait;
 use std::test::Fail;
+use std::thread::Threads;
+use tcp_edge::Rings;
 
 /// The call that finds no memory.
 #[derive(Clone, Copy, Debug, PartialEq, Eq)]
@@ -51,6 +54,8 @@ impl Link for Starved {
     }
 }
 
+impl Rings for Starved {}
+
 impl Door for Starved {
     ghost use Rattle.std.specs.Prelude.{None};
 
@@ -80,12 +85,13 @@ impl Door for Starved {
 }
 
 /// The status of a run over such a door.
-fn status(alloc: Global, at: Call) -> Result<u8, Fail> {
+fn status(rt: &(impl Threads + Wait + Sync), alloc: Global, at: Call) -> Result<u8, Fail> {
     let words = vec![in alloc; String::from_str(alloc, "pipe")?]?;
     let vols: Vec<()> = Vec::new(alloc);
     let mut clock = MemClock::new(List::new(alloc), Moment::of(0).ok_or("no moment")?);
     let mut sink = MemSink::new(alloc);
-    let finish: Finish<_, ()> = run::<MemoryPlace<()>, _, _, _, _>(
+    let finish: Finish<_, ()> = run::<MemoryPlace<()>, _, _, _, _, _>(
+        rt,
         alloc,
         &words,
         Starved { at },
@@ -100,7 +106,7 @@ fn status(alloc: Global, at: Call) -> Result<u8, Fail> {
 #[test]
 fn want_of_memory_gives_its_status(rt: HostRuntime) -> Result<(), Fail> {
     for at in [Call::Accept, Call::Take, Call::Give] {
-        assert_eq!(rt; status(rt.alloc(), at)?, 7, "at {at:?}");
+        assert_eq!(rt; status(&rt, rt.alloc(), at)?, 7, "at {at:?}");
     }
     Ok(())
 }

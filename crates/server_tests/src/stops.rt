@@ -6,7 +6,9 @@ use crate::failing::{Failing, is_untroubled, opening_calls, with_failing};
 use crate::runs::{Outcome, after, gives, has, serve, volume_of, with_stream};
 use std::alloc::Global;
 use std::process::Abort;
+use std::sync::Wait;
 use std::test::Fail;
+use std::thread::Threads;
 use vol_disk::MemVol;
 
 /// More than the calls of a deed.
@@ -43,6 +45,7 @@ fn came_of(ran: &Outcome, deed: &Deed) -> Came {
 
 /// Does it over the volume as it reads, while such calls fail.
 fn act(
+    rt: &(impl Threads + Wait + Sync),
     alloc: Global,
     start: &MemVol,
     deed: &Deed,
@@ -50,24 +53,39 @@ fn act(
     number: u64,
 ) -> Result<Outcome, Fail> {
     let vols = vec![in alloc; with_failing(alloc, start, failing, number)?]?;
-    serve(alloc, vols, deed.said)
+    serve(rt, alloc, vols, deed.said)
 }
 
 /// What a run tells over what a crash leaves of the volume, as the number picks it.
-fn told(alloc: Global, vol: &MemVol, pick: u64) -> Result<Outcome, Fail> {
-    serve(alloc, vec![in alloc; vol.image(pick)?]?, QUESTIONS)
+fn told(
+    rt: &(impl Threads + Wait + Sync),
+    alloc: Global,
+    vol: &MemVol,
+    pick: u64,
+) -> Result<Outcome, Fail> {
+    serve(rt, alloc, vec![in alloc; vol.image(pick)?]?, QUESTIONS)
 }
 
 /// What is told after the deed, if no call fails.
-fn told_after(alloc: Global, start: &MemVol, deed: &Deed) -> Result<Outcome, Fail> {
-    let ran = act(alloc, start, deed, Failing::Onward, u64::MAX)?;
-    told(alloc, volume_of(&ran)?, 1)
+fn told_after(
+    rt: &(impl Threads + Wait + Sync),
+    alloc: Global,
+    start: &MemVol,
+    deed: &Deed,
+) -> Result<Outcome, Fail> {
+    let ran = act(rt, alloc, start, deed, Failing::Onward, u64::MAX)?;
+    told(rt, alloc, volume_of(&ran)?, 1)
 }
 
-fn sides_of(alloc: Global, start: &MemVol, deed: &Deed) -> Result<Sides, Fail> {
+fn sides_of(
+    rt: &(impl Threads + Wait + Sync),
+    alloc: Global,
+    start: &MemVol,
+    deed: &Deed,
+) -> Result<Sides, Fail> {
     Ok(Sides {
-        before: told(alloc, start, 1)?,
-        after: told_after(alloc, start, deed)?,
+        before: told(rt, alloc, start, 1)?,
+        after: told_after(rt, alloc, start, deed)?,
     })
 }
 
@@ -90,10 +108,16 @@ impl Sides {
 }
 
 /// Whether each image of the run's volume holds what stood before or after the deed, and the latter if it was answered.
-fn holds_one(alloc: Global, ran: &Outcome, came: Came, sides: &Sides) -> Result<bool, Fail> {
+fn holds_one(
+    rt: &(impl Threads + Wait + Sync),
+    alloc: Global,
+    ran: &Outcome,
+    came: Came,
+    sides: &Sides,
+) -> Result<bool, Fail> {
     let vol = volume_of(ran)?;
     for pick in [0, 1, 5] {
-        let told = told(alloc, vol, pick)?;
+        let told = told(rt, alloc, vol, pick)?;
         if !sides.fit(&told, came) {
             return Ok(false);
         }
@@ -103,19 +127,26 @@ fn holds_one(alloc: Global, ran: &Outcome, came: Came, sides: &Sides) -> Result<
 
 /// Does it again and again, while each of its calls fails in turn, until none does. At least one can fail.
 fn check_calls(
-    rt: &impl Abort,
+    rt: &(impl Abort + Threads + Wait + Sync),
     alloc: Global,
     start: &MemVol,
     deed: &Deed,
     failing: Failing,
 ) -> Result<(), Fail> {
-    let sides = sides_of(alloc, start, deed)?;
+    let sides = sides_of(rt, alloc, start, deed)?;
     assert!(rt; sides.show(deed));
-    let first = opening_calls(alloc, start)?;
+    let first = opening_calls(rt, alloc, start)?;
     for number in 0..MANY {
-        let ran = act(alloc, start, deed, failing, first.saturating_add(number))?;
+        let ran = act(
+            rt,
+            alloc,
+            start,
+            deed,
+            failing,
+            first.saturating_add(number),
+        )?;
         let came = came_of(&ran, deed);
-        assert!(rt; holds_one(alloc, &ran, came, &sides)?, "{number}");
+        assert!(rt; holds_one(rt, alloc, &ran, came, &sides)?, "{number}");
         if is_untroubled(&ran) {
             assert!(rt; came == Came::Done && number > 0, "{number}");
             return Ok(());
@@ -125,14 +156,19 @@ fn check_calls(
 }
 
 /// Does it so while one call fails, and then while all from one on do.
-fn check(rt: &impl Abort, alloc: Global, start: &MemVol, deed: &Deed) -> Result<(), Fail> {
+fn check(
+    rt: &(impl Abort + Threads + Wait + Sync),
+    alloc: Global,
+    start: &MemVol,
+    deed: &Deed,
+) -> Result<(), Fail> {
     check_calls(rt, alloc, start, deed, Failing::Once)?;
     check_calls(rt, alloc, start, deed, Failing::Onward)
 }
 
 /// A volume with the stream, for which a client said this.
-fn orders(alloc: Global, said: &[u8]) -> Result<MemVol, Fail> {
-    with_stream(alloc, "ORDERS", "orders.*", said)
+fn orders(rt: &(impl Threads + Wait + Sync), alloc: Global, said: &[u8]) -> Result<MemVol, Fail> {
+    with_stream(rt, alloc, "ORDERS", "orders.*", said)
 }
 
 #[test]
@@ -144,7 +180,7 @@ fn stream_that_is_made(rt: HostRuntime) -> Result<(), Fail> {
 #[test]
 fn consumer_that_is_made(rt: HostRuntime) -> Result<(), Fail> {
     let alloc = rt.alloc();
-    check(&rt, alloc, &orders(alloc, b"")?, &deeds::MAKE_CONSUMER)
+    check(&rt, alloc, &orders(&rt, alloc, b"")?, &deeds::MAKE_CONSUMER)
 }
 
 #[test]
@@ -153,7 +189,7 @@ fn publish(rt: HostRuntime) -> Result<(), Fail> {
     check(
         &rt,
         alloc,
-        &orders(alloc, deeds::CONSUMER)?,
+        &orders(&rt, alloc, deeds::CONSUMER)?,
         &deeds::PUBLISH,
     )
 }
@@ -164,7 +200,7 @@ fn publish_with_an_id(rt: HostRuntime) -> Result<(), Fail> {
     check(
         &rt,
         alloc,
-        &orders(alloc, deeds::CONSUMER_AND_MESSAGE)?,
+        &orders(&rt, alloc, deeds::CONSUMER_AND_MESSAGE)?,
         &deeds::PUBLISH_WITH_ID,
     )
 }
@@ -175,7 +211,7 @@ fn purge(rt: HostRuntime) -> Result<(), Fail> {
     check(
         &rt,
         alloc,
-        &orders(alloc, deeds::CONSUMER_AND_MESSAGES)?,
+        &orders(&rt, alloc, deeds::CONSUMER_AND_MESSAGES)?,
         &deeds::PURGE,
     )
 }
@@ -186,7 +222,7 @@ fn delivery(rt: HostRuntime) -> Result<(), Fail> {
     check(
         &rt,
         alloc,
-        &orders(alloc, deeds::CONSUMER_AND_MESSAGES)?,
+        &orders(&rt, alloc, deeds::CONSUMER_AND_MESSAGES)?,
         &deeds::PULL,
     )
 }
@@ -198,8 +234,9 @@ fn acknowledgement(rt: HostRuntime) -> Result<(), Fail> {
         &rt,
         alloc,
         &after(
+            &rt,
             alloc,
-            orders(alloc, deeds::CONSUMER_AND_MESSAGES)?,
+            orders(&rt, alloc, deeds::CONSUMER_AND_MESSAGES)?,
             deeds::PULL.said,
         )?,
         &deeds::ACKNOWLEDGE,
@@ -212,7 +249,7 @@ fn update(rt: HostRuntime) -> Result<(), Fail> {
     check(
         &rt,
         alloc,
-        &orders(alloc, deeds::CONSUMER_AND_MESSAGES)?,
+        &orders(&rt, alloc, deeds::CONSUMER_AND_MESSAGES)?,
         &deeds::UPDATE,
     )
 }
@@ -223,7 +260,7 @@ fn drop_of_the_stream(rt: HostRuntime) -> Result<(), Fail> {
     check(
         &rt,
         alloc,
-        &orders(alloc, deeds::CONSUMER_AND_MESSAGES)?,
+        &orders(&rt, alloc, deeds::CONSUMER_AND_MESSAGES)?,
         &deeds::DROP,
     )
 }

@@ -5,7 +5,9 @@ use crate::runs::{Outcome, answers, run_over, serve, with_stream};
 use js_base::List;
 use std::alloc::Global;
 use std::process::Abort;
+use std::sync::Wait;
 use std::test::Fail;
+use std::thread::Threads;
 use vol_disk::{MemVol, Vol};
 
 /// A message with an id and one without, each with a reply.
@@ -20,9 +22,9 @@ fn refuses(ran: &Outcome, status: u8, line: &[u8]) -> bool {
 #[test]
 fn later_run_finds_what_was_kept(rt: HostRuntime) -> Result<(), Fail> {
     let alloc = rt.alloc();
-    let vol = with_stream(alloc, "A", "a", TWO_MESSAGES)?;
+    let vol = with_stream(&rt, alloc, "A", "a", TWO_MESSAGES)?;
     let vols = vec![in alloc; MemVol::new(alloc), vol]?;
-    let again = serve(alloc, vols, TWO_MESSAGES)?;
+    let again = serve(&rt, alloc, vols, TWO_MESSAGES)?;
     assert!(rt;
         answers(
             &again,
@@ -30,6 +32,7 @@ fn later_run_finds_what_was_kept(rt: HostRuntime) -> Result<(), Fail> {
         )
     );
     let read = serve(
+        &rt,
         alloc,
         again.vols,
         b"PUB $JS.API.STREAM.MSG.GET.A _I 9\r\n{\"seq\":2}\r\n",
@@ -44,10 +47,14 @@ fn later_run_finds_what_was_kept(rt: HostRuntime) -> Result<(), Fail> {
 }
 
 /// A run over a volume whose file 0 has these bytes.
-fn run_over_bytes(alloc: Global, bytes: &[u8]) -> Result<Outcome, Fail> {
+fn run_over_bytes(
+    rt: &(impl Threads + Wait + Sync),
+    alloc: Global,
+    bytes: &[u8],
+) -> Result<Outcome, Fail> {
     let mut vol = MemVol::new(alloc);
     vol.write_at(0, 0, bytes)?;
-    serve(alloc, vec![in alloc; vol]?, b"")
+    serve(rt, alloc, vec![in alloc; vol]?, b"")
 }
 
 #[test]
@@ -70,14 +77,14 @@ fn bytes_that_no_server_wrote_are_told(rt: HostRuntime) -> Result<(), Fail> {
             b"damaged place 0 file 0 at 21\n".as_slice(),
         ),
     ] {
-        assert!(rt; refuses(&run_over_bytes(rt.alloc(), bytes)?, 5, line));
+        assert!(rt; refuses(&run_over_bytes(&rt, rt.alloc(), bytes)?, 5, line));
     }
     Ok(())
 }
 
 #[test]
 fn file_without_a_whole_head_is_as_good_as_empty(rt: HostRuntime) -> Result<(), Fail> {
-    let ran = run_over_bytes(rt.alloc(), &[0xff; 17])?;
+    let ran = run_over_bytes(&rt, rt.alloc(), &[0xff; 17])?;
     assert!(rt; ran.status == 0 && ran.printed.is_empty());
     Ok(())
 }
@@ -87,11 +94,11 @@ fn streams_that_conflict_are_told(rt: HostRuntime) -> Result<(), Fail> {
     let alloc = rt.alloc();
     for (name, subject) in [("A", "b"), ("B", "a.*")] {
         let vols = vec![in alloc;
-            with_stream(alloc, "A", "a.>", b"")?,
+            with_stream(&rt, alloc, "A", "a.>", b"")?,
             MemVol::new(alloc),
-            with_stream(alloc, name, subject, b"")?,
+            with_stream(&rt, alloc, name, subject, b"")?,
         ]?;
-        let ran = serve(alloc, vols, b"")?;
+        let ran = serve(&rt, alloc, vols, b"")?;
         assert!(rt; refuses(&ran, 5, b"places 0 and 2 conflict\n"), "{name}");
     }
     Ok(())
@@ -101,7 +108,7 @@ fn streams_that_conflict_are_told(rt: HostRuntime) -> Result<(), Fail> {
 fn volume_that_fails_is_told(rt: HostRuntime) -> Result<(), Fail> {
     let alloc = rt.alloc();
     let fails = MemVol::failing(alloc, List::new(alloc), Some(0));
-    let ran = serve(alloc, vec![in alloc; MemVol::new(alloc), fails]?, b"")?;
+    let ran = serve(&rt, alloc, vec![in alloc; MemVol::new(alloc), fails]?, b"")?;
     assert!(rt; refuses(&ran, 4, b"disk fault in place 1\n"));
     Ok(())
 }
@@ -110,10 +117,11 @@ fn volume_that_fails_is_told(rt: HostRuntime) -> Result<(), Fail> {
 fn stream_whose_volume_fails_stops_alone(rt: HostRuntime) -> Result<(), Fail> {
     let alloc = rt.alloc();
     let vols = vec![in alloc;
-        failing_to_sync(alloc, &with_stream(alloc, "A", "a", b"")?)?,
-        with_stream(alloc, "B", "b", b"")?,
+        failing_to_sync(&rt, alloc, &with_stream(&rt, alloc, "A", "a", b"")?)?,
+        with_stream(&rt, alloc, "B", "b", b"")?,
     ]?;
     let ran = serve(
+        &rt,
         alloc,
         vols,
         b"PUB a _I 1\r\nx\r\nPUB a _I 1\r\ny\r\nPUB b _I 1\r\nz\r\n",
@@ -131,9 +139,9 @@ fn stream_whose_volume_fails_stops_alone(rt: HostRuntime) -> Result<(), Fail> {
 #[test]
 fn making_of_a_stream_that_fails_is_told(rt: HostRuntime) -> Result<(), Fail> {
     let alloc = rt.alloc();
-    let vols = vec![in alloc; failing_to_sync(alloc, &MemVol::new(alloc))?]?;
+    let vols = vec![in alloc; failing_to_sync(&rt, alloc, &MemVol::new(alloc))?]?;
     let words = ["pipe", "--stream", "A", "--subject", "a"];
-    let ran = run_over(alloc, &words, b"", vols)?;
+    let ran = run_over(&rt, alloc, &words, b"", vols)?;
     assert!(rt; one_sync_failed(ran.vols.as_slice()));
     assert!(rt; refuses(&ran, 11, b"20011\n"));
     Ok(())

@@ -1,6 +1,7 @@
 -- Rows, element by element.
-use Rattle.std.proofs.Common.{◌≡◌, ◌+◌, ◌<◌, ◌||◌, Bool, true, false, ℕ, zero, suc, List, [], ◌∷◌, ◌++◌, length, get_or, reverse, refl, sym, subst, ap, ◌∙◌, arith, append-nil, append_assoc, length-append}
+use Rattle.std.proofs.Common.{◌≡◌, ◌+◌, ◌<◌, ◌||◌, Bool, true, false, ℕ, zero, suc, List, [], ◌∷◌, ◌++◌, length, get_or, take, drop, reverse, refl, sym, subst, ap, ◌∙◌, arith, append-nil, append_assoc, length-append}
 use Rattle.std.specs.List.{AllByRecursion, AllZip, list_any}
+use Rattle.std.proofs.lemmas.Grind.{common_steps}
 use Rattle.std.proofs.lemmas.List.Folds.{list_any-append}
 use Rattle.std.proofs.lemmas.List.{reverse-append, reverse-reverse, length-reverse}
 
@@ -142,3 +143,13 @@ or_both a b c d e f = ap (λ k. k || c) e ∙ ap (λ k. b || k) f
 
 pub or_kept : (a b c : Bool) → a ≡ b → b ≡ true → (a || c) ≡ true
 or_kept a b c e f = ap (λ k. k || c) (e ∙ f)
+
+pub zip_at_places : {X : Type 0} (R : X → X → Type 0) (xs ys : List X) → length xs ≡ length ys → ((i : ℕ) (d : X) → i < length xs → R (get_or xs i d) (get_or ys i d)) → AllZip R xs ys
+zip_at_places R [] [] l h = tt
+zip_at_places R [] (y ∷ ys) l h = let no : ⊥ = omega (arith, l) in absurd no
+zip_at_places R (x ∷ xs) [] l h = let no : ⊥ = omega (arith, l) in absurd no
+zip_at_places R (x ∷ xs) (y ∷ ys) l h = (h 0 x (omega arith), zip_at_places R xs ys (omega (arith, l)) (λ i d n. h (suc i) d (omega (arith, n))))
+
+-- a row that was written over whole
+pub written_back : {X : Type 0} (n : ℕ) (ys xs : List X) → length ys ≡ n → take n (ys ++ drop (length ys) xs) ≡ ys
+written_back n ys xs e = grind (arith, common_steps, e)

@@ -4,42 +4,56 @@ use std::alloc::{AllocError, Global};
 use std::sync::{Arc, Mutex, Wait};
 use tcp_edge::Bell;
 
-/// How many places there are for bells. Session n hangs its bell up at place n % 64, which with at most 32 workers is seldom another's.
-const PLACES: u64 = 64;
+/// The bell of a link that is being served, and the number of its session.
+#[derive(Drop)]
+pub(crate) struct Hung {
+    pub(crate) session: u64,
+    pub(crate) bell: Arc<Bell>,
+}
 
-/// The bells of the links that are being served, by the numbers of their sessions.
+impl Hung {
+    /// Rings if the session is among these, the session n by the bit n % 64.
+    fn ring(&self, roused: u64) {
+        if (roused >> (self.session % 64)) & 1 == 1 {
+            self.bell.ring();
+        }
+    }
+}
+
+/// The bells of the links that are being served, each at the place of its worker.
 #[derive(Drop)]
 pub(crate) struct Board {
-    places: Vec<Mutex<Option<Arc<Bell>>>>,
+    places: Vec<Mutex<Option<Hung>>>,
 }
 
 impl Board {
-    /// A board without bells.
-    pub(crate) fn new(alloc: Global) -> Result<Board, AllocError> {
-        let mut places = Vec::with_capacity(alloc, PLACES as usize)?;
-        for _ in 0..PLACES {
+    /// A board without bells, for so many workers.
+    pub(crate) fn new(alloc: Global, workers: usize) -> Result<Board, AllocError> {
+        let mut places = Vec::with_capacity(alloc, workers)?;
+        for _ in 0..workers {
             places.push(Mutex::new(None))?;
         }
         Ok(Board { places })
     }
 
-    /// Hangs the bell of a session up, or takes it down by `None`.
-    pub(crate) fn hang<W: Wait>(&self, rt: &W, session: u64, bell: Option<Arc<Bell>>) {
-        if let Some(place) = self.places.get((session % PLACES) as usize) {
-            *place.lock(rt) = bell;
+    /// Hangs the bell of a worker's link up, or takes it down by `None`.
+    pub(crate) fn hang<W: Wait>(&self, rt: &W, worker: u32, hung: Option<Hung>) {
+        if let Some(place) = self.places.get(worker as usize) {
+            *place.lock(rt) = hung;
         }
     }
 
-    /// Rings the bells at these places, the place n by the bit n.
-    pub(crate) fn ring<W: Wait>(&self, rt: &W, places: u64) {
-        if places == 0 {
+    /// Rings the bells of these sessions, but not that of this worker's own link.
+    pub(crate) fn ring<W: Wait>(&self, rt: &W, roused: u64, own: u32) {
+        if roused == 0 {
             return;
         }
-        for (at, place) in self.places.iter().enumerate() {
-            if (places >> (at % 64)) & 1 == 1 {
-                if let Some(bell) = place.lock(rt).as_ref() {
-                    bell.ring();
-                }
+        for (worker, place) in self.places.iter().enumerate() {
+            if worker == own as usize {
+                continue;
+            }
+            if let Some(hung) = place.lock(rt).as_ref() {
+                hung.ring(roused);
             }
         }
     }

@@ -7,7 +7,7 @@ ghost use Rattle.shared_desk.specs.Desks.{HubDeskMade, frames_left};
 ghost use Rattle.shared_desk.specs.Passes.{IsPassOf};
 ghost use Rattle.std.proofs.Common.{refl, ◌∙◌};
 
-use crate::board::Board;
+use crate::board::{Board, Hung};
 use js_api::{Desk, DeskFault};
 use js_base::{Moment, Out};
 use js_model::{Collected, Taken};
@@ -23,10 +23,10 @@ pub(crate) struct RingingDesk<'a, P: Place, W: Wait> {
     rt: &'a W,
     hub: &'a Hub<P>,
     board: &'a Board,
-    /// The bell of its own link, if it has one.
+    /// The number of its worker, at whose place its bell hangs.
+    worker: u32,
+    /// The bell of its own link, if it has one that does not hang yet.
     bell: Option<Arc<Bell>>,
-    /// The number of its session, 0 before one is open.
-    session: u64,
 }
 
 impl<'a, P: Place, W: Wait> RingingDesk<'a, P, W> {
@@ -36,6 +36,7 @@ impl<'a, P: Place, W: Wait> RingingDesk<'a, P, W> {
         hub: &'a Hub<P>,
         pass: Pass<P>,
         board: &'a Board,
+        worker: u32,
         bell: Option<Arc<Bell>>,
     ) -> RingingDesk<'a, P, W>
         requires own { IsPassOf hub.now pass }
@@ -48,8 +49,8 @@ impl<'a, P: Place, W: Wait> RingingDesk<'a, P, W> {
             rt,
             hub,
             board,
+            worker,
             bell,
-            session: 0,
         }
     }
 
@@ -63,16 +64,16 @@ impl<'a, P: Place, W: Wait> RingingDesk<'a, P, W> {
             rt: _,
             hub: _,
             board: _,
+            worker: _,
             bell: _,
-            session: _,
         } = self;
         desk.into_pass()
     }
 
     /// Rings for those who were handed messages, but not for its own session, which looks for itself.
     fn ring(&self) {
-        let others = !(1 << (self.session % 64));
-        self.board.ring(self.rt, self.hub.take_roused() & others);
+        self.board
+            .ring(self.rt, self.hub.take_roused(), self.worker);
     }
 }
 
@@ -85,9 +86,9 @@ impl<'a, P: Place, W: Wait> Desk for RingingDesk<'a, P, W> {
 
     fn open(&mut self) -> Result<u64, DeskFault> {
         let opened = self.desk.open();
-        if let Ok(session) = opened {
-            self.session = session;
-            self.board.hang(self.rt, session, self.bell.take());
+        if let (Ok(session), Some(bell)) = (opened, self.bell.take()) {
+            let hung = Hung { session, bell };
+            self.board.hang(self.rt, self.worker, Some(hung));
         }
         opened
     }
@@ -127,7 +128,7 @@ impl<'a, P: Place, W: Wait> Desk for RingingDesk<'a, P, W> {
     }
 
     fn close(&mut self) -> Result<(), DeskFault> {
-        self.board.hang(self.rt, self.session, None);
+        self.board.hang(self.rt, self.worker, None);
         self.desk.close()
     }
 

@@ -62,7 +62,7 @@ impl<P: Place, C: Clock + Drop, B: Beginning> Rooms<P, C, B> {
             clocks.push_reserved(clock.twin().ok()?);
         }
         Some(Rooms {
-            board: Board::new(alloc).ok()?,
+            board: Board::new(alloc, workers).ok()?,
             clocks,
             workers: Vec::with_capacity(alloc, workers).ok()?,
         })

@@ -130,7 +130,14 @@ impl<P: Place, C: Clock, B: Beginning> Worker<P, C, B> {
         };
         let mut link = link;
         let bell = bell_of(&link);
-        let mut desk = RingingDesk::new(place.rt, place.hub, pass, lobby.board(), bell);
+        let mut desk = RingingDesk::new(
+            place.rt,
+            place.hub,
+            pass,
+            lobby.board(),
+            self.number,
+            bell,
+        );
         place.gate.pass(self.number, self.passed);
         let ended = serve_link(
             place.alloc,
@@ -171,7 +178,14 @@ impl<P: Place, C: Clock, B: Beginning> Worker<P, C, B> {
         let Some(pass) = self.pass.take() else {
             unreachable!()
         };
-        let mut desk = RingingDesk::new(place.rt, place.hub, pass, lobby.board(), None);
+        let mut desk = RingingDesk::new(
+            place.rt,
+            place.hub,
+            pass,
+            lobby.board(),
+            self.number,
+            None,
+        );
         let ticked = desk.tick(self.clock.now());
         self.pass = Some(desk.into_pass());
         self.note_tick(ticked);
