@@ -12,6 +12,8 @@ TOP = HERE.parent
 # How long a server may take to listen, and a client to end, in seconds.
 STARTING = 60
 LONGEST = 120
+# The status of a script whose packages cannot be had.
+NOT_INSTALLED = 3
 CFLAGS = ["-std=c11", "-D_GNU_SOURCE", "-O2", "-Wall", "-Wextra", "-Werror"]
 
 
@@ -30,10 +32,15 @@ def apt_get(*words):
     return subprocess.run(command, stdin=subprocess.DEVNULL, stdout=subprocess.DEVNULL, stderr=subprocess.PIPE, text=True)
 
 
+def not_installed(why):
+    print(why, file=sys.stderr)
+    sys.exit(NOT_INSTALLED)
+
+
 def install(*packages):
     """Installs those of these packages of Debian that are not there, with a new list of packages if the one at hand does not do."""
     if not shutil.which("apt-get"):
-        sys.exit(f"this needs Debian's packages {' '.join(packages)}, and there is no apt-get")
+        not_installed(f"this needs Debian's packages {' '.join(packages)}, and there is no apt-get")
     missing = [package for package in packages if not is_there(package)]
     if not missing:
         return
@@ -43,7 +50,7 @@ def install(*packages):
     apt_get("update")
     ended = apt_get(*wanted)
     if ended.returncode != 0:
-        sys.exit(f"{' '.join(missing)} cannot be installed: {ended.stderr.strip()}")
+        not_installed(f"{' '.join(missing)} cannot be installed: {ended.stderr.strip()}")
 
 
 def version_of(package):
