@@ -21,7 +21,7 @@ enum {
 };
 
 /* Seconds in which everything has to be published, and in which everything has to be fetched. */
-static const double LONGEST = 100;
+static const double LONGEST = 300;
 /* Nanoseconds after which a message that is not acknowledged comes again. */
 static const int64_t ACK_WAIT = 2000000000;
 

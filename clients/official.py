@@ -11,7 +11,7 @@ HERE = Path(__file__).resolve().parent
 TOP = HERE.parent
 # How long a server may take to listen, and a client to end, in seconds.
 STARTING = 60
-LONGEST = 120
+LONGEST = 360
 # The status of a script whose packages cannot be had.
 NOT_INSTALLED = 3
 CFLAGS = ["-std=c11", "-D_GNU_SOURCE", "-O2", "-Wall", "-Wextra", "-Werror"]
