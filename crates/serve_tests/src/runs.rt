@@ -2,13 +2,14 @@
 
 use js_base::{Blob, List, Moment, NoMemory};
 use link_edge::{Door, Gate, Knock, MemClock, MemDoor, MemLink, MemSink, OpenGate, Said};
+use place_engine::Place;
 use server::{Finish, run};
 use std::alloc::Global;
 use std::sync::Wait;
 use std::test::Fail;
 use std::thread::Threads;
 use tcp_edge::Rings;
-use vol_disk::{MemVol, Vol};
+use vol_disk::MemVol;
 use volume_place::VolumePlace;
 
 /// 2023-11-14T22:13:20Z, the moment of each run.
@@ -52,15 +53,23 @@ pub(crate) fn door_of(alloc: Global, links: &[&[u8]]) -> Result<MemDoor, NoMemor
     MemDoor::new(alloc, knocks(alloc, links)?)
 }
 
-/// Runs the server at [`START`], with this command line.
-pub(crate) fn serve_by<
+/// Runs the server at [`START`] over places of this kind, with this command line.
+pub(crate) fn serve_over<
+    P: Place + Send + Sync,
     R: Door + Send + Drop,
-    V: Vol + Send + Sync + Drop,
     G: Gate + Sync,
     W: Threads + Wait + Sync,
->(rt: &W, alloc: Global, line: &str, door: R, vols: Vec<V>, gate: &G) -> Result<Outcome<R, V>, Fail>
+>(
+    rt: &W,
+    alloc: Global,
+    line: &str,
+    door: R,
+    vols: Vec<P::Vol>,
+    gate: &G,
+) -> Result<Outcome<R, P::Vol>, Fail>
 where
     R::Link: Rings + Send,
+    P::Vol: Sync + Drop,
 {
     if vols.len() > 32 {
         return Err("more than 32 volumes")?;
@@ -68,11 +77,26 @@ where
     let words = words_of(alloc, line)?;
     let mut clock = MemClock::new(List::new(alloc), Moment::of(START).ok_or("no moment")?);
     let mut sink = MemSink::new(alloc);
-    let finish = run::<VolumePlace<V>, _, _, _, _, _>(
+    let finish = run::<P, _, _, _, _, _>(
         rt, alloc, &words, door, vols, &mut clock, gate, &mut sink,
     );
     let printed = Vec::from_slice(alloc, sink.written())?;
     Ok(Outcome { finish, printed })
+}
+
+/// Runs it over places on volumes in memory.
+pub(crate) fn serve_by<R: Door + Send + Drop, G: Gate + Sync, W: Threads + Wait + Sync>(
+    rt: &W,
+    alloc: Global,
+    line: &str,
+    door: R,
+    vols: Vec<MemVol>,
+    gate: &G,
+) -> Result<Outcome<R, MemVol>, Fail>
+where
+    R::Link: Rings + Send,
+{
+    serve_over::<VolumePlace<MemVol>, R, G, W>(rt, alloc, line, door, vols, gate)
 }
 
 /// Runs it with two workers, whom nothing holds, for links that say this.

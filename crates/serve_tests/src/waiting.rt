@@ -1,14 +1,16 @@
 //! A stream whose volume waits in a sync, while another stream is published to.
 
 use crate::gates::ServedGate;
-use crate::runs::{TWO_WORKERS, door_of, gives, serve_by, volumes_after};
+use crate::runs::{Outcome, TWO_WORKERS, door_of, gives, serve_over, volumes_after};
 use crate::talks::{FIRST, MAKE_TWO, SECOND};
-use link_edge::MemLink;
+use link_edge::{MemDoor, MemLink};
 use std::alloc::Global;
-use std::sync::Arc;
 use std::sync::atomic::AtomicBool;
+use std::sync::{Arc, Wait};
 use std::test::Fail;
+use std::thread::Threads;
 use vol_disk::{HoldVol, MemVol};
+use volume_place::VolumePlace;
 
 /// How many turns a sync waits at most: far more than another worker needs to serve its link.
 const TURNS: u64 = 2_000_000;
@@ -62,6 +64,24 @@ fn is_answered(link: &MemLink, answer: &[u8]) -> bool {
     gives(link, FIRST, answer) || gives(link, SECOND, answer)
 }
 
+/// Runs the server over volumes that wait.
+fn serve_held<W: Threads + Wait + Sync>(
+    rt: &W,
+    alloc: Global,
+    door: MemDoor,
+    vols: Vec<HoldVol>,
+    gate: &ServedGate,
+) -> Result<Outcome<MemDoor, HoldVol>, Fail> {
+    serve_over::<VolumePlace<HoldVol>, MemDoor, ServedGate, W>(
+        rt,
+        alloc,
+        TWO_WORKERS,
+        door,
+        vols,
+        gate,
+    )
+}
+
 /// The first link publishes to the stream whose volume waits, and this ends once the second one, which publishes to the other stream, was served. So the
 /// second link is back before the first. If one lock stood round both streams, or if one thread did the work of both workers, the wait would come to its
 /// last turn, and the first link would be back before the second, which has hundreds of messages to publish after it got the lock.
@@ -73,7 +93,7 @@ fn stream_that_waits_holds_no_other(rt: HostRuntime) -> Result<(), Fail> {
     let vols = held_volumes(alloc, made, &flag)?;
     let door = door_of(alloc, &[TO_SLOW, much_to_quick(alloc)?.as_slice()])?;
     let gate = ServedGate::new(flag);
-    let ran = serve_by(&rt, alloc, TWO_WORKERS, door, vols, &gate)?;
+    let ran = serve_held(&rt, alloc, door, vols, &gate)?;
     assert_eq!(rt; ran.finish.status, 0);
     assert_eq!(rt; ran.finish.vols.len(), 2);
     let [quick, slow] = ran.finish.door.back() else {

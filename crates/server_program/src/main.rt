@@ -11,13 +11,12 @@ use crate::telling::{tell_address, tell_end};
 use folder_lock::{FolderLock, LockFault};
 use link_edge::{Door, OpenGate, PipeDoor, SystemClock, WriterSink};
 use place_engine::{MemoryPlace, Place};
-use server::{Command, Finish, Listening, WordsFault, read_words, run};
+use server::{Command, Finish, FolderPath, WordsFault, read_words, run};
 use std::alloc::AllocError;
 use std::env;
 use std::io::{self, ErrorKind, Write};
-use std::net::Net;
+use std::net::SocketAddr;
 use std::process::ExitCode;
-use std::rt::Clock;
 use std::sync::Wait;
 use std::thread::Threads;
 use tcp_edge::{Rings, TcpDoor};
@@ -126,24 +125,27 @@ where
     serve_door::<P, _, T>(rt, threads, words, door, vols)
 }
 
-/// Serves the links that come to an address over the folder, which nobody else writes meanwhile, and returns the status.
-fn serve_address<T: Threads + Wait + Net + Clock + Copy + Send + Sync + Drop>(
+/// Serves the links that come to a door at this address over the folder, which nobody else writes meanwhile, and returns the status.
+fn serve_address<R: Door + Send + Drop, T: Threads + Wait + Sync>(
     rt: &HostRuntime,
-    handles: T,
+    threads: &T,
     words: &[String],
-    listening: &Listening,
-) -> Result<u8, AllocError> {
-    let dir = listening.dir.as_str();
+    dir: &str,
+    address: Option<SocketAddr>,
+    door: R,
+) -> Result<u8, AllocError>
+where
+    R::Link: Rings + Send,
+{
     let _lock = match FolderLock::take(rt, dir) {
         Ok(lock) => lock,
         Err(fault) => return Ok(refuse_folder(rt, fault)),
     };
     let vols = folder_volumes(rt, dir)?;
-    let door = TcpDoor::bind(handles, rt.alloc(), listening.listen);
-    if let Some(address) = door.address() {
+    if let Some(address) = address {
         tell_address(rt, address, dir);
     }
-    let status = serve_door::<VolumePlace<DirVol>, _, T>(rt, &handles, words, door, vols);
+    let status = serve_door::<VolumePlace<DirVol>, R, T>(rt, threads, words, door, vols);
     tell_end(rt, status);
     Ok(status)
 }
@@ -178,45 +180,49 @@ fn refuse_words<T: Threads + Wait + Sync>(rt: &HostRuntime, threads: &T, words: 
     serve_pipe::<MemoryPlace<()>, T>(rt, threads, words, Vec::new(rt.alloc()))
 }
 
-/// Serves what the command line asks for, and returns the status.
-fn serve<T: Threads + Wait + Net + Clock + Copy + Send + Sync + Drop>(
+/// Serves standard input and output as the command line asks for, and returns the status.
+fn serve_input<T: Threads + Wait + Sync>(
     rt: &HostRuntime,
-    handles: T,
+    threads: &T,
     words: &[String],
+    dir: Option<FolderPath>,
 ) -> Result<u8, AllocError> {
-    match read_words(rt.alloc(), words) {
+    match dir {
+        Some(dir) => serve_folder(rt, threads, words, dir.as_str()),
+        None => serve_memory(rt, threads, words),
+    }
+}
+
+/// Prints the text that the command line asks for, and returns the status.
+fn answer(rt: &HostRuntime, request: Request) -> u8 {
+    match request.text(rt.alloc()) {
+        Ok(text) => print(rt, text.as_bytes()),
+        Err(AllocError) => STARVED,
+    }
+}
+
+/// Does what the command line asks for, and returns the status.
+fn main(rt: HostRuntime) -> ExitCode {
+    let Ok(words) = words_of(&rt) else {
+        return ExitCode::from(STARVED);
+    };
+    if let Some(request) = Request::of(&words) {
+        return ExitCode::from(answer(&rt, request));
+    }
+    let ended = match read_words(rt.alloc(), &words) {
         Ok(
             Command::Pipe {
                 dir,
                 stream: _stream,
             },
-        ) => match dir {
-            Some(dir) => serve_folder(rt, &handles, words, dir.as_str()),
-            None => serve_memory(rt, &handles, words),
-        },
-        Ok(Command::Serve(listening)) => serve_address(rt, handles, words, &listening),
-        Err(WordsFault::Words) => Ok(refuse_words(rt, &handles, words)),
+        ) => serve_input(&rt, &rt, &words, dir),
+        Ok(Command::Serve(listening)) => {
+            let door = TcpDoor::bind(rt, rt.alloc(), listening.listen);
+            let address = door.address();
+            serve_address(&rt, &rt, &words, listening.dir.as_str(), address, door)
+        }
+        Err(WordsFault::Words) => Ok(refuse_words(&rt, &rt, &words)),
         Err(WordsFault::NoMemory) => Err(AllocError),
-    }
-}
-
-/// Does what the command line asks for, and returns the status.
-fn status<T: Threads + Wait + Net + Clock + Copy + Send + Sync + Drop>(
-    rt: &HostRuntime,
-    handles: T,
-) -> u8 {
-    let Ok(words) = words_of(rt) else {
-        return STARVED;
     };
-    match Request::of(&words) {
-        Some(request) => match request.text(rt.alloc()) {
-            Ok(text) => print(rt, text.as_bytes()),
-            Err(AllocError) => STARVED,
-        },
-        None => serve(rt, handles, &words).unwrap_or(STARVED),
-    }
-}
-
-fn main(rt: HostRuntime) -> ExitCode {
-    ExitCode::from(status(&rt, rt))
+    ExitCode::from(ended.unwrap_or(STARVED))
 }

@@ -1,0 +1,10 @@
+use denote.Param.Send.{IsSend, IsSync}
+use Rattle.place_threads.proofs.Crossing.{place_crosses}
+use Rattle.vol_disk.proofs.mem_vol.MemVol.TheSendSync as volume
+use Rattle.server_tests.proofs.runs.run_once.Goals as goal
+
+pub run-finish-requires-send-P : goal.run-finish-requires-send-P
+run-finish-requires-send-P g c κs within = search (place_crosses, volume.the_send) depth 20
+
+pub run-finish-requires-sync-P : goal.run-finish-requires-sync-P
+run-finish-requires-sync-P g c κs within = search (place_crosses, volume.the_sync) depth 20
