@@ -91,7 +91,8 @@ fn stream_that_waits_holds_no_other(rt: HostRuntime) -> Result<(), Fail> {
     let made = volumes_after(&rt, alloc, MAKE_TWO)?;
     let flag = Arc::new(alloc, AtomicBool::new(true))?;
     let vols = held_volumes(alloc, made, &flag)?;
-    let door = door_of(alloc, &[TO_SLOW, much_to_quick(alloc)?.as_slice()])?;
+    let to_quick = much_to_quick(alloc)?;
+    let door = door_of(alloc, &[TO_SLOW, to_quick.as_slice()])?;
     let gate = ServedGate::new(flag);
     let ran = serve_held(&rt, alloc, door, vols, &gate)?;
     assert_eq!(rt; ran.finish.status, 0);
