@@ -40,7 +40,8 @@ static int confirmed;
 /* Whether an operation may fail so while the server is away. */
 static bool comes_of_a_kill(natsStatus status)
 {
-    return status == NATS_TIMEOUT || status == NATS_NO_RESPONDERS || status == NATS_CONNECTION_DISCONNECTED || status == NATS_NO_SERVER;
+    return status == NATS_TIMEOUT || status == NATS_NO_RESPONDERS || status == NATS_CONNECTION_DISCONNECTED || status == NATS_NO_SERVER ||
+           status == NATS_IO_ERROR;
 }
 
 static void check_time(double start, const char *what)
