@@ -1,5 +1,0 @@
-use Rattle.consumer_config.proofs.Parts.{printable}
-use Rattle.op_records.proofs.puts.put_consumer_config.Goals as goal
-
-pub consumer_text-requires : goal.consumer_text-requires
-consumer_text-requires c = record { utf8 = printable c.args.config.now c.requires.valid }

@@ -1,5 +1,0 @@
-use Rattle.stream_config.proofs.Parts.{printable}
-use Rattle.op_records.proofs.puts.put_stream_config.Goals as goal
-
-pub stream_text-requires : goal.stream_text-requires
-stream_text-requires c = record { utf8 = printable c.args.config.now c.requires.valid }

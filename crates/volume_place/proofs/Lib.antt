@@ -1,7 +1,0 @@
-mod Bases
-mod Kept
-mod Growing
-mod Brought
-mod Steps
-mod Deliveries
-mod Opened
