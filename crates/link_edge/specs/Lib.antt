@@ -12,4 +12,5 @@ pub mod Script
 pub mod MemLink
 pub mod MemDoor
 pub mod MemSink
+pub mod Notices
 pub mod SystemClock

@@ -1,6 +1,6 @@
-//! The outside of the server: links to clients, the doors that they come through, sinks, clocks and
-//! gates. Each is a trait with a meaning, an implementation in memory that records all that happened to
-//! it, and an adapter over the real thing.
+//! The outside of the server: links to clients, the doors that they come through, sinks, clocks, gates
+//! and notices. Each is a trait with a meaning, an implementation in memory that records all that
+//! happened to it, and an adapter over the real thing.
 #![tactic(auto)]
 
 mod answers;
@@ -14,11 +14,14 @@ mod link;
 mod mem_clock;
 mod mem_door;
 mod mem_link;
+mod mem_notice;
 mod mem_sink;
+mod notice;
 mod pipe;
 mod script;
 mod sink;
 mod system_clock;
+mod unnoticed;
 mod writer_sink;
 
 pub use answers::{Accept, Accepted, Answer, Give, Put, Take};
@@ -31,9 +34,12 @@ pub use link::Link;
 pub use mem_clock::MemClock;
 pub use mem_door::{Knock, MemDoor};
 pub use mem_link::MemLink;
+pub use mem_notice::MemNotice;
 pub use mem_sink::MemSink;
+pub use notice::{Found, Notice};
 pub use pipe::{PipeDoor, PipeLink};
 pub use script::Said;
 pub use sink::Sink;
 pub use system_clock::SystemClock;
+pub use unnoticed::Unnoticed;
 pub use writer_sink::WriterSink;

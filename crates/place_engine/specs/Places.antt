@@ -1,11 +1,12 @@
 -- What may be asked of a place, and what is told of its stream.
-use Rattle.std.specs.Prelude.{◌≡◌, List, [], Option, None, Some, IfSome, IsUtf8}
+use Rattle.std.specs.Prelude.{◌≡◌, ℕ, List, [], length, Option, None, Some, IfSome, IsUtf8}
 use Rattle.js_base.specs.Bytes.{Bytes}
 use Rattle.js_model.specs.declared.stream.State.{State}
 use Rattle.js_model.specs.declared.stream.State.TheVariants.{Vacant, Live}
 use Rattle.js_model.specs.declared.event.Publish.{Publish}
 use Rattle.js_model.specs.declared.event.What.{What}
 use Rattle.js_model.specs.declared.event.What.TheVariants as whats
+use Rattle.js_model.specs.Runs.{messages_of}
 
 -- the name of a header with a bad number is UTF-8, since it is told
 abbrev pub IsTold : What → Type 0
@@ -25,3 +26,7 @@ name_in (Live stream) = Some stream.config.name
 abbrev pub subjects_in : State → List Bytes
 subjects_in (Vacant last) = []
 subjects_in (Live stream) = stream.config.subjects
+
+-- how many messages it holds, none if there is no stream
+abbrev pub messages_in : State → ℕ
+messages_in state = length (messages_of state)

@@ -90,6 +90,14 @@ impl LiveStream {
         self.state.config().subjects.as_slice()
     }
 
+    /// How many messages it holds.
+    pub fn messages(&self) -> u64
+        ensures value { result ≡ length self.now.messages }
+        ensures bound { result < 2 ^ 32 }
+    {
+        self.state.count()
+    }
+
     /// The push consumer at a place in the order of their names.
     pub fn push(&self, at: usize) -> Option<Push<'_>>
         ensures value { result ≡ option_map push_of (slice_get (pushes_in (Live self.now)) at) }

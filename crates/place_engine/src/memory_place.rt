@@ -93,6 +93,10 @@ impl<V> Place for MemoryPlace<V> {
         self.slot.subjects()
     }
 
+    fn messages(&self) -> u64 {
+        self.slot.messages()
+    }
+
     /// It is never stopped.
     fn stopped(&self) -> Option<u64> {
         None

@@ -12,7 +12,7 @@ ghost use Rattle.place_engine.specs.declared.faults.OpenFault.{OpenFault};
 ghost use Rattle.place_engine.specs.Delivering.{Delivers};
 ghost use Rattle.place_engine.specs.Flushing.{Flushes};
 ghost use Rattle.place_engine.specs.Opening.{IsOpened, IsUnopened};
-ghost use Rattle.place_engine.specs.Places.{IsTold, name_in, subjects_in};
+ghost use Rattle.place_engine.specs.Places.{IsTold, messages_in, name_in, subjects_in};
 ghost use Rattle.place_engine.specs.Pushes.{push_of, pushes_in};
 ghost use Rattle.place_engine.specs.Shown.{IsShown};
 ghost use Rattle.place_engine.specs.Stepping.{Image, IsKept, Seen, Steps};
@@ -84,6 +84,11 @@ pub trait Place {
     /// The subjects of its configuration, none if there is no stream.
     fn subjects(&self) -> &[Blob]
         ensures value { result.now ≡ subjects_in (seen self.now).place.state };
+
+    /// How many messages the stream holds, none if there is no stream.
+    fn messages(&self) -> u64
+        ensures value { result ≡ messages_in (seen self.now).place.state }
+        ensures bound { result < 2 ^ 32 };
 
     /// The volume's count of faults as it stopped the place, if it did.
     fn stopped(&self) -> Option<u64>

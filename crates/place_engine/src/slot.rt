@@ -13,7 +13,7 @@ ghost use Rattle.js_model.specs.StateMoments.{state_at};
 ghost use Rattle.effects.specs.Effects.{settle_effects};
 ghost use Rattle.place_engine.specs.Answers.{outs_by, AnswersThen, LeftBy, MayDeliver, PlaceAnswers};
 ghost use Rattle.place_engine.specs.InMemory.{left_of, MayLeave};
-ghost use Rattle.place_engine.specs.Places.{IsTold, IsVacant, name_in, subjects_in};
+ghost use Rattle.place_engine.specs.Places.{IsTold, IsVacant, messages_in, name_in, subjects_in};
 ghost use Rattle.place_engine.specs.Pushes.{push_of, pushes_in};
 ghost use Rattle.place_engine.specs.Recording.{asking_effects, passing_effects, HasMadeRoom, HasOwnRoom, HasTimeRoom, TellsEvent, TellsSent};
 ghost use Rattle.place_engine.specs.Shown.{IsShown};
@@ -103,6 +103,17 @@ impl Slot {
         match &self.held {
             Held::Nothing(_) => &[],
             Held::Stream(stream) => stream.subjects(),
+        }
+    }
+
+    /// How many messages it holds, none if there is no stream.
+    pub fn messages(&self) -> u64
+        ensures value { result ≡ messages_in self.now }
+        ensures bound { result < 2 ^ 32 }
+    {
+        match &self.held {
+            Held::Nothing(_) => 0,
+            Held::Stream(stream) => stream.messages(),
         }
     }
 

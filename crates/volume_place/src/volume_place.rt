@@ -235,6 +235,10 @@ impl<V: Vol> Place for VolumePlace<V> {
         self.slot.subjects()
     }
 
+    fn messages(&self) -> u64 {
+        self.slot.messages()
+    }
+
     fn stopped(&self) -> Option<u64> {
         self.stopped
     }
