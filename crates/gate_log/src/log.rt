@@ -1,6 +1,6 @@
 //! Logs of batches.
 
-ghost use Rattle.std.specs.Prelude.{◌≡◌, ◌↔◌, ◌+◌, ◌<◌, ◌≤◌, ◌^◌, ◌++◌, ◌∷◌, [], List, None, Some, OnOk, OnErr, IfOk, IfErr, IsErrOf, IsNone, IsSome, length, take, drop};
+ghost use Rattle.std.specs.Prelude.{◌≡◌, ◌↔◌, ◌+◌, ◌<◌, ◌≤◌, ◌^◌, ◌++◌, ◌∷◌, [], List, None, Some, OnOk, OnErr, IfOk, IfErr, IsErrOf, IsNone, IsSome, IsTrue, length, take, drop};
 ghost use Rattle.vol_disk.specs.Images.{IsDurable};
 ghost use Rattle.vol_disk.specs.Moments.{Quiet};
 ghost use Rattle.js_base.specs.Bytes.{Bytes};
@@ -168,6 +168,13 @@ impl GateLog {
         ensures value { result ≡ self.now.end }
     {
         self.ends.last
+    }
+
+    /// Whether it has room for a batch of so many bytes more, for which `append` does not answer `Full`.
+    pub fn fits(&self, count: usize) -> bool
+        ensures value { IsTrue result ↔ (self.now.end + 6 + count ≤ 2 ^ 31) }
+    {
+        fits(self.ends.last, count)
     }
 
     /// The records of the open batch whose gate is at the offset, and the offset of the next gate; `None` exactly if the offset is the end.

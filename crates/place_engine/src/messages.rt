@@ -25,6 +25,15 @@ use stream_state::StreamState;
 use stream_view::View;
 
 impl LiveStream {
+    /// What it says to a publish at its moment, if its store has a block for each message.
+    pub fn verdict(&self, publish: &Publish) -> Result<Verdict, NoMemory>
+        requires told { IfSome publish.now.wants.bad IsUtf8 }
+        ensures value { IfOk result (λ said. said ≡ verdict self.now publish.now true) }
+        ensures shown { IfOk result IsShownVerdict }
+    {
+        verdict(&self.state, publish)
+    }
+
     /// Stores a message, if it is to be taken. An `Err` changes nothing.
     pub(crate) fn publish(
         &mut self,

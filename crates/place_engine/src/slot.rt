@@ -13,10 +13,10 @@ ghost use Rattle.js_model.specs.StateMoments.{state_at};
 ghost use Rattle.effects.specs.Effects.{settle_effects};
 ghost use Rattle.place_engine.specs.Answers.{outs_by, AnswersThen, LeftBy, MayDeliver, PlaceAnswers};
 ghost use Rattle.place_engine.specs.InMemory.{left_of, MayLeave};
-ghost use Rattle.place_engine.specs.Places.{IsTold, IsVacant, messages_in, name_in, subjects_in};
+ghost use Rattle.place_engine.specs.Places.{IsTold, IsVacant, ids_in, messages_in, name_in, subjects_in, verdict_in};
 ghost use Rattle.place_engine.specs.Pushes.{push_of, pushes_in};
 ghost use Rattle.place_engine.specs.Recording.{asking_effects, passing_effects, HasMadeRoom, HasOwnRoom, HasTimeRoom, TellsEvent, TellsSent};
-ghost use Rattle.place_engine.specs.Shown.{IsShown};
+ghost use Rattle.place_engine.specs.Shown.{IsShown, IsShownVerdict};
 ghost use Rattle.place_records.specs.Records.{effects_in, own_in, time_in, IsFresh, IsFreshOwn, IsFreshTime};
 
 use crate::faults::Left;
@@ -25,7 +25,9 @@ use crate::push::Push;
 use effects::Effect;
 use js_base::{Blob, Moment, NoMemory, Outs};
 use js_model::refusals::{no_stream, numbers_used_up};
-use js_model::{Delivery, Listening, Reply, StreamConfig, What, copy_stream_config};
+use js_model::{
+    Delivery, Listening, Publish, Reply, StreamConfig, Verdict, What, copy_stream_config,
+};
 use place_records::{Made, OwnRecords, TimeRecords};
 use std::alloc::Global;
 use std::marker::Model;
@@ -114,6 +116,28 @@ impl Slot {
         match &self.held {
             Held::Nothing(_) => 0,
             Held::Stream(stream) => stream.messages(),
+        }
+    }
+
+    /// How many ids its duplicate window has, whether or not they still count; none if there is no stream.
+    pub fn id_count(&self) -> u64
+        ensures value { result ≡ length (ids_in self.now) }
+    {
+        match &self.held {
+            Held::Nothing(_) => 0,
+            Held::Stream(stream) => stream.state.id_count(),
+        }
+    }
+
+    /// What its stream says to a publish at the moment that it has seen last, if its store has a block for each message; `None` if there is no stream.
+    pub fn verdict(&self, publish: &Publish) -> Result<Option<Verdict>, NoMemory>
+        requires told { IfSome publish.now.wants.bad IsUtf8 }
+        ensures value { IfOk result (λ said. said ≡ verdict_in self.now publish.now) }
+        ensures shown { IfOk result (λ said. IfSome said IsShownVerdict) }
+    {
+        match &self.held {
+            Held::Nothing(_) => Ok(None),
+            Held::Stream(stream) => Ok(Some(stream.verdict(publish)?)),
         }
     }
 

@@ -1,6 +1,6 @@
 //! The store of a place.
 
-ghost use Rattle.std.specs.Prelude.{◌≡◌, ◌<◌, ◌≤◌, ◌^◌, length, Some, IfOk, IfErr, OnOk, OnErr, IsErrOf, IsTrue};
+ghost use Rattle.std.specs.Prelude.{◌≡◌, ◌↔◌, ◌+◌, ◌<◌, ◌≤◌, ◌^◌, length, Some, IfOk, IfErr, OnOk, OnErr, IsErrOf, IsTrue};
 ghost use Rattle.std.specs.List.{list_all, flat_map};
 ghost use Rattle.js_base.specs.Causes.{HasCause};
 ghost use Rattle.effects.specs.declared.durable.Durable.{Durable};
@@ -97,6 +97,13 @@ impl Store {
         ensures value { self.now.log.head ≡ Some result }
     {
         self.generation
+    }
+
+    /// Whether the log has room for a batch of records that are so many bytes long, for which `commit` does not answer `Full`.
+    pub fn fits(&self, count: usize) -> bool
+        ensures value { IsTrue result ↔ (self.now.log.end + 6 + count ≤ 2 ^ 31) }
+    {
+        self.log.fits(count)
     }
 
     /// Puts records on the volume as the next batch. They lead from the base to something that a volume may hold. At `Ok` that is the base, and each crash
