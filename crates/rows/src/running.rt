@@ -5,7 +5,7 @@ ghost use Rattle.std.specs.Prelude.{◌<◌};
 use crate::outcome::Outcome;
 use crate::row::{DoorScript, LinkScript, Row, Turn, begin};
 use js_base::{Blob, List, Moment, NoMemory};
-use link_edge::{Knock, MemClock, MemDoor, MemLink, MemSink, OpenGate, Said};
+use link_edge::{Knock, MemClock, MemDoor, MemLink, MemSink, OpenGate, Said, Unnoticed};
 use place_engine::MemoryPlace;
 use server::{Finish, run};
 use std::alloc::Global;
@@ -130,8 +130,16 @@ pub(crate) fn run_row(
     let volumes = vec![in alloc; (); row.volumes.count]?;
     let mut clock = clock_of(alloc, row, size)?;
     let mut sink = MemSink::failing(alloc, numbers(alloc, &row.sink_failing)?);
-    let finish: Finish<MemDoor, ()> = run::<MemoryPlace<()>, _, _, _, _, _>(
-        rt, alloc, &row.words, door, volumes, &mut clock, &OpenGate, &mut sink,
+    let finish: Finish<MemDoor, ()> = run::<MemoryPlace<()>, _, _, _, _, _, _>(
+        rt,
+        alloc,
+        &row.words,
+        door,
+        volumes,
+        &mut clock,
+        &OpenGate,
+        &mut Unnoticed,
+        &mut sink,
     );
     Ok(Outcome {
         status: finish.status,

@@ -1,5 +1,5 @@
 //! Tests of `serve` over a door and volumes in memory: each call of a hub, two workers of which one is held, a stream whose volume waits, what a later
-//! connection reads back, how many connections are accepted, and each status that memory can come to.
+//! connection reads back, what a run tells that it found, how many connections are accepted, and each status that memory can come to.
 #![tactic(auto)]
 
 #[cfg(test)]
@@ -14,6 +14,8 @@ mod faulty_volumes;
 mod gates;
 #[cfg(test)]
 mod holding;
+#[cfg(test)]
+mod noticing;
 #[cfg(test)]
 mod reading;
 #[cfg(test)]

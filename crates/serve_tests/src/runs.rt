@@ -1,7 +1,9 @@
 //! Runs of `serve` over a door and volumes in memory.
 
 use js_base::{Blob, List, Moment, NoMemory};
-use link_edge::{Door, Gate, Knock, MemClock, MemDoor, MemLink, MemSink, OpenGate, Said};
+use link_edge::{
+    Door, Gate, Knock, MemClock, MemDoor, MemLink, MemNotice, MemSink, OpenGate, Said,
+};
 use place_engine::Place;
 use server::{Finish, run};
 use std::alloc::Global;
@@ -22,6 +24,7 @@ pub(crate) const TWO_WORKERS: &str = "serve --dir d --workers 2 --listen 127.0.0
 #[derive(Drop)]
 pub(crate) struct Outcome<R, V> {
     pub(crate) finish: Finish<R, V>,
+    pub(crate) notice: MemNotice,
     pub(crate) printed: Vec<u8>,
 }
 
@@ -76,12 +79,25 @@ where
     }
     let words = words_of(alloc, line)?;
     let mut clock = MemClock::new(List::new(alloc), Moment::of(START).ok_or("no moment")?);
+    let mut notice = MemNotice::new();
     let mut sink = MemSink::new(alloc);
-    let finish = run::<P, _, _, _, _, _>(
-        rt, alloc, &words, door, vols, &mut clock, gate, &mut sink,
+    let finish = run::<P, _, _, _, _, _, _>(
+        rt,
+        alloc,
+        &words,
+        door,
+        vols,
+        &mut clock,
+        gate,
+        &mut notice,
+        &mut sink,
     );
     let printed = Vec::from_slice(alloc, sink.written())?;
-    Ok(Outcome { finish, printed })
+    Ok(Outcome {
+        finish,
+        notice,
+        printed,
+    })
 }
 
 /// Runs it over places on volumes in memory.
@@ -125,11 +141,11 @@ pub(crate) fn volumes_after(
     alloc: Global,
     said: &[u8],
 ) -> Result<Vec<MemVol>, Fail> {
-    let Outcome { finish, printed: _ } = serve(rt, alloc, &[said], empty_volumes(alloc, 2)?)?;
-    if finish.status != 0 {
+    let ran = serve(rt, alloc, &[said], empty_volumes(alloc, 2)?)?;
+    if ran.finish.status != 0 {
         return Err("the run did not end well")?;
     }
-    Ok(finish.vols)
+    Ok(ran.finish.vols)
 }
 
 /// Whether the link was given the greeting, then this, and nothing else.

@@ -3,9 +3,12 @@ use Rattle.std.specs.Prelude.{◌≡◌, ◌-◌, ◌^◌, ℕ, Bool, false, tru
 use Rattle.std.specs.Net.Socket.{socket_ip, socket_port}
 use Rattle.std.specs.Net.Text.{ip_text}
 use Rattle.hub_fronts.specs.Fronts.{SharedScene}
+use Rattle.link_edge.specs.Notices.{NoticeTold, noticed}
+use Rattle.link_edge.specs.declared.notice.Found.{Found}
 use Rattle.js_desk.specs.declared.faults.Closed.{Closed}
 use Rattle.js_desk.specs.declared.faults.HubFault.{HubFault}
 use Rattle.session.specs.declared.ending.Limits.{Limits}
+use Rattle.shared_desk.specs.Finding.{messages_found, streams_found}
 use Rattle.shared_desk.specs.Hubs.{HubView}
 use Rattle.workers.specs.Doors as doors
 use Rattle.workers.specs.Serving.{Serves}
@@ -49,6 +52,10 @@ outcome_of (came.Served stop worn starved) = stopped_outcome stop worn starved
 
 -- ---- the run
 
+-- what stood in the places of a hub as they were opened
+abbrev pub found_in : HubView → Found
+found_in hub = record { streams = streams_found hub.places; messages = messages_found hub.places }
+
 -- what the door tells of its links
 abbrev pub links_told : DoorTold → doors.DoorTold
 links_told door = record { answered = door.answered; gave = door.gave; back = door.back; faults = door.faults }
@@ -56,13 +63,14 @@ links_told door = record { answered = door.answered; gave = door.gave; back = do
 -- Of places of one kind: how a hub is opened on volumes for so many workers, why none is, and what is left of it as all its passes are taken in.
 module _ {V : Type 0} (Opens : List V → ℕ → HubView → List SharedScene → Type 0) (Refuses : List V → HubFault V → Type 0) (Closes : HubView → List SharedScene → Closed V → Type 0) where
   -- memory ran out before the volumes were touched
-  pub record IsUnmanned (status : ℕ) (vols_old vols_new : List V) (old new : Outside) : Type 0 where
+  pub record IsUnmanned (status : ℕ) (vols_old vols_new : List V) (old new : Outside) (told_old told_new : Option NoticeTold) : Type 0 where
     pub status_is : status ≡ 7
     pub vols : vols_new ≡ vols_old
     pub outside : new ≡ old
+    pub untold : told_new ≡ told_old
 
   -- no hub was opened, the line that says why was printed, if there is one, and the volumes came back
-  pub record IsShut (status : ℕ) (vols_old vols_new : List V) (old new : Outside) : Type 0 where
+  pub record IsShut (status : ℕ) (vols_old vols_new : List V) (old new : Outside) (told_old told_new : Option NoticeTold) : Type 0 where
     pub fault : HubFault V
     pub refused : Refuses vols_old fault
     pub vols : vols_new ≡ vols_of fault
@@ -70,16 +78,18 @@ module _ {V : Type 0} (Opens : List V → ℕ → HubView → List SharedScene �
     pub printed : PrintsLine (refused_line fault) old.sink new.sink
     pub unread : new.clock ≡ old.clock
     pub door : new.door ≡ old.door
+    pub untold : told_new ≡ told_old
 
-  -- A hub was opened on the volumes, the links that came were served by as many workers as were asked for, and the hub was closed with the passes as these
-  -- left them. The line for a place whose store failed in the closing was printed, and the volumes came back.
-  pub record IsManned (listening : Listening) (status : ℕ) (vols_old vols_new : List V) (old new : Outside) : Type 0 where
+  -- A hub was opened on the volumes, and the notice was told once what stood there. The links that came were served by as many workers as were asked for, and
+  -- the hub was closed with the passes as these left them. The line for a place whose store failed in the closing was printed, and the volumes came back.
+  pub record IsManned (listening : Listening) (status : ℕ) (vols_old vols_new : List V) (old new : Outside) (told_old told_new : Option NoticeTold) : Type 0 where
     pub hub : HubView
     pub passes : List SharedScene
     pub after : List SharedScene
     pub came : Came
     pub closed : Closed V
     pub opens : Opens vols_old listening.workers hub passes
+    pub told : told_new ≡ noticed told_old (found_in hub)
     pub serves : Serves (serve_limits listening) (limit_of listening.accepts) hub passes after (links_told old.door) (links_told new.door) came
     pub closes : Closes hub after closed
     pub vols : vols_new ≡ closed.vols.items
@@ -87,8 +97,8 @@ module _ {V : Type 0} (Opens : List V → ℕ → HubView → List SharedScene �
     pub printed : PrintsLine (closing_line (outcome_of came).status closed.failed) old.sink new.sink
     pub unread : new.clock ≡ old.clock
 
-  -- how a run of `serve` ends with this status, and the volumes before and after it
-  pub data ServeEnds (listening : Listening) (status : ℕ) (vols_old vols_new : List V) (old new : Outside) : Type 0 where
-    Unmanned : IsUnmanned status vols_old vols_new old new → ServeEnds listening status vols_old vols_new old new
-    Shut : IsShut status vols_old vols_new old new → ServeEnds listening status vols_old vols_new old new
-    Manned : IsManned listening status vols_old vols_new old new → ServeEnds listening status vols_old vols_new old new
+  -- how a run of `serve` ends with this status, and the volumes, the outside and what the notice was told before and after it
+  pub data ServeEnds (listening : Listening) (status : ℕ) (vols_old vols_new : List V) (old new : Outside) (told_old told_new : Option NoticeTold) : Type 0 where
+    Unmanned : IsUnmanned status vols_old vols_new old new told_old told_new → ServeEnds listening status vols_old vols_new old new told_old told_new
+    Shut : IsShut status vols_old vols_new old new told_old told_new → ServeEnds listening status vols_old vols_new old new told_old told_new
+    Manned : IsManned listening status vols_old vols_new old new told_old told_new → ServeEnds listening status vols_old vols_new old new told_old told_new

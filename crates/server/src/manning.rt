@@ -4,7 +4,7 @@ ghost use Rattle.std.specs.Prelude.{◌≡◌, ◌≢◌, ◌≤◌, ◌<◌, If
 ghost use Rattle.session.specs.Host.{is_plain};
 ghost use Rattle.shared_desk.specs.Closing.{ClosesHub};
 ghost use Rattle.shared_desk.specs.Opening.{FailsToOpenHub, OpensHub};
-ghost use Rattle.server.specs.Manning.{ServeEnds, limit_of, noted_outcome, outcome_of, serve_limits, stopped_outcome};
+ghost use Rattle.server.specs.Manning.{ServeEnds, found_in, limit_of, noted_outcome, outcome_of, serve_limits, stopped_outcome};
 
 use crate::closing::settle;
 use crate::listening::{AcceptLimit, Listening};
@@ -13,7 +13,7 @@ use crate::running::Finish;
 use crate::serving::Outcome;
 use js_base::NoMemory;
 use js_desk::Closed;
-use link_edge::{Clock, Door, Gate, Sink};
+use link_edge::{Clock, Door, Found, Gate, Notice, Sink};
 use place_engine::Place;
 use session::Limits;
 use shared_desk::{Hub, law_all, law_numbers};
@@ -88,13 +88,24 @@ fn outcome_of(came: Came) -> Outcome
     }
 }
 
-/// Opens a hub on the volumes, serves the links that come by as many workers as are asked for, until the door is closed or has failed or as many links were
+/// What stood in the places of a hub as they were opened.
+fn found_in<P: Place>(hub: &Hub<P>) -> Found
+    ensures { result ≡ found_in hub.now }
+{
+    Found {
+        streams: hub.streams_found(),
+        messages: hub.messages_found(),
+    }
+}
+
+/// Opens a hub on the volumes, tells the notice what stood there, serves the links that come by as many workers as are asked for, until the door is closed or has failed or as many links were
 /// accepted as are to be, and closes the hub.
 pub(crate) fn serve_hub<
     P: Place + Send + Sync,
     R: Door + Send,
     C: Clock + Send + Drop,
     G: Gate + Sync,
+    N: Notice,
     O: Sink,
     W: Threads + Wait + Sync,
 >(
@@ -105,6 +116,7 @@ pub(crate) fn serve_hub<
     vols: Vec<P::Vol>,
     clock: &C,
     gate: &G,
+    notice: &mut N,
     out: &mut O,
 ) -> Finish<R, P::Vol>
 where
@@ -126,7 +138,8 @@ where
           door = record { answered = R.answered result.door; gave = R.gave result.door; back = R.back result.door; starved = R.starved result.door; faults = R.faults result.door };
           clock = C.to_come clock.now;
           sink = record { written = O.written out.new; faults = O.faults out.new };
-        }) }
+        })
+        (N.told notice.old) (N.told notice.new) }
     ensures later { R.faults door ≤ R.faults result.door }
     ensures unprinted { result.status ≢ 4 → result.status ≢ 5 → O.written out.new ≡ O.written out.old }
 {
@@ -139,6 +152,7 @@ where
     };
     match Hub::<P>::open(alloc, vols, listening.workers) {
         Ok((hub, passes)) => {
+            notice.opened(found_in(&hub));
             let accepts = listening.accepts.most();
             let service = serve_all(rt, alloc, &hub, passes, door, accepts, clock, gate, &limits);
             let Service { door, passes, came } = service;

@@ -23,7 +23,7 @@ use crate::refusing::refuse;
 use crate::serving::{Outcome, serve_first, status_of};
 use crate::words::{Command, NamedStream, WordsFault, read_words};
 use js_desk::{Closed, SoloDesk};
-use link_edge::{Clock, Door, Gate, Sink};
+use link_edge::{Clock, Door, Gate, Notice, Sink};
 use place_engine::Place;
 use session::Ended;
 use std::alloc::Global;
@@ -119,9 +119,9 @@ fn pipe<P: Place, R: Door, C: Clock, O: Sink>(
 
 /// All that the program does for its command line, over places of the kind `P`, one on each volume. `pipe` opens a desk over them, makes the stream that
 /// the command line names, if it names one and no stream of its name is there, with every default, accepts one link and serves it, and closes the desk as
-/// this leaves it. `serve` opens a hub over them and serves the links that come by as many workers as are asked for, each in a thread of its own, until the
-/// door is closed or fails or as many links were accepted as are to be, and closes the hub. What waits is brought to the volumes then. Any other command
-/// line is refused. The volumes come back in their order.
+/// this leaves it. `serve` opens a hub over them, tells the notice what stood there, and serves the links that come by as many workers as are asked for,
+/// each in a thread of its own, until the door is closed or fails or as many links were accepted as are to be, and closes the hub. What waits is brought to
+/// the volumes then. Any other command line is refused. The volumes come back in their order.
 ///
 /// The status is 0 (input ended, or no more links come), 2 (command line), 3 (connection of `pipe`), 4 (a volume failed), 5 (what the volumes hold), 6 (limits
 /// of the session of `pipe`, or no link), 7 (memory), 8 (door), 10 (session of `pipe` refused, or numbers used up) or 11 (stream refused). The causes are
@@ -131,6 +131,7 @@ pub fn run<
     R: Door + Send,
     C: Clock + Send + Drop,
     G: Gate + Sync,
+    N: Notice,
     O: Sink,
     W: Threads + Wait + Sync,
 >(
@@ -141,6 +142,7 @@ pub fn run<
     vols: Vec<P::Vol>,
     clock: &mut C,
     gate: &G,
+    notice: &mut N,
     out: &mut O,
 ) -> Finish<R, P::Vol>
 where
@@ -148,16 +150,17 @@ where
     P::Vol: Sync,
     requires volumes { vec_len vols ≤ 32 }
 
-    // Status 2 comes exactly if the command line is none of the forms. It is refused in a line, the door and the volumes are not touched and the clock not
-    // read.
+    // Status 2 comes exactly if the command line is none of the forms. It is refused in a line, the door and the volumes are not touched, the clock is not
+    // read, and the notice is told nothing.
     ensures words { (result.status ≡ 2) ↔ (command_of (texts words.now) ≡ None) }
     ensures refused { command_of (texts words.now) ≡ None → (result.door ≡ door) × (result.vols.items ≡ vols.items) × (C.to_come clock.new ≡ C.to_come clock.old)
+        × (N.told notice.new ≡ N.told notice.old)
         × Prints words_line (record { written = O.written out.old; faults = O.faults out.old }) (record { written = O.written out.new; faults = O.faults out.new }) }
 
     // Else the status tells why the run ended: why the volumes were not opened; or, for `pipe`, whether the stream was made, how the link ended that was
     // served over a desk with the stream, or why none came, and which place could not be brought to its volume as the desk was closed in the world that was
-    // reached by then; or, for `serve`, what all workers did with their seats and what became of the links, why no more came, and which place could not be
-    // brought to its volume. The volumes are those before and after.
+    // reached by then; or, for `serve`, what stood in the places as they were opened, which the notice was told, what all workers did with their seats and what
+    // became of the links, why no more came, and which place could not be brought to its volume. The volumes are those before and after.
     ensures ends { IfSome (command_of (texts words.now)) (λ command. CommandEnds
         (OpensDesk P.seen P.vol P.holds P.reads P.left P.clock P.faults P.base P.opens P.refuses P.keeps_vol)
         (FailsToOpen P.seen P.vol P.holds P.reads P.left P.clock P.faults P.base P.opens P.refuses P.keeps_vol)
@@ -176,7 +179,8 @@ where
           door = record { answered = R.answered result.door; gave = R.gave result.door; back = R.back result.door; starved = R.starved result.door; faults = R.faults result.door };
           clock = C.to_come clock.new;
           sink = record { written = O.written out.new; faults = O.faults out.new };
-        })) }
+        })
+        (N.told notice.old) (N.told notice.new)) }
     ensures later { R.faults door ≤ R.faults result.door }
 
     // With every other status than these nothing is printed.
@@ -189,7 +193,9 @@ where
             Finish { status, door, vols }
         }
         Ok(Command::Serve(listening)) => {
-            serve_hub::<P, R, C, G, O, W>(rt, alloc, &listening, door, vols, clock, gate, out)
+            serve_hub::<P, R, C, G, N, O, W>(
+                rt, alloc, &listening, door, vols, clock, gate, notice, out,
+            )
         }
         Err(WordsFault::Words) => {
             print_words(out);

@@ -7,9 +7,9 @@ mod telling;
 ghost use Rattle.std.specs.Prelude.{◌≤◌, ◌≡◌, IfOk, vec_len};
 
 use crate::help::Request;
-use crate::telling::{tell_address, tell_end};
+use crate::telling::{ListenLine, tell_end};
 use folder_lock::{FolderLock, LockFault};
-use link_edge::{Door, OpenGate, PipeDoor, SystemClock, WriterSink};
+use link_edge::{Door, Notice, OpenGate, PipeDoor, SystemClock, Unnoticed, WriterSink};
 use place_engine::{MemoryPlace, Place};
 use server::{Command, Finish, FolderPath, WordsFault, read_words, run};
 use std::alloc::AllocError;
@@ -83,12 +83,13 @@ fn folder_volumes(rt: &HostRuntime, dir: &str) -> Result<Vec<DirVol>, AllocError
 }
 
 /// Serves the links of a door over places of one kind, and returns the status.
-fn serve_door<P: Place + Send + Sync, R: Door + Send + Drop, T: Threads + Wait + Sync>(
+fn serve_door<P: Place + Send + Sync, R: Door + Send + Drop, N: Notice, T: Threads + Wait + Sync>(
     rt: &HostRuntime,
     threads: &T,
     words: &[String],
     door: R,
     vols: Vec<P::Vol>,
+    notice: &mut N,
 ) -> u8
 where
     R::Link: Rings + Send,
@@ -97,7 +98,7 @@ where
 {
     let mut clock = SystemClock::new(rt);
     let mut out = WriterSink::new(rt.stderr());
-    let finish: Finish<R, P::Vol> = run::<P, _, _, _, _, _>(
+    let finish: Finish<R, P::Vol> = run::<P, _, _, _, _, _, _>(
         threads,
         rt.alloc(),
         words,
@@ -105,6 +106,7 @@ where
         vols,
         &mut clock,
         &OpenGate,
+        notice,
         &mut out,
     );
     finish.status
@@ -122,7 +124,7 @@ where
     requires few { vec_len vols ≤ 32 }
 {
     let door = PipeDoor::new(rt.stdin(), rt.stdout());
-    serve_door::<P, _, T>(rt, threads, words, door, vols)
+    serve_door::<P, _, _, T>(rt, threads, words, door, vols, &mut Unnoticed)
 }
 
 /// Serves the links that come to a door at this address over the folder, which nobody else writes meanwhile, and returns the status.
@@ -142,10 +144,10 @@ where
         Err(fault) => return Ok(refuse_folder(rt, fault)),
     };
     let vols = folder_volumes(rt, dir)?;
-    if let Some(address) = address {
-        tell_address(rt, address, dir);
-    }
-    let status = serve_door::<VolumePlace<DirVol>, R, T>(rt, threads, words, door, vols);
+    let mut line = ListenLine { rt, address, dir };
+    let status = serve_door::<VolumePlace<DirVol>, R, _, T>(
+        rt, threads, words, door, vols, &mut line,
+    );
     tell_end(rt, status);
     Ok(status)
 }

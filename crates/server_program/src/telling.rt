@@ -1,22 +1,43 @@
-//! What a person sees of a server that listens: where, and why it ended.
+//! What a person sees of a server that listens, on standard error: where, what it found, and why it ended. What can't be printed is not seen.
 
-use std::fmt::Write as FmtWrite;
+ghost use Rattle.std.specs.Prelude.{None};
+
+use link_edge::{Found, Notice};
 use std::io::Write;
 use std::net::SocketAddr;
 
-/// Prints the text as a line to standard error. If memory runs out or the output fails, it is not seen.
-fn tell(rt: &HostRuntime, text: &str) {
-    let mut errors = rt.stderr();
-    let _ = errors.write_all(text.as_bytes());
+/// The line that tells where a server listens and what it found there. It is printed once the streams are opened, unless the address could not be had.
+pub struct ListenLine<'a> {
+    pub rt: &'a HostRuntime,
+    /// Where it listens, if it does.
+    pub address: Option<SocketAddr>,
+    /// The folder of the streams.
+    pub dir: &'a str,
 }
 
-/// Prints at which address it listens, over which folder.
-pub fn tell_address(rt: &HostRuntime, address: SocketAddr, dir: &str) {
-    if let Ok(line) = format!(in rt.alloc();
-        "jsblock listens at {address}, with its streams in {dir}\n"
-    ) {
-        tell(rt, line.as_str());
+impl Notice for ListenLine<'_> {
+    ghost told = { λ _. None };
+
+    fn opened(&mut self, found: Found) {
+        if let Some(address) = self.address {
+            tell_found(self.rt, address, self.dir, found);
+        }
     }
+}
+
+/// Prints at which address it listens, and what it found in which folder.
+fn tell_found(rt: &HostRuntime, address: SocketAddr, dir: &str, found: Found) {
+    let Found { streams, messages } = found;
+    let _ = eprintln!(rt;
+        "jsblock listens at {address}, with {streams} stream{} and {messages} message{} in {dir}",
+        plural(streams),
+        plural(messages)
+    );
+}
+
+/// By what the word for so many things ends.
+fn plural(count: u64) -> &'static str {
+    if count == 1 { "" } else { "s" }
 }
 
 /// Why a server that listened ended, by its status.
@@ -34,5 +55,6 @@ fn reason_of(status: u8) -> &'static str {
 
 /// Prints why it ended.
 pub fn tell_end(rt: &HostRuntime, status: u8) {
-    tell(rt, reason_of(status));
+    let mut errors = rt.stderr();
+    let _ = errors.write_all(reason_of(status).as_bytes());
 }

@@ -1,7 +1,7 @@
 //! The greatest input of a run.
 
 use js_base::{List, Moment};
-use link_edge::{MemClock, MemSink, OpenGate, PipeDoor};
+use link_edge::{MemClock, MemSink, OpenGate, PipeDoor, Unnoticed};
 use place_engine::MemoryPlace;
 use server::{Finish, run};
 use std::io::{self, Read, Write};
@@ -40,8 +40,16 @@ fn greatest_input_ends_the_run(rt: HostRuntime) -> Result<(), Fail> {
     let door = PipeDoor::new(Endless { text, at: 0 }, io::sink());
     let mut clock = MemClock::new(List::new(alloc), Moment::of(0).ok_or("no moment")?);
     let mut sink = MemSink::new(alloc);
-    let finish: Finish<_, ()> = run::<MemoryPlace<()>, _, _, _, _, _>(
-        &rt, alloc, &words, door, vols, &mut clock, &OpenGate, &mut sink,
+    let finish: Finish<_, ()> = run::<MemoryPlace<()>, _, _, _, _, _, _>(
+        &rt,
+        alloc,
+        &words,
+        door,
+        vols,
+        &mut clock,
+        &OpenGate,
+        &mut Unnoticed,
+        &mut sink,
     );
     assert_eq!(rt; finish.status, 6);
     Ok(())

@@ -1,7 +1,7 @@
 //! Runs of the server over volumes in memory, for a client in memory.
 
 use js_base::{Blob, List, Moment, NoMemory};
-use link_edge::{Knock, MemClock, MemDoor, MemSink, OpenGate, Said};
+use link_edge::{Knock, MemClock, MemDoor, MemSink, OpenGate, Said, Unnoticed};
 use server::{Finish, run};
 use std::alloc::Global;
 use std::sync::Wait;
@@ -82,8 +82,16 @@ pub(crate) fn run_once(
     let words = words_of(alloc, words)?;
     let mut clock = clock;
     let mut sink = MemSink::new(alloc);
-    let finish = run::<VolumePlace<MemVol>, _, _, _, _, _>(
-        rt, alloc, &words, door, vols, &mut clock, &OpenGate, &mut sink,
+    let finish = run::<VolumePlace<MemVol>, _, _, _, _, _, _>(
+        rt,
+        alloc,
+        &words,
+        door,
+        vols,
+        &mut clock,
+        &OpenGate,
+        &mut Unnoticed,
+        &mut sink,
     );
     Ok(outcome_of(alloc, finish, &sink)?)
 }

@@ -1,7 +1,7 @@
 //! Memory that runs out at a door or a link.
 
 use js_base::{List, Moment};
-use link_edge::{Accept, Door, Give, Link, MemClock, MemSink, OpenGate, Take};
+use link_edge::{Accept, Door, Give, Link, MemClock, MemSink, OpenGate, Take, Unnoticed};
 use place_engine::MemoryPlace;
 use server::{Finish, run};
 use std::alloc::Global;
@@ -90,7 +90,7 @@ fn status(rt: &(impl Threads + Wait + Sync), alloc: Global, at: Call) -> Result<
     let vols: Vec<()> = Vec::new(alloc);
     let mut clock = MemClock::new(List::new(alloc), Moment::of(0).ok_or("no moment")?);
     let mut sink = MemSink::new(alloc);
-    let finish: Finish<_, ()> = run::<MemoryPlace<()>, _, _, _, _, _>(
+    let finish: Finish<_, ()> = run::<MemoryPlace<()>, _, _, _, _, _, _>(
         rt,
         alloc,
         &words,
@@ -98,6 +98,7 @@ fn status(rt: &(impl Threads + Wait + Sync), alloc: Global, at: Call) -> Result<
         vols,
         &mut clock,
         &OpenGate,
+        &mut Unnoticed,
         &mut sink,
     );
     Ok(finish.status)

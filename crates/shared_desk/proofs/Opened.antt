@@ -1,9 +1,10 @@
 -- What a hub is opened to, or why it was not opened.
 use Rattle.std.proofs.Common.{◌≡◌, ◌≤◌, ◌<◌, ◌++◌, ℕ, List, [], ◌∷◌, length, map, Option, refl, sym, ap, subst, ◌∙◌, inl, inr, arith, Result, Ok, Err, IfErr, IsErrAnd}
-use Rattle.std.specs.Prelude.{reverse}
+use Rattle.std.specs.Prelude.{reverse, sum_by}
 use Rattle.std.specs.List.{AllByRecursion, AllZip}
 use Rattle.std.specs.Global.{Vec}
 use Rattle.std.proofs.lemmas.List.{append-nil, length-map}
+use Rattle.std.proofs.lemmas.List.Sums.{sum_by-cons}
 use Rattle.std.proofs.lemmas.Slice.Zip.{AllZip-long}
 use Rattle.atomic_table.specs.Seated.{TableId}
 use Rattle.js_model.specs.declared.stream.State.{State}
@@ -25,7 +26,9 @@ use Rattle.js_desk.specs.declared.cataloging.Uncataloged.TheVariants as stops
 use Rattle.js_desk.specs.declared.faults.HubFault.{HubFault}
 use Rattle.js_desk.specs.declared.faults.HubFault.TheVariants as faults_of
 use Rattle.shared_desk.specs.Faults.{fault_of}
-use Rattle.shared_desk.specs.Hubs.{HubView, IsHub, IsRoomy}
+use Rattle.shared_desk.specs.declared.finding.Tally.{Tally}
+use Rattle.shared_desk.specs.Finding.{messages_at, messages_found, messages_of, streams_at, streams_found, streams_of}
+use Rattle.shared_desk.specs.Hubs.{HubView, IsEquipped, IsHub}
 use Rattle.shared_desk.specs.Laying.{IsLaid}
 use Rattle.shared_desk.specs.Opening.{ComesBack, FailsToOpenHub, IsLocked, OpensHub, catalog_by}
 
@@ -50,11 +53,19 @@ module _ {P : Type 0} (seen : P → Seen) where
         ports = each_sends hub.router.lock workers row hub.places l.places;
       }
 
+-- what is counted of each two alike comes to the same
+same_sum : {X Y : Type 0} (R : X → Y → Type 0) (f : X → ℕ) (g : Y → ℕ) → ((x : X) (y : Y) → R x y → f x ≡ g y) → (xs : List X) (ys : List Y) → AllZip R xs ys → sum_by f xs ≡ sum_by g ys
+same_sum R f g each [] [] z = refl
+same_sum R f g each [] (y ∷ ys) z = absurd z
+same_sum R f g each (x ∷ xs) [] z = absurd z
+same_sum R f g each (x ∷ xs) (y ∷ ys) z = omega (arith, sum_by-cons f x xs, sum_by-cons g y ys, each x y z.0, same_sum R f g each xs ys z.1)
+
 module _ {P V : Type 0} (seen : P → Seen) where
-  -- it is a hub, and it has room for its places and their volumes
-  pub roomy : (kept : Catalog) (workers : ℕ) (row : List P) (hub : HubView) (passes : List SharedScene) (rest : List P) (row_room : ℕ) (vols : List V) (vols_room : ℕ) → kept ≡ catalog_by seen row → length row ≤ 32 → 0 < workers
-      → IsLaid seen kept workers row hub passes → rest ≡ [] → length row ≤ row_room → vols ≡ [] → length row ≤ vols_room → IsRoomy hub rest row_room vols vols_room
-  roomy kept workers row hub passes rest row_room vols vols_room is few some l none fits no_vols fit =
+  -- it is a hub, it has room for its places and their volumes, and the numbers are those of its places
+  pub equipped : (kept : Catalog) (workers : ℕ) (row : List P) (hub : HubView) (passes : List SharedScene) (rest : List P) (row_room : ℕ) (vols : List V) (vols_room : ℕ) (opened : Tally) → kept ≡ catalog_by seen row → length row ≤ 32 → 0 < workers
+      → IsLaid seen kept workers row hub passes → rest ≡ [] → length row ≤ row_room → vols ≡ [] → length row ≤ vols_room → opened.streams ≡ streams_of seen row → opened.messages ≡ messages_of seen row
+      → IsEquipped hub rest row_room vols vols_room opened
+  equipped kept workers row hub passes rest row_room vols vols_room opened is few some l none fits no_vols fit streams messages =
       let long : length hub.places ≡ length row = AllZip-long (IsLocked seen hub.router.lock workers) row hub.places l.places in
       record {
         is_hub = laid_hub seen kept workers row hub passes is few some l;
@@ -62,6 +73,8 @@ module _ {P V : Type 0} (seen : P → Seen) where
         row_fits = omega (arith, long, fits);
         no_vols = no_vols;
         vols_fit = omega (arith, long, fit);
+        streams = streams ∙ same_sum (IsLocked seen hub.router.lock workers) _ (λ of. streams_at of.opening) (λ place of z. ap streams_at (sym z.opening)) row hub.places l.places;
+        messages = messages ∙ same_sum (IsLocked seen hub.router.lock workers) _ (λ of. messages_at of.opening) (λ place of z. ap messages_at (sym z.opening)) row hub.places l.places;
       }
 
   module _ (vol : P → V) (holds : Image → State → Type 0) (reads : V → Image → Type 0) (left : V → ℕ → Image → Type 0) (clock faults : V → ℕ)

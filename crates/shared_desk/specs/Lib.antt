@@ -1,3 +1,4 @@
+pub mod Finding
 pub mod Hubs
 pub mod Seats
 pub mod Passes

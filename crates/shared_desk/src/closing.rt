@@ -123,6 +123,7 @@ impl<P: Place> Hub<P> {
             router,
             catalog,
             places,
+            opened: _,
             row,
             vols,
         } = self;

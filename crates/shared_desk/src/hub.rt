@@ -1,8 +1,10 @@
 //! What many callers share.
 
 ghost use Rattle.std.specs.Prelude.{◌≡◌, ◌<◌, Some, length, slice_get};
+ghost use Rattle.shared_desk.specs.Finding.{messages_found, streams_found};
 ghost use Rattle.shared_desk.specs.Hubs.{IsHub};
 
+use crate::finding::Tally;
 use catalog::Catalog;
 use hub_catalog::CatalogKind;
 use hub_place::{HubPlace, PlaceKind};
@@ -22,6 +24,8 @@ pub struct Hub<P: Place> {
     pub(crate) router: Turns<Router, RouterKind>,
     pub(crate) catalog: Turns<Catalog, CatalogKind>,
     pub(crate) places: Vec<Turns<HubPlace<P>, PlaceKind<P>>>,
+    /// What stood in the places as they were opened.
+    pub(crate) opened: Tally,
     /// Empty, with room for the places at the end.
     pub(crate) row: Vec<P>,
     /// Empty, with room for the volumes at the end.
@@ -30,13 +34,13 @@ pub struct Hub<P: Place> {
 
 impl<P: Place> Model for Hub<P> {
     ghost use Rattle.std.specs.Prelude.{vec_capacity};
-    ghost use Rattle.shared_desk.specs.Hubs.{HubView, IsRoomy};
+    ghost use Rattle.shared_desk.specs.Hubs.{HubView, IsEquipped};
 
     ghost Value = { HubView };
 
     ghost view = { λ hub. record { router = hub.router; catalog = hub.catalog; places = hub.places.items } };
 
-    ghost invariant = { λ hub. IsRoomy (record { router = hub.router; catalog = hub.catalog; places = hub.places.items }) hub.row.items (vec_capacity hub.row) hub.vols.items (vec_capacity hub.vols) };
+    ghost invariant = { λ hub. IsEquipped (record { router = hub.router; catalog = hub.catalog; places = hub.places.items }) hub.row.items (vec_capacity hub.row) hub.vols.items (vec_capacity hub.vols) hub.opened };
 }
 
 impl<P: Place> Hub<P> {
@@ -45,6 +49,20 @@ impl<P: Place> Hub<P> {
         ensures hub { IsHub self.now }
     {
         let _alloc = self.alloc;
+    }
+
+    /// How many streams there were as the places were opened.
+    pub fn streams_found(&self) -> u64
+        ensures value { result ≡ streams_found self.now.places }
+    {
+        self.opened.streams
+    }
+
+    /// How many messages these streams held then.
+    pub fn messages_found(&self) -> u64
+        ensures value { result ≡ messages_found self.now.places }
+    {
+        self.opened.messages
     }
 
     /// Takes out which sessions were handed messages by the calls of all desks since this was asked last: the session n by the bit n % 64, so that

@@ -4,6 +4,7 @@
 mod closing;
 mod dealt;
 mod desk;
+mod finding;
 mod ground;
 mod hub;
 mod laws;

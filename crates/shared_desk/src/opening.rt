@@ -13,6 +13,7 @@ ghost use Rattle.shared_desk.specs.Opening.{ComesBack, FailsToOpenHub, OpensHub,
 ghost use Rattle.shared_desk.specs.Seats.{AreThere};
 
 use crate::dealt::Dealt;
+use crate::finding::Tally;
 use crate::hub::Hub;
 use crate::pass::Pass;
 use catalog::Catalog;
@@ -293,6 +294,7 @@ impl<P: Place> Hub<P> {
                 return Err(fault_of(stop, vols));
             }
         };
+        let opened = Tally::of(places.as_slice());
         match lay(alloc, catalog, &mut places, workers) {
             Some(laid) => {
                 let Laid {
@@ -308,6 +310,7 @@ impl<P: Place> Hub<P> {
                     router,
                     catalog,
                     places: locks,
+                    opened,
                     row: places,
                     vols,
                 };

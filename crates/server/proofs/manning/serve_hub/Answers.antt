@@ -5,6 +5,7 @@ use Rattle.workers.specs.Doors.{DoorTold}
 use Rattle.workers.specs.declared.serving.Came.{Came}
 use Rattle.session.specs.declared.ending.Limits.{Limits}
 use Rattle.workers.specs.Serving.{Serves}
+use Rattle.link_edge.specs.Notices.{noticed}
 use Rattle.place_engine.specs.declared.faults.PlaceFault.{PlaceFault}
 use Rattle.server.specs.Closing.{closing_line, closing_status}
 use Rattle.server.specs.Manning.{Manned, Shut, limit_of, outcome_of}
@@ -50,6 +51,7 @@ returns-in-Ok-open-clause-ends g c = Manned (record {
   came = c.serve_all-service.result.came;
   closed = c.close-vols.result;
   opens = c.in-Ok-open.ensures.opened;
+  told = c.opened.ensures.told ∙ ap (noticed _) c.found_in.ensures;
   serves = served_so _ _ _ _ _ _ _ (_, _) c.serve_all-service.result.came c.in-Ok.ensures.limits c.most-accepts.ensures c.serve_all-service.ensures.serves;
   closes = c.close-vols.ensures.closes;
   vols = refl;
@@ -67,6 +69,7 @@ returns-clause-ends g c = Shut (record {
   printed = c.refuse-status.ensures.printed;
   unread = refl;
   door = refl;
+  untold = refl;
 })
 
 pub returns-clause-unprinted : goal.returns-clause-unprinted

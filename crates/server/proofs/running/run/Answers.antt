@@ -16,15 +16,15 @@ returns-in-Ok-Pipe-clause-words g c =
 
 pub returns-in-Ok-Pipe-clause-ends : goal.returns-in-Ok-Pipe-clause-ends
 returns-in-Ok-Pipe-clause-ends g c =
-    ends_kept _ _ _ _ _ _ _ _ _ (command_of (texts c.args.words.now)) _ (c.in-Ok-Pipe.ensures.command ∙ ap Some c.in-Ok-Pipe.field-0-is) _ _ _ c.pipe-status.ensures.ends
+    ends_kept _ _ _ _ _ _ _ _ _ (command_of (texts c.args.words.now)) _ (c.in-Ok-Pipe.ensures.command ∙ ap Some c.in-Ok-Pipe.field-0-is) _ _ _ _ _ (c.pipe-status.ensures.ends, refl)
 
 pub returns-in-Ok-Serve-clause-words : goal.returns-in-Ok-Serve-clause-words
 returns-in-Ok-Serve-clause-words g c =
-    serve_words _ _ _ (command_of (texts c.args.words.now)) _ _ _ _ _ _ _ c.in-Ok-Serve.ensures.command c.serve_hub.ensures.ends
+    serve_words _ _ _ (command_of (texts c.args.words.now)) _ _ _ _ _ _ _ _ _ c.in-Ok-Serve.ensures.command c.serve_hub.ensures.ends
 
 pub returns-in-Ok-Serve-clause-ends : goal.returns-in-Ok-Serve-clause-ends
 returns-in-Ok-Serve-clause-ends g c =
-    ends_kept _ _ _ _ _ _ _ _ _ (command_of (texts c.args.words.now)) _ (c.in-Ok-Serve.ensures.command ∙ ap Some c.in-Ok-Serve.field-0-is) _ _ _ c.serve_hub.ensures.ends
+    ends_kept _ _ _ _ _ _ _ _ _ (command_of (texts c.args.words.now)) _ (c.in-Ok-Serve.ensures.command ∙ ap Some c.in-Ok-Serve.field-0-is) _ _ _ _ _ c.serve_hub.ensures.ends
 
 pub returns-in-Err-NoMemory-clause-ends : goal.returns-in-Err-NoMemory-clause-ends
-returns-in-Err-NoMemory-clause-ends g c = ends_starved _ _ _ _ _ _ _ _ (command_of (texts c.args.words.now)) _
+returns-in-Err-NoMemory-clause-ends g c = ends_starved _ _ _ _ _ _ _ _ (command_of (texts c.args.words.now)) _ _

@@ -4,7 +4,7 @@ use Rattle.js_api.specs.Worlds.{kept_in}
 use Rattle.js_desk.specs.Grounds.{places_by}
 use Rattle.js_desk.specs.Opening.{OpensOn}
 use Rattle.shared_desk.proofs.NewPlaces.{was_opened}
-use Rattle.shared_desk.proofs.Opened.{opens_hub, roomy, uncataloged, unlocked, unopened}
+use Rattle.shared_desk.proofs.Opened.{equipped, opens_hub, uncataloged, unlocked, unopened}
 use Rattle.shared_desk.proofs.hub.Hub.open.Goals as goal
 
 pub catalog_of-requires : goal.catalog_of-requires
@@ -55,5 +55,6 @@ pub invariant_of-hub : goal.invariant_of-hub
 invariant_of-hub g c =
     let P = g.P.Place in
     let as_many : length c.in_ok-places.places.items ≡ length c.args.vols.items = AllZip-long (OpensOn P.seen P.vol P.holds P.reads P.left P.clock P.faults P.base P.opens P.refuses P.keeps_vol) c.args.vols.items c.in_ok-places.places.items c.in_ok-places.ensures.opened in
-    roomy P.seen c.in-Ok.catalog c.args.workers c.in_ok-places.places.items _ _ _ _ _ _ (rw c.as_slice.ensures.value at c.in-Ok.ensures.opened) (omega (arith, as_many, c.requires.few)) c.requires.workers.0 c.in-Some.ensures.laid
-    c.in-Some.ensures.emptied (omega (arith, c.in_ok-places.places.ok.0, c.in_ok-places.places.ok.1, c.lay.ensures.room)) c.in_ok-places.ensures.emptied (omega (arith, c.in_ok-places.ensures.room))
+    equipped P.seen c.in-Ok.catalog c.args.workers c.in_ok-places.places.items _ _ _ _ _ _ _ (rw c.as_slice.ensures.value at c.in-Ok.ensures.opened) (omega (arith, as_many, c.requires.few)) c.requires.workers.0 c.in-Some.ensures.laid
+    c.in-Some.ensures.emptied (omega (arith, c.in_ok-places.places.ok.0, c.in_ok-places.places.ok.1, c.lay.ensures.room)) c.in_ok-places.ensures.emptied (omega (arith, c.in_ok-places.ensures.room)) (rw c.as_slice-opened.ensures.value at c.of-opened.ensures.streams)
+    (rw c.as_slice-opened.ensures.value at c.of-opened.ensures.messages)
