@@ -1,4 +1,4 @@
-use Rattle.std.proofs.Common.{◌≡◌, ◌≤◌, ◌*◌, take}
+use Rattle.std.proofs.Common.{◌≡◌, ◌≤◌, take}
 use Rattle.shared_desk.specs.Finding.{streams_of}
 use Rattle.shared_desk.proofs.finding.count_streams.Given as goal
 

@@ -18,6 +18,12 @@ returns-in_err-places-clause-err g c =
     let P = g.P.Place in
     unopened P.seen P.vol P.holds P.reads P.left P.clock P.faults P.base P.opens P.refuses P.keeps_vol c.args.vols.items c.in_err-places.field-0.0 c.from_residual.result c.from_residual.ensures.1 c.in_err-places.ensures.err
 
+pub of-opened-requires : goal.of-opened-requires
+of-opened-requires g c =
+    let P = g.P.Place in
+    let as_many : length c.in_ok-places.places.items ≡ length c.args.vols.items = AllZip-long (OpensOn P.seen P.vol P.holds P.reads P.left P.clock P.faults P.base P.opens P.refuses P.keeps_vol) c.args.vols.items c.in_ok-places.places.items c.in_ok-places.ensures.opened in
+    record { few = omega (arith, as_many, ap length c.as_slice-2.ensures.value, c.requires.few) }
+
 pub returns-in-Err-clause-err : goal.returns-in-Err-clause-err
 returns-in-Err-clause-err g c =
     let P = g.P.Place in
@@ -56,5 +62,5 @@ invariant_of-hub g c =
     let P = g.P.Place in
     let as_many : length c.in_ok-places.places.items ≡ length c.args.vols.items = AllZip-long (OpensOn P.seen P.vol P.holds P.reads P.left P.clock P.faults P.base P.opens P.refuses P.keeps_vol) c.args.vols.items c.in_ok-places.places.items c.in_ok-places.ensures.opened in
     equipped P.seen c.in-Ok.catalog c.args.workers c.in_ok-places.places.items _ _ _ _ _ _ _ (rw c.as_slice.ensures.value at c.in-Ok.ensures.opened) (omega (arith, as_many, c.requires.few)) c.requires.workers.0 c.in-Some.ensures.laid
-    c.in-Some.ensures.emptied (omega (arith, c.in_ok-places.places.ok.0, c.in_ok-places.places.ok.1, c.lay.ensures.room)) c.in_ok-places.ensures.emptied (omega (arith, c.in_ok-places.ensures.room)) (rw c.as_slice-opened.ensures.value at c.of-opened.ensures.streams)
-    (rw c.as_slice-opened.ensures.value at c.of-opened.ensures.messages)
+    c.in-Some.ensures.emptied (omega (arith, c.in_ok-places.places.ok.0, c.in_ok-places.places.ok.1, c.lay.ensures.room)) c.in_ok-places.ensures.emptied (omega (arith, c.in_ok-places.ensures.room)) (rw c.as_slice-2.ensures.value at c.of-opened.ensures.streams)
+    (rw c.as_slice-2.ensures.value at c.of-opened.ensures.messages)
