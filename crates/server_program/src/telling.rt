@@ -7,6 +7,7 @@ use std::io::Write;
 use std::net::SocketAddr;
 
 /// The line that tells where a server listens and what it found there. It is printed once the streams are opened, unless the address could not be had.
+#[derive(Drop)]
 pub struct ListenLine<'a> {
     pub rt: &'a HostRuntime,
     /// Where it listens, if it does.
