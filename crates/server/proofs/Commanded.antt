@@ -18,7 +18,7 @@ use Rattle.server.specs.declared.words.NamedStream.{NamedStream}
 use Rattle.server.specs.declared.words.Command.TheVariants as commands
 use Rattle.server.specs.Commands.{CommandEnds}
 use Rattle.server.specs.Ending.{PipeEnds, Starved}
-use Rattle.server.specs.Manning.{ServeEnds, Unmanned, Shut, Manned, noted_outcome, outcome_of, stopped_outcome}
+use Rattle.server.specs.HubServing.{ServeEnds, HubStarved, HubUnopened, HubServed, noted_outcome, outcome_of, stopped_outcome}
 use Rattle.server.specs.Outside.{Outside}
 use Rattle.server.proofs.Ended.{closing_other, pipe_worded, refused_other}
 
@@ -39,9 +39,9 @@ outcome_other (came.Served stop worn starved) e = stopped_other stop worn starve
 -- a run of `serve` ended so, and its command line was one
 module _ {V : Type 0} (OpensHub : List V → ℕ → HubView → List SharedScene → Type 0) (RefusesHub : List V → HubFault V → Type 0) (ClosesHub : HubView → List SharedScene → Closed V → Type 0) where
   serve_worded : (listening : Listening) (status : ℕ) (v0 v1 : List V) (old new : Outside) (t0 t1 : Option NoticeTold) → ServeEnds OpensHub RefusesHub ClosesHub listening status v0 v1 old new t0 t1 → status ≡ 2 → ⊥
-  serve_worded listening status v0 v1 old new t0 t1 (Unmanned h) e = omega (arith, h.status_is, e)
-  serve_worded listening status v0 v1 old new t0 t1 (Shut h) e = refused_other h.fault (sym h.status_is ∙ e)
-  serve_worded listening status v0 v1 old new t0 t1 (Manned h) e = closing_other (outcome_of h.came).served (outcome_of h.came).status h.closed.failed (outcome_other h.came) (sym h.status_is ∙ e)
+  serve_worded listening status v0 v1 old new t0 t1 (HubStarved h) e = omega (arith, h.status_is, e)
+  serve_worded listening status v0 v1 old new t0 t1 (HubUnopened h) e = refused_other h.fault (sym h.status_is ∙ e)
+  serve_worded listening status v0 v1 old new t0 t1 (HubServed h) e = closing_other (outcome_of h.came).served (outcome_of h.came).status h.closed.failed (outcome_other h.came) (sym h.status_is ∙ e)
 
   -- the status is not that of another command line
   pub serve_words : (read : Option Command) (command : Command) (listening : Listening) (status : ℕ) (v0 v1 : List V) (old new : Outside) (t0 t1 : Option NoticeTold) → read ≡ Some command
@@ -66,7 +66,7 @@ module _ {V : Type 0} (Opens : List V → Solo V → Type 0) (Refuses : List V �
   -- nothing was run: out of memory
   starved_by : (vols : List V) (command : Command) (outside : Outside) (told : Option NoticeTold) → CommandEnds Opens Refuses Made Closes OpensHub RefusesHub ClosesHub command 7 vols vols outside outside told told
   starved_by vols (commands.Pipe dir stream) outside told = (Starved (record { status_is = refl; vols = refl; outside = refl }), refl)
-  starved_by vols (commands.Serve listening) outside told = Unmanned (record { status_is = refl; vols = refl; outside = refl; untold = refl })
+  starved_by vols (commands.Serve listening) outside told = HubStarved (record { status_is = refl; vols = refl; outside = refl; untold = refl })
 
   pub ends_starved : (vols : List V) (read : Option Command) (outside : Outside) (told : Option NoticeTold) → IfSome read (λ command. CommandEnds Opens Refuses Made Closes OpensHub RefusesHub ClosesHub command 7 vols vols outside outside told told)
   ends_starved vols None outside told = tt

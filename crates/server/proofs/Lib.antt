@@ -23,4 +23,4 @@ pub mod Readable
 pub mod Unfailed
 pub mod Memory
 pub mod Commanded
-pub mod Manned
+pub mod HubServed

@@ -10,7 +10,7 @@ use Rattle.shared_desk.specs.Hubs.{HubView}
 use Rattle.server.specs.declared.words.Command.{Command}
 use Rattle.server.specs.declared.words.Command.TheVariants as commands
 use Rattle.server.specs.Ending.{PipeEnds}
-use Rattle.server.specs.Manning.{ServeEnds}
+use Rattle.server.specs.HubServing.{ServeEnds}
 use Rattle.server.specs.Outside.{Outside}
 
 -- Of places of one kind: the desks of one caller over them, as `pipe` has one, and the hubs, as `serve` has one.

@@ -15,7 +15,7 @@ pub mod Keeping
 pub mod Readable
 pub mod Unfailed
 pub mod Memory
-pub mod Manning
+pub mod HubServing
 pub mod Commands
 pub mod Listening
 pub mod Addresses

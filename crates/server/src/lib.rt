@@ -2,9 +2,9 @@
 #![tactic(auto)]
 
 mod closing;
+mod hub_serving;
 pub mod laws;
 mod listening;
-mod manning;
 mod preparing;
 mod printing;
 mod refusing;

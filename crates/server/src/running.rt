@@ -16,7 +16,7 @@ ghost use Rattle.server.specs.Outside.{Prints};
 ghost use Rattle.server.specs.Words.{texts, command_of};
 
 use crate::closing::settle;
-use crate::manning::serve_hub;
+use crate::hub_serving::serve_hub;
 use crate::preparing::prepare;
 use crate::printing::{print_number, print_words};
 use crate::refusing::refuse;

@@ -17,8 +17,8 @@ use place_engine::Place;
 use session::{Ended, Limits, serve_link};
 use std::alloc::Global;
 
-/// At how many accepts in a row that were quiet a run ends.
-const QUIET: u64 = 1_000_000;
+/// At how many quiet answers in a row the wait for a link ends, and a session over TCP.
+pub(crate) const QUIET: u64 = 1_000_000;
 
 /// What came of the waiting for a link.
 #[derive(Clone, Copy, Debug, PartialEq, Eq)]
@@ -46,7 +46,7 @@ fn pipe_limits(alloc: Global) -> Result<Limits, NoMemory>
 {
     Ok(Limits {
         input: 1 << 30,
-        quiet: 1_000_000,
+        quiet: QUIET,
         host: Blob::of(alloc, b"pipe")?,
         port: 0,
     })

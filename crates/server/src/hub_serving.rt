@@ -4,13 +4,13 @@ ghost use Rattle.std.specs.Prelude.{◌≡◌, ◌≢◌, ◌≤◌, ◌<◌, If
 ghost use Rattle.session.specs.Host.{is_plain};
 ghost use Rattle.shared_desk.specs.Closing.{ClosesHub};
 ghost use Rattle.shared_desk.specs.Opening.{FailsToOpenHub, OpensHub};
-ghost use Rattle.server.specs.Manning.{ServeEnds, found_in, limit_of, noted_outcome, outcome_of, serve_limits, stopped_outcome};
+ghost use Rattle.server.specs.HubServing.{ServeEnds, found_in, most_of, noted_outcome, outcome_of, serve_limits, stopped_outcome};
 
 use crate::closing::settle;
 use crate::listening::{AcceptLimit, Listening};
 use crate::refusing::refuse;
 use crate::running::Finish;
-use crate::serving::Outcome;
+use crate::serving::{Outcome, QUIET};
 use js_base::NoMemory;
 use js_desk::Closed;
 use link_edge::{Clock, Door, Found, Gate, Notice, Sink};
@@ -25,9 +25,6 @@ use workers::{Came, Service, Stop, serve_all};
 
 /// How many bytes a session over TCP takes at most.
 const MOST_INPUT: u64 = (1 << 62) - 1;
-
-/// At how many takes in a row that were quiet such a session ends.
-const QUIET: u64 = 1_000_000;
 
 /// The limits of a session.
 fn serve_limits(alloc: Global, listening: &Listening) -> Result<Limits, NoMemory>
@@ -45,7 +42,7 @@ fn serve_limits(alloc: Global, listening: &Listening) -> Result<Limits, NoMemory
 impl AcceptLimit {
     /// The number of links that are accepted at most, if there is one.
     fn most(self) -> Option<u64>
-        ensures { result ≡ limit_of self }
+        ensures { result ≡ most_of self }
     {
         match self {
             AcceptLimit::Unlimited => None,

@@ -8,12 +8,12 @@ use Rattle.workers.specs.Serving.{Serves}
 use Rattle.link_edge.specs.Notices.{noticed}
 use Rattle.place_engine.specs.declared.faults.PlaceFault.{PlaceFault}
 use Rattle.server.specs.Closing.{closing_line, closing_status}
-use Rattle.server.specs.Manning.{Manned, Shut, limit_of, outcome_of}
+use Rattle.server.specs.HubServing.{HubServed, HubUnopened, most_of, outcome_of}
 use Rattle.server.specs.Outside.{SinkTold, PrintsLine}
 use Rattle.server.specs.declared.serving.Outcome.{Outcome}
 use Rattle.server.proofs.Ended.{closing_unprinted, refused_unprinted}
-use Rattle.server.proofs.Manned.{all_after, later_by}
-use Rattle.server.proofs.manning.serve_hub.Goals as goal
+use Rattle.server.proofs.HubServed.{all_after, later_by}
+use Rattle.server.proofs.hub_serving.serve_hub.Goals as goal
 
 -- the limits and the number of links are those of the words
 served_so : (limits said : Limits) (accepts told : Option ℕ) (hub : HubView) (olds news : List SharedScene) (doors : DoorTold × DoorTold) (c : Came) → limits ≡ said → accepts ≡ told
@@ -44,7 +44,7 @@ returns-in-Ok-open-clause-unprinted g c = λ four five.
     ap (λ (sink : SinkTold). sink.written) (closing_unprinted outcome.served outcome.status c.close-vols.result.failed _ _ closing.printed (λ e. four (closing.status ∙ e)))
 
 pub returns-in-Ok-open-clause-ends : goal.returns-in-Ok-open-clause-ends
-returns-in-Ok-open-clause-ends g c = Manned (record {
+returns-in-Ok-open-clause-ends g c = HubServed (record {
   hub = c.in-Ok-open.hub;
   passes = c.in-Ok-open.passes.items;
   after = c.serve_all-service.result.passes.items;
@@ -61,7 +61,7 @@ returns-in-Ok-open-clause-ends g c = Manned (record {
 })
 
 pub returns-clause-ends : goal.returns-clause-ends
-returns-clause-ends g c = Shut (record {
+returns-clause-ends g c = HubUnopened (record {
   fault = c.in-Err.fault;
   refused = c.in-Err.ensures.err;
   vols = c.refuse-status.ensures.vols;

@@ -28,9 +28,9 @@ use Rattle.server.specs.Refusing.{refused_line, refused_status, vols_of}
 abbrev pub serve_limits : Listening → Limits
 serve_limits listening = record { input = 2 ^ 62 - 1; quiet = 1000000; host = ip_text (socket_ip listening.listen); port = socket_port listening.listen }
 
-abbrev pub limit_of : AcceptLimit → Option ℕ
-limit_of limits.Unlimited = None
-limit_of (limits.Connections n) = Some n
+abbrev pub most_of : AcceptLimit → Option ℕ
+most_of limits.Unlimited = None
+most_of (limits.Connections n) = Some n
 
 -- ---- the outcome of all sessions together
 
@@ -63,14 +63,14 @@ links_told door = record { answered = door.answered; gave = door.gave; back = do
 -- Of places of one kind: how a hub is opened on volumes for so many workers, why none is, and what is left of it as all its passes are taken in.
 module _ {V : Type 0} (Opens : List V → ℕ → HubView → List SharedScene → Type 0) (Refuses : List V → HubFault V → Type 0) (Closes : HubView → List SharedScene → Closed V → Type 0) where
   -- memory ran out before the volumes were touched
-  pub record IsUnmanned (status : ℕ) (vols_old vols_new : List V) (old new : Outside) (told_old told_new : Option NoticeTold) : Type 0 where
+  pub record IsHubStarved (status : ℕ) (vols_old vols_new : List V) (old new : Outside) (told_old told_new : Option NoticeTold) : Type 0 where
     pub status_is : status ≡ 7
     pub vols : vols_new ≡ vols_old
     pub outside : new ≡ old
     pub untold : told_new ≡ told_old
 
   -- no hub was opened, the line that says why was printed, if there is one, and the volumes came back
-  pub record IsShut (status : ℕ) (vols_old vols_new : List V) (old new : Outside) (told_old told_new : Option NoticeTold) : Type 0 where
+  pub record IsHubUnopened (status : ℕ) (vols_old vols_new : List V) (old new : Outside) (told_old told_new : Option NoticeTold) : Type 0 where
     pub fault : HubFault V
     pub refused : Refuses vols_old fault
     pub vols : vols_new ≡ vols_of fault
@@ -82,7 +82,7 @@ module _ {V : Type 0} (Opens : List V → ℕ → HubView → List SharedScene �
 
   -- A hub was opened on the volumes, and the notice was told once what stood there. The links that came were served by as many workers as were asked for, and
   -- the hub was closed with the passes as these left them. The line for a place whose store failed in the closing was printed, and the volumes came back.
-  pub record IsManned (listening : Listening) (status : ℕ) (vols_old vols_new : List V) (old new : Outside) (told_old told_new : Option NoticeTold) : Type 0 where
+  pub record IsHubServed (listening : Listening) (status : ℕ) (vols_old vols_new : List V) (old new : Outside) (told_old told_new : Option NoticeTold) : Type 0 where
     pub hub : HubView
     pub passes : List SharedScene
     pub after : List SharedScene
@@ -90,7 +90,7 @@ module _ {V : Type 0} (Opens : List V → ℕ → HubView → List SharedScene �
     pub closed : Closed V
     pub opens : Opens vols_old listening.workers hub passes
     pub told : told_new ≡ noticed told_old (found_in hub)
-    pub serves : Serves (serve_limits listening) (limit_of listening.accepts) hub passes after (links_told old.door) (links_told new.door) came
+    pub serves : Serves (serve_limits listening) (most_of listening.accepts) hub passes after (links_told old.door) (links_told new.door) came
     pub closes : Closes hub after closed
     pub vols : vols_new ≡ closed.vols.items
     pub status_is : status ≡ closing_status (outcome_of came).served (outcome_of came).status closed.failed
@@ -99,6 +99,6 @@ module _ {V : Type 0} (Opens : List V → ℕ → HubView → List SharedScene �
 
   -- how a run of `serve` ends with this status, and the volumes, the outside and what the notice was told before and after it
   pub data ServeEnds (listening : Listening) (status : ℕ) (vols_old vols_new : List V) (old new : Outside) (told_old told_new : Option NoticeTold) : Type 0 where
-    Unmanned : IsUnmanned status vols_old vols_new old new told_old told_new → ServeEnds listening status vols_old vols_new old new told_old told_new
-    Shut : IsShut status vols_old vols_new old new told_old told_new → ServeEnds listening status vols_old vols_new old new told_old told_new
-    Manned : IsManned listening status vols_old vols_new old new told_old told_new → ServeEnds listening status vols_old vols_new old new told_old told_new
+    HubStarved : IsHubStarved status vols_old vols_new old new told_old told_new → ServeEnds listening status vols_old vols_new old new told_old told_new
+    HubUnopened : IsHubUnopened status vols_old vols_new old new told_old told_new → ServeEnds listening status vols_old vols_new old new told_old told_new
+    HubServed : IsHubServed listening status vols_old vols_new old new told_old told_new → ServeEnds listening status vols_old vols_new old new told_old told_new
