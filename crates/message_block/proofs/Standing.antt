@@ -6,7 +6,6 @@ use Rattle.std.proofs.Transfers.{starts_with_of_append, starts_with_trans}
 use Rattle.std.proofs.KnownBytes.{starts_with_rest}
 use Rattle.js_base.specs.Bytes.{Bytes}
 use Rattle.vol_disk.specs.Disk.{Disk}
-use Rattle.vol_disk.specs.Images.{IsDurable}
 use Rattle.vol_disk.specs.Does.{Rests}
 use Rattle.vol_disk.specs.Moments.{Quiet}
 use Rattle.message_block.specs.Standing.{Stands}
@@ -35,23 +34,16 @@ stands_at_rest file old new front rests stands = record {
 pub stands_quiet : (file : ℕ) (old new : Disk) (front : Bytes) → Quiet old new → Stands old file front → Stands new file front
 stands_quiet file old new front quiet stands = stands_at_rest file old new front (record { seen = quiet.seen file; leaves = quiet.leaves file }) stands
 
--- in a durable file
-pub stands_durable : (disk : Disk) (file : ℕ) (front more : Bytes) → IsDurable disk file → disk.seen file ≡ front ++ more → Stands disk file front
-stands_durable disk file front more durable is =
-    let read : StartsWith (disk.seen file) front = starts_with_of_append (disk.seen file) front more is in
-    record { read = read; left = λ image left. subst (λ (l : Bytes). StartsWith l front) (sym (durable image left)) read }
-
 -- bytes that were written behind those that stood
 pub stands_behind : (old new : Disk) (file at : ℕ) (front bytes : Bytes) → Stands old file front → length front ≡ at →
     Stands new file (take at (old.seen file) ++ bytes) → Stands new file (front ++ bytes)
 stands_behind old new file at front bytes stands is now =
     subst (λ (l : Bytes). Stands new file (l ++ bytes)) (ap (λ (n : ℕ). take n (old.seen file)) (sym is) ∙ stands.read) now
 
--- what a spot among the bytes that stand holds
-pub spot_among : (disk : Disk) (file : ℕ) (front : Bytes) (at len : ℕ) → Stands disk file front → at + len ≤ length front →
-    take len (drop at (disk.seen file)) ≡ take len (drop at front)
-spot_among disk file front at len stands within =
-    let rest = drop (length front) (disk.seen file) in
-    ap (λ (l : Bytes). take len (drop at l)) (starts_with_rest (disk.seen file) front stands.read)
+-- what a spot among the bytes at the front holds
+pub spot_among : (bytes front : Bytes) (at len : ℕ) → StartsWith bytes front → at + len ≤ length front → take len (drop at bytes) ≡ take len (drop at front)
+spot_among bytes front at len starts within =
+    let rest = drop (length front) bytes in
+    ap (λ (l : Bytes). take len (drop at l)) (starts_with_rest bytes front starts)
     ∙ ap (take len) (drop-append-le at front rest (omega (arith, within)))
     ∙ take-append-le len (drop at front) rest (omega (arith, within, length-drop at front))

@@ -13,11 +13,11 @@ use js_base::{Blob, NoMemory, Spot};
 use std::alloc::Global;
 use vol_disk::{Failed, Vol};
 
-/// Writes the bytes of one or more messages at an offset of the block, syncs it, and tells their spot. Whatever the block held behind the
-/// offset is lost.
+/// Writes the bytes of one or more messages at an offset of the block, which may be its end, syncs it, and tells their spot. The bytes end
+/// below 2^32.
 ///
-/// At `Ok` a crash leaves what the block read as in front of the offset, and then the bytes. `Failed` comes only if the volume's count of faults
-/// rose, and a crash may then leave anything behind the offset; what stood in front of it stands at each moment of the call.
+/// At `Ok` a crash leaves what the block read as in front of the offset, and the bytes behind that. `Failed` comes only if the volume's count of
+/// faults rose, and the block may then hold anything from the offset on. What stood in front of it stands at each moment of the call.
 pub fn write<V: Vol>(vol: &mut V, file: u32, at: u32, bytes: &[u8]) -> Result<Spot, Failed>
     requires within { V.told → at ≤ length ((V.disk vol.old).seen file) }
     requires short { at + length bytes.now < 2 ^ 32 }
@@ -55,8 +55,8 @@ pub fn read<V: Vol>(alloc: Global, vol: &mut V, spot: Spot) -> Result<Blob, Bloc
     }
 }
 
-/// Cuts the block to nothing, and syncs it, so that a crash leaves none of its bytes. After `Failed`, which comes only if the volume's count of
-/// faults rose, a crash may leave any part of it.
+/// Cuts the block to nothing, and syncs it, so that a crash leaves none of its bytes. `Failed` comes only if the volume's count of faults rose,
+/// and a crash may then leave any part of the block.
 pub fn drop_block<V: Vol>(vol: &mut V, file: u32) -> Result<(), Failed>
     ensures empty { V.told → OnOk result ((V.disk vol.new).seen file ≡ []) }
     ensures durable { V.told → OnOk result (IsDurable (V.disk vol.new) file) }
