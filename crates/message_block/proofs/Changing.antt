@@ -1,5 +1,5 @@
 -- How calls on a block file leave what stands in it.
-use Rattle.std.proofs.Common.{◌≡◌, ℕ, ◌+◌, ◌≤◌, [], ◌++◌, length, take, drop, refl, sym, ◌∙◌, ap, subst, arith, length-take-le, take_at, append_assoc}
+use Rattle.std.proofs.Common.{◌≡◌, ℕ, ◌+◌, ◌≤◌, [], ◌++◌, length, take, drop, refl, ◌∙◌, ap, arith, length-take-le, take_at, append_assoc}
 use Rattle.vol_disk.specs.Disk.{Disk}
 use Rattle.vol_disk.specs.Steps.{written, Torn, CutTo, Kept}
 use Rattle.vol_disk.specs.Does.{Does}
