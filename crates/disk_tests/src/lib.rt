@@ -7,6 +7,8 @@ mod append_calls;
 #[cfg(test)]
 mod blind;
 #[cfg(test)]
+mod blocks;
+#[cfg(test)]
 mod contents;
 #[cfg(test)]
 mod folder;
