@@ -114,7 +114,10 @@ fn check_drop(rt: &impl Abort, alloc: Global, at: u64, is_stopped: bool) -> Resu
     let vol = vol.into_vol();
     for pick in 0..40 {
         let mut image = vol.image(pick)?;
-        assert!(rt; dropped.is_err() || holds(alloc, &mut image, 2, b"")?, "{at}");
+        assert!(rt;
+            dropped.is_err() || holds(alloc, &mut image, 2, b"")?,
+            "{at}"
+        );
         assert!(rt; holds(alloc, &mut image, 3, b"other")?, "{at}");
     }
     Ok(())
