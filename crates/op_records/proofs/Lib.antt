@@ -5,6 +5,9 @@ pub mod FieldsExact
 pub mod TextsExact
 pub mod KindsExact
 pub mod RecordsExact
+pub mod BlocksExact
+pub mod BlocksLaws
 pub mod Loops
 pub mod Written
 pub mod RowsOfRecords
+pub mod RowsOfBlocks
