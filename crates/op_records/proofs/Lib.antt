@@ -6,6 +6,7 @@ pub mod TextsExact
 pub mod KindsExact
 pub mod RecordsExact
 pub mod BlocksExact
+pub mod BlockSizes
 pub mod BlocksLaws
 pub mod Loops
 pub mod Written

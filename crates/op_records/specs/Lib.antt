@@ -5,5 +5,6 @@ pub mod Fields
 pub mod Reading
 pub mod Blocks
 pub mod Answers
+pub mod BlockAnswers
 pub mod Laws
 pub mod BlockLaws

@@ -10,7 +10,7 @@ mod reader;
 mod reading;
 mod writing;
 
-pub use blocks::{message_len, read_message, write_message};
+pub use blocks::{message_end, message_len, read_message, write_message};
 pub use fault::RecordFault;
 pub use laws::{law_block_messages, law_records};
 pub use reading::{read_record, read_records, read_vacant};

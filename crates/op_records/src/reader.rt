@@ -199,16 +199,27 @@ impl<'a> Reader<'a> {
     }
 
     /// A subject without wildcards.
-    #[tactic(auto, unfolding(crate::specs::Fields::subject_field))]
     pub(crate) fn subject(&mut self) -> Result<Blob, RecordFault>
         requires within { IsWithin self.old }
         ensures behind { IsBehind self.old self.new }
         ensures reading { Reads result self.new (subject_field self.old.bytes.now self.old.at) }
     {
+        let subject = self.subject_bytes()?;
+        Ok(Blob::of(self.alloc, subject)?)
+    }
+
+    /// The bytes of a subject without wildcards.
+    #[tactic(auto, unfolding(crate::specs::Fields::subject_field))]
+    pub(crate) fn subject_bytes(&mut self) -> Result<&'a [u8], RecordFault>
+        requires within { IsWithin self.old }
+        ensures behind { IsBehind self.old self.new }
+        ensures value { IfOk result (λ subject. subject_field self.old.bytes.now self.old.at ≡ Ok (subject.now, self.new.at)) }
+        ensures fault { IfErr result (IsFaultOf (subject_field self.old.bytes.now self.old.at)) }
+    {
         let begin = self.at;
         let subject = self.text_bytes()?;
         match check_subject(subject) {
-            Ok(()) => Ok(Blob::of(self.alloc, subject)?),
+            Ok(()) => Ok(subject),
             Err(_) => Err(RecordFault::BadField(begin)),
         }
     }
