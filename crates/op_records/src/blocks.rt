@@ -128,8 +128,23 @@ fn find(alloc: Global, bytes: &[u8], at: usize) -> Result<(Found<'_>, usize), Re
         bytes: &bytes[..held],
         at: reader.at,
     };
-    let found = fields(&mut inner, end)?;
-    Ok((found, inner.at))
+    match fields(&mut inner, end) {
+        Ok(found) => Ok((found, inner.at)),
+        Err(fault) => Err(fault),
+    }
+}
+
+/// The message with copies of its texts.
+fn copy(alloc: Global, found: &Found<'_>) -> Result<Message, NoMemory>
+    ensures value { IfOk result (λ message. message ≡ message_of found.now) }
+{
+    Ok(Message {
+        seq: found.seq,
+        at: found.at,
+        subject: Blob::of(alloc, found.subject)?,
+        headers: Blob::of(alloc, found.headers)?,
+        payload: Blob::of(alloc, found.payload)?,
+    })
 }
 
 /// The message that begins at a place of a block's bytes, and the place behind it.
@@ -144,15 +159,10 @@ pub fn read_message(
     requires within { at ≤ length bytes.now }
     ensures reading { ReadsAt result (message_at bytes.now at) }
 {
-    let (found, end) = find(alloc, bytes, at)?;
-    let message = Message {
-        seq: found.seq,
-        at: found.at,
-        subject: Blob::of(alloc, found.subject)?,
-        headers: Blob::of(alloc, found.headers)?,
-        payload: Blob::of(alloc, found.payload)?,
-    };
-    Ok((message, end))
+    match find(alloc, bytes, at) {
+        Ok((found, end)) => Ok((copy(alloc, &found)?, end)),
+        Err(fault) => Err(fault),
+    }
 }
 
 /// The sequence of the message that begins at a place of a block's bytes, and the place behind it. No message is made, and the faults are those of
@@ -161,6 +171,8 @@ pub fn message_end(alloc: Global, bytes: &[u8], at: usize) -> Result<(u64, usize
     requires within { at ≤ length bytes.now }
     ensures reading { EndsAt result (message_at bytes.now at) }
 {
-    let (found, end) = find(alloc, bytes, at)?;
-    Ok((found.seq, end))
+    match find(alloc, bytes, at) {
+        Ok((found, end)) => Ok((found.seq, end)),
+        Err(fault) => Err(fault),
+    }
 }
