@@ -1,5 +1,5 @@
 -- Messages in a block are read exactly where they are spelled.
-use Rattle.std.proofs.Common.{◌≡◌, ℕ, ◌+◌, ◌-◌, ◌≤◌, ◌<◌, ◌^◌, Bool, true, ◌++◌, length, take, drop, Ok, IsTrue, refl, sym, ap, subst, ◌∙◌, append_assoc, append-nil, arith, length-take, length-append}
+use Rattle.std.proofs.Common.{◌≡◌, ℕ, ◌+◌, ◌-◌, ◌≤◌, ◌<◌, ◌^◌, true, ◌++◌, length, take, drop, Ok, IsTrue, refl, sym, ap, subst, ◌∙◌, append_assoc, append-nil, arith, length-take}
 use Rattle.std.specs.Int.{w32, to_be_bytes}
 use Rattle.std.proofs.lemmas.Bool.{and_parts, and_from}
 use Rattle.std.proofs.lemmas.List.{take-append-drop, drop-append-le, drop-take, drop_all}

@@ -15,7 +15,7 @@ use Rattle.op_records.proofs.Steps.{value_is}
 
 -- ---- from one place to another
 
-lie_of : (bytes : Bytes) (at : ℕ) (these : Bytes) (end : ℕ) → Spans bytes at these end → Lie bytes at these end
+pub lie_of : (bytes : Bytes) (at : ℕ) (these : Bytes) (end : ℕ) → Spans bytes at these end → Lie bytes at these end
 lie_of bytes at these end s =
     let size : end - at ≡ length these = omega (arith, s.ends) in
     record {
@@ -24,7 +24,7 @@ lie_of bytes at these end s =
       bytes_are = ap (λ (k : ℕ). take k (drop at bytes)) size ∙ span_is bytes at these end s;
     }
 
-span_lie : (bytes : Bytes) (at : ℕ) (these : Bytes) (end : ℕ) → Lie bytes at these end → Spans bytes at these end
+pub span_lie : (bytes : Bytes) (at : ℕ) (these : Bytes) (end : ℕ) → Lie bytes at these end → Spans bytes at these end
 span_lie bytes at these end l =
     let place : at + (end - at) ≡ end = omega (arith, l.order) in
     let whole = span_of bytes at (end - at) (omega (arith, l.order, l.within)) in
@@ -55,6 +55,10 @@ messages_again (m ∷ ms) bytes at end b is s =
       message_again bytes at m (at + length (spelled_message m)) b parts.0 (span_front bytes at (spelled_message m) (flat_map spelled_message ms) end two),
       messages_again ms bytes (at + length (spelled_message m)) end b parts.1 (span_back bytes at (spelled_message m) (flat_map spelled_message ms) end two),
     )
+
+pub follow_push : (bytes : Bytes) (at : ℕ) (ms : List Message) (mid : ℕ) (m : Message) (behind : ℕ) → Follow bytes at ms mid → message_at bytes mid ≡ Ok (m, behind) → Follow bytes at (ms ++ m ∷ []) behind
+follow_push bytes at [] mid m behind h read = (behind, ap (message_at bytes) h ∙ read, refl)
+follow_push bytes at (x ∷ ms) mid m behind h read = (h.0, h.1, follow_push bytes h.0 ms mid m behind h.2 read)
 
 -- ---- the laws
 
