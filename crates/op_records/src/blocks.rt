@@ -53,11 +53,7 @@ fn put_fields(into: &mut Vec<u8>, message: &Message) -> Result<(), NoMemory>
 
 /// Adds the message as a block has it at the end. An `Err` leaves what was there.
 #[tactic(auto, unfolding(crate::specs::Blocks::spelled_message))]
-pub fn write_message(
-    alloc: Global,
-    message: &Message,
-    into: &mut Vec<u8>,
-) -> Result<(), NoMemory>
+pub fn write_message(alloc: Global, message: &Message, into: &mut Vec<u8>) -> Result<(), NoMemory>
     requires message { IsTrue (is_block_message message.now) }
     ensures ok { OnOk result (into.new.items ≡ into.old.items ++ spelled_message message.now) }
     ensures err { OnErr result (into.new.items ≡ into.old.items) }
@@ -70,10 +66,7 @@ pub fn write_message(
 
 /// A message's header block, and its payload, which goes on to the end. If they are too long together, the header block is told.
 #[tactic(auto, unfolding(crate::specs::Blocks::content_field))]
-fn content<'a>(
-    reader: &mut Reader<'a>,
-    end: usize,
-) -> Result<(&'a [u8], &'a [u8]), RecordFault>
+fn content<'a>(reader: &mut Reader<'a>, end: usize) -> Result<(&'a [u8], &'a [u8]), RecordFault>
     requires within { IsWithin reader.old }
     requires end { length reader.old.bytes.now ≤ end }
     ensures behind { IsBehind reader.old reader.new }
@@ -151,11 +144,7 @@ fn copy(alloc: Global, found: &Found<'_>) -> Result<Message, NoMemory>
 ///
 /// `Cut` tells the first field that passes the end of the message, as its length says, or that of the bytes, and `BadField` the first that holds what it may
 /// not hold: a number of 2^62 or more, no subject, a header block that is none, or one that is longer than 1,048,576 bytes together with the payload.
-pub fn read_message(
-    alloc: Global,
-    bytes: &[u8],
-    at: usize,
-) -> Result<(Message, usize), RecordFault>
+pub fn read_message(alloc: Global, bytes: &[u8], at: usize) -> Result<(Message, usize), RecordFault>
     requires within { at ≤ length bytes.now }
     ensures reading { ReadsAt result (message_at bytes.now at) }
 {
