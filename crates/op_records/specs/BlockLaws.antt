@@ -1,5 +1,5 @@
--- The laws of messages in a block: bytes are read as messages exactly if a block may have these and the bytes spell them, so no two messages have spellings
--- of which one begins the other.
+-- The laws of messages in a block: bytes are read as messages exactly if a block may have these and the bytes spell them, so no message's spelling is the
+-- beginning of another's.
 use Rattle.std.specs.Prelude.{◌≡◌, ◌≤◌, ◌↔◌, ◌-◌, ◌++◌, ℕ, length, take, drop, IsTrue, List, Ok}
 use Rattle.std.specs.List.{flat_map, list_all}
 use Rattle.js_base.specs.Bytes.{Bytes}

@@ -9,7 +9,8 @@ pub fn law_records()
     ensures vacant { LawVacant }
 {}
 
-/// Bytes are read as the messages of a block exactly if a block may have these and the bytes spell them, and no message is spelled as another one begins.
+/// Bytes are read as the messages of a block exactly if a block may have these and the bytes spell them, and no message's spelling is the beginning of
+/// another's.
 pub fn law_block_messages()
     ensures message { LawMessage }
     ensures messages { LawMessages }
