@@ -85,7 +85,7 @@ wide64 = record {
   below = λ bytes fits. omega (arith, fits 0, fits 1, fits 2, fits 3, fits 4, fits 5, fits 6, fits 7);
 }
 
-bytes_of : (n at : ℕ) (bytes : Bytes) → AreBytes bytes → AreBytes (take n (drop at bytes))
+pub bytes_of : (n at : ℕ) (bytes : Bytes) → AreBytes bytes → AreBytes (take n (drop at bytes))
 bytes_of n at bytes fits i = elim (below_or i n) [
   | inl lt ↦ rw (get_or-take n (drop at bytes) i 0 lt, get_or-drop at bytes i 0) (fits (at + i))
   | inr le ↦ rw (get_or_past (take n (drop at bytes)) i 0 (omega (arith, length-take n (drop at bytes)))) (omega arith)

@@ -159,10 +159,13 @@ tested_again w limit wide may bytes at text behind lt is s = ap (continued bytes
 name_short : (name : Bytes) → IsTrue (is_name name) → length name < 256
 name_short name is = omega (arith, le_is (length name) 255 (name_parts name is).short)
 
-subject_short : (subject : Bytes) → IsTrue (is_subject_text subject) → length subject < 2 ^ 16
-subject_short subject is =
+pub subject_size : (subject : Bytes) → IsTrue (is_subject_text subject) → length subject ≤ 1024
+subject_size subject is =
     let size : nat_le (length subject) 1024 ≡ true = (and_parts _ _ (and_parts _ _ (and_parts _ _ (and_parts _ _ (and_parts _ _ is).0).0).0).0).1 in
-    omega (arith, le_is (length subject) 1024 size)
+    le_is (length subject) 1024 size
+
+subject_short : (subject : Bytes) → IsTrue (is_subject_text subject) → length subject < 2 ^ 16
+subject_short subject is = omega (arith, subject_size subject is)
 
 -- what is read as a name is one
 read_is : (text name : Bytes) → name_of text ≡ Ok name → is_name text ≡ true

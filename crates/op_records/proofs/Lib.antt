@@ -5,6 +5,10 @@ pub mod FieldsExact
 pub mod TextsExact
 pub mod KindsExact
 pub mod RecordsExact
+pub mod BlocksExact
+pub mod BlockSizes
+pub mod BlocksLaws
 pub mod Loops
 pub mod Written
 pub mod RowsOfRecords
+pub mod RowsOfBlocks

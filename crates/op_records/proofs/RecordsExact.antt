@@ -214,7 +214,7 @@ at_its_end bytes n = let same : (length bytes == length bytes) ≡ true = grind 
 
 -- ---- the laws
 
-batch_of : (bytes : Bytes) → IsBatch bytes → Batch bytes
+pub batch_of : (bytes : Bytes) → IsBatch bytes → Batch bytes
 batch_of bytes is = record { are_bytes = λ i. each bytes is.are_bytes i; short = is.short }
   where
     each : (bytes : Bytes) → All (λ byte. byte < 256) bytes → (i : ℕ) → get_or bytes i 0 < 256
@@ -228,7 +228,7 @@ batch_of bytes is = record { are_bytes = λ i. each bytes is.are_bytes i; short 
 whole_of : (bytes text : Bytes) → Spans bytes 0 text (length bytes) → bytes ≡ text
 whole_of bytes text s = s.parts ∙ ap (λ (l : Bytes). text ++ l) (drop_all (length bytes) bytes (omega arith)) ∙ append-nil text
 
-span_whole : (bytes text : Bytes) → bytes ≡ text → Spans bytes 0 text (length bytes)
+pub span_whole : (bytes text : Bytes) → bytes ≡ text → Spans bytes 0 text (length bytes)
 span_whole bytes text e = record {
   parts = e ∙ sym (append-nil text) ∙ ap (λ (l : Bytes). text ++ l) (sym (drop_all (length bytes) bytes (omega arith)));
   ends = ap length e ∙ omega arith;

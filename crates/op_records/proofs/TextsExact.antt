@@ -53,11 +53,11 @@ consumer_exact = record {
 
 -- ---- a message's header block and payload
 
-record Sized (may : Bytes → Bool) (bytes : Bytes) (at : ℕ) (text : Bytes) (behind : ℕ) : Type 0 where
-  may_be : may text ≡ true
-  there : Spans bytes at (long text) behind
+pub record Sized (may : Bytes → Bool) (bytes : Bytes) (at : ℕ) (text : Bytes) (behind : ℕ) : Type 0 where
+  pub may_be : may text ≡ true
+  pub there : Spans bytes at (long text) behind
 
-sized_took : (may : Bytes → Bool) (bytes : Bytes) (at : ℕ) (found : ℕ × Bytes) (behind : ℕ) → Batch bytes → sized_part may bytes at ≡ Ok (found, behind) → Sized may bytes at found.1 behind
+pub sized_took : (may : Bytes → Bool) (bytes : Bytes) (at : ℕ) (found : ℕ × Bytes) (behind : ℕ) → Batch bytes → sized_part may bytes at ≡ Ok (found, behind) → Sized may bytes at found.1 behind
 sized_took may bytes at found behind b e =
     let p = both bytes (λ (size : ℕ). place >>= λ begin. part begin size >>= λ text. only may begin text >>= λ text. done (begin, text)) (word w32 bytes at) found behind e in
     let q = both bytes (λ (text : Bytes). only may p.mid text >>= λ text. done (p.mid, text)) (part p.mid p.value bytes p.mid) found behind p.second in
@@ -74,7 +74,7 @@ sized_took may bytes at found behind b e =
       there = subst (λ (k : ℕ). Spans bytes at (long found.1) k) behind_is (subst (λ (l : Bytes). Spans bytes at (long l) q.mid) text there);
     }
 
-sized_again : (may : Bytes → Bool) (bytes : Bytes) (at : ℕ) (text : Bytes) (behind : ℕ) → length text < 2 ^ 32 → may text ≡ true → Spans bytes at (long text) behind → sized_part may bytes at ≡ Ok ((at + length (to_be_bytes w32 (length text)), text), behind)
+pub sized_again : (may : Bytes → Bool) (bytes : Bytes) (at : ℕ) (text : Bytes) (behind : ℕ) → length text < 2 ^ 32 → may text ≡ true → Spans bytes at (long text) behind → sized_part may bytes at ≡ Ok ((at + length (to_be_bytes w32 (length text)), text), behind)
 sized_again may bytes at text behind lt is s =
     let mid : ℕ = at + length (to_be_bytes w32 (length text)) in
     let size = word_again w32 (2 ^ 32) wide32 bytes at (length text) mid lt (span_front bytes at (to_be_bytes w32 (length text)) text behind s) in

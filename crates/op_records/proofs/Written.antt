@@ -16,6 +16,10 @@ two_parts old one new a b first second = second ∙ ap (λ (l : Bytes). l ++ b) 
 pub three_parts : (old one two new a b c : Bytes) → one ≡ old ++ a → two ≡ one ++ b → new ≡ two ++ c → new ≡ old ++ (a ++ (b ++ c))
 three_parts old one two new a b c first second third = two_parts old one new a (b ++ c) first (two_parts one two new b c second third)
 
+-- and four
+pub four_parts : (old one two three new a b c d : Bytes) → one ≡ old ++ a → two ≡ one ++ b → three ≡ two ++ c → new ≡ three ++ d → new ≡ old ++ (a ++ (b ++ (c ++ d)))
+four_parts old one two three new a b c d first second third fourth = two_parts old one new a (b ++ (c ++ d)) first (three_parts one two three new b c d second third fourth)
+
 -- a kind, a name and a part, and another part behind them
 pub behind_name : (old one new : Bytes) (kind : ℕ) (name a b : Bytes) → one ≡ old ++ kind ∷ (short name ++ a) → new ≡ one ++ b → new ≡ old ++ kind ∷ (short name ++ (a ++ b))
 behind_name old one new kind name a b first second =

@@ -31,8 +31,8 @@ abbrev pub Reads : {A : Type 0} → Result A RecordFault → Reader → Reading 
 Reads (Ok a) behind reading = reading ≡ Ok (a, behind.at)
 Reads (Err fault) behind reading = IsFaultOf reading fault
 
--- the record at a place, and the place behind it
-abbrev pub ReadsAt : Result (Effect × ℕ) RecordFault → Reading Effect → Type 0
+-- what stands at a place, and the place behind it
+abbrev pub ReadsAt : {A : Type 0} → Result (A × ℕ) RecordFault → Reading A → Type 0
 ReadsAt (Ok read) reading = reading ≡ Ok read
 ReadsAt (Err fault) reading = IsFaultOf reading fault
 

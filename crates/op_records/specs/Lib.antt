@@ -3,5 +3,8 @@ pub mod Allowed
 pub mod Steps
 pub mod Fields
 pub mod Reading
+pub mod Blocks
 pub mod Answers
+pub mod BlockAnswers
 pub mod Laws
+pub mod BlockLaws

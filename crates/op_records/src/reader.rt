@@ -19,7 +19,7 @@ use subject_match::check_subject;
 const NUMBERS_END: u64 = 1 << 62;
 
 /// The bytes of a message's header block and payload together.
-const MOST_BYTES: usize = 1_048_576;
+pub(crate) const MOST_BYTES: usize = 1_048_576;
 
 /// Bytes, and the place at which the next field begins.
 #[derive(Drop)]
@@ -102,7 +102,7 @@ impl<'a> Reader<'a> {
     }
 
     /// A number of four bytes.
-    fn word(&mut self) -> Result<u32, RecordFault>
+    pub(crate) fn word(&mut self) -> Result<u32, RecordFault>
         requires within { IsWithin self.old }
         ensures behind { IsBehind self.old self.new }
         ensures reading { Reads result self.new (word w32 self.old.bytes.now self.old.at) }
@@ -136,7 +136,7 @@ impl<'a> Reader<'a> {
     }
 
     /// The next bytes, so many, of the field that begins at a place.
-    fn part(&mut self, begin: usize, size: usize) -> Result<&'a [u8], RecordFault>
+    pub(crate) fn part(&mut self, begin: usize, size: usize) -> Result<&'a [u8], RecordFault>
         requires within { IsWithin self.old }
         ensures behind { IsBehind self.old self.new }
         ensures value { IfOk result (λ text. part begin size self.old.bytes.now self.old.at ≡ Ok (text.now, self.new.at)) }
@@ -199,16 +199,27 @@ impl<'a> Reader<'a> {
     }
 
     /// A subject without wildcards.
-    #[tactic(auto, unfolding(crate::specs::Fields::subject_field))]
     pub(crate) fn subject(&mut self) -> Result<Blob, RecordFault>
         requires within { IsWithin self.old }
         ensures behind { IsBehind self.old self.new }
         ensures reading { Reads result self.new (subject_field self.old.bytes.now self.old.at) }
     {
+        let subject = self.subject_bytes()?;
+        Ok(Blob::of(self.alloc, subject)?)
+    }
+
+    /// The bytes of a subject without wildcards.
+    #[tactic(auto, unfolding(crate::specs::Fields::subject_field))]
+    pub(crate) fn subject_bytes(&mut self) -> Result<&'a [u8], RecordFault>
+        requires within { IsWithin self.old }
+        ensures behind { IsBehind self.old self.new }
+        ensures value { IfOk result (λ subject. subject_field self.old.bytes.now self.old.at ≡ Ok (subject.now, self.new.at)) }
+        ensures fault { IfErr result (IsFaultOf (subject_field self.old.bytes.now self.old.at)) }
+    {
         let begin = self.at;
         let subject = self.text_bytes()?;
         match check_subject(subject) {
-            Ok(()) => Ok(Blob::of(self.alloc, subject)?),
+            Ok(()) => Ok(subject),
             Err(_) => Err(RecordFault::BadField(begin)),
         }
     }
@@ -238,7 +249,7 @@ impl<'a> Reader<'a> {
     }
 
     /// A message's header block, and where it begins. Its length is a field of its own.
-    fn headers(&mut self) -> Result<(usize, &'a [u8]), RecordFault>
+    pub(crate) fn headers(&mut self) -> Result<(usize, &'a [u8]), RecordFault>
         requires within { IsWithin self.old }
         ensures behind { IsBehind self.old self.new }
         ensures value { IfOk result (λ headers. sized_part is_small_header self.old.bytes.now self.old.at ≡ Ok ((headers.0, headers.1.now), self.new.at)) }
