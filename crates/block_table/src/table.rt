@@ -1,0 +1,225 @@
+//! The block table.
+
+ghost use Rattle.std.specs.Prelude.{◌≡◌, ◌≤◌, ◌↔◌, true, false, Some, None, find, nat_le, IfSome, OnOk, OnErr, Err};
+ghost use Rattle.block_table.specs.Blocks.{blocks, has_block, no_blocks, spot_of};
+ghost use Rattle.block_table.specs.Placings.{free_from, placing};
+ghost use Rattle.block_table.specs.Puts.{begins, fits, goes_on, put, put_at, removed};
+ghost use Rattle.block_table.specs.Tables.{IsTable};
+
+use crate::block::Block;
+use crate::fault::PutFault;
+use crate::messages::Messages;
+use crate::placed::Placed;
+use crate::placing::Placing;
+use js_base::{NoMemory, Spot};
+use std::alloc::Global;
+use std::marker::Model;
+
+/// The lowest file that can be a block. Those below it are logs.
+const FIRST_FILE: u32 = 2;
+
+/// The number of files in a volume.
+const FILES: u32 = 65_536;
+
+/// Where the stored messages of a stream lie in the blocks of a volume, and how far each block is written. A block is a file that holds a stored
+/// message, or the one being written, which is the file of the message that was put last.
+#[derive(Drop)]
+pub struct BlockTable {
+    messages: Messages,
+    /// The blocks but the one being written, in the order in which they were begun.
+    older: Vec<Block>,
+    writing: Option<Block>,
+}
+
+impl Model for BlockTable {
+    ghost use Rattle.block_table.specs.Blocks.{Blocks};
+    ghost use Rattle.block_table.specs.Tables.{IsTable};
+
+    ghost Value = { Blocks };
+
+    ghost view = { λ t. record { placed = t.messages; older = t.older.items; writing = t.writing } };
+
+    ghost invariant = { λ t. IsTable (record { placed = t.messages; older = t.older.items; writing = t.writing }) };
+}
+
+impl BlockTable {
+    /// A table without messages and blocks. It takes no memory.
+    pub fn new(alloc: Global) -> BlockTable
+        ensures empty { result ≡ no_blocks }
+    {
+        BlockTable {
+            messages: Messages::new(alloc),
+            older: Vec::new(alloc),
+            writing: None,
+        }
+    }
+
+    /// Stores a message at a spot, whose block is the one being written from then on. A block without messages that was being written is none any
+    /// more. It is `Misfit` exactly if the sequence is not above all others, or the spot neither begins where the block being written ends nor is at
+    /// 0 of a file from 2 to 65,535 that is no block, or it ends past 2^32 - 1. An `Err` changes nothing.
+    pub fn put(&mut self, seq: u64, spot: Spot) -> Result<(), PutFault>
+        ensures ok { OnOk result (put seq spot self.old ≡ Some self.new) }
+        ensures err { OnErr result (self.new ≡ self.old) }
+        ensures misfit { (result ≡ Err PutFault.Misfit) ↔ (put seq spot self.old ≡ None) }
+    {
+        if !self.fits(seq, spot) {
+            return Err(PutFault::Misfit);
+        }
+        let stored = if self.goes_on(spot) {
+            self.go_on(seq, spot)
+        } else {
+            self.begin(seq, spot)
+        };
+        stored.map_err(|_| PutFault::NoMemory)
+    }
+
+    /// Stores a message that fits at the end of the block being written. An `Err` changes nothing.
+    fn go_on(&mut self, seq: u64, spot: Spot) -> Result<(), NoMemory>
+        requires fits { fits seq spot self.old ≡ true }
+        requires on { goes_on spot self.old.writing ≡ true }
+        ensures ok { OnOk result (self.new ≡ put_at seq spot self.old) }
+        ensures err { OnErr result (self.new ≡ self.old) }
+    {
+        self.messages.push(seq, spot)?;
+        self.writing = Some(Block {
+            file: spot.file,
+            end: spot.at + spot.len,
+        });
+        Ok(())
+    }
+
+    /// Stores a message that fits at the beginning of a file, which is the block being written from then on. An `Err` changes nothing.
+    fn begin(&mut self, seq: u64, spot: Spot) -> Result<(), NoMemory>
+        requires fits { fits seq spot self.old ≡ true }
+        requires new { goes_on spot self.old.writing ≡ false }
+        ensures ok { OnOk result (self.new ≡ put_at seq spot self.old) }
+        ensures err { OnErr result (self.new ≡ self.old) }
+    {
+        self.older.reserve(1)?;
+        self.messages.push(seq, spot)?;
+        if let Some(block) = self.writing
+            && self.messages.is_used(block.file)
+        {
+            self.older.push_reserved(block);
+        }
+        self.writing = Some(Block {
+            file: spot.file,
+            end: spot.at + spot.len,
+        });
+        Ok(())
+    }
+
+    /// Takes out the messages with a sequence from `low` to `high`. A block that holds none any more is none, unless it is being written. It takes
+    /// no memory. The cost grows with the number of these messages, and with the number of blocks if one of them lost its last message.
+    pub fn remove(&mut self, low: u64, high: u64)
+        ensures { self.new ≡ removed low high self.old }
+    {
+        if self.messages.remove(low, high) {
+            let messages = &self.messages;
+            self.older.retain(|block| messages.is_used(block.file));
+        }
+    }
+
+    /// Takes out all messages and blocks. It takes no memory.
+    pub fn clear(&mut self)
+        ensures { self.new ≡ no_blocks }
+    {
+        self.messages.clear();
+        self.older.clear();
+        self.writing = None;
+    }
+
+    /// Where a message lies, if it is stored.
+    pub fn spot(&self, seq: u64) -> Option<Spot>
+        ensures { result ≡ spot_of self.now.placed seq }
+    {
+        self.messages.spot(seq)
+    }
+
+    /// The first stored message with the sequence or a greater one.
+    pub fn at_or_after(&self, seq: u64) -> Option<Placed>
+        ensures { result ≡ find (λ p. nat_le seq p.seq) self.now.placed }
+    {
+        self.messages.at_or_after(seq)
+    }
+
+    /// The blocks but the one being written, in the order in which they were begun.
+    pub fn older(&self) -> &[Block]
+        ensures value { result.now ≡ self.now.older }
+        ensures table { IsTable self.now }
+    {
+        self.older.as_slice()
+    }
+
+    /// The block being written.
+    pub fn writing(&self) -> Option<Block>
+        ensures value { result ≡ self.now.writing }
+        ensures table { IsTable self.now }
+    {
+        self.writing
+    }
+
+    /// Whether the file is a block.
+    pub fn has_block(&self, file: u32) -> bool
+        ensures { result ≡ has_block self.now file }
+    {
+        match self.writing {
+            Some(block) if block.file == file => true,
+            _ => self.messages.is_used(file),
+        }
+    }
+
+    /// Where the messages of a batch go that comes next.
+    pub fn placing(&self) -> Placing
+        ensures { result ≡ placing self.now }
+    {
+        Placing {
+            from: FIRST_FILE,
+            writing: self.writing,
+        }
+    }
+
+    /// The lowest file from this one on, up to 65,535, that is no block.
+    pub(crate) fn free_from(&self, from: u32) -> Option<u32>
+        ensures value { result ≡ free_from from self.now }
+        ensures bound { IfSome result (λ file. file ≤ 65535) }
+    {
+        let mut file = from;
+        while file < FILES {
+            if !self.has_block(file) {
+                return Some(file);
+            }
+            file += 1;
+        }
+        None
+    }
+
+    /// Whether the message can be stored at the spot.
+    fn fits(&self, seq: u64, spot: Spot) -> bool
+        ensures { result ≡ fits seq spot self.now }
+    {
+        self.messages.at_or_after(seq).is_none()
+            && spot.at <= u32::MAX - spot.len
+            && (self.goes_on(spot) || self.begins(spot))
+    }
+
+    /// Whether the spot begins where the block being written ends.
+    fn goes_on(&self, spot: Spot) -> bool
+        ensures { result ≡ goes_on spot self.now.writing }
+    {
+        match self.writing {
+            Some(block) => spot.file == block.file && spot.at == block.end,
+            None => false,
+        }
+    }
+
+    /// Whether the spot begins a file that is no block.
+    fn begins(&self, spot: Spot) -> bool
+        ensures { result ≡ begins spot self.now }
+    {
+        spot.at == 0
+            && FIRST_FILE <= spot.file
+            && spot.file < FILES
+            && !self.has_block(spot.file)
+    }
+}
