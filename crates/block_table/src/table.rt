@@ -1,7 +1,9 @@
 //! The block table.
 
-ghost use Rattle.std.specs.Prelude.{◌≡◌, ◌≤◌, ◌↔◌, true, false, Some, None, find, nat_le, IfSome, OnOk, OnErr, Err};
-ghost use Rattle.block_table.specs.Blocks.{blocks, has_block, no_blocks, spot_of};
+ghost use Rattle.std.specs.Prelude.{◌≡◌, ◌<◌, ◌≤◌, ◌↔◌, ◌++◌, true, false, Some, None, find, nat_le, IfSome, OnOk, OnErr, Err};
+ghost use Rattle.std.specs.Option.{option_to_list};
+ghost use Rattle.std.specs.Vec.{vec_len, vec_capacity};
+ghost use Rattle.block_table.specs.Blocks.{has_block, no_blocks, spot_of, used};
 ghost use Rattle.block_table.specs.Placings.{free_from, placing};
 ghost use Rattle.block_table.specs.Puts.{begins, fits, goes_on, put, put_at, removed};
 ghost use Rattle.block_table.specs.Tables.{IsTable};
@@ -97,11 +99,7 @@ impl BlockTable {
     {
         self.older.reserve(1)?;
         self.messages.push(seq, spot)?;
-        if let Some(block) = self.writing
-            && self.messages.is_used(block.file)
-        {
-            self.older.push_reserved(block);
-        }
+        add_used(&mut self.older, self.writing, &self.messages);
         self.writing = Some(Block {
             file: spot.file,
             end: spot.at + spot.len,
@@ -221,5 +219,17 @@ impl BlockTable {
             && FIRST_FILE <= spot.file
             && spot.file < FILES
             && !self.has_block(spot.file)
+    }
+}
+
+/// Adds the block that was being written to the others, if it holds one of the messages.
+fn add_used(older: &mut Vec<Block>, writing: Option<Block>, messages: &Messages)
+    requires room { vec_len older.old < vec_capacity older.old }
+    ensures { older.new.items ≡ older.old.items ++ used messages.now (option_to_list writing) }
+{
+    if let Some(block) = writing
+        && messages.is_used(block.file)
+    {
+        older.push_reserved(block);
     }
 }

@@ -1,0 +1,31 @@
+use Rattle.std.proofs.Common.{ap, sym, ◌∙◌, ◌≡◌, false}
+use Rattle.std.specs.Prelude.{◌==◌}
+use Rattle.std.proofs.lemmas.Bool.{OnFalse_from}
+use Rattle.block_table.specs.Counts.{shown, AreCounted}
+use Rattle.block_table.proofs.Entries.{Entries, at, shown_less, counted_here, counted_less, used_still}
+use Rattle.block_table.proofs.messages.Messages.take.Goals as goal
+
+pub take-requires : goal.take-requires
+take-requires c = record { some = counted_here c.args.seq c.in-Some.spot c.self.inside.spots.entries c.self.inside.counts c.self.invariant (sym c.in-Some.ensures.value) }
+
+pub invariant_of-self : goal.invariant_of-self
+invariant_of-self c =
+    let left = c.remove.ensures.entries in
+    rw left
+    (counted_less c.args.seq c.in-Some.spot c.self.inside.spots.entries c.self.inside.counts c.self.invariant (sym c.in-Some.ensures.value) c.take.new.self
+    (rw left at c.remove.ensures.ordered) c.take.ensures.less)
+
+pub returns-in-Some-clause-left : goal.returns-in-Some-clause-left
+returns-in-Some-clause-left c =
+    rw (← c.self.view_is) (ap (λ (p : Entries). shown p) c.remove.ensures.entries ∙ shown_less c.args.seq c.self.inside.spots.entries c.self.invariant.ordered)
+
+pub returns-in-Some-clause-kept : goal.returns-in-Some-clause-kept
+returns-in-Some-clause-kept c =
+    OnFalse_from c.take.result _
+    (λ no. rw (← c.self.view_is)
+    (used_still c.in-Some.spot.file c.self.inside.spots.entries c.remove.new.self.entries c.self.inside.counts c.take.new.self c.self.invariant (invariant_of-self c) c.take.ensures.less
+    (sym c.take.ensures.bare ∙ no)))
+
+pub returns-in-None-clause-left : goal.returns-in-None-clause-left
+returns-in-None-clause-left c =
+    rw (← c.self.view_is) (ap (λ (p : Entries). shown p) c.remove.ensures.entries ∙ shown_less c.args.seq c.self.inside.spots.entries c.self.invariant.ordered)
