@@ -1,8 +1,8 @@
 -- Blocks that are apart, and messages that lie in them.
-use Rattle.std.proofs.Common.{◌≡◌, ℕ, ◌+◌, ◌<◌, ◌≤◌, ◌==◌, ◌&&◌, ◌||◌, Bool, true, false, cond, not, List, [], ◌∷◌, ◌++◌, length, refl, sym, ap, ◌∙◌, arith, ⊥}
+use Rattle.std.proofs.Common.{◌≡◌, ℕ, ◌+◌, ◌<◌, ◌≤◌, ◌==◌, ◌&&◌, ◌||◌, Bool, true, false, cond, not, List, [], ◌∷◌, ◌++◌, length, refl, sym, ap, ◌∙◌, arith}
 use Rattle.std.specs.Prelude.{All, filter, nat_le}
 use Rattle.std.specs.List.{list_any}
-use Rattle.std.proofs.lemmas.Bool.{or_parts, or_from, and_parts, eqb-true, or_left, or_right}
+use Rattle.std.proofs.lemmas.Bool.{true≢false, or_parts, or_from, and_parts, eqb-true, or_left, or_right}
 use Rattle.std.proofs.lemmas.Bool.Decides.{nat_tests}
 use Rattle.std.proofs.lemmas.List.Folds.{list_any-append}
 use Rattle.js_base.specs.declared.spot.Spot.{Spot}
@@ -68,21 +68,19 @@ covers spot k = k.file == spot.file && nat_le (end_of spot) k.end
 -- what lies in blocks lies in those of them that are kept, if its file is
 pub lies_kept : (t : ℕ → Bool) (spot : Spot) (ks : List Block) → t spot.file ≡ true → lies_in ks spot ≡ true → lies_in (filter (λ k. t k.file) ks) spot ≡ true
 lies_kept t spot [] kept h = h
-lies_kept t spot (k ∷ ks) kept h = go (covers spot k) refl (t k.file) refl h
+lies_kept t spot (k ∷ ks) kept h = go (covers spot k) refl (t k.file) refl h (lies_kept t spot ks kept)
   where
     rest : List Block
     rest = filter (λ x. t x.file) ks
 
-    go : (b : Bool) → covers spot k ≡ b → (c : Bool) → t k.file ≡ c → (b || lies_in ks spot) ≡ true → lies_in (cond c (k ∷ rest) rest) spot ≡ true
-    go true e true f l = or_left (covers spot k) (lies_in rest spot) e
-    go true e false f l =
+    go : (b : Bool) → covers spot k ≡ b → (c : Bool) → t k.file ≡ c → (b || lies_in ks spot) ≡ true → (lies_in ks spot ≡ true → lies_in rest spot ≡ true)
+        → lies_in (cond c (k ∷ rest) rest) spot ≡ true
+    go true e true f l more = or_left (covers spot k) (lies_in rest spot) e
+    go true e false f l more =
         let same : k.file ≡ spot.file = eqb-true k.file spot.file (and_parts (k.file == spot.file) (nat_le (end_of spot) k.end) e).0 in
-        absurd (both (sym f ∙ ap t same ∙ kept))
-      where
-        both : false ≡ true → ⊥
-        both q = cc
-    go false e true f l = or_right (covers spot k) (lies_in rest spot) (lies_kept t spot ks kept l)
-    go false e false f l = lies_kept t spot ks kept l
+        absurd (true≢false (sym kept ∙ sym (ap t same) ∙ f))
+    go false e true f l more = or_right (covers spot k) (lies_in rest spot) (more l)
+    go false e false f l more = more l
 
 -- it lies in more blocks
 pub lies_left : (spot : Spot) (ks more : List Block) → lies_in ks spot ≡ true → lies_in (ks ++ more) spot ≡ true
@@ -94,8 +92,8 @@ lies_right spot ks more h = list_any-append (covers spot) ks more ∙ or_right (
 -- its file is a block
 pub lies_among : (spot : Spot) (ks : List Block) → lies_in ks spot ≡ true → is_among ks spot.file ≡ true
 lies_among spot [] h = h
-lies_among spot (k ∷ ks) h = go (k.file == spot.file) (nat_le (end_of spot) k.end) h
+lies_among spot (k ∷ ks) h = go (k.file == spot.file) (nat_le (end_of spot) k.end) h (lies_among spot ks)
   where
-    go : (b c : Bool) → ((b && c) || lies_in ks spot) ≡ true → (b || is_among ks spot.file) ≡ true
-    go true c l = refl
-    go false c l = lies_among spot ks l
+    go : (b c : Bool) → ((b && c) || lies_in ks spot) ≡ true → (lies_in ks spot ≡ true → is_among ks spot.file ≡ true) → (b || is_among ks spot.file) ≡ true
+    go true c l rest = refl
+    go false c l rest = rest l

@@ -110,6 +110,12 @@ table_removed low high b h =
       held = kept_pass (λ k. is_used left k.file) b.older;
     }
 
+pub removed_is : (low high : ℕ) (b : Blocks) (ps : List Placed) (ks : List Block) → ps ≡ without low high b.placed → ks ≡ used ps b.older
+    → record { placed = ps; older = ks; writing = b.writing } ≡ removed low high b
+removed_is low high b ps ks left kept =
+    ap (λ (ks' : List Block). record { placed = ps; older = ks'; writing = b.writing }) kept
+    ∙ ap (λ (ps' : List Placed). record { placed = ps'; older = used ps' b.older; writing = b.writing }) left
+
 -- if each file is used as before, no block goes
 pub held_still : (b : Blocks) (left : List Placed) → IsTable b → ((file : ℕ) → is_used left file ≡ is_used b.placed file) → used left b.older ≡ b.older
 held_still b left h same =

@@ -1,11 +1,11 @@
 //! The block table.
 
-ghost use Rattle.std.specs.Prelude.{◌≡◌, ◌<◌, ◌≤◌, ◌↔◌, ◌++◌, true, false, Some, None, find, nat_le, IfSome, OnOk, OnErr, Err};
+ghost use Rattle.std.specs.Prelude.{◌≡◌, ◌-◌, ◌^◌, ◌<◌, ◌≤◌, ◌↔◌, ◌++◌, true, false, Some, None, find, nat_le, IfSome, OnOk, OnErr, Err};
 ghost use Rattle.std.specs.Option.{option_to_list};
 ghost use Rattle.std.specs.Vec.{vec_len, vec_capacity};
-ghost use Rattle.block_table.specs.Blocks.{has_block, no_blocks, spot_of, used};
+ghost use Rattle.block_table.specs.Blocks.{has_block, is_among, no_blocks, spot_of, used};
 ghost use Rattle.block_table.specs.Placings.{free_from, placing};
-ghost use Rattle.block_table.specs.Puts.{begins, fits, goes_on, put, put_at, removed};
+ghost use Rattle.block_table.specs.Puts.{begins, end_of, fits, goes_on, is_above, put, put_at, removed};
 ghost use Rattle.block_table.specs.Tables.{IsTable};
 
 use crate::block::Block;
@@ -161,9 +161,16 @@ impl BlockTable {
     pub fn has_block(&self, file: u32) -> bool
         ensures { result ≡ has_block self.now file }
     {
+        self.is_written(file) || self.messages.is_used(file)
+    }
+
+    /// Whether the file is the one being written.
+    fn is_written(&self, file: u32) -> bool
+        ensures { result ≡ is_among (option_to_list self.now.writing) file }
+    {
         match self.writing {
-            Some(block) if block.file == file => true,
-            _ => self.messages.is_used(file),
+            Some(block) => block.file == file,
+            None => false,
         }
     }
 
@@ -196,9 +203,14 @@ impl BlockTable {
     fn fits(&self, seq: u64, spot: Spot) -> bool
         ensures { result ≡ fits seq spot self.now }
     {
+        self.is_above(seq) && ends_low(spot) && (self.goes_on(spot) || self.begins(spot))
+    }
+
+    /// Whether no message has the sequence or a greater one.
+    fn is_above(&self, seq: u64) -> bool
+        ensures { result ≡ is_above seq self.now.placed }
+    {
         self.messages.at_or_after(seq).is_none()
-            && spot.at <= u32::MAX - spot.len
-            && (self.goes_on(spot) || self.begins(spot))
     }
 
     /// Whether the spot begins where the block being written ends.
@@ -220,6 +232,13 @@ impl BlockTable {
             && spot.file < FILES
             && !self.has_block(spot.file)
     }
+}
+
+/// Whether the offset behind the spot is below 2^32.
+fn ends_low(spot: Spot) -> bool
+    ensures { result ≡ nat_le (end_of spot) (2 ^ 32 - 1) }
+{
+    spot.at <= u32::MAX - spot.len
 }
 
 /// Adds the block that was being written to the others, if it holds one of the messages.

@@ -1,0 +1,24 @@
+use Rattle.std.proofs.Common.{◌≡◌, ◌∙◌, ap, sym, subst, false, true}
+use Rattle.block_table.specs.declared.block.Block.{Block}
+use Rattle.block_table.specs.Blocks.{Blocks}
+use Rattle.block_table.specs.Puts.{fits, goes_on}
+use Rattle.block_table.specs.Tables.{IsTable}
+use Rattle.block_table.proofs.Tables.{table_put, begun}
+use Rattle.block_table.proofs.table.BlockTable.begin.Goals as goal
+
+pub invariant_of-self-2 : goal.invariant_of-self-2
+invariant_of-self-2 c =
+    let i = c.self.inside in
+    let b : Blocks = record { placed = i.messages; older = i.older.items; writing = i.writing } in
+    let f : fits c.args.seq c.args.spot b ≡ true = rw c.self.view_is c.requires.fits in
+    let e : goes_on c.args.spot b.writing ≡ false = rw c.self.view_is c.requires.new in
+    rw (c.add_used.ensures, c.reserve.ensures.items, c.in_ok-push.ensures.ok)
+    (subst IsTable (begun c.args.seq c.args.spot b c.self.invariant f e) (table_put c.args.seq c.args.spot b c.self.invariant f))
+
+pub returns-clause-ok : goal.returns-clause-ok
+returns-clause-ok c =
+    let i = c.self.inside in
+    let b : Blocks = record { placed = i.messages; older = i.older.items; writing = i.writing } in
+    let f : fits c.args.seq c.args.spot b ≡ true = rw c.self.view_is c.requires.fits in
+    let e : goes_on c.args.spot b.writing ≡ false = rw c.self.view_is c.requires.new in
+    rw (← c.self.view_is, c.add_used.ensures, c.reserve.ensures.items, c.in_ok-push.ensures.ok) (sym (begun c.args.seq c.args.spot b c.self.invariant f e))
