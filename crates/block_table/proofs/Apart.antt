@@ -17,9 +17,10 @@ use Rattle.block_table.proofs.Lists.{none_kept}
 pub apart_with : (ks : List Block) (k : Block) → AreApart ks → is_among ks k.file ≡ false → AreApart (ks ++ k ∷ [])
 apart_with [] k h new = (refl, tt)
 apart_with (x ∷ ks) k h new =
-    let parts = or_parts (x.file == k.file) (is_among ks k.file) new in
-    (list_any-append (λ (y : Block). y.file == x.file) ks (k ∷ []) ∙ or_from (is_among ks x.file) ((k.file == x.file) || false) h.0 (or_from (k.file == x.file) false (turned x.file k.file parts.0) refl),
-    apart_with ks k h.1 parts.1)
+    let parts = or_parts (x.file == k.file) (is_among ks k.file) new in (
+      list_any-append (λ (y : Block). y.file == x.file) ks (k ∷ []) ∙ or_from (is_among ks x.file) ((k.file == x.file) || false) h.0 (or_from (k.file == x.file) false (turned x.file k.file parts.0) refl),
+      apart_with ks k h.1 parts.1,
+    )
   where
     turned : (m n : ℕ) → (m == n) ≡ false → (n == m) ≡ false
     turned m n e = grind (arith, nat_tests, e)

@@ -1,6 +1,6 @@
 -- Messages in a map from sequences to spots: what is found, added and removed, and how the files are counted.
 use Rattle.std.proofs.Common.{◌≡◌, ℕ, ◌+◌, ◌<◌, ◌≤◌, ◌==◌, ◌&&◌, ◌||◌, Bool, true, false, cond, not, List, [], ◌∷◌, ◌++◌, Option, Some, None, length, refl, sym, ap, ◌∙◌, arith}
-use Rattle.std.specs.Prelude.{All, filter, find, nat_le, nat_lt, sum_by, unwrap_or, slice_get, option_map}
+use Rattle.std.specs.Prelude.{All, filter, find, nat_le, nat_lt, sum_by, unwrap_or, slice_get, option_map, is_none}
 use Rattle.std.specs.List.{list_any}
 use Rattle.std.specs.List.Sorted.{IsStrictlySortedBy}
 use Rattle.std.specs.Cmp.{nat_cmp_is, nat_cmp_total, eq_by_cmp_equiv}
@@ -67,6 +67,15 @@ first_from seq es part is =
   where
     from_is : (n : ℕ) → (is_le (nat_cmp seq n) && true) ≡ nat_le seq n
     from_is n = grind (arith, nat_tests)
+
+pub above_is : (seq : ℕ) (ps : List Placed) → is_none (find (λ (p : Placed). nat_le seq p.seq) ps) ≡ is_above seq ps
+above_is seq [] = refl
+above_is seq (p ∷ ps) = go (nat_le seq p.seq) (above_is seq ps)
+  where
+    go : (b : Bool) → is_none (find (λ (x : Placed). nat_le seq x.seq) ps) ≡ is_above seq ps
+        → is_none (cond b (Some p) (find (λ (x : Placed). nat_le seq x.seq) ps)) ≡ not (b || list_any (λ (x : Placed). nat_le seq x.seq) ps)
+    go true rest = refl
+    go false rest = rest
 
 pub first_within : (low high : ℕ) (es part : Entries) → part ≡ filter (λ e. is_le (nat_cmp low e.0) && not (is_lt (nat_cmp high e.0))) es
     → slice_get (shown part) 0 ≡ find (λ (p : Placed). is_within low high p.seq) (shown es)

@@ -50,9 +50,10 @@ unfolding IsStrictlySortedBy
 rising_more seq spot [] h above = (tt, tt)
 rising_more seq spot (p ∷ ps) h above =
     let parts = or_parts (nat_le seq p.seq) (list_any (λ (x : Placed). nat_le seq x.seq) ps) (not-true _ above) in
-    let less : p.seq < seq = leb-false seq p.seq parts.0 in
-    (subst (λ (ns : List ℕ). AllByRecursion (λ k. nat_cmp p.seq k ≡ Less) ns) (sym (map-append (λ (x : Placed). x.seq) ps (record { seq = seq; spot = spot } ∷ []))) (below_more p.seq seq (seqs ps) h.0 less),
-    rising_more seq spot ps h.1 (ap not parts.1))
+    let less : p.seq < seq = leb-false seq p.seq parts.0 in (
+      subst (λ (ns : List ℕ). AllByRecursion (λ k. nat_cmp p.seq k ≡ Less) ns) (sym (map-append (λ (x : Placed). x.seq) ps (record { seq = seq; spot = spot } ∷ []))) (below_more p.seq seq (seqs ps) h.0 less),
+      rising_more seq spot ps h.1 (ap not parts.1),
+    )
 
 below_kept : (m : ℕ) (t : Placed → Bool) (ps : List Placed) → AllByRecursion (λ k. nat_cmp m k ≡ Less) (seqs ps) → AllByRecursion (λ k. nat_cmp m k ≡ Less) (seqs (filter t ps))
 below_kept m t [] h = tt
@@ -131,8 +132,8 @@ fits_above seq spot b f =
 pub fits_end : (seq : ℕ) (spot : Spot) (b : Blocks) → fits seq spot b ≡ true → end_of spot < 2 ^ 32
 fits_end seq spot b f =
     let most : end_of spot ≤ 2 ^ 32 - 1 =
-        leb-true (end_of spot) (2 ^ 32 - 1)
-        (and_parts (is_above seq b.placed) (nat_le (end_of spot) (2 ^ 32 - 1)) (and_parts (is_above seq b.placed && nat_le (end_of spot) (2 ^ 32 - 1)) (goes_on spot b.writing || begins spot b) f).0).1 in
+    leb-true (end_of spot) (2 ^ 32 - 1)
+    (and_parts (is_above seq b.placed) (nat_le (end_of spot) (2 ^ 32 - 1)) (and_parts (is_above seq b.placed && nat_le (end_of spot) (2 ^ 32 - 1)) (goes_on spot b.writing || begins spot b) f).0).1 in
     omega (arith, most)
 
 fits_where : (seq : ℕ) (spot : Spot) (b : Blocks) → fits seq spot b ≡ true → (goes_on spot b.writing || begins spot b) ≡ true

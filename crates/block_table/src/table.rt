@@ -227,10 +227,7 @@ impl BlockTable {
     fn begins(&self, spot: Spot) -> bool
         ensures { result ≡ begins spot self.now }
     {
-        spot.at == 0
-            && FIRST_FILE <= spot.file
-            && spot.file < FILES
-            && !self.has_block(spot.file)
+        spot.at == 0 && FIRST_FILE <= spot.file && spot.file < FILES && !self.has_block(spot.file)
     }
 }
 

@@ -10,14 +10,14 @@ pub invariant_of-self-2 : goal.invariant_of-self-2
 invariant_of-self-2 c =
     let i = c.self.inside in
     let b : Blocks = record { placed = i.messages; older = i.older.items; writing = i.writing } in
-    let f : fits c.args.seq c.args.spot b ≡ true = rw c.self.view_is c.requires.fits in
-    let e : goes_on c.args.spot b.writing ≡ true = rw c.self.view_is c.requires.on in
+    let f : fits c.args.seq c.args.spot b ≡ true = subst (λ t. fits c.args.seq c.args.spot t ≡ true) (sym c.self.view_is) c.requires.fits in
+    let e : goes_on c.args.spot b.writing ≡ true = subst (λ (t : Blocks). goes_on c.args.spot t.writing ≡ true) (sym c.self.view_is) c.requires.on in
     rw c.in_ok-push.ensures.ok (subst IsTable (went_on c.args.seq c.args.spot b c.self.invariant f e) (table_put c.args.seq c.args.spot b c.self.invariant f))
 
 pub returns-clause-ok : goal.returns-clause-ok
 returns-clause-ok c =
     let i = c.self.inside in
     let b : Blocks = record { placed = i.messages; older = i.older.items; writing = i.writing } in
-    let f : fits c.args.seq c.args.spot b ≡ true = rw c.self.view_is c.requires.fits in
-    let e : goes_on c.args.spot b.writing ≡ true = rw c.self.view_is c.requires.on in
+    let f : fits c.args.seq c.args.spot b ≡ true = subst (λ t. fits c.args.seq c.args.spot t ≡ true) (sym c.self.view_is) c.requires.fits in
+    let e : goes_on c.args.spot b.writing ≡ true = subst (λ (t : Blocks). goes_on c.args.spot t.writing ≡ true) (sym c.self.view_is) c.requires.on in
     rw (← c.self.view_is, c.in_ok-push.ensures.ok) (sym (went_on c.args.seq c.args.spot b c.self.invariant f e))

@@ -11,7 +11,7 @@ invariant_of-self c =
     let i = c.self.inside in
     let b : Blocks = record { placed = i.messages; older = i.older.items; writing = i.writing } in
     let kept : c.retain.new.self.items ≡ used c.remove.new.self i.older.items =
-        filter_same _ (λ k. is_used c.remove.new.self k.file) _ (λ k r f k'. search rules) _ _ c.retain.ensures.filtered in
+    filter_same _ (λ k. is_used c.remove.new.self k.file) _ (λ k r f k'. search rules) i.older.items c.retain.new.self.items c.retain.ensures.filtered in
     subst IsTable (sym (removed_is c.args.low c.args.high b c.remove.new.self c.retain.new.self.items c.remove.ensures.left kept)) (table_removed c.args.low c.args.high b c.self.invariant)
 
 pub returns-then-remove : goal.returns-then-remove
@@ -19,7 +19,7 @@ returns-then-remove c =
     let i = c.self.inside in
     let b : Blocks = record { placed = i.messages; older = i.older.items; writing = i.writing } in
     let kept : c.retain.new.self.items ≡ used c.remove.new.self i.older.items =
-        filter_same _ (λ k. is_used c.remove.new.self k.file) _ (λ k r f k'. search rules) _ _ c.retain.ensures.filtered in
+    filter_same _ (λ k. is_used c.remove.new.self k.file) _ (λ k r f k'. search rules) i.older.items c.retain.new.self.items c.retain.ensures.filtered in
     rw (← c.self.view_is) (removed_is c.args.low c.args.high b c.remove.new.self c.retain.new.self.items c.remove.ensures.left kept)
 
 pub invariant_of-self-else-remove : goal.invariant_of-self-else-remove
