@@ -1,6 +1,6 @@
 -- Messages in a map from sequences to spots: what is found, added and removed, and how the files are counted.
 use Rattle.std.proofs.Common.{◌≡◌, ℕ, ◌+◌, ◌<◌, ◌≤◌, ◌==◌, ◌&&◌, ◌||◌, Bool, true, false, cond, not, List, [], ◌∷◌, ◌++◌, Option, Some, None, length, refl, sym, ap, ◌∙◌, arith}
-use Rattle.std.specs.Prelude.{All, filter, find, nat_le, nat_lt, sum_by, unwrap_or, slice_get, option_map, is_none}
+use Rattle.std.specs.Prelude.{All, filter, find, nat_le, nat_lt, sum_by, unwrap_or, slice_get, option_map, is_none, is_some}
 use Rattle.std.specs.List.{list_any}
 use Rattle.std.specs.List.Sorted.{IsStrictlySortedBy}
 use Rattle.std.specs.Cmp.{nat_cmp_is, nat_cmp_total, eq_by_cmp_equiv}
@@ -68,7 +68,7 @@ first_from seq es part is =
     from_is : (n : ℕ) → (is_le (nat_cmp seq n) && true) ≡ nat_le seq n
     from_is n = grind (arith, nat_tests)
 
-pub above_is : (seq : ℕ) (ps : List Placed) → is_none (find (λ (p : Placed). nat_le seq p.seq) ps) ≡ is_above seq ps
+above_is : (seq : ℕ) (ps : List Placed) → is_none (find (λ (p : Placed). nat_le seq p.seq) ps) ≡ is_above seq ps
 above_is seq [] = refl
 above_is seq (p ∷ ps) = go (nat_le seq p.seq) (above_is seq ps)
   where
@@ -76,6 +76,14 @@ above_is seq (p ∷ ps) = go (nat_le seq p.seq) (above_is seq ps)
         → is_none (cond b (Some p) (find (λ (x : Placed). nat_le seq x.seq) ps)) ≡ not (b || list_any (λ (x : Placed). nat_le seq x.seq) ps)
     go true rest = refl
     go false rest = rest
+
+pub above_from : (seq : ℕ) (ps : List Placed) (found : Option Placed) (none : Bool) → found ≡ find (λ (p : Placed). nat_le seq p.seq) ps
+    → is_some found ≡ not none → none ≡ is_above seq ps
+above_from seq ps found none is some = go none some ∙ ap is_none is ∙ above_is seq ps
+  where
+    go : (b : Bool) → is_some found ≡ not b → b ≡ is_none found
+    go true h = sym (ap not h)
+    go false h = sym (ap not h)
 
 pub first_within : (low high : ℕ) (es part : Entries) → part ≡ filter (λ e. is_le (nat_cmp low e.0) && not (is_lt (nat_cmp high e.0))) es
     → slice_get (shown part) 0 ≡ find (λ (p : Placed). is_within low high p.seq) (shown es)

@@ -62,7 +62,10 @@ fn block_is_filled_to_its_last_byte(rt: HostRuntime) -> Result<(), Fail> {
 #[test]
 fn blocks_go_with_their_messages(rt: HostRuntime) -> Result<(), Fail> {
     let mut table = filled(&rt, 20);
-    assert_eq!(rt; table.older(), [block(2, 7_340_270), block(3, 7_340_270)].as_slice());
+    assert_eq!(rt;
+        table.older(),
+        [block(2, 7_340_270), block(3, 7_340_270)].as_slice()
+    );
     table.remove(8, 13);
     assert!(rt; table.has_block(3));
     table.remove(14, 20);
@@ -92,7 +95,11 @@ fn only_what_fits_is_put(rt: HostRuntime) -> Result<(), Fail> {
         (3, 65_536, 0),
     ] {
         let spot = Spot { file, at, len: 1 };
-        assert_eq!(rt; table.put(seq, spot), Err(PutFault::Misfit), "{seq} {file} {at}");
+        assert_eq!(rt;
+            table.put(seq, spot),
+            Err(PutFault::Misfit),
+            "{seq} {file} {at}"
+        );
     }
     assert_eq!(rt; table.writing(), Some(block(2, end)));
     Ok(())

@@ -1,4 +1,4 @@
-use Rattle.std.proofs.Common.{ap, sym, ◌∙◌, slice_get, option_map, ◌<◌, arith}
+use Rattle.std.proofs.Common.{ap, sym, ◌∙◌, slice_get, option_map, ◌<◌}
 use Rattle.block_table.specs.declared.placed.Placed.{Placed}
 use Rattle.block_table.specs.Counts.{shown}
 use Rattle.block_table.specs.Puts.{is_within}

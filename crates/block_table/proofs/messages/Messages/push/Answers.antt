@@ -1,7 +1,7 @@
-use Rattle.std.proofs.Common.{ap, ◌∙◌, ◌≡◌, ◌<◌, true, arith}
+use Rattle.std.proofs.Common.{ap, ◌∙◌, ◌≡◌, true, arith}
 use Rattle.block_table.specs.Counts.{shown}
 use Rattle.block_table.specs.Puts.{is_above}
-use Rattle.block_table.proofs.Entries.{Entries, insert_end, shown_more, counted_more, count_few, counted_once, counted_again}
+use Rattle.block_table.proofs.Entries.{Entries, insert_end, shown_more, counted_more, count_few}
 use Rattle.block_table.proofs.messages.Messages.push.Goals as goal
 
 pub add-requires : goal.add-requires

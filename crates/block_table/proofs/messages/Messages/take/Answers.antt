@@ -1,8 +1,7 @@
-use Rattle.std.proofs.Common.{ap, sym, ◌∙◌, ◌≡◌, false}
-use Rattle.std.specs.Prelude.{◌==◌}
+use Rattle.std.proofs.Common.{ap, sym, ◌∙◌}
 use Rattle.std.proofs.lemmas.Bool.{OnFalse_from}
-use Rattle.block_table.specs.Counts.{shown, AreCounted}
-use Rattle.block_table.proofs.Entries.{Entries, at, shown_less, counted_here, counted_less, used_still}
+use Rattle.block_table.specs.Counts.{shown}
+use Rattle.block_table.proofs.Entries.{Entries, shown_less, counted_here, counted_less, used_still}
 use Rattle.block_table.proofs.messages.Messages.take.Goals as goal
 
 pub take-requires : goal.take-requires

@@ -1,6 +1,6 @@
 use Rattle.std.proofs.Common.{rules, ◌∙◌, ◌≡◌, true}
 use Rattle.block_table.specs.Blocks.{has_block}
-use Rattle.block_table.proofs.Free.{free_next, free_here, free_none}
+use Rattle.block_table.proofs.Free.{free_next}
 use Rattle.block_table.proofs.table.BlockTable.free_from.Goals as goal
 
 pub loop-file-preserved : goal.loop-file-preserved

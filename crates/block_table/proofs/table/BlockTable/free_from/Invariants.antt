@@ -1,4 +1,4 @@
-use Rattle.std.proofs.Common.{◌≡◌, ◌≤◌, ◌-◌}
+use Rattle.std.proofs.Common.{◌≡◌, ◌-◌}
 use Rattle.block_table.specs.Placings.{free_from}
 use Rattle.block_table.proofs.table.BlockTable.free_from.Given as goal
 

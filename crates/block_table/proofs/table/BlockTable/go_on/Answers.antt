@@ -1,5 +1,4 @@
-use Rattle.std.proofs.Common.{◌≡◌, ◌∙◌, ap, sym, subst, true}
-use Rattle.block_table.specs.declared.block.Block.{Block}
+use Rattle.std.proofs.Common.{◌≡◌, sym, subst, true}
 use Rattle.block_table.specs.Blocks.{Blocks}
 use Rattle.block_table.specs.Puts.{fits, goes_on}
 use Rattle.block_table.specs.Tables.{IsTable}

@@ -1,6 +1,5 @@
-use Rattle.std.proofs.Common.{rules, ◌≡◌, sym, subst, List}
+use Rattle.std.proofs.Common.{rules, ◌≡◌, sym, subst}
 use Rattle.std.proofs.lemmas.Fn.{filter_same}
-use Rattle.block_table.specs.declared.block.Block.{Block}
 use Rattle.block_table.specs.Blocks.{Blocks, is_used, used}
 use Rattle.block_table.specs.Tables.{IsTable}
 use Rattle.block_table.proofs.Tables.{table_removed, held_still, removed_is}
