@@ -1,10 +1,11 @@
 -- What is placed fits, step by step.
-use Rattle.std.proofs.Common.{◌≡◌, ℕ, zero, suc, ◌+◌, ◌-◌, ◌<◌, ◌≤◌, ◌^◌, ◌==◌, ◌&&◌, ◌||◌, Bool, true, false, cond, not, List, [], ◌∷◌, ◌++◌, Option, Some, None, refl, sym, ap, ◌∙◌, subst, arith}
+use Rattle.std.proofs.Common.{◌≡◌, ℕ, zero, suc, max, ◌+◌, ◌-◌, ◌<◌, ◌≤◌, ◌^◌, ◌==◌, ◌&&◌, ◌||◌, Bool, true, false, cond, not, List, [], ◌∷◌, ◌++◌, Option, Some, None, refl, sym, ap, ◌∙◌, subst, arith}
 use Rattle.std.specs.Prelude.{find, nat_le, option_map, IfSome}
 use Rattle.std.specs.List.{list_any, range_with_len}
 use Rattle.std.specs.Option.{option_to_list, IsSomeAnd}
 use Rattle.std.proofs.lemmas.Bool.{or_parts, or_from, or_left, or_right, and_from, eq-eqb, ne_eqb, le-leb, leb-true, not-true}
 use Rattle.std.proofs.lemmas.List.Folds.{list_any-append}
+use Rattle.std.proofs.Math.Nat.{le-max_left, le-max_right}
 use Rattle.js_base.specs.declared.spot.Spot.{Spot}
 use Rattle.block_table.specs.declared.block.Block.{Block}
 use Rattle.block_table.specs.declared.placed.Placed.{Placed}
@@ -19,14 +20,13 @@ use Rattle.block_table.proofs.Lists.{none_kept}
 -- that the placing takes for free is a block
 pub record Serves (before : Blocks) (p : Placing) (b : Blocks) : Type 0 where
   pub writing : b.writing ≡ p.writing
-  pub low : 2 ≤ p.from
   pub free : (file : ℕ) → p.from ≤ file → has_block before file ≡ false → has_block b file ≡ false
 
 pub serves_first : (b : Blocks) → Serves b (placing b) b
-serves_first b = record { writing = refl; low = omega arith; free = λ file above h. h }
+serves_first b = record { writing = refl; free = λ file above h. h }
 
 pub serves_restarted : (before : Blocks) (p : Placing) (b : Blocks) → Serves before p b → Serves before (restarted p) no_blocks
-serves_restarted before p b s = record { writing = refl; low = s.low; free = λ file above h. refl }
+serves_restarted before p b s = record { writing = refl; free = λ file above h. refl }
 
 -- the parts of a file that is no block
 module _ (b : Blocks) (file : ℕ) (absent : has_block b file ≡ false) where
@@ -58,7 +58,6 @@ module _ (b : Blocks) (file : ℕ) (absent : has_block b file ≡ false) where
 pub serves_removed : (before : Blocks) (p : Placing) (b : Blocks) (low high : ℕ) → Serves before p b → Serves before p (removed low high b)
 serves_removed before p b low high s = record {
   writing = s.writing;
-  low = s.low;
   free = λ file above h. absent_removed b file (s.free file above h) low high;
 }
 
@@ -82,7 +81,6 @@ module _ (before : Blocks) (p : Placing) (b : Blocks) (seq len : ℕ) (s : Serve
   serves_on : Serves before (placed_on p w len) (put_at seq (spot_on w len) b)
   serves_on = record {
     writing = refl;
-    low = s.low;
     free = λ file above h. let absent = s.free file above h in absent_put b file absent seq (spot_on w len) (absent_written b file absent w (s.writing ∙ is));
   }
 
@@ -106,28 +104,33 @@ abbrev spot_at : ℕ → ℕ → Spot
 spot_at file len = record { file = file; at = 0; len = len }
 
 module _ (before : Blocks) (p : Placing) (b : Blocks) (seq len file : ℕ) (s : Serves before p b) (found : free_from p.from before ≡ Some file) where
-  free_file : (has_block before file ≡ false) × (p.from ≤ file) × (file < p.from + (65536 - p.from))
-  free_file = found_free before p.from (65536 - p.from) file found
+  free_file : (has_block before file ≡ false) × (max 2 p.from ≤ file) × (file < max 2 p.from + (65536 - max 2 p.from))
+  free_file = found_free before (max 2 p.from) (65536 - max 2 p.from) file found
+
+  free_low : (2 ≤ file) × (p.from ≤ file) × (file ≤ 65535)
+  free_low =
+      let free = free_file in
+      (omega (arith, free.1, le-max_left 2 p.from), omega (arith, free.1, le-max_right 2 p.from), omega (arith, free.1, free.2))
 
   fits_at : is_above seq b.placed ≡ true → len < 2 ^ 32 → fits seq (spot_at file len) b ≡ true
   fits_at above small =
       let free = free_file in
-      let absent : has_block b file ≡ false = s.free file free.1 free.0 in
+      let low = free_low in
+      let absent : has_block b file ≡ false = s.free file low.1 free.0 in
       and_from (is_above seq b.placed && nat_le (end_of (spot_at file len)) (2 ^ 32 - 1)) (goes_on (spot_at file len) b.writing || begins (spot_at file len) b)
       (and_from (is_above seq b.placed) (nat_le (end_of (spot_at file len)) (2 ^ 32 - 1)) above (le-leb (end_of (spot_at file len)) (2 ^ 32 - 1) (omega (arith, small))))
       (or_right (goes_on (spot_at file len) b.writing) (begins (spot_at file len) b)
       (and_from (nat_le 2 file && nat_le file 65535) (not (has_block b file))
-      (and_from (nat_le 2 file) (nat_le file 65535) (le-leb 2 file (omega (arith, s.low, free.1))) (le-leb file 65535 (omega (arith, free.1, free.2))))
+      (and_from (nat_le 2 file) (nat_le file 65535) (le-leb 2 file low.0) (le-leb file 65535 low.2))
       (ap not absent)))
 
   serves_at : Serves before (record { from = file + 1; writing = Some (record { file = file; end = len }) }) (put_at seq (spot_at file len) b)
   serves_at =
-      let free = free_file in
+      let low = free_low in
       record {
         writing = ap (λ (n : ℕ). Some (record { file = file; end = n })) (omega arith);
-        low = omega (arith, s.low, free.1);
         free = λ other above h.
-            absent_put b other (s.free other (omega (arith, above, free.1)) h) seq (spot_at file len) (ne_eqb file other (λ same. omega (arith, above, same)));
+            absent_put b other (s.free other (omega (arith, above, low.1)) h) seq (spot_at file len) (ne_eqb file other (λ same. omega (arith, above, same)));
       }
 
 -- ---- the steps

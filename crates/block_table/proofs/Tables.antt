@@ -17,7 +17,7 @@ use Rattle.block_table.specs.declared.block.Block.{Block}
 use Rattle.block_table.specs.declared.placed.Placed.{Placed}
 use Rattle.block_table.specs.Blocks.{Blocks, no_blocks, blocks, has_block, is_among, is_used, used}
 use Rattle.block_table.specs.Puts.{end_of, is_above, goes_on, begins, fits, left_by, with_placed, put_at, is_within, without, removed}
-use Rattle.block_table.specs.Tables.{AreApart, IsTable, lies_in}
+use Rattle.block_table.specs.Tables.{AreApart, AreBlocksBelow, IsTable, lies_in}
 use Rattle.block_table.proofs.Lists.{kept_all, kept_pass, kept_same, kept-append, none_kept, each_passes}
 use Rattle.block_table.proofs.Apart.{apart_with, apart_kept, apart_first, apart_last, covers, lies_kept, lies_left, lies_right, lies_among}
 
@@ -272,3 +272,31 @@ pub block_written : (b : Blocks) (w : Block) (file : ℕ) → b.writing ≡ Some
 block_written b w file is e =
     list_any-append (λ (k : Block). k.file == file) b.older (option_to_list b.writing)
     ∙ or_right (is_among b.older file) (is_among (option_to_list b.writing) file) (ap (λ o. is_among (option_to_list o) file) is ∙ or_left (w.file == file) false e)
+
+-- ---- the files below which each is a block
+
+-- a message that goes on leaves each block
+pub below_on : (free : ℕ) (spot : Spot) (b : Blocks) (placed : List Placed) → goes_on spot b.writing ≡ true → AreBlocksBelow free b
+    → AreBlocksBelow free (record { placed = placed; older = b.older; writing = Some (written spot) })
+below_on free spot b placed e h = record { low = h.low; taken = λ file least below. go b.writing e file (h.taken file least below) }
+  where
+    go : (o : Option Block) → goes_on spot o ≡ true → (file : ℕ) → is_among (b.older ++ option_to_list o) file ≡ true → is_among (b.older ++ written spot ∷ []) file ≡ true
+    go None on file m = cc
+    go (Some w) on file m =
+        list_any-append (λ (k : Block). k.file == file) b.older (written spot ∷ [])
+        ∙ ap (λ n. is_among b.older file || (n == file || false)) (on_file spot w on)
+        ∙ sym (list_any-append (λ (k : Block). k.file == file) b.older (w ∷ []))
+        ∙ m
+
+-- one that begins a block leaves each, if the one that was being written holds a message
+pub below_begun : (free free' : ℕ) (spot : Spot) (b : Blocks) (placed : List Placed) → 2 ≤ free' → (2 < free' → free' ≡ free)
+    → (2 < free' → used placed (option_to_list b.writing) ≡ option_to_list b.writing) → AreBlocksBelow free b
+    → AreBlocksBelow free' (record { placed = placed; older = b.older ++ used placed (option_to_list b.writing); writing = Some (written spot) })
+below_begun free free' spot b placed low same kept h = record {
+  low = low;
+  taken = λ file least below.
+      let some : 2 < free' = omega (arith, least, below) in
+      list_any-append (λ (k : Block). k.file == file) (b.older ++ used placed (option_to_list b.writing)) (written spot ∷ [])
+      ∙ or_left (is_among (b.older ++ used placed (option_to_list b.writing)) file) ((spot.file == file) || false)
+      (ap (λ (ks : List Block). is_among (b.older ++ ks) file) (kept some) ∙ h.taken file least (omega (arith, below, same some)));
+}

@@ -1,5 +1,5 @@
 -- Where the next messages go, before any of them is put into the table: this server's own.
-use Rattle.std.specs.Prelude.{ℕ, ◌+◌, ◌-◌, Bool, true, false, not, nat_le, if◌then◌else◌, Option, Some, None, find, option_map, is_some}
+use Rattle.std.specs.Prelude.{ℕ, max, ◌+◌, ◌-◌, Bool, true, false, not, nat_le, if◌then◌else◌, Option, Some, None, find, option_map, is_some}
 use Rattle.std.specs.List.{range_with_len}
 use Rattle.js_base.specs.declared.spot.Spot.{Spot}
 use Rattle.block_table.specs.declared.block.Block.{Block}
@@ -11,8 +11,12 @@ abbrev pub placing : Blocks → Placing
 placing b = record { from = 2; writing = b.writing }
 
 -- the lowest file from this one on, up to 65,535, that is no block
+abbrev pub lowest_from : ℕ → Blocks → Option ℕ
+lowest_from from b = find (λ file. not (has_block b file)) (range_with_len from (65536 - from))
+
+-- the same, of the files that can be blocks, which are those from 2 on
 abbrev pub free_from : ℕ → Blocks → Option ℕ
-free_from from b = find (λ file. not (has_block b file)) (range_with_len from (65536 - from))
+free_from from b = lowest_from (max 2 from) b
 
 -- the block stays within 8,388,608 bytes with so many more
 abbrev pub stays : ℕ → Option Block → Bool

@@ -1,12 +1,12 @@
 -- What is true of every table.
-use Rattle.std.specs.Prelude.{◌≡◌, ℕ, Bool, true, false, ◌&&◌, ◌==◌, nat_le, List, [], ◌∷◌, All, map, ⊤}
+use Rattle.std.specs.Prelude.{◌≡◌, ◌<◌, ◌≤◌, ℕ, Bool, true, false, ◌&&◌, ◌==◌, nat_le, List, [], ◌∷◌, All, map, ⊤}
 use Rattle.std.specs.List.{list_any}
 use Rattle.std.specs.List.Sorted.{IsStrictlySortedBy}
 use Rattle.std.specs.Ordering.{nat_cmp}
 use Rattle.js_base.specs.declared.spot.Spot.{Spot}
 use Rattle.block_table.specs.declared.block.Block.{Block}
 use Rattle.block_table.specs.declared.placed.Placed.{Placed}
-use Rattle.block_table.specs.Blocks.{Blocks, blocks, is_among, is_used}
+use Rattle.block_table.specs.Blocks.{Blocks, blocks, has_block, is_among, is_used}
 use Rattle.block_table.specs.Puts.{end_of}
 
 -- no two of the blocks are in one file
@@ -25,3 +25,13 @@ pub record IsTable (b : Blocks) : Type 0 where
   pub apart : AreApart (blocks b)
   pub inside : All (λ p. lies_in (blocks b) p.spot ≡ true) b.placed
   pub held : All (λ k. is_used b.placed k.file ≡ true) b.older
+
+-- every file from 2 to below this one is a block
+pub record AreBlocksBelow (free : ℕ) (b : Blocks) : Type 0 where
+  pub low : 2 ≤ free
+  pub taken : (file : ℕ) → 2 ≤ file → file < free → has_block b file ≡ true
+
+-- what is true of a table, and of the file from which on a free one is sought
+pub record IsKept (free : ℕ) (b : Blocks) : Type 0 where
+  pub table : IsTable b
+  pub below : AreBlocksBelow free b

@@ -4,7 +4,7 @@ ghost use Rattle.std.specs.Prelude.{◌≡◌, ◌-◌, ◌^◌, ◌<◌, ◌≤
 ghost use Rattle.std.specs.Option.{option_to_list};
 ghost use Rattle.std.specs.Vec.{vec_len, vec_capacity};
 ghost use Rattle.block_table.specs.Blocks.{has_block, is_among, no_blocks, spot_of, used};
-ghost use Rattle.block_table.specs.Placings.{free_from, placing};
+ghost use Rattle.block_table.specs.Placings.{free_from, lowest_from, placing};
 ghost use Rattle.block_table.specs.Puts.{begins, end_of, fits, goes_on, is_above, put, put_at, removed};
 ghost use Rattle.block_table.specs.Tables.{IsTable};
 
@@ -31,17 +31,19 @@ pub struct BlockTable {
     /// The blocks but the one being written, in the order in which they were begun.
     older: Vec<Block>,
     writing: Option<Block>,
+    /// Each file from 2 to below this one is a block.
+    free: u32,
 }
 
 impl Model for BlockTable {
     ghost use Rattle.block_table.specs.Blocks.{Blocks};
-    ghost use Rattle.block_table.specs.Tables.{IsTable};
+    ghost use Rattle.block_table.specs.Tables.{IsKept};
 
     ghost Value = { Blocks };
 
     ghost view = { λ t. record { placed = t.messages; older = t.older.items; writing = t.writing } };
 
-    ghost invariant = { λ t. IsTable (record { placed = t.messages; older = t.older.items; writing = t.writing }) };
+    ghost invariant = { λ t. IsKept t.free (record { placed = t.messages; older = t.older.items; writing = t.writing }) };
 }
 
 impl BlockTable {
@@ -53,6 +55,7 @@ impl BlockTable {
             messages: Messages::new(alloc),
             older: Vec::new(alloc),
             writing: None,
+            free: FIRST_FILE,
         }
     }
 
@@ -99,11 +102,13 @@ impl BlockTable {
     {
         self.older.reserve(1)?;
         self.messages.push(seq, spot)?;
+        self.free = free_after(self.free, self.writing, &self.messages);
         add_used(&mut self.older, self.writing, &self.messages);
         self.writing = Some(Block {
             file: spot.file,
             end: spot.at + spot.len,
         });
+        self.advance();
         Ok(())
     }
 
@@ -115,6 +120,7 @@ impl BlockTable {
         if self.messages.remove(low, high) {
             let messages = &self.messages;
             self.older.retain(|block| messages.is_used(block.file));
+            self.free = FIRST_FILE;
         }
     }
 
@@ -125,6 +131,7 @@ impl BlockTable {
         self.messages.clear();
         self.older.clear();
         self.writing = None;
+        self.free = FIRST_FILE;
     }
 
     /// Where a message lies, if it is stored.
@@ -184,9 +191,24 @@ impl BlockTable {
         }
     }
 
-    /// The lowest file from this one on, up to 65,535, that is no block.
+    /// Counts the files as blocks that are, up to the lowest free one.
+    fn advance(&mut self)
+        ensures { self.new ≡ self.old }
+    {
+        self.free = self.free_from(self.free).unwrap_or(FILES);
+    }
+
+    /// The lowest file from 2 to 65,535, and from this one on, that is no block.
     pub(crate) fn free_from(&self, from: u32) -> Option<u32>
         ensures value { result ≡ free_from from self.now }
+        ensures bound { IfSome result (λ file. file ≤ 65535) }
+    {
+        self.lowest_from(from.max(self.free))
+    }
+
+    /// The lowest file from this one on, up to 65,535, that is no block.
+    fn lowest_from(&self, from: u32) -> Option<u32>
+        ensures value { result ≡ lowest_from from self.now }
         ensures bound { IfSome result (λ file. file ≤ 65535) }
     {
         let mut file = from;
@@ -236,6 +258,19 @@ fn ends_low(spot: Spot) -> bool
     ensures { result ≡ nat_le (end_of spot) (2 ^ 32 - 1) }
 {
     spot.at <= u32::MAX - spot.len
+}
+
+/// Up to where each file is a block still, from 2 on, once the block that was being written is none if it holds none of the messages.
+fn free_after(free: u32, writing: Option<Block>, messages: &Messages) -> u32
+    requires low { 2 ≤ free }
+    ensures low { 2 ≤ result }
+    ensures kept { 2 < result → result ≡ free }
+    ensures used { 2 < result → used messages.now (option_to_list writing) ≡ option_to_list writing }
+{
+    match writing {
+        Some(block) if !messages.is_used(block.file) => FIRST_FILE,
+        _ => free,
+    }
 }
 
 /// Adds the block that was being written to the others, if it holds one of the messages.

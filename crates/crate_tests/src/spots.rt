@@ -2,6 +2,7 @@
 
 use block_table::{Block, BlockTable, Placed, PutFault};
 use js_base::Spot;
+use std::alloc::Global;
 use std::test::Fail;
 
 /// How many bytes each of several messages has.
@@ -22,18 +23,18 @@ fn store(table: &mut BlockTable, seq: u64, len: u32) -> Option<Spot> {
     }
 }
 
-/// A table with messages of the sequences from 1 on.
-fn filled(rt: &HostRuntime, count: u64) -> BlockTable {
-    let mut table = BlockTable::new(rt.alloc());
+/// A table with messages of the sequences from 1 on, if each has a place.
+fn filled(alloc: Global, count: u64) -> Option<BlockTable> {
+    let mut table = BlockTable::new(alloc);
     for seq in 1..=count {
-        assert!(rt; store(&mut table, seq, LEN).is_some());
+        store(&mut table, seq, LEN)?;
     }
-    table
+    Some(table)
 }
 
 #[test]
 fn eighth_message_begins_a_file(rt: HostRuntime) -> Result<(), Fail> {
-    let mut table = filled(&rt, 7);
+    let mut table = filled(rt.alloc(), 7).ok_or("no place")?;
     assert_eq!(rt; table.writing(), Some(block(2, 7_340_270)));
     let spot = Spot {
         file: 3,
@@ -51,7 +52,7 @@ fn eighth_message_begins_a_file(rt: HostRuntime) -> Result<(), Fail> {
 
 #[test]
 fn block_is_filled_to_its_last_byte(rt: HostRuntime) -> Result<(), Fail> {
-    let mut table = filled(&rt, 7);
+    let mut table = filled(rt.alloc(), 7).ok_or("no place")?;
     assert!(rt; store(&mut table, 8, 1_048_338).is_some());
     assert_eq!(rt; table.writing(), Some(block(2, 8_388_608)));
     assert!(rt; store(&mut table, 9, 1).is_some());
@@ -61,7 +62,7 @@ fn block_is_filled_to_its_last_byte(rt: HostRuntime) -> Result<(), Fail> {
 
 #[test]
 fn blocks_go_with_their_messages(rt: HostRuntime) -> Result<(), Fail> {
-    let mut table = filled(&rt, 20);
+    let mut table = filled(rt.alloc(), 20).ok_or("no place")?;
     assert_eq!(rt;
         table.older(),
         [block(2, 7_340_270), block(3, 7_340_270)].as_slice()
@@ -84,7 +85,7 @@ fn blocks_go_with_their_messages(rt: HostRuntime) -> Result<(), Fail> {
 
 #[test]
 fn only_what_fits_is_put(rt: HostRuntime) -> Result<(), Fail> {
-    let mut table = filled(&rt, 2);
+    let mut table = filled(rt.alloc(), 2).ok_or("no place")?;
     let end = 2 * LEN;
     for (seq, file, at) in [
         (2, 2, end),
@@ -107,7 +108,7 @@ fn only_what_fits_is_put(rt: HostRuntime) -> Result<(), Fail> {
 
 #[test]
 fn batch_is_placed_before_it_is_put(rt: HostRuntime) -> Result<(), Fail> {
-    let mut table = filled(&rt, 7);
+    let mut table = filled(rt.alloc(), 7).ok_or("no place")?;
     let mut placing = table.placing();
     let first = placing.place(&table, LEN);
     placing.restart();

@@ -10,4 +10,4 @@ returns-else-is_written c =
     let b : Blocks = record { placed = i.messages; older = i.older.items; writing = i.writing } in
     let other : is_among (option_to_list b.writing) c.args.file ≡ false =
     subst (λ (t : Blocks). is_among (option_to_list t.writing) c.args.file ≡ false) (sym c.self.view_is) (sym c.if-is_written.ensures) in
-    subst (λ t. c.is_used.result ≡ has_block t c.args.file) c.self.view_is (c.is_used.ensures.value ∙ block_is b c.args.file c.self.invariant other)
+    subst (λ t. c.is_used.result ≡ has_block t c.args.file) c.self.view_is (c.is_used.ensures.value ∙ block_is b c.args.file c.self.invariant.table other)
