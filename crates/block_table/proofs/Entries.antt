@@ -1,25 +1,27 @@
 -- Messages in a map from sequences to spots: what is found, added and removed, and how the files are counted.
-use Rattle.std.proofs.Common.{◌≡◌, ℕ, ◌+◌, ◌<◌, ◌≤◌, ◌==◌, ◌&&◌, ◌||◌, Bool, true, false, cond, not, List, [], ◌∷◌, ◌++◌, Option, Some, None, length, refl, sym, ap, ◌∙◌, arith}
+use Rattle.std.proofs.Common.{◌≡◌, ℕ, ◌+◌, ◌<◌, ◌≤◌, ◌==◌, ◌&&◌, ◌||◌, Bool, true, false, cond, not, List, [], ◌∷◌, ◌++◌, Option, Some, None, length, refl, sym, ap, subst, ◌∙◌, arith, ◌⊎◌, inl, inr}
 use Rattle.std.specs.Prelude.{All, filter, find, nat_le, nat_lt, sum_by, unwrap_or, slice_get, option_map, is_none, is_some}
 use Rattle.std.specs.List.{list_any}
 use Rattle.std.specs.List.Sorted.{IsStrictlySortedBy}
 use Rattle.std.specs.Cmp.{nat_cmp_is, nat_cmp_total, eq_by_cmp_equiv}
 use Rattle.std.specs.Ordering.{nat_cmp, is_le, is_lt, match_ordering}
 use Rattle.std.specs.declared.cmp.Ordering.TheVariants.{Greater}
+use Rattle.std.specs.Option.{option_to_list}
 use Rattle.std.specs.Map.{keys_of, values_of, lookup, remove_entry}
 use Rattle.std.specs.BTreeMap.{is_at, insert_entry}
 use Rattle.std.proofs.lemmas.Map.{NonePasses}
 use Rattle.std.proofs.lemmas.Map.Entries.{none_past_head, sum_by-remove_entry}
 use Rattle.std.proofs.lemmas.Map.Keys.{sorted_tail, IsDistinct-from_sorted}
-use Rattle.std.proofs.lemmas.Bool.{not-true, or_parts, eqb-true, eqb-false, eq-eqb, lt-ltb, le-ltb, leb-false}
+use Rattle.std.proofs.lemmas.Bool.{true≢false, and_cases, not-true, or_parts, eqb-true, eqb-false, eq-eqb, lt-ltb, le-ltb, leb-false}
 use Rattle.std.proofs.lemmas.Bool.Decides.{nat_tests}
 use Rattle.std.proofs.lemmas.List.{map-append}
 use Rattle.std.proofs.lemmas.List.Sums.{sum_by-cons, sum_by_push}
 use Rattle.js_base.specs.declared.spot.Spot.{Spot}
+use Rattle.block_table.specs.declared.block.Block.{Block}
 use Rattle.block_table.specs.declared.counts.FileCounts.{FileCounts}
 use Rattle.block_table.specs.declared.placed.Placed.{Placed}
-use Rattle.block_table.specs.Blocks.{is_used, spot_of}
-use Rattle.block_table.specs.Counts.{count_in, one_at, shown, AreCounted}
+use Rattle.block_table.specs.Blocks.{is_among, is_used, spot_of}
+use Rattle.block_table.specs.Counts.{count_in, one_at, shown, AreCounted, UsesAsBefore}
 use Rattle.block_table.specs.Puts.{is_above, is_within, with_placed, without}
 use Rattle.block_table.proofs.Lists.{kept_length, none_found}
 
@@ -259,16 +261,33 @@ still_used : (n m one : ℕ) (b : Bool) → one ≡ cond b 1 0 → n + one ≡ m
 still_used n m one true o sum some = lt-ltb 0 n (some refl) ∙ sym (lt-ltb 0 m (omega (arith, sum, some refl)))
 still_used n m one false o sum some = ap (nat_lt 0) (omega (arith, o, sum))
 
-pub used_still : (here : ℕ) (es fs : Entries) (counts counts' : FileCounts) → AreCounted es counts → AreCounted fs counts'
-    → ((other : ℕ) → count_in counts' other + one_at other here ≡ count_in counts other) → (count_in counts' here == 0) ≡ false
-    → (file : ℕ) → is_used (shown fs) file ≡ is_used (shown es) file
-used_still here es fs counts counts' h h' less left file =
-    sym (used_is file fs counts' h')
-    ∙ still_used (count_in counts' file) (count_in counts file) (one_at file here) (here == file) refl (less file) some
-    ∙ used_is file es counts h
-  where
-    here_some : 0 < count_in counts' here
-    here_some = grind (arith, nat_tests, left)
+module _ (here : ℕ) (es fs : Entries) (counts counts' : FileCounts) (h : AreCounted es counts) (h' : AreCounted fs counts')
+    (less : (other : ℕ) → count_in counts' other + one_at other here ≡ count_in counts other) where
+  used_same : (file : ℕ) → ((here == file) ≡ true → 0 < count_in counts' file) → is_used (shown fs) file ≡ is_used (shown es) file
+  used_same file some =
+      sym (used_is file fs counts' h')
+      ∙ still_used (count_in counts' file) (count_in counts file) (one_at file here) (here == file) refl (less file) some
+      ∙ used_is file es counts h
 
-    some : (here == file) ≡ true → 0 < count_in counts' file
-    some e = let same : here ≡ file = eqb-true here file e in rw (← same) here_some
+  -- it is counted still
+  used_still : (writing : Option Block) → (count_in counts' here == 0) ≡ false → UsesAsBefore (shown es) (shown fs) writing
+  used_still writing left = record { at = λ file other. used_same file (λ e. let same : here ≡ file = eqb-true here file e in subst (λ (n : ℕ). 0 < count_in counts' n) same some) }
+    where
+      some : 0 < count_in counts' here
+      some = grind (arith, nat_tests, left)
+
+  -- it is being written
+  used_written : (writing : Option Block) → is_among (option_to_list writing) here ≡ true → UsesAsBefore (shown es) (shown fs) writing
+  used_written writing there = record {
+    at = λ file other. used_same file (λ e. let same : here ≡ file = eqb-true here file e in absurd (true≢false (sym there ∙ ap (is_among (option_to_list writing)) same ∙ other)));
+  }
+
+  -- it is counted still, or being written
+  pub used_before : (writing : Option Block) (w : Bool) → w ≡ is_among (option_to_list writing) here → (count_in counts' here == 0 && not w) ≡ false
+      → UsesAsBefore (shown es) (shown fs) writing
+  used_before writing true is free = used_written writing (sym is)
+  used_before writing false is free = used_still writing (either (and_cases (count_in counts' here == 0) true free))
+    where
+      either : ((count_in counts' here == 0) ≡ false) ⊎ (true ≡ false) → (count_in counts' here == 0) ≡ false
+      either (inl e) = e
+      either (inr e) = absurd (true≢false e)

@@ -16,6 +16,7 @@ use Rattle.js_base.specs.declared.spot.Spot.{Spot}
 use Rattle.block_table.specs.declared.block.Block.{Block}
 use Rattle.block_table.specs.declared.placed.Placed.{Placed}
 use Rattle.block_table.specs.Blocks.{Blocks, no_blocks, blocks, has_block, is_among, is_used, used}
+use Rattle.block_table.specs.Counts.{UsesAsBefore}
 use Rattle.block_table.specs.Puts.{end_of, is_above, goes_on, begins, fits, left_by, with_placed, put_at, is_within, without, removed}
 use Rattle.block_table.specs.Tables.{AreApart, AreBlocksBelow, IsTable, lies_in}
 use Rattle.block_table.proofs.Lists.{kept_all, kept_pass, kept_same, kept-append, none_kept, each_passes}
@@ -117,11 +118,20 @@ removed_is low high b ps ks left kept =
     ap (λ (ks' : List Block). record { placed = ps; older = ks'; writing = b.writing }) kept
     ∙ ap (λ (ps' : List Placed). record { placed = ps'; older = used ps' b.older; writing = b.writing }) left
 
--- if each file is used as before, no block goes
-pub held_still : (b : Blocks) (left : List Placed) → IsTable b → ((file : ℕ) → is_used left file ≡ is_used b.placed file) → used left b.older ≡ b.older
+-- the block being written is in the file of no other
+older_other : (ks more : List Block) → AreApart (ks ++ more) → All (λ k. is_among more k.file ≡ false) ks
+older_other [] more h = All-nil (λ k. is_among more k.file ≡ false)
+older_other (k ∷ ks) more h =
+    All-cons (λ x. is_among more x.file ≡ false) k ks
+    (or_parts (is_among ks k.file) (is_among more k.file) (sym (list_any-append (λ (y : Block). y.file == k.file) ks more) ∙ h.0)).1
+    (older_other ks more h.1)
+
+-- if each other file is used as before, no block goes
+pub held_still : (b : Blocks) (left : List Placed) → IsTable b → UsesAsBefore b.placed left b.writing → used left b.older ≡ b.older
 held_still b left h same =
-    kept_same (λ (k : Block). is_used left k.file) (λ k. is_used b.placed k.file) (λ k. same k.file) b.older
-    ∙ kept_all (λ (k : Block). is_used b.placed k.file) b.older h.held
+    kept_all (λ (k : Block). is_used left k.file) b.older
+    (both (λ k. is_used b.placed k.file ≡ true) (λ k. is_among (option_to_list b.writing) k.file ≡ false) (λ k. is_used left k.file ≡ true) b.older
+    (λ k held other. same.at k.file other ∙ held) h.held (older_other b.older (option_to_list b.writing) h.apart))
 
 -- ---- a message comes
 

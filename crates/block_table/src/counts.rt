@@ -1,6 +1,6 @@
 //! How many messages lie in each file.
 
-ghost use Rattle.std.specs.Prelude.{◌≡◌, ◌+◌, ◌^◌, ◌<◌, ◌==◌, OnOk, OnErr};
+ghost use Rattle.std.specs.Prelude.{◌≡◌, ◌+◌, ◌^◌, ◌<◌, ◌==◌, ◌&&◌, not, OnOk, OnErr};
 ghost use Rattle.block_table.specs.Counts.{count_in, one_at};
 
 use js_base::NoMemory;
@@ -44,15 +44,16 @@ impl FileCounts {
         Ok(())
     }
 
-    /// Counts a message less in the file, and tells whether none is left there. It takes no memory.
-    pub(crate) fn take(&mut self, file: u32) -> bool
+    /// Counts a message less in the file, and tells whether the file is free then: none is left there, and it is not being written. It takes no
+    /// memory.
+    pub(crate) fn take(&mut self, file: u32, is_written: bool) -> bool
         requires some { 0 < count_in self.old file }
         ensures less { (other : _) → count_in self.new other + one_at other file ≡ count_in self.old other }
-        ensures bare { result ≡ (count_in self.new file == 0) }
+        ensures free { result ≡ (count_in self.new file == 0 && not is_written) }
     {
         if self.of(file) == 1 {
             self.counts.remove(&file);
-            return true;
+            return !is_written;
         }
         if let Some(count) = self.counts.get_mut(&file) {
             *count -= 1;

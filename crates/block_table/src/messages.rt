@@ -3,8 +3,10 @@
 ghost use Rattle.std.specs.Prelude.{◌≡◌, ◌==◌, [], not, nat_le, filter, find, option_map, true, OnOk, OnErr};
 ghost use Rattle.std.specs.Bool.{OnFalse};
 ghost use Rattle.block_table.specs.Blocks.{is_used, spot_of};
+ghost use Rattle.block_table.specs.Counts.{UsesAsBefore};
 ghost use Rattle.block_table.specs.Puts.{is_above, is_within, with_placed, without};
 
+use crate::block::{Block, is_in};
 use crate::counts::FileCounts;
 use crate::placed::Placed;
 use js_base::{NoMemory, Spot};
@@ -80,21 +82,21 @@ impl Messages {
         match self.spots.insert(seq, spot) {
             Ok(_) => Ok(()),
             Err(_) => {
-                self.counts.take(spot.file);
+                self.counts.take(spot.file, false);
                 Err(NoMemory)
             }
         }
     }
 
-    /// Takes out the messages with a sequence from `low` to `high`, and tells whether a file may hold none any more that held some. It takes no
-    /// memory.
-    pub(crate) fn remove(&mut self, low: u64, high: u64) -> bool
+    /// Takes out the messages with a sequence from `low` to `high`, and tells whether a file other than that of the block being written may hold none
+    /// any more that held some. It takes no memory.
+    pub(crate) fn remove(&mut self, low: u64, high: u64, writing: Option<Block>) -> bool
         ensures left { self.new ≡ without low high self.old }
-        ensures kept { OnFalse result ((file : _) → is_used self.new file ≡ is_used self.old file) }
+        ensures kept { OnFalse result (UsesAsBefore self.old self.new writing) }
     {
         let mut emptied = false;
         while let Some(seq) = self.first_within(low, high) {
-            if self.take(seq) {
+            if self.take(seq, writing) {
                 emptied = true;
             }
         }
@@ -114,13 +116,13 @@ impl Messages {
         }
     }
 
-    /// Takes out a message, if it is stored, and tells whether its file held no other.
-    fn take(&mut self, seq: u64) -> bool
+    /// Takes out a message, if it is stored, and tells whether its file held no other and is not that of the block being written.
+    fn take(&mut self, seq: u64, writing: Option<Block>) -> bool
         ensures left { self.new ≡ filter (λ p. not (p.seq == seq)) self.old }
-        ensures kept { OnFalse result ((file : _) → is_used self.new file ≡ is_used self.old file) }
+        ensures kept { OnFalse result (UsesAsBefore self.old self.new writing) }
     {
         match self.spots.remove(&seq) {
-            Some(spot) => self.counts.take(spot.file),
+            Some(spot) => self.counts.take(spot.file, is_in(writing, spot.file)),
             None => false,
         }
     }

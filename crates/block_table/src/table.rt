@@ -8,7 +8,7 @@ ghost use Rattle.block_table.specs.Placings.{free_from, lowest_from, placing};
 ghost use Rattle.block_table.specs.Puts.{begins, end_of, fits, goes_on, is_above, put, put_at, removed};
 ghost use Rattle.block_table.specs.Tables.{IsTable};
 
-use crate::block::Block;
+use crate::block::{Block, is_in};
 use crate::fault::PutFault;
 use crate::messages::Messages;
 use crate::placed::Placed;
@@ -113,11 +113,11 @@ impl BlockTable {
     }
 
     /// Takes out the messages with a sequence from `low` to `high`. A block that holds none any more is none, unless it is being written. It takes
-    /// no memory. The cost grows with the number of these messages, and with the number of blocks if one of them lost its last message.
+    /// no memory. The cost grows with the number of these messages, and with the number of blocks if one that is not being written lost its last message.
     pub fn remove(&mut self, low: u64, high: u64)
         ensures { self.new ≡ removed low high self.old }
     {
-        if self.messages.remove(low, high) {
+        if self.messages.remove(low, high, self.writing) {
             let messages = &self.messages;
             self.older.retain(|block| messages.is_used(block.file));
             self.free = FIRST_FILE;
@@ -175,10 +175,7 @@ impl BlockTable {
     fn is_written(&self, file: u32) -> bool
         ensures { result ≡ is_among (option_to_list self.now.writing) file }
     {
-        match self.writing {
-            Some(block) => block.file == file,
-            None => false,
-        }
+        is_in(self.writing, file)
     }
 
     /// Where the messages of a batch go that comes next.

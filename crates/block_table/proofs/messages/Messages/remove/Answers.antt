@@ -23,7 +23,7 @@ loop-seq-preserved c = record {
   left = ap (without c.args.low c.args.high) c.take.ensures.left
       ∙ without_less c.args.low c.args.high c.in-Some.seq c.loop-seq.self (found_within c.args.low c.args.high c.in-Some.seq c.loop-seq.self (sym c.in-Some.ensures.value))
       ∙ c.loop-seq.invariant.left;
-  kept = OnFalse_from c.loop-seq.emptied _ (λ no_more file. c.if-take.ensures.kept file ∙ OnFalse_at no_more c.loop-seq.invariant.kept file);
+  kept = OnFalse_from c.loop-seq.emptied _ (λ none. let before = OnFalse_at none c.loop-seq.invariant.kept in record { at = λ file other. c.if-take.ensures.kept.at file other ∙ before.at file other });
 }
 
 pub returns-clause-left : goal.returns-clause-left

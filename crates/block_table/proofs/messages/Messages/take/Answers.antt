@@ -1,7 +1,7 @@
 use Rattle.std.proofs.Common.{ap, sym, ◌∙◌}
 use Rattle.std.proofs.lemmas.Bool.{OnFalse_from}
 use Rattle.block_table.specs.Counts.{shown}
-use Rattle.block_table.proofs.Entries.{Entries, shown_less, counted_here, counted_less, used_still}
+use Rattle.block_table.proofs.Entries.{Entries, shown_less, counted_here, counted_less, used_before}
 use Rattle.block_table.proofs.messages.Messages.take.Goals as goal
 
 pub take-requires : goal.take-requires
@@ -21,9 +21,9 @@ returns-in-Some-clause-left c =
 pub returns-in-Some-clause-kept : goal.returns-in-Some-clause-kept
 returns-in-Some-clause-kept c =
     OnFalse_from c.take.result _
-    (λ no. rw (← c.self.view_is)
-    (used_still c.in-Some.spot.file c.self.inside.spots.entries c.remove.new.self.entries c.self.inside.counts c.take.new.self c.self.invariant (invariant_of-self c) c.take.ensures.less
-    (sym c.take.ensures.bare ∙ no)))
+    (λ none. rw (← c.self.view_is)
+    (used_before c.in-Some.spot.file c.self.inside.spots.entries c.remove.new.self.entries c.self.inside.counts c.take.new.self c.self.invariant (invariant_of-self c) c.take.ensures.less
+    c.args.writing c.is_in.result c.is_in.ensures (sym c.take.ensures.free ∙ none)))
 
 pub returns-in-None-clause-left : goal.returns-in-None-clause-left
 returns-in-None-clause-left c =
