@@ -17,6 +17,8 @@ mod replies;
 #[cfg(test)]
 mod router;
 #[cfg(test)]
+mod spots;
+#[cfg(test)]
 mod wants;
 #[cfg(test)]
 mod words;

@@ -1,0 +1,17 @@
+//! Where the stored messages of a stream lie in the blocks of a volume, how far each block is written, and where the next message goes.
+#![tactic(auto)]
+
+mod block;
+mod counts;
+mod fault;
+pub mod laws;
+mod messages;
+mod placed;
+mod placing;
+mod table;
+
+pub use block::Block;
+pub use fault::PutFault;
+pub use placed::Placed;
+pub use placing::Placing;
+pub use table::BlockTable;
