@@ -176,9 +176,14 @@ pub(crate) fn answers(ran: &Outcome, wanted: &[u8]) -> bool {
     ran.status == 0 && ran.printed.is_empty() && ran.given.as_slice().ends_with(wanted)
 }
 
+/// Whether the client was given this behind the greeting, and nothing else, however the run ended.
+pub(crate) fn gave(ran: &Outcome, wanted: &[u8]) -> bool {
+    ran.given.as_slice().strip_prefix(GREETING) == Some(wanted)
+}
+
 /// Whether the run ended well, and the client was given this behind the greeting, and nothing else.
 pub(crate) fn gives(ran: &Outcome, wanted: &[u8]) -> bool {
-    answers(ran, wanted) && ran.given.as_slice().strip_prefix(GREETING) == Some(wanted)
+    answers(ran, wanted) && gave(ran, wanted)
 }
 
 /// Whether the text has this part.

@@ -1,9 +1,9 @@
-//! A client's deed, while each call of the volume fails in turn, and while the volume stops at each call: what was answered is found by whoever runs the
+//! A client's deed, while each call of the volume fails in turn, and while the volume stops at each call: what was confirmed is found by whoever runs the
 //! server again over what a crash leaves.
 
 use crate::deeds::{self, Deed, QUESTIONS};
 use crate::failing::{Failing, is_untroubled, opening_calls, with_failing};
-use crate::runs::{Outcome, after, gives, has, serve, volume_of, with_stream};
+use crate::runs::{Outcome, after, gave, gives, has, serve, volume_of, with_stream};
 use std::alloc::Global;
 use std::process::Abort;
 use std::sync::Wait;
@@ -17,9 +17,9 @@ const MANY: u64 = 60;
 /// What came of a deed.
 #[derive(Clone, Copy, PartialEq, Eq)]
 enum Came {
-    /// It was answered.
+    /// It was answered, and is on the volume.
     Done,
-    /// It was told that the volume failed, where that is told.
+    /// It was told that the volume failed, where that is told; or the volume failed later, and the answer had confirmed nothing.
     Undone,
     /// Something else, which is wrong.
     Wrong,
@@ -36,7 +36,7 @@ struct Sides {
 fn came_of(ran: &Outcome, deed: &Deed) -> Came {
     if gives(ran, deed.answer) {
         Came::Done
-    } else if gives(ran, deed.refusal) {
+    } else if gives(ran, deed.refusal) || !deed.is_confirmed && gave(ran, deed.answer) {
         Came::Undone
     } else {
         Came::Wrong

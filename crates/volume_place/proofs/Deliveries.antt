@@ -1,6 +1,7 @@
 -- What a delivery of a place on a volume comes to.
-use Rattle.std.proofs.Common.{◌≡◌, inl, ℕ, false, List, ◌++◌, length, take, Some, None, Result, Ok, Err, refl, sym, ap, subst, ◌∙◌, arith}
+use Rattle.std.proofs.Common.{◌≡◌, ◌⊎◌, inl, inr, ℕ, true, false, List, ◌++◌, length, take, Some, None, Result, Ok, Err, refl, sym, ap, subst, ◌∙◌, arith}
 use Rattle.std.proofs.Math.Seq.{take-append_seam}
+use Rattle.std.proofs.lemmas.Bool.{true≢false}
 use Rattle.std.proofs.lemmas.List.{append-nil}
 use Rattle.js_base.specs.Bytes.{Bytes}
 use Rattle.js_base.specs.declared.out.Out.{Out}
@@ -11,18 +12,19 @@ use Rattle.effects.specs.Effects.{delivery_effects}
 use Rattle.effects.specs.declared.effect.Effect.{Effect}
 use Rattle.vol_disk.specs.Disk.{Disk}
 use Rattle.place_engine.specs.Answers.{DeliversNone, DeliversSome, LeftBy}
-use Rattle.place_engine.specs.Delivering.{Delivers, EndsDelivery, tick_at}
+use Rattle.place_engine.specs.Delivering.{Delivers, EndsDelivery, TellsDelivery, tick_at}
 use Rattle.place_engine.specs.Recording.{TellsLeft}
 use Rattle.place_engine.specs.Stepping.{Elapses}
 use Rattle.place_engine.specs.declared.faults.Left.{Left}
 use Rattle.place_engine.specs.declared.faults.Left.TheVariants.{Nothing, Ticked, Unsaid}
 use Rattle.place_engine.specs.declared.faults.PlaceFault.{PlaceFault}
 use Rattle.place_engine.specs.declared.faults.PlaceFault.TheVariants.{NoMemory, StoreFault, Full, Stopped, Gone, Worn}
-use Rattle.volume_place.specs.Bringing.{Confirms}
+use Rattle.volume_place.specs.Bringing.{Confirms, GoesOn}
 use Rattle.volume_place.specs.Contents.{Contents}
 use Rattle.volume_place.specs.Images.{holds}
 use Rattle.volume_place.specs.Making.{KeepsStore, RecordsDelivery}
 use Rattle.volume_place.specs.Seeing.{seen_of}
+use Rattle.volume_place.specs.Tail.{SharesDelivery, is_small}
 use Rattle.volume_place.proofs.Steps.{no_time, passes, rests_still, told_as, undone}
 
 module _ {V : Type 0} (told : Type 0) (disk : V → Disk) (faults : V → ℕ) (a : Contents V) where
@@ -93,17 +95,44 @@ module _ {V : Type 0} (told : Type 0) (disk : V → Disk) (faults : V → ℕ) (
       waits_as : (new : State) → new ≡ state → waiting ≡ a.waiting ++ delivery_effects a.state now delivery new
       waits_as new same = subst (λ (s : State). waiting ≡ a.waiting ++ delivery_effects a.state now delivery s) (sym same) waits
 
-      ends_as : (result : Result (Unit {0}) PlaceFault) (n : Contents V) (after : List Out)
-          → Confirms false (length before) result (seen_of told disk faults Made) (seen_of told disk faults n) middle after
-          → EndsDelivery (told_as (Some delivery) result) now listening (seen_of told disk faults a) (seen_of told disk faults n) before after
-      ends_as (Ok done) n after h = record {
+      -- it is told, and committed or held back
+      tells : (n : Contents V) (after : List Out) → after ≡ middle → GoesOn (Some false) (seen_of told disk faults Made) (seen_of told disk faults n)
+          → TellsDelivery delivery now listening (seen_of told disk faults a) (seen_of told disk faults n) before after
+      tells n after same (inl all) = record {
         sent = delivers.sent;
-        makes = record { going = going; delivered = delivered_as n.state h.0.keeps.state };
-        goes = h.0.goes;
-        outs = h.1 ∙ delivers.outs_are;
-        fits = λ full. h.0.fits (subst (seen_of told disk faults a).is_full (sym (waits_as n.state h.0.keeps.state)) full);
-        may = inl h.0.flushed;
+        makes = record { going = going; delivered = delivered_as n.state all.all.keeps.state };
+        goes = all.all.goes;
+        outs = same ∙ delivers.outs_are;
+        fits = λ full. all.all.fits (subst (seen_of told disk faults a).is_full (sym (waits_as n.state all.all.keeps.state)) full);
+        may = inl all.all.flushed;
       }
+      tells n after same (inr held) = record {
+        sent = delivers.sent;
+        makes = record { going = going; delivered = delivered_as n.state held.rests.rests.state };
+        goes = held.rests.rests.stopped ∙ going;
+        outs = same ∙ delivers.outs_are;
+        fits = λ full. held.fits (subst (seen_of told disk faults a).is_full (sym (waits_as n.state held.rests.rests.state)) full);
+        may = inr (record { base = held.rests.rests.base; waiting = held.rests.rests.waiting ∙ waits_as n.state held.rests.rests.state });
+      }
+
+      -- just if what waits is not little
+      shares : (n : Contents V) → GoesOn (Some false) (seen_of told disk faults Made) (seen_of told disk faults n) → SharesDelivery delivery now (seen_of told disk faults a) (seen_of told disk faults n)
+      shares n (inl all) = inl (record { cause = because all.cause; flushed = all.all.flushed })
+        where
+          because : (false ≡ true) ⊎ (is_small waiting ≡ false) → ⊥ ⊎ (is_small (a.waiting ++ delivery_effects a.state now delivery n.state) ≡ false)
+          because (inl never) = absurd (true≢false (sym never))
+          because (inr big) = inr (ap is_small (sym (waits_as n.state all.all.keeps.state)) ∙ big)
+      shares n (inr held) = inr (record {
+        unconfirmed = λ never. never;
+        small = ap is_small (sym (waits_as n.state held.rests.rests.state)) ∙ held.small;
+        put_off = record { base = held.rests.rests.base; waiting = held.rests.rests.waiting ∙ waits_as n.state held.rests.rests.state };
+        volume = record { volume = held.rests.volume.volume; images = held.rests.volume.images };
+      })
+
+      ends_as : (result : Result (Unit {0}) PlaceFault) (n : Contents V) (after : List Out)
+          → Confirms (Some false) false (length before) result (seen_of told disk faults Made) (seen_of told disk faults n) middle after
+          → EndsDelivery (told_as (Some delivery) result) now listening (seen_of told disk faults a) (seen_of told disk faults n) before after
+      ends_as (Ok done) n after h = tells n after h.1 h.0
       ends_as (Err (NoMemory (Unsaid refused))) n after h = record {
         delivery = delivery;
         sent = delivers.sent;
@@ -140,7 +169,7 @@ module _ {V : Type 0} (told : Type 0) (disk : V → Disk) (faults : V → ℕ) (
       ends_as (Err (Worn refused)) n after h = absurd h
 
       delivers_as : (result : Result (Unit {0}) PlaceFault) (n : Contents V) (after : List Out)
-          → Confirms false (length before) result (seen_of told disk faults Made) (seen_of told disk faults n) middle after
+          → Confirms (Some false) false (length before) result (seen_of told disk faults Made) (seen_of told disk faults n) middle after
           → Elapses holds (seen_of told disk faults Made) (seen_of told disk faults n)
           → Delivers holds (told_as (Some delivery) result) now listening (seen_of told disk faults a) (seen_of told disk faults n) before after
       delivers_as result n after h time = record {
@@ -151,11 +180,20 @@ module _ {V : Type 0} (told : Type 0) (disk : V → Disk) (faults : V → ℕ) (
 
     pub delivers_made : (m n : Contents V) (delivery : Delivery) (now : ℕ) (listening : List Bytes) (before middle after : List Out) (count : ℕ) (result : Result (Unit {0}) PlaceFault)
         → KeepsStore a m → DeliversSome a.state now listening delivery before middle m.state → RecordsDelivery (Ok (Some delivery)) now a m → count ≡ length before
-        → Confirms false count result (seen_of told disk faults m) (seen_of told disk faults n) middle after → Elapses holds (seen_of told disk faults m) (seen_of told disk faults n)
+        → Confirms (Some false) false count result (seen_of told disk faults m) (seen_of told disk faults n) middle after → Elapses holds (seen_of told disk faults m) (seen_of told disk faults n)
         → Delivers holds (told_as (Some delivery) result) now listening (seen_of told disk faults a) (seen_of told disk faults n) before after
     delivers_made m n delivery now listening before middle after count result rests delivers records counts confirms time =
-        let so_many = subst (λ (k : ℕ). Confirms false k result (seen_of told disk faults m) (seen_of told disk faults n) middle after) counts confirms in
-        let from = subst (λ (p : Contents V). Confirms false (length before) result (seen_of told disk faults p) (seen_of told disk faults n) middle after) rests so_many in
+        let so_many = subst (λ (k : ℕ). Confirms (Some false) false k result (seen_of told disk faults m) (seen_of told disk faults n) middle after) counts confirms in
+        let from = subst (λ (p : Contents V). Confirms (Some false) false (length before) result (seen_of told disk faults p) (seen_of told disk faults n) middle after) rests so_many in
         let waits = records.waiting ∙ ap (λ (l : List Effect). a.waiting ++ l) records.told in
         delivers_as m.state m.waiting delivery now listening before middle delivers waits result n after from
         (subst (λ (p : Contents V). Elapses holds (seen_of told disk faults p) (seen_of told disk faults n)) rests time)
+
+    pub delivery_shares : (m n : Contents V) (delivery : Delivery) (now : ℕ) (listening : List Bytes) (before middle after : List Out) (count : ℕ)
+        → KeepsStore a m → DeliversSome a.state now listening delivery before middle m.state → RecordsDelivery (Ok (Some delivery)) now a m
+        → Confirms (Some false) false count (Ok tt) (seen_of told disk faults m) (seen_of told disk faults n) middle after
+        → SharesDelivery delivery now (seen_of told disk faults a) (seen_of told disk faults n)
+    delivery_shares m n delivery now listening before middle after count rests delivers records confirms =
+        let waits = records.waiting ∙ ap (λ (l : List Effect). a.waiting ++ l) records.told in
+        shares m.state m.waiting delivery now listening before middle delivers waits n
+        (subst (λ (p : Contents V). GoesOn (Some false) (seen_of told disk faults p) (seen_of told disk faults n)) rests confirms.0)

@@ -37,7 +37,7 @@ use Rattle.volume_place.specs.Sound.{IsOnDisk, IsSoundPlace}
 
 -- ---- an event, and a delivery, as the machine makes them
 
-pub step_of : (old new : State) (e : Event) (now : ℕ) → e.incarnation ≡ kept_incarnation old → IsTrue (is_proper e) → now < 2 ^ 62 → new ≡ (answered old e now true).state
+unfoldable pub step_of : (old new : State) (e : Event) (now : ℕ) → e.incarnation ≡ kept_incarnation old → IsTrue (is_proper e) → now < 2 ^ 62 → new ≡ (answered old e now true).state
     → IsStep 0 old e now (answered old e now true).reply (answered old e now true).outs new
 step_of old new e now kept proper moment is = record {
   event = record { kept = kept; room = true; answers = ap (λ (s : State). record (answered old e now true) { state = s }) (sym is) };

@@ -1,7 +1,11 @@
 mod Bases
 mod Kept
+mod Moved
 mod Growing
+mod Changing
+mod Measuring
 mod Brought
+mod Concluded
 mod Steps
 mod Deliveries
 mod Opened

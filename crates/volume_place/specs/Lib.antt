@@ -4,5 +4,7 @@ pub mod Laws
 pub mod Opening
 pub mod Seeing
 pub mod Sound
+pub mod Tail
+pub mod Measured
 pub mod Bringing
 pub mod Making

@@ -1,8 +1,9 @@
 //! A place on a volume.
 
-ghost use Rattle.std.specs.Prelude.{◌≡◌, ◌≤◌, ◌^◌, ℕ, IfErr, IfOk, IsTrue, None, length};
+ghost use Rattle.std.specs.Prelude.{◌≡◌, Decides, Err, IfErr, IfOk, IfSome, IsTrue, MatchBool, None, Ok};
 ghost use Rattle.js_base.specs.Causes.{Rose};
 ghost use Rattle.js_model.specs.Events.{kept_incarnation};
+ghost use Rattle.js_model.specs.Firm.{IsFirmStep};
 ghost use Rattle.js_model.specs.Proper.{is_proper};
 ghost use Rattle.place_engine.specs.Answers.{LeftBy, MayDeliver, PlaceAnswers};
 ghost use Rattle.place_engine.specs.Delivering.{Delivers};
@@ -11,14 +12,16 @@ ghost use Rattle.place_engine.specs.Opening.{IsOpened, IsUnopened};
 ghost use Rattle.place_engine.specs.Places.{IsTold};
 ghost use Rattle.place_engine.specs.Shown.{IsShown};
 ghost use Rattle.place_engine.specs.Stepping.{Elapses, IsKept, Steps};
-ghost use Rattle.volume_place.specs.Bringing.{Brings, Confirms};
+ghost use Rattle.volume_place.specs.Bringing.{Brings, Concludes, Confirms};
 ghost use Rattle.volume_place.specs.Images.{Keeps, base, clock, holds, left, reads};
 ghost use Rattle.volume_place.specs.Making.{KeepsStore, RecordsDelivery, RecordsEvent};
 ghost use Rattle.volume_place.specs.Opening.{fault_of, opens, refuses};
 ghost use Rattle.volume_place.specs.Seeing.{seen_of};
+ghost use Rattle.volume_place.specs.Tail.{MayWait, MustNotWait, SharesDelivery, SharesStep};
 
+use crate::firm::{Answered, is_firm};
 use crate::outputs::{cut_to, is_refused};
-use effects::Effect;
+use crate::tail::Tail;
 use js_base::{Blob, Moment, NoMemory, Outs};
 use js_model::{Delivery, Event, Listening, Reply};
 use place_engine::{Left, OpenFault, Place, PlaceFault, Push, Slot};
@@ -28,8 +31,8 @@ use std::marker::Model;
 use stream_store::{CommitFault, Store};
 use vol_disk::Vol;
 
-/// A place whose stream is kept on a volume. Each step and each delivery that changes what outlives a crash is committed before it is answered, together
-/// with what waits since an earlier commit found no memory. In memory it keeps the stream, and the records that wait.
+/// A place whose stream is kept on a volume. A step that is firm is committed before it is answered, together with all that waits. What any other step and a
+/// delivery change waits, until there are 1,024 records or 1 MiB of them. In memory it keeps the stream, and the records that wait.
 #[derive(Drop)]
 pub struct VolumePlace<V: Vol> {
     alloc: Global,
@@ -37,8 +40,8 @@ pub struct VolumePlace<V: Vol> {
     store: Store,
     vol: V,
     /// The records that wait for a commit.
-    waiting: Vec<Effect>,
-    /// The records of the last event or delivery, which wait behind those.
+    tail: Tail,
+    /// The records of the last event or delivery that are not there yet, which wait behind those.
     made: Made,
     /// The volume's count of faults as it stopped the place, if it did.
     stopped: Option<u64>,
@@ -56,11 +59,11 @@ impl<V: Vol> Model for VolumePlace<V> {
       state = place.slot;
       store = place.store;
       vol = place.vol;
-      waiting = place.waiting.items ++ effects_in place.made;
+      waiting = place.tail ++ effects_in place.made;
       stopped = place.stopped;
     } };
 
-    ghost invariant = { λ place. IsSoundPlace V.told (V.disk place.vol) place.store (place.waiting.items ++ effects_in place.made) place.stopped place.slot };
+    ghost invariant = { λ place. IsSoundPlace V.told (V.disk place.vol) place.store (place.tail ++ effects_in place.made) place.stopped place.slot };
 }
 
 /// Why a store was not opened, as a place tells it.
@@ -78,24 +81,36 @@ fn fault_of(fault: stream_store::OpenFault) -> OpenFault
 }
 
 impl<V: Vol> VolumePlace<V> {
-    /// Makes an event at a moment in memory, answers it, adds what it sends to the outputs, and lets its records wait. An `Err` says what is left.
-    fn answer(&mut self, event: &Event, now: Moment, outs: &mut Outs) -> Result<Reply, Left>
+    /// Makes an event at a moment in memory, answers it, adds what it sends to the outputs, lets its records wait, and tells whether it is firm. An `Err` says
+    /// what is left.
+    fn answer(&mut self, event: &Event, now: Moment, outs: &mut Outs) -> Result<Answered, Left>
         requires told { IsTold event.now.what }
         requires proper { IsTrue (is_proper event.now) }
         requires kept { event.now.incarnation ≡ kept_incarnation self.old.state }
         requires going { self.old.stopped ≡ None }
-        ensures answers { IfOk result (λ reply. PlaceAnswers self.old.state event.now.what now reply outs.old outs.new self.new.state) }
-        ensures shown { IfOk result IsShown }
+        ensures answers { IfOk result (λ said. PlaceAnswers self.old.state event.now.what now said.reply outs.old outs.new self.new.state) }
+        ensures shown { IfOk result (λ said. IsShown said.reply) }
+        ensures firm { IfOk result (λ said. IfSome said.firm (λ firm. Decides firm (IsFirmStep self.old.state event.now.what said.reply self.new.state))) }
         ensures err { IfErr result (λ left. LeftBy left self.old.state now outs.old outs.new self.new.state) }
-        ensures recorded { RecordsEvent result event.now.what now self.old self.new }
+        ensures recorded { IfOk result (λ said. RecordsEvent (Ok said.reply) event.now.what now self.old self.new) }
+        ensures err_recorded { IfErr result (λ left. RecordsEvent (Err left) event.now.what now self.old self.new) }
         ensures rests { KeepsStore self.old self.new }
     {
         // that the moment is below 2^62 is what the proof takes from this call
         let _ = now.as_nanos();
-        let Ok(()) = self.made.give_to(&mut self.waiting) else {
+        let ids = self.slot.id_count();
+        let Ok(_) = self.tail.take(&mut self.made) else {
             return Err(Left::Nothing);
         };
-        self.slot.answer(&event.what, now, outs, &mut self.made)
+        let reply = self.slot.answer(&event.what, now, outs, &mut self.made)?;
+        let firm = match self.tail.take(&mut self.made) {
+            Ok(more) => {
+                let changes = more || self.slot.id_count() < ids;
+                Some(is_firm(&event.what, &reply, changes))
+            }
+            Err(NoMemory) => None,
+        };
+        Ok(Answered { reply, firm })
     }
 
     /// Makes one delivery at a moment in memory, adds what it sends to the outputs, and lets its records wait. An `Err` says what is left.
@@ -113,7 +128,7 @@ impl<V: Vol> VolumePlace<V> {
         let _ = now.as_nanos();
         // that the incarnation is at most 2^62 is what the proof takes from this call
         let _ = self.slot.incarnation();
-        let Ok(()) = self.made.give_to(&mut self.waiting) else {
+        let Ok(_) = self.tail.take(&mut self.made) else {
             return Err(Left::Nothing);
         };
         self.slot.deliver_one(now, listening, outs, &mut self.made)
@@ -126,18 +141,16 @@ impl<V: Vol> VolumePlace<V> {
         ensures brings { Brings result (seen_of V.told V.disk V.faults self.old) (seen_of V.told V.disk V.faults self.new) }
         ensures time { Elapses holds (seen_of V.told V.disk V.faults self.old) (seen_of V.told V.disk V.faults self.new) }
     {
-        let Ok(()) = self.made.give_to(&mut self.waiting) else {
+        let Ok(_) = self.tail.take(&mut self.made) else {
             return Err(CommitFault::NoMemory);
         };
-        if self.waiting.is_empty() {
+        let records = self.tail.records();
+        if records.is_empty() {
             return Ok(());
         }
-        match self
-            .store
-            .commit(self.alloc, &mut self.vol, self.waiting.as_slice())
-        {
+        match self.store.commit(self.alloc, &mut self.vol, records) {
             Ok(()) => {
-                self.waiting.clear();
+                self.tail.clear();
                 Ok(())
             }
             Err(CommitFault::NoMemory) => Err(CommitFault::NoMemory),
@@ -152,14 +165,47 @@ impl<V: Vol> VolumePlace<V> {
         }
     }
 
-    /// Commits all that waits once something was made, which was refused or not; before it there were so many outputs, to which they are cut back
-    /// if the place is stopped.
-    fn confirm(&mut self, refused: bool, count: usize, outs: &mut Outs) -> Result<(), PlaceFault>
+    /// Whether all that waits may wait on: it is little, and the log has room for it.
+    fn may_wait(&mut self) -> Result<bool, NoMemory>
+        ensures same { self.new ≡ self.old }
+        ensures waits { IfOk result (λ waits. MatchBool waits (MayWait self.old.store self.old.waiting) (MustNotWait self.old.store self.old.waiting)) }
+    {
+        self.tail.take(&mut self.made)?;
+        let Some(bytes) = self.tail.measure(self.alloc)? else {
+            return Ok(false);
+        };
+        Ok(self.tail.records().is_empty() || self.store.fits(bytes))
+    }
+
+    /// Commits all that waits once something was made that is firm, or if it may not wait on. Without memory to tell whether that is firm it is `NoMemory`,
+    /// which leaves all as it was.
+    fn conclude(&mut self, firm: Option<bool>) -> Result<(), CommitFault>
         requires going { self.old.stopped ≡ None }
-        ensures confirms { Confirms refused count result (seen_of V.told V.disk V.faults self.old) (seen_of V.told V.disk V.faults self.new) outs.old outs.new }
+        ensures concludes { Concludes firm result (seen_of V.told V.disk V.faults self.old) (seen_of V.told V.disk V.faults self.new) }
         ensures time { Elapses holds (seen_of V.told V.disk V.faults self.old) (seen_of V.told V.disk V.faults self.new) }
     {
-        match self.bring() {
+        let Some(firm) = firm else {
+            return Err(CommitFault::NoMemory);
+        };
+        if !firm && self.may_wait()? {
+            return Ok(());
+        }
+        self.bring()
+    }
+
+    /// The same, of something that was refused or not; before it there were so many outputs, to which they are cut back if the place is stopped.
+    fn confirm(
+        &mut self,
+        firm: Option<bool>,
+        refused: bool,
+        count: usize,
+        outs: &mut Outs,
+    ) -> Result<(), PlaceFault>
+        requires going { self.old.stopped ≡ None }
+        ensures confirms { Confirms firm refused count result (seen_of V.told V.disk V.faults self.old) (seen_of V.told V.disk V.faults self.new) outs.old outs.new }
+        ensures time { Elapses holds (seen_of V.told V.disk V.faults self.old) (seen_of V.told V.disk V.faults self.new) }
+    {
+        match self.conclude(firm) {
             Ok(()) => Ok(()),
             Err(CommitFault::NoMemory) => Err(PlaceFault::NoMemory(Left::Unsaid { refused })),
             Err(CommitFault::Fault) => {
@@ -217,7 +263,7 @@ impl<V: Vol> Place for VolumePlace<V> {
             slot,
             store,
             vol,
-            waiting: Vec::new(alloc),
+            tail: Tail::new(alloc),
             made: Made::new(alloc),
             stopped: None,
         })
@@ -251,8 +297,15 @@ impl<V: Vol> Place for VolumePlace<V> {
         self.slot.ready(now, listening)
     }
 
-    /// Nothing is written if nothing of what outlives a crash changed since the last commit.
-    fn step(&mut self, event: &Event, now: Moment, outs: &mut Outs) -> Result<Reply, PlaceFault> {
+    /// It is committed with all that waits if it is firm, or if that may not wait on.
+    fn step(&mut self, event: &Event, now: Moment, outs: &mut Outs) -> Result<Reply, PlaceFault>
+        requires told { IsTold event.now.what }
+        requires proper { IsTrue (is_proper event.now) }
+        ensures steps { Steps holds result event.now now (seen_of V.told V.disk V.faults self.old) (seen_of V.told V.disk V.faults self.new) outs.old outs.new }
+        ensures shown { IfOk result IsShown }
+        ensures vol { Keeps V.disk V.faults self.old.vol self.new.vol }
+        ensures shares { IfOk result (λ reply. SharesStep reply event.now now (seen_of V.told V.disk V.faults self.old) (seen_of V.told V.disk V.faults self.new)) }
+    {
         if let Some(count) = self.stopped {
             return Err(PlaceFault::Stopped(count));
         }
@@ -262,21 +315,25 @@ impl<V: Vol> Place for VolumePlace<V> {
         }
         let count = outs.len();
         match self.answer(event, now, outs) {
-            Ok(reply) => {
-                self.confirm(is_refused(&reply), count, outs)?;
-                Ok(reply)
+            Ok(said) => {
+                self.confirm(said.firm, is_refused(&said.reply), count, outs)?;
+                Ok(said.reply)
             }
             Err(left) => Err(PlaceFault::NoMemory(left)),
         }
     }
 
-    /// Nothing is written if nothing of what outlives a crash changed since the last commit.
+    /// It is committed with all that waits if that may not wait on.
     fn deliver_one(
         &mut self,
         now: Moment,
         listening: &Listening,
         outs: &mut Outs,
-    ) -> Result<Option<Delivery>, PlaceFault> {
+    ) -> Result<Option<Delivery>, PlaceFault>
+        ensures delivers { Delivers holds result now listening.now (seen_of V.told V.disk V.faults self.old) (seen_of V.told V.disk V.faults self.new) outs.old outs.new }
+        ensures vol { Keeps V.disk V.faults self.old.vol self.new.vol }
+        ensures shares { IfOk result (λ made. IfSome made (λ delivery. SharesDelivery delivery now (seen_of V.told V.disk V.faults self.old) (seen_of V.told V.disk V.faults self.new))) }
+    {
         if let Some(count) = self.stopped {
             return Err(PlaceFault::Stopped(count));
         }
@@ -284,7 +341,7 @@ impl<V: Vol> Place for VolumePlace<V> {
         match self.deliver(now, listening, outs) {
             Ok(None) => Ok(None),
             Ok(Some(delivery)) => {
-                self.confirm(false, count, outs)?;
+                self.confirm(Some(false), false, count, outs)?;
                 Ok(Some(delivery))
             }
             Err(left) => Err(PlaceFault::NoMemory(left)),
@@ -314,7 +371,7 @@ impl<V: Vol> Place for VolumePlace<V> {
             slot: _,
             store: _,
             vol,
-            waiting: _,
+            tail: _,
             made: _,
             stopped: _,
         } = self;

@@ -13,9 +13,9 @@ use vol_disk::MemVol;
 pub enum Came {
     /// The volume was not opened.
     Unopened,
-    /// The deed was not answered, and the place was stopped.
+    /// The deed was not answered or not brought to the volume, and the place was stopped.
     Stopped,
-    /// It was answered.
+    /// It was answered, and is on the volume.
     Done,
     /// Something else, which is wrong.
     Wrong,
@@ -41,18 +41,27 @@ fn volume_failing(alloc: Global, start: &MemVol, calls: Failing) -> Result<MemVo
     Ok(start.image(1)?.with_failures(once, stop))
 }
 
-/// Whether a place that was stopped sent nothing, does nothing more, and keeps its count.
+/// Whether a place that was stopped does nothing more, and keeps its count.
 fn is_stopped(kept: &mut Kept, deed: Deed) -> bool {
-    kept.sent() == 0
-        && kept.act(deed) == Err(Undone::Place(PlaceFault::Stopped(1)))
+    kept.act(deed) == Err(Undone::Place(PlaceFault::Stopped(1)))
         && kept.act(deed) == Err(Undone::Place(PlaceFault::Stopped(1)))
 }
 
-/// Does it, and tells what came of it.
+/// Brings what was done to the volume, and tells what came of it.
+fn flush(kept: &mut Kept, deed: Deed) -> Came {
+    match kept.flush() {
+        Ok(()) => Came::Done,
+        Err(PlaceFault::StoreFault) if is_stopped(kept, deed) => Came::Stopped,
+        Err(_) => Came::Wrong,
+    }
+}
+
+/// Does it, brings it to the volume, and tells what came of it. A place that is stopped as it is done sent nothing.
 fn act(kept: &mut Kept, deed: Deed) -> Came {
     match kept.act(deed) {
-        Ok(()) => Came::Done,
-        Err(Undone::Place(PlaceFault::StoreFault)) if is_stopped(kept, deed) => Came::Stopped,
+        Ok(()) => flush(kept, deed),
+        Err(Undone::Place(PlaceFault::StoreFault)) if kept.sent() == 0 && is_stopped(kept, deed) =>
+            Came::Stopped,
         Err(_) => Came::Wrong,
     }
 }

@@ -97,6 +97,13 @@ fn drop_stream() -> What
     What::Drop { reply: None }
 }
 
+/// Time passes.
+pub fn tick() -> What
+    ensures asked { IsAsked result }
+{
+    What::Tick
+}
+
 /// What the place is asked for it.
 pub fn what_of(alloc: Global, deed: Deed) -> Result<What, NoMemory>
     ensures asked { IfOk result IsAsked }

@@ -5,7 +5,7 @@ ghost use Rattle.js_model.specs.Proper.{is_proper};
 ghost use Rattle.place_engine.specs.Places.{IsTold};
 ghost use Rattle.place_drive.specs.Asked.{IsAsked};
 
-use crate::deeds::{Deed, publish_with_id, what_of};
+use crate::deeds::{Deed, publish_with_id, tick, what_of};
 use js_base::{List, Moment, NoMemory, Outs};
 use js_model::{Event, Info, Listening, Reply, What};
 use place_drive::{START, info, stream_info};
@@ -34,6 +34,12 @@ pub struct Told {
 }
 
 impl Told {
+    /// How many messages its stream has, if there is one.
+    pub fn messages(&self) -> Option<u64> {
+        let stream = self.stream?;
+        Some(stream.messages)
+    }
+
     fn of(reply: &Reply) -> Told {
         let stream = match reply {
             Reply::Info(told) => Some(StreamTold {
@@ -151,6 +157,18 @@ impl Kept {
                 .deliver_one(self.now, &self.nobody, &mut self.outs)?;
         }
         Ok(())
+    }
+
+    /// Lets a nanosecond pass for it.
+    pub fn tick(&mut self) -> Result<(), PlaceFault> {
+        self.now = self.now.plus(1);
+        self.ask(tick())?;
+        Ok(())
+    }
+
+    /// Brings all that was done to the volume.
+    pub fn flush(&mut self) -> Result<(), PlaceFault> {
+        self.place.flush()
     }
 
     /// What is told of the place. It may publish the message with the id for that.

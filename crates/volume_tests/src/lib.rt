@@ -1,4 +1,5 @@
-//! Tests of a place on a volume in memory: what it answered is found again by whoever opens what a crash leaves, and a volume that fails stops it.
+//! Tests of a place on a volume in memory: what was brought to it is found again by whoever opens what a crash leaves, what nobody was told of shares commits,
+//! and a volume that fails stops it.
 #![tactic(auto)]
 
 #[cfg(test)]
@@ -9,3 +10,5 @@ mod crashes;
 mod deeds;
 #[cfg(test)]
 mod kept;
+#[cfg(test)]
+mod waiting;

@@ -1,19 +1,15 @@
 use Rattle.std.proofs.Common.{◌≡◌, ◌≢◌, ◌++◌, ◌==◌, ℕ, true, false, List, [], length, Some, Err, ap, refl, sym, ◌∙◌, rules}
 use Rattle.std.proofs.lemmas.Bool.{eq-eqb, eqb-true, true≢false}
-use Rattle.std.proofs.lemmas.List.{append-nil, nil_from_length}
+use Rattle.std.proofs.lemmas.List.{nil_from_length}
 use Rattle.effects.specs.declared.effect.Effect.{Effect}
 use Rattle.gate_log.specs.LogState.{LogState}
 use Rattle.place_records.specs.Records.{effects_in}
-use Rattle.place_records.specs.declared.made.Made.{Made}
 use Rattle.stream_store.specs.StoreState.{StoreState}
 use Rattle.stream_store.specs.declared.fault.CommitFault.{CommitFault}
 use Rattle.volume_place.specs.declared.volume_place.VolumePlace.TheView.{view}
 use Rattle.volume_place.proofs.Brought.{brings_none, unbrought, unbrought_sound, stands_still, fits, records_of, brings, brought_sound, fails, fills, stopped_sound, time_goes_on}
+use Rattle.volume_place.proofs.Moved.{joined, unmoved}
 use Rattle.volume_place.proofs.volume_place.VolumePlace.bring.Goals as goal
-
--- what waits once the records were moved to those that waited: nothing more is made
-joined : (given : List Effect) (made : Made) (all : List Effect) → given ≡ all → effects_in made ≡ [] → given ++ effects_in made ≡ all
-joined given made all is none = ap (λ (l : List Effect). given ++ l) none ∙ append-nil given ∙ is
 
 nothing_in : (len : ℕ) (given : List Effect) → len ≡ length given → true ≡ (len == 0) → given ≡ []
 nothing_in len given is e = nil_from_length given (sym is ∙ eqb-true len 0 (sym e))
@@ -21,21 +17,17 @@ nothing_in len given is e = nil_from_length given (sym is ∙ eqb-true len 0 (sy
 something_in : (len : ℕ) (given : List Effect) → len ≡ length given → false ≡ (len == 0) → given ≢ []
 something_in len given is e none = true≢false (sym (eq-eqb len 0 (is ∙ ap (λ (l : List Effect). length l) none)) ∙ sym e)
 
--- what waits once they were not moved
-unmoved : (given old : List Effect) (made before : Made) → given ≡ old → made ≡ before → given ++ effects_in made ≡ old ++ effects_in before
-unmoved given old made before same made_same = ap (λ (l : List Effect). l ++ effects_in made) same ∙ ap (λ (m : Made). old ++ effects_in m) made_same
-
-pub give_to-requires : goal.give_to-requires
-give_to-requires g c = search rules
+pub take-requires : goal.take-requires
+take-requires g c = search rules
 
 pub is_empty-requires : goal.is_empty-requires
 is_empty-requires g c κs = search rules
 
-pub as_slice-requires : goal.as_slice-requires
-as_slice-requires g c κs = search rules
+pub records-records-requires : goal.records-records-requires
+records-records-requires g c = search rules
 
 pub clear-requires : goal.clear-requires
-clear-requires g c κs = search rules
+clear-requires g c = search rules
 
 pub switch_way-1 : goal.switch_way-1
 switch_way-1 g c = search rules
@@ -60,17 +52,17 @@ invariant_of-self g c =
     let V = g.V.Vol in
     let x = view _ V c.self.inside in
     let going = rw (← c.self.view_is) at c.requires.going in
-    let same = unmoved c.give_to.new.effects.items c.self.inside.waiting.items c.give_to.new.self c.self.inside.made c.in_default.ensures.err c.in_default.ensures.made_left in
-    unbrought_sound V.told V.disk V.faults g.met.V.Vol.clocked x going c.self.invariant x.store x.vol (c.give_to.new.effects.items ++ effects_in c.give_to.new.self) refl refl same
+    let same = unmoved c.take.new.self c.self.inside.tail c.take.new.made c.self.inside.made c.in_default.ensures.err c.in_default.ensures.made_left in
+    unbrought_sound V.told V.disk V.faults g.met.V.Vol.clocked x going c.self.invariant x.store x.vol (c.take.new.self ++ effects_in c.take.new.made) refl refl same
 
 pub returns-in_default-clause-brings : goal.returns-in_default-clause-brings
 returns-in_default-clause-brings g c =
     let V = g.V.Vol in
     let x = view _ V c.self.inside in
     let going = rw (← c.self.view_is) at c.requires.going in
-    let same = unmoved c.give_to.new.effects.items c.self.inside.waiting.items c.give_to.new.self c.self.inside.made c.in_default.ensures.err c.in_default.ensures.made_left in
+    let same = unmoved c.take.new.self c.self.inside.tail c.take.new.made c.self.inside.made c.in_default.ensures.err c.in_default.ensures.made_left in
     rw (← c.self.view_is)
-    (unbrought V.told V.disk V.faults g.met.V.Vol.clocked x going c.self.invariant x.store x.vol (c.give_to.new.effects.items ++ effects_in c.give_to.new.self) refl refl same)
+    (unbrought V.told V.disk V.faults g.met.V.Vol.clocked x going c.self.invariant x.store x.vol (c.take.new.self ++ effects_in c.take.new.made) refl refl same)
 
 pub returns-in_default-clause-time : goal.returns-in_default-clause-time
 returns-in_default-clause-time g c =
@@ -78,27 +70,27 @@ returns-in_default-clause-time g c =
     let x = view _ V c.self.inside in
     let going = rw (← c.self.view_is) at c.requires.going in
     rw (← c.self.view_is)
-    (stands_still V.told V.disk V.faults g.met.V.Vol.clocked x going c.self.invariant (c.give_to.new.effects.items ++ effects_in c.give_to.new.self))
+    (stands_still V.told V.disk V.faults g.met.V.Vol.clocked x going c.self.invariant (c.take.new.self ++ effects_in c.take.new.made))
 
 pub invariant_of-self-then-is_empty : goal.invariant_of-self-then-is_empty
 invariant_of-self-then-is_empty g c =
     let V = g.V.Vol in
     let x = view _ V c.self.inside in
     let going = rw (← c.self.view_is) at c.requires.going in
-    let same = joined c.give_to.new.effects.items c.give_to.new.self x.waiting c.in-Ok.ensures.ok c.in-Ok.ensures.none in
-    unbrought_sound V.told V.disk V.faults g.met.V.Vol.clocked x going c.self.invariant x.store x.vol (c.give_to.new.effects.items ++ effects_in c.give_to.new.self) refl refl same
+    let same = joined c.take.new.self c.take.new.made x.waiting c.in-Ok.ensures.ok c.in-Ok.ensures.none in
+    unbrought_sound V.told V.disk V.faults g.met.V.Vol.clocked x going c.self.invariant x.store x.vol (c.take.new.self ++ effects_in c.take.new.made) refl refl same
 
 pub returns-then-is_empty-clause-brings : goal.returns-then-is_empty-clause-brings
 returns-then-is_empty-clause-brings g c =
     let V = g.V.Vol in
     let x = view _ V c.self.inside in
     let going = rw (← c.self.view_is) at c.requires.going in
-    let given = c.give_to.new.effects.items in
-    let none = nothing_in c.give_to.new.effects.len given c.give_to.new.effects.ok.0 c.if-is_empty.ensures in
-    let same = joined c.give_to.new.effects.items c.give_to.new.self x.waiting c.in-Ok.ensures.ok c.in-Ok.ensures.none in
+    let given = c.take.new.self in
+    let none = nothing_in (length c.records-records.result.now) given (ap (λ (l : List Effect). length l) c.records-records.ensures.value) c.if-is_empty.ensures in
+    let same = joined c.take.new.self c.take.new.made x.waiting c.in-Ok.ensures.ok c.in-Ok.ensures.none in
     rw (← c.self.view_is)
-    (brings_none V.told V.disk V.faults g.met.V.Vol.clocked x going c.self.invariant (c.give_to.new.effects.items ++ effects_in c.give_to.new.self)
-    (sym c.in-Ok.ensures.ok ∙ none) (joined given c.give_to.new.self [] none c.in-Ok.ensures.none))
+    (brings_none V.told V.disk V.faults g.met.V.Vol.clocked x going c.self.invariant (c.take.new.self ++ effects_in c.take.new.made)
+    (sym c.in-Ok.ensures.ok ∙ none) (joined given c.take.new.made [] none c.in-Ok.ensures.none))
 
 pub returns-then-is_empty-clause-time : goal.returns-then-is_empty-clause-time
 returns-then-is_empty-clause-time g c =
@@ -106,55 +98,55 @@ returns-then-is_empty-clause-time g c =
     let x = view _ V c.self.inside in
     let going = rw (← c.self.view_is) at c.requires.going in
     rw (← c.self.view_is)
-    (stands_still V.told V.disk V.faults g.met.V.Vol.clocked x going c.self.invariant (c.give_to.new.effects.items ++ effects_in c.give_to.new.self))
+    (stands_still V.told V.disk V.faults g.met.V.Vol.clocked x going c.self.invariant (c.take.new.self ++ effects_in c.take.new.made))
 
 pub commit-requires-clause-records : goal.commit-requires-clause-records
 commit-requires-clause-records g c =
     let V = g.V.Vol in
     let x = view _ V c.self.inside in
     let going = rw (← c.self.view_is) at c.requires.going in
-    let are = c.as_slice.ensures.value ∙ c.in-Ok.ensures.ok in
-    records_of V.told V.disk V.faults g.met.V.Vol.clocked x going c.self.invariant c.as_slice.result.now are
+    let are = c.records-records.ensures.value ∙ c.in-Ok.ensures.ok in
+    records_of V.told V.disk V.faults g.met.V.Vol.clocked x going c.self.invariant c.records-records.result.now are
 
 pub commit-requires-clause-fits : goal.commit-requires-clause-fits
 commit-requires-clause-fits g c =
     let V = g.V.Vol in
     let x = view _ V c.self.inside in
     let going = rw (← c.self.view_is) at c.requires.going in
-    let are = c.as_slice.ensures.value ∙ c.in-Ok.ensures.ok in
-    λ told. fits V.told V.disk V.faults g.met.V.Vol.clocked x going c.self.invariant c.as_slice.result.now are told
+    let are = c.records-records.ensures.value ∙ c.in-Ok.ensures.ok in
+    λ told. fits V.told V.disk V.faults g.met.V.Vol.clocked x going c.self.invariant c.records-records.result.now are told
 
 pub invariant_of-self-in-Ok-commit : goal.invariant_of-self-in-Ok-commit
 invariant_of-self-in-Ok-commit g c =
     let V = g.V.Vol in
     let x = view _ V c.self.inside in
     let going = rw (← c.self.view_is) at c.requires.going in
-    let are = c.as_slice.ensures.value ∙ c.in-Ok.ensures.ok in
-    let nothing = joined c.clear.new.self.items c.give_to.new.self [] c.clear.ensures.items c.in-Ok.ensures.none in
-    brought_sound V.told V.disk V.faults g.met.V.Vol.clocked x going c.self.invariant c.as_slice.result.now are c.commit.new.vol c.commit.new.self
-    c.in-Ok-commit.ensures.committed (c.clear.new.self.items ++ effects_in c.give_to.new.self) nothing
+    let are = c.records-records.ensures.value ∙ c.in-Ok.ensures.ok in
+    let nothing = joined c.clear.new.self c.take.new.made [] c.clear.ensures.none c.in-Ok.ensures.none in
+    brought_sound V.told V.disk V.faults g.met.V.Vol.clocked x going c.self.invariant c.records-records.result.now are c.commit.new.vol c.commit.new.self
+    c.in-Ok-commit.ensures.committed (c.clear.new.self ++ effects_in c.take.new.made) nothing
 
 pub returns-in-Ok-commit-clause-brings : goal.returns-in-Ok-commit-clause-brings
 returns-in-Ok-commit-clause-brings g c =
     let V = g.V.Vol in
     let x = view _ V c.self.inside in
     let going = rw (← c.self.view_is) at c.requires.going in
-    let are = c.as_slice.ensures.value ∙ c.in-Ok.ensures.ok in
-    let nothing = joined c.clear.new.self.items c.give_to.new.self [] c.clear.ensures.items c.in-Ok.ensures.none in
+    let are = c.records-records.ensures.value ∙ c.in-Ok.ensures.ok in
+    let nothing = joined c.clear.new.self c.take.new.made [] c.clear.ensures.none c.in-Ok.ensures.none in
     rw (← c.self.view_is)
-    (brings V.told V.disk V.faults g.met.V.Vol.clocked x going c.self.invariant c.as_slice.result.now are c.commit.new.vol c.commit.new.self
-    c.in-Ok-commit.ensures.committed (c.clear.new.self.items ++ effects_in c.give_to.new.self) nothing c.in-Ok-commit.ensures.fits_in)
+    (brings V.told V.disk V.faults g.met.V.Vol.clocked x going c.self.invariant c.records-records.result.now are c.commit.new.vol c.commit.new.self
+    c.in-Ok-commit.ensures.committed (c.clear.new.self ++ effects_in c.take.new.made) nothing c.in-Ok-commit.ensures.fits_in)
 
 pub returns-in-Ok-commit-clause-time : goal.returns-in-Ok-commit-clause-time
 returns-in-Ok-commit-clause-time g c =
     let V = g.V.Vol in
     let x = view _ V c.self.inside in
     let going = rw (← c.self.view_is) at c.requires.going in
-    let are = c.as_slice.ensures.value ∙ c.in-Ok.ensures.ok in
+    let are = c.records-records.ensures.value ∙ c.in-Ok.ensures.ok in
     rw (← c.self.view_is)
-    (time_goes_on V.told V.disk V.faults g.met.V.Vol.clocked x going c.self.invariant c.as_slice.result.now are c.commit.new.vol
+    (time_goes_on V.told V.disk V.faults g.met.V.Vol.clocked x going c.self.invariant c.records-records.result.now are c.commit.new.vol
     c.commit.ensures.later c.commit.ensures.any_moment
-    (view _ V (record c.self.inside { store = c.commit.new.self; vol = c.commit.new.vol; waiting = c.clear.new.self; made = c.give_to.new.self }))
+    (view _ V (record c.self.inside { store = c.commit.new.self; vol = c.commit.new.vol; tail = c.clear.new.self; made = c.take.new.made }))
     refl refl (ap (λ (l : LogState). l.head) c.in-Ok-commit.ensures.log) c.commit.ensures.cause.later)
 
 pub invariant_of-self-in-Err-NoMemory : goal.invariant_of-self-in-Err-NoMemory
@@ -162,9 +154,9 @@ invariant_of-self-in-Err-NoMemory g c =
     let V = g.V.Vol in
     let x = view _ V c.self.inside in
     let going = rw (← c.self.view_is) at c.requires.going in
-    let same = joined c.give_to.new.effects.items c.give_to.new.self x.waiting c.in-Ok.ensures.ok c.in-Ok.ensures.none in
+    let same = joined c.take.new.self c.take.new.made x.waiting c.in-Ok.ensures.ok c.in-Ok.ensures.none in
     unbrought_sound V.told V.disk V.faults g.met.V.Vol.clocked x going c.self.invariant c.commit.new.self c.commit.new.vol
-    (c.give_to.new.effects.items ++ effects_in c.give_to.new.self) c.in-Err-NoMemory.ensures.err
+    (c.take.new.self ++ effects_in c.take.new.made) c.in-Err-NoMemory.ensures.err
     (c.in-Err-NoMemory.ensures.no_memory (ap (λ (f : CommitFault). Err f) c.in-Err-NoMemory.field-0-is)) same
 
 pub returns-in-Err-NoMemory-clause-brings : goal.returns-in-Err-NoMemory-clause-brings
@@ -172,10 +164,10 @@ returns-in-Err-NoMemory-clause-brings g c =
     let V = g.V.Vol in
     let x = view _ V c.self.inside in
     let going = rw (← c.self.view_is) at c.requires.going in
-    let same = joined c.give_to.new.effects.items c.give_to.new.self x.waiting c.in-Ok.ensures.ok c.in-Ok.ensures.none in
+    let same = joined c.take.new.self c.take.new.made x.waiting c.in-Ok.ensures.ok c.in-Ok.ensures.none in
     rw (← c.self.view_is)
     (unbrought V.told V.disk V.faults g.met.V.Vol.clocked x going c.self.invariant c.commit.new.self c.commit.new.vol
-    (c.give_to.new.effects.items ++ effects_in c.give_to.new.self) c.in-Err-NoMemory.ensures.err
+    (c.take.new.self ++ effects_in c.take.new.made) c.in-Err-NoMemory.ensures.err
     (c.in-Err-NoMemory.ensures.no_memory (ap (λ (f : CommitFault). Err f) c.in-Err-NoMemory.field-0-is)) same)
 
 pub returns-in-Err-NoMemory-clause-time : goal.returns-in-Err-NoMemory-clause-time
@@ -183,11 +175,11 @@ returns-in-Err-NoMemory-clause-time g c =
     let V = g.V.Vol in
     let x = view _ V c.self.inside in
     let going = rw (← c.self.view_is) at c.requires.going in
-    let are = c.as_slice.ensures.value ∙ c.in-Ok.ensures.ok in
+    let are = c.records-records.ensures.value ∙ c.in-Ok.ensures.ok in
     rw (← c.self.view_is)
-    (time_goes_on V.told V.disk V.faults g.met.V.Vol.clocked x going c.self.invariant c.as_slice.result.now are c.commit.new.vol
+    (time_goes_on V.told V.disk V.faults g.met.V.Vol.clocked x going c.self.invariant c.records-records.result.now are c.commit.new.vol
     c.commit.ensures.later c.commit.ensures.any_moment
-    (view _ V (record c.self.inside { store = c.commit.new.self; vol = c.commit.new.vol; waiting = c.give_to.new.effects; made = c.give_to.new.self }))
+    (view _ V (record c.self.inside { store = c.commit.new.self; vol = c.commit.new.vol; tail = c.take.new.self; made = c.take.new.made }))
     refl refl (ap (λ (s : StoreState). s.log.head) c.in-Err-NoMemory.ensures.err) c.commit.ensures.cause.later)
 
 pub invariant_of-self-in-Err-Fault : goal.invariant_of-self-in-Err-Fault
@@ -195,10 +187,10 @@ invariant_of-self-in-Err-Fault g c =
     let V = g.V.Vol in
     let x = view _ V c.self.inside in
     let going = rw (← c.self.view_is) at c.requires.going in
-    let are = c.as_slice.ensures.value ∙ c.in-Ok.ensures.ok in
-    let same = joined c.give_to.new.effects.items c.give_to.new.self x.waiting c.in-Ok.ensures.ok c.in-Ok.ensures.none in
-    stopped_sound V.told V.disk V.faults g.met.V.Vol.clocked x going c.self.invariant c.as_slice.result.now are c.commit.new.vol
-    c.commit.ensures.later c.commit.ensures.any_moment c.commit.new.self (c.give_to.new.effects.items ++ effects_in c.give_to.new.self)
+    let are = c.records-records.ensures.value ∙ c.in-Ok.ensures.ok in
+    let same = joined c.take.new.self c.take.new.made x.waiting c.in-Ok.ensures.ok c.in-Ok.ensures.none in
+    stopped_sound V.told V.disk V.faults g.met.V.Vol.clocked x going c.self.invariant c.records-records.result.now are c.commit.new.vol
+    c.commit.ensures.later c.commit.ensures.any_moment c.commit.new.self (c.take.new.self ++ effects_in c.take.new.made)
     c.faults.result same
 
 pub returns-in-Err-Fault-clause-brings : goal.returns-in-Err-Fault-clause-brings
@@ -206,10 +198,10 @@ returns-in-Err-Fault-clause-brings g c =
     let V = g.V.Vol in
     let x = view _ V c.self.inside in
     let going = rw (← c.self.view_is) at c.requires.going in
-    let are = c.as_slice.ensures.value ∙ c.in-Ok.ensures.ok in
+    let are = c.records-records.ensures.value ∙ c.in-Ok.ensures.ok in
     rw (← c.self.view_is)
-    (fails V.told V.disk V.faults g.met.V.Vol.clocked x going c.self.invariant c.as_slice.result.now are c.commit.new.vol c.commit.ensures.later
-    c.commit.ensures.any_moment c.commit.new.self (c.give_to.new.effects.items ++ effects_in c.give_to.new.self) c.faults.result
+    (fails V.told V.disk V.faults g.met.V.Vol.clocked x going c.self.invariant c.records-records.result.now are c.commit.new.vol c.commit.ensures.later
+    c.commit.ensures.any_moment c.commit.new.self (c.take.new.self ++ effects_in c.take.new.made) c.faults.result
     c.faults.ensures.value (c.in-Err-Fault.ensures.cause.failed (ap (λ (f : CommitFault). Err f) c.in-Err-Fault.field-0-is))
     (c.in-Err-Fault.ensures.fault_fits (ap (λ (f : CommitFault). Err f) c.in-Err-Fault.field-0-is)))
 
@@ -218,11 +210,11 @@ returns-in-Err-Fault-clause-time g c =
     let V = g.V.Vol in
     let x = view _ V c.self.inside in
     let going = rw (← c.self.view_is) at c.requires.going in
-    let are = c.as_slice.ensures.value ∙ c.in-Ok.ensures.ok in
+    let are = c.records-records.ensures.value ∙ c.in-Ok.ensures.ok in
     rw (← c.self.view_is)
-    (time_goes_on V.told V.disk V.faults g.met.V.Vol.clocked x going c.self.invariant c.as_slice.result.now are c.commit.new.vol
+    (time_goes_on V.told V.disk V.faults g.met.V.Vol.clocked x going c.self.invariant c.records-records.result.now are c.commit.new.vol
     c.commit.ensures.later c.commit.ensures.any_moment
-    (view _ V (record c.self.inside { store = c.commit.new.self; vol = c.commit.new.vol; waiting = c.give_to.new.effects; made = c.give_to.new.self; stopped = Some c.faults.result }))
+    (view _ V (record c.self.inside { store = c.commit.new.self; vol = c.commit.new.vol; tail = c.take.new.self; made = c.take.new.made; stopped = Some c.faults.result }))
     refl refl (ap (λ (s : StoreState). s.log.head) c.in-Err-Fault.ensures.err) c.commit.ensures.cause.later)
 
 pub invariant_of-self-in-Err-Full : goal.invariant_of-self-in-Err-Full
@@ -230,10 +222,10 @@ invariant_of-self-in-Err-Full g c =
     let V = g.V.Vol in
     let x = view _ V c.self.inside in
     let going = rw (← c.self.view_is) at c.requires.going in
-    let are = c.as_slice.ensures.value ∙ c.in-Ok.ensures.ok in
-    let same = joined c.give_to.new.effects.items c.give_to.new.self x.waiting c.in-Ok.ensures.ok c.in-Ok.ensures.none in
-    stopped_sound V.told V.disk V.faults g.met.V.Vol.clocked x going c.self.invariant c.as_slice.result.now are c.commit.new.vol
-    c.commit.ensures.later c.commit.ensures.any_moment c.commit.new.self (c.give_to.new.effects.items ++ effects_in c.give_to.new.self)
+    let are = c.records-records.ensures.value ∙ c.in-Ok.ensures.ok in
+    let same = joined c.take.new.self c.take.new.made x.waiting c.in-Ok.ensures.ok c.in-Ok.ensures.none in
+    stopped_sound V.told V.disk V.faults g.met.V.Vol.clocked x going c.self.invariant c.records-records.result.now are c.commit.new.vol
+    c.commit.ensures.later c.commit.ensures.any_moment c.commit.new.self (c.take.new.self ++ effects_in c.take.new.made)
     c.faults-in-Err-Full.result same
 
 pub returns-in-Err-Full-clause-brings : goal.returns-in-Err-Full-clause-brings
@@ -241,11 +233,11 @@ returns-in-Err-Full-clause-brings g c =
     let V = g.V.Vol in
     let x = view _ V c.self.inside in
     let going = rw (← c.self.view_is) at c.requires.going in
-    let are = c.as_slice.ensures.value ∙ c.in-Ok.ensures.ok in
-    let some : x.waiting ≢ [] = λ none. something_in c.give_to.new.effects.len c.give_to.new.effects.items c.give_to.new.effects.ok.0 c.if-is_empty.ensures (c.in-Ok.ensures.ok ∙ none) in
+    let are = c.records-records.ensures.value ∙ c.in-Ok.ensures.ok in
+    let some : x.waiting ≢ [] = λ none. something_in (length c.records-records.result.now) c.take.new.self (ap (λ (l : List Effect). length l) c.records-records.ensures.value) c.if-is_empty.ensures (c.in-Ok.ensures.ok ∙ none) in
     rw (← c.self.view_is)
-    (fills V.told V.disk V.faults g.met.V.Vol.clocked x going c.self.invariant c.as_slice.result.now are c.commit.new.self c.commit.new.vol
-    (c.give_to.new.effects.items ++ effects_in c.give_to.new.self) c.faults-in-Err-Full.result c.faults-in-Err-Full.ensures.value
+    (fills V.told V.disk V.faults g.met.V.Vol.clocked x going c.self.invariant c.records-records.result.now are c.commit.new.self c.commit.new.vol
+    (c.take.new.self ++ effects_in c.take.new.made) c.faults-in-Err-Full.result c.faults-in-Err-Full.ensures.value
     c.in-Err-Full.ensures.err (c.in-Err-Full.ensures.full_leaves (ap (λ (f : CommitFault). Err f) c.in-Err-Full.field-0-is)) some
     (c.in-Err-Full.ensures.full (ap (λ (f : CommitFault). Err f) c.in-Err-Full.field-0-is)))
 
@@ -254,9 +246,9 @@ returns-in-Err-Full-clause-time g c =
     let V = g.V.Vol in
     let x = view _ V c.self.inside in
     let going = rw (← c.self.view_is) at c.requires.going in
-    let are = c.as_slice.ensures.value ∙ c.in-Ok.ensures.ok in
+    let are = c.records-records.ensures.value ∙ c.in-Ok.ensures.ok in
     rw (← c.self.view_is)
-    (time_goes_on V.told V.disk V.faults g.met.V.Vol.clocked x going c.self.invariant c.as_slice.result.now are c.commit.new.vol
+    (time_goes_on V.told V.disk V.faults g.met.V.Vol.clocked x going c.self.invariant c.records-records.result.now are c.commit.new.vol
     c.commit.ensures.later c.commit.ensures.any_moment
-    (view _ V (record c.self.inside { store = c.commit.new.self; vol = c.commit.new.vol; waiting = c.give_to.new.effects; made = c.give_to.new.self; stopped = Some c.faults-in-Err-Full.result }))
+    (view _ V (record c.self.inside { store = c.commit.new.self; vol = c.commit.new.vol; tail = c.take.new.self; made = c.take.new.made; stopped = Some c.faults-in-Err-Full.result }))
     refl refl (ap (λ (s : StoreState). s.log.head) c.in-Err-Full.ensures.err) c.commit.ensures.cause.later)

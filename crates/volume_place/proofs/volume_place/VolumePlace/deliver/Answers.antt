@@ -13,7 +13,7 @@ invariant_of-self-2 g c =
     let bound = rw c.incarnation.ensures.value at c.incarnation.ensures.bound in
     let moment : c.args.now < 2 ^ 62 = omega arith in
     rw c.in-Ok.ensures.ok
-    (grown_sent V.told (V.disk i.vol) i.store (i.waiting.items ++ effects_in i.made) i.stopped going i.slot c.self.invariant c.deliver_one.result c.deliver_one.new.self c.args.now
+    (grown_sent V.told (V.disk i.vol) i.store (i.tail ++ effects_in i.made) i.stopped going i.slot c.self.invariant c.deliver_one.result c.deliver_one.new.self c.args.now
     c.args.listening.now c.args.outs.now c.deliver_one.new.outs (effects_in c.deliver_one.new.made) (le-leb _ _ bound) moment c.deliver_one.ensures.delivers c.deliver_one.ensures.recorded)
 
 pub returns-clause-recorded : goal.returns-clause-recorded

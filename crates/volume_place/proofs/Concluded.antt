@@ -1,0 +1,36 @@
+-- What it comes to that what waits is committed, or waits on.
+use Rattle.std.proofs.Common.{◌≡◌, ◌⊎◌, inl, inr, ℕ, Bool, true, false, None, Some, Result, Ok, Err, refl}
+use Rattle.vol_disk.specs.Disk.{Disk}
+use Rattle.stream_store.specs.declared.fault.CommitFault.{CommitFault}
+use Rattle.stream_store.specs.declared.fault.CommitFault.TheVariants.{NoMemory, Fault, Full}
+use Rattle.place_engine.specs.Flushing.{Unflushed}
+use Rattle.volume_place.specs.Bringing.{Brings, Concludes, GoesOn}
+use Rattle.volume_place.specs.Contents.{Contents}
+use Rattle.volume_place.specs.Seeing.{IsFull, seen_of}
+use Rattle.volume_place.specs.Tail.{MayWait, MustNotWait, is_small}
+
+module _ {V : Type 0} (told : Type 0) (disk : V → Disk) (faults : V → ℕ) (a : Contents V) where
+  -- nothing is done
+  pub unchanged : a.stopped ≡ None → Unflushed (seen_of told disk faults a) (seen_of told disk faults a)
+  unchanged going = record {
+    going = going;
+    rests = record { state = refl; stored = refl; stopped = refl; base = λ b on. on; waiting = refl; outs = refl };
+    volume = record { volume = refl; images = λ t image left. left };
+  }
+
+  -- all that waits may wait on
+  pub waits_on : a.stopped ≡ None → MayWait a.store a.waiting → GoesOn (Some false) (seen_of told disk faults a) (seen_of told disk faults a)
+  waits_on going may = inr (record { unconfirmed = refl; small = may.small; fits = may.fits; rests = unchanged going })
+
+  -- it had to be committed
+  pub concluded : (firm : Bool) (n : Contents V) (result : Result (Unit {0}) CommitFault) → (firm ≡ true) ⊎ MustNotWait a.store a.waiting
+      → Brings result (seen_of told disk faults a) (seen_of told disk faults n) → Concludes (Some firm) result (seen_of told disk faults a) (seen_of told disk faults n)
+  concluded firm n (Ok done) cause brings = inl (record { cause = go cause; all = brings })
+    where
+      go : (firm ≡ true) ⊎ MustNotWait a.store a.waiting → (firm ≡ true) ⊎ (is_small a.waiting ≡ false)
+      go (inl is) = inl is
+      go (inr (inl large)) = inr large
+      go (inr (inr full)) = absurd (brings.fits full)
+  concluded firm n (Err NoMemory) cause brings = brings
+  concluded firm n (Err Fault) cause brings = brings
+  concluded firm n (Err Full) cause brings = brings
