@@ -15,7 +15,7 @@ const SYNCS: usize = 2;
 fn syncs(vol: &MemVol) -> usize {
     let mut count: usize = 0;
     for call in vol.calls() {
-        if call.file == 0 && matches!(call.deed, VolDeed::Sync) {
+        if call.file == 0 && matches!(&call.deed, VolDeed::Sync) {
             count = count.saturating_add(1);
         }
     }
@@ -25,7 +25,8 @@ fn syncs(vol: &MemVol) -> usize {
 /// A place on a volume of its own, with the stream.
 fn made(alloc: Global) -> Result<Kept, Fail> {
     match Kept::open(alloc, MemVol::new(alloc)) {
-        Ok(mut kept) => {
+        Ok(kept) => {
+            let mut kept = kept;
             kept.act(Deed::Make)?;
             Ok(kept)
         }
