@@ -1,6 +1,6 @@
 -- Messages in a map from sequences to spots: what is found, added and removed, and how the files are counted.
 use Rattle.std.proofs.Common.{◌≡◌, ℕ, ◌+◌, ◌<◌, ◌≤◌, ◌==◌, ◌&&◌, ◌||◌, Bool, true, false, cond, not, List, [], ◌∷◌, ◌++◌, Option, Some, None, length, refl, sym, ap, subst, ◌∙◌, arith, ◌⊎◌, inl, inr}
-use Rattle.std.specs.Prelude.{All, filter, find, nat_le, nat_lt, sum_by, unwrap_or, slice_get, option_map, is_none, is_some}
+use Rattle.std.specs.Prelude.{filter, find, nat_le, nat_lt, sum_by, unwrap_or, slice_get, option_map, is_none, is_some}
 use Rattle.std.specs.List.{list_any}
 use Rattle.std.specs.List.Sorted.{IsStrictlySortedBy}
 use Rattle.std.specs.Cmp.{nat_cmp_is, nat_cmp_total, eq_by_cmp_equiv}
@@ -12,7 +12,7 @@ use Rattle.std.specs.BTreeMap.{is_at, insert_entry}
 use Rattle.std.proofs.lemmas.Map.{NonePasses}
 use Rattle.std.proofs.lemmas.Map.Entries.{none_past_head, sum_by-remove_entry}
 use Rattle.std.proofs.lemmas.Map.Keys.{sorted_tail, IsDistinct-from_sorted}
-use Rattle.std.proofs.lemmas.Bool.{true≢false, and_cases, not-true, or_parts, eqb-true, eqb-false, eq-eqb, lt-ltb, le-ltb, leb-false}
+use Rattle.std.proofs.lemmas.Bool.{true≢false, and_cases, not-true, or_parts, eqb-true, eqb-false, eq-eqb, lt-ltb, leb-false}
 use Rattle.std.proofs.lemmas.Bool.Decides.{nat_tests}
 use Rattle.std.proofs.lemmas.List.{map-append}
 use Rattle.std.proofs.lemmas.List.Sums.{sum_by-cons, sum_by_push}

@@ -1,5 +1,5 @@
 -- What is true of every table stays true, and what a change comes to in one.
-use Rattle.std.proofs.Common.{◌≡◌, ℕ, ◌+◌, ◌<◌, ◌≤◌, ◌^◌, ◌-◌, ◌==◌, ◌&&◌, ◌||◌, Bool, true, false, cond, not, List, [], ◌∷◌, ◌++◌, Option, Some, None, length, map, refl, sym, ap, ◌∙◌, subst, arith, slice_index_or}
+use Rattle.std.proofs.Common.{◌≡◌, ℕ, ◌<◌, ◌≤◌, ◌^◌, ◌-◌, ◌==◌, ◌&&◌, ◌||◌, Bool, true, false, cond, not, List, [], ◌∷◌, ◌++◌, Option, Some, None, map, refl, sym, ap, ◌∙◌, subst, arith, slice_index_or}
 use Rattle.std.specs.Prelude.{All, filter, nat_le}
 use Rattle.std.specs.List.{list_any, AllByRecursion}
 use Rattle.std.specs.List.Sorted.{IsStrictlySortedBy}
@@ -7,9 +7,8 @@ use Rattle.std.specs.Option.{option_to_list}
 use Rattle.std.specs.Ordering.{nat_cmp}
 use Rattle.std.specs.declared.cmp.Ordering.TheVariants.{Less}
 use Rattle.std.specs.Cmp.{nat_cmp_is}
-use Rattle.std.proofs.lemmas.Bool.{true≢false, or_parts, or_from, or_left, or_right, and_parts, and_from, eqb-true, eq-eqb, leb-true, le-leb, leb-false, not-true}
-use Rattle.std.proofs.lemmas.Bool.Decides.{nat_tests}
-use Rattle.std.proofs.lemmas.List.{map-append, append-nil, append_assoc}
+use Rattle.std.proofs.lemmas.Bool.{or_parts, or_left, or_right, and_parts, and_from, eqb-true, eq-eqb, leb-true, le-leb, leb-false, not-true}
+use Rattle.std.proofs.lemmas.List.{map-append}
 use Rattle.std.proofs.lemmas.List.Elements.{All-head, All-tail, All-push, All-filter, All-cons, All-nil}
 use Rattle.std.proofs.lemmas.List.Folds.{list_any-append}
 use Rattle.js_base.specs.declared.spot.Spot.{Spot}
@@ -19,7 +18,7 @@ use Rattle.block_table.specs.Blocks.{Blocks, no_blocks, blocks, has_block, is_am
 use Rattle.block_table.specs.Counts.{UsesAsBefore}
 use Rattle.block_table.specs.Puts.{end_of, is_above, goes_on, begins, fits, left_by, with_placed, put_at, is_within, without, removed}
 use Rattle.block_table.specs.Tables.{AreApart, AreBlocksBelow, IsTable, lies_in}
-use Rattle.block_table.proofs.Lists.{kept_all, kept_pass, kept_same, kept-append, none_kept, each_passes}
+use Rattle.block_table.proofs.Lists.{kept_all, kept_pass, kept-append, each_passes}
 use Rattle.block_table.proofs.Apart.{apart_with, apart_kept, apart_first, apart_last, covers, lies_kept, lies_left, lies_right, lies_among}
 
 -- ---- used

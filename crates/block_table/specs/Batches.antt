@@ -1,7 +1,6 @@
 -- A batch: all of its messages are placed first, by the table before it, and then its steps change the table one after the other.
-use Rattle.std.specs.Prelude.{◌≡◌, ℕ, ◌<◌, ◌^◌, true, List, [], ◌∷◌, Option, Some, IfSome, ⊤}
+use Rattle.std.specs.Prelude.{◌≡◌, ℕ, ◌<◌, ◌^◌, true, List, [], ◌∷◌, IfSome, ⊤}
 use Rattle.std.specs.Option.{IsSomeAnd}
-use Rattle.js_base.specs.declared.spot.Spot.{Spot}
 use Rattle.block_table.specs.declared.placing.Placing.{Placing}
 use Rattle.block_table.specs.Blocks.{Blocks, no_blocks}
 use Rattle.block_table.specs.Puts.{is_above, put, removed}

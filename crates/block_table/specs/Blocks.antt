@@ -1,5 +1,5 @@
 -- Where the stored messages of a stream lie in the blocks of a volume, this server's own.
-use Rattle.std.specs.Prelude.{ℕ, ◌+◌, Bool, ◌==◌, List, [], ◌++◌, Option, None, filter, find, option_map}
+use Rattle.std.specs.Prelude.{ℕ, Bool, ◌==◌, List, [], ◌++◌, Option, None, filter, find, option_map}
 use Rattle.std.specs.List.{list_any}
 use Rattle.std.specs.Option.{option_to_list}
 use Rattle.js_base.specs.declared.spot.Spot.{Spot}

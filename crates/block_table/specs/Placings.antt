@@ -1,5 +1,5 @@
 -- Where the next messages go, before any of them is put into the table: this server's own.
-use Rattle.std.specs.Prelude.{ℕ, max, ◌+◌, ◌-◌, Bool, true, false, not, nat_le, if◌then◌else◌, Option, Some, None, find, option_map, is_some}
+use Rattle.std.specs.Prelude.{ℕ, max, ◌+◌, ◌-◌, Bool, false, not, nat_le, if◌then◌else◌, Option, Some, None, find, option_map, is_some}
 use Rattle.std.specs.List.{range_with_len}
 use Rattle.js_base.specs.declared.spot.Spot.{Spot}
 use Rattle.block_table.specs.declared.block.Block.{Block}

@@ -5,7 +5,6 @@ use Rattle.std.specs.List.Sorted.{IsStrictlySortedBy}
 use Rattle.std.specs.Ordering.{nat_cmp}
 use Rattle.js_base.specs.declared.spot.Spot.{Spot}
 use Rattle.block_table.specs.declared.block.Block.{Block}
-use Rattle.block_table.specs.declared.placed.Placed.{Placed}
 use Rattle.block_table.specs.Blocks.{Blocks, blocks, has_block, is_among, is_used}
 use Rattle.block_table.specs.Puts.{end_of}
 

@@ -24,7 +24,8 @@ const FIRST_FILE: u32 = 2;
 const FILES: u32 = 65_536;
 
 /// Where the stored messages of a stream lie in the blocks of a volume, and how far each block is written. A block is a file that holds a stored
-/// message, or the one being written, which is the file of the message that was put last.
+/// message, or the one being written, which is the file of the message that was put last. A call costs the logarithm of how many messages and files
+/// there are; only `remove` may look at each block, and so does the first message that begins one after that.
 #[derive(Drop)]
 pub struct BlockTable {
     messages: Messages,
