@@ -1,6 +1,12 @@
 -- What it comes to that what waits is committed, or waits on.
-use Rattle.std.proofs.Common.{◌≡◌, ◌⊎◌, inl, inr, ℕ, Bool, true, false, None, Some, Result, Ok, Err, refl}
+use Rattle.std.proofs.Common.{◌≡◌, ◌≢◌, ◌⊎◌, ◌≤◌, ◌<◌, ◌+◌, ◌^◌, inl, inr, ℕ, Bool, true, false, List, [], length, None, Some, Result, Ok, Err, refl, sym, arith}
+use Rattle.std.specs.Prelude.{◌↔◌, IsTrue, MatchBool}
+use Rattle.std.specs.List.{flat_map}
+use Rattle.std.proofs.lemmas.Bool.{true≢false}
 use Rattle.vol_disk.specs.Disk.{Disk}
+use Rattle.effects.specs.declared.effect.Effect.{Effect}
+use Rattle.op_records.specs.Spelling.{spelled}
+use Rattle.stream_store.specs.StoreState.{StoreState}
 use Rattle.stream_store.specs.declared.fault.CommitFault.{CommitFault}
 use Rattle.stream_store.specs.declared.fault.CommitFault.TheVariants.{NoMemory, Fault, Full}
 use Rattle.place_engine.specs.Flushing.{Unflushed}
@@ -34,3 +40,24 @@ module _ {V : Type 0} (told : Type 0) (disk : V → Disk) (faults : V → ℕ) (
   concluded firm n (Err NoMemory) cause brings = brings
   concluded firm n (Err Fault) cause brings = brings
   concluded firm n (Err Full) cause brings = brings
+
+-- ---- whether it may wait
+
+module _ (store : StoreState) (waiting : List Effect) (small : is_small waiting ≡ true) where
+  -- there is nothing to commit
+  pub nothing_waits : waiting ≡ [] → MayWait store waiting
+  nothing_waits none = record { small = small; fits = λ full. full.0 none }
+
+  -- the log has room, or not, for so many bytes
+  pub room_tells : (bytes : ℕ) (fits : Bool) → bytes ≡ length (flat_map spelled waiting) → waiting ≢ [] → IsTrue fits ↔ (store.log.end + 6 + bytes ≤ 2 ^ 31)
+      → MatchBool fits (MayWait store waiting) (MustNotWait store waiting)
+  room_tells bytes true are some told = record {
+    small = small;
+    fits = λ full.
+        let within : store.log.end + 6 + bytes ≤ 2 ^ 31 = told.0 refl in
+        let beyond : 2 ^ 31 < store.log.end + 6 + length (flat_map spelled waiting) = full.1 in
+        omega (arith, within, beyond, are);
+  }
+  room_tells bytes false are some told =
+      let not_within : ¬ (store.log.end + 6 + bytes ≤ 2 ^ 31) = λ within. true≢false (sym (told.1 within)) in
+      inr (some, omega (arith, not_within, are))

@@ -9,3 +9,4 @@ mod Concluded
 mod Steps
 mod Deliveries
 mod Opened
+mod Empty

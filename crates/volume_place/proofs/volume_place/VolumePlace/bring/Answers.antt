@@ -1,6 +1,4 @@
-use Rattle.std.proofs.Common.{◌≡◌, ◌≢◌, ◌++◌, ◌==◌, ℕ, true, false, List, [], length, Some, Err, ap, refl, sym, ◌∙◌, rules}
-use Rattle.std.proofs.lemmas.Bool.{eq-eqb, eqb-true, true≢false}
-use Rattle.std.proofs.lemmas.List.{nil_from_length}
+use Rattle.std.proofs.Common.{◌≡◌, ◌≢◌, ◌++◌, List, [], length, Some, Err, ap, refl, sym, ◌∙◌, rules}
 use Rattle.effects.specs.declared.effect.Effect.{Effect}
 use Rattle.gate_log.specs.LogState.{LogState}
 use Rattle.place_records.specs.Records.{effects_in}
@@ -8,14 +6,9 @@ use Rattle.stream_store.specs.StoreState.{StoreState}
 use Rattle.stream_store.specs.declared.fault.CommitFault.{CommitFault}
 use Rattle.volume_place.specs.declared.volume_place.VolumePlace.TheView.{view}
 use Rattle.volume_place.proofs.Brought.{brings_none, unbrought, unbrought_sound, stands_still, fits, records_of, brings, brought_sound, fails, fills, stopped_sound, time_goes_on}
+use Rattle.volume_place.proofs.Empty.{nothing_in, something_in}
 use Rattle.volume_place.proofs.Moved.{joined, unmoved}
 use Rattle.volume_place.proofs.volume_place.VolumePlace.bring.Goals as goal
-
-nothing_in : (len : ℕ) (given : List Effect) → len ≡ length given → true ≡ (len == 0) → given ≡ []
-nothing_in len given is e = nil_from_length given (sym is ∙ eqb-true len 0 (sym e))
-
-something_in : (len : ℕ) (given : List Effect) → len ≡ length given → false ≡ (len == 0) → given ≢ []
-something_in len given is e none = true≢false (sym (eq-eqb len 0 (is ∙ ap (λ (l : List Effect). length l) none)) ∙ sym e)
 
 pub take-requires : goal.take-requires
 take-requires g c = search rules
