@@ -1,4 +1,0 @@
-pub mod Subjects
-pub mod Pulls
-pub mod Bodies
-pub mod Tokens

@@ -1,9 +1,0 @@
-pub mod Steps
-pub mod Subjects
-pub mod Asks
-pub mod Bodies
-pub mod Pulls
-pub mod Reading
-pub mod Answers
-pub mod Grammar
-pub mod Laws

@@ -1,4 +1,0 @@
-pub mod StreamsWhole
-pub mod ConsumersWhole
-pub mod Whole
-pub mod AckRows

@@ -1,6 +1,0 @@
-use Rattle.std.specs.Prelude.{IsSome}
-use Rattle.bench_disk.proofs.writing.append.Given as goal
-
--- batches may be appended
-abbrev pub invariant-loop : goal.invariant-loop
-invariant-loop l = IsSome l.log.head

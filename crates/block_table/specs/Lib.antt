@@ -1,6 +1,0 @@
-pub mod Blocks
-pub mod Puts
-pub mod Tables
-pub mod Placings
-pub mod Batches
-pub mod Counts

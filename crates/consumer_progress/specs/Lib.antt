@@ -1,4 +1,0 @@
-pub mod Progresses
-pub mod Sending
-pub mod Ending
-pub mod GivingUp

@@ -1,4 +1,0 @@
-pub mod Beginnings
-pub mod Following
-pub mod Opened
-pub mod Timed

@@ -1,9 +1,0 @@
-//! The ids by which a stream knows that it has a message already: JetStream's duplicate window.
-#![tactic(auto)]
-
-mod fault;
-mod known;
-mod window;
-
-pub use fault::WindowFault;
-pub use window::DedupWindow;

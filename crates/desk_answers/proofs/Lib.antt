@@ -1,3 +1,0 @@
-pub mod Ordered
-pub mod AckTexts
-pub mod ConsumerTexts

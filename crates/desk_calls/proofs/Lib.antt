@@ -1,2 +1,0 @@
-mod AckCalls
-mod ApiCalls

@@ -1,8 +1,0 @@
-pub mod Ports
-pub mod Outcomes
-pub mod Steps
-pub mod Crashes
-pub mod OnePlace
-pub mod Hearing
-pub mod Deliveries
-pub mod Following

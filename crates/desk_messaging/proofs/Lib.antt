@@ -1,3 +1,0 @@
-pub mod Published
-mod Publishes
-pub mod Told

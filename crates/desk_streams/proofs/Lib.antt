@@ -1,6 +1,0 @@
-mod Asked
-mod Cataloging
-mod Defaults
-mod Questions
-mod Refused
-mod Walks

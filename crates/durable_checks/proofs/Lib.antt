@@ -1,9 +1,0 @@
-pub mod Rest
-pub mod Parting
-pub mod Searching
-pub mod Storing
-pub mod Different
-pub mod Newest
-pub mod Settling
-pub mod Opening
-pub mod Rising

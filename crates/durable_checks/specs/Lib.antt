@@ -1,4 +1,0 @@
-pub mod Storable
-pub mod Parts
-pub mod Known
-pub mod Limits

@@ -1,7 +1,0 @@
-pub mod Durables
-pub mod Restorable
-pub mod Ranges
-pub mod Folding
-pub mod TimeEffects
-pub mod Effects
-pub mod Laws

@@ -1,4 +1,0 @@
-use Rattle.followed_stream.proofs.followed.FollowedStreamView.at_or_after.Goals as goal
-
-pub returns : goal.returns
-returns c = record { value = rw (← c.self.view_is) c.at_or_after.ensures.value }

@@ -1,4 +1,0 @@
-pub mod Entries
-pub mod Lawful
-pub mod Fronts
-pub mod Laws

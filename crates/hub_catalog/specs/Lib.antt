@@ -1,5 +1,0 @@
-pub mod Lists
-pub mod Kinds
-pub mod Calls
-pub mod Turns
-pub mod Laws

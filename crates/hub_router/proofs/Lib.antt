@@ -1,3 +1,0 @@
-mod Openers
-mod Called
-pub mod Sessions

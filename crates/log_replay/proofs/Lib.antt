@@ -1,8 +1,0 @@
-mod Ranges
-mod Moving
-mod Ids
-mod Streams
-mod Holders
-mod Changes
-mod Picking
-mod Makings

@@ -1,4 +1,0 @@
-pub mod Kept
-pub mod Taken
-pub mod Given
-pub mod Made

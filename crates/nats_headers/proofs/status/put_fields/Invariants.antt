@@ -1,8 +1,0 @@
-use Rattle.std.proofs.Common.{◌≡◌, ◌++◌, take}
-use Rattle.std.specs.List.{flat_map}
-use Rattle.js_base.specs.Status.{status_field}
-use Rattle.nats_headers.proofs.status.put_fields.Given as goal
-
--- the lines of the fields so far were added
-abbrev pub invariant-loop-name : goal.invariant-loop-name
-invariant-loop-name l = l.into.items ≡ l.initial.into.items ++ flat_map status_field (take l.name-index l.fields)

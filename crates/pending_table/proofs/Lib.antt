@@ -1,6 +1,0 @@
-pub mod Around
-pub mod Ranges
-pub mod Kept
-pub mod Changed
-pub mod Tables
-pub mod Moved

@@ -1,9 +1,0 @@
-//! The deliveries of a consumer that wait for their acknowledgement.
-#![tactic(auto)]
-
-mod asked;
-mod bounds;
-mod table;
-mod tree;
-
-pub use table::PendingTable;

@@ -1,9 +1,0 @@
-//! Tests of a place in memory with consumers, which is asked one thing after the other, as JetStream's documentation has it.
-#![tactic(auto)]
-
-#[cfg(test)]
-mod deliveries;
-#[cfg(test)]
-mod outputs;
-#[cfg(test)]
-mod retentions;

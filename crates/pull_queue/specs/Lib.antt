@@ -1,5 +1,0 @@
-pub mod Queue
-pub mod Passing
-pub mod Fronts
-pub mod Quiet
-pub mod Kept

@@ -1,4 +1,0 @@
-pub mod Misfits
-pub mod Changes
-pub mod Faults
-pub mod Entries

@@ -1,4 +1,0 @@
-pub mod Replayed
-pub mod Delivering
-pub mod GivingUp
-pub mod Storable

@@ -1,7 +1,0 @@
-//! One consumer, as the records of a log make it.
-#![tactic(auto)]
-
-mod replayed;
-mod tables;
-
-pub use replayed::ReplayedConsumer;

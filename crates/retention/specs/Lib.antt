@@ -1,3 +1,0 @@
-pub mod Over
-pub mod Firsts
-pub mod Laws

@@ -1,9 +1,0 @@
-pub mod Queues
-pub mod Sessions
-pub mod Subscriptions
-pub mod Groups
-pub mod Spreading
-pub mod Deliveries
-pub mod Table
-pub mod Heard
-pub mod Idle

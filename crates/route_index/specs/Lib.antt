@@ -1,8 +1,0 @@
-pub mod Subs
-pub mod Ids
-pub mod Searching
-pub mod Beneath
-pub mod Sought
-pub mod Names
-pub mod NodeIds
-pub mod Tree

@@ -1,4 +1,0 @@
-mod Runs
-mod Acked
-mod Outliving
-mod Unopened

@@ -1,5 +1,0 @@
-use Rattle.std.proofs.Common.{sym}
-use Rattle.server.proofs.printing.print_disk_fault.Goals as goal
-
-pub returns : goal.returns
-returns g c = record { printed = rw (sym c.from.ensures) c.print_line.ensures.printed }

@@ -1,9 +1,0 @@
-use denote.Param.Send.{IsSend, IsSync}
-use Rattle.place_threads.proofs.Crossing.{place_crosses}
-use Rattle.server_tests.proofs.greatest_input.greatest_input_ends_the_run.Goals as goal
-
-pub run-finish-requires-send-P : goal.run-finish-requires-send-P
-run-finish-requires-send-P g c κs = search (place_crosses) depth 20
-
-pub run-finish-requires-sync-P : goal.run-finish-requires-sync-P
-run-finish-requires-sync-P g c κs = search (place_crosses) depth 20

@@ -1,9 +1,0 @@
-use Rattle.std.proofs.Common.{refl}
-use Rattle.shared_desk.proofs.Desks.{desk_made, kept_consistent}
-use Rattle.shared_desk.proofs.desk.HubDeskDesk.settle.Goals as goal
-
-pub invariant_of-self : goal.invariant_of-self
-invariant_of-self g c = kept_consistent c.self.inside.ground c.settle.new.ground c.self.inside.caller c.self.inside.caller c.self.invariant c.settle.ensures.setting c.settle.ensures.phase refl refl
-
-pub returns-clause-made : goal.returns-clause-made
-returns-clause-made g c = rw (← c.self.view_is) (desk_made _ _ _ _ _ c.settle.ensures.made)

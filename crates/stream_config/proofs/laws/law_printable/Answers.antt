@@ -1,5 +1,0 @@
-use Rattle.stream_config.proofs.Parts.{printable}
-use Rattle.stream_config.proofs.laws.law_printable.Goals as goal
-
-pub returns : goal.returns
-returns c = record { printable = printable }

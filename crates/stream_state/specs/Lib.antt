@@ -1,5 +1,0 @@
-pub mod Settled
-pub mod Answering
-pub mod Serving
-pub mod Removing
-pub mod GivingUp

@@ -1,5 +1,0 @@
-mod Cutting
-mod EachPart
-mod TalkLaws
-mod Confirmed
-mod Replied

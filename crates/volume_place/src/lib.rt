@@ -1,9 +1,0 @@
-//! A place that keeps its stream on a volume, so that it outlives a crash.
-#![tactic(auto)]
-
-mod firm;
-mod outputs;
-mod tail;
-mod volume_place;
-
-pub use volume_place::VolumePlace;

@@ -1,0 +1,15 @@
+//! A log in a file of a volume: a list of batches, each of which is there whole or not at all, whenever a crash comes.
+#![tactic(auto)]
+
+mod ends;
+mod fault;
+mod gates;
+mod head;
+pub mod laws;
+mod log;
+mod staging;
+mod starting;
+
+pub use fault::LogFault;
+pub use log::GateLog;
+pub use staging::Batch;

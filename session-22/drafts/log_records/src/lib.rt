@@ -1,0 +1,13 @@
+//! What the batches of a log give, read as records: where its place began, and each change since.
+#![tactic(auto)]
+
+mod batch;
+mod fault;
+mod held;
+pub mod laws;
+mod log;
+mod made;
+mod spots;
+
+pub use fault::ReadFault;
+pub use log::{LogRead, read_log};

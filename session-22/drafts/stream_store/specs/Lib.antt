@@ -1,0 +1,16 @@
+pub mod StoreState
+pub mod Logs
+pub mod Holding
+pub mod Damage
+pub mod Faults
+pub mod Steps
+pub mod Placing
+pub mod Staging
+pub mod Reading
+pub mod Opening
+pub mod Finding
+pub mod Beginning
+pub mod Base
+pub mod Committing
+pub mod Waiting
+pub mod Laws
