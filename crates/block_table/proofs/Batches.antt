@@ -69,7 +69,7 @@ abbrev placed_on : Placing → Block → ℕ → Placing
 placed_on p w len = record { from = p.from; writing = Some (record { file = w.file; end = w.end + len }) }
 
 module _ (before : Blocks) (p : Placing) (b : Blocks) (seq len : ℕ) (s : Serves before p b) (w : Block) (is : p.writing ≡ Some w) where
-  fits_on : is_above seq b.placed ≡ true → stays len (Some w) ≡ true → fits seq (spot_on w len) b ≡ true
+  pub fits_on : is_above seq b.placed ≡ true → stays len (Some w) ≡ true → fits seq (spot_on w len) b ≡ true
   fits_on above within =
       let most : w.end + len ≤ 8388608 = leb-true (w.end + len) 8388608 within in
       and_from (is_above seq b.placed && nat_le (end_of (spot_on w len)) (2 ^ 32 - 1)) (goes_on (spot_on w len) b.writing || begins (spot_on w len) b)
@@ -77,7 +77,7 @@ module _ (before : Blocks) (p : Placing) (b : Blocks) (seq len : ℕ) (s : Serve
       (or_left (goes_on (spot_on w len) b.writing) (begins (spot_on w len) b)
       (ap (goes_on (spot_on w len)) (s.writing ∙ is) ∙ and_from (w.file == w.file) (w.end == w.end) (eq-eqb w.file w.file refl) (eq-eqb w.end w.end refl)))
 
-  serves_on : Serves before (placed_on p w len) (put_at seq (spot_on w len) b)
+  pub serves_on : Serves before (placed_on p w len) (put_at seq (spot_on w len) b)
   serves_on = record {
     writing = refl;
     free = λ file above h. let absent = s.free file above h in absent_put b file absent seq (spot_on w len) (absent_written b file absent w (s.writing ∙ is));
@@ -86,7 +86,7 @@ module _ (before : Blocks) (p : Placing) (b : Blocks) (seq len : ℕ) (s : Serve
 -- ---- a message that begins a file
 
 -- the file that is found is free
-found_free : (b : Blocks) (from n file : ℕ) → find (λ f. not (has_block b f)) (range_with_len from n) ≡ Some file
+pub found_free : (b : Blocks) (from n file : ℕ) → find (λ f. not (has_block b f)) (range_with_len from n) ≡ Some file
     → (has_block b file ≡ false) × (from ≤ file) × (file < from + n)
 found_free b from zero file h = cc
 found_free b from (suc n) file h = go (has_block b from) refl h (found_free b (from + 1) n file)
@@ -111,7 +111,7 @@ module _ (before : Blocks) (p : Placing) (b : Blocks) (seq len file : ℕ) (s : 
       let free = free_file in
       (omega (arith, free.1, le-max_left 2 p.from), omega (arith, free.1, le-max_right 2 p.from), omega (arith, free.1, free.2))
 
-  fits_at : is_above seq b.placed ≡ true → len < 2 ^ 32 → fits seq (spot_at file len) b ≡ true
+  pub fits_at : is_above seq b.placed ≡ true → len < 2 ^ 32 → fits seq (spot_at file len) b ≡ true
   fits_at above small =
       let free = free_file in
       let low = free_low in
@@ -123,7 +123,7 @@ module _ (before : Blocks) (p : Placing) (b : Blocks) (seq len file : ℕ) (s : 
       (and_from (nat_le 2 file) (nat_le file 65535) (le-leb 2 file low.0) (le-leb file 65535 low.2))
       (ap not absent)))
 
-  serves_at : Serves before (record { from = file + 1; writing = Some (record { file = file; end = len }) }) (put_at seq (spot_at file len) b)
+  pub serves_at : Serves before (record { from = file + 1; writing = Some (record { file = file; end = len }) }) (put_at seq (spot_at file len) b)
   serves_at =
       let low = free_low in
       record {

@@ -4,3 +4,4 @@ pub mod Apart
 pub mod Tables
 pub mod Free
 pub mod Batches
+pub mod Rooms

@@ -17,7 +17,7 @@ use Rattle.block_table.specs.declared.placed.Placed.{Placed}
 use Rattle.block_table.specs.Blocks.{Blocks, no_blocks, blocks, has_block, is_among, is_used, used}
 use Rattle.block_table.specs.Counts.{UsesAsBefore}
 use Rattle.block_table.specs.Puts.{end_of, is_above, goes_on, begins, fits, left_by, with_placed, put_at, is_within, without, removed}
-use Rattle.block_table.specs.Tables.{AreApart, AreBlocksBelow, IsTable, lies_in}
+use Rattle.block_table.specs.Tables.{AreApart, AreBlocksBelow, IsFile, IsTable, lies_in}
 use Rattle.block_table.proofs.Lists.{kept_all, kept_pass, kept-append, each_passes}
 use Rattle.block_table.proofs.Apart.{apart_with, apart_kept, apart_first, apart_last, covers, lies_kept, lies_left, lies_right, lies_among}
 
@@ -79,6 +79,7 @@ unfolding IsStrictlySortedBy
 table_none = record {
   rising = tt;
   apart = tt;
+  files = All-nil (λ (k : Block). IsFile k.file);
   inside = All-nil (λ p. lies_in (blocks no_blocks) p.spot ≡ true);
   held = All-nil (λ k. is_used [] k.file ≡ true);
 }
@@ -97,6 +98,30 @@ lies_part t spot ks more kept h = go (lies_in ks spot) refl (sym (list_any-appen
     go true e l = lies_left spot (filter (λ k. t k.file) ks) more (lies_kept t spot ks kept e)
     go false e l = lies_right spot (filter (λ k. t k.file) ks) more l
 
+-- ---- files
+
+abbrev InFile : Block → Type 0
+InFile k = IsFile k.file
+
+files_kept : (t : Block → Bool) (ks more : List Block) → All InFile (ks ++ more) → All InFile (filter t ks ++ more)
+files_kept t [] more h = h
+files_kept t (k ∷ ks) more h = go (t k)
+  where
+    rest : All InFile (filter t ks ++ more)
+    rest = files_kept t ks more (All-tail InFile k (ks ++ more) h)
+
+    go : (b : Bool) → All InFile (cond b (k ∷ filter t ks) (filter t ks) ++ more)
+    go true = All-cons InFile k (filter t ks ++ more) (All-head InFile k (ks ++ more) h) rest
+    go false = rest
+
+files_first : (ks more : List Block) → All InFile (ks ++ more) → All InFile ks
+files_first [] more h = All-nil InFile
+files_first (k ∷ ks) more h = All-cons InFile k ks (All-head InFile k (ks ++ more) h) (files_first ks more (All-tail InFile k (ks ++ more) h))
+
+files_last : (ks : List Block) (k : Block) → All InFile (ks ++ k ∷ []) → IsFile k.file
+files_last [] k h = All-head InFile k [] h
+files_last (j ∷ ks) k h = files_last ks k (All-tail InFile j (ks ++ k ∷ []) h)
+
 -- ---- messages go
 
 pub table_removed : (low high : ℕ) (b : Blocks) → IsTable b → IsTable (removed low high b)
@@ -106,6 +131,7 @@ table_removed low high b h =
     record {
       rising = rising_kept (λ p. not (is_within low high p.seq)) b.placed h.rising;
       apart = apart_kept (λ k. is_used left k.file) b.older (option_to_list b.writing) h.apart;
+      files = files_kept (λ k. is_used left k.file) b.older (option_to_list b.writing) h.files;
       inside = both (λ p. is_used left p.spot.file ≡ true) (λ p. lies_in (blocks b) p.spot ≡ true) (λ p. lies_in (blocks (removed low high b)) p.spot ≡ true) left
           (λ p. lies_part (is_used left) p.spot b.older (option_to_list b.writing)) (each_used left) within;
       held = kept_pass (λ k. is_used left k.file) b.older;
@@ -204,12 +230,36 @@ module _ (seq : ℕ) (spot : Spot) (b : Blocks) (h : IsTable b) (f : fits seq sp
       go true e = on_lies b.writing e l
       go false e = lies_left s (blocks b) (written spot ∷ []) l
 
+  left_files : All InFile (left_by spot b)
+  left_files = go (goes_on spot b.writing)
+    where
+      go : (g : Bool) → All InFile (cond g b.older (blocks b))
+      go true = files_first b.older (option_to_list b.writing) h.files
+      go false = h.files
+
+  -- the spot is in the file of a block
+  pub put_file : IsFile spot.file
+  put_file = go (goes_on spot b.writing) refl (fits_where seq spot b f)
+    where
+      on_written : (o : Option Block) → goes_on spot o ≡ true → All InFile (b.older ++ option_to_list o) → IsFile spot.file
+      on_written None e files = cc
+      on_written (Some w) e files = subst IsFile (sym (on_file spot w e)) (files_last b.older w files)
+
+      go : (g : Bool) → goes_on spot b.writing ≡ g → (g || begins spot b) ≡ true → IsFile spot.file
+      go true e ok = on_written b.writing e h.files
+      go false e ok =
+          let free = and_parts (spot.at == 0 && nat_le 2 spot.file && nat_le spot.file 65535) (not (has_block b spot.file)) ok in
+          let high = and_parts (spot.at == 0 && nat_le 2 spot.file) (nat_le spot.file 65535) free.0 in
+          let low = and_parts (spot.at == 0) (nat_le 2 spot.file) high.0 in
+          record { low = leb-true 2 spot.file low.1; high = leb-true spot.file 65535 high.1 }
+
   pub table_put : IsTable (put_at seq spot b)
   table_put =
       let more : List Placed = with_placed seq spot b.placed in
       let c : Blocks = put_at seq spot b in
       record {
         rising = rising_more seq spot b.placed h.rising (fits_above seq spot b f);
+        files = files_kept (λ k. is_used more k.file) (left_by spot b) (written spot ∷ []) (All-push InFile (left_by spot b) (written spot) left_files put_file);
         apart = apart_kept (λ k. is_used more k.file) (left_by spot b) (written spot ∷ []) (apart_with (left_by spot b) (written spot) left_apart left_absent);
         inside = All-push (λ p. lies_in (blocks c) p.spot ≡ true) b.placed (record { seq = seq; spot = spot })
             (both (λ p. is_used b.placed p.spot.file ≡ true) (λ p. lies_in (blocks b) p.spot ≡ true) (λ p. lies_in (blocks c) p.spot ≡ true) b.placed

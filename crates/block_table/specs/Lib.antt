@@ -4,3 +4,4 @@ pub mod Tables
 pub mod Placings
 pub mod Batches
 pub mod Counts
+pub mod Rooms

@@ -17,11 +17,17 @@ AreApart (k ∷ ks) = (is_among ks k.file ≡ false) × AreApart ks
 abbrev pub lies_in : List Block → Spot → Bool
 lies_in ks spot = list_any (λ k. k.file == spot.file && nat_le (end_of spot) k.end) ks
 
+-- not that of a log, and one whose number two bytes can tell
+pub record IsFile (file : ℕ) : Type 0 where
+  pub low : 2 ≤ file
+  pub high : file ≤ 65535
+
 -- the sequences rise, no two blocks are in one file, each message lies in what is written of a block, and each block that is not being
 -- written holds a message
 pub record IsTable (b : Blocks) : Type 0 where
   pub rising : IsStrictlySortedBy nat_cmp (map (λ p. p.seq) b.placed)
   pub apart : AreApart (blocks b)
+  pub files : All (λ k. IsFile k.file) (blocks b)
   pub inside : All (λ p. lies_in (blocks b) p.spot ≡ true) b.placed
   pub held : All (λ k. is_used b.placed k.file ≡ true) b.older
 

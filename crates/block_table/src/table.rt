@@ -181,7 +181,8 @@ impl BlockTable {
 
     /// Where the messages of a batch go that comes next.
     pub fn placing(&self) -> Placing
-        ensures { result ≡ placing self.now }
+        ensures value { result ≡ placing self.now }
+        ensures table { IsTable self.now }
     {
         Placing {
             from: FIRST_FILE,

@@ -37,3 +37,19 @@ IsAppendFault Full = Unit {0}
 IsAppendFault NoMemory = Unit {0}
 IsAppendFault (Damaged at) = ⊥
 IsAppendFault (UnknownVersion n) = ⊥
+
+-- the same of a batch whose memory was taken before
+abbrev pub IsBatchFault : LogFault → Type 0
+IsBatchFault Fault = Unit {0}
+IsBatchFault Full = Unit {0}
+IsBatchFault NoMemory = ⊥
+IsBatchFault (Damaged at) = ⊥
+IsBatchFault (UnknownVersion n) = ⊥
+
+-- the volume failed
+abbrev pub IsVolumeFault : LogFault → Type 0
+IsVolumeFault Fault = Unit {0}
+IsVolumeFault Full = ⊥
+IsVolumeFault NoMemory = ⊥
+IsVolumeFault (Damaged at) = ⊥
+IsVolumeFault (UnknownVersion n) = ⊥

@@ -1,5 +1,5 @@
 -- A batch that stands behind its closed gate.
-use Rattle.std.specs.Prelude.{ℕ, List, [], ◌∷◌, ◌++◌, length, IfSome}
+use Rattle.std.specs.Prelude.{◌≡◌, ◌<◌, ◌-◌, ◌^◌, ℕ, List, [], ◌∷◌, ◌++◌, length, take, drop, IfSome}
 use Rattle.std.specs.Int.{w32, to_be_bytes}
 use Rattle.vol_disk.specs.Disk.{Disk}
 use Rattle.vol_disk.specs.Images.{IsDurable}
@@ -11,6 +11,15 @@ use Rattle.gate_log.specs.Settled.{IsSettled}
 -- the length of the records, they, and a closed gate for the next batch
 abbrev pub behind_gate : Bytes → Bytes
 behind_gate records = to_be_bytes w32 (length records) ++ (records ++ 0 ∷ [])
+
+-- the records of what stands behind a gate
+abbrev pub records_in : Bytes → Bytes
+records_in staged = take (length staged - 5) (drop 4 staged)
+
+-- it is what stands behind a gate with them, which are not too long for their length to be told
+pub record IsStagedBatch (staged : Bytes) : Type 0 where
+  pub staged_is : staged ≡ behind_gate (records_in staged)
+  pub short : length (records_in staged) < 2 ^ 32
 
 -- The log is as it was, and behind the closed gate at its end stands the batch, on the disk.
 pub record IsStaged (log : LogState) (batches : List Bytes) (records : Bytes) (disk : Disk) : Type 0 where

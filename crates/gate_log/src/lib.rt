@@ -12,3 +12,4 @@ mod starting;
 
 pub use fault::LogFault;
 pub use log::GateLog;
+pub use staging::Batch;

@@ -12,13 +12,13 @@ ghost use Rattle.gate_log.specs.Opening.{IsOpenFault, IsHeadRead, IsHeadFaultOf,
 ghost use Rattle.gate_log.specs.Reading.{IsSomeGate, IsReadAt};
 ghost use Rattle.gate_log.specs.Starting.{Starts};
 ghost use Rattle.gate_log.specs.Staging.{StagesTo};
-ghost use Rattle.gate_log.specs.Appending.{AppendsTo, IsAppended, IsAppendFault};
+ghost use Rattle.gate_log.specs.Appending.{AppendsTo, IsAppended, IsAppendFault, IsBatchFault, IsVolumeFault};
 
 use crate::ends::{Ends, FIRST_GATE};
 use crate::fault::LogFault;
 use crate::gates::{OPEN, number_at, read, synced_len, walk};
 use crate::head::{empty_log, read_head};
-use crate::staging::{behind_gate, fits};
+use crate::staging::{Batch, fits};
 use crate::starting::clear;
 use js_base::{Blob, NoMemory};
 use std::alloc::Global;
@@ -203,27 +203,50 @@ impl GateLog {
     }
 
     /// Writes a batch behind the closed gate at the end, and syncs it.
-    fn stage<V: Vol>(&self, alloc: Global, vol: &mut V, bytes: &[u8]) -> Result<(), LogFault>
+    fn stage<V: Vol>(&self, vol: &mut V, batch: &Batch) -> Result<(), LogFault>
         requires settled { V.told → (batches : List Bytes) × IsSettled self.now batches (V.disk vol.old) }
         requires head { IsSome self.now.head }
-        requires fits { self.now.end + 6 + length bytes.now ≤ 2 ^ 31 }
-        ensures staged { V.told → OnOk result (StagesTo self.now bytes.now (V.disk vol.old) (V.disk vol.new)) }
-        ensures any_moment { V.told → AppendsTo self.now bytes.now (V.disk vol.old) (V.disk vol.new) }
-        ensures only { IfErr result IsOutside }
-        ensures no_memory { IsErrOf result LogFault.NoMemory → vol.new ≡ vol.old }
+        requires fits { self.now.end + 6 + length batch.now ≤ 2 ^ 31 }
+        ensures staged { V.told → OnOk result (StagesTo self.now batch.now (V.disk vol.old) (V.disk vol.new)) }
+        ensures any_moment { V.told → AppendsTo self.now batch.now (V.disk vol.old) (V.disk vol.new) }
+        ensures only { IfErr result IsVolumeFault }
         ensures cause { HasCause (V.faults vol.old) (V.faults vol.new) (IsErrOf result LogFault.Fault) }
         ensures later { (V.disk vol.old).moment ≤ (V.disk vol.new).moment }
     {
-        let staged = behind_gate(alloc, bytes)?;
-        write_synced(vol, self.file, self.ends.last + 1, staged.as_slice())?;
+        write_synced(vol, self.file, self.ends.last + 1, batch.staged())?;
         Ok(())
     }
 
-    /// Appends a batch of these records. At `Ok` each crash leaves a log that has it; one during the call leaves the batches from before, with the new
-    /// one or without. `Full` comes exactly if the log would be longer than 2^31 bytes. An error leaves the log as it was, `Full` and `NoMemory` the
-    /// volume too.
+    /// Appends a batch, and takes no memory. At `Ok` each crash leaves a log that has it; one during the call leaves the batches from before, with the new
+    /// one or without. `Full` comes exactly if the log would be longer than 2^31 bytes, and else an error is `Fault`. An error leaves the log as it was,
+    /// `Full` the volume too.
     ///
     /// The log has a generation, or was given by `start`.
+    pub fn append_batch<V: Vol>(&mut self, vol: &mut V, batch: &Batch) -> Result<(), LogFault>
+        requires settled { V.told → (batches : List Bytes) × IsSettled self.old batches (V.disk vol.old) }
+        requires head { IsSome self.old.head }
+        ensures appended { V.told → OnOk result (IsAppended self.old self.new batch.now (V.disk vol.old) (V.disk vol.new)) }
+        ensures any_moment { V.told → AppendsTo self.old batch.now (V.disk vol.old) (V.disk vol.new) }
+        ensures log { OnOk result (self.new ≡ with_batch self.old (length batch.now)) }
+        ensures err { OnErr result (self.new ≡ self.old) }
+        ensures full { IsErrOf result LogFault.Full ↔ (2 ^ 31 < self.old.end + 6 + length batch.now) }
+        ensures full_leaves { IsErrOf result LogFault.Full → vol.new ≡ vol.old }
+        ensures only { IfErr result IsBatchFault }
+        ensures cause { HasCause (V.faults vol.old) (V.faults vol.new) (IsErrOf result LogFault.Fault) }
+        ensures later { (V.disk vol.old).moment ≤ (V.disk vol.new).moment }
+    {
+        let count = batch.len();
+        if !fits(self.ends.last, count) {
+            return Err(LogFault::Full);
+        }
+        self.stage(vol, batch)?;
+        write_synced(vol, self.file, self.ends.last, &[OPEN])?;
+        self.ends = self.ends.before(self.ends.last + 5 + count as u64);
+        Ok(())
+    }
+
+    /// Appends a batch of these records, for which it takes memory first. `NoMemory` leaves the log and the volume as they were; all else is as
+    /// `append_batch` says.
     pub fn append<V: Vol>(
         &mut self,
         alloc: Global,
@@ -246,9 +269,7 @@ impl GateLog {
         if !fits(self.ends.last, bytes.len()) {
             return Err(LogFault::Full);
         }
-        self.stage(alloc, vol, bytes)?;
-        write_synced(vol, self.file, self.ends.last, &[OPEN])?;
-        self.ends = self.ends.before(self.ends.last + 5 + bytes.len() as u64);
-        Ok(())
+        let batch = Batch::of(alloc, bytes)?;
+        self.append_batch(vol, &batch)
     }
 }

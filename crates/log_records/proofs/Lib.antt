@@ -1,3 +1,5 @@
+pub mod Logging
+pub mod Unreading
 pub mod OneReading
 pub mod NoDamage
 pub mod OneDamage
@@ -6,6 +8,8 @@ pub mod RowsOfDamage
 pub mod Taking
 pub mod Found
 pub mod Forming
+pub mod Keeping
+pub mod Making
 pub mod Adding
 pub mod Reaching
 pub mod Telling

@@ -4,14 +4,13 @@ use Rattle.std.specs.Int.{w8}
 use Rattle.std.proofs.lemmas.Bool.Decides.{nat_tests}
 use Rattle.js_base.specs.Bytes.{Bytes}
 use Rattle.js_base.specs.Numbers.{number_at}
-use Rattle.effects.specs.declared.durable.Durable.{Durable}
-use Rattle.effects.specs.declared.effect.Effect.{Effect}
-use Rattle.effects.specs.Folding.{vacant, fold_all}
+use Rattle.op_records.specs.declared.record.Record.{Record}
 use Rattle.op_records.specs.Steps.{continued}
 use Rattle.op_records.specs.Fields.{number_told}
 use Rattle.op_records.specs.Reading.{Stand, table, fields_in, record_at}
 use Rattle.op_records.specs.declared.fault.RecordFault.TheVariants.{Cut}
 use Rattle.op_records.proofs.Steps.{value_is, place_is}
+use Rattle.log_records.specs.Logged.{Logged, beginning, fold_records}
 use Rattle.log_records.specs.Batches.{Adds, AddAll, Begins, Gives}
 
 -- ---- records
@@ -24,34 +23,34 @@ none_at_end bytes = ap (λ (o : Option ℕ). continued bytes (λ (kind : ℕ). f
     no_byte : number_at w8 bytes (length bytes) ≡ None
     no_byte = grind (arith, nat_tests)
 
-stand_same : (bytes : Bytes) (at : ℕ) (es fs : List Effect) → Stand bytes at es (length bytes) → Stand bytes at fs (length bytes) → es ≡ fs
+stand_same : (bytes : Bytes) (at : ℕ) (es fs : List Record) → Stand bytes at es (length bytes) → Stand bytes at fs (length bytes) → es ≡ fs
 stand_same bytes at [] [] h k = refl
 stand_same bytes at [] (f ∷ fs) h (behind, reads, rest) = let e = none_at_end bytes in let q = subst (λ (n : ℕ). record_at bytes n ≡ Ok (f, behind)) h reads in absurd (cc)
 stand_same bytes at (e ∷ es) [] (behind, reads, rest) k = let n = none_at_end bytes in let q = subst (λ (n : ℕ). record_at bytes n ≡ Ok (e, behind)) k reads in absurd (cc)
 stand_same bytes at (e ∷ es) (f ∷ fs) (b, reads, rest) (c, others, more) =
     let first = value_is e b f c (sym reads ∙ others) in
     let place = place_is e b f c (sym reads ∙ others) in
-    ap (λ (x : Effect). x ∷ es) first ∙ ap (λ (l : List Effect). f ∷ l) (stand_same bytes c es fs (subst (λ (n : ℕ). Stand bytes n es (length bytes)) place rest) more)
+    ap (λ (x : Record). x ∷ es) first ∙ ap (λ (l : List Record). f ∷ l) (stand_same bytes c es fs (subst (λ (n : ℕ). Stand bytes n es (length bytes)) place rest) more)
 
 -- ---- batches
 
-pub begins_same : (bytes : Bytes) (d e : Durable) → Begins bytes d → Begins bytes e → d ≡ e
+pub begins_same : (bytes : Bytes) (d e : Logged) → Begins bytes d → Begins bytes e → d ≡ e
 begins_same bytes d e h k =
     let number = value_is h.incarnation (length bytes) k.incarnation (length bytes) (sym h.reads ∙ k.reads) in
-    h.begun_is ∙ ap vacant number ∙ sym k.begun_is
+    h.begun_is ∙ ap beginning number ∙ sym k.begun_is
 
-pub adds_same : (old : Durable) (bytes : Bytes) (d e : Durable) → Adds old bytes d → Adds old bytes e → d ≡ e
+pub adds_same : (old : Logged) (bytes : Bytes) (d e : Logged) → Adds old bytes d → Adds old bytes e → d ≡ e
 adds_same old bytes d e h k =
-    let effects = stand_same bytes 0 h.effects k.effects h.records k.records in
-    let same : Some d ≡ Some e = sym h.folded ∙ ap (λ (es : List Effect). fold_all es (Some old)) effects ∙ k.folded in
+    let records = stand_same bytes 0 h.records k.records h.stand k.stand in
+    let same : Some d ≡ Some e = sym h.folded ∙ ap (λ (rs : List Record). fold_records rs (Some old)) records ∙ k.folded in
     cc
 
-pub add_all_same : (old : Durable) (batches : List Bytes) (d e : Durable) → AddAll old batches d → AddAll old batches e → d ≡ e
+pub add_all_same : (old : Logged) (batches : List Bytes) (d e : Logged) → AddAll old batches d → AddAll old batches e → d ≡ e
 add_all_same old [] d e h k = sym h ∙ k
 add_all_same old (batch ∷ batches) d e (b, first, rest) (c, other, more) =
-    add_all_same c batches d e (subst (λ (x : Durable). AddAll x batches d) (adds_same old batch b c first other) rest) more
+    add_all_same c batches d e (subst (λ (x : Logged). AddAll x batches d) (adds_same old batch b c first other) rest) more
 
-pub gives_same : (batches : List Bytes) (d e : Durable) → Gives batches d → Gives batches e → d ≡ e
+pub gives_same : (batches : List Bytes) (d e : Logged) → Gives batches d → Gives batches e → d ≡ e
 gives_same [] d e h k = h ∙ sym k
 gives_same (first ∷ later) d e (b, begins, rest) (c, begun, more) =
-    add_all_same c later d e (subst (λ (x : Durable). AddAll x later d) (begins_same first b c begins begun) rest) more
+    add_all_same c later d e (subst (λ (x : Logged). AddAll x later d) (begins_same first b c begins begun) rest) more

@@ -12,12 +12,13 @@ use Rattle.gate_log.specs.Settled.{IsSettled}
 use Rattle.gate_log.specs.Reading.{IsGate, IsReadAt}
 use Rattle.gate_log.proofs.GateReads.{settled_quiet, next_gate}
 use Rattle.gate_log.proofs.OneReading.{law}
-use Rattle.effects.specs.declared.durable.Durable.{Durable}
-use Rattle.effects.specs.Folding.{vacant}
-use Rattle.durable_checks.specs.Storable.{IsStorable, IsOpenable}
-use Rattle.log_records.specs.Batches.{Adds, AddAll, Begins, Gives}
+use Rattle.log_records.specs.Logged.{Logged, beginning}
+use Rattle.log_records.specs.Batches.{Adds, AddAll, Begins}
 use Rattle.log_records.specs.Damage.{IsLast, HasBadRecord, IsEmptyFirst, IsWrongFirst, HasBadBatch}
-use Rattle.log_records.specs.Reading.{IsLastIn, IsReadTo, IsBegun, IsAddedAt, IsLastFrom, IsFirstFault, IsLaterFault, IsOutside, IsReadFault, GivesIn}
+use Rattle.log_records.specs.Ends.{IsLastBehind, IsLastIn}
+use Rattle.log_records.specs.Holding.{given_in}
+use Rattle.log_records.specs.declared.log.LogRead.{LogRead}
+use Rattle.log_records.specs.Reading.{IsReadTo, IsBegun, IsAddedAt, IsLastFrom, IsFirstFault, IsLaterFault, IsOutside, IsReadFault, GivesIn}
 use Rattle.log_records.specs.declared.fault.ReadFault.{ReadFault}
 use Rattle.log_records.specs.declared.fault.ReadFault.TheVariants.{Fault, Damaged, NoMemory as OutOfMemory}
 
@@ -30,16 +31,13 @@ settled_same log xs ys disk h k = law.one_list (disk.seen log.file) (generation_
 
 -- ---- the first batch
 
-pub vacant_opens : (i : ℕ) → IsOpenable (vacant i)
-vacant_opens i = record { matched = tt; restorable = tt }
-
 -- no batch is open
-pub none_gives : (log : LogState) (disk : Disk) → IsReadAt log 16 disk None → GivesIn log disk (vacant 0)
-none_gives log disk read batches settled =
+pub none_gives : (log : LogState) (disk : Disk) (r : LogRead) → IsReadAt log 16 disk None → given_in r ≡ beginning 0 → r.last ≡ 16 → GivesIn log disk r
+none_gives log disk r read given last batches settled =
     let none : batches ≡ [] = read [] batches (record { settled = settled; here = refl }) in
-    (subst (λ (l : List Bytes). Gives l (vacant 0)) (sym none) refl, vacant_opens 0)
+    subst (λ (l : List Bytes). IsLastIn l (given_in r) r.last) (sym none) (given, last)
 
-pub first_begun : (log : LogState) (first : Bytes) (gate : ℕ) (begun : Durable) (old new : Disk) (batches : List Bytes) → IsSettled log batches old → IsReadAt log 16 old (Some (first, gate)) → Quiet old new
+pub first_begun : (log : LogState) (first : Bytes) (gate : ℕ) (begun : Logged) (old new : Disk) (batches : List Bytes) → IsSettled log batches old → IsReadAt log 16 old (Some (first, gate)) → Quiet old new
     → Begins first begun → IsBegun log gate begun new
 first_begun log first gate begun old new batches settled read still begins =
     let at : IsGate log [] batches 16 old = record { settled = settled; here = refl } in
@@ -55,48 +53,48 @@ first_fault log first gate disk at read bad batches settled =
 -- ---- what is read to a gate
 
 -- the first batch is some one
-pub record Reaches (log : LogState) (gate : ℕ) (d : Durable) (last : ℕ) (disk : Disk) : Type 0 where
+pub record Reaches (log : LogState) (gate : ℕ) (d : Logged) (last : ℕ) (disk : Disk) : Type 0 where
   pub first : Bytes
-  pub begun : Durable
+  pub begun : Logged
   pub begins : Begins first begun
   pub read : IsReadTo log first begun gate d last disk
 
-pub reaches_first : (log : LogState) (gate : ℕ) (begun : Durable) (disk : Disk) → IsBegun log gate begun disk → Reaches log gate begun 16 disk
+pub reaches_first : (log : LogState) (gate : ℕ) (begun : Logged) (disk : Disk) → IsBegun log gate begun disk → Reaches log gate begun 16 disk
 reaches_first log gate begun disk b = record {
   first = b.first;
   begun = begun;
   begins = b.begins;
-  read = record { front = []; rest = b.rest; gate_is = b.gate_is; added = refl; last_is = inl (All-nil IsEmpty, refl) };
+  read = record { front = []; rest = b.rest; gate_is = b.gate_is; added = refl; last_is = inl (record { are_empty = All-nil IsEmpty; same = refl; here = refl }) };
 }
 
-pub add_push : (begun mid new : Durable) (front : List Bytes) (records : Bytes) → AddAll begun front mid → Adds mid records new → AddAll begun (front ++ records ∷ []) new
-add_push begun mid new [] records h adds = (new, subst (λ (d : Durable). Adds d records new) (sym h) adds, refl)
+pub add_push : (begun mid new : Logged) (front : List Bytes) (records : Bytes) → AddAll begun front mid → Adds mid records new → AddAll begun (front ++ records ∷ []) new
+add_push begun mid new [] records h adds = (new, subst (λ (d : Logged). Adds d records new) (sym h) adds, refl)
 add_push begun mid new (b ∷ front) records (d, first, h) adds = (d, first, add_push d mid new front records h adds)
 
 -- an empty batch more
-last_stays : (first : Bytes) (begun : Durable) (front : List Bytes) (old new : Durable) (records : Bytes) (last : ℕ) → records ≡ [] → new ≡ old → IsLastIn first begun front old last
-    → IsLastIn first begun (front ++ records ∷ []) new last
-last_stays first begun front old new records last none same (inl h) = inl (All-push IsEmpty front records h.0 none, same ∙ h.1)
+last_stays : (first : Bytes) (begun : Logged) (front : List Bytes) (old new : Logged) (records : Bytes) (last : ℕ) → records ≡ [] → new ≡ old → IsLastBehind first begun front old last
+    → IsLastBehind first begun (front ++ records ∷ []) new last
+last_stays first begun front old new records last none same (inl h) = inl (record { are_empty = All-push IsEmpty front records h.are_empty none; same = same ∙ h.same; here = h.here })
 last_stays first begun front old new records last none same (inr h) = inr (record {
   before = h.before;
   bytes = h.bytes;
   empty = h.empty ++ records ∷ [];
-  front_is = ap (λ (l : List Bytes). l ++ records ∷ []) h.front_is ∙ append_assoc h.before (h.bytes ∷ h.empty) (records ∷ []);
+  later_is = ap (λ (l : List Bytes). l ++ records ∷ []) h.later_is ∙ append_assoc h.before (h.bytes ∷ h.empty) (records ∷ []);
   are_empty = All-push IsEmpty h.empty records h.are_empty none;
   old = h.old;
   so_far = h.so_far;
   place = h.place;
-  last = subst (λ (d : Durable). IsLast h.old h.bytes h.place d) (sym same) h.last;
+  last = subst (λ (d : Logged). IsLast h.old h.bytes h.place d) (sym same) h.last;
   here = h.here;
 })
 
-last_moves : (first : Bytes) (begun : Durable) (front : List Bytes) (old new : Durable) (records : Bytes) (gate place last : ℕ) → gate ≡ end_of (first ∷ front) → AddAll begun front old → IsLast old records place new
-    → last ≡ gate + 5 + place → IsLastIn first begun (front ++ records ∷ []) new last
+last_moves : (first : Bytes) (begun : Logged) (front : List Bytes) (old new : Logged) (records : Bytes) (gate place last : ℕ) → gate ≡ end_of (first ∷ front) → AddAll begun front old → IsLast old records place new
+    → last ≡ gate + 5 + place → IsLastBehind first begun (front ++ records ∷ []) new last
 last_moves first begun front old new records gate place last gate_is added is here = inr (record {
   before = front;
   bytes = records;
   empty = [];
-  front_is = refl;
+  later_is = refl;
   are_empty = All-nil IsEmpty;
   old = old;
   so_far = added;
@@ -105,12 +103,12 @@ last_moves first begun front old new records gate place last gate_is added is he
   here = here ∙ ap (λ (n : ℕ). n + 5 + place) gate_is;
 })
 
-last_then : (first : Bytes) (begun : Durable) (front : List Bytes) (old new : Durable) (records : Bytes) (gate last : ℕ) (more : Option ℕ) → gate ≡ end_of (first ∷ front) → AddAll begun front old
-    → IsLastIn first begun front old last → IsLastFrom gate old records new more → IsLastIn first begun (front ++ records ∷ []) new (unwrap_or more last)
+last_then : (first : Bytes) (begun : Logged) (front : List Bytes) (old new : Logged) (records : Bytes) (gate last : ℕ) (more : Option ℕ) → gate ≡ end_of (first ∷ front) → AddAll begun front old
+    → IsLastBehind first begun front old last → IsLastFrom gate old records new more → IsLastBehind first begun (front ++ records ∷ []) new (unwrap_or more last)
 last_then first begun front old new records gate last None here added h is = last_stays first begun front old new records last is.0 is.1 h
 last_then first begun front old new records gate last (Some at) here added h is = last_moves first begun front old new records gate is.0 at here added is.1 is.2
 
-pub reaches_next : (log : LogState) (gate next : ℕ) (d new : Durable) (last : ℕ) (records : Bytes) (more : Option ℕ) (old disk : Disk) → Reaches log gate d last old → IsReadAt log gate old (Some (records, next)) → Quiet old disk
+pub reaches_next : (log : LogState) (gate next : ℕ) (d new : Logged) (last : ℕ) (records : Bytes) (more : Option ℕ) (old disk : Disk) → Reaches log gate d last old → IsReadAt log gate old (Some (records, next)) → Quiet old disk
     → IsAddedAt gate d records new more → Reaches log next new (unwrap_or more last) disk
 reaches_next log gate next d new last records more old disk r read still adds =
     let at = r.read.gate_is in
@@ -129,13 +127,13 @@ reaches_next log gate next d new last records more old disk r read still adds =
     }
 
 -- a batch is wrong
-pub later_fault : (log : LogState) (gate next : ℕ) (d : Durable) (last : ℕ) (records : Bytes) (place at : ℕ) (disk : Disk) → Reaches log gate d last disk → IsReadAt log gate disk (Some (records, next)) → HasBadRecord d records place
+pub later_fault : (log : LogState) (gate next : ℕ) (d : Logged) (last : ℕ) (records : Bytes) (place at : ℕ) (disk : Disk) → Reaches log gate d last disk → IsReadAt log gate disk (Some (records, next)) → HasBadRecord d records place
     → at ≡ gate + 5 + place → (batches : List Bytes) → IsSettled log batches disk → HasBadBatch batches at
 later_fault log gate next d last records place at disk r read bad here batches settled =
     let gate_is = r.read.gate_is in
     let found = read (r.first ∷ r.read.front) r.read.rest gate_is in
     let whole : batches ≡ r.first ∷ (r.read.front ++ r.read.rest) = settled_same log batches (r.first ∷ (r.read.front ++ r.read.rest)) disk settled gate_is.settled in
-    inr (inl (record {
+    inr (record {
       first = r.first;
       front = r.read.front;
       bytes = records;
@@ -148,53 +146,27 @@ later_fault log gate next d last records place at disk r read bad here batches s
       place = place;
       bad = bad;
       here = here ∙ ap (λ (n : ℕ). n + 5 + place) gate_is.here;
-    }))
+    })
 
 -- ---- the end
 
-all_read : (log : LogState) (gate : ℕ) (d : Durable) (last : ℕ) (disk : Disk) (r : Reaches log gate d last disk) → IsReadAt log gate disk None → (batches : List Bytes) → IsSettled log batches disk → batches ≡ r.first ∷ r.read.front
+all_read : (log : LogState) (gate : ℕ) (d : Logged) (last : ℕ) (disk : Disk) (r : Reaches log gate d last disk) → IsReadAt log gate disk None → (batches : List Bytes) → IsSettled log batches disk → batches ≡ r.first ∷ r.read.front
 all_read log gate d last disk r read batches settled =
     let gate_is = r.read.gate_is in
     let none : r.read.rest ≡ [] = read (r.first ∷ r.read.front) r.read.rest gate_is in
     settled_same log batches (r.first ∷ (r.read.front ++ r.read.rest)) disk settled gate_is.settled
     ∙ ap (λ (l : List Bytes). r.first ∷ (r.read.front ++ l)) none ∙ ap (λ (l : List Bytes). r.first ∷ l) (append-nil r.read.front)
 
-pub end_gives : (log : LogState) (gate : ℕ) (d : Durable) (last : ℕ) (disk : Disk) → Reaches log gate d last disk → IsReadAt log gate disk None → IsOpenable d → GivesIn log disk d
-end_gives log gate d last disk r read openable batches settled =
-    (subst (λ (l : List Bytes). Gives l d) (sym (all_read log gate d last disk r read batches settled)) (r.begun, r.begins, r.read.added), openable)
-
-begun_opens : (first : Bytes) (begun d : Durable) → Begins first begun → d ≡ begun → IsOpenable d
-begun_opens first begun d b e = subst IsOpenable (sym (e ∙ b.begun_is)) (vacant_opens b.incarnation)
-
-pub end_fault : (log : LogState) (gate : ℕ) (d : Durable) (last : ℕ) (disk : Disk) → Reaches log gate d last disk → IsReadAt log gate disk None → IsStorable d → ¬ IsOpenable d
-    → (batches : List Bytes) → IsSettled log batches disk → HasBadBatch batches last
-end_fault log gate d last disk r read storable bad batches settled = go r.read.last_is
-  where
-    go : IsLastIn r.first r.begun r.read.front d last → HasBadBatch batches last
-    go (inl h) = absurd (bad (begun_opens r.first r.begun d r.begins h.1))
-    go (inr h) = inr (inr (record {
-      first = r.first;
-      front = h.before;
-      bytes = h.bytes;
-      empty = h.empty;
-      batches_are = all_read log gate d last disk r read batches settled ∙ ap (λ (l : List Bytes). r.first ∷ l) h.front_is;
-      are_empty = h.are_empty;
-      begun = r.begun;
-      begins = r.begins;
-      old = h.old;
-      so_far = h.so_far;
-      place = h.place;
-      new = d;
-      last = h.last;
-      storable = storable;
-      bad = bad;
-      here = h.here;
-    }))
+pub end_gives : (log : LogState) (gate : ℕ) (d : Logged) (last : ℕ) (disk : Disk) (found : LogRead) → Reaches log gate d last disk → IsReadAt log gate disk None → given_in found ≡ d → found.last ≡ last → GivesIn log disk found
+end_gives log gate d last disk found r read given end batches settled =
+    let at_end : IsLastIn batches d last =
+        subst (λ (l : List Bytes). IsLastIn l d last) (sym (all_read log gate d last disk r read batches settled)) (r.begun, r.begins, r.read.added, r.read.last_is) in
+    subst (λ (n : ℕ). IsLastIn batches (given_in found) n) (sym end) (subst (λ (g : Logged). IsLastIn batches g last) (sym given) at_end)
 
 -- ---- what is known of the disk later was known of it before
 
-pub gives_before : (log : LogState) (old new : Disk) (d : Durable) → Quiet old new → GivesIn log new d → GivesIn log old d
-gives_before log old new d still gives batches settled = gives batches (settled_quiet log batches old new still settled)
+pub gives_before : (log : LogState) (old new : Disk) (found : LogRead) → Quiet old new → GivesIn log new found → GivesIn log old found
+gives_before log old new found still gives batches settled = gives batches (settled_quiet log batches old new still settled)
 
 pub bad_before : (log : LogState) (old new : Disk) (at : ℕ) → Quiet old new → ((batches : List Bytes) → IsSettled log batches new → HasBadBatch batches at) → (batches : List Bytes) → IsSettled log batches old → HasBadBatch batches at
 bad_before log old new at still bad batches settled = bad batches (settled_quiet log batches old new still settled)
@@ -211,7 +183,7 @@ first_read_fault log first gate disk Fault read h = absurd h
 first_read_fault log first gate disk (Damaged at) read h = first_fault log first gate disk at read h
 first_read_fault log first gate disk OutOfMemory read h = tt
 
-pub later_read_fault : (log : LogState) (gate next : ℕ) (d : Durable) (last : ℕ) (records : Bytes) (old disk : Disk) (fault : ReadFault) → Quiet old disk → Reaches log gate d last disk → IsReadAt log gate disk (Some (records, next))
+pub later_read_fault : (log : LogState) (gate next : ℕ) (d : Logged) (last : ℕ) (records : Bytes) (old disk : Disk) (fault : ReadFault) → Quiet old disk → Reaches log gate d last disk → IsReadAt log gate disk (Some (records, next))
     → IsLaterFault gate d records fault → IsReadFault log old fault
 later_read_fault log gate next d last records old disk Fault still r read h = absurd h
 later_read_fault log gate next d last records old disk (Damaged at) still r read (place, bad, here) = bad_before log old disk at still (later_fault log gate next d last records place at disk r read bad here)
@@ -229,5 +201,5 @@ cause_told result told cause p q is = cc
 pub first_is_own : (first : Bytes) (cause : ReadFault) → IsFirstFault first cause → cause ≡ Fault → ⊥
 first_is_own first cause h is = subst (IsFirstFault first) is h
 
-pub later_is_own : (gate : ℕ) (d : Durable) (records : Bytes) (cause : ReadFault) → IsLaterFault gate d records cause → cause ≡ Fault → ⊥
+pub later_is_own : (gate : ℕ) (d : Logged) (records : Bytes) (cause : ReadFault) → IsLaterFault gate d records cause → cause ≡ Fault → ⊥
 later_is_own gate d records cause h is = subst (IsLaterFault gate d records) is h

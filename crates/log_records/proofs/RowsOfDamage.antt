@@ -1,11 +1,16 @@
 -- Worked rows of where a log's records are damaged.
-use Rattle.std.proofs.Common.{◌≡◌, inl, inr, ◌+◌, [], ◌∷◌, refl}
+use Rattle.std.proofs.Common.{◌≡◌, inl, inr, ℕ, ◌+◌, [], ◌∷◌, refl}
 use Rattle.js_model.proofs.Samples.{t0, orders}
 use Rattle.effects.specs.declared.effect.Effect.TheVariants.{MakeStream, Skip, Due, Now}
 use Rattle.effects.specs.Folding.{vacant, live, empty_body}
+use Rattle.op_records.specs.declared.record.Record.{Record}
+use Rattle.op_records.specs.declared.record.Record.TheVariants.{Put}
+use Rattle.block_table.specs.Blocks.{no_blocks}
 use Rattle.op_records.specs.declared.fault.RecordFault.TheVariants.{BadKind}
 use Rattle.op_records.specs.Reading.{vacant_field, vacant_record}
 use Rattle.log_records.specs.Damage.{IsBadFirst}
+use Rattle.log_records.specs.Logged.{Logged}
+use Rattle.log_records.specs.Misfits.{misfit_of}
 use Rattle.record_fold.specs.Misfits.{misfit}
 
 -- ---- a first batch
@@ -34,3 +39,23 @@ other_moment = refl
 
 no_consumer : misfit (live 1 (empty_body t0 orders)) (Due (87 ∷ []) 1 t0) ≡ 1
 no_consumer = refl
+
+-- ---- a message that cannot lie at its spot; its id has two bytes
+
+abbrev empty : Logged
+empty = record { durable = live 1 (empty_body t0 orders); blocks = no_blocks }
+
+abbrev message_at : ℕ → ℕ → ℕ → Record
+message_at file at len = Put 1 t0 (97 ∷ 98 ∷ []) (record { file = file; at = at; len = len })
+
+in_a_log : misfit_of empty (message_at 1 0 35) ≡ 21
+unfolding misfit_of
+in_a_log = refl
+
+behind_nothing : misfit_of empty (message_at 2 35 35) ≡ 23
+unfolding misfit_of
+behind_nothing = refl
+
+too_long : misfit_of empty (message_at 2 0 4294967296) ≡ 27
+unfolding misfit_of
+too_long = refl

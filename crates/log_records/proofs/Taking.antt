@@ -3,20 +3,22 @@ use Rattle.std.proofs.Common.{◌≡◌, inl, inr, ℕ, ◌+◌, ◌<◌, ◌≤
 use Rattle.std.specs.Prelude.{All}
 use Rattle.std.proofs.lemmas.List.Elements.{All-from_get_or}
 use Rattle.js_base.specs.Bytes.{Bytes}
-use Rattle.effects.specs.declared.durable.Durable.{Durable}
 use Rattle.effects.specs.declared.effect.Effect.{Effect}
 use Rattle.effects.specs.declared.effect.Effect.TheVariants.{MakeStream, ChangeStream, DropStream, PutHere, Skip, Remove, MakeConsumer, DropConsumer, Deliver, Acked, Due, GivenUp, Now}
-use Rattle.effects.specs.Folding.{fold, vacant}
-use Rattle.op_records.specs.Allowed.{is_record}
+use Rattle.effects.specs.Folding.{vacant}
+use Rattle.op_records.specs.declared.record.Record.{Record}
+use Rattle.op_records.specs.declared.record.Record.TheVariants.{Put, Change}
+use Rattle.op_records.specs.Allowed.{may_stand}
 use Rattle.op_records.specs.Answers.{IsFaultOf}
 use Rattle.op_records.specs.Reading.{record_at, vacant_field}
-use Rattle.op_records.specs.Spelling.{spelled}
+use Rattle.op_records.specs.Spelling.{spelled, spelled_record}
 use Rattle.op_records.specs.declared.fault.RecordFault.{RecordFault}
 use Rattle.op_records.specs.declared.fault.RecordFault.TheVariants.{Cut, BadKind, BadField, NoMemory as NoRoom}
 use Rattle.op_records.proofs.Exact.{AreBytes}
 use Rattle.op_records.proofs.RecordsExact.{record_took, law_vacant}
 use Rattle.durable_checks.specs.Storable.{IsStorable}
-use Rattle.record_fold.specs.Misfits.{misfit}
+use Rattle.log_records.specs.Logged.{Logged, fold_record}
+use Rattle.log_records.specs.Misfits.{misfit_of}
 use Rattle.log_records.specs.Reading.{IsBatch, IsNextFault, IsPlaced, IsStartFault, fault_of}
 use Rattle.log_records.specs.declared.batch.BatchFault.{BatchFault}
 use Rattle.log_records.specs.declared.batch.BatchFault.TheVariants as batch
@@ -39,26 +41,31 @@ spelled_some (Due name seq due) = omega arith
 spelled_some (GivenUp name moment) = omega arith
 spelled_some (Now moment) = omega arith
 
-pub record IsTaken (bytes : Bytes) (at : ℕ) (e : Effect) (behind : ℕ) : Type 0 where
-  pub allowed : IsTrue (is_record e)
+record_some : (r : Record) → 0 < length (spelled_record r)
+unfolding spelled_record
+record_some (Put seq at id spot) = omega arith
+record_some (Change e) = spelled_some e
+
+pub record IsTaken (bytes : Bytes) (at : ℕ) (r : Record) (behind : ℕ) : Type 0 where
+  pub allowed : IsTrue (may_stand r)
   pub further : at < behind
   pub within : behind ≤ length bytes
 
-pub taken : (bytes : Bytes) (at : ℕ) (e : Effect) (behind : ℕ) → AreBytes bytes → IsBatch bytes → record_at bytes at ≡ Ok (e, behind) → IsTaken bytes at e behind
-taken bytes at e behind are short reads =
-    let r = record_took bytes at e behind (record { are_bytes = are; short = short }) reads in
-    record { allowed = r.allowed; further = omega (arith, r.there.ends, spelled_some e); within = r.there.within }
+pub taken : (bytes : Bytes) (at : ℕ) (r : Record) (behind : ℕ) → AreBytes bytes → IsBatch bytes → record_at bytes at ≡ Ok (r, behind) → IsTaken bytes at r behind
+taken bytes at r behind are short reads =
+    let took = record_took bytes at r behind (record { are_bytes = are; short = short }) reads in
+    record { allowed = took.allowed; further = omega (arith, took.there.ends, record_some r); within = took.there.within }
 
-pub misread : (old : Durable) (bytes : Bytes) (here : ℕ) (fault : RecordFault) → IsFaultOf (record_at bytes here) fault → IsNextFault old bytes here (fault_of fault)
+pub misread : (old : Logged) (bytes : Bytes) (here : ℕ) (fault : RecordFault) → IsFaultOf (record_at bytes here) fault → IsNextFault old bytes here (fault_of fault)
 misread old bytes here (Cut at) h = inl (Cut at, h, refl)
 misread old bytes here (BadKind at) h = inl (BadKind at, h, refl)
 misread old bytes here (BadField at) h = inl (BadField at, h, refl)
 misread old bytes here NoRoom h = tt
 
-pub misfits : (old : Durable) (bytes : Bytes) (here : ℕ) (effect : Effect) (behind field : ℕ) (fault : BatchFault) → record_at bytes here ≡ Ok (effect, behind) → fold old effect ≡ None → field ≡ misfit old effect → IsPlaced here field fault
+pub misfits : (old : Logged) (bytes : Bytes) (here : ℕ) (found : Record) (behind field : ℕ) (fault : BatchFault) → record_at bytes here ≡ Ok (found, behind) → fold_record old found ≡ None → field ≡ misfit_of old found → IsPlaced here field fault
     → IsNextFault old bytes here fault
-misfits old bytes here effect behind field (batch.Wrong place) reads unfit is h = inr (effect, behind, reads, unfit, h ∙ ap (λ (n : ℕ). here + n) is)
-misfits old bytes here effect behind field batch.NoMemory reads unfit is h = tt
+misfits old bytes here found behind field (batch.Wrong place) reads unfit is h = inr (found, behind, reads, unfit, h ∙ ap (λ (n : ℕ). here + n) is)
+misfits old bytes here found behind field batch.NoMemory reads unfit is h = tt
 
 -- ---- where a log begins
 

@@ -2,9 +2,9 @@
 use Rattle.std.proofs.Common.{◌≡◌, ◌≢◌, inr, ℕ, ◌==◌, true, false, [], ◌∷◌, Option, Some, None, Err, length, refl, sym, subst, arith}
 use Rattle.std.proofs.lemmas.Bool.{eqb-true, true≢false}
 use Rattle.js_base.specs.Bytes.{Bytes}
-use Rattle.effects.specs.declared.durable.Durable.{Durable}
 use Rattle.op_records.specs.Reading.{vacant_field}
 use Rattle.op_records.specs.declared.fault.RecordFault.{RecordFault}
+use Rattle.log_records.specs.Logged.{Logged}
 use Rattle.log_records.specs.Damage.{IsAt}
 use Rattle.log_records.specs.Reading.{IsStartFault, IsBatchFault, IsTold, IsFirstFault, IsLaterFault, IsAdded, IsAddedAt, IsLastFrom, IsOffsetOf}
 use Rattle.log_records.specs.declared.batch.BatchFault.{BatchFault}
@@ -26,11 +26,11 @@ first_told first fault (Damaged at) some h (place, is, here) = go (subst (IsStar
     go (f, wrong, told) = inr (record { some = some; fault = f; place = place; wrong = wrong; told = told; here = here })
 first_told first fault OutOfMemory some h t = tt
 
-pub later_told : (gate : ℕ) (old : Durable) (bytes : Bytes) (fault : BatchFault) (read : ReadFault) → IsBatchFault old bytes fault → IsTold gate fault read → IsLaterFault gate old bytes read
+pub later_told : (gate : ℕ) (old : Logged) (bytes : Bytes) (fault : BatchFault) (read : ReadFault) → IsBatchFault old bytes fault → IsTold gate fault read → IsLaterFault gate old bytes read
 later_told gate old bytes fault Fault h t = absurd t
 later_told gate old bytes fault (Damaged at) h (place, is, here) = (place, subst (IsBatchFault old bytes) is h, here)
 later_told gate old bytes fault OutOfMemory h t = tt
 
-pub placed_added : (gate : ℕ) (old : Durable) (bytes : Bytes) (new : Durable) (last at : Option ℕ) → IsAdded old bytes new last → IsOffsetOf gate last at → IsAddedAt gate old bytes new at
+pub placed_added : (gate : ℕ) (old : Logged) (bytes : Bytes) (new : Logged) (last at : Option ℕ) → IsAdded old bytes new last → IsOffsetOf gate last at → IsAddedAt gate old bytes new at
 placed_added gate old bytes new None at a is = record { adds = a.adds; last_is = subst (IsLastFrom gate old bytes new) (sym is) a.last_is }
 placed_added gate old bytes new (Some place) at a is = record { adds = a.adds; last_is = subst (IsLastFrom gate old bytes new) (sym is) (place, a.last_is, refl) }

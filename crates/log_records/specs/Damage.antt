@@ -1,16 +1,15 @@
 -- Where the records of a log are damaged, by a format of this server's own: the first of them that is wrong. A record is read as a whole before it is asked
 -- whether it fits.
-use Rattle.std.specs.Prelude.{◌≡◌, ◌≢◌, ◌⊎◌, ◌<◌, ◌+◌, ℕ, length, List, [], ◌∷◌, ◌++◌, All, Some, None, Ok, Err}
+use Rattle.std.specs.Prelude.{◌≡◌, ◌≢◌, ◌⊎◌, ◌<◌, ◌+◌, ℕ, length, List, [], ◌∷◌, ◌++◌, Some, None, Ok, Err}
 use Rattle.js_base.specs.Bytes.{Bytes}
 use Rattle.gate_log.specs.Batches.{end_of}
-use Rattle.effects.specs.declared.durable.Durable.{Durable}
-use Rattle.effects.specs.declared.effect.Effect.{Effect}
-use Rattle.effects.specs.Folding.{fold, fold_all}
+use Rattle.op_records.specs.declared.record.Record.{Record}
 use Rattle.op_records.specs.Reading.{Stand, record_at, vacant_field}
 use Rattle.op_records.specs.declared.fault.RecordFault.{RecordFault}
 use Rattle.op_records.specs.declared.fault.RecordFault.TheVariants.{Cut, BadKind, BadField, NoMemory as OutOfMemory}
-use Rattle.durable_checks.specs.Storable.{IsStorable, IsOpenable}
-use Rattle.record_fold.specs.Misfits.{misfit}
+use Rattle.durable_checks.specs.Storable.{IsStorable}
+use Rattle.log_records.specs.Logged.{Logged, fold_record, fold_records}
+use Rattle.log_records.specs.Misfits.{misfit_of}
 use Rattle.log_records.specs.Batches.{AddAll, Begins}
 
 -- ---- in the bytes of one batch
@@ -22,15 +21,15 @@ IsAt (BadField place) at = at ≡ place
 IsAt OutOfMemory at = ⊥
 
 -- the records up to this place fit, and lead so far
-pub record IsFolded (old : Durable) (bytes : Bytes) (here : ℕ) (mid : Durable) : Type 0 where
-  pub effects : List Effect
-  pub stand : Stand bytes 0 effects here
-  pub folded : fold_all effects (Some old) ≡ Some mid
+pub record IsFolded (old : Logged) (bytes : Bytes) (here : ℕ) (mid : Logged) : Type 0 where
+  pub records : List Record
+  pub stand : Stand bytes 0 records here
+  pub folded : fold_records records (Some old) ≡ Some mid
 
 -- the next record is none
-pub record IsMisread (old : Durable) (bytes : Bytes) (at : ℕ) : Type 0 where
+pub record IsMisread (old : Logged) (bytes : Bytes) (at : ℕ) : Type 0 where
   pub here : ℕ
-  pub mid : Durable
+  pub mid : Logged
   pub so_far : IsFolded old bytes here mid
   pub more : here < length bytes
   pub fault : RecordFault
@@ -38,31 +37,31 @@ pub record IsMisread (old : Durable) (bytes : Bytes) (at : ℕ) : Type 0 where
   pub place : IsAt fault at
 
 -- the next record does not fit
-pub record IsMisfit (old : Durable) (bytes : Bytes) (at : ℕ) : Type 0 where
+pub record IsMisfit (old : Logged) (bytes : Bytes) (at : ℕ) : Type 0 where
   pub here : ℕ
-  pub mid : Durable
+  pub mid : Logged
   pub so_far : IsFolded old bytes here mid
-  pub effect : Effect
+  pub next : Record
   pub behind : ℕ
-  pub reads : record_at bytes here ≡ Ok (effect, behind)
-  pub unfit : fold mid effect ≡ None
-  pub place : at ≡ here + misfit mid effect
+  pub reads : record_at bytes here ≡ Ok (next, behind)
+  pub unfit : fold_record mid next ≡ None
+  pub place : at ≡ here + misfit_of mid next
 
 -- the last record of the batch begins here, and all of them fit
-pub record IsLast (old : Durable) (bytes : Bytes) (here : ℕ) (new : Durable) : Type 0 where
-  pub mid : Durable
+pub record IsLast (old : Logged) (bytes : Bytes) (here : ℕ) (new : Logged) : Type 0 where
+  pub mid : Logged
   pub so_far : IsFolded old bytes here mid
-  pub effect : Effect
-  pub reads : record_at bytes here ≡ Ok (effect, length bytes)
-  pub fits : fold mid effect ≡ Some new
+  pub next : Record
+  pub reads : record_at bytes here ≡ Ok (next, length bytes)
+  pub fits : fold_record mid next ≡ Some new
 
 -- all records fit, but what they make may not be stored; the last one is told
-pub record IsUnstorable (old : Durable) (bytes : Bytes) (at : ℕ) : Type 0 where
-  pub new : Durable
+pub record IsUnstorable (old : Logged) (bytes : Bytes) (at : ℕ) : Type 0 where
+  pub new : Logged
   pub last : IsLast old bytes at new
-  pub bad : ¬ IsStorable new
+  pub bad : ¬ IsStorable new.durable
 
-abbrev pub HasBadRecord : Durable → Bytes → ℕ → Type 0
+abbrev pub HasBadRecord : Logged → Bytes → ℕ → Type 0
 HasBadRecord old bytes at = IsMisread old bytes at ⊎ (IsMisfit old bytes at ⊎ IsUnstorable old bytes at)
 
 -- ---- in the batches of a log
@@ -98,32 +97,13 @@ pub record IsBadLater (batches : List Bytes) (at : ℕ) : Type 0 where
   pub bytes : Bytes
   pub rest : List Bytes
   pub batches_are : batches ≡ first ∷ (front ++ bytes ∷ rest)
-  pub begun : Durable
+  pub begun : Logged
   pub begins : Begins first begun
-  pub old : Durable
+  pub old : Logged
   pub so_far : AddAll begun front old
   pub place : ℕ
   pub bad : HasBadRecord old bytes place
   pub here : at ≡ offset (first ∷ front) place
 
--- all batches may be stored, but what they give can't be opened; the last of all records is told
-pub record IsBadEnd (batches : List Bytes) (at : ℕ) : Type 0 where
-  pub first : Bytes
-  pub front : List Bytes
-  pub bytes : Bytes
-  pub empty : List Bytes
-  pub batches_are : batches ≡ first ∷ (front ++ bytes ∷ empty)
-  pub are_empty : All (λ batch. batch ≡ []) empty
-  pub begun : Durable
-  pub begins : Begins first begun
-  pub old : Durable
-  pub so_far : AddAll begun front old
-  pub place : ℕ
-  pub new : Durable
-  pub last : IsLast old bytes place new
-  pub storable : IsStorable new
-  pub bad : ¬ IsOpenable new
-  pub here : at ≡ offset (first ∷ front) place
-
 abbrev pub HasBadBatch : List Bytes → ℕ → Type 0
-HasBadBatch batches at = IsBadFirst batches at ⊎ (IsBadLater batches at ⊎ IsBadEnd batches at)
+HasBadBatch batches at = IsBadFirst batches at ⊎ IsBadLater batches at

@@ -1,12 +1,28 @@
--- That the batches of a log are read in one way.
-use Rattle.std.specs.Prelude.{◌≡◌, ℕ, List}
+-- That the batches of a log are read in one way, and that its messages may be read later.
+use Rattle.std.specs.Prelude.{◌≡◌, ◌↔◌, ℕ, List, map, All, Option, option_map}
 use Rattle.js_base.specs.Bytes.{Bytes}
+use Rattle.model_laws.specs.Bounds.{IsWritableMessage}
 use Rattle.effects.specs.declared.durable.Durable.{Durable}
-use Rattle.durable_checks.specs.Storable.{IsOpenable}
+use Rattle.effects.specs.declared.effect.Effect.{Effect}
+use Rattle.effects.specs.Folding.{fold, fold_all}
+use Rattle.durable_checks.specs.Storable.{IsFormed, IsStorable}
+use Rattle.log_records.specs.Unread.{unread, unread_effect, stored_messages}
+use Rattle.log_records.specs.Logged.{Logged}
 use Rattle.log_records.specs.Batches.{Gives}
 use Rattle.log_records.specs.Damage.{HasBadBatch}
+use Rattle.log_records.specs.Ends.{IsLastIn}
 
 pub record LawBatches : Type 0 where
-  pub one : (batches : List Bytes) (d e : Durable) → Gives batches d → Gives batches e → d ≡ e
-  pub whole : (batches : List Bytes) (d : Durable) (at : ℕ) → Gives batches d → IsOpenable d → ¬ HasBadBatch batches at
+  pub one : (batches : List Bytes) (g h : Logged) → Gives batches g → Gives batches h → g ≡ h
+  pub whole : (batches : List Bytes) (g : Logged) (at : ℕ) → Gives batches g → ¬ HasBadBatch batches at
   pub one_offset : (batches : List Bytes) (at other : ℕ) → HasBadBatch batches at → HasBadBatch batches other → at ≡ other
+  pub last : (batches : List Bytes) (g : Logged) (at : ℕ) → IsLastIn batches g at → Gives batches g
+  pub one_last : (batches : List Bytes) (g h : Logged) (at other : ℕ) → IsLastIn batches g at → IsLastIn batches h other → at ≡ other
+
+-- records make of unread messages what they make of messages, and what is asked at the end of a batch looks at none
+pub record LawUnread : Type 0 where
+  pub one : (d : Durable) (e : Effect) → fold (unread d) (unread_effect e) ≡ option_map unread (fold d e)
+  pub all : (es : List Effect) (d : Option Durable) → fold_all (map unread_effect es) (option_map unread d) ≡ option_map unread (fold_all es d)
+  pub storable : (d : Durable) → IsStorable (unread d) ↔ IsStorable d
+  pub again : (d : Durable) → unread (unread d) ≡ unread d
+  pub formed : (d : Durable) → IsFormed d ↔ (IsFormed (unread d) × All IsWritableMessage (stored_messages d))

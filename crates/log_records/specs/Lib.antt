@@ -1,5 +1,9 @@
+pub mod Unread
+pub mod Logged
+pub mod Misfits
 pub mod Batches
 pub mod Damage
+pub mod Ends
 pub mod Reading
 pub mod Laws
 pub mod Holding

@@ -1,20 +1,24 @@
 -- What is read of the batches of a log.
-use Rattle.std.specs.Prelude.{◌≡◌, ◌⊎◌, ◌+◌, ◌<◌, ◌^◌, ℕ, length, List, [], ◌∷◌, ◌++◌, All, Option, Some, None, Ok, Err}
+use Rattle.std.specs.Prelude.{◌≡◌, ◌⊎◌, ◌+◌, ◌<◌, ◌^◌, ℕ, length, List, [], ◌∷◌, ◌++◌, Option, Some, None, Ok, Err}
 use Rattle.vol_disk.specs.Disk.{Disk}
 use Rattle.js_base.specs.Bytes.{Bytes}
 use Rattle.gate_log.specs.LogState.{LogState}
 use Rattle.gate_log.specs.Reading.{IsGate}
 use Rattle.gate_log.specs.Settled.{IsSettled}
-use Rattle.effects.specs.declared.durable.Durable.{Durable}
-use Rattle.effects.specs.declared.effect.Effect.{Effect}
-use Rattle.effects.specs.Folding.{fold, fold_all}
+use Rattle.op_records.specs.declared.record.Record.{Record}
 use Rattle.op_records.specs.Reading.{AreRecords, record_at, vacant_field}
 use Rattle.op_records.specs.declared.fault.RecordFault.{RecordFault}
 use Rattle.op_records.specs.declared.fault.RecordFault.TheVariants.{Cut, BadKind, BadField, NoMemory as NoRoom}
-use Rattle.record_fold.specs.Misfits.{misfit}
-use Rattle.durable_checks.specs.Storable.{IsOpenable}
-use Rattle.log_records.specs.Batches.{Adds, AddAll, Begins, Gives}
-use Rattle.log_records.specs.Damage.{IsAt, IsLast, HasBadRecord, IsEmptyFirst, IsWrongFirst, HasBadBatch, offset}
+use Rattle.record_fold.specs.declared.fault.FoldFault.{FoldFault}
+use Rattle.record_fold.specs.declared.fault.FoldFault.TheVariants.{Misfit, NoMemory as Refused}
+use Rattle.log_records.specs.Logged.{Logged, fold_record, fold_records}
+use Rattle.log_records.specs.Misfits.{misfit_of}
+use Rattle.log_records.specs.Batches.{Adds, AddAll, Begins}
+use Rattle.log_records.specs.Damage.{IsAt, IsLast, HasBadRecord, IsEmptyFirst, IsWrongFirst, HasBadBatch}
+use Rattle.log_records.specs.Ends.{IsLastBehind, IsLastIn}
+use Rattle.log_records.specs.Holding.{made_in, IsSoundMade, given_in}
+use Rattle.log_records.specs.declared.made.Made.{Made}
+use Rattle.log_records.specs.declared.log.LogRead.{LogRead}
 use Rattle.log_records.specs.declared.batch.BatchFault.{BatchFault}
 use Rattle.log_records.specs.declared.batch.BatchFault.TheVariants as batch
 use Rattle.log_records.specs.declared.fault.ReadFault.{ReadFault}
@@ -33,20 +37,30 @@ fault_of (BadKind at) = batch.Wrong at
 fault_of (BadField at) = batch.Wrong at
 fault_of NoRoom = batch.NoMemory
 
+-- with the record, and sound as before
+pub record IsTaken (old : Made) (r : Record) (new : Made) : Type 0 where
+  pub fits : fold_record (made_in old) r ≡ Some (made_in new)
+  pub sound : IsSoundMade new
+
+-- the record does not fit and this field is wrong, or memory ran out
+abbrev pub IsTakeFault : Logged → Record → FoldFault → Type 0
+IsTakeFault old r (Misfit at) = (fold_record old r ≡ None) × (at ≡ misfit_of old r)
+IsTakeFault old r Refused = Unit {0}
+
 -- the record at this place is none, or does not fit, and the wrong field stands at another one
-abbrev pub IsWrongNext : Durable → Bytes → ℕ → ℕ → Type 0
+abbrev pub IsWrongNext : Logged → Bytes → ℕ → ℕ → Type 0
 IsWrongNext old bytes here at =
     ((fault : RecordFault) × (record_at bytes here ≡ Err fault) × IsAt fault at)
-    ⊎ ((effect : Effect) × (behind : ℕ) × (record_at bytes here ≡ Ok (effect, behind)) × (fold old effect ≡ None) × (at ≡ here + misfit old effect))
+    ⊎ ((next : Record) × (behind : ℕ) × (record_at bytes here ≡ Ok (next, behind)) × (fold_record old next ≡ None) × (at ≡ here + misfit_of old next))
 
 -- the record at this place leads from the one to the other, and ends at another place
-pub record IsNext (old : Durable) (bytes : Bytes) (here : ℕ) (new : Durable) (behind : ℕ) : Type 0 where
-  pub effect : Effect
-  pub reads : record_at bytes here ≡ Ok (effect, behind)
-  pub fits : fold old effect ≡ Some new
+pub record IsNext (old : Logged) (bytes : Bytes) (here : ℕ) (new : Logged) (behind : ℕ) : Type 0 where
+  pub next : Record
+  pub reads : record_at bytes here ≡ Ok (next, behind)
+  pub fits : fold_record old next ≡ Some new
 
 -- the record at this place is wrong, or memory ran out
-abbrev pub IsNextFault : Durable → Bytes → ℕ → BatchFault → Type 0
+abbrev pub IsNextFault : Logged → Bytes → ℕ → BatchFault → Type 0
 IsNextFault old bytes here (batch.Wrong at) = IsWrongNext old bytes here at
 IsNextFault old bytes here batch.NoMemory = Unit {0}
 
@@ -63,24 +77,24 @@ IsStartFault first (batch.Wrong at) = (fault : RecordFault) × (vacant_field fir
 IsStartFault first batch.NoMemory = Unit {0}
 
 -- where the last record of the batch stands; it may have none
-abbrev pub IsLastOf : Durable → Bytes → Durable → Option ℕ → Type 0
+abbrev pub IsLastOf : Logged → Bytes → Logged → Option ℕ → Type 0
 IsLastOf old bytes new None = (bytes ≡ []) × (new ≡ old)
 IsLastOf old bytes new (Some here) = IsLast old bytes here new
 
 -- the records of a batch lead from the one to the other
-pub record AreRead (old : Durable) (bytes : Bytes) (new : Durable) (last : Option ℕ) : Type 0 where
-  pub effects : List Effect
-  pub records : AreRecords bytes effects
-  pub folded : fold_all effects (Some old) ≡ Some new
+pub record AreRead (old : Logged) (bytes : Bytes) (new : Logged) (last : Option ℕ) : Type 0 where
+  pub records : List Record
+  pub stand : AreRecords bytes records
+  pub folded : fold_records records (Some old) ≡ Some new
   pub last_is : IsLastOf old bytes new last
 
 -- the batch leads from the one to the other
-pub record IsAdded (old : Durable) (bytes : Bytes) (new : Durable) (last : Option ℕ) : Type 0 where
+pub record IsAdded (old : Logged) (bytes : Bytes) (new : Logged) (last : Option ℕ) : Type 0 where
   pub adds : Adds old bytes new
   pub last_is : IsLastOf old bytes new last
 
 -- a record of the batch is wrong, or memory ran out
-abbrev pub IsBatchFault : Durable → Bytes → BatchFault → Type 0
+abbrev pub IsBatchFault : Logged → Bytes → BatchFault → Type 0
 IsBatchFault old bytes (batch.Wrong at) = HasBadRecord old bytes at
 IsBatchFault old bytes batch.NoMemory = Unit {0}
 
@@ -109,17 +123,17 @@ IsFirstFault first (Damaged at) = IsEmptyFirst first at ⊎ IsWrongFirst first a
 IsFirstFault first OutOfMemory = Unit {0}
 
 -- a record of the batch behind a gate is wrong, or memory ran out
-abbrev pub IsLaterFault : ℕ → Durable → Bytes → ReadFault → Type 0
+abbrev pub IsLaterFault : ℕ → Logged → Bytes → ReadFault → Type 0
 IsLaterFault gate old bytes Fault = ⊥
 IsLaterFault gate old bytes (Damaged at) = (place : ℕ) × HasBadRecord old bytes place × (at ≡ gate + 5 + place)
 IsLaterFault gate old bytes OutOfMemory = Unit {0}
 
 -- the batch behind a gate leads from the one to the other, and its last record stands at this offset; it may have none
-abbrev pub IsLastFrom : ℕ → Durable → Bytes → Durable → Option ℕ → Type 0
+abbrev pub IsLastFrom : ℕ → Logged → Bytes → Logged → Option ℕ → Type 0
 IsLastFrom gate old bytes new None = (bytes ≡ []) × (new ≡ old)
 IsLastFrom gate old bytes new (Some at) = (place : ℕ) × IsLast old bytes place new × (at ≡ gate + 5 + place)
 
-pub record IsAddedAt (gate : ℕ) (old : Durable) (bytes : Bytes) (new : Durable) (last : Option ℕ) : Type 0 where
+pub record IsAddedAt (gate : ℕ) (old : Logged) (bytes : Bytes) (new : Logged) (last : Option ℕ) : Type 0 where
   pub adds : Adds old bytes new
   pub last_is : IsLastFrom gate old bytes new last
 
@@ -134,40 +148,24 @@ IsOutside Fault = Unit {0}
 IsOutside (Damaged at) = ⊥
 IsOutside OutOfMemory = Unit {0}
 
--- the last record of these batches stands at this offset; none of them may have one
-pub record IsLastAt (first : Bytes) (begun : Durable) (front : List Bytes) (new : Durable) (at : ℕ) : Type 0 where
-  pub before : List Bytes
-  pub bytes : Bytes
-  pub empty : List Bytes
-  pub front_is : front ≡ before ++ bytes ∷ empty
-  pub are_empty : All (λ batch. batch ≡ []) empty
-  pub old : Durable
-  pub so_far : AddAll begun before old
-  pub place : ℕ
-  pub last : IsLast old bytes place new
-  pub here : at ≡ offset (first ∷ before) place
-
-abbrev pub IsLastIn : Bytes → Durable → List Bytes → Durable → ℕ → Type 0
-IsLastIn first begun front new at = (All (λ batch. batch ≡ []) front × (new ≡ begun)) ⊎ IsLastAt first begun front new at
-
 -- the batches up to this gate are added, and their last record stands at this offset
-pub record IsReadTo (log : LogState) (first : Bytes) (begun : Durable) (gate : ℕ) (d : Durable) (last : ℕ) (disk : Disk) : Type 0 where
+pub record IsReadTo (log : LogState) (first : Bytes) (begun : Logged) (gate : ℕ) (g : Logged) (last : ℕ) (disk : Disk) : Type 0 where
   pub front : List Bytes
   pub rest : List Bytes
   pub gate_is : IsGate log (first ∷ front) rest gate disk
-  pub added : AddAll begun front d
-  pub last_is : IsLastIn first begun front d last
+  pub added : AddAll begun front g
+  pub last_is : IsLastBehind first begun front g last
 
 -- the gate stands behind the first batch, which tells this
-pub record IsBegun (log : LogState) (gate : ℕ) (begun : Durable) (disk : Disk) : Type 0 where
+pub record IsBegun (log : LogState) (gate : ℕ) (begun : Logged) (disk : Disk) : Type 0 where
   pub first : Bytes
   pub rest : List Bytes
   pub begins : Begins first begun
   pub gate_is : IsGate log (first ∷ []) rest gate disk
 
 -- so it is, whatever batches the log has
-abbrev pub GivesIn : LogState → Disk → Durable → Type 0
-GivesIn log disk d = (batches : List Bytes) → IsSettled log batches disk → Gives batches d × IsOpenable d
+abbrev pub GivesIn : LogState → Disk → LogRead → Type 0
+GivesIn log disk read = (batches : List Bytes) → IsSettled log batches disk → IsLastIn batches (given_in read) read.last
 
 -- the volume failed, memory ran out, or a batch is wrong
 abbrev pub IsReadFault : LogState → Disk → ReadFault → Type 0

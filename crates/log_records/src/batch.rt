@@ -1,14 +1,13 @@
 //! The records of one batch.
 
 ghost use Rattle.std.specs.Prelude.{◌≡◌, ◌<◌, ◌≤◌, length, IfOk, IfErr};
-ghost use Rattle.durable_checks.specs.Storable.{IsFormed, IsStorable};
+ghost use Rattle.durable_checks.specs.Storable.{IsStorable};
 ghost use Rattle.log_records.specs.Batches.{Begins};
-ghost use Rattle.log_records.specs.Holding.{held_in, IsReplayStorable};
+ghost use Rattle.log_records.specs.Holding.{IsSoundMade, made_in};
 ghost use Rattle.log_records.specs.Reading.{AreRead, IsAdded, IsBatch, IsBatchFault, IsNext, IsNextFault, IsPlaced, IsStartFault};
 
-use crate::held::Held;
+use crate::made::Made;
 use js_base::NoMemory;
-use log_replay::Replay;
 use op_records::{RecordFault, read_record, read_vacant};
 use record_fold::FoldFault;
 use std::alloc::Global;
@@ -47,15 +46,16 @@ impl From<RecordFault> for BatchFault {
 }
 
 /// What the first batch of a log tells: where its place began. It has records.
-pub(crate) fn begin(alloc: Global, records: &[u8]) -> Result<Replay, BatchFault>
+pub(crate) fn begin(alloc: Global, records: &[u8]) -> Result<Made, BatchFault>
     requires batch { IsBatch records.now }
-    ensures begun { IfOk result (Begins records.now) }
-    ensures formed { IfOk result IsFormed }
-    ensures storable { IfOk result IsStorable }
+    ensures begun { IfOk result (λ made. Begins records.now (made_in made)) }
+    ensures sound { IfOk result IsSoundMade }
+    ensures storable { IfOk result (λ made. IsStorable (made_in made).durable) }
     ensures fault { IfErr result (IsStartFault records.now) }
 {
     let incarnation = read_vacant(alloc, records)?;
-    Ok(Replay::vacant(incarnation))
+    let made = Made::beginning(alloc, incarnation)?;
+    Ok(made)
 }
 
 /// The fault of a record at a place of a batch, whose field so many bytes behind its kind does not fit. No slice is so long that its place is no number.
@@ -73,21 +73,19 @@ fn add_record(
     alloc: Global,
     records: &[u8],
     at: usize,
-    held: Held,
-) -> Result<(Held, usize), BatchFault>
+    made: Made,
+) -> Result<(Made, usize), BatchFault>
     requires batch { IsBatch records.now }
     requires within { at ≤ length records.now }
-    requires formed { IsFormed (held_in held) }
-    requires sound { IsReplayStorable held }
-    ensures next { IfOk result (λ r. IsNext (held_in held) records.now at (held_in r.0) r.1) }
+    requires sound { IsSoundMade made }
+    ensures next { IfOk result (λ r. IsNext (made_in made) records.now at (made_in r.0) r.1) }
     ensures further { IfOk result (λ r. (at < r.1) × (r.1 ≤ length records.now)) }
-    ensures formed { IfOk result (λ r. IsFormed (held_in r.0)) }
-    ensures sound { IfOk result (λ r. IsReplayStorable r.0) }
-    ensures fault { IfErr result (IsNextFault (held_in held) records.now at) }
+    ensures sound { IfOk result (λ r. IsSoundMade r.0) }
+    ensures fault { IfErr result (IsNextFault (made_in made) records.now at) }
 {
-    let (effect, behind) = read_record(alloc, records, at)?;
-    match held.fold(alloc, effect) {
-        Ok(held) => Ok((held, behind)),
+    let (record, behind) = read_record(alloc, records, at)?;
+    match made.take(alloc, record) {
+        Ok(made) => Ok((made, behind)),
         Err(FoldFault::Misfit(field)) => Err(misfit_at(at, field)),
         Err(FoldFault::NoMemory) => Err(BatchFault::NoMemory),
     }
@@ -97,17 +95,15 @@ fn add_record(
 fn add_records(
     alloc: Global,
     records: &[u8],
-    held: Held,
-) -> Result<(Held, Option<usize>), BatchFault>
+    old: Made,
+) -> Result<(Made, Option<usize>), BatchFault>
     requires batch { IsBatch records.now }
-    requires formed { IsFormed (held_in held) }
-    requires sound { IsReplayStorable held }
-    ensures read { IfOk result (λ r. AreRead (held_in held) records.now (held_in r.0) r.1) }
-    ensures formed { IfOk result (λ r. IsFormed (held_in r.0)) }
-    ensures sound { IfOk result (λ r. IsReplayStorable r.0) }
-    ensures fault { IfErr result (IsBatchFault (held_in held) records.now) }
+    requires sound { IsSoundMade old }
+    ensures read { IfOk result (λ r. AreRead (made_in old) records.now (made_in r.0) r.1) }
+    ensures sound { IfOk result (λ r. IsSoundMade r.0) }
+    ensures fault { IfErr result (IsBatchFault (made_in old) records.now) }
 {
-    let mut made = held;
+    let mut made = old;
     let mut last = None;
     let mut at = 0;
     while at < records.len() {
@@ -123,18 +119,16 @@ fn add_records(
 pub(crate) fn add_batch(
     alloc: Global,
     records: &[u8],
-    held: Held,
-) -> Result<(Held, Option<usize>), BatchFault>
+    old: Made,
+) -> Result<(Made, Option<usize>), BatchFault>
     requires batch { IsBatch records.now }
-    requires formed { IsFormed (held_in held) }
-    requires sound { IsReplayStorable held }
-    requires storable { IsStorable (held_in held) }
-    ensures added { IfOk result (λ r. IsAdded (held_in held) records.now (held_in r.0) r.1) }
-    ensures formed { IfOk result (λ r. IsFormed (held_in r.0)) }
-    ensures sound { IfOk result (λ r. IsReplayStorable r.0) }
-    ensures fault { IfErr result (IsBatchFault (held_in held) records.now) }
+    requires sound { IsSoundMade old }
+    requires storable { IsStorable (made_in old).durable }
+    ensures added { IfOk result (λ r. IsAdded (made_in old) records.now (made_in r.0) r.1) }
+    ensures sound { IfOk result (λ r. IsSoundMade r.0) }
+    ensures fault { IfErr result (IsBatchFault (made_in old) records.now) }
 {
-    let (made, last) = add_records(alloc, records, held)?;
+    let (made, last) = add_records(alloc, records, old)?;
     let storable = made.is_storable(alloc)?;
     if storable {
         return Ok((made, last));

@@ -12,8 +12,7 @@ pub enum ReadFault {
     #[error("the volume failed")]
     Fault,
     /// The first fault of the records stands there: the first batch is no record of a vacant place (told at its gate if it has no records), or a record of a
-    /// later batch is none or does not fit. If what the records of a batch make is unsound or more than a volume may hold, the last of them is told; so it
-    /// is at the end, if no stream can be restored to what all of them make.
+    /// later batch is none or does not fit. If what the records of a batch make is unsound or more than a volume may hold, the last of them is told.
     #[error("damaged at {0}")]
     Damaged(u64),
     #[error("out of memory")]

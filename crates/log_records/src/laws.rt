@@ -1,8 +1,14 @@
 //! Laws of the definitions.
 
-ghost use Rattle.log_records.specs.Laws.{LawBatches};
+ghost use Rattle.log_records.specs.Laws.{LawBatches, LawUnread};
 
 /// The batches of a log give one thing, or one of them is the first that is wrong, at one place, and not both.
 pub fn law_batches()
     ensures { LawBatches }
+{}
+
+/// Records make of messages that are not read what they make of messages, but for their subjects, headers and payloads; and what is asked at the end of a
+/// batch looks at none of these.
+pub fn law_unread()
+    ensures { LawUnread }
 {}

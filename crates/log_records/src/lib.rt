@@ -6,6 +6,8 @@ mod fault;
 mod held;
 pub mod laws;
 mod log;
+mod made;
+mod spots;
 
 pub use fault::ReadFault;
-pub use log::read_log;
+pub use log::{LogRead, read_log};

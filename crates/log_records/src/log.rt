@@ -6,19 +6,19 @@ ghost use Rattle.js_base.specs.Bytes.{Bytes};
 ghost use Rattle.js_base.specs.Causes.{HasCause};
 ghost use Rattle.gate_log.specs.Settled.{IsSettled};
 ghost use Rattle.gate_log.specs.Reading.{IsReadAt, IsSomeGate};
-ghost use Rattle.durable_checks.specs.Storable.{IsFormed, IsOpenable, IsStorable};
+ghost use Rattle.durable_checks.specs.Storable.{IsStorable};
 ghost use Rattle.log_records.specs.Batches.{Begins};
-ghost use Rattle.log_records.specs.Holding.{held_in, IsReplayStorable};
+ghost use Rattle.log_records.specs.Logged.{IsLogged};
+ghost use Rattle.log_records.specs.Holding.{IsSoundMade, given_in, made_in};
 ghost use Rattle.log_records.specs.Reading.{GivesIn, IsAddedAt, IsBatch, IsBegun, IsFirstFault, IsFurther, IsLaterFault, IsOffset, IsOffsetOf, IsOutside, IsReadFault, IsTold};
 
 use crate::batch::{BatchFault, add_batch, begin};
 use crate::fault::ReadFault;
-use crate::held::Held;
-use durable_checks::is_openable;
+use crate::made::Made;
+use block_table::BlockTable;
 use effects::Durable;
 use gate_log::{GateLog, LogFault};
 use js_base::{Blob, NoMemory};
-use log_replay::Replay;
 use std::alloc::Global;
 use vol_disk::Vol;
 
@@ -30,6 +30,18 @@ const RECORDS: u64 = 5;
 
 /// The end of the lengths that a batch can have.
 const LENGTHS_END: usize = 1 << 32;
+
+/// What was read of a log.
+#[derive(Drop)]
+pub struct LogRead {
+    /// What outlives a crash. Its messages are unread: of each it has the sequence and the moment, and for the rest a subject of one hyphen, no headers and
+    /// no payload.
+    pub durable: Durable,
+    /// Where the messages lie.
+    pub table: BlockTable,
+    /// The offset in the log's file of the last record of all batches. If none behind the first batch has one, it is that of the first gate.
+    pub last: u64,
+}
 
 /// The offset of a place among the records of the batch behind a gate. No file has one that is no number of 64 bits.
 fn offset(gate: u64, place: usize) -> Option<u64>
@@ -66,18 +78,18 @@ fn told(gate: u64, fault: BatchFault) -> ReadFault
 }
 
 /// What the first batch of a log tells: where its place began.
-fn add_first(alloc: Global, records: &[u8]) -> Result<Replay, ReadFault>
+fn add_first(alloc: Global, records: &[u8]) -> Result<Made, ReadFault>
     requires batch { IsBatch records.now }
-    ensures begun { IfOk result (Begins records.now) }
-    ensures formed { IfOk result IsFormed }
-    ensures storable { IfOk result IsStorable }
+    ensures begun { IfOk result (λ made. Begins records.now (made_in made)) }
+    ensures sound { IfOk result IsSoundMade }
+    ensures storable { IfOk result (λ made. IsStorable (made_in made).durable) }
     ensures fault { IfErr result (IsFirstFault records.now) }
 {
     if records.is_empty() {
         return Err(ReadFault::Damaged(FIRST_GATE));
     }
     match begin(alloc, records) {
-        Ok(replay) => Ok(replay),
+        Ok(made) => Ok(made),
         Err(fault) => Err(told(FIRST_GATE, fault)),
     }
 }
@@ -88,18 +100,16 @@ fn add_later(
     alloc: Global,
     gate: u64,
     records: &[u8],
-    held: Held,
-) -> Result<(Held, Option<u64>), ReadFault>
+    made: Made,
+) -> Result<(Made, Option<u64>), ReadFault>
     requires batch { IsBatch records.now }
-    requires formed { IsFormed (held_in held) }
-    requires sound { IsReplayStorable held }
-    requires storable { IsStorable (held_in held) }
-    ensures added { IfOk result (λ r. IsAddedAt gate (held_in held) records.now (held_in r.0) r.1) }
-    ensures formed { IfOk result (λ r. IsFormed (held_in r.0)) }
-    ensures sound { IfOk result (λ r. IsReplayStorable r.0) }
-    ensures fault { IfErr result (IsLaterFault gate (held_in held) records.now) }
+    requires sound { IsSoundMade made }
+    requires storable { IsStorable (made_in made).durable }
+    ensures added { IfOk result (λ r. IsAddedAt gate (made_in made) records.now (made_in r.0) r.1) }
+    ensures sound { IfOk result (λ r. IsSoundMade r.0) }
+    ensures fault { IfErr result (IsLaterFault gate (made_in made) records.now) }
 {
-    match add_batch(alloc, records, held) {
+    match add_batch(alloc, records, made) {
         Ok((made, last)) => match offset_of(gate, last) {
             Ok(at) => Ok((made, at)),
             Err(NoMemory) => Err(ReadFault::NoMemory),
@@ -157,58 +167,50 @@ fn read_later<V: Vol>(
     vol: &mut V,
     log: &GateLog,
     first_end: u64,
-    begun: Replay,
-) -> Result<Durable, ReadFault>
-    requires formed { IsFormed begun }
-    requires storable { IsStorable begun }
-    requires begun { V.told → IsBegun log.now first_end begun (V.disk vol.old) }
+    begun: Made,
+) -> Result<LogRead, ReadFault>
+    requires sound { IsSoundMade begun }
+    requires storable { IsStorable (made_in begun).durable }
+    requires begun { V.told → IsBegun log.now first_end (made_in begun) (V.disk vol.old) }
     ensures gives { V.told → IfOk result (GivesIn log.now (V.disk vol.old)) }
     // Of any volume:
-    ensures formed { IfOk result IsFormed }
-    ensures storable { IfOk result IsStorable }
-    ensures openable { IfOk result IsOpenable }
+    ensures logged { IfOk result (λ read. IsLogged (given_in read)) }
+    ensures storable { IfOk result (λ read. IsStorable read.durable) }
     ensures fault { V.told → IfErr result (IsReadFault log.now (V.disk vol.old)) }
     ensures quiet { V.told → Quiet (V.disk vol.old) (V.disk vol.new) }
     ensures cause { HasCause (V.faults vol.old) (V.faults vol.new) (IsErrOf result ReadFault.Fault) }
     ensures later { (V.disk vol.old).moment ≤ (V.disk vol.new).moment }
 {
-    let mut held = Held::Replayed(begun);
+    let mut made = begun;
     let mut last = FIRST_GATE;
     let mut gate = first_end;
     while let Some((records, next)) = next_batch(alloc, vol, log, gate)? {
-        let (made, later) = add_later(alloc, gate, records.as_slice(), held)?;
-        held = made;
+        let (added, later) = add_later(alloc, gate, records.as_slice(), made)?;
+        made = added;
         last = later.unwrap_or(last);
         gate = next;
     }
-    let durable = held.into_durable(alloc)?;
-    let openable = is_openable(alloc, &durable)?;
-    if openable {
-        Ok(durable)
-    } else {
-        Err(ReadFault::Damaged(last))
-    }
+    let read = made.into_read(alloc, last)?;
+    Ok(read)
 }
 
 /// What the open batches of a log give, read as records: the first tells where its place began, and each later one what changed. Where none is open, the
-/// place is vacant and never had a stream.
-pub fn read_log<V: Vol>(alloc: Global, vol: &mut V, log: &GateLog) -> Result<Durable, ReadFault>
+/// place is vacant and never had a stream. No block is looked at.
+pub fn read_log<V: Vol>(alloc: Global, vol: &mut V, log: &GateLog) -> Result<LogRead, ReadFault>
     requires settled { V.told → (batches : List Bytes) × IsSettled log.now batches (V.disk vol.old) }
     ensures gives { V.told → IfOk result (GivesIn log.now (V.disk vol.old)) }
     // Of any volume:
-    ensures formed { IfOk result IsFormed }
-    ensures storable { IfOk result IsStorable }
-    ensures openable { IfOk result IsOpenable }
+    ensures logged { IfOk result (λ read. IsLogged (given_in read)) }
+    ensures storable { IfOk result (λ read. IsStorable read.durable) }
     ensures fault { V.told → IfErr result (IsReadFault log.now (V.disk vol.old)) }
     ensures quiet { V.told → Quiet (V.disk vol.old) (V.disk vol.new) }
     ensures cause { HasCause (V.faults vol.old) (V.faults vol.new) (IsErrOf result ReadFault.Fault) }
     ensures later { (V.disk vol.old).moment ≤ (V.disk vol.new).moment }
 {
     let Some((first, gate)) = next_batch(alloc, vol, log, FIRST_GATE)? else {
-        return Ok(Durable {
-            incarnation: 0,
-            body: None,
-        });
+        let vacant = Made::beginning(alloc, 0)?;
+        let read = vacant.into_read(alloc, FIRST_GATE)?;
+        return Ok(read);
     };
     let begun = add_first(alloc, first.as_slice())?;
     read_later(alloc, vol, log, gate, begun)

@@ -10,6 +10,7 @@ use Rattle.js_base.specs.Names.{name_of, unless_bad, first_bad, is_name_byte}
 use Rattle.js_base.specs.declared.name.NameFault.{NameFault}
 use Rattle.js_base.specs.declared.name.NameFault.TheVariants.{TooLong}
 use Rattle.js_base.specs.Subjects.{is_subject_text}
+use Rattle.js_base.specs.declared.spot.Spot.{Spot}
 use Rattle.js_base.proofs.Places.{none_fails}
 use Rattle.js_model.specs.Configs.{is_name, is_number}
 use Rattle.js_model.proofs.NameTexts.{name_parts}
@@ -17,9 +18,9 @@ use Rattle.config_texts.specs.Reading.{allowed}
 use Rattle.config_texts.proofs.Entries.{allowed_back}
 use Rattle.config_texts.proofs.Names.{name_back, same_name}
 use Rattle.op_records.specs.Steps.{Reading, ◌>>=◌, continued, done}
-use Rattle.op_records.specs.Fields.{only, word, part, piece, some_or_bad, number_field, cursor_field, number_fields, numbers_field, name_field, text_field, subject_field, in_order, range_field}
-use Rattle.op_records.specs.Allowed.{is_text, is_cursor, are_picks, is_range}
-use Rattle.op_records.specs.Spelling.{number, short, text, numbers}
+use Rattle.op_records.specs.Fields.{only, word, part, piece, some_or_bad, number_field, cursor_field, number_fields, numbers_field, name_field, text_field, subject_field, spot_field, in_order, range_field}
+use Rattle.op_records.specs.Allowed.{is_text, is_cursor, are_picks, is_range, is_spot}
+use Rattle.op_records.specs.Spelling.{number, short, text, numbers, spelled_spot}
 use Rattle.op_records.specs.declared.fault.RecordFault.TheVariants.{Cut}
 use Rattle.op_records.proofs.Spans.{Spans, span_none, span_of, span_then, span_front, span_back, span_is}
 use Rattle.op_records.proofs.Steps.{both, value_is, place_is, passed, given}
@@ -238,4 +239,40 @@ range_exact = record {
       let high = number_exact.again bytes (at + length (number range.0)) range.1 behind b ends.1 (span_back bytes at (number range.0) (number range.1) behind s) in
       let ordered : in_order (range.0, range.1) ≡ true = (and_parts (is_number range.0 && is_number range.1) (nat_le range.0 range.1) is).1 in
       rw (low, high, ordered) refl;
+}
+
+-- ---- where a message lies
+
+abbrev spot_of : ℕ → ℕ → ℕ → Spot
+spot_of file at len = record { file = file; at = at; len = len }
+
+pub spot_exact : Exact spot_field spelled_spot (λ spot. IsTrue (is_spot spot))
+unfolding spot_field
+spot_exact = record {
+  took = λ bytes at spot behind b e.
+      let p = both bytes (λ (file : ℕ). word w32 >>= λ at. word w32 >>= λ len. done (spot_of file at len)) (word w16 bytes at) spot behind e in
+      let q = both bytes (λ (at : ℕ). word w32 >>= λ len. done (spot_of p.value at len)) (word w32 bytes p.mid) spot behind p.second in
+      let r = both bytes (λ (len : ℕ). done (spot_of p.value q.value len)) (word w32 bytes q.mid) spot behind q.second in
+      let file = word_took w16 (2 ^ 16) wide16 bytes at p.value p.mid b.are_bytes p.first in
+      let start = word_took w32 (2 ^ 32) wide32 bytes p.mid q.value q.mid b.are_bytes q.first in
+      let len = word_took w32 (2 ^ 32) wide32 bytes q.mid r.value r.mid b.are_bytes r.first in
+      let rest = span_then bytes p.mid (to_be_bytes w32 q.value) q.mid (to_be_bytes w32 r.value) r.mid start.1 len.1 in
+      let whole : IsTrue (is_spot (spot_of p.value q.value r.value)) × Spans bytes at (spelled_spot (spot_of p.value q.value r.value)) r.mid = (
+        and_from _ _ (and_from _ _ (is_lt p.value (2 ^ 16) file.0) (is_lt q.value (2 ^ 32) start.0)) (is_lt r.value (2 ^ 32) len.0),
+        span_then bytes at (to_be_bytes w16 p.value) p.mid (to_be_bytes w32 q.value ++ to_be_bytes w32 r.value) r.mid file.1 rest,
+      ) in
+      let same = value_is (spot_of p.value q.value r.value) r.mid spot behind r.second in
+      let place = place_is (spot_of p.value q.value r.value) r.mid spot behind r.second in
+      subst (λ (k : ℕ). IsTrue (is_spot spot) × Spans bytes at (spelled_spot spot) k) place (subst (λ (x : Spot). IsTrue (is_spot x) × Spans bytes at (spelled_spot x) r.mid) same whole);
+  again = λ bytes at spot behind b is s.
+      let a = and_parts _ _ is in
+      let c = and_parts _ _ a.0 in
+      let mid : ℕ = at + length (to_be_bytes w16 spot.file) in
+      let next : ℕ = mid + length (to_be_bytes w32 spot.at) in
+      let front = span_front bytes at (to_be_bytes w16 spot.file) (to_be_bytes w32 spot.at ++ to_be_bytes w32 spot.len) behind s in
+      let back = span_back bytes at (to_be_bytes w16 spot.file) (to_be_bytes w32 spot.at ++ to_be_bytes w32 spot.len) behind s in
+      let file = word_again w16 (2 ^ 16) wide16 bytes at spot.file mid (lt_is spot.file (2 ^ 16) c.0) front in
+      let start = word_again w32 (2 ^ 32) wide32 bytes mid spot.at next (lt_is spot.at (2 ^ 32) c.1) (span_front bytes mid (to_be_bytes w32 spot.at) (to_be_bytes w32 spot.len) behind back) in
+      let len = word_again w32 (2 ^ 32) wide32 bytes next spot.len behind (lt_is spot.len (2 ^ 32) a.1) (span_back bytes mid (to_be_bytes w32 spot.at) (to_be_bytes w32 spot.len) behind back) in
+      rw (file, start, len) refl;
 }

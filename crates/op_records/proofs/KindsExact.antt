@@ -2,6 +2,7 @@
 use Rattle.std.proofs.Common.{◌≡◌, ℕ, ◌+◌, ◌≤◌, true, List, ◌∷◌, ◌++◌, length, Ok, IsTrue, refl, subst}
 use Rattle.std.proofs.lemmas.Bool.{and_parts, and_from}
 use Rattle.js_base.specs.Bytes.{Bytes}
+use Rattle.js_base.specs.declared.spot.Spot.{Spot}
 use Rattle.js_model.specs.Configs.{is_consumer_config}
 use Rattle.js_model.specs.declared.stream_config.StreamConfig.{StreamConfig}
 use Rattle.js_model.specs.declared.consumer_config.ConsumerConfig.{ConsumerConfig}
@@ -9,34 +10,56 @@ use Rattle.config_texts.specs.Texts.{stream_text, consumer_text}
 use Rattle.effects.specs.declared.effect.Effect.{Effect}
 use Rattle.effects.specs.declared.effect.Effect.TheVariants as effects
 use Rattle.op_records.specs.Steps.{Reader, ◌>>=◌, done}
-use Rattle.op_records.specs.Fields.{only, number_field, cursor_field, numbers_field, name_field, text_field, subject_field, stream_field, consumer_field, message_field, range_field}
-use Rattle.op_records.specs.Allowed.{is_record}
-use Rattle.op_records.specs.Reading.{make_stream, change_stream, put_here, skip, remove, is_named, make_consumer, drop_consumer, deliver, acked, due, given_up, now}
-use Rattle.op_records.specs.Spelling.{number, short, text, long, numbers, spelled}
+use Rattle.op_records.specs.Fields.{only, number_field, cursor_field, numbers_field, name_field, text_field, stream_field, consumer_field, spot_field, range_field}
+use Rattle.op_records.specs.Allowed.{is_record, may_stand}
+use Rattle.op_records.specs.Reading.{make_stream, change_stream, skip, remove, is_named, make_consumer, drop_consumer, deliver, acked, due, given_up, now, put, change}
+use Rattle.op_records.specs.Spelling.{number, short, text, long, numbers, spelled_spot, spelled, spelled_record}
+use Rattle.op_records.specs.declared.record.Record.{Record}
+use Rattle.op_records.specs.declared.record.Record.TheVariants as records
 use Rattle.op_records.proofs.Spans.{Spans, span_then, span_front, span_back}
 use Rattle.op_records.proofs.Steps.{both, value_is, place_is, Passed, passed}
 use Rattle.op_records.proofs.Exact.{Batch}
-use Rattle.op_records.proofs.FieldsExact.{number_exact, cursor_exact, numbers_exact, name_exact, text_exact, subject_exact, range_text, range_exact}
-use Rattle.op_records.proofs.TextsExact.{stream_exact, consumer_exact, message_text, message_exact}
+use Rattle.op_records.proofs.FieldsExact.{number_exact, cursor_exact, numbers_exact, name_exact, text_exact, spot_exact, range_text, range_exact}
+use Rattle.op_records.proofs.TextsExact.{stream_exact, consumer_exact}
 
 -- the record was taken: it may stand in a log, and its fields are spelled there
-pub record Taken (bytes : Bytes) (at kind : ℕ) (e : Effect) (behind : ℕ) : Type 0 where
-  pub allowed : IsTrue (is_record e)
+pub record Taken (bytes : Bytes) (at kind : ℕ) (r : Record) (behind : ℕ) : Type 0 where
+  pub allowed : IsTrue (may_stand r)
   pub fields : Bytes
   pub there : Spans bytes at fields behind
-  pub spelled_is : spelled e ≡ kind ∷ fields
+  pub spelled_is : spelled_record r ≡ kind ∷ fields
 
-abbrev pub Takes : Reader Effect → ℕ → Type 0
-Takes read kind = (bytes : Bytes) (at : ℕ) (e : Effect) (behind : ℕ) → Batch bytes → at ≤ length bytes → read bytes at ≡ Ok (e, behind) → Taken bytes at kind e behind
+abbrev pub Takes : Reader Record → ℕ → Type 0
+Takes read kind = (bytes : Bytes) (at : ℕ) (r : Record) (behind : ℕ) → Batch bytes → at ≤ length bytes → read bytes at ≡ Ok (r, behind) → Taken bytes at kind r behind
 
-pub taken_at : (bytes : Bytes) (at kind : ℕ) (made : Effect) (mid : ℕ) (e : Effect) (behind : ℕ) → Taken bytes at kind made mid → done made bytes mid ≡ Ok (e, behind) → Taken bytes at kind e behind
-taken_at bytes at kind made mid e behind t eq =
+pub taken_at : (bytes : Bytes) (at kind : ℕ) (made : Record) (mid : ℕ) (r : Record) (behind : ℕ) → Taken bytes at kind made mid → done made bytes mid ≡ Ok (r, behind) → Taken bytes at kind r behind
+taken_at bytes at kind made mid r behind t eq =
+    let same = value_is made mid r behind eq in
+    let place = place_is made mid r behind eq in
+    subst (λ (x : Record). Taken bytes at kind x behind) same (subst (λ (k : ℕ). Taken bytes at kind made k) place t)
+
+-- ---- changes
+
+-- the record of a change was taken
+abbrev TakenChange : Bytes → ℕ → ℕ → Effect → ℕ → Type 0
+TakenChange bytes at kind e behind = Taken bytes at kind (records.Change e) behind
+
+abbrev TakesChange : Reader Effect → ℕ → Type 0
+TakesChange read kind = (bytes : Bytes) (at : ℕ) (e : Effect) (behind : ℕ) → Batch bytes → at ≤ length bytes → read bytes at ≡ Ok (e, behind) → TakenChange bytes at kind e behind
+
+change_at : (bytes : Bytes) (at kind : ℕ) (made : Effect) (mid : ℕ) (e : Effect) (behind : ℕ) → TakenChange bytes at kind made mid → done made bytes mid ≡ Ok (e, behind) → TakenChange bytes at kind e behind
+change_at bytes at kind made mid e behind t eq =
     let same = value_is made mid e behind eq in
     let place = place_is made mid e behind eq in
-    subst (λ (x : Effect). Taken bytes at kind x behind) same (subst (λ (k : ℕ). Taken bytes at kind made k) place t)
+    subst (λ (x : Effect). TakenChange bytes at kind x behind) same (subst (λ (k : ℕ). TakenChange bytes at kind made k) place t)
 
-pub make_stream_took : Takes make_stream 1
-unfolding make_stream spelled
+pub change_took : (read : Reader Effect) (kind : ℕ) → TakesChange read kind → Takes (change read) kind
+change_took read kind took bytes at r behind b within eq =
+    let p = both bytes (λ (e : Effect). done (records.Change e)) (read bytes at) r behind eq in
+    taken_at bytes at kind (records.Change p.value) p.mid r behind (took bytes at p.value p.mid b within p.first) p.second
+
+pub make_stream_took : TakesChange make_stream 1
+unfolding make_stream spelled spelled_record
 make_stream_took bytes at e behind b within eq =
     let p0 = both bytes (λ (incarnation : ℕ). number_field >>= λ made. stream_field >>= λ config. done (effects.MakeStream incarnation made config)) (number_field bytes at) e behind eq in
     let q0 = number_exact.took bytes at p0.value p0.mid b p0.first in
@@ -44,8 +67,8 @@ make_stream_took bytes at e behind b within eq =
     let q1 = number_exact.took bytes p0.mid p1.value p1.mid b p1.first in
     let p2 = both bytes (λ (config : StreamConfig). done (effects.MakeStream p0.value p1.value config)) (stream_field bytes p1.mid) e behind p1.second in
     let q2 = stream_exact.took bytes p1.mid p2.value p2.mid b p2.first in
-    let made : Taken bytes at 1 (effects.MakeStream p0.value p1.value p2.value) p2.mid = record { allowed = (and_from _ _ (and_from _ _ q0.0 q1.0) q2.0); fields = number p0.value ++ (number p1.value ++ long (stream_text p2.value)); there = (span_then bytes at (number p0.value) p0.mid (number p1.value ++ long (stream_text p2.value)) p2.mid q0.1 (span_then bytes p0.mid (number p1.value) p1.mid (long (stream_text p2.value)) p2.mid q1.1 q2.1)); spelled_is = refl } in
-    taken_at bytes at 1 (effects.MakeStream p0.value p1.value p2.value) p2.mid e behind made p2.second
+    let made : TakenChange bytes at 1 (effects.MakeStream p0.value p1.value p2.value) p2.mid = record { allowed = and_from _ _ (and_from _ _ (and_from _ _ q0.0 q1.0) q2.0) refl; fields = number p0.value ++ (number p1.value ++ long (stream_text p2.value)); there = (span_then bytes at (number p0.value) p0.mid (number p1.value ++ long (stream_text p2.value)) p2.mid q0.1 (span_then bytes p0.mid (number p1.value) p1.mid (long (stream_text p2.value)) p2.mid q1.1 q2.1)); spelled_is = refl } in
+    change_at bytes at 1 (effects.MakeStream p0.value p1.value p2.value) p2.mid e behind made p2.second
 
 pub make_stream_again : (bytes : Bytes) (at : ℕ) (incarnation : ℕ) (made : ℕ) (config : StreamConfig) (behind : ℕ) → Batch bytes → IsTrue (is_record (effects.MakeStream incarnation made config)) → Spans bytes at (number incarnation ++ (number made ++ long (stream_text config))) behind → make_stream bytes at ≡ Ok (effects.MakeStream incarnation made config, behind)
 unfolding make_stream
@@ -63,13 +86,13 @@ make_stream_again bytes at incarnation made config behind b is s =
     let f2 = stream_exact.again bytes at2 config behind b a2.1 r1 in
     rw (f0, f1, f2) refl
 
-pub change_stream_took : Takes change_stream 2
-unfolding change_stream spelled
+pub change_stream_took : TakesChange change_stream 2
+unfolding change_stream spelled spelled_record
 change_stream_took bytes at e behind b within eq =
     let p0 = both bytes (λ (config : StreamConfig). done (effects.ChangeStream config)) (stream_field bytes at) e behind eq in
     let q0 = stream_exact.took bytes at p0.value p0.mid b p0.first in
-    let made : Taken bytes at 2 (effects.ChangeStream p0.value) p0.mid = record { allowed = q0.0; fields = long (stream_text p0.value); there = q0.1; spelled_is = refl } in
-    taken_at bytes at 2 (effects.ChangeStream p0.value) p0.mid e behind made p0.second
+    let made : TakenChange bytes at 2 (effects.ChangeStream p0.value) p0.mid = record { allowed = and_from _ _ q0.0 refl; fields = long (stream_text p0.value); there = q0.1; spelled_is = refl } in
+    change_at bytes at 2 (effects.ChangeStream p0.value) p0.mid e behind made p0.second
 
 pub change_stream_again : (bytes : Bytes) (at : ℕ) (config : StreamConfig) (behind : ℕ) → Batch bytes → IsTrue (is_record (effects.ChangeStream config)) → Spans bytes at (long (stream_text config)) behind → change_stream bytes at ≡ Ok (effects.ChangeStream config, behind)
 unfolding change_stream
@@ -77,51 +100,8 @@ change_stream_again bytes at config behind b is s =
     let f0 = stream_exact.again bytes at config behind b is s in
     rw f0 refl
 
-pub put_here_took : Takes put_here 4
-unfolding put_here spelled
-put_here_took bytes at e behind b within eq =
-    let p0 = both bytes (λ (seq : ℕ). number_field >>= λ at. text_field >>= λ id. subject_field >>= λ subject. message_field >>= λ message. done (effects.PutHere seq at id subject message.0 message.1)) (number_field bytes at) e behind eq in
-    let q0 = number_exact.took bytes at p0.value p0.mid b p0.first in
-    let p1 = both bytes (λ (at : ℕ). text_field >>= λ id. subject_field >>= λ subject. message_field >>= λ message. done (effects.PutHere p0.value at id subject message.0 message.1)) (number_field bytes p0.mid) e behind p0.second in
-    let q1 = number_exact.took bytes p0.mid p1.value p1.mid b p1.first in
-    let p2 = both bytes (λ (id : Bytes). subject_field >>= λ subject. message_field >>= λ message. done (effects.PutHere p0.value p1.value id subject message.0 message.1)) (text_field bytes p1.mid) e behind p1.second in
-    let q2 = text_exact.took bytes p1.mid p2.value p2.mid b p2.first in
-    let p3 = both bytes (λ (subject : Bytes). message_field >>= λ message. done (effects.PutHere p0.value p1.value p2.value subject message.0 message.1)) (subject_field bytes p2.mid) e behind p2.second in
-    let q3 = subject_exact.took bytes p2.mid p3.value p3.mid b p3.first in
-    let p4 = both bytes (λ (message : Bytes × Bytes). done (effects.PutHere p0.value p1.value p2.value p3.value message.0 message.1)) (message_field bytes p3.mid) e behind p3.second in
-    let q4 = message_exact.took bytes p3.mid p4.value p4.mid b p4.first in
-    let made : Taken bytes at 4 (effects.PutHere p0.value p1.value p2.value p3.value p4.value.0 p4.value.1) p4.mid = record { allowed = (and_from _ _ (and_from _ _ (and_from _ _ (and_from _ _ (and_from _ _ q0.0 q1.0) q2.0) q3.0) q4.0.0) q4.0.1); fields = number p0.value ++ (number p1.value ++ (text p2.value ++ (text p3.value ++ message_text p4.value))); there = (span_then bytes at (number p0.value) p0.mid (number p1.value ++ (text p2.value ++ (text p3.value ++ message_text p4.value))) p4.mid q0.1 (span_then bytes p0.mid (number p1.value) p1.mid (text p2.value ++ (text p3.value ++ message_text p4.value)) p4.mid q1.1 (span_then bytes p1.mid (text p2.value) p2.mid (text p3.value ++ message_text p4.value) p4.mid q2.1 (span_then bytes p2.mid (text p3.value) p3.mid (message_text p4.value) p4.mid q3.1 q4.1)))); spelled_is = refl } in
-    taken_at bytes at 4 (effects.PutHere p0.value p1.value p2.value p3.value p4.value.0 p4.value.1) p4.mid e behind made p4.second
-
-pub put_here_again : (bytes : Bytes) (at : ℕ) (seq : ℕ) (moment : ℕ) (id : Bytes) (subject : Bytes) (message : Bytes × Bytes) (behind : ℕ) → Batch bytes → IsTrue (is_record (effects.PutHere seq moment id subject message.0 message.1)) → Spans bytes at (number seq ++ (number moment ++ (text id ++ (text subject ++ message_text message)))) behind → put_here bytes at ≡ Ok (effects.PutHere seq moment id subject message.0 message.1, behind)
-unfolding put_here
-put_here_again bytes at seq moment id subject message behind b is s =
-    let a5 = and_parts _ _ is in
-    let a4 = and_parts _ _ a5.0 in
-    let a3 = and_parts _ _ a4.0 in
-    let a2 = and_parts _ _ a3.0 in
-    let a1 = and_parts _ _ a2.0 in
-    let at1 : ℕ = at + length (number seq) in
-    let s0 = span_front bytes at (number seq) (number moment ++ (text id ++ (text subject ++ message_text message))) behind s in
-    let r0 = span_back bytes at (number seq) (number moment ++ (text id ++ (text subject ++ message_text message))) behind s in
-    let f0 = number_exact.again bytes at seq at1 b a1.0 s0 in
-    let at2 : ℕ = at1 + length (number moment) in
-    let s1 = span_front bytes at1 (number moment) (text id ++ (text subject ++ message_text message)) behind r0 in
-    let r1 = span_back bytes at1 (number moment) (text id ++ (text subject ++ message_text message)) behind r0 in
-    let f1 = number_exact.again bytes at1 moment at2 b a1.1 s1 in
-    let at3 : ℕ = at2 + length (text id) in
-    let s2 = span_front bytes at2 (text id) (text subject ++ message_text message) behind r1 in
-    let r2 = span_back bytes at2 (text id) (text subject ++ message_text message) behind r1 in
-    let f2 = text_exact.again bytes at2 id at3 b a2.1 s2 in
-    let at4 : ℕ = at3 + length (text subject) in
-    let s3 = span_front bytes at3 (text subject) (message_text message) behind r2 in
-    let r3 = span_back bytes at3 (text subject) (message_text message) behind r2 in
-    let f3 = subject_exact.again bytes at3 subject at4 b a3.1 s3 in
-    let f4 = message_exact.again bytes at4 message behind b (a4.1, a5.1) r3 in
-    rw (f0, f1, f2, f3, f4) refl
-
-pub skip_took : Takes skip 5
-unfolding skip spelled
+pub skip_took : TakesChange skip 5
+unfolding skip spelled spelled_record
 skip_took bytes at e behind b within eq =
     let p0 = both bytes (λ (seq : ℕ). number_field >>= λ at. text_field >>= λ id. done (effects.Skip seq at id)) (number_field bytes at) e behind eq in
     let q0 = number_exact.took bytes at p0.value p0.mid b p0.first in
@@ -129,8 +109,8 @@ skip_took bytes at e behind b within eq =
     let q1 = number_exact.took bytes p0.mid p1.value p1.mid b p1.first in
     let p2 = both bytes (λ (id : Bytes). done (effects.Skip p0.value p1.value id)) (text_field bytes p1.mid) e behind p1.second in
     let q2 = text_exact.took bytes p1.mid p2.value p2.mid b p2.first in
-    let made : Taken bytes at 5 (effects.Skip p0.value p1.value p2.value) p2.mid = record { allowed = (and_from _ _ (and_from _ _ q0.0 q1.0) q2.0); fields = number p0.value ++ (number p1.value ++ text p2.value); there = (span_then bytes at (number p0.value) p0.mid (number p1.value ++ text p2.value) p2.mid q0.1 (span_then bytes p0.mid (number p1.value) p1.mid (text p2.value) p2.mid q1.1 q2.1)); spelled_is = refl } in
-    taken_at bytes at 5 (effects.Skip p0.value p1.value p2.value) p2.mid e behind made p2.second
+    let made : TakenChange bytes at 5 (effects.Skip p0.value p1.value p2.value) p2.mid = record { allowed = and_from _ _ (and_from _ _ (and_from _ _ q0.0 q1.0) q2.0) refl; fields = number p0.value ++ (number p1.value ++ text p2.value); there = (span_then bytes at (number p0.value) p0.mid (number p1.value ++ text p2.value) p2.mid q0.1 (span_then bytes p0.mid (number p1.value) p1.mid (text p2.value) p2.mid q1.1 q2.1)); spelled_is = refl } in
+    change_at bytes at 5 (effects.Skip p0.value p1.value p2.value) p2.mid e behind made p2.second
 
 pub skip_again : (bytes : Bytes) (at : ℕ) (seq : ℕ) (moment : ℕ) (id : Bytes) (behind : ℕ) → Batch bytes → IsTrue (is_record (effects.Skip seq moment id)) → Spans bytes at (number seq ++ (number moment ++ text id)) behind → skip bytes at ≡ Ok (effects.Skip seq moment id, behind)
 unfolding skip
@@ -148,13 +128,13 @@ skip_again bytes at seq moment id behind b is s =
     let f2 = text_exact.again bytes at2 id behind b a2.1 r1 in
     rw (f0, f1, f2) refl
 
-pub remove_took : Takes remove 6
-unfolding remove spelled
+pub remove_took : TakesChange remove 6
+unfolding remove spelled spelled_record
 remove_took bytes at e behind b within eq =
     let p0 = both bytes (λ (range : ℕ × ℕ). done (effects.Remove range.0 range.1)) (range_field bytes at) e behind eq in
     let q0 = range_exact.took bytes at p0.value p0.mid b p0.first in
-    let made : Taken bytes at 6 (effects.Remove p0.value.0 p0.value.1) p0.mid = record { allowed = q0.0; fields = range_text p0.value; there = q0.1; spelled_is = refl } in
-    taken_at bytes at 6 (effects.Remove p0.value.0 p0.value.1) p0.mid e behind made p0.second
+    let made : TakenChange bytes at 6 (effects.Remove p0.value.0 p0.value.1) p0.mid = record { allowed = and_from _ _ q0.0 refl; fields = range_text p0.value; there = q0.1; spelled_is = refl } in
+    change_at bytes at 6 (effects.Remove p0.value.0 p0.value.1) p0.mid e behind made p0.second
 
 pub remove_again : (bytes : Bytes) (at : ℕ) (range : ℕ × ℕ) (behind : ℕ) → Batch bytes → IsTrue (is_record (effects.Remove range.0 range.1)) → Spans bytes at (range_text range) behind → remove bytes at ≡ Ok (effects.Remove range.0 range.1, behind)
 unfolding remove
@@ -162,13 +142,13 @@ remove_again bytes at range behind b is s =
     let f0 = range_exact.again bytes at range behind b is s in
     rw f0 refl
 
-pub drop_consumer_took : Takes drop_consumer 8
-unfolding drop_consumer spelled
+pub drop_consumer_took : TakesChange drop_consumer 8
+unfolding drop_consumer spelled spelled_record
 drop_consumer_took bytes at e behind b within eq =
     let p0 = both bytes (λ (name : Bytes). done (effects.DropConsumer name)) (name_field bytes at) e behind eq in
     let q0 = name_exact.took bytes at p0.value p0.mid b p0.first in
-    let made : Taken bytes at 8 (effects.DropConsumer p0.value) p0.mid = record { allowed = q0.0; fields = short p0.value; there = q0.1; spelled_is = refl } in
-    taken_at bytes at 8 (effects.DropConsumer p0.value) p0.mid e behind made p0.second
+    let made : TakenChange bytes at 8 (effects.DropConsumer p0.value) p0.mid = record { allowed = and_from _ _ q0.0 refl; fields = short p0.value; there = q0.1; spelled_is = refl } in
+    change_at bytes at 8 (effects.DropConsumer p0.value) p0.mid e behind made p0.second
 
 pub drop_consumer_again : (bytes : Bytes) (at : ℕ) (name : Bytes) (behind : ℕ) → Batch bytes → IsTrue (is_record (effects.DropConsumer name)) → Spans bytes at (short name) behind → drop_consumer bytes at ≡ Ok (effects.DropConsumer name, behind)
 unfolding drop_consumer
@@ -176,8 +156,8 @@ drop_consumer_again bytes at name behind b is s =
     let f0 = name_exact.again bytes at name behind b is s in
     rw f0 refl
 
-pub deliver_took : Takes deliver 9
-unfolding deliver spelled
+pub deliver_took : TakesChange deliver 9
+unfolding deliver spelled spelled_record
 deliver_took bytes at e behind b within eq =
     let p0 = both bytes (λ (name : Bytes). number_field >>= λ seq. number_field >>= λ count. number_field >>= λ due. number_field >>= λ dseq. done (effects.Deliver name seq count due dseq)) (name_field bytes at) e behind eq in
     let q0 = name_exact.took bytes at p0.value p0.mid b p0.first in
@@ -189,8 +169,8 @@ deliver_took bytes at e behind b within eq =
     let q3 = number_exact.took bytes p2.mid p3.value p3.mid b p3.first in
     let p4 = both bytes (λ (dseq : ℕ). done (effects.Deliver p0.value p1.value p2.value p3.value dseq)) (number_field bytes p3.mid) e behind p3.second in
     let q4 = number_exact.took bytes p3.mid p4.value p4.mid b p4.first in
-    let made : Taken bytes at 9 (effects.Deliver p0.value p1.value p2.value p3.value p4.value) p4.mid = record { allowed = (and_from _ _ (and_from _ _ (and_from _ _ (and_from _ _ q0.0 q1.0) q2.0) q3.0) q4.0); fields = short p0.value ++ (number p1.value ++ (number p2.value ++ (number p3.value ++ number p4.value))); there = (span_then bytes at (short p0.value) p0.mid (number p1.value ++ (number p2.value ++ (number p3.value ++ number p4.value))) p4.mid q0.1 (span_then bytes p0.mid (number p1.value) p1.mid (number p2.value ++ (number p3.value ++ number p4.value)) p4.mid q1.1 (span_then bytes p1.mid (number p2.value) p2.mid (number p3.value ++ number p4.value) p4.mid q2.1 (span_then bytes p2.mid (number p3.value) p3.mid (number p4.value) p4.mid q3.1 q4.1)))); spelled_is = refl } in
-    taken_at bytes at 9 (effects.Deliver p0.value p1.value p2.value p3.value p4.value) p4.mid e behind made p4.second
+    let made : TakenChange bytes at 9 (effects.Deliver p0.value p1.value p2.value p3.value p4.value) p4.mid = record { allowed = and_from _ _ (and_from _ _ (and_from _ _ (and_from _ _ (and_from _ _ q0.0 q1.0) q2.0) q3.0) q4.0) refl; fields = short p0.value ++ (number p1.value ++ (number p2.value ++ (number p3.value ++ number p4.value))); there = (span_then bytes at (short p0.value) p0.mid (number p1.value ++ (number p2.value ++ (number p3.value ++ number p4.value))) p4.mid q0.1 (span_then bytes p0.mid (number p1.value) p1.mid (number p2.value ++ (number p3.value ++ number p4.value)) p4.mid q1.1 (span_then bytes p1.mid (number p2.value) p2.mid (number p3.value ++ number p4.value) p4.mid q2.1 (span_then bytes p2.mid (number p3.value) p3.mid (number p4.value) p4.mid q3.1 q4.1)))); spelled_is = refl } in
+    change_at bytes at 9 (effects.Deliver p0.value p1.value p2.value p3.value p4.value) p4.mid e behind made p4.second
 
 pub deliver_again : (bytes : Bytes) (at : ℕ) (name : Bytes) (seq : ℕ) (count : ℕ) (due : ℕ) (dseq : ℕ) (behind : ℕ) → Batch bytes → IsTrue (is_record (effects.Deliver name seq count due dseq)) → Spans bytes at (short name ++ (number seq ++ (number count ++ (number due ++ number dseq)))) behind → deliver bytes at ≡ Ok (effects.Deliver name seq count due dseq, behind)
 unfolding deliver
@@ -218,15 +198,15 @@ deliver_again bytes at name seq count due dseq behind b is s =
     let f4 = number_exact.again bytes at4 dseq behind b a4.1 r3 in
     rw (f0, f1, f2, f3, f4) refl
 
-pub acked_took : Takes acked 10
-unfolding acked spelled
+pub acked_took : TakesChange acked 10
+unfolding acked spelled spelled_record
 acked_took bytes at e behind b within eq =
     let p0 = both bytes (λ (name : Bytes). range_field >>= λ range. done (effects.Acked name range.0 range.1)) (name_field bytes at) e behind eq in
     let q0 = name_exact.took bytes at p0.value p0.mid b p0.first in
     let p1 = both bytes (λ (range : ℕ × ℕ). done (effects.Acked p0.value range.0 range.1)) (range_field bytes p0.mid) e behind p0.second in
     let q1 = range_exact.took bytes p0.mid p1.value p1.mid b p1.first in
-    let made : Taken bytes at 10 (effects.Acked p0.value p1.value.0 p1.value.1) p1.mid = record { allowed = (and_from _ _ q0.0 q1.0); fields = short p0.value ++ range_text p1.value; there = (span_then bytes at (short p0.value) p0.mid (range_text p1.value) p1.mid q0.1 q1.1); spelled_is = refl } in
-    taken_at bytes at 10 (effects.Acked p0.value p1.value.0 p1.value.1) p1.mid e behind made p1.second
+    let made : TakenChange bytes at 10 (effects.Acked p0.value p1.value.0 p1.value.1) p1.mid = record { allowed = and_from _ _ (and_from _ _ q0.0 q1.0) refl; fields = short p0.value ++ range_text p1.value; there = (span_then bytes at (short p0.value) p0.mid (range_text p1.value) p1.mid q0.1 q1.1); spelled_is = refl } in
+    change_at bytes at 10 (effects.Acked p0.value p1.value.0 p1.value.1) p1.mid e behind made p1.second
 
 pub acked_again : (bytes : Bytes) (at : ℕ) (name : Bytes) (range : ℕ × ℕ) (behind : ℕ) → Batch bytes → IsTrue (is_record (effects.Acked name range.0 range.1)) → Spans bytes at (short name ++ range_text range) behind → acked bytes at ≡ Ok (effects.Acked name range.0 range.1, behind)
 unfolding acked
@@ -239,8 +219,8 @@ acked_again bytes at name range behind b is s =
     let f1 = range_exact.again bytes at1 range behind b a1.1 r0 in
     rw (f0, f1) refl
 
-pub due_took : Takes due 11
-unfolding due spelled
+pub due_took : TakesChange due 11
+unfolding due spelled spelled_record
 due_took bytes at e behind b within eq =
     let p0 = both bytes (λ (name : Bytes). number_field >>= λ seq. number_field >>= λ moment. done (effects.Due name seq moment)) (name_field bytes at) e behind eq in
     let q0 = name_exact.took bytes at p0.value p0.mid b p0.first in
@@ -248,8 +228,8 @@ due_took bytes at e behind b within eq =
     let q1 = number_exact.took bytes p0.mid p1.value p1.mid b p1.first in
     let p2 = both bytes (λ (moment : ℕ). done (effects.Due p0.value p1.value moment)) (number_field bytes p1.mid) e behind p1.second in
     let q2 = number_exact.took bytes p1.mid p2.value p2.mid b p2.first in
-    let made : Taken bytes at 11 (effects.Due p0.value p1.value p2.value) p2.mid = record { allowed = (and_from _ _ (and_from _ _ q0.0 q1.0) q2.0); fields = short p0.value ++ (number p1.value ++ number p2.value); there = (span_then bytes at (short p0.value) p0.mid (number p1.value ++ number p2.value) p2.mid q0.1 (span_then bytes p0.mid (number p1.value) p1.mid (number p2.value) p2.mid q1.1 q2.1)); spelled_is = refl } in
-    taken_at bytes at 11 (effects.Due p0.value p1.value p2.value) p2.mid e behind made p2.second
+    let made : TakenChange bytes at 11 (effects.Due p0.value p1.value p2.value) p2.mid = record { allowed = and_from _ _ (and_from _ _ (and_from _ _ q0.0 q1.0) q2.0) refl; fields = short p0.value ++ (number p1.value ++ number p2.value); there = (span_then bytes at (short p0.value) p0.mid (number p1.value ++ number p2.value) p2.mid q0.1 (span_then bytes p0.mid (number p1.value) p1.mid (number p2.value) p2.mid q1.1 q2.1)); spelled_is = refl } in
+    change_at bytes at 11 (effects.Due p0.value p1.value p2.value) p2.mid e behind made p2.second
 
 pub due_again : (bytes : Bytes) (at : ℕ) (name : Bytes) (seq : ℕ) (moment : ℕ) (behind : ℕ) → Batch bytes → IsTrue (is_record (effects.Due name seq moment)) → Spans bytes at (short name ++ (number seq ++ number moment)) behind → due bytes at ≡ Ok (effects.Due name seq moment, behind)
 unfolding due
@@ -267,15 +247,15 @@ due_again bytes at name seq moment behind b is s =
     let f2 = number_exact.again bytes at2 moment behind b a2.1 r1 in
     rw (f0, f1, f2) refl
 
-pub given_up_took : Takes given_up 12
-unfolding given_up spelled
+pub given_up_took : TakesChange given_up 12
+unfolding given_up spelled spelled_record
 given_up_took bytes at e behind b within eq =
     let p0 = both bytes (λ (name : Bytes). number_field >>= λ moment. done (effects.GivenUp name moment)) (name_field bytes at) e behind eq in
     let q0 = name_exact.took bytes at p0.value p0.mid b p0.first in
     let p1 = both bytes (λ (moment : ℕ). done (effects.GivenUp p0.value moment)) (number_field bytes p0.mid) e behind p0.second in
     let q1 = number_exact.took bytes p0.mid p1.value p1.mid b p1.first in
-    let made : Taken bytes at 12 (effects.GivenUp p0.value p1.value) p1.mid = record { allowed = (and_from _ _ q0.0 q1.0); fields = short p0.value ++ number p1.value; there = (span_then bytes at (short p0.value) p0.mid (number p1.value) p1.mid q0.1 q1.1); spelled_is = refl } in
-    taken_at bytes at 12 (effects.GivenUp p0.value p1.value) p1.mid e behind made p1.second
+    let made : TakenChange bytes at 12 (effects.GivenUp p0.value p1.value) p1.mid = record { allowed = and_from _ _ (and_from _ _ q0.0 q1.0) refl; fields = short p0.value ++ number p1.value; there = (span_then bytes at (short p0.value) p0.mid (number p1.value) p1.mid q0.1 q1.1); spelled_is = refl } in
+    change_at bytes at 12 (effects.GivenUp p0.value p1.value) p1.mid e behind made p1.second
 
 pub given_up_again : (bytes : Bytes) (at : ℕ) (name : Bytes) (moment : ℕ) (behind : ℕ) → Batch bytes → IsTrue (is_record (effects.GivenUp name moment)) → Spans bytes at (short name ++ number moment) behind → given_up bytes at ≡ Ok (effects.GivenUp name moment, behind)
 unfolding given_up
@@ -288,13 +268,13 @@ given_up_again bytes at name moment behind b is s =
     let f1 = number_exact.again bytes at1 moment behind b a1.1 r0 in
     rw (f0, f1) refl
 
-pub now_took : Takes now 13
-unfolding now spelled
+pub now_took : TakesChange now 13
+unfolding now spelled spelled_record
 now_took bytes at e behind b within eq =
     let p0 = both bytes (λ (moment : ℕ). done (effects.Now moment)) (number_field bytes at) e behind eq in
     let q0 = number_exact.took bytes at p0.value p0.mid b p0.first in
-    let made : Taken bytes at 13 (effects.Now p0.value) p0.mid = record { allowed = q0.0; fields = number p0.value; there = q0.1; spelled_is = refl } in
-    taken_at bytes at 13 (effects.Now p0.value) p0.mid e behind made p0.second
+    let made : TakenChange bytes at 13 (effects.Now p0.value) p0.mid = record { allowed = and_from _ _ q0.0 refl; fields = number p0.value; there = q0.1; spelled_is = refl } in
+    change_at bytes at 13 (effects.Now p0.value) p0.mid e behind made p0.second
 
 pub now_again : (bytes : Bytes) (at : ℕ) (moment : ℕ) (behind : ℕ) → Batch bytes → IsTrue (is_record (effects.Now moment)) → Spans bytes at (number moment) behind → now bytes at ≡ Ok (effects.Now moment, behind)
 unfolding now
@@ -316,8 +296,8 @@ config_took name bytes begin at read config mid behind q t = record {
   there = subst (λ (k : ℕ). Spans bytes at (long (consumer_text config)) k) t.place (subst (λ (c : ConsumerConfig). Spans bytes at (long (consumer_text c)) mid) t.value q.1);
 }
 
-pub make_consumer_took : Takes make_consumer 7
-unfolding make_consumer spelled
+pub make_consumer_took : TakesChange make_consumer 7
+unfolding make_consumer spelled spelled_record
 make_consumer_took bytes at e behind b within eq =
     let p0 = both bytes (λ (name : Bytes). number_field >>= λ made. consumer_field >>= λ config. only (is_named name) at config >>= λ config. cursor_field >>= λ cursor. numbers_field >>= λ picks. done (effects.MakeConsumer name made config cursor picks)) (name_field bytes at) e behind eq in
     let q0 = name_exact.took bytes at p0.value p0.mid b p0.first in
@@ -334,13 +314,13 @@ make_consumer_took bytes at e behind b within eq =
     let start = span_then bytes p3.mid (number p4.value) p4.mid (numbers p5.value) p5.mid q4.1 q5.1 in
     let back = span_then bytes p1.mid (long (consumer_text p3.value)) p3.mid (number p4.value ++ numbers p5.value) p5.mid q3.there start in
     let more = span_then bytes p0.mid (number p1.value) p1.mid (long (consumer_text p3.value) ++ (number p4.value ++ numbers p5.value)) p5.mid q1.1 back in
-    let made : Taken bytes at 7 (effects.MakeConsumer p0.value p1.value p3.value p4.value p5.value) p5.mid = record {
-      allowed = and_from _ _ (and_from _ _ (and_from _ _ (and_from _ _ (and_from _ _ q0.0 q1.0) q3.valid) q3.named) q4.0) q5.0;
+    let made : TakenChange bytes at 7 (effects.MakeConsumer p0.value p1.value p3.value p4.value p5.value) p5.mid = record {
+      allowed = and_from _ _ (and_from _ _ (and_from _ _ (and_from _ _ (and_from _ _ (and_from _ _ q0.0 q1.0) q3.valid) q3.named) q4.0) q5.0) refl;
       fields = short p0.value ++ (number p1.value ++ (long (consumer_text p3.value) ++ (number p4.value ++ numbers p5.value)));
       there = span_then bytes at (short p0.value) p0.mid (number p1.value ++ (long (consumer_text p3.value) ++ (number p4.value ++ numbers p5.value))) p5.mid q0.1 more;
       spelled_is = refl;
     } in
-    taken_at bytes at 7 (effects.MakeConsumer p0.value p1.value p3.value p4.value p5.value) p5.mid e behind made p5.second
+    change_at bytes at 7 (effects.MakeConsumer p0.value p1.value p3.value p4.value p5.value) p5.mid e behind made p5.second
 
 pub make_consumer_again : (bytes : Bytes) (at : ℕ) (name : Bytes) (made : ℕ) (config : ConsumerConfig) (cursor : ℕ) (picks : List ℕ) (behind : ℕ) → Batch bytes → IsTrue (is_record (effects.MakeConsumer name made config cursor picks)) → Spans bytes at (short name ++ (number made ++ (long (consumer_text config) ++ (number cursor ++ numbers picks)))) behind → make_consumer bytes at ≡ Ok (effects.MakeConsumer name made config cursor picks, behind)
 unfolding make_consumer
@@ -368,3 +348,47 @@ make_consumer_again bytes at name made config cursor picks behind b is s =
     let f3 = cursor_exact.again bytes at3 cursor at4 b a4.1 s3 in
     let f4 = numbers_exact.again bytes at4 picks behind b a5.1 r3 in
     rw (f0, f1, f2, a3.1, f3, f4) refl
+
+-- ---- where a message was stored
+
+pub put_took : Takes put 14
+unfolding put spelled_record
+put_took bytes at r behind b within eq =
+    let p0 = both bytes (λ (seq : ℕ). number_field >>= λ at. text_field >>= λ id. spot_field >>= λ spot. done (records.Put seq at id spot)) (number_field bytes at) r behind eq in
+    let q0 = number_exact.took bytes at p0.value p0.mid b p0.first in
+    let p1 = both bytes (λ (at : ℕ). text_field >>= λ id. spot_field >>= λ spot. done (records.Put p0.value at id spot)) (number_field bytes p0.mid) r behind p0.second in
+    let q1 = number_exact.took bytes p0.mid p1.value p1.mid b p1.first in
+    let p2 = both bytes (λ (id : Bytes). spot_field >>= λ spot. done (records.Put p0.value p1.value id spot)) (text_field bytes p1.mid) r behind p1.second in
+    let q2 = text_exact.took bytes p1.mid p2.value p2.mid b p2.first in
+    let p3 = both bytes (λ (spot : Spot). done (records.Put p0.value p1.value p2.value spot)) (spot_field bytes p2.mid) r behind p2.second in
+    let q3 = spot_exact.took bytes p2.mid p3.value p3.mid b p3.first in
+    let back = span_then bytes p1.mid (text p2.value) p2.mid (spelled_spot p3.value) p3.mid q2.1 q3.1 in
+    let more = span_then bytes p0.mid (number p1.value) p1.mid (text p2.value ++ spelled_spot p3.value) p3.mid q1.1 back in
+    let made : Taken bytes at 14 (records.Put p0.value p1.value p2.value p3.value) p3.mid = record {
+      allowed = and_from _ _ (and_from _ _ (and_from _ _ q0.0 q1.0) q2.0) q3.0;
+      fields = number p0.value ++ (number p1.value ++ (text p2.value ++ spelled_spot p3.value));
+      there = span_then bytes at (number p0.value) p0.mid (number p1.value ++ (text p2.value ++ spelled_spot p3.value)) p3.mid q0.1 more;
+      spelled_is = refl;
+    } in
+    taken_at bytes at 14 (records.Put p0.value p1.value p2.value p3.value) p3.mid r behind made p3.second
+
+pub put_again : (bytes : Bytes) (at : ℕ) (seq : ℕ) (moment : ℕ) (id : Bytes) (spot : Spot) (behind : ℕ) → Batch bytes → IsTrue (may_stand (records.Put seq moment id spot)) → Spans bytes at (number seq ++ (number moment ++ (text id ++ spelled_spot spot))) behind → put bytes at ≡ Ok (records.Put seq moment id spot, behind)
+unfolding put
+put_again bytes at seq moment id spot behind b is s =
+    let a3 = and_parts _ _ is in
+    let a2 = and_parts _ _ a3.0 in
+    let a1 = and_parts _ _ a2.0 in
+    let at1 : ℕ = at + length (number seq) in
+    let s0 = span_front bytes at (number seq) (number moment ++ (text id ++ spelled_spot spot)) behind s in
+    let r0 = span_back bytes at (number seq) (number moment ++ (text id ++ spelled_spot spot)) behind s in
+    let f0 = number_exact.again bytes at seq at1 b a1.0 s0 in
+    let at2 : ℕ = at1 + length (number moment) in
+    let s1 = span_front bytes at1 (number moment) (text id ++ spelled_spot spot) behind r0 in
+    let r1 = span_back bytes at1 (number moment) (text id ++ spelled_spot spot) behind r0 in
+    let f1 = number_exact.again bytes at1 moment at2 b a1.1 s1 in
+    let at3 : ℕ = at2 + length (text id) in
+    let s2 = span_front bytes at2 (text id) (spelled_spot spot) behind r1 in
+    let r2 = span_back bytes at2 (text id) (spelled_spot spot) behind r1 in
+    let f2 = text_exact.again bytes at2 id at3 b a2.1 s2 in
+    let f3 = spot_exact.again bytes at3 spot behind b a3.1 r2 in
+    rw (f0, f1, f2, f3) refl

@@ -2,13 +2,13 @@
 use Rattle.std.proofs.Common.{◌≡◌, ℕ, suc, ◌+◌, ◌-◌, ◌≤◌, ◌<◌, List, [], ◌∷◌, ◌++◌, length, Ok, Err, refl, sym, ap, subst, ◌∙◌, append_assoc, append-nil, arith}
 use Rattle.std.specs.Int.{w32}
 use Rattle.js_base.specs.Bytes.{Bytes}
-use Rattle.effects.specs.declared.effect.Effect.{Effect}
 use Rattle.op_records.specs.Steps.{Reading, continued, done}
 use Rattle.op_records.specs.Fields.{word, number_field, number_fields, numbers_field}
 use Rattle.op_records.specs.Reading.{record_at, Stand}
 use Rattle.op_records.specs.Answers.{IsFaultOf, IsWrongBy}
 use Rattle.op_records.specs.declared.fault.RecordFault.{RecordFault}
 use Rattle.op_records.specs.declared.fault.RecordFault.TheVariants.{Cut, BadKind, BadField, NoMemory as OutOfMemory}
+use Rattle.op_records.specs.declared.record.Record.{Record}
 
 -- ---- numbers
 
@@ -58,12 +58,12 @@ numbers_read bytes at count mid ns behind first h = ap (continued bytes number_f
 
 -- ---- records
 
-pub stand_push : (bytes : Bytes) (at : ℕ) (es : List Effect) (mid : ℕ) (e : Effect) (behind : ℕ) → Stand bytes at es mid → record_at bytes mid ≡ Ok (e, behind) → Stand bytes at (es ++ e ∷ []) behind
-stand_push bytes at [] mid e behind h read = (behind, ap (record_at bytes) h ∙ read, refl)
-stand_push bytes at (x ∷ es) mid e behind h read = (h.0, h.1, stand_push bytes h.0 es mid e behind h.2 read)
+pub stand_push : (bytes : Bytes) (at : ℕ) (rs : List Record) (mid : ℕ) (r : Record) (behind : ℕ) → Stand bytes at rs mid → record_at bytes mid ≡ Ok (r, behind) → Stand bytes at (rs ++ r ∷ []) behind
+stand_push bytes at [] mid r behind h read = (behind, ap (record_at bytes) h ∙ read, refl)
+stand_push bytes at (x ∷ rs) mid r behind h read = (h.0, h.1, stand_push bytes h.0 rs mid r behind h.2 read)
 
-pub wrong_by : (bytes : Bytes) (es : List Effect) (at : ℕ) (fault : RecordFault) → Stand bytes 0 es at → at < length bytes → IsFaultOf (record_at bytes at) fault → IsWrongBy bytes fault
-wrong_by bytes es at (Cut place) h more wrong = record { before = es; at = at; stand = h; more = more; wrong = wrong }
-wrong_by bytes es at (BadKind place) h more wrong = record { before = es; at = at; stand = h; more = more; wrong = wrong }
-wrong_by bytes es at (BadField place) h more wrong = record { before = es; at = at; stand = h; more = more; wrong = wrong }
-wrong_by bytes es at OutOfMemory h more wrong = tt
+pub wrong_by : (bytes : Bytes) (rs : List Record) (at : ℕ) (fault : RecordFault) → Stand bytes 0 rs at → at < length bytes → IsFaultOf (record_at bytes at) fault → IsWrongBy bytes fault
+wrong_by bytes rs at (Cut place) h more wrong = record { before = rs; at = at; stand = h; more = more; wrong = wrong }
+wrong_by bytes rs at (BadKind place) h more wrong = record { before = rs; at = at; stand = h; more = more; wrong = wrong }
+wrong_by bytes rs at (BadField place) h more wrong = record { before = rs; at = at; stand = h; more = more; wrong = wrong }
+wrong_by bytes rs at OutOfMemory h more wrong = tt

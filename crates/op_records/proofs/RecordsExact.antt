@@ -13,12 +13,14 @@ use Rattle.effects.specs.declared.effect.Effect.{Effect}
 use Rattle.effects.specs.declared.effect.Effect.TheVariants as effects
 use Rattle.op_records.specs.Steps.{Reading, Reader, continued, done}
 use Rattle.op_records.specs.Fields.{word, number_field}
-use Rattle.op_records.specs.Allowed.{is_record}
-use Rattle.op_records.specs.Reading.{table, of_no_kind, fields_in, record_at, Stand, is_later_kind, misplaced, of_first_kind, at_end, vacant_record, vacant_field}
-use Rattle.op_records.specs.Spelling.{number, short, text, long, numbers, spelled, spelled_vacant}
+use Rattle.op_records.specs.Allowed.{is_record, may_stand}
+use Rattle.op_records.specs.Reading.{make_stream, change_stream, skip, remove, make_consumer, drop_consumer, deliver, acked, due, given_up, now, table, of_no_kind, fields_in, record_at, Stand, is_later_kind, misplaced, of_first_kind, at_end, vacant_record, vacant_field}
+use Rattle.op_records.specs.Spelling.{number, short, text, long, numbers, spelled_spot, spelled, spelled_record, spelled_vacant}
 use Rattle.op_records.proofs.Spans.{Spans, span_none, span_then, span_front, span_back}
 use Rattle.op_records.specs.Laws.{IsBatch, LawRecords, LawVacant}
 use Rattle.op_records.specs.declared.fault.RecordFault.TheVariants.{BadKind, BadField}
+use Rattle.op_records.specs.declared.record.Record.{Record}
+use Rattle.op_records.specs.declared.record.Record.TheVariants as records
 use Rattle.op_records.proofs.Steps.{Both, both, value_is, place_is}
 use Rattle.op_records.proofs.Exact.{Batch, wide8, word_took, word_again, lt_is, is_lt}
 use Rattle.op_records.proofs.FieldsExact.{number_exact}
@@ -30,38 +32,38 @@ use Rattle.op_records.proofs.KindsExact.{Taken, Takes, taken_at}
 same_kind : (kind k : ℕ) → (kind == k) ≡ true → k ≡ kind
 same_kind kind k h = grind (arith, nat_tests)
 
-no_kind : (begin kind : ℕ) (bytes : Bytes) (at : ℕ) (e : Effect) (behind : ℕ) → of_no_kind begin kind bytes at ≡ Ok (e, behind) → Taken bytes at kind e behind
-no_kind begin kind bytes at e behind eq = by (kind == 32) eq
+no_kind : (begin kind : ℕ) (bytes : Bytes) (at : ℕ) (r : Record) (behind : ℕ) → of_no_kind begin kind bytes at ≡ Ok (r, behind) → Taken bytes at kind r behind
+no_kind begin kind bytes at r behind eq = by (kind == 32) eq
   where
-    by : (is : Bool) → if◌then◌else◌ {A = Reading Effect} is (Err (BadField begin)) (Err (BadKind begin)) ≡ Ok (e, behind) → Taken bytes at kind e behind
+    by : (is : Bool) → if◌then◌else◌ {A = Reading Record} is (Err (BadField begin)) (Err (BadKind begin)) ≡ Ok (r, behind) → Taken bytes at kind r behind
     by true eq = absurd (cc)
     by false eq = absurd (cc)
 
 -- each of these kinds is taken
-abbrev Take : List (ℕ × Reader Effect) → Type 0
+abbrev Take : List (ℕ × Reader Record) → Type 0
 Take [] = Unit {0}
 Take ((k, fields) ∷ more) = Takes fields k × Take more
 
-kind_took : (kinds : List (ℕ × Reader Effect)) → Take kinds → (begin kind : ℕ) (bytes : Bytes) (at : ℕ) (e : Effect) (behind : ℕ) → Batch bytes → at ≤ length bytes → fields_in kinds begin kind bytes at ≡ Ok (e, behind) → Taken bytes at kind e behind
-kind_took [] take begin kind bytes at e behind b within eq = no_kind begin kind bytes at e behind eq
-kind_took ((k, fields) ∷ more) take begin kind bytes at e behind b within eq = by (kind_took more take.1 begin kind bytes at e behind b within) (kind == k) refl eq
+kind_took : (kinds : List (ℕ × Reader Record)) → Take kinds → (begin kind : ℕ) (bytes : Bytes) (at : ℕ) (r : Record) (behind : ℕ) → Batch bytes → at ≤ length bytes → fields_in kinds begin kind bytes at ≡ Ok (r, behind) → Taken bytes at kind r behind
+kind_took [] take begin kind bytes at r behind b within eq = no_kind begin kind bytes at r behind eq
+kind_took ((k, fields) ∷ more) take begin kind bytes at r behind b within eq = by (kind_took more take.1 begin kind bytes at r behind b within) (kind == k) refl eq
   where
-    by : (fields_in more begin kind bytes at ≡ Ok (e, behind) → Taken bytes at kind e behind) → (is : Bool) → (kind == k) ≡ is → (if is then fields else fields_in more begin kind) bytes at ≡ Ok (e, behind) → Taken bytes at kind e behind
-    by others true is eq = subst (λ (n : ℕ). Taken bytes at n e behind) (same_kind kind k is) (take.0 bytes at e behind b within eq)
+    by : (fields_in more begin kind bytes at ≡ Ok (r, behind) → Taken bytes at kind r behind) → (is : Bool) → (kind == k) ≡ is → (if is then fields else fields_in more begin kind) bytes at ≡ Ok (r, behind) → Taken bytes at kind r behind
+    by others true is eq = subst (λ (n : ℕ). Taken bytes at n r behind) (same_kind kind k is) (take.0 bytes at r behind b within eq)
     by others false is eq = others eq
 
-drop_took : Takes (done effects.DropStream) 3
-unfolding spelled
-drop_took bytes at e behind b within eq =
-    taken_at bytes at 3 effects.DropStream at e behind (record { allowed = refl; fields = []; there = span_none bytes at within; spelled_is = refl }) eq
+drop_took : Takes (done (records.Change effects.DropStream)) 3
+unfolding spelled spelled_record
+drop_took bytes at r behind b within eq =
+    taken_at bytes at 3 (records.Change effects.DropStream) at r behind (record { allowed = refl; fields = []; there = span_none bytes at within; spelled_is = refl }) eq
 
 take_all : Take table
-take_all = (kinds.make_stream_took, (kinds.change_stream_took, (drop_took, (kinds.put_here_took, (kinds.skip_took, (kinds.remove_took, (kinds.make_consumer_took, (kinds.drop_consumer_took, (kinds.deliver_took, (kinds.acked_took, (kinds.due_took, (kinds.given_up_took, (kinds.now_took, tt)))))))))))))
+take_all = (kinds.change_took make_stream 1 kinds.make_stream_took, (kinds.change_took change_stream 2 kinds.change_stream_took, (drop_took, (kinds.change_took skip 5 kinds.skip_took, (kinds.change_took remove 6 kinds.remove_took, (kinds.change_took make_consumer 7 kinds.make_consumer_took, (kinds.change_took drop_consumer 8 kinds.drop_consumer_took, (kinds.change_took deliver 9 kinds.deliver_took, (kinds.change_took acked 10 kinds.acked_took, (kinds.change_took due 11 kinds.due_took, (kinds.change_took given_up 12 kinds.given_up_took, (kinds.change_took now 13 kinds.now_took, (kinds.put_took, tt)))))))))))))
 
 -- it may stand in a log, and is spelled here
-pub record Record (bytes : Bytes) (begin : ℕ) (e : Effect) (behind : ℕ) : Type 0 where
-  pub allowed : IsTrue (is_record e)
-  pub there : Spans bytes begin (spelled e) behind
+pub record Recorded (bytes : Bytes) (begin : ℕ) (r : Record) (behind : ℕ) : Type 0 where
+  pub allowed : IsTrue (may_stand r)
+  pub there : Spans bytes begin (spelled_record r) behind
 
 byte_is : (n : ℕ) → n < 256 → to_be_bytes w8 n ≡ n ∷ []
 byte_is n small = ap (λ (k : ℕ). k ∷ []) (omega arith)
@@ -70,96 +72,103 @@ kind_again : (bytes : Bytes) (begin kind : ℕ) (fields : Bytes) (behind : ℕ) 
 kind_again bytes begin kind fields behind small s =
     word_again w8 (2 ^ 8) wide8 bytes begin kind (begin + 1) small (subst (λ (l : Bytes). Spans bytes begin l (begin + 1)) (sym (byte_is kind small)) (span_front bytes begin (kind ∷ []) fields behind s))
 
-pub record_took : (bytes : Bytes) (begin : ℕ) (e : Effect) (behind : ℕ) → Batch bytes → record_at bytes begin ≡ Ok (e, behind) → Record bytes begin e behind
+pub record_took : (bytes : Bytes) (begin : ℕ) (r : Record) (behind : ℕ) → Batch bytes → record_at bytes begin ≡ Ok (r, behind) → Recorded bytes begin r behind
 unfolding record_at
-record_took bytes begin e behind b eq =
-    let p = both bytes (fields_in table begin) (word w8 bytes begin) e behind eq in
+record_took bytes begin r behind b eq =
+    let p = both bytes (fields_in table begin) (word w8 bytes begin) r behind eq in
     let kind = word_took w8 (2 ^ 8) wide8 bytes begin p.value p.mid b.are_bytes p.first in
-    let t = kind_took table take_all begin p.value bytes p.mid e behind b kind.1.within p.second in
+    let t = kind_took table take_all begin p.value bytes p.mid r behind b kind.1.within p.second in
     let byte : to_be_bytes w8 p.value ≡ p.value ∷ [] = byte_is p.value kind.0 in
     let first : Spans bytes begin (p.value ∷ []) p.mid = subst (λ (l : Bytes). Spans bytes begin l p.mid) byte kind.1 in
     let whole : Spans bytes begin (p.value ∷ t.fields) behind = span_then bytes begin (p.value ∷ []) p.mid t.fields behind first t.there in
     record { allowed = t.allowed; there = subst (λ (l : Bytes). Spans bytes begin l behind) (sym t.spelled_is) whole }
 
-record_again : (e : Effect) (bytes : Bytes) (begin behind : ℕ) → Batch bytes → IsTrue (is_record e) → Spans bytes begin (spelled e) behind → record_at bytes begin ≡ Ok (e, behind)
+change_again : (e : Effect) (bytes : Bytes) (begin behind : ℕ) → Batch bytes → IsTrue (may_stand (records.Change e)) → Spans bytes begin (spelled e) behind → record_at bytes begin ≡ Ok (records.Change e, behind)
 unfolding record_at spelled
-record_again (effects.MakeStream incarnation made config) bytes begin behind b is s =
+change_again (effects.MakeStream incarnation made config) bytes begin behind b is s =
     let kind = kind_again bytes begin 1 (number incarnation ++ (number made ++ long (stream_text config))) behind (omega arith) s in
-    let fields = kinds.make_stream_again bytes (begin + 1) incarnation made config behind b is (span_back bytes begin (1 ∷ []) (number incarnation ++ (number made ++ long (stream_text config))) behind s) in
+    let fields = kinds.make_stream_again bytes (begin + 1) incarnation made config behind b (and_parts _ _ is).0 (span_back bytes begin (1 ∷ []) (number incarnation ++ (number made ++ long (stream_text config))) behind s) in
     rw (kind, fields) refl
-record_again (effects.ChangeStream config) bytes begin behind b is s =
+change_again (effects.ChangeStream config) bytes begin behind b is s =
     let kind = kind_again bytes begin 2 (long (stream_text config)) behind (omega arith) s in
-    let fields = kinds.change_stream_again bytes (begin + 1) config behind b is (span_back bytes begin (2 ∷ []) (long (stream_text config)) behind s) in
+    let fields = kinds.change_stream_again bytes (begin + 1) config behind b (and_parts _ _ is).0 (span_back bytes begin (2 ∷ []) (long (stream_text config)) behind s) in
     rw (kind, fields) refl
-record_again effects.DropStream bytes begin behind b is s =
+change_again effects.DropStream bytes begin behind b is s =
     let kind = kind_again bytes begin 3 ([]) behind (omega arith) s in
     let place : begin + 1 ≡ behind = omega (arith, s.ends) in
     rw (kind, place) refl
-record_again (effects.PutHere seq at id subject headers payload) bytes begin behind b is s =
-    let kind = kind_again bytes begin 4 (number seq ++ (number at ++ (text id ++ (text subject ++ (long headers ++ long payload))))) behind (omega arith) s in
-    let fields = kinds.put_here_again bytes (begin + 1) seq at id subject (headers, payload) behind b is (span_back bytes begin (4 ∷ []) (number seq ++ (number at ++ (text id ++ (text subject ++ (long headers ++ long payload))))) behind s) in
-    rw (kind, fields) refl
-record_again (effects.Skip seq at id) bytes begin behind b is s =
+change_again (effects.PutHere seq at id subject headers payload) bytes begin behind b is s =
+    let none : false ≡ true = (and_parts (is_record (effects.PutHere seq at id subject headers payload)) false is).1 in
+    absurd (cc)
+change_again (effects.Skip seq at id) bytes begin behind b is s =
     let kind = kind_again bytes begin 5 (number seq ++ (number at ++ text id)) behind (omega arith) s in
-    let fields = kinds.skip_again bytes (begin + 1) seq at id behind b is (span_back bytes begin (5 ∷ []) (number seq ++ (number at ++ text id)) behind s) in
+    let fields = kinds.skip_again bytes (begin + 1) seq at id behind b (and_parts _ _ is).0 (span_back bytes begin (5 ∷ []) (number seq ++ (number at ++ text id)) behind s) in
     rw (kind, fields) refl
-record_again (effects.Remove low high) bytes begin behind b is s =
+change_again (effects.Remove low high) bytes begin behind b is s =
     let kind = kind_again bytes begin 6 (number low ++ number high) behind (omega arith) s in
-    let fields = kinds.remove_again bytes (begin + 1) (low, high) behind b is (span_back bytes begin (6 ∷ []) (number low ++ number high) behind s) in
+    let fields = kinds.remove_again bytes (begin + 1) (low, high) behind b (and_parts _ _ is).0 (span_back bytes begin (6 ∷ []) (number low ++ number high) behind s) in
     rw (kind, fields) refl
-record_again (effects.MakeConsumer name made config cursor picks) bytes begin behind b is s =
+change_again (effects.MakeConsumer name made config cursor picks) bytes begin behind b is s =
     let kind = kind_again bytes begin 7 (short name ++ (number made ++ (long (consumer_text config) ++ (number cursor ++ numbers picks)))) behind (omega arith) s in
-    let fields = kinds.make_consumer_again bytes (begin + 1) name made config cursor picks behind b is (span_back bytes begin (7 ∷ []) (short name ++ (number made ++ (long (consumer_text config) ++ (number cursor ++ numbers picks)))) behind s) in
+    let fields = kinds.make_consumer_again bytes (begin + 1) name made config cursor picks behind b (and_parts _ _ is).0 (span_back bytes begin (7 ∷ []) (short name ++ (number made ++ (long (consumer_text config) ++ (number cursor ++ numbers picks)))) behind s) in
     rw (kind, fields) refl
-record_again (effects.DropConsumer name) bytes begin behind b is s =
+change_again (effects.DropConsumer name) bytes begin behind b is s =
     let kind = kind_again bytes begin 8 (short name) behind (omega arith) s in
-    let fields = kinds.drop_consumer_again bytes (begin + 1) name behind b is (span_back bytes begin (8 ∷ []) (short name) behind s) in
+    let fields = kinds.drop_consumer_again bytes (begin + 1) name behind b (and_parts _ _ is).0 (span_back bytes begin (8 ∷ []) (short name) behind s) in
     rw (kind, fields) refl
-record_again (effects.Deliver name seq count due dseq) bytes begin behind b is s =
+change_again (effects.Deliver name seq count due dseq) bytes begin behind b is s =
     let kind = kind_again bytes begin 9 (short name ++ (number seq ++ (number count ++ (number due ++ number dseq)))) behind (omega arith) s in
-    let fields = kinds.deliver_again bytes (begin + 1) name seq count due dseq behind b is (span_back bytes begin (9 ∷ []) (short name ++ (number seq ++ (number count ++ (number due ++ number dseq)))) behind s) in
+    let fields = kinds.deliver_again bytes (begin + 1) name seq count due dseq behind b (and_parts _ _ is).0 (span_back bytes begin (9 ∷ []) (short name ++ (number seq ++ (number count ++ (number due ++ number dseq)))) behind s) in
     rw (kind, fields) refl
-record_again (effects.Acked name low high) bytes begin behind b is s =
+change_again (effects.Acked name low high) bytes begin behind b is s =
     let kind = kind_again bytes begin 10 (short name ++ (number low ++ number high)) behind (omega arith) s in
-    let fields = kinds.acked_again bytes (begin + 1) name (low, high) behind b is (span_back bytes begin (10 ∷ []) (short name ++ (number low ++ number high)) behind s) in
+    let fields = kinds.acked_again bytes (begin + 1) name (low, high) behind b (and_parts _ _ is).0 (span_back bytes begin (10 ∷ []) (short name ++ (number low ++ number high)) behind s) in
     rw (kind, fields) refl
-record_again (effects.Due name seq due) bytes begin behind b is s =
+change_again (effects.Due name seq due) bytes begin behind b is s =
     let kind = kind_again bytes begin 11 (short name ++ (number seq ++ number due)) behind (omega arith) s in
-    let fields = kinds.due_again bytes (begin + 1) name seq due behind b is (span_back bytes begin (11 ∷ []) (short name ++ (number seq ++ number due)) behind s) in
+    let fields = kinds.due_again bytes (begin + 1) name seq due behind b (and_parts _ _ is).0 (span_back bytes begin (11 ∷ []) (short name ++ (number seq ++ number due)) behind s) in
     rw (kind, fields) refl
-record_again (effects.GivenUp name moment) bytes begin behind b is s =
+change_again (effects.GivenUp name moment) bytes begin behind b is s =
     let kind = kind_again bytes begin 12 (short name ++ number moment) behind (omega arith) s in
-    let fields = kinds.given_up_again bytes (begin + 1) name moment behind b is (span_back bytes begin (12 ∷ []) (short name ++ number moment) behind s) in
+    let fields = kinds.given_up_again bytes (begin + 1) name moment behind b (and_parts _ _ is).0 (span_back bytes begin (12 ∷ []) (short name ++ number moment) behind s) in
     rw (kind, fields) refl
-record_again (effects.Now moment) bytes begin behind b is s =
+change_again (effects.Now moment) bytes begin behind b is s =
     let kind = kind_again bytes begin 13 (number moment) behind (omega arith) s in
-    let fields = kinds.now_again bytes (begin + 1) moment behind b is (span_back bytes begin (13 ∷ []) (number moment) behind s) in
+    let fields = kinds.now_again bytes (begin + 1) moment behind b (and_parts _ _ is).0 (span_back bytes begin (13 ∷ []) (number moment) behind s) in
     rw (kind, fields) refl
+
+record_again : (r : Record) (bytes : Bytes) (begin behind : ℕ) → Batch bytes → IsTrue (may_stand r) → Spans bytes begin (spelled_record r) behind → record_at bytes begin ≡ Ok (r, behind)
+unfolding record_at spelled_record
+record_again (records.Put seq at id spot) bytes begin behind b is s =
+    let kind = kind_again bytes begin 14 (number seq ++ (number at ++ (text id ++ spelled_spot spot))) behind (omega arith) s in
+    let fields = kinds.put_again bytes (begin + 1) seq at id spot behind b is (span_back bytes begin (14 ∷ []) (number seq ++ (number at ++ (text id ++ spelled_spot spot))) behind s) in
+    rw (kind, fields) refl
+record_again (records.Change e) bytes begin behind b is s = change_again e bytes begin behind b is s
 
 -- ---- records one behind the other
 
-record Records (bytes : Bytes) (at : ℕ) (es : List Effect) (end : ℕ) : Type 0 where
-  allowed : list_all is_record es ≡ true
-  there : Spans bytes at (flat_map spelled es) end
+record Records (bytes : Bytes) (at : ℕ) (rs : List Record) (end : ℕ) : Type 0 where
+  allowed : list_all may_stand rs ≡ true
+  there : Spans bytes at (flat_map spelled_record rs) end
 
-records_took : (es : List Effect) (bytes : Bytes) (at end : ℕ) → Batch bytes → at ≤ length bytes → Stand bytes at es end → Records bytes at es end
+records_took : (rs : List Record) (bytes : Bytes) (at end : ℕ) → Batch bytes → at ≤ length bytes → Stand bytes at rs end → Records bytes at rs end
 records_took [] bytes at end b within h = record { allowed = refl; there = subst (λ (k : ℕ). Spans bytes at [] k) h (span_none bytes at within) }
-records_took (e ∷ es) bytes at end b within h =
-    let one = record_took bytes at e h.0 b h.1 in
-    let more = records_took es bytes h.0 end b one.there.within h.2 in
+records_took (r ∷ rs) bytes at end b within h =
+    let one = record_took bytes at r h.0 b h.1 in
+    let more = records_took rs bytes h.0 end b one.there.within h.2 in
     record {
-      allowed = and_from (is_record e) (list_all is_record es) one.allowed more.allowed;
-      there = subst (λ (l : Bytes). Spans bytes at l end) (sym (flat_map-cons spelled e es)) (span_then bytes at (spelled e) h.0 (flat_map spelled es) end one.there more.there);
+      allowed = and_from (may_stand r) (list_all may_stand rs) one.allowed more.allowed;
+      there = subst (λ (l : Bytes). Spans bytes at l end) (sym (flat_map-cons spelled_record r rs)) (span_then bytes at (spelled_record r) h.0 (flat_map spelled_record rs) end one.there more.there);
     }
 
-records_again : (es : List Effect) (bytes : Bytes) (at end : ℕ) → Batch bytes → list_all is_record es ≡ true → Spans bytes at (flat_map spelled es) end → Stand bytes at es end
+records_again : (rs : List Record) (bytes : Bytes) (at end : ℕ) → Batch bytes → list_all may_stand rs ≡ true → Spans bytes at (flat_map spelled_record rs) end → Stand bytes at rs end
 records_again [] bytes at end b is s = omega (arith, s.ends)
-records_again (e ∷ es) bytes at end b is s =
-    let two : Spans bytes at (spelled e ++ flat_map spelled es) end = subst (λ (l : Bytes). Spans bytes at l end) (flat_map-cons spelled e es) s in
-    let parts = and_parts (is_record e) (list_all is_record es) is in (
-      at + length (spelled e),
-      record_again e bytes at (at + length (spelled e)) b parts.0 (span_front bytes at (spelled e) (flat_map spelled es) end two),
-      records_again es bytes (at + length (spelled e)) end b parts.1 (span_back bytes at (spelled e) (flat_map spelled es) end two),
+records_again (r ∷ rs) bytes at end b is s =
+    let two : Spans bytes at (spelled_record r ++ flat_map spelled_record rs) end = subst (λ (l : Bytes). Spans bytes at l end) (flat_map-cons spelled_record r rs) s in
+    let parts = and_parts (may_stand r) (list_all may_stand rs) is in (
+      at + length (spelled_record r),
+      record_again r bytes at (at + length (spelled_record r)) b parts.0 (span_front bytes at (spelled_record r) (flat_map spelled_record rs) end two),
+      records_again rs bytes (at + length (spelled_record r)) end b parts.1 (span_back bytes at (spelled_record r) (flat_map spelled_record rs) end two),
     )
 
 -- ---- where a log begins
@@ -236,10 +245,10 @@ span_whole bytes text e = record {
 }
 
 pub law_records : LawRecords
-law_records bytes es is =
+law_records bytes rs is =
     let b = batch_of bytes is in (
-      λ stand. (let r = records_took es bytes 0 (length bytes) b (omega arith) stand in record { allowed = r.allowed; bytes_are = whole_of bytes (flat_map spelled es) r.there }),
-      λ spells. records_again es bytes 0 (length bytes) b spells.allowed (span_whole bytes (flat_map spelled es) spells.bytes_are),
+      λ stand. (let r = records_took rs bytes 0 (length bytes) b (omega arith) stand in record { allowed = r.allowed; bytes_are = whole_of bytes (flat_map spelled_record rs) r.there }),
+      λ spells. records_again rs bytes 0 (length bytes) b spells.allowed (span_whole bytes (flat_map spelled_record rs) spells.bytes_are),
     )
 
 pub law_vacant : LawVacant

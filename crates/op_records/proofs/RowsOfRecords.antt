@@ -2,10 +2,12 @@
 use Rattle.std.specs.Prelude.{◌≡◌, ℕ, [], ◌∷◌, ◌++◌, Ok, Err, refl}
 use Rattle.js_base.specs.Bytes.{Bytes}
 use Rattle.effects.specs.declared.effect.Effect.TheVariants.{DropStream, Remove, Now}
+use Rattle.js_base.specs.declared.spot.Spot.{Spot}
+use Rattle.op_records.specs.declared.record.Record.TheVariants.{Put, Change}
 use Rattle.op_records.specs.declared.fault.RecordFault.TheVariants.{Cut, BadKind, BadField}
-use Rattle.op_records.specs.Fields.{number_field, range_field}
-use Rattle.op_records.specs.Reading.{record_at, remove, now, vacant_record, vacant_field}
-use Rattle.op_records.specs.Spelling.{spelled, spelled_vacant}
+use Rattle.op_records.specs.Fields.{number_field, text_field, spot_field, range_field}
+use Rattle.op_records.specs.Reading.{record_at, remove, now, put, vacant_record, vacant_field}
+use Rattle.op_records.specs.Spelling.{spelled, spelled_record, spelled_vacant}
 
 -- the number of one byte
 abbrev small : ℕ → Bytes
@@ -19,27 +21,47 @@ moment_bytes = 13 ∷ 23 ∷ 151 ∷ 156 ∷ 254 ∷ 54 ∷ 42 ∷ 0 ∷ 0 ∷ [
 
 -- ---- records
 
-moment_spelled : spelled (Now moment) ≡ moment_bytes
-unfolding spelled
+moment_spelled : spelled_record (Change (Now moment)) ≡ moment_bytes
+unfolding spelled spelled_record
 moment_spelled = refl
 
-moment_read : record_at moment_bytes 0 ≡ Ok (Now moment, 9)
+moment_read : record_at moment_bytes 0 ≡ Ok (Change (Now moment), 9)
 unfolding record_at now number_field
 moment_read = refl
 
-next_read : record_at (3 ∷ moment_bytes) 1 ≡ Ok (Now moment, 10)
+next_read : record_at (3 ∷ moment_bytes) 1 ≡ Ok (Change (Now moment), 10)
 unfolding record_at now number_field
 next_read = refl
 
-end_read : record_at (3 ∷ moment_bytes) 0 ≡ Ok (DropStream, 1)
+end_read : record_at (3 ∷ moment_bytes) 0 ≡ Ok (Change DropStream, 1)
 unfolding record_at
 end_read = refl
 
-range_read : record_at (6 ∷ (small 1 ++ small 2)) 0 ≡ Ok (Remove 1 2, 17)
+range_read : record_at (6 ∷ (small 1 ++ small 2)) 0 ≡ Ok (Change (Remove 1 2), 17)
 unfolding record_at remove range_field number_field
 range_read = refl
 
+-- the message of sequence 1 at moment 2, whose id is `a`: 40 bytes from offset 258 of file 3 on
+abbrev stored : Spot
+stored = record { file = 3; at = 258; len = 40 }
+
+abbrev put_bytes : Bytes
+put_bytes = 14 ∷ (small 1 ++ (small 2 ++ (0 ∷ 1 ∷ 97 ∷ 0 ∷ 3 ∷ 0 ∷ 0 ∷ 1 ∷ 2 ∷ 0 ∷ 0 ∷ 0 ∷ 40 ∷ [])))
+
+put_spelled : spelled_record (Put 1 2 (97 ∷ []) stored) ≡ put_bytes
+unfolding spelled_record
+put_spelled = refl
+
+put_read : record_at put_bytes 0 ≡ Ok (Put 1 2 (97 ∷ []) stored, 30)
+unfolding record_at put number_field text_field spot_field
+put_read = refl
+
 -- ---- bytes that are none
+
+-- a log has no messages
+no_message : record_at (4 ∷ []) 0 ≡ Err (BadKind 0)
+unfolding record_at
+no_message = refl
 
 no_kind : record_at (255 ∷ []) 0 ≡ Err (BadKind 0)
 unfolding record_at
@@ -74,6 +96,10 @@ vacant_read = refl
 misplaced_kind : vacant_field moment_bytes 0 ≡ Err (BadField 0)
 unfolding vacant_field vacant_record number_field
 misplaced_kind = refl
+
+no_message_first : vacant_field (4 ∷ []) 0 ≡ Err (BadKind 0)
+unfolding vacant_field vacant_record
+no_message_first = refl
 
 nothing_behind : vacant_field (32 ∷ (small 7 ++ 3 ∷ [])) 0 ≡ Err (BadField 9)
 unfolding vacant_field vacant_record number_field

@@ -1,7 +1,6 @@
--- Configurations and messages are read exactly where they are spelled.
+-- Configurations, and bytes behind a length that is a field of its own, are read exactly where they are spelled.
 use Rattle.std.proofs.Common.{◌≡◌, ℕ, ◌+◌, ◌<◌, ◌^◌, Bool, true, ◌++◌, length, Ok, IsTrue, refl, sym, ap, subst, ◌∙◌, arith, length-append}
 use Rattle.std.specs.Int.{w32, to_be_bytes}
-use Rattle.std.proofs.lemmas.Bool.{and_parts, and_from}
 use Rattle.js_base.specs.Bytes.{Bytes}
 use Rattle.js_model.specs.Configs.{is_stream_config, is_consumer_config}
 use Rattle.config_texts.specs.Reading.{stream_of, consumer_of}
@@ -9,12 +8,11 @@ use Rattle.config_texts.specs.Texts.{stream_text, consumer_text}
 use Rattle.config_texts.proofs.StreamTexts.{law_stream_text}
 use Rattle.config_texts.proofs.ConsumerTexts.{law_consumer_text}
 use Rattle.op_records.specs.Steps.{◌>>=◌, done, place}
-use Rattle.op_records.specs.Fields.{only, word, part, piece, some_or_bad, stream_field, consumer_field, is_small, is_small_header, sized_part, fit, message_field}
-use Rattle.op_records.specs.Allowed.{is_header, fits_block}
+use Rattle.op_records.specs.Fields.{only, word, part, piece, some_or_bad, stream_field, consumer_field, sized_part}
 use Rattle.op_records.specs.Spelling.{long}
 use Rattle.op_records.proofs.Spans.{Spans, span_then, span_front, span_back}
 use Rattle.op_records.proofs.Steps.{both, value_is, place_is, passed, given}
-use Rattle.op_records.proofs.Exact.{Batch, Exact, wide32, word_took, word_again, le_is, is_le}
+use Rattle.op_records.proofs.Exact.{Batch, Exact, wide32, word_took, word_again}
 use Rattle.op_records.proofs.FieldsExact.{part_took, part_again, piece_took, piece_again}
 
 -- a text that stands in a batch is short
@@ -51,7 +49,7 @@ consumer_exact = record {
       rw (piece_again w32 (2 ^ 32) wide32 bytes at (consumer_text config) behind (short_text bytes at (consumer_text config) behind b s) s, read) refl;
 }
 
--- ---- a message's header block and payload
+-- ---- bytes behind a length
 
 pub record Sized (may : Bytes → Bool) (bytes : Bytes) (at : ℕ) (text : Bytes) (behind : ℕ) : Type 0 where
   pub may_be : may text ≡ true
@@ -80,35 +78,3 @@ sized_again may bytes at text behind lt is s =
     let size = word_again w32 (2 ^ 32) wide32 bytes at (length text) mid lt (span_front bytes at (to_be_bytes w32 (length text)) text behind s) in
     let rest = part_again mid bytes mid text behind (span_back bytes at (to_be_bytes w32 (length text)) text behind s) in
     rw (size, rest, is) refl
-
-abbrev pub message_text : Bytes × Bytes → Bytes
-message_text m = long m.0 ++ long m.1
-
-abbrev pub Messages : Bytes × Bytes → Type 0
-Messages m = IsTrue (is_header m.0) × IsTrue (fits_block m.0 m.1)
-
-pub message_exact : Exact message_field message_text Messages
-unfolding message_field
-message_exact = record {
-  took = λ bytes at message behind b e.
-      let p = both bytes (λ (headers : ℕ × Bytes). sized_part is_small >>= λ payload. only fit headers.0 (headers.1, payload.1)) (sized_part is_small_header bytes at) message behind e in
-      let q = both bytes (λ (payload : ℕ × Bytes). only fit p.value.0 (p.value.1, payload.1)) (sized_part is_small bytes p.mid) message behind p.second in
-      let r = passed fit p.value.0 (p.value.1, q.value.1) bytes q.mid message behind q.second in
-      let headers = sized_took is_small_header bytes at p.value p.mid b p.first in
-      let payload = sized_took is_small bytes p.mid q.value q.mid b q.first in
-      let fits : IsTrue (fit (p.value.1, q.value.1)) = subst (λ (m : Bytes × Bytes). IsTrue (fit m)) (sym r.value) r.may_be in
-      let whole : Messages (p.value.1, q.value.1) × Spans bytes at (message_text (p.value.1, q.value.1)) q.mid = (
-        ((and_parts _ _ headers.may_be).0, fits),
-        span_then bytes at (long p.value.1) p.mid (long q.value.1) q.mid headers.there payload.there,
-      ) in
-      subst (λ (k : ℕ). Messages message × Spans bytes at (message_text message) k) r.place (subst (λ (m : Bytes × Bytes). Messages m × Spans bytes at (message_text m) q.mid) r.value whole);
-  again = λ bytes at message behind b is s.
-      let front = span_front bytes at (long message.0) (long message.1) behind s in
-      let back = span_back bytes at (long message.0) (long message.1) behind s in
-      let together = le_is (length message.0 + length message.1) 1048576 is.1 in
-      let small : is_small_header message.0 ≡ true = and_from _ _ is.0 (is_le (length message.0) 1048576 (omega arith)) in
-      let few : is_small message.1 ≡ true = is_le (length message.1) 1048576 (omega arith) in
-      let first = sized_again is_small_header bytes at message.0 (at + length (long message.0)) (omega arith) small front in
-      let second = sized_again is_small bytes (at + length (long message.0)) message.1 behind (omega arith) few back in
-      rw (first, second, is.1) refl;
-}

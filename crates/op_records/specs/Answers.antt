@@ -2,12 +2,12 @@
 use Rattle.std.specs.Prelude.{◌≡◌, ◌≤◌, ℕ, length, Result, Ok, Err}
 use Rattle.std.specs.Global.{Vec}
 use Rattle.js_base.specs.Bytes.{Bytes}
-use Rattle.effects.specs.declared.effect.Effect.{Effect}
 use Rattle.op_records.specs.Reading.{AreRecords, IsWrong}
 use Rattle.op_records.specs.Steps.{Reading}
 use Rattle.op_records.specs.declared.fault.RecordFault.{RecordFault}
 use Rattle.op_records.specs.declared.fault.RecordFault.TheVariants.{Cut, BadKind, BadField, NoMemory as OutOfMemory}
 use Rattle.op_records.specs.declared.reader.Reader.{Reader}
+use Rattle.op_records.specs.declared.record.Record.{Record}
 
 -- the reader stands within its bytes
 abbrev pub IsWithin : Reader → Type 0
@@ -49,6 +49,6 @@ IsWrongBy bytes (BadField at) = IsWrong bytes (BadField at)
 IsWrongBy bytes OutOfMemory = Unit {0}
 
 -- the bytes are these records, or the first that is wrong is told
-abbrev pub ReadsRecords : Result (Vec Effect) RecordFault → Bytes → Type 0
-ReadsRecords (Ok effects) bytes = AreRecords bytes effects.items
+abbrev pub ReadsRecords : Result (Vec Record) RecordFault → Bytes → Type 0
+ReadsRecords (Ok records) bytes = AreRecords bytes records.items
 ReadsRecords (Err fault) bytes = IsWrongBy bytes fault

@@ -6,6 +6,7 @@ use Rattle.js_base.specs.Bytes.{Bytes}
 use Rattle.js_base.specs.Names.{name_of}
 use Rattle.js_base.specs.Numbers.{number_at}
 use Rattle.js_base.specs.Subjects.{is_subject_text}
+use Rattle.js_base.specs.declared.spot.Spot.{Spot}
 use Rattle.js_model.specs.Configs.{is_number}
 use Rattle.js_model.specs.declared.stream_config.StreamConfig.{StreamConfig}
 use Rattle.js_model.specs.declared.consumer_config.ConsumerConfig.{ConsumerConfig}
@@ -126,12 +127,14 @@ sized_part may = do
   bytes ← only may begin bytes
   done (begin, bytes)
 
--- if they are too long together, the header block is told
-unfoldable pub message_field : Reader (Bytes × Bytes)
-message_field = do
-  headers ← sized_part is_small_header
-  payload ← sized_part is_small
-  only fit headers.0 (headers.1, payload.1)
+-- ---- where a message lies: any file of two bytes, any offset and any length
+
+unfoldable pub spot_field : Reader Spot
+spot_field = do
+  file ← word w16
+  at ← word w32
+  len ← word w32
+  done (record { file = file; at = at; len = len })
 
 -- ---- a range, whose first end is told if they are out of order
 

@@ -2,10 +2,10 @@
 use Rattle.std.specs.Prelude.{◌≡◌, ◌<◌, ◌^◌, ◌↔◌, ℕ, length, IsTrue, List, All, Ok}
 use Rattle.std.specs.List.{flat_map, list_all}
 use Rattle.js_base.specs.Bytes.{Bytes}
-use Rattle.effects.specs.declared.effect.Effect.{Effect}
-use Rattle.op_records.specs.Allowed.{is_record}
+use Rattle.op_records.specs.Allowed.{may_stand}
 use Rattle.op_records.specs.Reading.{AreRecords, vacant_field}
-use Rattle.op_records.specs.Spelling.{spelled, spelled_vacant}
+use Rattle.op_records.specs.Spelling.{spelled_record, spelled_vacant}
+use Rattle.op_records.specs.declared.record.Record.{Record}
 
 -- what a batch can have: bytes, fewer than 2^32 of them
 pub record IsBatch (bytes : Bytes) : Type 0 where
@@ -13,12 +13,12 @@ pub record IsBatch (bytes : Bytes) : Type 0 where
   pub short : length bytes < 2 ^ 32
 
 -- each of them may stand in a log, and the bytes spell them one behind the other
-pub record Spells (bytes : Bytes) (effects : List Effect) : Type 0 where
-  pub allowed : IsTrue (list_all is_record effects)
-  pub bytes_are : bytes ≡ flat_map spelled effects
+pub record Spells (bytes : Bytes) (records : List Record) : Type 0 where
+  pub allowed : IsTrue (list_all may_stand records)
+  pub bytes_are : bytes ≡ flat_map spelled_record records
 
 abbrev pub LawRecords : Type 0
-LawRecords = (bytes : Bytes) (effects : List Effect) → IsBatch bytes → AreRecords bytes effects ↔ Spells bytes effects
+LawRecords = (bytes : Bytes) (records : List Record) → IsBatch bytes → AreRecords bytes records ↔ Spells bytes records
 
 -- the incarnation is a number, and the bytes spell a vacant place of it
 pub record SpellsVacant (bytes : Bytes) (incarnation : ℕ) : Type 0 where

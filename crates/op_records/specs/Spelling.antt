@@ -1,12 +1,16 @@
 -- How the records of a volume's log are spelled, by a format of this server's own: a byte for the kind, and then its fields. Numbers have their most
--- significant byte first; a text, a name, a configuration, a header block and a payload stand behind their length.
+-- significant byte first; a text, a name, a configuration, a header block and a payload stand behind their length. A message that waits to be stored counts
+-- as many bytes as its change has, of the fourth kind, which a log does not have.
 use Rattle.std.specs.Prelude.{ℕ, List, [], ◌∷◌, ◌++◌, length}
 use Rattle.std.specs.Int.{w8, w16, w32, w64, to_be_bytes}
 use Rattle.std.specs.List.{flat_map}
 use Rattle.js_base.specs.Bytes.{Bytes}
+use Rattle.js_base.specs.declared.spot.Spot.{Spot}
 use Rattle.config_texts.specs.Texts.{stream_text, consumer_text}
 use Rattle.effects.specs.declared.effect.Effect.{Effect}
 use Rattle.effects.specs.declared.effect.Effect.TheVariants as effects
+use Rattle.op_records.specs.declared.record.Record.{Record}
+use Rattle.op_records.specs.declared.record.Record.TheVariants as records
 
 -- ---- fields
 
@@ -29,7 +33,11 @@ long bytes = to_be_bytes w32 (length bytes) ++ bytes
 abbrev pub numbers : List ℕ → Bytes
 numbers ns = to_be_bytes w32 (length ns) ++ flat_map number ns
 
--- ---- records
+-- where a message lies: its file, its offset there and its length
+abbrev pub spelled_spot : Spot → Bytes
+spelled_spot spot = to_be_bytes w16 spot.file ++ (to_be_bytes w32 spot.at ++ to_be_bytes w32 spot.len)
+
+-- ---- changes
 
 unfoldable pub spelled : Effect → Bytes
 spelled (effects.MakeStream incarnation made config) = 1 ∷ (number incarnation ++ (number made ++ long (stream_text config)))
@@ -47,6 +55,12 @@ spelled (effects.Acked name low high) = 10 ∷ (short name ++ (number low ++ num
 spelled (effects.Due name seq due) = 11 ∷ (short name ++ (number seq ++ number due))
 spelled (effects.GivenUp name moment) = 12 ∷ (short name ++ number moment)
 spelled (effects.Now moment) = 13 ∷ number moment
+
+-- ---- records
+
+unfoldable pub spelled_record : Record → Bytes
+spelled_record (records.Put seq at id spot) = 14 ∷ (number seq ++ (number at ++ (text id ++ spelled_spot spot)))
+spelled_record (records.Change effect) = spelled effect
 
 -- ---- where a log begins
 

@@ -6,6 +6,7 @@ ghost use Rattle.op_records.specs.Reading as kinds;
 
 use crate::fault::RecordFault;
 use crate::reader::Reader;
+use crate::record::Record;
 use effects::Effect;
 
 #[tactic(auto, unfolding(crate::specs::Reading::make_stream))]
@@ -32,27 +33,6 @@ fn change_stream(reader: &mut Reader<'_>) -> Result<Effect, RecordFault>
 {
     let config = reader.stream_config()?;
     Ok(Effect::ChangeStream { config })
-}
-
-#[tactic(auto, unfolding(crate::specs::Reading::put_here))]
-fn put_here(reader: &mut Reader<'_>) -> Result<Effect, RecordFault>
-    requires within { IsWithin reader.old }
-    ensures behind { IsBehind reader.old reader.new }
-    ensures reading { Reads result reader.new (kinds.put_here reader.old.bytes.now reader.old.at) }
-{
-    let seq = reader.number()?;
-    let at = reader.moment()?;
-    let id = reader.text()?;
-    let subject = reader.subject()?;
-    let (headers, payload) = reader.message()?;
-    Ok(Effect::PutHere {
-        seq,
-        at,
-        id,
-        subject,
-        headers,
-        payload,
-    })
 }
 
 #[tactic(auto, unfolding(crate::specs::Reading::skip))]
@@ -175,29 +155,43 @@ fn now(reader: &mut Reader<'_>) -> Result<Effect, RecordFault>
     Ok(Effect::Now { moment })
 }
 
+/// Where a message was stored.
+#[tactic(auto, unfolding(crate::specs::Reading::put))]
+fn put(reader: &mut Reader<'_>) -> Result<Record, RecordFault>
+    requires within { IsWithin reader.old }
+    ensures behind { IsBehind reader.old reader.new }
+    ensures reading { Reads result reader.new (kinds.put reader.old.bytes.now reader.old.at) }
+{
+    let seq = reader.number()?;
+    let at = reader.moment()?;
+    let id = reader.text()?;
+    let spot = reader.spot()?;
+    Ok(Record::Put { seq, at, id, spot })
+}
+
 /// The record at the reader's place.
 #[tactic(auto, unfolding(crate::specs::Reading::record_at))]
-pub(crate) fn record(reader: &mut Reader<'_>) -> Result<Effect, RecordFault>
+pub(crate) fn record(reader: &mut Reader<'_>) -> Result<Record, RecordFault>
     requires within { IsWithin reader.old }
     ensures behind { IsBehind reader.old reader.new }
     ensures reading { Reads result reader.new (kinds.record_at reader.old.bytes.now reader.old.at) }
-    ensures further { IfOk result (λ effect. reader.old.at < reader.new.at) }
+    ensures further { IfOk result (λ found. reader.old.at < reader.new.at) }
 {
     let begin = reader.at;
     match reader.byte()? {
-        1 => make_stream(reader),
-        2 => change_stream(reader),
-        3 => Ok(Effect::DropStream),
-        4 => put_here(reader),
-        5 => skip(reader),
-        6 => remove(reader),
-        7 => make_consumer(reader),
-        8 => drop_consumer(reader),
-        9 => deliver(reader),
-        10 => acked(reader),
-        11 => due(reader),
-        12 => given_up(reader),
-        13 => now(reader),
+        1 => Ok(Record::Change(make_stream(reader)?)),
+        2 => Ok(Record::Change(change_stream(reader)?)),
+        3 => Ok(Record::Change(Effect::DropStream)),
+        5 => Ok(Record::Change(skip(reader)?)),
+        6 => Ok(Record::Change(remove(reader)?)),
+        7 => Ok(Record::Change(make_consumer(reader)?)),
+        8 => Ok(Record::Change(drop_consumer(reader)?)),
+        9 => Ok(Record::Change(deliver(reader)?)),
+        10 => Ok(Record::Change(acked(reader)?)),
+        11 => Ok(Record::Change(due(reader)?)),
+        12 => Ok(Record::Change(given_up(reader)?)),
+        13 => Ok(Record::Change(now(reader)?)),
+        14 => put(reader),
         32 => Err(RecordFault::BadField(begin)),
         _ => Err(RecordFault::BadKind(begin)),
     }
@@ -213,7 +207,8 @@ pub(crate) fn vacant(reader: &mut Reader<'_>) -> Result<u64, RecordFault>
     let begin = reader.at;
     match reader.byte()? {
         32 => reader.number(),
-        1..=13 => Err(RecordFault::BadField(begin)),
+        4 => Err(RecordFault::BadKind(begin)),
+        1..=14 => Err(RecordFault::BadField(begin)),
         _ => Err(RecordFault::BadKind(begin)),
     }
 }

@@ -8,10 +8,12 @@ mod laws;
 mod puts;
 mod reader;
 mod reading;
+mod record;
 mod writing;
 
 pub use blocks::{message_end, message_len, read_message, write_message};
 pub use fault::RecordFault;
 pub use laws::{law_block_messages, law_records};
 pub use reading::{read_record, read_records, read_vacant};
-pub use writing::{write_record, write_vacant};
+pub use record::Record;
+pub use writing::{write_effect, write_record, write_vacant};

@@ -3,12 +3,12 @@
 ghost use Rattle.std.specs.Prelude.{◌≡◌, ◌++◌, ◌∷◌, [], length, IsTrue, OnOk};
 ghost use Rattle.std.specs.List.{flat_map};
 ghost use Rattle.js_model.specs.Configs.{is_name, is_stream_config, is_consumer_config};
-ghost use Rattle.op_records.specs.Allowed.{is_text};
-ghost use Rattle.op_records.specs.Spelling.{number, short, text, long, numbers};
+ghost use Rattle.op_records.specs.Allowed.{is_spot, is_text};
+ghost use Rattle.op_records.specs.Spelling.{number, short, text, long, numbers, spelled_spot};
 ghost use Rattle.config_texts.specs.Texts.{stream_text, consumer_text};
 
 use config_texts::{consumer_text, stream_text};
-use js_base::{Blob, List, NoMemory, put_bytes, put_u16, put_u32, put_u64};
+use js_base::{Blob, List, NoMemory, Spot, put_bytes, put_u16, put_u32, put_u64};
 use js_model::{ConsumerConfig, StreamConfig};
 use std::alloc::Global;
 
@@ -101,4 +101,14 @@ pub(crate) fn put_consumer_config(
 {
     let text: Blob = consumer_text(alloc, config)?;
     put_long(into, text.as_slice())
+}
+
+/// Adds where a message lies.
+pub(crate) fn put_spot(into: &mut Vec<u8>, spot: Spot) -> Result<(), NoMemory>
+    requires spot { IsTrue (is_spot spot) }
+    ensures ok { OnOk result (into.new.items ≡ into.old.items ++ spelled_spot spot) }
+{
+    put_u16(into, spot.file as u16)?;
+    put_u32(into, spot.at)?;
+    put_u32(into, spot.len)
 }

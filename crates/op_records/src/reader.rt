@@ -5,11 +5,11 @@ ghost use Rattle.js_base.specs.Names.{name_of};
 ghost use Rattle.config_texts.specs.Reading.{allowed};
 ghost use Rattle.std.specs.Int.{w8, w16, w32, w64};
 ghost use Rattle.op_records.specs.Answers.{IsBehind, IsFaultOf, IsWithin, Reads};
-ghost use Rattle.op_records.specs.Fields.{word, number_field, cursor_field, numbers_field, part, piece, name_field, text_field, subject_field, stream_field, consumer_field, is_small, is_small_header, sized_part, message_field, range_field};
+ghost use Rattle.op_records.specs.Fields.{word, number_field, cursor_field, numbers_field, part, piece, name_field, text_field, subject_field, stream_field, consumer_field, is_small_header, sized_part, spot_field, range_field};
 
 use crate::fault::RecordFault;
 use config_texts::{read_consumer_text, read_stream_text};
-use js_base::{Blob, List, Moment, Name, NameFault, NoMemory, get_u16, get_u32, get_u64};
+use js_base::{Blob, List, Moment, Name, NameFault, NoMemory, Spot, get_u16, get_u32, get_u64};
 use js_model::{ConsumerConfig, StreamConfig};
 use nats_headers::is_block;
 use std::alloc::Global;
@@ -265,39 +265,21 @@ impl<'a> Reader<'a> {
         }
     }
 
-    /// A message's payload. Its length is a field of its own.
-    fn payload(&mut self) -> Result<(usize, &'a [u8]), RecordFault>
+    /// Where a message lies.
+    #[tactic(auto, unfolding(crate::specs::Fields::spot_field))]
+    pub(crate) fn spot(&mut self) -> Result<Spot, RecordFault>
         requires within { IsWithin self.old }
         ensures behind { IsBehind self.old self.new }
-        ensures value { IfOk result (λ payload. sized_part is_small self.old.bytes.now self.old.at ≡ Ok ((payload.0, payload.1.now), self.new.at)) }
-        ensures fault { IfErr result (IsFaultOf (sized_part is_small self.old.bytes.now self.old.at)) }
+        ensures reading { Reads result self.new (spot_field self.old.bytes.now self.old.at) }
     {
-        let size = self.word()?;
-        let begin = self.at;
-        let payload = self.part(begin, size as usize)?;
-        if payload.len() <= MOST_BYTES {
-            Ok((begin, payload))
-        } else {
-            Err(RecordFault::BadField(begin))
-        }
-    }
-
-    /// A message's header block and its payload. If they are too long together, the header block is told.
-    #[tactic(auto, unfolding(crate::specs::Fields::message_field))]
-    pub(crate) fn message(&mut self) -> Result<(Blob, Blob), RecordFault>
-        requires within { IsWithin self.old }
-        ensures behind { IsBehind self.old self.new }
-        ensures reading { Reads result self.new (message_field self.old.bytes.now self.old.at) }
-    {
-        let (begin, headers) = self.headers()?;
-        let (_, payload) = self.payload()?;
-        if headers.len() + payload.len() > MOST_BYTES {
-            return Err(RecordFault::BadField(begin));
-        }
-        Ok((
-            Blob::of(self.alloc, headers)?,
-            Blob::of(self.alloc, payload)?,
-        ))
+        let file = self.short_word()?;
+        let at = self.word()?;
+        let len = self.word()?;
+        Ok(Spot {
+            file: u32::from(file),
+            at,
+            len,
+        })
     }
 
     /// A range of sequences. If its ends are out of order, the first is told.

@@ -4,14 +4,15 @@ ghost use Rattle.std.specs.Prelude.{◌≡◌, ◌<◌, ◌^◌, ◌++◌, ◌�
 ghost use Rattle.js_base.specs.Subjects.{is_subject_text};
 ghost use Rattle.js_model.specs.Configs.{is_name, is_consumer_config};
 ghost use Rattle.js_model.specs.Configs.{is_stream_config};
-ghost use Rattle.op_records.specs.Allowed.{is_text, is_record};
-ghost use Rattle.op_records.specs.Spelling.{number, short, text, long, numbers, spelled, spelled_vacant};
+ghost use Rattle.op_records.specs.Allowed.{is_text, is_record, may_stand};
+ghost use Rattle.op_records.specs.Spelling.{number, short, text, long, numbers, spelled, spelled_record, spelled_vacant};
 ghost use Rattle.config_texts.specs.Texts.{stream_text, consumer_text};
 
 use crate::puts::{
-    put_consumer_config, put_kind, put_long, put_name, put_numbers, put_stream_config, put_text,
-    put_two,
+    put_consumer_config, put_kind, put_long, put_name, put_numbers, put_spot, put_stream_config,
+    put_text, put_two,
 };
+use crate::record::Record;
 use effects::Effect;
 use js_base::{Blob, List, Moment, NoMemory, put_bytes, put_u64};
 use js_model::{ConsumerConfig, StreamConfig};
@@ -43,6 +44,8 @@ const DUE: u8 = 11;
 const GIVEN_UP: u8 = 12;
 
 const NOW: u8 = 13;
+
+const PUT: u8 = 14;
 
 const SNAP_VACANT: u8 = 32;
 
@@ -152,9 +155,9 @@ fn put_make_consumer(
     put_consumer_config(alloc, into, config)
 }
 
-/// Adds the record at the end. An `Err` leaves some of it behind what was there.
+/// Adds the change at the end. An `Err` leaves some of it behind what was there.
 #[tactic(auto, unfolding(crate::specs::Spelling::spelled))]
-fn put_record(alloc: Global, effect: &Effect, into: &mut Vec<u8>) -> Result<(), NoMemory>
+fn put_effect(alloc: Global, effect: &Effect, into: &mut Vec<u8>) -> Result<(), NoMemory>
     requires record { IsTrue (is_record effect.now) }
     ensures ok { OnOk result (into.new.items ≡ into.old.items ++ spelled effect.now) }
 {
@@ -216,15 +219,41 @@ fn put_record(alloc: Global, effect: &Effect, into: &mut Vec<u8>) -> Result<(), 
     }
 }
 
-/// Adds the record at the end. An `Err` leaves what was there.
-pub fn write_record(alloc: Global, effect: &Effect, into: &mut Vec<u8>) -> Result<(), NoMemory>
+/// Adds the record at the end. An `Err` leaves some of it behind what was there.
+#[tactic(auto, unfolding(crate::specs::Spelling::spelled_record))]
+fn put_record(alloc: Global, entry: &Record, into: &mut Vec<u8>) -> Result<(), NoMemory>
+    requires allowed { IsTrue (may_stand entry.now) }
+    ensures ok { OnOk result (into.new.items ≡ into.old.items ++ spelled_record entry.now) }
+{
+    match entry {
+        Record::Put { seq, at, id, spot } => {
+            put_numbered(into, PUT, *seq, *at, id)?;
+            put_spot(into, *spot)
+        }
+        Record::Change(effect) => put_effect(alloc, effect, into),
+    }
+}
+
+/// Adds the change at the end, a message that was stored as well, which counts so many bytes while it waits. An `Err` leaves what was there.
+pub fn write_effect(alloc: Global, effect: &Effect, into: &mut Vec<u8>) -> Result<(), NoMemory>
     requires record { IsTrue (is_record effect.now) }
     ensures ok { OnOk result (into.new.items ≡ into.old.items ++ spelled effect.now) }
     ensures err { OnErr result (into.new.items ≡ into.old.items) }
 {
-    let mut record = Vec::new(alloc);
-    put_record(alloc, effect, &mut record)?;
-    put_bytes(into, record.as_slice())
+    let mut bytes = Vec::new(alloc);
+    put_effect(alloc, effect, &mut bytes)?;
+    put_bytes(into, bytes.as_slice())
+}
+
+/// Adds the record at the end. An `Err` leaves what was there.
+pub fn write_record(alloc: Global, entry: &Record, into: &mut Vec<u8>) -> Result<(), NoMemory>
+    requires allowed { IsTrue (may_stand entry.now) }
+    ensures ok { OnOk result (into.new.items ≡ into.old.items ++ spelled_record entry.now) }
+    ensures err { OnErr result (into.new.items ≡ into.old.items) }
+{
+    let mut bytes = Vec::new(alloc);
+    put_record(alloc, entry, &mut bytes)?;
+    put_bytes(into, bytes.as_slice())
 }
 
 /// Adds the record with which the log of a vacant place begins, with the incarnation of its last stream, 0 before the first. An `Err` leaves what

@@ -1,6 +1,6 @@
 -- What an image holds by the generations and batches of its two logs.
 use Rattle.std.proofs.Common.{◌≡◌, ◌≢◌, ◌⊎◌, inl, inr, ℕ, Bool, true, false, cond, List, refl, sym, ap, subst, ◌∙◌, arith}
-use Rattle.std.specs.Prelude.{IsSome}
+use Rattle.std.specs.Prelude.{All, IsSome}
 use Rattle.vol_disk.specs.Disk.{Disk, Files}
 use Rattle.vol_disk.specs.Images.{IsDurable}
 use Rattle.js_base.specs.Bytes.{Bytes}
@@ -9,14 +9,20 @@ use Rattle.gate_log.specs.LogState.{LogState, generation_of}
 use Rattle.gate_log.specs.Settled.{IsSettled}
 use Rattle.gate_log.proofs.OneReading.{law}
 use Rattle.effects.specs.declared.durable.Durable.{Durable}
-use Rattle.durable_checks.specs.Storable.{IsOpenable}
+use Rattle.durable_checks.specs.Storable.{IsOpenable, IsStorable}
+use Rattle.block_table.specs.Blocks.{Blocks, blocks}
+use Rattle.block_table.specs.Tables.{IsTable}
+use Rattle.block_reading.specs.Standing.{AreStoredIn}
+use Rattle.block_writing.specs.Writing.{BlocksStand}
 use Rattle.log_records.specs.Batches.{Gives}
+use Rattle.log_records.specs.Unread.{stored_messages}
 use Rattle.stream_store.specs.Logs.{LogIn, HasLog, HasLogs, is_first, current, current_file}
-use Rattle.stream_store.specs.Holding.{Holds, AllHold}
+use Rattle.stream_store.specs.Holding.{HoldsIn, AllHold, last_of, logged}
 use Rattle.stream_store.specs.Base.{IsBaseOf}
+use Rattle.stream_store.proofs.Blocks.{IsSame, same_fronts, stored_moved}
 use Rattle.stream_store.proofs.OneReading.{log_same}
 
--- ---- only the two logs count
+-- ---- only the two logs count, and the blocks up to their ends
 
 pub has_logs_by : (a b : Files) (zero one : LogIn) → b 0 ≡ a 0 → b 1 ≡ a 1 → HasLogs a zero one → HasLogs b zero one
 has_logs_by a b zero one e f h = record {
@@ -24,12 +30,23 @@ has_logs_by a b zero one e f h = record {
   in_one = subst (λ (l : Bytes). HasLog l one) (sym f) h.in_one;
 }
 
-pub holds_by : (a b : Files) (d : Durable) → b 0 ≡ a 0 → b 1 ≡ a 1 → Holds a d → Holds b d
-holds_by a b d e f h = record { zero = h.zero; one = h.one; logs = has_logs_by a b h.zero h.one e f h.logs; gives = h.gives; openable = h.openable }
+pub holds_by : (x y : Files) (b : Blocks) (d : Durable) → IsTable b → y 0 ≡ x 0 → y 1 ≡ x 1 → All (IsSame x y) (blocks b) → HoldsIn x b d → HoldsIn y b d
+holds_by x y b d table e f same h = record {
+  zero = h.zero;
+  one = h.one;
+  logs = has_logs_by x y h.zero h.one e f h.logs;
+  gives = h.gives;
+  stored = stored_moved x y b (last_of d) (stored_messages d) table same h.stored;
+  openable = h.openable;
+}
 
--- where both are on the disk, each image holds what reads hold
-pub all_hold : (disk : Disk) (d : Durable) → IsDurable disk 0 → IsDurable disk 1 → Holds disk.seen d → AllHold disk d
-all_hold disk d zero one h image is = holds_by disk.seen image d (zero (image 0) (is.left 0)) (one (image 1) (is.left 1)) h
+-- where both logs are on the disk, and the blocks stand, each image holds what reads hold
+pub all_hold : (disk : Disk) (b : Blocks) (d : Durable) → IsDurable disk 0 → IsDurable disk 1 → IsTable b → BlocksStand b disk → HoldsIn disk.seen b d → AllHold disk d
+all_hold disk b d zero one table stand h image is = (
+  b,
+  holds_by disk.seen image b d table (zero (image 0) (is.left 0)) (one (image 1) (is.left 1))
+      (same_fronts b disk image table stand (λ file. (stand.stand file).left (image file) (is.left file))) h,
+)
 
 -- ---- the current log is the one of its file
 
@@ -42,9 +59,10 @@ pub record IsNow (log : LogState) (batches : List Bytes) (image : Files) : Type 
   pub generation_is : (current zero one).generation ≡ generation_of log
   pub batches_are : (current zero one).batches ≡ batches
 
-pub holds_now : (log : LogState) (batches : List Bytes) (image : Files) (d : Durable) → IsNow log batches image → Gives batches d → IsOpenable d → Holds image d
-holds_now log batches image d n gives openable =
-    record { zero = n.zero; one = n.one; logs = n.logs; gives = subst (λ (l : List Bytes). Gives l d) (sym n.batches_are) gives; openable = openable }
+pub holds_now : (log : LogState) (batches : List Bytes) (image : Files) (b : Blocks) (d : Durable) → IsNow log batches image → Gives batches (logged d b) → AreStoredIn image b (last_of d) (stored_messages d) → IsOpenable d
+    → HoldsIn image b d
+holds_now log batches image b d n gives stored openable =
+    record { zero = n.zero; one = n.one; logs = n.logs; gives = subst (λ (l : List Bytes). Gives l (logged d b)) (sym n.batches_are) gives; stored = stored; openable = openable }
 
 -- both are read in one way, so that is the current one however they are read
 pub current_always : (log : LogState) (batches : List Bytes) (image : Files) → IsNow log batches image → (zero one : LogIn) → HasLogs image zero one → current_file zero one ≡ log.file
@@ -92,17 +110,29 @@ now_with log batches others old new n has stays = go (is_first n.zero.generation
 
 -- ---- a base by the current log
 
-pub base_of : (log : LogState) (batches : List Bytes) (disk : Disk) (d : Durable) → IsNow log batches disk.seen → IsSettled log batches disk → IsSome (generation_of log) → IsDurable disk 0 → IsDurable disk 1 → Gives batches d → IsOpenable d → IsBaseOf log d disk
-base_of log batches disk d n settled begun zero one gives openable =
-    let holds = holds_now log batches disk.seen d n gives openable in
+-- what a base needs beside its log
+pub record IsStoredBase (b : Blocks) (d : Durable) (disk : Disk) : Type 0 where
+  pub table : IsTable b
+  pub stand : BlocksStand b disk
+  pub storable : IsStorable d
+  pub stored : AreStoredIn disk.seen b (last_of d) (stored_messages d)
+  pub openable : IsOpenable d
+
+pub base_of : (log : LogState) (batches : List Bytes) (disk : Disk) (b : Blocks) (d : Durable) → IsNow log batches disk.seen → IsSettled log batches disk → IsSome (generation_of log) → IsDurable disk 0 → IsDurable disk 1
+    → Gives batches (logged d b) → IsStoredBase b d disk → IsBaseOf log b d disk
+base_of log batches disk b d n settled begun zero one gives s =
+    let holds = holds_now log batches disk.seen b d n gives s.stored s.openable in
     record {
       settled = (batches, settled);
       begun = begun;
       current = current_always log batches disk.seen n;
       durable_zero = zero;
       durable_one = one;
+      table = s.table;
+      stand = s.stand;
+      storable = s.storable;
       holds = holds;
-      images = all_hold disk d zero one holds;
+      images = all_hold disk b d zero one s.table s.stand holds;
     }
 
 pub current_has : (image : Files) (zero one : LogIn) → HasLogs image zero one → HasLog (image (current_file zero one)) (current zero one)
@@ -113,21 +143,21 @@ current_has image zero one h = go (is_first zero.generation one.generation)
     go false = h.in_one
 
 -- what a base's log is now
-pub now_of : (log : LogState) (batches : List Bytes) (disk : Disk) (d : Durable) → IsBaseOf log d disk → IsSettled log batches disk → IsNow log batches disk.seen
-now_of log batches disk d b settled =
-    let zero = b.holds.zero in
-    let one = b.holds.one in
-    let file : current_file zero one ≡ log.file = b.current zero one b.holds.logs in
-    let has : HasLog (disk.seen log.file) (current zero one) = subst (λ (f : ℕ). HasLog (disk.seen f) (current zero one)) file (current_has disk.seen zero one b.holds.logs) in
+pub now_of : (log : LogState) (batches : List Bytes) (disk : Disk) (b : Blocks) (d : Durable) → IsBaseOf log b d disk → IsSettled log batches disk → IsNow log batches disk.seen
+now_of log batches disk b d h settled =
+    let zero = h.holds.zero in
+    let one = h.holds.one in
+    let file : current_file zero one ≡ log.file = h.current zero one h.holds.logs in
+    let has : HasLog (disk.seen log.file) (current zero one) = subst (λ (f : ℕ). HasLog (disk.seen f) (current zero one)) file (current_has disk.seen zero one h.holds.logs) in
     record {
       zero = zero;
       one = one;
-      logs = b.holds.logs;
+      logs = h.holds.logs;
       file_is = file;
       generation_is = law.one_generation (disk.seen log.file) (current zero one).generation (generation_of log) (current zero one).batches batches has settled.read;
       batches_are = law.one_list (disk.seen log.file) (current zero one).generation (generation_of log) (current zero one).batches batches has settled.read;
     }
 
-pub base_gives : (log : LogState) (batches : List Bytes) (disk : Disk) (d : Durable) → IsBaseOf log d disk → IsSettled log batches disk → Gives batches d
+pub base_gives : (log : LogState) (batches : List Bytes) (disk : Disk) (b : Blocks) (d : Durable) → IsBaseOf log b d disk → IsSettled log batches disk → Gives batches (logged d b)
 unfolding now_of
-base_gives log batches disk d b settled = subst (λ (l : List Bytes). Gives l d) (now_of log batches disk d b settled).batches_are b.holds.gives
+base_gives log batches disk b d h settled = subst (λ (l : List Bytes). Gives l (logged d b)) (now_of log batches disk b d h settled).batches_are h.holds.gives

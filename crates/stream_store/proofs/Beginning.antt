@@ -8,6 +8,8 @@ use Rattle.vol_disk.specs.Does.{Rests}
 use Rattle.vol_disk.specs.Images.{IsDurable, IsImage}
 use Rattle.vol_disk.specs.Moments.{Quiet, LeavesOnly, Elsewhere}
 use Rattle.vol_disk.proofs.Moments.{started, widened, joined, rests_on}
+use Rattle.std.proofs.lemmas.List.Elements.{All-nil}
+use Rattle.std.proofs.Math.Path.{fun_ext}
 use Rattle.js_base.specs.Bytes.{Bytes}
 use Rattle.gate_log.specs.LogFile.{IsLog, HasOpen}
 use Rattle.gate_log.specs.LogState.{LogState, generation_of, new_log, with_batch}
@@ -18,28 +20,59 @@ use Rattle.effects.specs.declared.durable.Durable.{Durable}
 use Rattle.effects.specs.Folding.{vacant}
 use Rattle.op_records.specs.Spelling.{spelled_vacant}
 use Rattle.op_records.proofs.RecordsExact.{law_vacant}
+use Rattle.durable_checks.specs.Storable.{IsOpenable, IsStorable}
+use Rattle.block_table.specs.Blocks.{no_blocks}
+use Rattle.block_table.proofs.Tables.{table_none}
+use Rattle.block_reading.specs.Standing.{AreStoredIn, IsWhole}
 use Rattle.log_records.specs.Batches.{Begins, Gives}
-use Rattle.log_records.proofs.Reaching.{vacant_opens}
+use Rattle.log_records.specs.Logged.{beginning}
 use Rattle.stream_store.specs.Logs.{LogIn, HasLog, HasLogs, is_first, current}
-use Rattle.stream_store.specs.Holding.{Holds}
+use Rattle.stream_store.specs.Holding.{Holds, logged}
 use Rattle.stream_store.specs.Base.{IsBaseOf}
 use Rattle.stream_store.specs.Beginning.{IsUnbegun, HoldsNothing}
 use Rattle.stream_store.specs.Opening.{KeepsHeld, RestsBut}
-use Rattle.stream_store.proofs.Basing.{IsNow, base_of}
+use Rattle.stream_store.proofs.Basing.{IsNow, IsStoredBase, base_of}
+use Rattle.stream_store.proofs.Blocks.{IsFirm, firm_blocks}
 use Rattle.stream_store.proofs.OneReading.{holds_same}
+
+-- ---- a vacant place
+
+pub vacant_opens : (i : ℕ) → IsOpenable (vacant i)
+vacant_opens i = record { matched = tt; restorable = tt }
+
+-- without blocks nothing is stored
+nothing_stored : (image : Files) → AreStoredIn image no_blocks 0 []
+nothing_stored image = record { whole = All-nil (IsWhole image 0); found = tt }
+
+vacant_storable : IsStorable (vacant 0)
+vacant_storable = record { stored = tt; bounded = omega arith }
+
+vacant_base : (disk : Disk) → IsStoredBase no_blocks (vacant 0) disk
+vacant_base disk = record {
+  table = table_none;
+  stand = firm_blocks no_blocks disk (All-nil (IsFirm disk));
+  storable = vacant_storable;
+  stored = nothing_stored disk.seen;
+  openable = vacant_opens 0;
+}
 
 abbrev nothing_open : LogIn
 nothing_open = record { generation = None; batches = [] }
 
 -- where neither log has an open batch, the place is vacant
 holds_nothing : (image : Files) (zero one : LogIn) → HasLogs image zero one → zero.generation ≡ None → one.generation ≡ None → Holds image (vacant 0)
-holds_nothing image zero one h none nothing = record {
-  zero = zero;
-  one = one;
-  logs = h;
-  gives = subst (λ (l : LogIn). Gives l.batches (vacant 0)) (sym first) (subst (λ (bs : List Bytes). Gives bs (vacant 0)) (sym (no_batches zero.generation zero.batches none h.in_zero)) refl);
-  openable = vacant_opens 0;
-}
+holds_nothing image zero one h none nothing = (
+  no_blocks,
+  record {
+    zero = zero;
+    one = one;
+    logs = h;
+    gives = subst (λ (l : LogIn). Gives l.batches (logged (vacant 0) no_blocks)) (sym first)
+        (subst (λ (bs : List Bytes). Gives bs (logged (vacant 0) no_blocks)) (sym (no_batches zero.generation zero.batches none h.in_zero)) refl);
+    stored = nothing_stored image;
+    openable = vacant_opens 0;
+  },
+)
   where
     first : current zero one ≡ zero
     first = ap (λ (g : Option ℕ). cond (is_first zero.generation g) zero one) nothing ∙ ap (λ (g : Option ℕ). cond (is_first g None) zero one) none
@@ -84,15 +117,15 @@ module _ (old : Disk) (u : IsUnbegun old) where
     unfolding spelled_vacant
     short = subst (λ (l : Bytes). length l < 2 ^ 32) (sym records_are) (omega arith)
 
-    begins : Begins records (vacant 0)
+    begins : Begins records (beginning 0)
     begins = record {
       incarnation = 0;
       reads = (law_vacant records 0 (record { are_bytes = bytes; short = short })).1 (record { allowed = omega arith; bytes_are = records_are });
       begun_is = refl;
     }
 
-    pub gives : Gives (records ∷ []) (vacant 0)
-    gives = (vacant 0, begins, refl)
+    pub gives : Gives (records ∷ []) (logged (vacant 0) no_blocks)
+    gives = (beginning 0, begins, refl)
 
     one_of : (image : Files) → Elsewhere 0 mid image → image 1 ≡ old.seen 1
     one_of image e = u.durable_one (image 1) (rests.leaves (image 1) (e 1 (λ is. absurd (omega arith))))
@@ -108,13 +141,17 @@ module _ (old : Disk) (u : IsUnbegun old) where
         holds_nothing image nothing_open u.one
         (record { in_zero = inr (1, without); in_one = subst (λ (l : Bytes). HasLog l u.one) (sym (one_of image e)) u.logs.in_one })
         refl u.none_in_one
-    appending_holds image (inr longer) e = record {
-      zero = record { generation = Some 1; batches = records ∷ [] };
-      one = u.one;
-      logs = begun_logs image (one_of image e) longer;
-      gives = subst (λ (b : Bool). Gives (cond b (record { generation = Some 1; batches = records ∷ [] }) u.one).batches (vacant 0)) (sym is_current) gives;
-      openable = vacant_opens 0;
-    }
+    appending_holds image (inr longer) e = (
+      no_blocks,
+      record {
+        zero = record { generation = Some 1; batches = records ∷ [] };
+        one = u.one;
+        logs = begun_logs image (one_of image e) longer;
+        gives = subst (λ (b : Bool). Gives (cond b (record { generation = Some 1; batches = records ∷ [] }) u.one).batches (logged (vacant 0) no_blocks)) (sym is_current) gives;
+        stored = nothing_stored image;
+        openable = vacant_opens 0;
+      },
+    )
 
     pub appending : (new : Disk) → AppendsTo log records mid new → HoldsNothing old new
     appending new appends =
@@ -122,7 +159,7 @@ module _ (old : Disk) (u : IsUnbegun old) where
         let moments = subst (λ (l : LogState). LeavesOnly mid new (λ image. IfSome l.head (λ g. IsWithOrWithout g [] records (image l.file)) × Elsewhere l.file mid image)) log_is a.any_moment in
         joined old mid new (λ image. Holds image (vacant 0)) (λ image. IsWithOrWithout 1 [] records (image 0) × Elsewhere 0 mid image) (starting mid s) moments (λ image h. appending_holds image h.0 h.1)
 
-    pub begun : (after : LogState) (new : Disk) → AppendsTo log records mid new → IsAppended log after records mid new → after ≡ with_batch log (length records) → IsBaseOf after (vacant 0) new
+    pub begun : (after : LogState) (new : Disk) → AppendsTo log records mid new → IsAppended log after records mid new → after ≡ with_batch log (length records) → IsBaseOf after no_blocks (vacant 0) new
     unfolding spelled_vacant
     begun after new appends appended is =
         let settled_after = appended [] settled in
@@ -143,7 +180,7 @@ module _ (old : Disk) (u : IsUnbegun old) where
           generation_is = ap (λ (b : Bool). (cond b (record { generation = Some 1; batches = records ∷ [] }) u.one).generation) is_current ∙ sym generation;
           batches_are = ap (λ (b : Bool). (cond b (record { generation = Some 1; batches = records ∷ [] }) u.one).batches) is_current;
         } in
-        base_of after (records ∷ []) new (vacant 0) now settled_after (subst IsSome (sym generation) refl) (subst (IsDurable new) file settled_after.durable) durable_one gives (vacant_opens 0)
+        base_of after (records ∷ []) new no_blocks (vacant 0) now settled_after (subst IsSome (sym generation) refl) (subst (IsDurable new) file settled_after.durable) durable_one gives (vacant_base new)
       where
         generation_one : generation_of (with_batch (new_log 0 (Some 1)) (length records)) ≡ Some 1
         generation_one = ap (λ (l : Bytes). generation_of (with_batch (new_log 0 (Some 1)) (length l))) records_are ∙ refl
@@ -178,10 +215,4 @@ held_begun old mid new still u nothing d seen all =
     joined old mid new (λ image. Holds image d) (λ image. Holds image (vacant 0)) (held_quiet old mid still d seen all) nothing (λ image h. subst (Holds image) (sym same) h)
   where
     held_in_mid : (d : Durable) → Holds old.seen d → Holds mid.seen d
-    held_in_mid d h = record {
-      zero = h.zero;
-      one = h.one;
-      logs = record { in_zero = subst (λ (l : Bytes). HasLog l h.zero) (sym (still.seen 0)) h.logs.in_zero; in_one = subst (λ (l : Bytes). HasLog l h.one) (sym (still.seen 1)) h.logs.in_one };
-      gives = h.gives;
-      openable = h.openable;
-    }
+    held_in_mid d h = subst (λ (x : Files). Holds x d) (sym (fun_ext still.seen)) h

@@ -1,6 +1,9 @@
 -- The current log as it is found, and the faults of both.
-use Rattle.std.proofs.Common.{◌≡◌, inl, inr, ℕ, Bool, true, false, cond, List, [], ◌∷◌, Option, Some, None, Result, Err, refl, sym, ap, subst, ◌∙◌}
+use Rattle.std.proofs.Common.{◌≡◌, ◌==◌, inl, inr, ℕ, Bool, true, false, cond, List, [], ◌∷◌, Option, Some, None, Result, Err, All, take, option_map, refl, sym, ap, subst, ◌∙◌, arith, length-take}
 use Rattle.std.specs.Prelude.{IsSome}
+use Rattle.std.proofs.Math.Path.{fun_ext}
+use Rattle.std.proofs.lemmas.Bool.{eq-eqb}
+use Rattle.std.proofs.lemmas.List.Elements.{All-nil, All-cons, All-head, All-tail}
 use Rattle.vol_disk.specs.Disk.{Disk, Files}
 use Rattle.vol_disk.specs.Images.{IsDurable}
 use Rattle.vol_disk.specs.Moments.{Quiet}
@@ -18,22 +21,42 @@ use Rattle.gate_log.proofs.OneReading.{law}
 use Rattle.js_model.proofs.Named.{none_some}
 use Rattle.effects.specs.declared.durable.Durable.{Durable}
 use Rattle.effects.specs.Folding.{vacant}
+use Rattle.effects.specs.declared.durable.Body.{Body}
+use Rattle.durable_checks.specs.Storable.{IsOpenable, IsStorable}
+use Rattle.block_table.specs.declared.block.Block.{Block}
+use Rattle.block_table.specs.Blocks.{Blocks, blocks, has_block, no_blocks}
+use Rattle.block_table.specs.Tables.{IsTable}
+use Rattle.block_table.proofs.Lists.{each_passes}
+use Rattle.block_reading.specs.Standing.{AreStoredIn, IsWhole, written_in}
+use Rattle.block_reading.proofs.Follows.{follow_within}
 use Rattle.log_records.specs.Batches.{Gives}
+use Rattle.log_records.specs.Logged.{Logged, beginning}
+use Rattle.log_records.specs.Unread.{unread, unread_body, stored_messages}
+use Rattle.log_records.proofs.OneBad.{law_batches}
+use Rattle.log_records.specs.Holding.{given_in}
 use Rattle.log_records.specs.Reading.{GivesIn, IsReadFault}
+use Rattle.log_records.specs.declared.log.LogRead.{LogRead}
+use Rattle.block_reading.specs.Reading.{IsMessagesFault}
+use Rattle.block_reading.specs.declared.fault.MessagesFault.{MessagesFault}
+use Rattle.block_reading.specs.declared.fault.MessagesFault.TheVariants as messages
 use Rattle.log_records.specs.declared.fault.ReadFault.{ReadFault}
 use Rattle.log_records.specs.declared.fault.ReadFault.TheVariants as records
-use Rattle.stream_store.specs.Logs.{LogIn, HasLog, HasLogs, is_first, current}
-use Rattle.stream_store.specs.Holding.{Holds}
+use Rattle.stream_store.specs.Logs.{LogIn, HasLog, HasLogs, is_first, current, current_file}
+use Rattle.stream_store.specs.Damage.{IsBadLogged}
+use Rattle.stream_store.specs.Holding.{Holds, last_of, logged}
 use Rattle.stream_store.specs.Base.{IsBaseOf}
 use Rattle.stream_store.specs.Beginning.{IsUnbegun, IsOutsideFault}
-use Rattle.stream_store.specs.Faults.{open_fault, records_fault}
+use Rattle.stream_store.specs.Faults.{blocks_fault, open_fault, records_fault}
 use Rattle.stream_store.specs.Finding.{IsCurrent, IsFaultIn, IsLogFault, IsRecordsFault}
 use Rattle.stream_store.specs.Opening.{IsNoneOpen, IsOpenFault}
 use Rattle.stream_store.specs.declared.fault.OpenFault.{OpenFault}
 use Rattle.stream_store.specs.declared.fault.OpenFault.TheVariants.{Fault, Damaged, UnknownVersion, NoMemory as OutOfMemory}
+use Rattle.stream_store.specs.Reading.{AreSynced, IsBlocksFault, IsFound}
 use Rattle.stream_store.specs.declared.logs.Current.{Current}
+use Rattle.stream_store.specs.declared.reading.Found.{Found}
 use Rattle.stream_store.proofs.OneReading.{log_same}
-use Rattle.stream_store.proofs.Basing.{IsNow, base_of, has_logs_by, current_has}
+use Rattle.stream_store.proofs.Basing.{IsNow, IsStoredBase, base_of, has_logs_by, current_has}
+use Rattle.stream_store.proofs.Blocks.{IsFirm, firm_blocks}
 
 -- ---- faults
 
@@ -59,8 +82,27 @@ one_told image zero told log (fault, is, e) = subst (IsLogFault image) (sym e) (
 
 pub read_fault_of : (file : ℕ) (log : LogState) (disk : Disk) (fault : ReadFault) → IsReadFault log disk fault → IsRecordsFault file log disk (records_fault file fault)
 read_fault_of file log disk records.Fault h = tt
-read_fault_of file log disk (records.Damaged at) h = (refl, h)
+read_fault_of file log disk (records.Damaged at) h = λ batches settled. inl (refl, inl (h batches settled))
 read_fault_of file log disk records.NoMemory h = tt
+
+-- why the messages of blocks were not read
+pub blocks_cause : (fault : MessagesFault) (told : OpenFault) → told ≡ blocks_fault fault → told ≡ Fault → fault ≡ messages.Fault
+blocks_cause messages.Fault told e is = refl
+blocks_cause (messages.Damaged file at) told e is = absurd (cc)
+blocks_cause messages.NoMemory told e is = absurd (cc)
+
+pub blocks_told : (read : LogRead) (disk : Disk) (fault : MessagesFault) → IsMessagesFault disk.seen read.table (last_of read.durable) (stored_messages read.durable) fault → IsBlocksFault read disk (blocks_fault fault)
+blocks_told read disk messages.Fault h = tt
+blocks_told read disk (messages.Damaged file at) h = h
+blocks_told read disk messages.NoMemory h = tt
+
+-- what the log told and a fault of its blocks
+pub bad_blocks : (file : ℕ) (log : LogState) (disk : Disk) (read : LogRead) (fault : OpenFault) → GivesIn log disk read → IsBlocksFault read disk fault → IsRecordsFault file log disk fault
+bad_blocks file log disk read Fault gives h = tt
+bad_blocks file log disk read (Damaged damaged at) gives h = λ batches settled.
+    inr (record { given = given_in read; gives = law_batches.last batches (given_in read) read.last (gives batches settled); damaged = h })
+bad_blocks file log disk read (UnknownVersion n) gives h = absurd h
+bad_blocks file log disk read OutOfMemory gives h = tt
 
 pub told_as : {T E : Type 0} (r : Result T E) (a b : E) → r ≡ Err a → r ≡ Err b → a ≡ b
 told_as r a b p q = cc
@@ -160,14 +202,53 @@ second_fault zero batches old first told still file settled (fault, is, e) =
 pub first_is : (zero one : LogState) (g h : Option ℕ) (is b : Bool) → g ≡ generation_of zero → h ≡ generation_of one → is ≡ is_first g h → is ≡ b → is_first (generation_of zero) (generation_of one) ≡ b
 first_is zero one g h is b p q r s = ap (λ (o : Option ℕ). is_first o (generation_of one)) (sym p) ∙ ap (is_first g) (sym q) ∙ sym r ∙ s
 
--- ---- what the current log gives
+-- ---- what the current log and its blocks give
 
-module _ (found : Current) (old mid new : Disk) (c : IsCurrent found old mid) (still : Quiet old mid) (on : Quiet mid new) (d : Durable) (gives : GivesIn found.log mid d) where
+-- what is vacant without messages is
+unread_vacant : (d : Durable) → unread d ≡ vacant 0 → d ≡ vacant 0
+unread_vacant d same = go d.body (ap (λ (x : Durable). x.incarnation) same) (ap (λ (x : Durable). x.body) same)
+  where
+    go : (o : Option Body) → d.incarnation ≡ 0 → option_map unread_body o ≡ None → record { incarnation = d.incarnation; body = o } ≡ vacant 0
+    go None i b = ap vacant i
+    go (Some b) i e = absurd (none_some (sym e))
+
+-- a block that was synced stands up to its end
+firm : (disk : Disk) (last : ℕ) (b : Blocks) → AreSynced b disk → All (IsWhole disk.seen last) (blocks b) → All (IsFirm disk) (blocks b)
+firm disk last b synced whole = both (blocks b) whole (each_passes (λ (x y : Block). y.file == x.file) (λ x. eq-eqb x.file x.file refl) (blocks b))
+  where
+    one : (k : Block) → IsWhole disk.seen last k → has_block b k.file ≡ true → IsFirm disk k
+    one k whole there =
+        let within = follow_within (written_in disk.seen k) whole.messages 0 k.end whole.few (omega arith) whole.stand.follow in
+        record {
+          long = omega (arith, within, length-take k.end (disk.seen k.file));
+          left = λ bytes is. ap (take k.end) (synced k.file there bytes is);
+        }
+
+    both : (ks : List Block) → All (IsWhole disk.seen last) ks → All (λ k. has_block b k.file ≡ true) ks → All (IsFirm disk) ks
+    both [] h k = All-nil (IsFirm disk)
+    both (x ∷ ks) h k =
+        All-cons (IsFirm disk) x ks (one x (All-head (IsWhole disk.seen last) x ks h) (All-head (λ (y : Block). has_block b y.file ≡ true) x ks k))
+        (both ks (All-tail (IsWhole disk.seen last) x ks h) (All-tail (λ (y : Block). has_block b y.file ≡ true) x ks k))
+
+module _ (found : Current) (old mid new : Disk) (c : IsCurrent found old mid) (still : Quiet old mid) (on : Quiet mid new) (f : Found) (is : IsFound found.log mid f) where
   abbrev batches : List Bytes
   batches = (current c.zero c.one).batches
 
-  pub found_holds : Holds old.seen d
-  found_holds = let g = gives batches c.settled in record { zero = c.zero; one = c.one; logs = c.logs; gives = g.0; openable = g.1 }
+  gives : Gives batches (logged f.durable f.table)
+  gives = let last = is.last batches c.settled in law_batches.last batches (logged f.durable f.table) last.0 last.1
+
+  pub found_holds : Holds old.seen f.durable
+  found_holds = (
+    f.table,
+    record {
+      zero = c.zero;
+      one = c.one;
+      logs = c.logs;
+      gives = gives;
+      stored = subst (λ (x : Files). AreStoredIn x f.table (last_of f.durable) (stored_messages f.durable)) (fun_ext still.seen) is.stored;
+      openable = is.openable;
+    },
+  )
 
   generation_is : (current c.zero c.one).generation ≡ generation_of found.log
   generation_is =
@@ -178,9 +259,8 @@ module _ (found : Current) (old mid new : Disk) (c : IsCurrent found old mid) (s
   seen_is : (file : ℕ) → new.seen file ≡ old.seen file
   seen_is file = on.seen file ∙ still.seen file
 
-  pub found_base : IsSome (generation_of found.log) → IsBaseOf found.log d new
-  found_base begun =
-      let g = gives batches c.settled in
+  pub found_base : IsSome (generation_of found.log) → AreSynced f.table new → IsTable f.table → IsStorable f.durable → IsBaseOf found.log f.table f.durable new
+  found_base begun synced table storable =
       let now : IsNow found.log batches new.seen = record {
         zero = c.zero;
         one = c.one;
@@ -189,7 +269,16 @@ module _ (found : Current) (old mid new : Disk) (c : IsCurrent found old mid) (s
         generation_is = generation_is;
         batches_are = refl;
       } in
-      base_of found.log batches new d now (settled_quiet found.log batches mid new on c.settled) begun (quiet_durable mid new 0 on c.durable_zero) (quiet_durable mid new 1 on c.durable_one) g.0 g.1
+      let stored : AreStoredIn new.seen f.table (last_of f.durable) (stored_messages f.durable) =
+      subst (λ (x : Files). AreStoredIn x f.table (last_of f.durable) (stored_messages f.durable)) (sym (fun_ext on.seen)) is.stored in
+      base_of found.log batches new f.table f.durable now (settled_quiet found.log batches mid new on c.settled) begun (quiet_durable mid new 0 on c.durable_zero) (quiet_durable mid new 1 on c.durable_one) gives
+      (record {
+        table = table;
+        stand = firm_blocks f.table new (firm new (last_of f.durable) f.table synced stored.whole);
+        storable = storable;
+        stored = stored;
+        openable = is.openable;
+      })
 
   -- ---- where no log has an open batch
 
@@ -225,10 +314,16 @@ module _ (found : Current) (old mid new : Disk) (c : IsCurrent found old mid) (s
   no_batches bytes None (b ∷ bs) h e = absurd h
   no_batches bytes (Some g) bs h e = absurd (cc)
 
-  pub found_vacant : generation_of found.log ≡ None → d ≡ vacant 0
-  found_vacant none =
-      let g = gives batches c.settled in
-      subst (λ (l : List Bytes). Gives l d) (no_batches (mid.seen found.log.file) (generation_of found.log) batches c.settled.read none) g.0
+  -- the place is vacant, and has no blocks
+  vacant_given : generation_of found.log ≡ None → logged f.durable f.table ≡ beginning 0
+  vacant_given none =
+      subst (λ (l : List Bytes). Gives l (logged f.durable f.table)) (no_batches (mid.seen found.log.file) (generation_of found.log) batches c.settled.read none) gives
+
+  pub found_vacant : generation_of found.log ≡ None → f.durable ≡ vacant 0
+  found_vacant none = unread_vacant f.durable (ap (λ (g : Logged). g.durable) (vacant_given none))
+
+  pub found_no_blocks : generation_of found.log ≡ None → f.table ≡ no_blocks
+  found_no_blocks none = ap (λ (g : Logged). g.blocks) (vacant_given none)
 
   pub found_none_open : generation_of found.log ≡ None → IsNoneOpen old.seen
   found_none_open none = let both = none_current none in record { zero = c.zero; one = c.one; logs = c.logs; none_in_zero = both.0; none_in_one = both.1 }
@@ -245,12 +340,14 @@ module _ (found : Current) (old mid new : Disk) (c : IsCurrent found old mid) (s
 
 -- ---- what is wrong with the current log
 
-pub records_fault_of : (found : Current) (old mid : Disk) (fault : OpenFault) → IsCurrent found old mid → IsRecordsFault found.file found.log mid fault → IsOpenFault old.seen fault
-records_fault_of found old mid Fault c h = tt
-records_fault_of found old mid (Damaged file at) c h =
-    inr (record { zero = c.zero; one = c.one; logs = c.logs; file_is = h.0 ∙ c.file_is; bad = h.1 (current c.zero c.one).batches c.settled })
-records_fault_of found old mid (UnknownVersion n) c h = absurd h
-records_fault_of found old mid OutOfMemory c h = tt
+pub records_fault_of : (found : Current) (old mid : Disk) → Quiet old mid → (fault : OpenFault) → IsCurrent found old mid → IsRecordsFault found.file found.log mid fault → IsOpenFault old.seen fault
+records_fault_of found old mid still Fault c h = tt
+records_fault_of found old mid still (Damaged file at) c h =
+    let batches = (current c.zero c.one).batches in
+    let there = subst (λ (n : ℕ). IsBadLogged mid.seen n batches file at) c.file_is (h batches c.settled) in
+    inr (record { zero = c.zero; one = c.one; logs = c.logs; bad = subst (λ (x : Files). IsBadLogged x (current_file c.zero c.one) batches file at) (fun_ext still.seen) there })
+records_fault_of found old mid still (UnknownVersion n) c h = absurd h
+records_fault_of found old mid still OutOfMemory c h = tt
 
 pub log_fault_of : (image : Files) (fault : OpenFault) → IsLogFault image fault → IsOpenFault image fault
 log_fault_of image Fault h = tt

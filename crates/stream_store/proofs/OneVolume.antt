@@ -1,34 +1,25 @@
 -- An image that holds something is not damaged, and the first fault of a volume is one.
-use Rattle.std.proofs.Common.{◌≡◌, ◌⊎◌, inl, inr, ℕ, sym, ap, ◌∙◌, subst}
+use Rattle.std.proofs.Common.{◌≡◌, ◌⊎◌, inl, inr, ℕ, List, sym, ap, ◌∙◌, subst}
 use Rattle.vol_disk.specs.Disk.{Files}
+use Rattle.js_base.specs.Bytes.{Bytes}
 use Rattle.gate_log.specs.Faults.{IsDamagedAt}
 use Rattle.gate_log.proofs.OneReading.{law}
 use Rattle.effects.specs.declared.durable.Durable.{Durable}
+use Rattle.block_table.specs.Blocks.{Blocks}
+use Rattle.block_reading.specs.Damage.{AreDamaged}
+use Rattle.block_reading.specs.Standing.{AreStoredIn}
+use Rattle.block_reading.proofs.OneReading.{law_stored}
 use Rattle.log_records.specs.Batches.{Gives}
-use Rattle.log_records.specs.Damage.{HasBadBatch}
-use Rattle.log_records.proofs.NoDamage.{no_bad_batch}
-use Rattle.log_records.proofs.OneBad.{one_bad_batch}
+use Rattle.log_records.specs.Logged.{Logged}
+use Rattle.log_records.specs.Unread.{unread, stored_messages}
+use Rattle.log_records.proofs.OneBad.{law_batches}
+use Rattle.log_records.proofs.OneReading.{gives_same}
 use Rattle.stream_store.specs.Logs.{LogIn, HasLogs, current, current_file}
-use Rattle.stream_store.specs.Holding.{Holds}
-use Rattle.stream_store.specs.Damage.{IsSomeLog, IsBadLog, IsDamaged}
+use Rattle.stream_store.specs.Holding.{Holds, HoldsIn, last_of, logged}
+use Rattle.stream_store.specs.Damage.{IsSomeLog, IsBadLog, IsBadLogged, HasBadBlocks, IsUnopenable, IsBadVolume, IsDamaged, IsOfAnotherVersion}
+use Rattle.durable_checks.specs.Storable.{IsOpenable}
 use Rattle.stream_store.specs.Laws.{LawHolding}
-use Rattle.stream_store.proofs.OneReading.{log_same, holds_same, known, one_fault}
-
-pub no_damage : (image : Files) (d : Durable) (file at : ℕ) → Holds image d → IsDamaged image file at → ⊥
-no_damage image d file at h (inl bad) = go bad.which
-  where
-    go : ((file ≡ 0) × IsDamagedAt (image 0) at) ⊎ ((file ≡ 1) × (IsSomeLog (image 0) × IsDamagedAt (image 1) at)) → ⊥
-    go (inl (is, damage)) = law.whole (image 0) h.zero.generation h.zero.batches at h.logs.in_zero damage
-    go (inr (is, (z, damage))) = law.whole (image 1) h.one.generation h.one.batches at h.logs.in_one damage
-no_damage image d file at h (inr bad) =
-    let zero = log_same (image 0) h.zero bad.zero h.logs.in_zero bad.logs.in_zero in
-    let one = log_same (image 1) h.one bad.one h.logs.in_one bad.logs.in_one in
-    let log : current h.zero h.one ≡ current bad.zero bad.one = ap (λ (l : LogIn). current l h.one) zero ∙ ap (λ (l : LogIn). current bad.zero l) one in
-    no_bad_batch (current bad.zero bad.one).batches d (subst (λ (l : LogIn). Gives l.batches d) log h.gives) h.openable at bad.bad
-
-record IsOnePlace (file other at place : ℕ) : Type 0 where
-  files : file ≡ other
-  offsets : at ≡ place
+use Rattle.stream_store.proofs.OneReading.{log_same, holds_same, known, one_log_fault, last_unread, told_unread, read_one}
 
 not_bad_log : (image : Files) (zero one : LogIn) (file at : ℕ) → HasLogs image zero one → IsBadLog image file (λ bytes. IsDamagedAt bytes at) → ⊥
 not_bad_log image zero one file at h bad = go bad.which
@@ -36,6 +27,61 @@ not_bad_log image zero one file at h bad = go bad.which
     go : ((file ≡ 0) × IsDamagedAt (image 0) at) ⊎ ((file ≡ 1) × (IsSomeLog (image 0) × IsDamagedAt (image 1) at)) → ⊥
     go (inl (is, damage)) = law.whole (image 0) zero.generation zero.batches at h.in_zero damage
     go (inr (is, (log, damage))) = law.whole (image 1) one.generation one.batches at h.in_one damage
+
+-- ---- what is told of one list of batches
+
+record IsOnePlace (file other at place : ℕ) : Type 0 where
+  files : file ≡ other
+  offsets : at ≡ place
+
+module _ (image : Files) (log : ℕ) (batches : List Bytes) where
+  -- blocks that have the messages are not damaged
+  stored_whole : (b : Blocks) (d : Durable) (file at : ℕ) → Gives batches (logged d b) → AreStoredIn image b (last_of d) (stored_messages d) → HasBadBlocks image batches file at → ⊥
+  stored_whole b d file at gives stored bad =
+      let same : bad.given ≡ logged d b = gives_same batches bad.given (logged d b) bad.gives gives in
+      let damaged = subst (λ (g : Logged). AreDamaged image g.blocks (last_of g.durable) (stored_messages g.durable) file at) same bad.damaged in
+      law_stored.whole image b (last_of d) (stored_messages (unread d)) (stored_messages d) file at stored (told_unread d)
+      (subst (λ (n : ℕ). AreDamaged image b n (stored_messages (unread d)) file at) (last_unread d) damaged)
+
+  none_bad : (b : Blocks) (d : Durable) (file at : ℕ) → Gives batches (logged d b) → AreStoredIn image b (last_of d) (stored_messages d) → IsOpenable d → IsBadLogged image log batches file at → ⊥
+  none_bad b d file at gives stored openable (inl (is, inl bad)) = law_batches.whole batches (logged d b) at gives bad
+  none_bad b d file at gives stored openable (inl (is, inr u)) =
+      let same : d ≡ u.d = read_one image batches b u.b d u.d gives (law_batches.last batches (logged u.d u.b) at u.last) stored u.stored in
+      u.bad (subst IsOpenable same openable)
+  none_bad b d file at gives stored openable (inr bad) = stored_whole b d file at gives stored bad
+
+  one_blocks : (file other at place : ℕ) → HasBadBlocks image batches file at → HasBadBlocks image batches other place → IsOnePlace file other at place
+  one_blocks file other at place g h =
+      let same : g.given ≡ h.given = gives_same batches g.given h.given g.gives h.gives in
+      let damaged = subst (λ (x : Logged). AreDamaged image x.blocks (last_of x.durable) (stored_messages x.durable) file at) same g.damaged in
+      record {
+        files = law_stored.one_file image h.given.blocks (last_of h.given.durable) (stored_messages h.given.durable) file other at place damaged h.damaged;
+        offsets = law_stored.one_offset image h.given.blocks (last_of h.given.durable) (stored_messages h.given.durable) file other at place damaged h.damaged;
+      }
+
+  opens_none : (at : ℕ) (u : IsUnopenable image batches at) → Gives batches (logged u.d u.b)
+  opens_none at u = law_batches.last batches (logged u.d u.b) at u.last
+
+  one_logged : (file other at place : ℕ) → IsBadLogged image log batches file at → IsBadLogged image log batches other place → IsOnePlace file other at place
+  one_logged file other at place (inl (is, inl g)) (inl (too, inl h)) = record { files = is ∙ sym too; offsets = law_batches.one_offset batches at place g h }
+  one_logged file other at place (inl (is, inl g)) (inl (too, inr u)) = absurd (law_batches.whole batches (logged u.d u.b) at (opens_none place u) g)
+  one_logged file other at place (inl (is, inl g)) (inr h) = absurd (law_batches.whole batches h.given at h.gives g)
+  one_logged file other at place (inl (is, inr u)) (inl (too, inl h)) = absurd (law_batches.whole batches (logged u.d u.b) place (opens_none at u) h)
+  one_logged file other at place (inl (is, inr u)) (inl (too, inr v)) = record { files = is ∙ sym too; offsets = law_batches.one_last batches (logged u.d u.b) (logged v.d v.b) at place u.last v.last }
+  one_logged file other at place (inl (is, inr u)) (inr h) = absurd (stored_whole u.b u.d other place (opens_none at u) u.stored h)
+  one_logged file other at place (inr g) (inl (too, inl h)) = absurd (law_batches.whole batches g.given place g.gives h)
+  one_logged file other at place (inr g) (inl (too, inr v)) = absurd (stored_whole v.b v.d file at (opens_none place v) v.stored g)
+  one_logged file other at place (inr g) (inr h) = one_blocks file other at place g h
+
+-- ---- what is told of an image
+
+pub no_damage : (image : Files) (d : Durable) (file at : ℕ) → Holds image d → IsDamaged image file at → ⊥
+no_damage image d file at (b, h) (inl bad) = not_bad_log image h.zero h.one file at h.logs bad
+no_damage image d file at (b, h) (inr bad) =
+    let zero = log_same (image 0) h.zero bad.zero h.logs.in_zero bad.logs.in_zero in
+    let one = log_same (image 1) h.one bad.one h.logs.in_one bad.logs.in_one in
+    let log : current h.zero h.one ≡ current bad.zero bad.one = ap (λ (l : LogIn). current l h.one) zero ∙ ap (λ (l : LogIn). current bad.zero l) one in
+    none_bad image (current_file bad.zero bad.one) (current bad.zero bad.one).batches b d file at (subst (λ (l : LogIn). Gives l.batches (logged d b)) log h.gives) h.stored h.openable bad.bad
 
 one_place : (image : Files) (file other at place : ℕ) → IsDamaged image file at → IsDamaged image other place → IsOnePlace file other at place
 one_place image file other at place (inl bad) (inl worse) = go bad.which worse.which
@@ -53,16 +99,18 @@ one_place image file other at place (inr v) (inr w) =
     let one = log_same (image 1) v.one w.one v.logs.in_one w.logs.in_one in
     let log : current v.zero v.one ≡ current w.zero w.one = ap (λ (l : LogIn). current l v.one) zero ∙ ap (λ (l : LogIn). current w.zero l) one in
     let number : current_file v.zero v.one ≡ current_file w.zero w.one = ap (λ (l : LogIn). current_file l v.one) zero ∙ ap (λ (l : LogIn). current_file w.zero l) one in
-    record {
-      files = v.file_is ∙ number ∙ sym w.file_is;
-      offsets = one_bad_batch (current w.zero w.one).batches at place (subst (λ (l : LogIn). HasBadBatch l.batches at) log v.bad) w.bad;
-    }
+    let there = subst (λ (l : LogIn). IsBadLogged image (current_file v.zero v.one) l.batches file at) log v.bad in
+    one_logged image (current_file w.zero w.one) (current w.zero w.one).batches file other at place (subst (λ (n : ℕ). IsBadLogged image n (current w.zero w.one).batches file at) number there) w.bad
+
+one_fault : (image : Files) (file at n : ℕ) → IsDamaged image file at → IsOfAnotherVersion image n → ⊥
+one_fault image file at n (inl bad) k = one_log_fault image file at n bad k
+one_fault image file at n (inr bad) k = known image bad.zero bad.one n bad.logs k
 
 pub law_holding : LawHolding
 law_holding = record {
   one = holds_same;
   whole = λ image d file at h k. no_damage image d file at h k;
-  known = λ image d n h k. known image h.zero h.one n h.logs k;
+  known = λ image d n h k. known image h.1.zero h.1.one n h.1.logs k;
   one_file = λ image file other at place h k. (one_place image file other at place h k).files;
   one_offset = λ image file other at place h k. (one_place image file other at place h k).offsets;
   one_fault = λ image file at n h k. one_fault image file at n h k;

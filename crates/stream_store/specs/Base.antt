@@ -6,19 +6,27 @@ use Rattle.js_base.specs.Bytes.{Bytes}
 use Rattle.gate_log.specs.LogState.{LogState, generation_of}
 use Rattle.gate_log.specs.Settled.{IsSettled}
 use Rattle.effects.specs.declared.durable.Durable.{Durable}
+use Rattle.durable_checks.specs.Storable.{IsStorable}
+use Rattle.block_table.specs.Blocks.{Blocks}
+use Rattle.block_table.specs.Tables.{IsTable}
+use Rattle.block_writing.specs.Writing.{BlocksStand}
 use Rattle.stream_store.specs.Logs.{LogIn, HasLogs, current_file}
 use Rattle.stream_store.specs.StoreState.{StoreState}
-use Rattle.stream_store.specs.Holding.{Holds, AllHold}
+use Rattle.stream_store.specs.Holding.{HoldsIn, AllHold}
 
--- The store's log is the current one, and what is known of it is what its file holds. Both logs are on the disk, so a crash now leaves the base.
-pub record IsBaseOf (log : LogState) (base : Durable) (disk : Disk) : Type 0 where
+-- The store's log is the current one, and what is known of it is what its file holds. The blocks are those of what the log gives. Both logs are on the disk,
+-- and each block is up to its end, so a crash now leaves the base.
+pub record IsBaseOf (log : LogState) (b : Blocks) (base : Durable) (disk : Disk) : Type 0 where
   pub settled : (batches : List Bytes) × IsSettled log batches disk
   pub begun : IsSome (generation_of log)
   pub current : (zero one : LogIn) → HasLogs disk.seen zero one → current_file zero one ≡ log.file
   pub durable_zero : IsDurable disk 0
   pub durable_one : IsDurable disk 1
-  pub holds : Holds disk.seen base
+  pub table : IsTable b
+  pub stand : BlocksStand b disk
+  pub storable : IsStorable base
+  pub holds : HoldsIn disk.seen b base
   pub images : AllHold disk base
 
 abbrev pub IsBase : StoreState → Durable → Disk → Type 0
-IsBase store base disk = IsBaseOf store.log base disk
+IsBase store base disk = IsBaseOf store.log store.blocks base disk

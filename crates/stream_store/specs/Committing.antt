@@ -1,12 +1,16 @@
 -- What a commit needs, and what it leaves.
-use Rattle.std.specs.Prelude.{◌≡◌, ◌⊎◌, ℕ, ◌+◌, length, List, Some}
+use Rattle.std.specs.Prelude.{◌≡◌, ◌⊎◌, ℕ, ◌+◌, length, List, Some, map}
 use Rattle.std.specs.List.{flat_map}
+use Rattle.js_base.specs.declared.spot.Spot.{Spot}
 use Rattle.vol_disk.specs.Disk.{Disk}
 use Rattle.vol_disk.specs.Moments.{LeavesOnly}
 use Rattle.effects.specs.declared.durable.Durable.{Durable}
 use Rattle.effects.specs.declared.effect.Effect.{Effect}
+use Rattle.effects.specs.declared.effect.Effect.TheVariants.{MakeStream, ChangeStream, DropStream, PutHere, Skip, Remove, MakeConsumer, DropConsumer, Deliver, Acked, Due, GivenUp, Now}
 use Rattle.effects.specs.Folding.{fold_all}
-use Rattle.op_records.specs.Spelling.{spelled}
+use Rattle.op_records.specs.Spelling.{spelled_record}
+use Rattle.op_records.specs.declared.record.Record.{Record}
+use Rattle.op_records.specs.declared.record.Record.TheVariants.{Put, Change}
 use Rattle.stream_store.specs.Base.{IsBase}
 use Rattle.stream_store.specs.StoreState.{StoreState}
 use Rattle.durable_checks.specs.Storable.{IsStorable, IsOpenable}
@@ -18,9 +22,36 @@ pub record IsNextBatch (base : Durable) (effects : List Effect) (next : Durable)
   pub storable : IsStorable next
   pub openable : IsOpenable next
 
--- how long the log is with a batch of these records
+-- ---- how long the log is
+
+-- the record of a change; of a message that is stored, whatever its spot, which makes its record no longer
+abbrev pub recorded_at : Spot → Effect → Record
+recorded_at spot (MakeStream incarnation made config) = Change (MakeStream incarnation made config)
+recorded_at spot (ChangeStream config) = Change (ChangeStream config)
+recorded_at spot DropStream = Change DropStream
+recorded_at spot (PutHere seq at id subject headers payload) = Put seq at id spot
+recorded_at spot (Skip seq at id) = Change (Skip seq at id)
+recorded_at spot (Remove low high) = Change (Remove low high)
+recorded_at spot (MakeConsumer name made config cursor picks) = Change (MakeConsumer name made config cursor picks)
+recorded_at spot (DropConsumer name) = Change (DropConsumer name)
+recorded_at spot (Deliver name seq count due dseq) = Change (Deliver name seq count due dseq)
+recorded_at spot (Acked name low high) = Change (Acked name low high)
+recorded_at spot (Due name seq due) = Change (Due name seq due)
+recorded_at spot (GivenUp name moment) = Change (GivenUp name moment)
+recorded_at spot (Now moment) = Change (Now moment)
+
+abbrev pub no_spot : Spot
+no_spot = record { file = 0; at = 0; len = 0 }
+
+-- how many bytes the records of these changes have
+abbrev pub batch_length : List Effect → ℕ
+batch_length effects = length (flat_map spelled_record (map (recorded_at no_spot) effects))
+
+-- how long the log is with a batch of them
 abbrev pub length_with : StoreState → List Effect → ℕ
-length_with store effects = store.log.end + 6 + length (flat_map spelled effects)
+length_with store effects = store.log.end + 6 + batch_length effects
+
+-- ---- what is left
 
 -- the records are on the volume: whatever the base was, a crash now leaves what they made of it
 abbrev pub IsCommitted : StoreState → StoreState → List Effect → Disk → Disk → Type 0

@@ -4,6 +4,10 @@ use Rattle.gate_log.specs.declared.fault.LogFault.{LogFault}
 use Rattle.gate_log.specs.declared.fault.LogFault.TheVariants as log
 use Rattle.log_records.specs.declared.fault.ReadFault.{ReadFault}
 use Rattle.log_records.specs.declared.fault.ReadFault.TheVariants as records
+use Rattle.block_reading.specs.declared.fault.MessagesFault.{MessagesFault}
+use Rattle.block_reading.specs.declared.fault.MessagesFault.TheVariants as blocks
+use Rattle.block_writing.specs.declared.fault.PlanFault.{PlanFault}
+use Rattle.block_writing.specs.declared.fault.PlanFault.TheVariants as plan
 use Rattle.stream_store.specs.declared.fault.OpenFault.{OpenFault}
 use Rattle.stream_store.specs.declared.fault.OpenFault.TheVariants as opening
 use Rattle.stream_store.specs.declared.fault.CommitFault.{CommitFault}
@@ -23,10 +27,13 @@ records_fault file records.Fault = opening.Fault
 records_fault file (records.Damaged at) = opening.Damaged file at
 records_fault file records.NoMemory = opening.NoMemory
 
--- why a batch is not appended; the faults of opening a log do not come
-abbrev pub commit_fault : LogFault → CommitFault
-commit_fault log.Fault = commit.Fault
-commit_fault log.Full = commit.Full
-commit_fault log.NoMemory = commit.NoMemory
-commit_fault (log.Damaged at) = commit.NoMemory
-commit_fault (log.UnknownVersion n) = commit.NoMemory
+-- why the messages of the blocks were not read
+abbrev pub blocks_fault : MessagesFault → OpenFault
+blocks_fault blocks.Fault = opening.Fault
+blocks_fault (blocks.Damaged file at) = opening.Damaged file at
+blocks_fault blocks.NoMemory = opening.NoMemory
+
+-- why a commit was not planned; there is a place for each message
+abbrev pub plan_fault : PlanFault → CommitFault
+plan_fault plan.NoRoom = commit.NoMemory
+plan_fault plan.NoMemory = commit.NoMemory

@@ -8,9 +8,8 @@ use Rattle.gate_log.specs.LogState.{LogState}
 use Rattle.gate_log.specs.Opening.{IsOpenFault as IsFileFault}
 use Rattle.gate_log.specs.Settled.{IsSettled}
 use Rattle.gate_log.specs.declared.fault.LogFault.{LogFault}
-use Rattle.log_records.specs.Damage.{HasBadBatch}
 use Rattle.stream_store.specs.Logs.{LogIn, HasLogs, current, current_file}
-use Rattle.stream_store.specs.Damage.{IsBadLog, IsOfAnotherVersion}
+use Rattle.stream_store.specs.Damage.{IsBadLog, IsBadLogged, IsOfAnotherVersion}
 use Rattle.stream_store.specs.Faults.{open_fault}
 use Rattle.stream_store.specs.declared.fault.OpenFault.{OpenFault}
 use Rattle.stream_store.specs.declared.fault.OpenFault.TheVariants.{Fault, Damaged, UnknownVersion, NoMemory as OutOfMemory}
@@ -38,9 +37,9 @@ IsLogFault image (Damaged file at) = IsBadLog image file (λ bytes. IsDamagedAt 
 IsLogFault image (UnknownVersion n) = IsOfAnotherVersion image n
 IsLogFault image OutOfMemory = ⊥
 
--- the volume failed, memory ran out, or a batch of the log in this file is wrong
+-- the volume failed, memory ran out, or what the log in this file tells is wrong
 abbrev pub IsRecordsFault : ℕ → LogState → Disk → OpenFault → Type 0
 IsRecordsFault file log disk Fault = Unit {0}
-IsRecordsFault file log disk (Damaged damaged at) = (damaged ≡ file) × ((batches : List Bytes) → IsSettled log batches disk → HasBadBatch batches at)
+IsRecordsFault file log disk (Damaged damaged at) = (batches : List Bytes) → IsSettled log batches disk → IsBadLogged disk.seen file batches damaged at
 IsRecordsFault file log disk (UnknownVersion n) = ⊥
 IsRecordsFault file log disk OutOfMemory = Unit {0}

@@ -1,7 +1,15 @@
--- That an image of a volume is read in one way.
-use Rattle.std.specs.Prelude.{◌≡◌, ℕ}
+-- That an image of a volume is read in one way, and how changes that wait for a commit have their places.
+use Rattle.std.specs.Prelude.{◌≡◌, ℕ, Bool, true, false, List, [], ◌∷◌, ◌++◌, length}
+use Rattle.js_base.specs.Bytes.{Bytes}
 use Rattle.vol_disk.specs.Disk.{Files}
 use Rattle.effects.specs.declared.durable.Durable.{Durable}
+use Rattle.effects.specs.declared.effect.Effect.{Effect}
+use Rattle.effects.specs.declared.effect.Effect.TheVariants.{MakeStream, DropStream, PutHere}
+use Rattle.op_records.specs.Allowed.{is_put}
+use Rattle.op_records.specs.Blocks.{spelled_message}
+use Rattle.block_table.specs.Blocks.{Blocks}
+use Rattle.block_writing.specs.Planning.{message_by}
+use Rattle.stream_store.specs.Placing.{can_place, has_room}
 use Rattle.stream_store.specs.Holding.{Holds}
 use Rattle.stream_store.specs.Damage.{IsDamaged, IsOfAnotherVersion}
 
@@ -12,3 +20,20 @@ pub record LawHolding : Type 0 where
   pub one_file : (image : Files) (file other at place : ℕ) → IsDamaged image file at → IsDamaged image other place → file ≡ other
   pub one_offset : (image : Files) (file other at place : ℕ) → IsDamaged image file at → IsDamaged image other place → at ≡ place
   pub one_fault : (image : Files) (file at n : ℕ) → IsDamaged image file at → ¬ IsOfAnotherVersion image n
+
+-- the messages behind it go where they went
+abbrev pub keeps_placing : Effect → Bool
+keeps_placing (MakeStream _ _ _) = false
+keeps_placing DropStream = false
+keeps_placing (PutHere _ _ _ _ _ _) = false
+keeps_placing _ = true
+
+-- a change behind others has its place if it stores no message, or if there is room for its message; and one that stores none leaves the room that was there
+pub record LawPlacing : Type 0 where
+  pub none : (b : Blocks) → can_place b [] ≡ true
+  pub change : (b : Blocks) (es : List Effect) (e : Effect) → is_put e ≡ false → can_place b es ≡ true → can_place b (es ++ e ∷ []) ≡ true
+  pub message :
+      (b : Blocks) (es : List Effect) (seq at : ℕ) (id subject headers payload : Bytes)
+      → has_room b es (length (spelled_message (message_by seq at subject headers payload))) ≡ true
+      → can_place b (es ++ PutHere seq at id subject headers payload ∷ []) ≡ true
+  pub keeps : (b : Blocks) (es : List Effect) (e : Effect) (len : ℕ) → keeps_placing e ≡ true → has_room b (es ++ e ∷ []) len ≡ has_room b es len

@@ -3,6 +3,10 @@ pub mod Logs
 pub mod Holding
 pub mod Damage
 pub mod Faults
+pub mod Steps
+pub mod Placing
+pub mod Staging
+pub mod Reading
 pub mod Opening
 pub mod Finding
 pub mod Beginning

@@ -1,12 +1,15 @@
 //! Why a store was not opened, or a commit not made.
 
 ghost use Rattle.std.specs.Prelude.{◌≡◌};
-ghost use Rattle.stream_store.specs.Faults.{open_fault, records_fault, commit_fault};
+ghost use Rattle.stream_store.specs.Faults.{open_fault, records_fault};
 
+use block_reading::MessagesFault;
+use block_writing::PlanFault;
 use gate_log::LogFault;
 use js_base::NoMemory;
 use log_records::ReadFault;
 use thiserror::Error;
+use vol_disk::Failed;
 
 /// Why a store was not opened. Files are those of the volume, and offsets those in the file.
 #[derive(Clone, Copy, Debug, PartialEq, Eq, Error)]
@@ -16,8 +19,9 @@ pub enum OpenFault {
     Fault,
     /// The first fault of the volume stands there: a log does not begin as one does, its generation is 2^62 or more, or a batch passes the file's
     /// end, which is told at its gate; or, in the current log, the first batch is no record of a vacant place, or a record of a later batch is none or
-    /// does not fit. If what the records of a batch make is unsound or more than a volume may hold, the last of them is told; so it is at the end, if no
-    /// stream can be restored to what all of them make.
+    /// does not fit. If what the records of a batch make is unsound or more than a volume may hold, the last of them is told. Then come the blocks that
+    /// the log tells of: the first message of the first of them that is wrong, or else the first stored message that is not at its spot. If no stream can
+    /// be restored to all of that, the last record of the log is told.
     #[error("file {file} is damaged at {at}")]
     Damaged { file: u32, at: u64 },
     /// The format of a log has another version than 1.
@@ -52,6 +56,33 @@ impl OpenFault {
     }
 }
 
+impl From<Failed> for OpenFault {
+    ghost use Rattle.stream_store.specs.declared.fault.OpenFault.TheVariants.{Fault as VolumeFault};
+
+    ghost from_gives = { λ failed fault. fault ≡ VolumeFault };
+
+    fn from(_failed: Failed) -> OpenFault {
+        OpenFault::Fault
+    }
+}
+
+impl From<MessagesFault> for OpenFault {
+    ghost use Rattle.stream_store.specs.Faults.{blocks_fault};
+
+    ghost from_gives = { λ fault told. told ≡ blocks_fault fault };
+
+    fn from(fault: MessagesFault) -> OpenFault {
+        match fault {
+            MessagesFault::Fault => OpenFault::Fault,
+            MessagesFault::Damaged { file, at } => OpenFault::Damaged {
+                file,
+                at: at as u64,
+            },
+            MessagesFault::NoMemory => OpenFault::NoMemory,
+        }
+    }
+}
+
 impl From<NoMemory> for OpenFault {
     ghost use Rattle.stream_store.specs.declared.fault.OpenFault.TheVariants.{NoMemory as OutOfMemory};
 
@@ -75,16 +106,24 @@ pub enum CommitFault {
     NoMemory,
 }
 
-impl CommitFault {
-    /// Why a batch was not appended. The faults of opening a log do not come.
-    pub(crate) fn of_log(fault: LogFault) -> CommitFault
-        ensures value { result ≡ commit_fault fault }
-    {
+impl From<Failed> for CommitFault {
+    ghost use Rattle.stream_store.specs.declared.fault.CommitFault.TheVariants.{Fault as VolumeFault};
+
+    ghost from_gives = { λ failed fault. fault ≡ VolumeFault };
+
+    fn from(_failed: Failed) -> CommitFault {
+        CommitFault::Fault
+    }
+}
+
+impl From<PlanFault> for CommitFault {
+    ghost use Rattle.stream_store.specs.Faults.{plan_fault};
+
+    ghost from_gives = { λ fault told. told ≡ plan_fault fault };
+
+    fn from(fault: PlanFault) -> CommitFault {
         match fault {
-            LogFault::Fault => CommitFault::Fault,
-            LogFault::Full => CommitFault::Full,
-            LogFault::NoMemory | LogFault::Damaged(_) | LogFault::UnknownVersion(_) =>
-                CommitFault::NoMemory,
+            PlanFault::NoRoom | PlanFault::NoMemory => CommitFault::NoMemory,
         }
     }
 }

@@ -1,6 +1,6 @@
 //! Laws of the definitions.
 
-ghost use Rattle.stream_store.specs.Laws.{LawHolding};
+ghost use Rattle.stream_store.specs.Laws.{LawHolding, LawPlacing};
 ghost use Rattle.stream_store.specs.Waiting.{LawWaiting};
 
 /// An image of a volume holds one thing, or has one first fault, and not both.
@@ -11,4 +11,9 @@ pub fn law_holding()
 /// If records wait that lead from what a volume holds to a state, those of the next step may wait behind them, and lead to the state after it.
 pub fn law_waiting()
     ensures { LawWaiting }
+{}
+
+/// A change behind others that wait for a commit has its place if it stores no message, or if there is room for its message.
+pub fn law_placing()
+    ensures { LawPlacing }
 {}

@@ -1,9 +1,15 @@
-//! What a volume holds of a place: it is read from the volume's logs, and changed by commits, each of which is on the volume whole or not at all.
+//! What a volume holds of a place: it is read from the volume's logs and the message blocks that these tell of, and changed by commits, each of which is on the
+//! volume whole or not at all.
 #![tactic(auto)]
 
 mod fault;
+mod late;
 pub mod laws;
 mod logs;
+mod reading;
+mod room;
+mod staging;
+mod steps;
 mod store;
 
 pub use fault::{CommitFault, OpenFault};

@@ -2,8 +2,7 @@
 
 ghost use Rattle.std.specs.Prelude.{◌≡◌, ◌<◌, ◌≤◌, List, [], ◌∷◌, Some, All, IfOk, IfErr, IsErrOf};
 ghost use Rattle.js_base.specs.Bytes.{Bytes};
-ghost use Rattle.durable_checks.specs.Storable.{IsFormed, IsOpenable, IsStorable};
-ghost use Rattle.log_records.specs.Reading.{GivesIn};
+ghost use Rattle.block_table.specs.Blocks.{no_blocks};
 ghost use Rattle.vol_disk.specs.Moments.{Quiet};
 ghost use Rattle.js_base.specs.Causes.{HasCause};
 ghost use Rattle.gate_log.specs.Settled.{IsSettled};
@@ -12,14 +11,12 @@ ghost use Rattle.stream_store.specs.Base.{IsBaseOf};
 ghost use Rattle.stream_store.specs.Opening.{RestsBut};
 ghost use Rattle.op_records.specs.Spelling.{spelled_vacant};
 ghost use Rattle.stream_store.specs.Logs.{is_first};
-ghost use Rattle.stream_store.specs.Finding.{IsCurrent, IsFaultIn, IsLogFault, IsRecordsFault};
+ghost use Rattle.stream_store.specs.Finding.{IsCurrent, IsFaultIn, IsLogFault};
 ghost use Rattle.stream_store.specs.Beginning.{IsUnbegun, HoldsNothing, IsOutsideFault};
 
 use crate::fault::OpenFault;
-use effects::Durable;
 use gate_log::GateLog;
 use js_base::NoMemory;
-use log_records::read_log;
 use op_records::write_vacant;
 use std::alloc::Global;
 use vol_disk::Vol;
@@ -78,28 +75,6 @@ pub(crate) fn open_current<V: Vol>(vol: &mut V) -> Result<Current, OpenFault>
     }
 }
 
-/// What the current log gives.
-pub(crate) fn read_current<V: Vol>(
-    alloc: Global,
-    vol: &mut V,
-    current: &Current,
-) -> Result<Durable, OpenFault>
-    requires settled { V.told → (batches : List Bytes) × IsSettled current.now.log batches (V.disk vol.old) }
-    ensures gives { V.told → IfOk result (GivesIn current.now.log (V.disk vol.old)) }
-    ensures formed { IfOk result IsFormed }
-    ensures storable { IfOk result IsStorable }
-    ensures openable { IfOk result IsOpenable }
-    ensures fault { V.told → IfErr result (IsRecordsFault current.now.file current.now.log (V.disk vol.old)) }
-    ensures quiet { V.told → Quiet (V.disk vol.old) (V.disk vol.new) }
-    ensures cause { HasCause (V.faults vol.old) (V.faults vol.new) (IsErrOf result OpenFault.Fault) }
-    ensures later { (V.disk vol.old).moment ≤ (V.disk vol.new).moment }
-{
-    match read_log(alloc, vol, &current.log) {
-        Ok(durable) => Ok(durable),
-        Err(fault) => Err(OpenFault::of_records(current.file, fault)),
-    }
-}
-
 /// The records of a volume's first batch: the place is vacant, and never had a stream.
 fn first_records(alloc: Global) -> Result<Vec<u8>, NoMemory>
     ensures bytes { IfOk result (λ bytes. bytes.items ≡ spelled_vacant 0) }
@@ -120,7 +95,7 @@ pub(crate) fn begin_log<V: Vol>(alloc: Global, vol: &mut V) -> Result<GateLog, O
     ensures head { IfOk result (λ log. log.head ≡ Some 1) }
     ensures file { IfOk result (λ log. log.file ≡ 0) }
     ensures settled { V.told → IfOk result (λ log. IsSettled log (spelled_vacant 0 ∷ []) (V.disk vol.new)) }
-    ensures base { V.told → IfOk result (λ log. IsBaseOf log (vacant 0) (V.disk vol.new)) }
+    ensures base { V.told → IfOk result (λ log. IsBaseOf log no_blocks (vacant 0) (V.disk vol.new)) }
     ensures elsewhere { V.told → RestsBut 0 (V.disk vol.old) (V.disk vol.new) }
     ensures any_moment { V.told → HoldsNothing (V.disk vol.old) (V.disk vol.new) }
     ensures only { IfErr result IsOutsideFault }

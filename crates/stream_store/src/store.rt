@@ -1,65 +1,63 @@
 //! The store of a place.
 
-ghost use Rattle.std.specs.Prelude.{◌≡◌, ◌↔◌, ◌+◌, ◌<◌, ◌≤◌, ◌^◌, length, Some, IfOk, IfErr, OnOk, OnErr, IsErrOf, IsTrue};
-ghost use Rattle.std.specs.List.{list_all, flat_map};
+ghost use Rattle.std.specs.Prelude.{◌≡◌, ◌↔◌, ◌+◌, ◌<◌, ◌≤◌, ◌^◌, Some, IfOk, IfErr, OnOk, IsErr, IsErrOf, IsTrue};
+ghost use Rattle.std.specs.List.{list_all};
 ghost use Rattle.js_base.specs.Causes.{HasCause};
 ghost use Rattle.effects.specs.declared.durable.Durable.{Durable};
 ghost use Rattle.op_records.specs.Allowed.{is_record};
-ghost use Rattle.op_records.specs.Spelling.{spelled};
 ghost use Rattle.stream_store.specs.Base.{IsBase};
-ghost use Rattle.stream_store.specs.Committing.{IsNextBatch, IsCommitted, CommitsOrNot, length_with};
+ghost use Rattle.stream_store.specs.Committing.{IsNextBatch, IsCommitted, CommitsOrNot, batch_length, length_with};
 ghost use Rattle.stream_store.specs.Holding.{Holds};
-ghost use Rattle.gate_log.specs.Appending.{IsAppended};
 ghost use Rattle.gate_log.specs.LogState.{with_batch};
 ghost use Rattle.durable_checks.specs.Storable.{IsFormed, IsOpenable, IsStorable};
 ghost use Rattle.stream_store.specs.Opening.{IsFirstLog, IsNoneOpen, IsOpenFault, KeepsHeld, LeavesBegun, RestsBut};
+ghost use Rattle.stream_store.specs.Placing.{blocks_then, can_place, has_room};
+ghost use Rattle.stream_store.specs.Staging.{DropsUnused};
 
 use crate::fault::{CommitFault, OpenFault};
-use crate::logs::{FIRST_GENERATION, begin_log, law_bytes, open_current, read_current};
+use crate::late::LateTable;
+use crate::logs::{FIRST_GENERATION, begin_log, open_current};
+use crate::reading::read_current;
+use crate::room::room_behind;
+use crate::staging::stage;
+use block_table::{Block, BlockTable};
+use block_writing::write_runs;
 use effects::{Durable, Effect};
 use gate_log::GateLog;
 use js_base::NoMemory;
-use op_records::write_record;
 use std::alloc::Global;
 use std::marker::Model;
-use vol_disk::Vol;
+use vol_disk::{Failed, Vol};
 
-/// The store of a place on a volume, which is handed to each call. It keeps where the batches of the volume's current log end, and no state: what the
-/// volume holds, its base, is told by [`Store::open`] and changes with each commit.
-#[derive(Drop, Debug)]
+/// The store of a place on a volume, which is handed to each call. It keeps where the batches of the volume's current log end, and where the stored messages lie
+/// in its blocks; and no state: what the volume holds, its base, is told by [`Store::open`] and changes with each commit.
+#[derive(Drop)]
 pub struct Store {
     log: GateLog,
     /// The generation in the log's head.
     generation: u64,
+    late: LateTable,
+    /// Blocks that a commit may have left without messages, and that are not dropped yet.
+    unused: Vec<Block>,
 }
 
 impl Model for Store {
     ghost use Rattle.std.specs.Prelude.{◌≡◌, Some};
+    ghost use Rattle.stream_store.specs.Staging.{AreBehindLogs};
+    ghost use Rattle.stream_store.specs.Steps.{blocks_in};
     ghost use Rattle.stream_store.specs.StoreState.{StoreState};
 
     ghost Value = { StoreState };
 
-    ghost view = { λ s. record { log = s.log } };
+    ghost view = { λ s. record { log = s.log; blocks = blocks_in s.late } };
 
-    ghost invariant = { λ s. s.log.head ≡ Some s.generation };
-}
-
-/// The bytes of the records, one behind the other.
-fn spelling(alloc: Global, effects: &[Effect]) -> Result<Vec<u8>, NoMemory>
-    requires records { IsTrue (list_all is_record effects.now) }
-    ensures bytes { IfOk result (λ bytes. bytes.items ≡ flat_map spelled effects.now) }
-{
-    let mut bytes = Vec::new(alloc);
-    for effect in effects {
-        write_record(alloc, effect, &mut bytes)?;
-    }
-    Ok(bytes)
+    ghost invariant = { λ s. (s.log.head ≡ Some s.generation) × AreBehindLogs s.unused.items };
 }
 
 impl Store {
-    /// Opens the store of a volume, and tells what the volume holds. Both logs are synced and read. If no batch is open in either, the place is vacant and
-    /// never had a stream, and a log of generation 1 that says so is made in file 0; else nothing is written. `NoMemory` may come while that log is
-    /// made, of which a crash then leaves all or nothing.
+    /// Opens the store of a volume, and tells what the volume holds. Both logs are synced and read, and then each block that the current one tells of. If no
+    /// batch is open in either log, the place is vacant and never had a stream, and a log of generation 1 that says so is made in file 0; else nothing is
+    /// written. `NoMemory` may come while that log is made, of which a crash then leaves all or nothing.
     ///
     /// If reads and each image of a crash hold the same, each image holds it at every moment of the call, whatever it answers.
     pub fn open<V: Vol>(alloc: Global, vol: &mut V) -> Result<(Store, Durable), OpenFault>
@@ -78,17 +76,30 @@ impl Store {
         ensures later { (V.disk vol.old).moment ≤ (V.disk vol.new).moment }
     {
         let current = open_current(vol)?;
-        let durable = read_current(alloc, vol, &current)?;
+        let found = read_current(alloc, vol, &current)?;
         match current.log.generation() {
             Some(generation) => {
-                let log = current.log;
-                Ok((Store { log, generation }, durable))
+                let store = Store::with_table(alloc, current.log, generation, found.table);
+                Ok((store, found.durable))
             }
             None => {
                 let log = begin_log(alloc, vol)?;
-                let generation = FIRST_GENERATION;
-                Ok((Store { log, generation }, durable))
+                let begun = Store::with_table(alloc, log, FIRST_GENERATION, found.table);
+                Ok((begun, found.durable))
             }
+        }
+    }
+
+    /// The store of a log, whose messages lie as the table says.
+    fn with_table(alloc: Global, log: GateLog, generation: u64, table: BlockTable) -> Store
+        requires head { log.head ≡ Some generation }
+        ensures value { result ≡ record { log = log; blocks = table } }
+    {
+        Store {
+            log,
+            generation,
+            late: LateTable::new(alloc, table),
+            unused: Vec::new(alloc),
         }
     }
 
@@ -106,10 +117,22 @@ impl Store {
         self.log.fits(count)
     }
 
-    /// Puts records on the volume as the next batch. They lead from the base to something that a volume may hold. At `Ok` that is the base, and each crash
-    /// leaves it; at any moment of the call a crash leaves the base from before or it, and never a part. All memory is taken before the first write.
+    /// Whether a message of so many bytes in a block has a place, once the messages of these changes have theirs. An `Err` tells nothing.
+    pub fn room(&mut self, tail: &[Effect], len: u32) -> Result<bool, NoMemory>
+        requires records { IsTrue (list_all is_record tail.now) }
+        ensures value { IfOk result (λ room. room ≡ has_room self.old.blocks tail.now len) }
+        ensures same { self.new ≡ self.old }
+    {
+        self.late.catch_up()?;
+        Ok(room_behind(&self.late.table, tail, len))
+    }
+
+    /// Puts records on the volume as the next batch, and the messages that they store into blocks before. They lead from the base to something that a volume
+    /// may hold, and each message has a place. At `Ok` that is the base, and each crash leaves it; at any moment of the call a crash leaves the base from before
+    /// or it, and never a part. All memory is taken before the first write. Behind the commit, blocks that hold no message any more are cut to nothing.
     ///
-    /// `Full` comes exactly if the log would be longer than 2^31 bytes. `Full` and `NoMemory` leave the volume as it was.
+    /// `Full` comes exactly if the log would be longer than 2^31 bytes. `Full` and `NoMemory` leave the volume and the store as they were. After `Fault` nothing
+    /// is known of the store but its generation: open it again.
     pub fn commit<V: Vol>(
         &mut self,
         alloc: Global,
@@ -117,27 +140,46 @@ impl Store {
         effects: &[Effect],
     ) -> Result<(), CommitFault>
         requires records { IsTrue (list_all is_record effects.now) }
+        requires room { IsTrue (can_place self.old.blocks effects.now) }
         requires fits { V.told → (base : Durable) × (next : Durable) × IsBase self.old base (V.disk vol.old) × IsNextBatch base effects.now next }
         ensures committed { V.told → OnOk result (IsCommitted self.old self.new effects.now (V.disk vol.old) (V.disk vol.new)) }
-        ensures appended { V.told → OnOk result (IsAppended self.old.log self.new.log (flat_map spelled effects.now) (V.disk vol.old) (V.disk vol.new)) }
-        ensures log { OnOk result (self.new.log ≡ with_batch self.old.log (length (flat_map spelled effects.now))) }
-        ensures elsewhere { V.told → RestsBut self.old.log.file (V.disk vol.old) (V.disk vol.new) }
+        ensures log { OnOk result (self.new.log ≡ with_batch self.old.log (batch_length effects.now)) }
+        ensures blocks { OnOk result (self.new.blocks ≡ blocks_then self.old.blocks effects.now) }
         ensures any_moment { V.told → CommitsOrNot self.old effects.now (V.disk vol.old) (V.disk vol.new) }
-        ensures err { OnErr result (self.new ≡ self.old) }
+        ensures head { self.new.log.head ≡ self.old.log.head }
         ensures full { IsErrOf result CommitFault.Full → 2 ^ 31 < length_with self.old effects.now }
         ensures fits_in { OnOk result (length_with self.old effects.now ≤ 2 ^ 31) }
         ensures fault_fits { IsErrOf result CommitFault.Fault → length_with self.old effects.now ≤ 2 ^ 31 }
-        ensures full_leaves { IsErrOf result CommitFault.Full → vol.new ≡ vol.old }
-        ensures no_memory { IsErrOf result CommitFault.NoMemory → vol.new ≡ vol.old }
+        ensures full_leaves { IsErrOf result CommitFault.Full → (vol.new ≡ vol.old) × (self.new ≡ self.old) }
+        ensures no_memory { IsErrOf result CommitFault.NoMemory → (vol.new ≡ vol.old) × (self.new ≡ self.old) }
         ensures cause { HasCause (V.faults vol.old) (V.faults vol.new) (IsErrOf result CommitFault.Fault) }
         ensures later { (V.disk vol.old).moment ≤ (V.disk vol.new).moment }
     {
-        let records = spelling(alloc, effects)?;
-        let bytes = records.as_slice();
-        law_bytes(bytes);
-        match self.log.append(alloc, vol, bytes) {
-            Ok(()) => Ok(()),
-            Err(fault) => Err(CommitFault::of_log(fault)),
+        self.late.catch_up()?;
+        let unused = self.unused.as_slice();
+        let staged = stage(alloc, &self.log, &self.late.table, unused, effects)?;
+        write_runs(vol, staged.runs.as_slice())?;
+        let Ok(()) = self.log.append_batch(vol, &staged.batch) else {
+            return Err(CommitFault::Fault);
+        };
+        self.late.wait(staged.steps);
+        self.unused = staged.blocks;
+        self.drop_unused(vol)?;
+        Ok(())
+    }
+
+    /// Drops the blocks that were left without messages. If there is no memory to tell them, they are dropped behind the next commit.
+    fn drop_unused<V: Vol>(&mut self, vol: &mut V) -> Result<(), Failed>
+        ensures same { self.new ≡ self.old }
+        ensures changes { V.told → DropsUnused self.old.blocks (V.disk vol.old) (V.disk vol.new) }
+        ensures cause { HasCause (V.faults vol.old) (V.faults vol.new) (IsErr result) }
+        ensures later { (V.disk vol.old).moment ≤ (V.disk vol.new).moment }
+    {
+        if self.late.catch_up().is_err() {
+            return Ok(());
         }
+        block_writing::drop_unused(vol, &self.late.table, self.unused.as_slice())?;
+        self.unused.clear();
+        Ok(())
     }
 }

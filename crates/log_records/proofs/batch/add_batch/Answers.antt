@@ -2,7 +2,7 @@ use Rattle.std.proofs.Common.{Option, ℕ, sym, subst, ◌∙◌}
 use Rattle.std.proofs.lemmas.Bool.{true≢false}
 use Rattle.std.proofs.lemmas.Result.{err_from_is_err_and}
 use Rattle.log_records.specs.Reading.{AreRead}
-use Rattle.log_records.specs.Holding.{held_in}
+use Rattle.log_records.specs.Holding.{made_in}
 use Rattle.log_records.proofs.Adding.{added, stays_storable, unstorable}
 use Rattle.log_records.proofs.batch.add_batch.Goals as goal
 
@@ -13,15 +13,15 @@ returns-in_err-made-clause-fault c =
 
 pub returns-then-storable-clause-added : goal.returns-then-storable-clause-added
 returns-then-storable-clause-added c =
-    added (held_in c.args.held) c.args.records.now (held_in c.in_ok-made.made) c.in_ok-made.last c.in_ok-made.ensures.read (c.in_ok-storable.ensures.value.0 c.if-storable.true)
+    added (made_in c.args.old) c.args.records.now (made_in c.in_ok-made.made) c.in_ok-made.last c.in_ok-made.ensures.read (c.in_ok-storable.ensures.value.0 c.if-storable.true)
 
 pub returns-in-Some-clause-fault : goal.returns-in-Some-clause-fault
 returns-in-Some-clause-fault c =
-    unstorable (held_in c.args.held) c.args.records.now (held_in c.in_ok-made.made) c.in-Some.at
-    (subst (λ (last : Option ℕ). AreRead (held_in c.args.held) c.args.records.now (held_in c.in_ok-made.made) last) c.in-Some.is c.in_ok-made.ensures.read)
+    unstorable (made_in c.args.old) c.args.records.now (made_in c.in_ok-made.made) c.in-Some.at
+    (subst (λ (last : Option ℕ). AreRead (made_in c.args.old) c.args.records.now (made_in c.in_ok-made.made) last) c.in-Some.is c.in_ok-made.ensures.read)
     (λ storable. true≢false (sym (c.in_ok-storable.ensures.value.1 storable) ∙ c.if-storable.false))
 
 pub returns-in-None-clause-added : goal.returns-in-None-clause-added
 returns-in-None-clause-added c =
-    let read = subst (λ (last : Option ℕ). AreRead (held_in c.args.held) c.args.records.now (held_in c.in_ok-made.made) last) c.in-None.is c.in_ok-made.ensures.read in
-    added (held_in c.args.held) c.args.records.now (held_in c.in_ok-made.made) _ read (stays_storable (held_in c.args.held) c.args.records.now (held_in c.in_ok-made.made) read c.requires.storable)
+    let read = subst (λ (last : Option ℕ). AreRead (made_in c.args.old) c.args.records.now (made_in c.in_ok-made.made) last) c.in-None.is c.in_ok-made.ensures.read in
+    added (made_in c.args.old) c.args.records.now (made_in c.in_ok-made.made) _ read (stays_storable (made_in c.args.old) c.args.records.now (made_in c.in_ok-made.made) read c.requires.storable)

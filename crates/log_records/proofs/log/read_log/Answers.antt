@@ -1,11 +1,15 @@
-use Rattle.std.proofs.Common.{◌<◌, ◌^◌, ℕ, [], Option, length, refl, sym, subst, arith}
+use Rattle.std.proofs.Common.{◌<◌, ◌^◌, ℕ, [], Option, length, refl, sym, subst, ◌∙◌, arith}
 use Rattle.std.proofs.lemmas.Result.{err_from_is_err_and, IfOk-weaker, IfErr-weaker}
 use Rattle.vol_disk.proofs.Moments.{quiet_then}
 use Rattle.js_base.specs.Bytes.{Bytes}
 use Rattle.gate_log.specs.Reading.{IsReadAt}
 use Rattle.log_records.specs.Batches.{Begins}
+use Rattle.durable_checks.specs.Storable.{IsStorable}
+use Rattle.log_records.specs.Logged.{Logged, IsLogged}
+use Rattle.log_records.proofs.Making.{vacant_storable}
+use Rattle.log_records.specs.Holding.{made_in}
 use Rattle.log_records.specs.Reading.{IsFurther, IsFirstFault, GivesIn, IsReadFault}
-use Rattle.log_records.proofs.Reaching.{none_gives, vacant_opens, first_begun, first_read_fault, first_is_own, gives_before, outside_fault, cause_told, fault_before}
+use Rattle.log_records.proofs.Reaching.{none_gives, first_begun, first_read_fault, first_is_own, gives_before, outside_fault, cause_told, fault_before}
 use Rattle.log_records.proofs.log.read_log.Goals as goal
 
 pub next_batch-requires : goal.next_batch-requires
@@ -16,16 +20,20 @@ returns-in_err-first-clause-fault g c = λ told.
     let p = err_from_is_err_and c.from_residual.result c.from_residual.ensures.1 in
     rw (p.1, p.2) (outside_fault c.args.log.now (g.V.Vol.disk c.args.vol.now) c.in_err-first.field-0.0 (c.in_err-first.ensures.only told))
 
+pub into_read-requires : goal.into_read-requires
+into_read-requires g c = record { sound = c.in_ok-vacant.ensures.sound }
+
 pub returns-in_default-clause-gives : goal.returns-in_default-clause-gives
 returns-in_default-clause-gives g c = λ told.
     let was = g.V.Vol.disk c.args.vol.now in
-    none_gives c.args.log.now was (subst (λ (o : Option (Bytes × ℕ)). IsReadAt c.args.log.now 16 was o) c.in_default.is (c.in_ok-first.ensures.found told))
+    none_gives c.args.log.now was c.in_ok-read.read (subst (λ (o : Option (Bytes × ℕ)). IsReadAt c.args.log.now 16 was o) c.in_default.is (c.in_ok-first.ensures.found told)) (c.in_ok-read.ensures.value ∙ c.in_ok-vacant.ensures.value) c.in_ok-read.ensures.last
+
+pub returns-in_default-clause-logged : goal.returns-in_default-clause-logged
+returns-in_default-clause-logged g c = subst IsLogged (sym c.in_ok-read.ensures.value) c.in_ok-vacant.ensures.sound.logged
 
 pub returns-in_default-clause-storable : goal.returns-in_default-clause-storable
-returns-in_default-clause-storable g c = record { stored = tt; bounded = omega arith }
-
-pub returns-in_default-clause-openable : goal.returns-in_default-clause-openable
-returns-in_default-clause-openable g c = vacant_opens 0
+returns-in_default-clause-storable g c =
+    subst (λ (x : Logged). IsStorable x.durable) (sym (c.in_ok-read.ensures.value ∙ c.in_ok-vacant.ensures.value)) (vacant_storable 0 (omega arith))
 
 pub add_first-requires : goal.add_first-requires
 add_first-requires g c =
@@ -50,15 +58,15 @@ returns-in_err-begun-clause-cause g c = record {
 
 pub read_later-requires : goal.read_later-requires
 read_later-requires g c = record {
-  formed = c.in_ok-begun.ensures.formed;
+  sound = c.in_ok-begun.ensures.sound;
   storable = c.in_ok-begun.ensures.storable;
   begun = λ told.
       let was = g.V.Vol.disk c.args.vol.now in
       let mid = g.V.Vol.disk c.next_batch.new.vol in
       let settled = c.requires.settled told in
       let read = subst (λ (o : Option (Bytes × ℕ)). IsReadAt c.args.log.now 16 was o) c.in-Some.is (c.in_ok-first.ensures.found told) in
-      let begins = subst (λ (l : Bytes). Begins l c.in_ok-begun.begun) c.as_slice.ensures c.in_ok-begun.ensures.begun in
-      first_begun c.args.log.now c.in-Some.first c.in-Some.gate c.in_ok-begun.begun was mid settled.0 settled.1 read (c.next_batch.ensures.quiet told) begins;
+      let begins = subst (λ (l : Bytes). Begins l (made_in c.in_ok-begun.begun)) c.as_slice.ensures c.in_ok-begun.ensures.begun in
+      first_begun c.args.log.now c.in-Some.first c.in-Some.gate (made_in c.in_ok-begun.begun) was mid settled.0 settled.1 read (c.next_batch.ensures.quiet told) begins;
 }
 
 pub returns-clause-gives : goal.returns-clause-gives

@@ -7,10 +7,10 @@ pub loop-reader-preserved : goal.loop-reader-preserved
 loop-reader-preserved c =
     let before = c.loop-reader.invariant in
     let more = c.record.ensures.behind in
-    let read = rw before.bytes at c.in_ok-effect.ensures.reading in
+    let read = rw before.bytes at c.in_ok-found.ensures.reading in
     let same : c.record.new.reader.bytes.now ≡ c.args.bytes.now = rw more.bytes before.bytes in
     record {
       bytes = same;
-      stand = rw c.in_ok-push.ensures.ok (stand_push c.args.bytes.now 0 c.loop-reader.effects c.loop-reader.reader.at c.in_ok-effect.effect c.record.new.reader.at before.stand read);
+      stand = rw c.in_ok-push.ensures.ok (stand_push c.args.bytes.now 0 c.loop-reader.records c.loop-reader.reader.at c.in_ok-found.found c.record.new.reader.at before.stand read);
       within = subst (λ (bytes : Bytes). c.record.new.reader.at ≤ length bytes) same more.within;
     }

@@ -6,7 +6,7 @@ use Rattle.op_records.proofs.reading.read_records.Given as goal
 abbrev pub invariant-loop-reader : goal.invariant-loop-reader
 invariant-loop-reader l = record {
   bytes : l.reader.bytes.now ≡ l.bytes;
-  stand : Stand l.bytes 0 l.effects l.reader.at;
+  stand : Stand l.bytes 0 l.records l.reader.at;
   within : l.reader.at ≤ length l.bytes;
 }
 

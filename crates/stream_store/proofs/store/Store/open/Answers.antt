@@ -3,8 +3,11 @@ use Rattle.std.proofs.lemmas.Result.{err_from_is_err_and}
 use Rattle.vol_disk.proofs.Moments.{quiet_then}
 use Rattle.js_model.proofs.Named.{none_some}
 use Rattle.effects.specs.declared.durable.Durable.{Durable}
-use Rattle.stream_store.specs.Base.{IsBaseOf}
-use Rattle.stream_store.proofs.Finding.{found_holds, found_base, found_unbegun, found_vacant, found_none_open, not_begun, log_fault_of, records_fault_of, outside_of}
+use Rattle.block_table.specs.Blocks.{Blocks, no_blocks}
+use Rattle.stream_store.specs.Base.{IsBase, IsBaseOf}
+use Rattle.stream_store.specs.Opening.{IsFirstLog}
+use Rattle.stream_store.specs.StoreState.{StoreState}
+use Rattle.stream_store.proofs.Finding.{found_holds, found_base, found_unbegun, found_vacant, found_no_blocks, found_none_open, not_begun, log_fault_of, records_fault_of, outside_of}
 use Rattle.stream_store.proofs.Beginning.{head_is, still_rests, rests_then, held_quiet, held_begun}
 use Rattle.stream_store.proofs.store.Store.open.Goals as goal
 
@@ -25,21 +28,21 @@ returns-in_err-current-clause-fault g c = λ told.
 pub read_current-requires : goal.read_current-requires
 read_current-requires g c = record { settled = λ told. let found = c.in_ok-current.ensures.current told in (_, found.settled) }
 
-pub returns-in_err-durable-clause-fault : goal.returns-in_err-durable-clause-fault
-returns-in_err-durable-clause-fault g c = λ told.
-    let p = err_from_is_err_and c.from_residual-in_err-durable.result c.from_residual-in_err-durable.ensures.1 in
-    rw (p.1, p.2) (records_fault_of c.in_ok-current.current (g.V.Vol.disk c.args.vol.now) (g.V.Vol.disk c.open_current.new.vol) c.in_err-durable.field-0.0 (c.in_ok-current.ensures.current told) (c.in_err-durable.ensures.fault told))
+pub returns-in_err-found-clause-fault : goal.returns-in_err-found-clause-fault
+returns-in_err-found-clause-fault g c = λ told.
+    let p = err_from_is_err_and c.from_residual-in_err-found.result c.from_residual-in_err-found.ensures.1 in
+    rw (p.1, p.2) (records_fault_of c.in_ok-current.current (g.V.Vol.disk c.args.vol.now) (g.V.Vol.disk c.open_current.new.vol) (c.open_current.ensures.quiet told) c.in_err-found.field-0.0 (c.in_ok-current.ensures.current told) (c.in_err-found.ensures.fault told))
 
-pub returns-in_err-durable-clause-quiet : goal.returns-in_err-durable-clause-quiet
-returns-in_err-durable-clause-quiet g c = λ told.
+pub returns-in_err-found-clause-quiet : goal.returns-in_err-found-clause-quiet
+returns-in_err-found-clause-quiet g c = λ told.
     inr (quiet_then (g.V.Vol.disk c.args.vol.now) (g.V.Vol.disk c.open_current.new.vol) (g.V.Vol.disk c.read_current.new.vol) (c.open_current.ensures.quiet told) (c.read_current.ensures.quiet told))
 
-pub returns-in_err-durable-clause-elsewhere : goal.returns-in_err-durable-clause-elsewhere
-returns-in_err-durable-clause-elsewhere g c = λ told.
+pub returns-in_err-found-clause-elsewhere : goal.returns-in_err-found-clause-elsewhere
+returns-in_err-found-clause-elsewhere g c = λ told.
     still_rests (g.V.Vol.disk c.args.vol.now) (g.V.Vol.disk c.read_current.new.vol) (quiet_then (g.V.Vol.disk c.args.vol.now) (g.V.Vol.disk c.open_current.new.vol) (g.V.Vol.disk c.read_current.new.vol) (c.open_current.ensures.quiet told) (c.read_current.ensures.quiet told))
 
-pub returns-in_err-durable-clause-any_moment : goal.returns-in_err-durable-clause-any_moment
-returns-in_err-durable-clause-any_moment g c = λ told.
+pub returns-in_err-found-clause-any_moment : goal.returns-in_err-found-clause-any_moment
+returns-in_err-found-clause-any_moment g c = λ told.
     held_quiet (g.V.Vol.disk c.args.vol.now) (g.V.Vol.disk c.read_current.new.vol) (quiet_then (g.V.Vol.disk c.args.vol.now) (g.V.Vol.disk c.open_current.new.vol) (g.V.Vol.disk c.read_current.new.vol) (c.open_current.ensures.quiet told) (c.read_current.ensures.quiet told))
 
 pub returns-in-Some-clause-quiet : goal.returns-in-Some-clause-quiet
@@ -56,25 +59,28 @@ returns-in-Some-clause-any_moment g c = λ told.
 
 pub returns-in-Some-clause-found : goal.returns-in-Some-clause-found
 returns-in-Some-clause-found g c = λ told.
-    found_holds c.in_ok-current.current (g.V.Vol.disk c.args.vol.now) (g.V.Vol.disk c.open_current.new.vol) (g.V.Vol.disk c.read_current.new.vol) (c.in_ok-current.ensures.current told) (c.open_current.ensures.quiet told) (c.read_current.ensures.quiet told) c.in_ok-durable.durable (c.in_ok-durable.ensures.gives told)
+    found_holds c.in_ok-current.current (g.V.Vol.disk c.args.vol.now) (g.V.Vol.disk c.open_current.new.vol) (g.V.Vol.disk c.read_current.new.vol) (c.in_ok-current.ensures.current told) (c.open_current.ensures.quiet told) (c.read_current.ensures.quiet told) c.in_ok-found.found (c.in_ok-found.ensures.found told)
 
 pub returns-in-Some-clause-base : goal.returns-in-Some-clause-base
 returns-in-Some-clause-base g c = λ told.
-    found_base c.in_ok-current.current (g.V.Vol.disk c.args.vol.now) (g.V.Vol.disk c.open_current.new.vol) (g.V.Vol.disk c.read_current.new.vol) (c.in_ok-current.ensures.current told) (c.open_current.ensures.quiet told) (c.read_current.ensures.quiet told) c.in_ok-durable.durable (c.in_ok-durable.ensures.gives told) (subst IsSome c.in-Some.ensures.value refl)
+    let f = c.in_ok-found.found in
+    subst (λ (s : StoreState). IsBase s f.durable (g.V.Vol.disk c.read_current.new.vol)) (sym c.with_table-store.ensures.value)
+    (found_base c.in_ok-current.current (g.V.Vol.disk c.args.vol.now) (g.V.Vol.disk c.open_current.new.vol) (g.V.Vol.disk c.read_current.new.vol) (c.in_ok-current.ensures.current told) (c.open_current.ensures.quiet told) (c.read_current.ensures.quiet told) f (c.in_ok-found.ensures.found told)
+    (subst IsSome c.in-Some.ensures.value refl) (c.in_ok-found.ensures.synced told) c.in_ok-found.ensures.table c.in_ok-found.ensures.storable)
 
 pub returns-in-Some-clause-first_log : goal.returns-in-Some-clause-first_log
 returns-in-Some-clause-first_log g c = λ told none.
-    absurd (none_some (sym (not_begun c.in_ok-current.current (g.V.Vol.disk c.args.vol.now) (g.V.Vol.disk c.open_current.new.vol) (g.V.Vol.disk c.read_current.new.vol) (c.in_ok-current.ensures.current told) (c.open_current.ensures.quiet told) (c.read_current.ensures.quiet told) c.in_ok-durable.durable (c.in_ok-durable.ensures.gives told) none) ∙ sym c.in-Some.ensures.value))
+    absurd (none_some (sym (not_begun c.in_ok-current.current (g.V.Vol.disk c.args.vol.now) (g.V.Vol.disk c.open_current.new.vol) (g.V.Vol.disk c.read_current.new.vol) (c.in_ok-current.ensures.current told) (c.open_current.ensures.quiet told) (c.read_current.ensures.quiet told) c.in_ok-found.found (c.in_ok-found.ensures.found told) none) ∙ sym c.in-Some.ensures.value))
 
-pub invariant_of-result : goal.invariant_of-result
-invariant_of-result g c = head_is c.in_ok-current.current.log c.in-Some.generation (sym c.in-Some.ensures.value)
+pub with_table-store-requires : goal.with_table-store-requires
+with_table-store-requires g c = record { head = head_is c.in_ok-current.current.log c.in-Some.generation (sym c.in-Some.ensures.value) }
 
 pub begin_log-requires : goal.begin_log-requires
-begin_log-requires g c = record { unbegun = λ told. found_unbegun c.in_ok-current.current (g.V.Vol.disk c.args.vol.now) (g.V.Vol.disk c.open_current.new.vol) (g.V.Vol.disk c.read_current.new.vol) (c.in_ok-current.ensures.current told) (c.open_current.ensures.quiet told) (c.read_current.ensures.quiet told) c.in_ok-durable.durable (c.in_ok-durable.ensures.gives told) (sym c.in-None.ensures.value) }
+begin_log-requires g c = record { unbegun = λ told. found_unbegun c.in_ok-current.current (g.V.Vol.disk c.args.vol.now) (g.V.Vol.disk c.open_current.new.vol) (g.V.Vol.disk c.read_current.new.vol) (c.in_ok-current.ensures.current told) (c.open_current.ensures.quiet told) (c.read_current.ensures.quiet told) c.in_ok-found.found (c.in_ok-found.ensures.found told) (sym c.in-None.ensures.value) }
 
 pub returns-in_err-log-in-None-clause-quiet : goal.returns-in_err-log-in-None-clause-quiet
 returns-in_err-log-in-None-clause-quiet g c = λ told.
-    inl (found_none_open c.in_ok-current.current (g.V.Vol.disk c.args.vol.now) (g.V.Vol.disk c.open_current.new.vol) (g.V.Vol.disk c.read_current.new.vol) (c.in_ok-current.ensures.current told) (c.open_current.ensures.quiet told) (c.read_current.ensures.quiet told) c.in_ok-durable.durable (c.in_ok-durable.ensures.gives told) (sym c.in-None.ensures.value))
+    inl (found_none_open c.in_ok-current.current (g.V.Vol.disk c.args.vol.now) (g.V.Vol.disk c.open_current.new.vol) (g.V.Vol.disk c.read_current.new.vol) (c.in_ok-current.ensures.current told) (c.open_current.ensures.quiet told) (c.read_current.ensures.quiet told) c.in_ok-found.found (c.in_ok-found.ensures.found told) (sym c.in-None.ensures.value))
 
 pub returns-in_err-log-in-None-clause-elsewhere : goal.returns-in_err-log-in-None-clause-elsewhere
 returns-in_err-log-in-None-clause-elsewhere g c = λ told.
@@ -82,11 +88,11 @@ returns-in_err-log-in-None-clause-elsewhere g c = λ told.
 
 pub returns-in_err-log-in-None-clause-any_moment : goal.returns-in_err-log-in-None-clause-any_moment
 returns-in_err-log-in-None-clause-any_moment g c = λ told.
-    held_begun (g.V.Vol.disk c.args.vol.now) (g.V.Vol.disk c.read_current.new.vol) (g.V.Vol.disk c.begin_log.new.vol) (quiet_then (g.V.Vol.disk c.args.vol.now) (g.V.Vol.disk c.open_current.new.vol) (g.V.Vol.disk c.read_current.new.vol) (c.open_current.ensures.quiet told) (c.read_current.ensures.quiet told)) (found_unbegun c.in_ok-current.current (g.V.Vol.disk c.args.vol.now) (g.V.Vol.disk c.open_current.new.vol) (g.V.Vol.disk c.read_current.new.vol) (c.in_ok-current.ensures.current told) (c.open_current.ensures.quiet told) (c.read_current.ensures.quiet told) c.in_ok-durable.durable (c.in_ok-durable.ensures.gives told) (sym c.in-None.ensures.value)) (c.begin_log.ensures.any_moment told)
+    held_begun (g.V.Vol.disk c.args.vol.now) (g.V.Vol.disk c.read_current.new.vol) (g.V.Vol.disk c.begin_log.new.vol) (quiet_then (g.V.Vol.disk c.args.vol.now) (g.V.Vol.disk c.open_current.new.vol) (g.V.Vol.disk c.read_current.new.vol) (c.open_current.ensures.quiet told) (c.read_current.ensures.quiet told)) (found_unbegun c.in_ok-current.current (g.V.Vol.disk c.args.vol.now) (g.V.Vol.disk c.open_current.new.vol) (g.V.Vol.disk c.read_current.new.vol) (c.in_ok-current.ensures.current told) (c.open_current.ensures.quiet told) (c.read_current.ensures.quiet told) c.in_ok-found.found (c.in_ok-found.ensures.found told) (sym c.in-None.ensures.value)) (c.begin_log.ensures.any_moment told)
 
 pub returns-in_ok-log-in-None-clause-quiet : goal.returns-in_ok-log-in-None-clause-quiet
 returns-in_ok-log-in-None-clause-quiet g c = λ told.
-    inl (found_none_open c.in_ok-current.current (g.V.Vol.disk c.args.vol.now) (g.V.Vol.disk c.open_current.new.vol) (g.V.Vol.disk c.read_current.new.vol) (c.in_ok-current.ensures.current told) (c.open_current.ensures.quiet told) (c.read_current.ensures.quiet told) c.in_ok-durable.durable (c.in_ok-durable.ensures.gives told) (sym c.in-None.ensures.value))
+    inl (found_none_open c.in_ok-current.current (g.V.Vol.disk c.args.vol.now) (g.V.Vol.disk c.open_current.new.vol) (g.V.Vol.disk c.read_current.new.vol) (c.in_ok-current.ensures.current told) (c.open_current.ensures.quiet told) (c.read_current.ensures.quiet told) c.in_ok-found.found (c.in_ok-found.ensures.found told) (sym c.in-None.ensures.value))
 
 pub returns-in_ok-log-in-None-clause-elsewhere : goal.returns-in_ok-log-in-None-clause-elsewhere
 returns-in_ok-log-in-None-clause-elsewhere g c = λ told.
@@ -94,19 +100,29 @@ returns-in_ok-log-in-None-clause-elsewhere g c = λ told.
 
 pub returns-in_ok-log-in-None-clause-any_moment : goal.returns-in_ok-log-in-None-clause-any_moment
 returns-in_ok-log-in-None-clause-any_moment g c = λ told.
-    held_begun (g.V.Vol.disk c.args.vol.now) (g.V.Vol.disk c.read_current.new.vol) (g.V.Vol.disk c.begin_log.new.vol) (quiet_then (g.V.Vol.disk c.args.vol.now) (g.V.Vol.disk c.open_current.new.vol) (g.V.Vol.disk c.read_current.new.vol) (c.open_current.ensures.quiet told) (c.read_current.ensures.quiet told)) (found_unbegun c.in_ok-current.current (g.V.Vol.disk c.args.vol.now) (g.V.Vol.disk c.open_current.new.vol) (g.V.Vol.disk c.read_current.new.vol) (c.in_ok-current.ensures.current told) (c.open_current.ensures.quiet told) (c.read_current.ensures.quiet told) c.in_ok-durable.durable (c.in_ok-durable.ensures.gives told) (sym c.in-None.ensures.value)) (c.begin_log.ensures.any_moment told)
+    held_begun (g.V.Vol.disk c.args.vol.now) (g.V.Vol.disk c.read_current.new.vol) (g.V.Vol.disk c.begin_log.new.vol) (quiet_then (g.V.Vol.disk c.args.vol.now) (g.V.Vol.disk c.open_current.new.vol) (g.V.Vol.disk c.read_current.new.vol) (c.open_current.ensures.quiet told) (c.read_current.ensures.quiet told)) (found_unbegun c.in_ok-current.current (g.V.Vol.disk c.args.vol.now) (g.V.Vol.disk c.open_current.new.vol) (g.V.Vol.disk c.read_current.new.vol) (c.in_ok-current.ensures.current told) (c.open_current.ensures.quiet told) (c.read_current.ensures.quiet told) c.in_ok-found.found (c.in_ok-found.ensures.found told) (sym c.in-None.ensures.value)) (c.begin_log.ensures.any_moment told)
 
 pub returns-in_ok-log-in-None-clause-found : goal.returns-in_ok-log-in-None-clause-found
 returns-in_ok-log-in-None-clause-found g c = λ told.
-    found_holds c.in_ok-current.current (g.V.Vol.disk c.args.vol.now) (g.V.Vol.disk c.open_current.new.vol) (g.V.Vol.disk c.read_current.new.vol) (c.in_ok-current.ensures.current told) (c.open_current.ensures.quiet told) (c.read_current.ensures.quiet told) c.in_ok-durable.durable (c.in_ok-durable.ensures.gives told)
+    found_holds c.in_ok-current.current (g.V.Vol.disk c.args.vol.now) (g.V.Vol.disk c.open_current.new.vol) (g.V.Vol.disk c.read_current.new.vol) (c.in_ok-current.ensures.current told) (c.open_current.ensures.quiet told) (c.read_current.ensures.quiet told) c.in_ok-found.found (c.in_ok-found.ensures.found told)
 
 pub returns-in_ok-log-in-None-clause-base : goal.returns-in_ok-log-in-None-clause-base
 returns-in_ok-log-in-None-clause-base g c = λ told.
-    subst (λ (d : Durable). IsBaseOf c.in_ok-log-in-None.log d (g.V.Vol.disk c.begin_log.new.vol)) (sym (found_vacant c.in_ok-current.current (g.V.Vol.disk c.args.vol.now) (g.V.Vol.disk c.open_current.new.vol) (g.V.Vol.disk c.read_current.new.vol) (c.in_ok-current.ensures.current told) (c.open_current.ensures.quiet told) (c.read_current.ensures.quiet told) c.in_ok-durable.durable (c.in_ok-durable.ensures.gives told) (sym c.in-None.ensures.value))) (c.in_ok-log-in-None.ensures.base told)
+    let f = c.in_ok-found.found in
+    let log = c.in_ok-log-in-None.log in
+    let old = g.V.Vol.disk c.args.vol.now in
+    let mid = g.V.Vol.disk c.open_current.new.vol in
+    let read = g.V.Vol.disk c.read_current.new.vol in
+    let new = g.V.Vol.disk c.begin_log.new.vol in
+    let vacant_is = found_vacant c.in_ok-current.current old mid read (c.in_ok-current.ensures.current told) (c.open_current.ensures.quiet told) (c.read_current.ensures.quiet told) f (c.in_ok-found.ensures.found told) (sym c.in-None.ensures.value) in
+    let no_blocks_is = found_no_blocks c.in_ok-current.current old mid read (c.in_ok-current.ensures.current told) (c.open_current.ensures.quiet told) (c.read_current.ensures.quiet told) f (c.in_ok-found.ensures.found told) (sym c.in-None.ensures.value) in
+    subst (λ (s : StoreState). IsBase s f.durable new) (sym c.with_table-begun.ensures.value)
+    (subst (λ (b : Blocks). IsBaseOf log b f.durable new) (sym no_blocks_is) (subst (λ (d : Durable). IsBaseOf log no_blocks d new) (sym vacant_is) (c.in_ok-log-in-None.ensures.base told)))
 
 pub returns-in_ok-log-in-None-clause-first_log : goal.returns-in_ok-log-in-None-clause-first_log
 returns-in_ok-log-in-None-clause-first_log g c = λ told none.
-    record { file = c.in_ok-log-in-None.ensures.file; head = c.in_ok-log-in-None.ensures.head; settled = c.in_ok-log-in-None.ensures.settled told }
+    subst (λ (s : StoreState). IsFirstLog s.log (g.V.Vol.disk c.begin_log.new.vol)) (sym c.with_table-begun.ensures.value)
+    (record { file = c.in_ok-log-in-None.ensures.file; head = c.in_ok-log-in-None.ensures.head; settled = c.in_ok-log-in-None.ensures.settled told })
 
 pub returns-in_err-log-in-None-clause-fault : goal.returns-in_err-log-in-None-clause-fault
 returns-in_err-log-in-None-clause-fault g c = λ told.

@@ -1,0 +1,6 @@
+pub mod Follows
+pub mod Wrong
+pub mod Checking
+pub mod Loads
+pub mod OneReading
+pub mod Found

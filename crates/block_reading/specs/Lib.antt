@@ -1,0 +1,4 @@
+pub mod Standing
+pub mod Damage
+pub mod Reading
+pub mod Laws

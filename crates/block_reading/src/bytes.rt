@@ -1,0 +1,67 @@
+//! Whether the bytes of a block are messages.
+
+ghost use Rattle.std.specs.Prelude.{◌≡◌, ◌≤◌, ◌<◌, ◌^◌, length, Ok, IfOk, IfErr, OnOk};
+ghost use Rattle.op_records.specs.BlockAnswers.{EndsAt};
+ghost use Rattle.op_records.specs.Blocks.{message_at};
+ghost use Rattle.block_reading.specs.Standing.{AreMessages};
+ghost use Rattle.block_reading.specs.Reading.{IsBytesFault, IsEndFault, IsOn, bytes_fault};
+
+use op_records::{RecordFault, message_end};
+use std::alloc::Global;
+
+/// Why bytes are not seen to be messages.
+#[derive(Clone, Copy)]
+pub(crate) enum BytesFault {
+    /// The message at this offset is wrong.
+    Wrong(u32),
+    NoMemory,
+}
+
+/// The fault of the message at an offset.
+fn told(at: u32, fault: RecordFault) -> BytesFault
+    ensures { result ≡ bytes_fault at fault }
+{
+    match fault {
+        RecordFault::NoMemory => BytesFault::NoMemory,
+        _ => BytesFault::Wrong(at),
+    }
+}
+
+/// The sequence of the message at an offset, and the offset behind it.
+fn next_message(alloc: Global, bytes: &[u8], at: u32) -> Result<(u64, u32), BytesFault>
+    requires within { at ≤ length bytes.now }
+    requires short { length bytes.now < 2 ^ 32 }
+    ensures ends { IfOk result (λ next. EndsAt (Ok next) (message_at bytes.now at)) }
+    ensures on { IfOk result (λ next. IsOn bytes.now at next.0 next.1) }
+    ensures fault { IfErr result (IsEndFault bytes.now at) }
+{
+    match message_end(alloc, bytes, at as usize) {
+        Ok((seq, behind)) => Ok((seq, behind as u32)),
+        Err(fault) => Err(told(at, fault)),
+    }
+}
+
+/// Whether the bytes, which are no more than so many, are messages up to that end, one behind the other. Their sequences rise up to the last one of the
+/// stream.
+pub(crate) fn check_bytes(
+    alloc: Global,
+    bytes: &[u8],
+    end: u32,
+    last: u64,
+) -> Result<(), BytesFault>
+    requires within { length bytes.now ≤ end }
+    ensures messages { OnOk result (AreMessages bytes.now last end) }
+    ensures fault { IfErr result (IsBytesFault bytes.now last end) }
+{
+    let mut at = 0;
+    let mut low = 0;
+    while at < end {
+        let (seq, behind) = next_message(alloc, bytes, at)?;
+        if seq < low || last < seq {
+            return Err(BytesFault::Wrong(at));
+        }
+        low = seq + 1;
+        at = behind;
+    }
+    Ok(())
+}

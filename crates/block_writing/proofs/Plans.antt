@@ -1,0 +1,188 @@
+-- A plan that is made change by change.
+use Rattle.std.proofs.Common.{◌≡◌, ◌≢◌, ◌≤◌, ◌<◌, ◌⊎◌, ◌^◌, inl, inr, ℕ, suc, ◌+◌, ◌&&◌, Bool, true, false, List, [], ◌∷◌, ◌++◌, Option, Some, None, All, IfSome, IsTrue, length, take, drop, get_or, option_map, unwrap_or, refl, sym, ap, subst, ◌∙◌, arith}
+use Rattle.std.specs.Prelude.{nat_lt}
+use Rattle.std.specs.List.{flat_map, list_all}
+use Rattle.std.specs.Option.{IsSomeAnd, option_to_list}
+use Rattle.std.proofs.lemmas.Bool.{and_parts, and_from, true≢false, lt-ltb}
+use Rattle.std.proofs.lemmas.List.{take_all, flat_map_more}
+use Rattle.std.proofs.lemmas.List.Folds.{list_all_at}
+use Rattle.js_base.specs.Bytes.{Bytes}
+use Rattle.js_base.specs.declared.spot.Spot.{Spot}
+use Rattle.js_model.specs.declared.stream.Message.{Message}
+use Rattle.effects.specs.declared.effect.Effect.{Effect}
+use Rattle.effects.specs.declared.effect.Effect.TheVariants.{MakeStream, ChangeStream, DropStream, PutHere, Skip, Remove, MakeConsumer, DropConsumer, Deliver, Acked, Due, GivenUp, Now}
+use Rattle.op_records.specs.Allowed.{is_record, is_text, is_spot, may_stand}
+use Rattle.op_records.specs.Blocks.{is_block_message, spelled_message}
+use Rattle.op_records.specs.Spelling.{spelled, spelled_record}
+use Rattle.op_records.specs.declared.record.Record.{Record}
+use Rattle.op_records.specs.declared.record.Record.TheVariants.{Put, Change}
+use Rattle.block_table.specs.declared.block.Block.{Block}
+use Rattle.block_table.specs.declared.placing.Placing.{Placing}
+use Rattle.block_table.specs.Blocks.{Blocks, blocks}
+use Rattle.block_table.specs.Placings.{placing, place, restarted}
+use Rattle.block_table.specs.Tables.{IsFile, IsTable}
+use Rattle.block_writing.specs.declared.plan.Plan.{Plan}
+use Rattle.block_writing.specs.declared.run.Run.{Run}
+use Rattle.block_writing.specs.Planning.{Planned, begun, with_message, with_put, with_change, message_by, plan_message, planned_one, then_planned, planned, spots_in}
+use Rattle.block_writing.specs.Plans.{Has, IsPlan, IsSoFar, WritesBlock}
+use Rattle.block_writing.proofs.Runs.{GoesOn, BeginsFile, IsSpot, spot_is, planned_none}
+use Rattle.block_writing.proofs.Written.{all_there, one_more, parts}
+
+-- ---- lists with one more at the end
+
+spots_put : (rs : List Record) (seq at : ℕ) (id : Bytes) (spot : Spot) → spots_in (rs ++ Put seq at id spot ∷ []) ≡ spots_in rs ++ spot ∷ []
+spots_put [] seq at id spot = refl
+spots_put (Put n m i s ∷ rs) seq at id spot = ap (λ (l : List Spot). s ∷ l) (spots_put rs seq at id spot)
+spots_put (Change e ∷ rs) seq at id spot = spots_put rs seq at id spot
+
+spots_change : (rs : List Record) (e : Effect) → spots_in (rs ++ Change e ∷ []) ≡ spots_in rs
+spots_change [] e = refl
+spots_change (Put n m i s ∷ rs) e = ap (λ (l : List Spot). s ∷ l) (spots_change rs e)
+spots_change (Change f ∷ rs) e = spots_change rs e
+
+-- ---- where a message goes
+
+-- an answered spot, and the placing behind it
+pub placed_is : (o : Option (Spot × Placing)) (spot : Spot) (old new : Placing) → Some spot ≡ option_map (λ (r : Spot × Placing). r.0) o →
+    new ≡ unwrap_or (option_map (λ (r : Spot × Placing). r.1) o) old → o ≡ Some (spot, new)
+placed_is None spot old new is rest = cc
+placed_is (Some (s, q)) spot old new is rest = ap (λ (x : Spot). Some (x, q)) (same s spot is) ∙ ap (λ (x : Placing). Some (spot, x)) (sym rest)
+  where
+    same : (x y : Spot) → Some y ≡ Some x → x ≡ y
+    same x y e = cc
+
+pub placed_none : (o : Option (Spot × Placing)) → None ≡ option_map (λ (r : Spot × Placing). r.0) o → o ≡ None
+placed_none None is = refl
+placed_none (Some r) is = cc
+
+-- a block being written in a file that a record can tell
+pub record IsTold (spot : Spot) (q : Placing) : Type 0 where
+  pub file : spot.file ≤ 65535
+  pub block : WritesBlock q
+
+pub told : (b : Blocks) (len : ℕ) (p : Placing) (spot : Spot) (q : Placing) → WritesBlock p → place b len p ≡ Some (spot, q) → IsTold spot q
+told b len p spot q writes e = go (spot_is b len p spot q e)
+  where
+    go : IsSpot b len p spot q → IsTold spot q
+    go (inl h) =
+        let low : h.block.file ≤ 65535 = subst (λ (o : Option Block). IfSome o (λ k. k.file ≤ 65535)) h.writes writes in
+        record { file = subst (λ (x : Spot). x.file ≤ 65535) (sym h.spot_is) low; block = subst WritesBlock (sym h.rest_is) low }
+    go (inr h) = record { file = subst (λ (x : Spot). x.file ≤ 65535) (sym h.spot_is) h.high; block = subst WritesBlock (sym h.rest_is) h.high }
+
+-- the record of a message may stand in a log
+pub put_stands : (m : Message) (id : Bytes) (spot : Spot) → IsTrue (is_block_message m) → IsTrue (is_text id) → spot.file ≤ 65535 → spot.at < 2 ^ 32 → spot.len < 2 ^ 32 →
+    IsTrue (may_stand (Put m.seq m.at id spot))
+put_stands m id spot may text file at len =
+    let fits = and_parts _ _ may in
+    let header = and_parts _ _ fits.0 in
+    let subject = and_parts _ _ header.0 in
+    and_from _ _ (and_from _ _ subject.0 text)
+    (and_from (nat_lt spot.file (2 ^ 16) && nat_lt spot.at (2 ^ 32)) (nat_lt spot.len (2 ^ 32))
+    (and_from (nat_lt spot.file (2 ^ 16)) (nat_lt spot.at (2 ^ 32)) (lt-ltb spot.file (2 ^ 16) (omega (arith, file))) (lt-ltb spot.at (2 ^ 32) at))
+    (lt-ltb spot.len (2 ^ 32) len))
+
+-- ---- what a plan has then
+
+-- a message more
+pub put_planned : (b : Blocks) (so_far : Planned) (old new : Plan) (p q : Placing) (id : Bytes) (m : Message) (spot : Spot) → IsSoFar so_far old p →
+    place b (length (spelled_message m)) p ≡ Some (spot, q) → new.batch.items ≡ old.batch.items ++ spelled_record (Put m.seq m.at id spot) →
+    new.spots.items ≡ old.spots.items ++ spot ∷ [] → new.runs.items ≡ with_message old.runs.items spot (spelled_message m) →
+    IsSomeAnd (plan_message b so_far id m) (λ next. IsSoFar next new q)
+put_planned b so_far old new p q id m spot h e batch spots runs =
+    subst (λ (o : Option (Spot × Placing)). IsSomeAnd (option_map (with_put so_far id m) o) (λ next. IsSoFar next new q)) (sym (ap (place b (length (spelled_message m))) h.placing ∙ e)) (record {
+      has = record {
+        batch = batch ∙ ap (λ (l : Bytes). l ++ spelled_record (Put m.seq m.at id spot)) h.has.batch ∙ flat_map_more spelled_record [] so_far.records (Put m.seq m.at id spot);
+        spots = spots ∙ ap (λ (l : List Spot). l ++ spot ∷ []) h.has.spots ∙ sym (spots_put so_far.records m.seq m.at id spot);
+        runs = runs ∙ ap (λ (l : List Run). with_message l spot (spelled_message m)) h.has.runs;
+      };
+      placing = refl;
+    })
+
+pub none_planned : (b : Blocks) (so_far : Planned) (p : Placing) (id : Bytes) (m : Message) → so_far.placing ≡ p → place b (length (spelled_message m)) p ≡ None → plan_message b so_far id m ≡ None
+none_planned b so_far p id m is e = ap (λ (o : Option (Spot × Placing)). option_map (with_put so_far id m) o) (ap (place b (length (spelled_message m))) is ∙ e)
+
+-- another change more
+pub change_planned : (so_far : Planned) (old new : Plan) (p q : Placing) (e : Effect) → IsSoFar so_far old p → new.batch.items ≡ old.batch.items ++ spelled e →
+    new.spots ≡ old.spots → new.runs ≡ old.runs → IsSoFar (with_change so_far e q) new q
+unfolding spelled_record
+change_planned so_far old new p q e h batch spots runs = record {
+  has = record {
+    batch = batch ∙ ap (λ (l : Bytes). l ++ spelled e) h.has.batch ∙ flat_map_more spelled_record [] so_far.records (Change e);
+    spots = ap (λ v. v.items) spots ∙ h.has.spots ∙ sym (spots_change so_far.records e);
+    runs = ap (λ v. v.items) runs ∙ h.has.runs;
+  };
+  placing = refl;
+}
+
+-- ---- one change after the other
+
+planned_push : (b : Blocks) (es : List Effect) (e : Effect) (s : Option Planned) → planned b (es ++ e ∷ []) s ≡ then_planned b (planned b es s) e
+planned_push b [] e s = refl
+planned_push b (x ∷ xs) e s = planned_push b xs e (then_planned b s x)
+
+planned_more : (b : Blocks) (es fs : List Effect) (s : Option Planned) → planned b (es ++ fs) s ≡ planned b fs (planned b es s)
+planned_more b [] fs s = refl
+planned_more b (x ∷ xs) fs s = planned_more b xs fs (then_planned b s x)
+
+-- the first changes are planned
+pub record ArePlanned (b : Blocks) (es : List Effect) (i : ℕ) (plan : Plan) (p : Placing) : Type 0 where
+  pub so_far : Planned
+  pub so_far_is : planned b (take i es) (Some (begun b)) ≡ Some so_far
+  pub has : IsSoFar so_far plan p
+
+pub first_planned : (b : Blocks) (es : List Effect) (plan : Plan) → plan.batch.items ≡ [] → plan.spots.items ≡ [] → plan.runs.items ≡ [] → ArePlanned b es 0 plan (placing b)
+first_planned b es plan batch spots runs = record {
+  so_far = begun b;
+  so_far_is = refl;
+  has = record { has = record { batch = batch; spots = spots; runs = runs }; placing = refl };
+}
+
+pub next_planned : (b : Blocks) (es : List Effect) (i : ℕ) (e : Effect) (old new : Plan) (p q : Placing) → i < length es → e ≡ get_or es i e → (h : ArePlanned b es i old p) →
+    ((so_far : Planned) → IsSoFar so_far old p → IsSomeAnd (planned_one b so_far e) (λ next. IsSoFar next new q)) → ArePlanned b es (i + 1) new q
+next_planned b es i e old new p q within is h step = go (planned_one b h.so_far e) refl (step h.so_far h.has)
+  where
+    go : (o : Option Planned) → planned_one b h.so_far e ≡ o → IsSomeAnd o (λ next. IsSoFar next new q) → ArePlanned b es (i + 1) new q
+    go None one has = absurd has
+    go (Some next) one has = record {
+      so_far = next;
+      so_far_is =
+          ap (λ (l : List Effect). planned b l (Some (begun b))) (one_more es i e within is)
+          ∙ planned_push b (take i es) e (Some (begun b)) ∙ ap (λ (s : Option Planned). then_planned b s e) h.so_far_is ∙ one;
+      has = has;
+    }
+
+pub all_planned : (b : Blocks) (es : List Effect) (i : ℕ) (plan : Plan) (p : Placing) → length es ≤ i → ArePlanned b es i plan p → IsPlan b es plan
+all_planned b es i plan p past h = record {
+  made = h.so_far;
+  made_is = ap (λ (l : List Effect). planned b l (Some (begun b))) (sym (take_all i es past)) ∙ h.so_far_is;
+  has = h.has.has;
+}
+
+-- there is no place for a message
+pub no_plan : (b : Blocks) (es : List Effect) (i : ℕ) (e : Effect) (plan : Plan) (p : Placing) → i < length es → e ≡ get_or es i e → (h : ArePlanned b es i plan p) →
+    ((so_far : Planned) → so_far.placing ≡ p → planned_one b so_far e ≡ None) → planned b es (Some (begun b)) ≡ None
+no_plan b es i e plan p within is h none =
+    ap (λ (l : List Effect). planned b l (Some (begun b))) (sym (parts es i e within is))
+    ∙ planned_more b (take i es) (e ∷ drop (suc i) es) (Some (begun b))
+    ∙ ap (λ (s : Option Planned). planned b (drop (suc i) es) (then_planned b s e)) h.so_far_is
+    ∙ ap (planned b (drop (suc i) es)) (none h.so_far h.has.placing)
+    ∙ planned_none b (drop (suc i) es)
+
+-- ---- at first
+
+pub writes_first : (b : Blocks) → IsTable b → WritesBlock (placing b)
+writes_first b table = go b.writing refl
+  where
+    go : (w : Option Block) → b.writing ≡ w → IfSome w (λ k. k.file ≤ 65535)
+    go None is = tt
+    go (Some k) is =
+        (all_there (λ (x : Block). IsFile x.file) b.older k []
+        (subst (λ (o : Option Block). All (λ (x : Block). IsFile x.file) (b.older ++ option_to_list o)) is table.files)).high
+
+-- each of the changes may be recorded
+pub allowed_there : (es : List Effect) (i : ℕ) (e : Effect) → IsTrue (list_all is_record es) → i < length es → e ≡ get_or es i e → IsTrue (is_record e)
+allowed_there es i e all within is = go (is_record (get_or es i e)) refl
+  where
+    go : (b : Bool) → is_record (get_or es i e) ≡ b → is_record e ≡ true
+    go true t = ap is_record is ∙ t
+    go false f = absurd (true≢false (sym all ∙ list_all_at is_record es i e within f))

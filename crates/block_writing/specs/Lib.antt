@@ -1,0 +1,6 @@
+pub mod Planning
+pub mod Runs
+pub mod Writing
+pub mod Plans
+pub mod Dropping
+pub mod Laws

@@ -1,0 +1,127 @@
+//! What a commit writes.
+
+ghost use Rattle.std.specs.Prelude.{◌≡◌, ◌++◌, None, IsTrue, IfOk, OnOk, IsErrOf};
+ghost use Rattle.std.specs.Option.{IsSomeAnd};
+ghost use Rattle.op_records.specs.Allowed.{is_record, is_text};
+ghost use Rattle.op_records.specs.Blocks.{is_block_message};
+ghost use Rattle.op_records.specs.Spelling.{spelled};
+ghost use Rattle.block_writing.specs.Planning.{Planned, message_by, plan_message, planned_one};
+ghost use Rattle.block_writing.specs.Plans.{IsSoFar, WritesBlock};
+
+use crate::fault::PlanFault;
+use crate::run::{Run, add_message};
+use block_table::{BlockTable, Placing};
+use effects::Effect;
+use js_base::{Blob, Moment, NoMemory, Spot};
+use js_model::Message;
+use op_records::{Record, message_len, write_effect, write_record};
+use std::alloc::Global;
+
+/// What a commit writes: the messages into blocks, and then the records that tell where these lie into the log.
+#[derive(Drop)]
+pub struct Plan {
+    /// The records, as the bytes of a batch.
+    pub batch: Vec<u8>,
+    /// Where the messages go, in their order.
+    pub spots: Vec<Spot>,
+    /// The messages, in each file that gets some.
+    pub runs: Vec<Run>,
+}
+
+/// The message of these parts.
+fn message_of(
+    seq: u64,
+    at: Moment,
+    subject: &Blob,
+    headers: &Blob,
+    payload: &Blob,
+) -> Result<Message, NoMemory>
+    ensures value { IfOk result (λ m. m ≡ message_by seq at subject.now headers.now payload.now) }
+{
+    Ok(Message {
+        seq,
+        at,
+        subject: subject.clone()?,
+        headers: headers.clone()?,
+        payload: payload.clone()?,
+    })
+}
+
+impl Plan {
+    /// Adds another change than a message that is stored. An `Err` may leave some of it.
+    fn change(&mut self, alloc: Global, effect: &Effect) -> Result<(), PlanFault>
+        requires allowed { IsTrue (is_record effect.now) }
+        ensures batch { OnOk result (self.new.batch.items ≡ self.old.batch.items ++ spelled effect.now) }
+        ensures spots { self.new.spots ≡ self.old.spots }
+        ensures runs { self.new.runs ≡ self.old.runs }
+        ensures room { IsErrOf result PlanFault.NoRoom → ⊥ }
+    {
+        write_effect(alloc, effect, &mut self.batch)?;
+        Ok(())
+    }
+
+    /// Adds a message that is stored with this id, at the next spot. `NoRoom` comes exactly if there is none. An `Err` may leave some of it.
+    fn put(
+        &mut self,
+        alloc: Global,
+        table: &BlockTable,
+        placing: &mut Placing,
+        id: &Blob,
+        message: &Message,
+    ) -> Result<(), PlanFault>
+        requires allowed { IsTrue (is_block_message message.now) }
+        requires id { IsTrue (is_text id.now) }
+        requires block { WritesBlock placing.old }
+        ensures ok { OnOk result ((so_far : Planned) → IsSoFar so_far self.old placing.old → IsSomeAnd (plan_message table.now so_far id.now message.now) (λ next. IsSoFar next self.new placing.new)) }
+        ensures block { OnOk result (WritesBlock placing.new) }
+        ensures no_room { IsErrOf result PlanFault.NoRoom → (so_far : Planned) → so_far.placing ≡ placing.old → plan_message table.now so_far id.now message.now ≡ None }
+    {
+        let Some(spot) = placing.place(table, message_len(message)) else {
+            return Err(PlanFault::NoRoom);
+        };
+        let entry = Record::Put {
+            seq: message.seq,
+            at: message.at,
+            id: id.clone()?,
+            spot,
+        };
+        write_record(alloc, &entry, &mut self.batch)?;
+        self.spots.push(spot)?;
+        add_message(alloc, &mut self.runs, spot, message)?;
+        Ok(())
+    }
+
+    /// Adds a change, and its message if it stores one. `NoRoom` comes exactly if there is no spot for that. An `Err` may leave some of it.
+    pub(crate) fn add(
+        &mut self,
+        alloc: Global,
+        table: &BlockTable,
+        placing: &mut Placing,
+        effect: &Effect,
+    ) -> Result<(), PlanFault>
+        requires allowed { IsTrue (is_record effect.now) }
+        requires block { WritesBlock placing.old }
+        ensures ok { OnOk result ((so_far : Planned) → IsSoFar so_far self.old placing.old → IsSomeAnd (planned_one table.now so_far effect.now) (λ next. IsSoFar next self.new placing.new)) }
+        ensures block { OnOk result (WritesBlock placing.new) }
+        ensures no_room { IsErrOf result PlanFault.NoRoom → (so_far : Planned) → so_far.placing ≡ placing.old → planned_one table.now so_far effect.now ≡ None }
+    {
+        match effect {
+            Effect::PutHere {
+                seq,
+                at,
+                id,
+                subject,
+                headers,
+                payload,
+            } => {
+                let message = message_of(*seq, *at, subject, headers, payload)?;
+                self.put(alloc, table, placing, id, &message)
+            }
+            Effect::MakeStream { .. } | Effect::DropStream => {
+                placing.restart();
+                self.change(alloc, effect)
+            }
+            _ => self.change(alloc, effect),
+        }
+    }
+}

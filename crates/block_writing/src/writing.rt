@@ -1,0 +1,30 @@
+//! Writing the messages of a commit.
+
+ghost use Rattle.std.specs.Prelude.{◌≡◌, ◌≤◌, All, length, OnOk, IsErr};
+ghost use Rattle.js_base.specs.Causes.{HasCause};
+ghost use Rattle.vol_disk.specs.Images.{AreBytes};
+ghost use Rattle.block_writing.specs.Runs.{AreApart, IsShort};
+ghost use Rattle.block_writing.specs.Writing.{ChangesRuns, IsWritten};
+
+use crate::run::Run;
+use vol_disk::{Failed, Vol};
+
+/// Writes each run into its file and syncs it. Each begins within its file, and no two are in one.
+///
+/// At `Ok` a crash leaves each run behind what its file read as in front of it. `Failed` comes only if the volume's count of faults rose. What stood in front
+/// of the runs stands at each moment of the call.
+pub fn write_runs<V: Vol>(vol: &mut V, runs: &[Run]) -> Result<(), Failed>
+    requires within { V.told → All (λ run. run.at ≤ length ((V.disk vol.old).seen run.file)) runs.now }
+    requires short { All IsShort runs.now }
+    requires apart { AreApart runs.now }
+    ensures written { V.told → OnOk result (All (IsWritten (V.disk vol.old) (V.disk vol.new)) runs.now) }
+    ensures bytes { OnOk result (All (λ run. AreBytes run.bytes) runs.now) }
+    ensures changes { V.told → ChangesRuns runs.now (V.disk vol.old) (V.disk vol.new) }
+    ensures cause { HasCause (V.faults vol.old) (V.faults vol.new) (IsErr result) }
+    ensures later { (V.disk vol.old).moment ≤ (V.disk vol.new).moment }
+{
+    for run in runs {
+        message_block::write(vol, run.file, run.at, run.bytes.as_slice())?;
+    }
+    Ok(())
+}

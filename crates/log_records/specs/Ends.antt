@@ -1,0 +1,34 @@
+-- Where the last of all records of a log stands, by a rule of this server's own: it is told if what all of them give cannot be opened.
+use Rattle.std.specs.Prelude.{◌≡◌, ◌⊎◌, ℕ, List, [], ◌∷◌, ◌++◌, All}
+use Rattle.js_base.specs.Bytes.{Bytes}
+use Rattle.gate_log.specs.Batches.{end_of}
+use Rattle.log_records.specs.Logged.{Logged, beginning}
+use Rattle.log_records.specs.Batches.{AddAll, Begins}
+use Rattle.log_records.specs.Damage.{IsLast, offset}
+
+-- behind the first batch, one of these has the last record; it begins at this offset of the file
+pub record IsLastAt (first : Bytes) (begun : Logged) (later : List Bytes) (given : Logged) (at : ℕ) : Type 0 where
+  pub before : List Bytes
+  pub bytes : Bytes
+  pub empty : List Bytes
+  pub later_is : later ≡ before ++ bytes ∷ empty
+  pub are_empty : All (λ batch. batch ≡ []) empty
+  pub old : Logged
+  pub so_far : AddAll begun before old
+  pub place : ℕ
+  pub last : IsLast old bytes place given
+  pub here : at ≡ offset (first ∷ before) place
+
+-- none of them has a record, and the first gate is told
+pub record IsLastOfNone (begun : Logged) (later : List Bytes) (given : Logged) (at : ℕ) : Type 0 where
+  pub are_empty : All (λ batch. batch ≡ []) later
+  pub same : given ≡ begun
+  pub here : at ≡ end_of []
+
+abbrev pub IsLastBehind : Bytes → Logged → List Bytes → Logged → ℕ → Type 0
+IsLastBehind first begun later given at = IsLastOfNone begun later given at ⊎ IsLastAt first begun later given at
+
+-- the batches give it, and their last record stands there
+abbrev pub IsLastIn : List Bytes → Logged → ℕ → Type 0
+IsLastIn [] given at = (given ≡ beginning 0) × (at ≡ end_of [])
+IsLastIn (first ∷ later) given at = (begun : Logged) × Begins first begun × AddAll begun later given × IsLastBehind first begun later given at

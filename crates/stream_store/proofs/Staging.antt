@@ -1,0 +1,81 @@
+-- What a commit is going to write.
+use Rattle.std.proofs.Common.{◌≡◌, ◌≤◌, ◌<◌, ℕ, ◌+◌, Bool, true, false, cond, List, [], ◌∷◌, ◌++◌, Option, Some, None, IsTrue, All, get_or, take, length, map, refl, sym, ap, subst, ◌∙◌, arith}
+use Rattle.std.specs.Prelude.{is_some}
+use Rattle.std.specs.List.{flat_map, list_all}
+use Rattle.std.specs.Option.{option_to_list}
+use Rattle.std.proofs.lemmas.Bool.{true≢false}
+use Rattle.std.proofs.lemmas.List.{append-nil, append_assoc, map-append, take_more, take_all}
+use Rattle.std.proofs.lemmas.List.Elements.{All-nil, All-cons, All-head, All-tail, All-append, All-weaker}
+use Rattle.effects.specs.declared.effect.Effect.{Effect}
+use Rattle.op_records.specs.Allowed.{is_record}
+use Rattle.op_records.specs.Spelling.{spelled_record}
+use Rattle.block_table.specs.declared.block.Block.{Block}
+use Rattle.block_table.specs.Blocks.{Blocks, blocks}
+use Rattle.block_table.specs.Placings.{placing}
+use Rattle.block_table.specs.Tables.{IsFile, IsTable}
+use Rattle.block_writing.specs.declared.run.Run.{Run}
+use Rattle.block_writing.specs.Laws.{ArePlannedBy}
+use Rattle.block_writing.specs.Planning.{Planned, begun, planned}
+use Rattle.block_writing.proofs.Commits.{law_plans}
+use Rattle.stream_store.specs.Committing.{batch_length}
+use Rattle.stream_store.specs.Placing.{blocks_by, blocks_then, can_place, plan_of}
+use Rattle.stream_store.specs.Staging.{AreBehindLogs, IsStaged, block_of, blocks_of}
+use Rattle.stream_store.specs.Steps.{with_steps}
+use Rattle.stream_store.specs.declared.staging.Staged.{Staged}
+use Rattle.stream_store.proofs.Folding.{all_length, goes_on_by}
+
+-- ---- lists that are added to
+
+pub pushed_block : (old now : List Block) (xs : List Block) (i : ℕ) (k : Block) → i < length xs → k ≡ get_or xs i k → now ≡ (old ++ take i xs) ++ k ∷ [] → now ≡ old ++ take (i + 1) xs
+pushed_block old now xs i k within is pushed =
+    pushed ∙ append_assoc old (take i xs) (k ∷ []) ∙ ap (λ (l : List Block). old ++ l) (ap (λ (x : Block). take i xs ++ x ∷ []) is ∙ sym (take_more xs i k within))
+
+pub all_pushed : (old now : List Block) (xs : List Block) (i : ℕ) → length xs ≤ i → now ≡ old ++ take i xs → now ≡ old ++ xs
+all_pushed old now xs i past so_far = so_far ∙ ap (λ (l : List Block). old ++ l) (take_all xs i past)
+
+pub pushed_run : (old now : List Block) (runs : List Run) (i : ℕ) (r : Run) → i < length runs → r ≡ get_or runs i r → now ≡ (old ++ map block_of (take i runs)) ++ block_of r ∷ [] → now ≡ old ++ map block_of (take (i + 1) runs)
+pushed_run old now runs i r within is pushed =
+    pushed ∙ append_assoc old (map block_of (take i runs)) (block_of r ∷ [])
+    ∙ ap (λ (l : List Block). old ++ l) (sym (map-append block_of (take i runs) (r ∷ [])) ∙ ap (map block_of) (ap (λ (x : Run). take i runs ++ x ∷ []) is ∙ sym (take_more runs i r within)))
+
+pub all_runs_pushed : (old now : List Block) (runs : List Run) (i : ℕ) → length runs ≤ i → now ≡ old ++ map block_of (take i runs) → now ≡ old ++ map block_of runs
+all_runs_pushed old now runs i past so_far = so_far ∙ ap (λ (l : List Run). old ++ map block_of l) (take_all runs i past)
+
+-- ---- the plan
+
+pub plan_length : (b : Blocks) (es : List Effect) (made : Planned) → plan_of b es ≡ Some made → length (flat_map spelled_record made.records) ≡ batch_length es
+plan_length b es made is =
+    let g = goes_on_by b es (begun b) made is in
+    ap (λ l. length (flat_map spelled_record l)) g.records ∙ all_length b es (placing b) g.more made.placing g.next
+
+-- there is a plan
+pub not_without : (b : Blocks) (es : List Effect) → can_place b es ≡ true → plan_of b es ≡ None → ⊥
+not_without b es can none = true≢false (sym can ∙ ap is_some none)
+
+-- where messages lie behind it
+pub blocks_after : (b : Blocks) (es : List Effect) (made : Planned) → plan_of b es ≡ Some made → blocks_by b es (Some made) ≡ blocks_then b es
+blocks_after b es made is = sym (ap (blocks_by b es) is)
+
+-- ---- the blocks that may be dropped
+
+behind_logs : (b : Blocks) (all : Bool) → IsTable b → AreBehindLogs (blocks_of all b)
+behind_logs b all table = go all (All-weaker (λ (k : Block). IsFile k.file) (λ k. 2 ≤ k.file) (λ k file. file.low) (blocks b) table.files)
+  where
+    second : (xs ys : List Block) → AreBehindLogs (xs ++ ys) → AreBehindLogs ys
+    second [] ys h = h
+    second (x ∷ xs) ys h = second xs ys (All-tail (λ (k : Block). 2 ≤ k.file) x (xs ++ ys) h)
+
+    go : (all : Bool) → AreBehindLogs (blocks b) → AreBehindLogs (cond all (blocks b) (option_to_list b.writing))
+    go true h = h
+    go false h = second b.older (option_to_list b.writing) h
+
+behind_runs : (runs : List Run) → All (λ run. 2 ≤ run.file) runs → AreBehindLogs (map block_of runs)
+behind_runs [] h = All-nil (λ (k : Block). 2 ≤ k.file)
+behind_runs (run ∷ runs) h = All-cons (λ (k : Block). 2 ≤ k.file) (block_of run) (map block_of runs) (All-head (λ (r : Run). 2 ≤ r.file) run runs h) (behind_runs runs (All-tail (λ (r : Run). 2 ≤ r.file) run runs h))
+
+pub staged_behind : (b : Blocks) (before : List Block) (es : List Effect) (staged : Staged) → IsTable b → IsTrue (list_all is_record es) → AreBehindLogs before → IsStaged b before es staged → AreBehindLogs staged.blocks.items
+staged_behind b before es staged table allowed old s =
+    let files = (law_plans.runs b es s.made (record { table = table; allowed = allowed; made_is = s.made_is })).files in
+    subst AreBehindLogs (sym s.blocks_are)
+    (All-append (λ (k : Block). 2 ≤ k.file) before (blocks_of s.all b ++ map block_of s.made.runs) old
+    (All-append (λ (k : Block). 2 ≤ k.file) (blocks_of s.all b) (map block_of s.made.runs) (behind_logs b s.all table) (behind_runs s.made.runs files)))

@@ -1,0 +1,5 @@
+use Rattle.stream_store.proofs.Rooms.{law_placing}
+use Rattle.stream_store.proofs.laws.law_placing.Goals as goal
+
+pub returns : goal.returns
+returns c = law_placing

@@ -1,0 +1,55 @@
+-- Where messages that wait for a commit are going to lie, and whether there is a place for one more.
+use Rattle.std.specs.Prelude.{ℕ, Bool, false, List, Option, Some, None, length, option_map, is_some}
+use Rattle.effects.specs.declared.effect.Effect.{Effect}
+use Rattle.effects.specs.declared.effect.Effect.TheVariants.{MakeStream, ChangeStream, DropStream, PutHere, Skip, Remove, MakeConsumer, DropConsumer, Deliver, Acked, Due, GivenUp, Now}
+use Rattle.op_records.specs.Blocks.{spelled_message}
+use Rattle.block_table.specs.declared.placing.Placing.{Placing}
+use Rattle.block_table.specs.Blocks.{Blocks}
+use Rattle.block_table.specs.Placings.{place, restarted}
+use Rattle.block_writing.specs.Planning.{Planned, begun, message_by, planned, spots_in}
+use Rattle.stream_store.specs.Steps.{steps_of, with_steps}
+
+-- the plan of these changes, None if a message of theirs has no place
+abbrev pub plan_of : Blocks → List Effect → Option Planned
+plan_of b es = planned b es (Some (begun b))
+
+-- each message of theirs has a place
+abbrev pub can_place : Blocks → List Effect → Bool
+can_place b es = is_some (plan_of b es)
+
+-- where the next message goes behind a change
+abbrev pub placing_then : Blocks → Placing → Effect → Option Placing
+placing_then b p (MakeStream incarnation made config) = Some (restarted p)
+placing_then b p (ChangeStream config) = Some p
+placing_then b p DropStream = Some (restarted p)
+placing_then b p (PutHere seq at id subject headers payload) =
+    option_map (λ r. r.1) (place b (length (spelled_message (message_by seq at subject headers payload))) p)
+placing_then b p (Skip seq at id) = Some p
+placing_then b p (Remove low high) = Some p
+placing_then b p (MakeConsumer name made config cursor picks) = Some p
+placing_then b p (DropConsumer name) = Some p
+placing_then b p (Deliver name seq count due dseq) = Some p
+placing_then b p (Acked name low high) = Some p
+placing_then b p (Due name seq due) = Some p
+placing_then b p (GivenUp name moment) = Some p
+placing_then b p (Now moment) = Some p
+
+-- where it goes behind these changes
+abbrev pub placing_behind : Blocks → List Effect → Option Placing
+placing_behind b es = option_map (λ made. made.placing) (plan_of b es)
+
+abbrev pub has_place : Blocks → ℕ → Option Placing → Bool
+has_place b len None = false
+has_place b len (Some p) = is_some (place b len p)
+
+-- a message of so many bytes has a place behind these changes
+abbrev pub has_room : Blocks → List Effect → ℕ → Bool
+has_room b es len = has_place b len (placing_behind b es)
+
+-- where messages lie once these changes are committed
+abbrev pub blocks_by : Blocks → List Effect → Option Planned → Blocks
+blocks_by b es None = b
+blocks_by b es (Some made) = with_steps (steps_of es (spots_in made.records)) b
+
+abbrev pub blocks_then : Blocks → List Effect → Blocks
+blocks_then b es = blocks_by b es (plan_of b es)

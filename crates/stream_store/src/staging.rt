@@ -1,0 +1,124 @@
+//! What a commit is going to write.
+
+ghost use Rattle.std.specs.Prelude.{◌≡◌, ◌+◌, ◌<◌, ◌≤◌, ◌^◌, ◌++◌, IfOk, IsErrOf, IsTrue, OnOk, map};
+ghost use Rattle.std.specs.List.{list_all};
+ghost use Rattle.block_table.specs.Tables.{IsTable};
+ghost use Rattle.op_records.specs.Allowed.{is_record};
+ghost use Rattle.stream_store.specs.Committing.{batch_length};
+ghost use Rattle.stream_store.specs.Placing.{can_place};
+ghost use Rattle.stream_store.specs.Staging.{IsStaged, block_of, blocks_of};
+
+use crate::fault::CommitFault;
+use crate::logs::law_bytes;
+use crate::steps::{Step, steps_of};
+use block_table::{Block, BlockTable};
+use block_writing::{Run, plan};
+use effects::Effect;
+use gate_log::{Batch, GateLog};
+use js_base::NoMemory;
+use std::alloc::Global;
+
+/// What a commit is going to write, with all memory that it takes.
+#[derive(Drop)]
+pub(crate) struct Staged {
+    /// The messages, in each file that gets some.
+    pub(crate) runs: Vec<Run>,
+    /// The records.
+    pub(crate) batch: Batch,
+    /// What the commit makes of where messages lie.
+    pub(crate) steps: Vec<Step>,
+    /// The blocks that may hold no message behind it.
+    pub(crate) blocks: Vec<Block>,
+}
+
+/// Adds blocks to a list.
+fn add_blocks(into: &mut Vec<Block>, blocks: &[Block]) -> Result<(), NoMemory>
+    ensures ok { OnOk result (into.new.items ≡ into.old.items ++ blocks.now) }
+{
+    for block in blocks {
+        into.push(*block)?;
+    }
+    Ok(())
+}
+
+/// Adds the files of runs, as blocks of which only the file counts.
+fn add_files(into: &mut Vec<Block>, runs: &[Run]) -> Result<(), NoMemory>
+    ensures ok { OnOk result (into.new.items ≡ into.old.items ++ map block_of runs.now) }
+{
+    for run in runs {
+        into.push(Block {
+            file: run.file,
+            end: 0,
+        })?;
+    }
+    Ok(())
+}
+
+/// Whether messages go by one of these steps.
+fn take_away(steps: &[Step]) -> bool {
+    for step in steps {
+        match step {
+            Step::Put { .. } => {}
+            Step::Remove { .. } | Step::Clear => return true,
+        }
+    }
+    false
+}
+
+/// These blocks, the files of runs, and the blocks of a table: all of them if messages go, and else the one being written.
+fn left_blocks(
+    alloc: Global,
+    before: &[Block],
+    table: &BlockTable,
+    runs: &[Run],
+    all: bool,
+) -> Result<Vec<Block>, NoMemory>
+    ensures value { IfOk result (λ left. left.items ≡ before.now ++ (blocks_of all table.now ++ map block_of runs.now)) }
+{
+    let mut left = Vec::new(alloc);
+    add_blocks(&mut left, before)?;
+    if all {
+        add_blocks(&mut left, table.older())?;
+    }
+    if let Some(block) = table.writing() {
+        left.push(block)?;
+    }
+    add_files(&mut left, runs)?;
+    Ok(left)
+}
+
+/// What a commit of these changes is going to write, if the log has room for it. Some blocks may be without messages from before.
+pub(crate) fn stage(
+    alloc: Global,
+    log: &GateLog,
+    table: &BlockTable,
+    before: &[Block],
+    effects: &[Effect],
+) -> Result<Staged, CommitFault>
+    requires records { IsTrue (list_all is_record effects.now) }
+    requires room { IsTrue (can_place table.now effects.now) }
+    ensures staged { IfOk result (IsStaged table.now before.now effects.now) }
+    ensures table { IsTable table.now }
+    ensures fits { OnOk result (log.now.end + 6 + batch_length effects.now ≤ 2 ^ 31) }
+    ensures full { IsErrOf result CommitFault.Full → 2 ^ 31 < log.now.end + 6 + batch_length effects.now }
+    ensures fault { IsErrOf result CommitFault.Fault → ⊥ }
+{
+    // that the table is one is what the proof takes from this call
+    let _ = table.writing();
+    let plan = plan(alloc, table, effects)?;
+    if !log.fits(plan.batch.len()) {
+        return Err(CommitFault::Full);
+    }
+    let records = plan.batch.as_slice();
+    law_bytes(records);
+    let batch = Batch::of(alloc, records)?;
+    let steps = steps_of(alloc, effects, plan.spots.as_slice())?;
+    let all = take_away(steps.as_slice());
+    let blocks = left_blocks(alloc, before, table, plan.runs.as_slice(), all)?;
+    Ok(Staged {
+        runs: plan.runs,
+        batch,
+        steps,
+        blocks,
+    })
+}

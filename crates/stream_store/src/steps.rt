@@ -1,0 +1,73 @@
+//! What a commit makes of where messages lie.
+
+ghost use Rattle.std.specs.Prelude.{◌≡◌, IfOk, OnErr, OnOk};
+ghost use Rattle.stream_store.specs.Steps.{steps_of as steps_in, with_step};
+
+use block_table::{BlockTable, PutFault};
+use effects::Effect;
+use js_base::{NoMemory, Spot};
+use std::alloc::Global;
+
+/// What one change makes of where messages lie.
+#[derive(Clone, Copy, Debug)]
+pub(crate) enum Step {
+    /// A message of this sequence is stored at a spot.
+    Put { seq: u64, spot: Spot },
+    /// The messages from `low` to `high` go.
+    Remove { low: u64, high: u64 },
+    /// All messages go.
+    Clear,
+}
+
+/// Takes a step into a table. A message that does not fit is left out. An `Err` changes nothing.
+pub(crate) fn take_step(table: &mut BlockTable, step: Step) -> Result<(), NoMemory>
+    ensures ok { OnOk result (table.new ≡ with_step step table.old) }
+    ensures err { OnErr result (table.new ≡ table.old) }
+{
+    match step {
+        Step::Put { seq, spot } => match table.put(seq, spot) {
+            Ok(()) | Err(PutFault::Misfit) => Ok(()),
+            Err(PutFault::NoMemory) => Err(NoMemory),
+        },
+        Step::Remove { low, high } => {
+            table.remove(low, high);
+            Ok(())
+        }
+        Step::Clear => {
+            table.clear();
+            Ok(())
+        }
+    }
+}
+
+/// The steps of changes, whose messages lie at these spots.
+pub(crate) fn steps_of(
+    alloc: Global,
+    effects: &[Effect],
+    spots: &[Spot],
+) -> Result<Vec<Step>, NoMemory>
+    ensures value { IfOk result (λ steps. steps.items ≡ steps_in effects.now spots.now) }
+{
+    let mut steps = Vec::new(alloc);
+    let mut used = 0;
+    for effect in effects {
+        match effect {
+            Effect::PutHere { seq, .. } => {
+                if let Some(spot) = spots.get(used) {
+                    steps.push(Step::Put {
+                        seq: *seq,
+                        spot: *spot,
+                    })?;
+                    used += 1;
+                }
+            }
+            Effect::Remove { low, high } => steps.push(Step::Remove {
+                low: *low,
+                high: *high,
+            })?,
+            Effect::MakeStream { .. } | Effect::DropStream => steps.push(Step::Clear)?,
+            _ => {}
+        }
+    }
+    Ok(steps)
+}
