@@ -20,7 +20,13 @@ fn with_messages(alloc: Global, sizes: &[usize]) -> Result<MemVol, Fail> {
     make_stream(alloc, &mut store, &mut vol)?;
     for (at, size) in sizes.iter().enumerate() {
         let payload = vec![in alloc; b'x'; *size]?;
-        publish(alloc, &mut store, &mut vol, at as u64 + 1, payload.as_slice())?;
+        publish(
+            alloc,
+            &mut store,
+            &mut vol,
+            at as u64 + 1,
+            payload.as_slice(),
+        )?;
     }
     Ok(vol.into_vol())
 }
@@ -53,21 +59,21 @@ fn block_is_filled_to_its_last_byte(rt: HostRuntime) -> Result<(), Fail> {
 
 /// What came of a purge, its volume, and how many calls of that were made before it.
 #[derive(Drop)]
-struct Purged {
+struct AfterPurge {
     ended: Ended,
     vol: MemVol,
     made: usize,
 }
 
 /// Purges a volume of the messages in front of a sequence, and stops at the call with this number.
-fn purged(alloc: Global, vol: MemVol, seq: u64, stop: Option<u64>) -> Result<Purged, Fail> {
+fn purged(alloc: Global, vol: MemVol, seq: u64, stop: Option<u64>) -> Result<AfterPurge, Fail> {
     let mut vol = Blind::over(alloc, vol, &[], None)?;
     let (mut store, _) = Store::open(alloc, &mut vol)?;
     let vol = vol.into_vol();
     let made = vol.calls().len();
     let mut vol = Blind::over(alloc, vol, &[], stop)?;
     let ended = purge(alloc, &mut store, &mut vol, seq)?;
-    Ok(Purged {
+    Ok(AfterPurge {
         ended,
         vol: vol.into_vol(),
         made,

@@ -81,12 +81,7 @@ fn has_room(store: &mut Store, change: &Effect) -> Result<bool, NoMemory>
 }
 
 /// Commits a change alone.
-fn commit(
-    alloc: Global,
-    store: &mut Store,
-    vol: &mut Blind,
-    change: Effect,
-) -> Result<Ended, Fail>
+fn commit(alloc: Global, store: &mut Store, vol: &mut Blind, change: Effect) -> Result<Ended, Fail>
     requires allowed { IsTrue (is_record change) }
 {
     if !has_room(store, &change)? {

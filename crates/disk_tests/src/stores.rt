@@ -170,9 +170,7 @@ fn check_each_byte(rt: &impl Abort, alloc: Global, vol: &MemVol, file: u32) -> R
 }
 
 #[test]
-fn log_or_block_with_another_byte_or_end_is_opened_or_refused(
-    rt: HostRuntime,
-) -> Result<(), Fail> {
+fn log_or_block_with_another_byte_or_end_is_opened_or_refused(rt: HostRuntime) -> Result<(), Fail> {
     let alloc = rt.alloc();
     let vol = with_messages(alloc, 2)?;
     check_each_byte(&rt, alloc, &vol, 0)?;
