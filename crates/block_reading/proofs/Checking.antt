@@ -1,6 +1,7 @@
 -- The check of a block's bytes, message by message.
-use Rattle.std.proofs.Common.{◌≡◌, ◌≤◌, ◌<◌, ◌⊎◌, ◌^◌, inl, inr, ℕ, ◌+◌, ◌&&◌, nat_lt, List, [], ◌∷◌, ◌++◌, Ok, Err, IsTrue, length, take, drop, ◌-◌, refl, sym, ap, subst, ◌∙◌, arith, length-take}
+use Rattle.std.proofs.Common.{◌≡◌, ◌≤◌, ◌<◌, ◌⊎◌, ◌^◌, inl, inr, ℕ, ◌+◌, ◌&&◌, nat_lt, List, [], ◌∷◌, ◌++◌, Ok, Err, IsTrue, get_or, length, take, drop, ◌-◌, refl, sym, ap, subst, ◌∙◌, arith, length-take}
 use Rattle.std.proofs.lemmas.Bool.{and_parts}
+use Rattle.std.proofs.lemmas.List.Elements.{All-from_get_or}
 use Rattle.js_base.specs.Bytes.{Bytes}
 use Rattle.js_model.specs.Configs.{is_number}
 use Rattle.js_model.specs.declared.stream.Message.{Message}
@@ -60,6 +61,10 @@ module _ (bytes : Bytes) (last : ℕ) where
       go (inr above) = inr (omega (arith, above, is))
 
 -- ---- one message
+
+-- what a slice has
+pub is_batch : (bytes : Bytes) → ((i : ℕ) → get_or bytes i 0 < 256) → length bytes < 2 ^ 32 → IsBatch bytes
+is_batch bytes fits short = record { are_bytes = All-from_get_or (λ (byte : ℕ). byte < 256) bytes 0 (λ i within. fits i); short = short }
 
 -- its beginning and its end, and its sequence
 pub is_on : (bytes : Bytes) (at seq behind : ℕ) → IsBatch bytes → EndsAt (Ok (seq, behind)) (message_at bytes at) → IsOn bytes at seq behind

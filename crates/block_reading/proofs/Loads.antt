@@ -1,10 +1,12 @@
 -- Blocks that were read one after the other.
-use Rattle.std.proofs.Common.{◌≡◌, ◌<◌, ◌≤◌, ℕ, suc, ◌+◌, min, List, [], ◌∷◌, ◌++◌, All, length, take, drop, get_or, refl, sym, ap, subst, ◌∙◌, arith, take-append-drop, drop-cons}
+use Rattle.std.proofs.Common.{◌≡◌, ◌<◌, ◌≤◌, ℕ, suc, ◌+◌, min, List, [], ◌∷◌, ◌++◌, Option, Some, None, All, length, take, drop, get_or, refl, sym, ap, subst, ◌∙◌, arith, take-append-drop, drop-cons}
+use Rattle.std.specs.Option.{option_to_list}
 use Rattle.std.proofs.lemmas.List.{take_min, take_more, take_all}
-use Rattle.std.proofs.lemmas.List.Elements.{All-push, All-append}
+use Rattle.std.proofs.lemmas.List.Elements.{All-append, All-cons, All-nil, All-push}
 use Rattle.js_base.specs.Bytes.{Bytes}
 use Rattle.vol_disk.specs.Disk.{Files}
 use Rattle.block_table.specs.declared.block.Block.{Block}
+use Rattle.block_table.specs.Blocks.{Blocks, blocks}
 use Rattle.block_reading.specs.Standing.{IsWhole, written_in}
 use Rattle.block_reading.specs.Damage.{AreWrongAt, HasBadBlock}
 use Rattle.block_reading.specs.Reading.{IsBlockFault, IsCheckFault}
@@ -49,5 +51,21 @@ module _ (image : Files) (last : ℕ) where
       same [] ys = refl
       same (x ∷ xs) ys = ap (λ (l : List Block). x ∷ l) (same xs ys)
 
-  pub whole_all : (ks more : List Block) (i : ℕ) → length ks ≤ i → All (IsWhole image last) (take i ks) → All (IsWhole image last) more → All (IsWhole image last) (ks ++ more)
+  whole_all : (ks more : List Block) (i : ℕ) → length ks ≤ i → All (IsWhole image last) (take i ks) → All (IsWhole image last) more → All (IsWhole image last) (ks ++ more)
   whole_all ks more i past all rest = All-append (IsWhole image last) ks more (subst (All (IsWhole image last)) (take_all i ks past) all) rest
+
+  -- the block being written is the last of them
+  pub written_bad : (b : Blocks) (i : ℕ) (k : Block) (fault : MessagesFault) → length b.older ≤ i → Some k ≡ b.writing → All (IsWhole image last) (take i b.older) → IsBlockFault image last k fault →
+      IsCheckFault image last (blocks b) fault
+  written_bad b i k fault past is all h =
+      subst (λ (o : Option Block). IsCheckFault image last (b.older ++ option_to_list o) fault) is
+      (bad_behind b.older k [] fault (subst (All (IsWhole image last)) (take_all i b.older past) all) h)
+
+  pub written_whole : (b : Blocks) (i : ℕ) (k : Block) → length b.older ≤ i → Some k ≡ b.writing → All (IsWhole image last) (take i b.older) → IsWhole image last k → All (IsWhole image last) (blocks b)
+  written_whole b i k past is all one =
+      subst (λ (o : Option Block). All (IsWhole image last) (b.older ++ option_to_list o)) is
+      (whole_all b.older (k ∷ []) i past all (All-cons (IsWhole image last) k [] one (All-nil (IsWhole image last))))
+
+  pub none_written : (b : Blocks) (i : ℕ) → length b.older ≤ i → None ≡ b.writing → All (IsWhole image last) (take i b.older) → All (IsWhole image last) (blocks b)
+  none_written b i past is all =
+      subst (λ (o : Option Block). All (IsWhole image last) (b.older ++ option_to_list o)) is (whole_all b.older [] i past all (All-nil (IsWhole image last)))
