@@ -21,7 +21,7 @@ use Rattle.block_table.specs.Puts.{end_of}
 use Rattle.block_table.specs.Tables.{IsTable, lies_in}
 use Rattle.block_reading.specs.Standing.{IsWhole, IsThere, StandsAt, written_in}
 use Rattle.block_reading.specs.Damage.{HasLost, IsHere, IsToldBy}
-use Rattle.block_reading.specs.Reading.{AreLostFault, IsFound, IsLostFault}
+use Rattle.block_reading.specs.Reading.{AreLostFault, IsCheckFault, IsFound, IsLostFault, IsMessagesFault}
 use Rattle.block_reading.specs.declared.fault.MessagesFault.{MessagesFault}
 use Rattle.block_reading.specs.declared.fault.MessagesFault.TheVariants.{Fault, Damaged, NoMemory as OutOfMemory}
 use Rattle.block_reading.proofs.Follows.{follow_within}
@@ -187,3 +187,16 @@ lost_there image b us i u ms spot (Damaged file place) within is at found told h
   file_is = h.0 ∙ ap (λ (s : Spot). s.file) (sym at.spot_is);
   at_is = h.1 ∙ ap (λ (s : Spot). s.at) (sym at.spot_is);
 }
+
+-- ---- why messages were not read
+
+pub check_told : (image : Files) (b : Blocks) (last : ℕ) (told : List Message) (fault : MessagesFault) → IsCheckFault image last (blocks b) fault → IsMessagesFault image b last told fault
+check_told image b last told Fault h = tt
+check_told image b last told (Damaged file at) h = inl h
+check_told image b last told OutOfMemory h = tt
+
+pub lost_told : (image : Files) (b : Blocks) (last : ℕ) (told : List Message) (fault : MessagesFault) → All (IsWhole image last) (blocks b) → AreLostFault image b.placed told fault →
+    IsMessagesFault image b last told fault
+lost_told image b last told Fault all h = tt
+lost_told image b last told (Damaged file at) all h = inr (all, h)
+lost_told image b last told OutOfMemory all h = tt
