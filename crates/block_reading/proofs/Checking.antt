@@ -71,16 +71,13 @@ pub is_on : (bytes : Bytes) (at seq behind : ℕ) → IsBatch bytes → EndsAt (
 is_on bytes at seq behind few (m, is, reads) =
     let spells = (law_message bytes at m behind few).0 reads in
     let size = spelled_size m spells.allowed in
-    let same = span_lie_len (behind - at) (drop at bytes) (spelled_message m) spells.lies.bytes_are in
+    let same = ap length spells.lies.bytes_are in
     record {
       further = omega (arith, size.least, same, length-take (behind - at) (drop at bytes));
       within = spells.lies.within;
       number = subst (λ (n : ℕ). n < 2 ^ 62) is (number_of m spells.allowed);
     }
   where
-    span_lie_len : (n : ℕ) (xs ys : Bytes) → take n xs ≡ ys → length (take n xs) ≡ length ys
-    span_lie_len n xs ys e = ap length e
-
     number_of : (m : Message) → IsTrue (is_block_message m) → m.seq < 2 ^ 62
     number_of m is =
         let fits = and_parts _ _ is in
@@ -90,13 +87,13 @@ is_on bytes at seq behind few (m, is, reads) =
         lt_is m.seq (2 ^ 62) numbers.0
 
 pub told_fault : (bytes : Bytes) (at : ℕ) (fault : RecordFault) → IsFaultOf (message_at bytes at) fault → IsEndFault bytes at (bytes_fault at fault)
-told_fault bytes at (Cut place) h = (refl, Cut place, h)
-told_fault bytes at (BadKind place) h = (refl, BadKind place, h)
-told_fault bytes at (BadField place) h = (refl, BadField place, h)
+told_fault bytes at (Cut place) h = (refl, (Cut place, h))
+told_fault bytes at (BadKind place) h = (refl, (BadKind place, h))
+told_fault bytes at (BadField place) h = (refl, (BadField place, h))
 told_fault bytes at OutOfMemory h = tt
 
 -- why the check ends there
 pub end_fault : (bytes : Bytes) (last at low end : ℕ) (fault : BytesFault) → StandSo bytes last at low → at < end → IsEndFault bytes at fault → IsBytesFault bytes last end fault
-end_fault bytes last at low end (Wrong place) so_far more (is, fault, reads) =
+end_fault bytes last at low end (Wrong place) so_far more (is, (fault, reads)) =
     subst (λ (k : ℕ). AreWrongAt bytes last end k) (sym is) (wrong_there bytes last at low end fault so_far more reads)
 end_fault bytes last at low end checked.NoMemory so_far more h = tt

@@ -33,7 +33,7 @@ module _ (bytes : Bytes) where
   follow_within (x ∷ xs) here end few within f = follow_within xs f.0 end few (message_on here x f.0 few f.1).1 f.2
 
 -- the least sequence that the next message may have
-pub next_seq : ℕ → List Message → ℕ
+abbrev pub next_seq : ℕ → List Message → ℕ
 next_seq low [] = low
 next_seq low (m ∷ ms) = next_seq (m.seq + 1) ms
 

@@ -34,12 +34,12 @@ abbrev pub placed_seqs : List Placed → List ℕ
 placed_seqs ps = map (λ p. p.seq) ps
 
 find_seq : (ps : List Placed) (i : ℕ) (d : Placed) → IsStrictlySortedBy nat_cmp (placed_seqs ps) → i < length ps → find (λ p. p.seq == (get_or ps i d).seq) ps ≡ Some (get_or ps i d)
-find_seq [] i d sorted within = omega (arith, within)
+find_seq [] i d sorted within = absurd (omega (arith, within))
 find_seq (p ∷ ps) zero d sorted within = ap (λ (c : Bool). cond c (Some p) (find (λ (q : Placed). q.seq == p.seq) ps)) (eq-eqb p.seq p.seq refl)
 find_seq (p ∷ ps) (suc j) d sorted within =
     let inner : j < length ps = omega (arith, within) in
     let less = below_from_sorted (placed_seqs (p ∷ ps)) 0 (suc j) d.seq sorted (omega arith) (omega (arith, within, length_map ps)) in
-    let below : p.seq < (get_or ps j d).seq = subst (λ (n : ℕ). p.seq < n) (get_or-map (λ (q : Placed). q.seq) ps j d) less in
+    let below : p.seq < (get_or ps j d).seq = subst (λ (n : ℕ). p.seq < n) (get_or-map (λ (q : Placed). q.seq) ps j d d.seq inner) less in
     ap (λ (c : Bool). cond c (Some p) (find (λ (q : Placed). q.seq == (get_or ps j d).seq) ps)) (ne_eqb p.seq (get_or ps j d).seq (λ same. omega (arith, below, same)))
     ∙ find_seq ps j d (sorted_tail nat_cmp p.seq (placed_seqs ps) sorted) inner
   where
@@ -68,15 +68,15 @@ module _ (b : Blocks) (us : List Message) (i : ℕ) (u : Message) (table : IsTab
       counts (m ∷ ms) = let more = counts ms in omega (arith, more)
 
   -- the message placed there
-  other : Spot → Placed
+  abbrev other : Spot → Placed
   other spot = record { seq = u.seq; spot = spot }
 
-  here : Spot → Placed
+  abbrev here : Spot → Placed
   here spot = get_or b.placed i (other spot)
 
   seq_is : (spot : Spot) → (here spot).seq ≡ u.seq
   seq_is spot =
-      sym (get_or-map (λ (p : Placed). p.seq) b.placed i (other spot)) ∙ ap (λ (l : List ℕ). get_or l i u.seq) same ∙ get_or-map (λ (m : Message). m.seq) us i u
+      sym (get_or-map (λ (p : Placed). p.seq) b.placed i (other spot) u.seq (omega (arith, within, long))) ∙ ap (λ (l : List ℕ). get_or l i u.seq) same ∙ get_or-map (λ (m : Message). m.seq) us i u u.seq within
       ∙ ap (λ (m : Message). m.seq) (sym is)
 
   spot_there : (spot : Spot) → spot_of b.placed u.seq ≡ Some (here spot).spot
@@ -102,7 +102,7 @@ module _ (b : Blocks) (us : List Message) (i : ℕ) (u : Message) (table : IsTab
       go e = cc
 
       itself : (xs : List Placed) (j : ℕ) (d : Placed) → j < length xs → get_or xs j d ≡ get_or xs j (get_or xs j d)
-      itself [] j d inside = omega (arith, inside)
+      itself [] j d inside = absurd (omega (arith, inside))
       itself (x ∷ xs) zero d inside = refl
       itself (x ∷ xs) (suc j) d inside = itself xs j d (omega (arith, inside))
 
@@ -115,15 +115,16 @@ block_within image last k h =
 
 inside_file : (image : Files) (last : ℕ) (ks : List Block) (spot : Spot) → lies_in ks spot ≡ true → All (IsWhole image last) ks → spot.at + spot.len ≤ length (image spot.file)
 inside_file image last [] spot h all = absurd (true≢false (sym h))
-inside_file image last (k ∷ ks) spot h all = go (or_cases (k.file == spot.file && nat_le (end_of spot) k.end) (lies_in ks spot) h)
+inside_file image last (k ∷ ks) spot h all =
+    go (λ is. inside_file image last ks spot is (All-tail (IsWhole image last) k ks all)) (or_cases (k.file == spot.file && nat_le (end_of spot) k.end) (lies_in ks spot) h)
   where
-    go : ((k.file == spot.file && nat_le (end_of spot) k.end) ≡ true) ⊎ (lies_in ks spot ≡ true) → spot.at + spot.len ≤ length (image spot.file)
-    go (inl is) =
+    go : (lies_in ks spot ≡ true → spot.at + spot.len ≤ length (image spot.file)) → ((k.file == spot.file && nat_le (end_of spot) k.end) ≡ true) ⊎ (lies_in ks spot ≡ true) → spot.at + spot.len ≤ length (image spot.file)
+    go rest (inl is) =
         let both = and_parts (k.file == spot.file) (nat_le (end_of spot) k.end) is in
         let most = leb-true (end_of spot) k.end both.1 in
         let whole = block_within image last k (All-head (IsWhole image last) k ks all) in
         subst (λ (f : ℕ). spot.at + spot.len ≤ length (image f)) (eqb-true k.file spot.file both.0) (omega (arith, most, whole))
-    go (inr is) = inside_file image last ks spot is (All-tail (IsWhole image last) k ks all)
+    go rest (inr is) = rest is
 
 pub spot_within : (image : Files) (last : ℕ) (b : Blocks) (i : ℕ) (u : Message) (spot : Spot) → IsTable b → IsPlacedAt b i u spot → All (IsWhole image last) (blocks b) → spot.at + spot.len ≤ length (image spot.file)
 spot_within image last b i u spot table at all =
