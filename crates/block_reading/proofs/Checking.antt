@@ -1,13 +1,12 @@
 -- The check of a block's bytes, message by message.
-use Rattle.std.proofs.Common.{◌≡◌, ◌≤◌, ◌<◌, ◌⊎◌, ◌^◌, inl, inr, ℕ, ◌+◌, ◌&&◌, nat_lt, List, [], ◌∷◌, ◌++◌, Ok, Err, IsTrue, get_or, length, take, drop, ◌-◌, refl, sym, ap, subst, ◌∙◌, arith, length-take}
+use Rattle.std.proofs.Common.{◌≡◌, ◌≤◌, ◌<◌, ◌⊎◌, ◌^◌, inl, inr, ℕ, ◌+◌, List, [], ◌∷◌, ◌++◌, Ok, Err, IsTrue, get_or, length, drop, ◌-◌, refl, sym, ap, subst, ◌∙◌, arith, length-take}
 use Rattle.std.proofs.lemmas.Bool.{and_parts}
 use Rattle.std.proofs.lemmas.List.Elements.{All-from_get_or}
 use Rattle.js_base.specs.Bytes.{Bytes}
-use Rattle.js_model.specs.Configs.{is_number}
 use Rattle.js_model.specs.declared.stream.Message.{Message}
 use Rattle.op_records.specs.Answers.{IsFaultOf}
 use Rattle.op_records.specs.BlockAnswers.{EndsAt}
-use Rattle.op_records.specs.Blocks.{message_at, is_block_message, spelled_message}
+use Rattle.op_records.specs.Blocks.{message_at, is_block_message}
 use Rattle.op_records.specs.Laws.{IsBatch}
 use Rattle.op_records.specs.declared.fault.RecordFault.{RecordFault}
 use Rattle.op_records.specs.declared.fault.RecordFault.TheVariants.{Cut, BadKind, BadField, NoMemory as OutOfMemory}
@@ -20,7 +19,7 @@ use Rattle.block_reading.specs.Reading.{IsBytesFault, IsEndFault, IsOn, bytes_fa
 use Rattle.block_reading.specs.declared.bytes.BytesFault.{BytesFault}
 use Rattle.block_reading.specs.declared.bytes.BytesFault.TheVariants as checked
 use Rattle.block_reading.specs.declared.bytes.BytesFault.TheVariants.{Wrong}
-use Rattle.block_reading.proofs.Follows.{follow_push, message_on, next_seq, next_push, between_push}
+use Rattle.block_reading.proofs.Follows.{follow_push, next_seq, next_push, between_push}
 use Rattle.block_reading.proofs.Wrong.{wrong_message, wrong_seq}
 
 -- messages stand up to here, and the next one has this sequence or a greater one

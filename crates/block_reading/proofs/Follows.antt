@@ -3,10 +3,9 @@ use Rattle.std.proofs.Common.{◌≡◌, ◌≤◌, ℕ, ◌+◌, List, [], ◌�
 use Rattle.js_base.specs.Bytes.{Bytes}
 use Rattle.js_model.specs.Lists.{Between}
 use Rattle.js_model.specs.declared.stream.Message.{Message}
-use Rattle.js_model.proofs.Parts.{between_bounds}
 use Rattle.op_records.specs.Blocks.{message_at, Follow}
 use Rattle.op_records.specs.Laws.{IsBatch}
-use Rattle.op_records.proofs.Steps.{value_is, place_is}
+use Rattle.op_records.proofs.Steps.{place_is}
 use Rattle.op_records.proofs.BlocksLaws.{law_message}
 
 module _ (bytes : Bytes) where

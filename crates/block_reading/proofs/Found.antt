@@ -1,5 +1,5 @@
 -- Stored messages that were read one after the other.
-use Rattle.std.proofs.Common.{◌≡◌, ◌<◌, ◌≤◌, ◌⊎◌, inl, inr, ℕ, zero, suc, ◌+◌, ◌==◌, ◌&&◌, Bool, true, false, cond, List, [], ◌∷◌, ◌++◌, Option, Some, None, All, IsTrue, length, take, drop, get_or, map, find, option_map, refl, sym, ap, subst, ◌∙◌, arith, length-take}
+use Rattle.std.proofs.Common.{◌≡◌, ◌<◌, ◌≤◌, ◌⊎◌, inl, inr, ℕ, zero, suc, ◌+◌, ◌==◌, ◌&&◌, Bool, true, cond, List, [], ◌∷◌, ◌++◌, Some, None, All, IsTrue, length, take, drop, get_or, map, find, option_map, refl, sym, ap, subst, ◌∙◌, arith, length-take}
 use Rattle.std.specs.Prelude.{nat_le}
 use Rattle.std.specs.List.{AllZip, list_all}
 use Rattle.std.specs.List.Sorted.{IsStrictlySortedBy}
@@ -20,12 +20,12 @@ use Rattle.block_table.specs.Blocks.{Blocks, blocks, spot_of}
 use Rattle.block_table.specs.Puts.{end_of}
 use Rattle.block_table.specs.Tables.{IsTable, lies_in}
 use Rattle.block_reading.specs.Standing.{IsWhole, IsThere, StandsAt, written_in}
-use Rattle.block_reading.specs.Damage.{HasLost, IsHere, IsToldBy}
+use Rattle.block_reading.specs.Damage.{IsToldBy}
 use Rattle.block_reading.specs.Reading.{AreLostFault, IsCheckFault, IsFound, IsLostFault, IsMessagesFault}
 use Rattle.block_reading.specs.declared.fault.MessagesFault.{MessagesFault}
 use Rattle.block_reading.specs.declared.fault.MessagesFault.TheVariants.{Fault, Damaged, NoMemory as OutOfMemory}
 use Rattle.block_reading.proofs.Follows.{follow_within}
-use Rattle.block_reading.proofs.Loads.{parts, one_more}
+use Rattle.block_reading.proofs.Loads.{item_is, parts, one_more}
 use Rattle.block_reading.proofs.OneReading.{here_of}
 
 -- ---- where a stored message lies
@@ -93,18 +93,13 @@ module _ (b : Blocks) (us : List Message) (i : ℕ) (u : Message) (table : IsTab
   placed_at spot found = record {
     p = here spot;
     within = omega (arith, within, long);
-    is = itself b.placed i (other spot) (omega (arith, within, long));
+    is = item_is b.placed b.placed i (other spot) refl (omega (arith, within, long));
     seq = seq_is spot;
     spot_is = sym (go (found ∙ spot_there spot));
   }
     where
       go : {x y : Spot} → Some x ≡ Some y → x ≡ y
       go e = cc
-
-      itself : (xs : List Placed) (j : ℕ) (d : Placed) → j < length xs → get_or xs j d ≡ get_or xs j (get_or xs j d)
-      itself [] j d inside = absurd (omega (arith, inside))
-      itself (x ∷ xs) zero d inside = refl
-      itself (x ∷ xs) (suc j) d inside = itself xs j d (omega (arith, inside))
 
 -- ---- within its file
 

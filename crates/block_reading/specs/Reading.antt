@@ -14,7 +14,7 @@ use Rattle.block_table.specs.declared.block.Block.{Block}
 use Rattle.block_table.specs.declared.placed.Placed.{Placed}
 use Rattle.block_table.specs.Blocks.{Blocks}
 use Rattle.block_reading.specs.Standing.{StandsAt, written_in}
-use Rattle.block_reading.specs.Damage.{AreDamaged, AreWrongAt, HasBadBlock, HasLost, IsHere, IsToldBy}
+use Rattle.block_reading.specs.Damage.{AreDamaged, AreWrongAt, HasBadBlock, HasLost, IsToldBy}
 use Rattle.block_reading.specs.declared.bytes.BytesFault.{BytesFault}
 use Rattle.block_reading.specs.declared.bytes.BytesFault.TheVariants as checked
 use Rattle.block_reading.specs.declared.fault.MessagesFault.{MessagesFault}

@@ -1,6 +1,6 @@
 //! Messages in bytes that were read.
 
-ghost use Rattle.std.specs.Prelude.{◌≡◌, ◌≤◌, ◌<◌, ◌^◌, length, Ok, IfOk, IfErr, OnOk};
+ghost use Rattle.std.specs.Prelude.{◌≡◌, ◌==◌, ◌&&◌, ◌≤◌, ◌<◌, ◌^◌, length, Ok, IfOk, IfErr, OnOk};
 ghost use Rattle.op_records.specs.BlockAnswers.{EndsAt};
 ghost use Rattle.op_records.specs.Blocks.{message_at};
 ghost use Rattle.block_reading.specs.Standing.{AreMessages};
@@ -67,6 +67,13 @@ pub(crate) fn check_bytes(
     Ok(())
 }
 
+/// Whether the message has the sequence and the moment that the log tells.
+fn is_told(told: &Message, message: &Message) -> bool
+    ensures value { result ≡ (message.now.seq == told.now.seq && message.now.at == told.now.at) }
+{
+    message.seq == told.seq && message.at == told.at
+}
+
 /// The stored message that the bytes are, which has the sequence and the moment that the log tells.
 pub(crate) fn stored_message(
     alloc: Global,
@@ -79,7 +86,7 @@ pub(crate) fn stored_message(
 {
     match read_message(alloc, bytes, 0) {
         Ok((message, end)) => {
-            if end == bytes.len() && message.seq == told.seq && message.at == told.at {
+            if end == bytes.len() && is_told(told, &message) {
                 Ok(message)
             } else {
                 Err(BytesFault::Wrong(0))

@@ -2,6 +2,7 @@ use Rattle.std.proofs.Common.{arith, inl, inr}
 use Rattle.std.proofs.lemmas.Result.{err_from_is_err_and}
 use Rattle.block_reading.proofs.Checking.{none_yet, one_more, whole, end_fault, is_batch, not_next}
 use Rattle.block_reading.proofs.bytes.check_bytes.Goals as goal
+use Rattle.block_reading.proofs.bytes.check_bytes.Goals.{then-seq-low-via-then-seq-low, then-seq-low-via-else-seq-low+then-last-seq}
 
 pub loop-at-init : goal.loop-at-init
 loop-at-init c = record { stand = none_yet c.args.bytes.now c.args.last; within = omega arith }
@@ -16,7 +17,11 @@ returns-in_err-seq-clause-fault c =
 
 pub returns-then-seq-low-clause-fault : goal.returns-then-seq-low-clause-fault
 returns-then-seq-low-clause-fault c =
-    not_next c.args.bytes.now c.args.last c.loop-at.at c.loop-at.low c.args.end c.in_ok-seq.seq c.in_ok-seq.behind c.loop-at.invariant.stand c.loop-at-test.true c.in_ok-seq.ensures.ends (search tt)
+    not_next c.args.bytes.now c.args.last c.loop-at.at c.loop-at.low c.args.end c.in_ok-seq.seq c.in_ok-seq.behind c.loop-at.invariant.stand c.loop-at-test.true c.in_ok-seq.ensures.ends
+    (elim c.then-seq-low.branch [
+      | then-seq-low-via-then-seq-low w ↦ inl w.if-seq-low.true
+      | then-seq-low-via-else-seq-low+then-last-seq w ↦ inr w.if-last-seq.true
+    ])
 
 pub loop-at-preserved : goal.loop-at-preserved
 loop-at-preserved c = record {

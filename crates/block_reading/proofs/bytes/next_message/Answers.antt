@@ -1,5 +1,5 @@
 use Rattle.std.proofs.Common.{arith}
-use Rattle.block_reading.proofs.Checking.{is_batch, is_on, told_fault}
+use Rattle.block_reading.proofs.Checking.{is_batch, is_on}
 use Rattle.block_reading.proofs.bytes.next_message.Goals as goal
 
 pub returns-in-Ok-clause-on : goal.returns-in-Ok-clause-on

@@ -1,7 +1,6 @@
-use Rattle.std.proofs.Common.{◌≡◌, All, List, subst, sym}
+use Rattle.std.proofs.Common.{All, subst, sym}
 use Rattle.std.specs.List.{AllZip}
 use Rattle.std.proofs.lemmas.Result.{err_from_is_err_and, IfOk-weaker, IfErr-weaker}
-use Rattle.js_model.specs.declared.stream.Message.{Message}
 use Rattle.vol_disk.specs.Disk.{Files}
 use Rattle.vol_disk.proofs.Moments.{quiet_then}
 use Rattle.block_table.specs.Blocks.{blocks}
@@ -42,7 +41,7 @@ returns-clause-fault g c = λ told.
     let mid = g.V.Vol.disk c.check_blocks.new.vol in
     IfErr-weaker c.read_all.result (AreLostFault mid.seen c.args.table.now.placed c.args.told.now) (IsMessagesFault was.seen c.args.table.now c.args.last c.args.told.now)
     (λ fault h. lost_told was.seen c.args.table.now c.args.last c.args.told.now fault (c.in_ok-check_blocks.ensures.whole told)
-        (subst (λ (image : Files). AreLostFault image c.args.table.now.placed c.args.told.now fault) (same_seen was mid (c.check_blocks.ensures.quiet told)) h))
+    (subst (λ (image : Files). AreLostFault image c.args.table.now.placed c.args.told.now fault) (same_seen was mid (c.check_blocks.ensures.quiet told)) h))
     (c.read_all.ensures.fault told)
 
 pub returns-clause-quiet : goal.returns-clause-quiet
