@@ -27,7 +27,7 @@ use Rattle.place_engine.specs.Recording.{passing_effects}
 -- ---- the verdict
 
 -- the verdict where there is no block, of that where there is one
-abbrev without_block : Verdict → Verdict
+abbrev pub without_block : Verdict → Verdict
 without_block Take = RefusedBy no_free_block
 without_block (TakenBefore n) = TakenBefore n
 without_block (RefusedBy e) = RefusedBy e
