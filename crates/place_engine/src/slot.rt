@@ -25,9 +25,7 @@ use crate::push::Push;
 use effects::Effect;
 use js_base::{Blob, Moment, NoMemory, Outs};
 use js_model::refusals::{no_stream, numbers_used_up};
-use js_model::{
-    Delivery, Listening, Publish, Reply, StreamConfig, What, copy_stream_config,
-};
+use js_model::{Delivery, Listening, Publish, Reply, StreamConfig, What, copy_stream_config};
 use place_records::{Made, OwnRecords, TimeRecords};
 use std::alloc::Global;
 use std::marker::Model;

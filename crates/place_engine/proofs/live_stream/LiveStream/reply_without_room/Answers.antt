@@ -1,5 +1,5 @@
+use Rattle.std.proofs.Common.{◌∙◌, sym}
 use Rattle.js_model.specs.declared.reply.Verdict.TheVariants.{Take, Duplicate as TakenBefore, Refused as RefusedBy}
-use Rattle.std.proofs.Common.{◌∙◌, refl, sym}
 use Rattle.place_engine.proofs.VerdictTexts.{no_free_block_utf8}
 use Rattle.place_engine.proofs.WithoutRoom.{replies_without}
 use Rattle.place_engine.proofs.live_stream.LiveStream.reply_without_room.Goals as goal
