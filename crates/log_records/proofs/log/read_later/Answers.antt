@@ -125,14 +125,8 @@ returns-in_err-records-clause-quiet g c = λ told. quiet_then (g.V.Vol.disk c.ar
 pub returns-in_err-added-clause-quiet : goal.returns-in_err-added-clause-quiet
 returns-in_err-added-clause-quiet g c = λ told. quiet_then (g.V.Vol.disk c.args.vol.now) (g.V.Vol.disk c.loop-made.vol) (g.V.Vol.disk c.next_batch.new.vol) (c.loop-made.invariant.quiet told) (c.next_batch.ensures.quiet told)
 
-pub returns-in_err-openable-clause-quiet : goal.returns-in_err-openable-clause-quiet
-returns-in_err-openable-clause-quiet g c = λ told. quiet_then (g.V.Vol.disk c.args.vol.now) (g.V.Vol.disk c.loop-made.vol) (g.V.Vol.disk c.next_batch.new.vol) (c.loop-made.invariant.quiet told) (c.next_batch.ensures.quiet told)
+pub returns-in_err-read-clause-quiet : goal.returns-in_err-read-clause-quiet
+returns-in_err-read-clause-quiet g c = λ told. quiet_then (g.V.Vol.disk c.args.vol.now) (g.V.Vol.disk c.loop-made.vol) (g.V.Vol.disk c.next_batch.new.vol) (c.loop-made.invariant.quiet told) (c.next_batch.ensures.quiet told)
 
-pub returns-then-openable-clause-quiet : goal.returns-then-openable-clause-quiet
-returns-then-openable-clause-quiet g c = λ told. quiet_then (g.V.Vol.disk c.args.vol.now) (g.V.Vol.disk c.loop-made.vol) (g.V.Vol.disk c.next_batch.new.vol) (c.loop-made.invariant.quiet told) (c.next_batch.ensures.quiet told)
-
-pub returns-else-openable-clause-quiet : goal.returns-else-openable-clause-quiet
-returns-else-openable-clause-quiet g c = λ told. quiet_then (g.V.Vol.disk c.args.vol.now) (g.V.Vol.disk c.loop-made.vol) (g.V.Vol.disk c.next_batch.new.vol) (c.loop-made.invariant.quiet told) (c.next_batch.ensures.quiet told)
-
-pub returns-in_err-durable-clause-quiet : goal.returns-in_err-durable-clause-quiet
-returns-in_err-durable-clause-quiet g c = λ told. quiet_then (g.V.Vol.disk c.args.vol.now) (g.V.Vol.disk c.loop-made.vol) (g.V.Vol.disk c.next_batch.new.vol) (c.loop-made.invariant.quiet told) (c.next_batch.ensures.quiet told)
+pub returns-clause-quiet : goal.returns-clause-quiet
+returns-clause-quiet g c = λ told. quiet_then (g.V.Vol.disk c.args.vol.now) (g.V.Vol.disk c.loop-made.vol) (g.V.Vol.disk c.next_batch.new.vol) (c.loop-made.invariant.quiet told) (c.next_batch.ensures.quiet told)
