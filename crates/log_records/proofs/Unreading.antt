@@ -133,8 +133,7 @@ between_unread low high (m ∷ ms) =
 bounded_unread : (ms : List Message) → All IsBoundedMessage (map unread_message ms) ↔ All IsBoundedMessage ms
 bounded_unread [] = ((λ h. h), (λ h. h))
 bounded_unread (m ∷ ms) =
-    let more = bounded_unread ms in
-    (
+    let more = bounded_unread ms in (
       (λ h.
           let first = All-head IsBoundedMessage (unread_message m) (map unread_message ms) h in
           All-cons IsBoundedMessage m ms (record { seq = first.seq; at = first.at }) (more.0 (All-tail IsBoundedMessage (unread_message m) (map unread_message ms) h))),
@@ -207,8 +206,7 @@ storable_unread d = go d.body
     go None = ((λ h. h), (λ h. h))
     go (Some b) =
         let between = between_unread 1 (b.last + 1) b.messages in
-        let bounded = bounded_unread b.messages in
-        (
+        let bounded = bounded_unread b.messages in (
           storable_like d.incarnation (unread_body b) b.messages (record { seqs_are = seqs_unread b.messages; many = many_unread b.messages; between = between.0; bounded = bounded.0 }),
           storable_like d.incarnation b (map unread_message b.messages) (record { seqs_are = sym (seqs_unread b.messages); many = sym (many_unread b.messages); between = between.1; bounded = bounded.1 }),
         )

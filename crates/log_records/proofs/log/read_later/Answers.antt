@@ -15,7 +15,7 @@ loop-made-init g c =
     let disk = g.V.Vol.disk c.args.vol.now in
     record {
       quiet = λ told. quiet disk (g.met.V.Vol.clocked c.args.vol.now);
-      reaches = λ told. reaches_first c.args.log.now c.args.first_end c.args.begun disk (c.requires.begun told);
+      reaches = λ told. reaches_first c.args.log.now c.args.first_end (made_in c.args.begun) disk (c.requires.begun told);
       sound = c.requires.sound;
       storable = c.requires.storable;
       faults = omega arith;
