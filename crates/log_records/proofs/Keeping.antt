@@ -1,15 +1,12 @@
 -- What the records of a log have made stays sound, whatever record is added.
 use Rattle.std.proofs.Common.{◌≡◌, ℕ, ◌+◌, Bool, true, false, cond, ◌&&◌, not, List, [], ◌∷◌, ◌++◌, map, Option, Some, None, IsTrue, refl, sym, ap, subst, ◌∙◌}
-use Rattle.std.specs.Prelude.{filter, nat_le, ◌==◌, option_map, if◌then◌else◌}
-use Rattle.std.specs.List.{list_any}
+use Rattle.std.specs.Prelude.{filter, nat_le, ◌==◌, option_map}
 use Rattle.std.proofs.lemmas.Bool.{and_parts}
 use Rattle.std.proofs.lemmas.List.{map-append}
 use Rattle.js_base.specs.Subjects.{is_subject_text}
 use Rattle.js_base.specs.declared.spot.Spot.{Spot}
-use Rattle.js_model.specs.declared.consumer.Pending.{Pending}
 use Rattle.js_model.specs.declared.stream.Message.{Message}
 use Rattle.js_model.specs.declared.consumer.Consumer.{Consumer}
-use Rattle.js_model.specs.Acknowledge.{with_due}
 use Rattle.js_model.specs.Configs.{is_number}
 use Rattle.js_model.specs.Streams.{by_name, seqs}
 use Rattle.js_model.proofs.Named.{some_is, none_some}
@@ -17,7 +14,7 @@ use Rattle.effects.specs.declared.durable.Body.{Body}
 use Rattle.effects.specs.declared.durable.Durable.{Durable}
 use Rattle.effects.specs.declared.effect.Effect.{Effect}
 use Rattle.effects.specs.declared.effect.Effect.TheVariants.{MakeStream, ChangeStream, DropStream, PutHere, Skip, Remove, MakeConsumer, DropConsumer, Deliver, Acked, Due, GivenUp, Now}
-use Rattle.effects.specs.Folding.{live, live_if, fold, fold_in, fold_live, fold_vacant, vacant, empty_body, consumer_from, with_made, without_consumer, replaced, is_next, numbered, put, removed, at_moment, delivered, acked, due_at, given_up_by}
+use Rattle.effects.specs.Folding.{live, live_if, fold, fold_in, fold_live, fold_vacant, empty_body, consumer_from, with_made, without_consumer, replaced, is_next, numbered, put, at_moment, delivered, acked, due_at, given_up_by}
 use Rattle.effects.specs.Ranges.{is_within}
 use Rattle.block_table.specs.declared.placed.Placed.{Placed}
 use Rattle.block_table.specs.Blocks.{Blocks, no_blocks}
@@ -26,9 +23,9 @@ use Rattle.op_records.specs.declared.record.Record.{Record}
 use Rattle.op_records.specs.declared.record.Record.TheVariants.{Put, Change}
 use Rattle.op_records.specs.Allowed.{is_record, is_put, is_spot, is_text, is_header, fits_block, may_stand}
 use Rattle.log_records.specs.Unread.{unread_subject, unread, unread_effect, stored_messages}
-use Rattle.log_records.specs.Logged.{Logged, IsLogged, beginning, effect_of, blocks_by, blocks_after, fold_record}
+use Rattle.log_records.specs.Logged.{Logged, IsLogged, beginning, effect_of, blocks_by}
 use Rattle.log_records.proofs.Forming.{stays_formed}
-use Rattle.log_records.proofs.Logging.{IsFoldOf, fold_parts}
+use Rattle.log_records.proofs.Logging.{IsFoldOf}
 use Rattle.log_records.proofs.Unreading.{hyphen_spelled, one_unread}
 
 -- ---- the change of a record

@@ -1,4 +1,4 @@
-use Rattle.std.proofs.Common.{◌<◌, ◌^◌, ℕ, ◌∷◌, ◌∙◌, Option, length, sym, subst, arith}
+use Rattle.std.proofs.Common.{◌<◌, ◌^◌, ℕ, ◌∷◌, Option, length, sym, subst, arith}
 use Rattle.std.proofs.lemmas.Result.{err_from_is_err_and}
 use Rattle.vol_disk.proofs.Moments.{quiet, quiet_then}
 use Rattle.js_base.specs.Bytes.{Bytes}
@@ -6,7 +6,7 @@ use Rattle.gate_log.specs.Reading.{IsReadAt}
 use Rattle.durable_checks.specs.Storable.{IsStorable}
 use Rattle.log_records.specs.Logged.{Logged, IsLogged}
 use Rattle.log_records.specs.Holding.{made_in}
-use Rattle.log_records.specs.Reading.{GivesIn, IsAddedAt, IsFurther, IsLaterFault}
+use Rattle.log_records.specs.Reading.{IsAddedAt, IsFurther, IsLaterFault}
 use Rattle.log_records.proofs.Reaching.{Reaches, reaches_first, reaches_next, end_gives, gives_before, outside_fault, cause_told, later_read_fault, later_is_own}
 use Rattle.log_records.proofs.log.read_later.Goals as goal
 
