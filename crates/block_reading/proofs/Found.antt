@@ -143,10 +143,6 @@ one_found image b i u m ms spot at so_far found =
     subst (λ (l : List Placed). AllZip (IsThere image) l (ms ++ m ∷ [])) (sym (one_more b.placed i at.p at.within at.is))
     (zip_push (IsThere image) (take i b.placed) ms at.p m so_far (record { seq = found.by_log.seq ∙ sym at.seq; stands = subst (λ (s : Spot). StandsAt image s m) (sym at.spot_is) found.stands }))
 
-pub one_told : (us : List Message) (i : ℕ) (u m : Message) (ms : List Message) → i < length us → u ≡ get_or us i u → AllZip IsToldBy (take i us) ms → IsToldBy u m → AllZip IsToldBy (take (i + 1) us) (ms ++ m ∷ [])
-one_told us i u m ms within is so_far told =
-    subst (λ (l : List Message). AllZip IsToldBy l (ms ++ m ∷ [])) (sym (one_more us i u within is)) (zip_push IsToldBy (take i us) ms u m so_far told)
-
 pub one_allowed : (ms : List Message) (m : Message) → IsTrue (list_all is_block_message ms) → IsTrue (is_block_message m) → IsTrue (list_all is_block_message (ms ++ m ∷ []))
 one_allowed ms m all one = list_all-append is_block_message ms (m ∷ []) ∙ and_from (list_all is_block_message ms) (is_block_message m && true) all (and_from (is_block_message m) true one refl)
 

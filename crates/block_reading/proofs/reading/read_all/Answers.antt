@@ -1,12 +1,14 @@
 use Rattle.std.proofs.Common.{All, arith, refl, subst, sym}
+use Rattle.std.proofs.lemmas.List.Elements.{all_zip_more}
 use Rattle.std.proofs.lemmas.Result.{err_from_is_err_and}
 use Rattle.vol_disk.specs.Disk.{Files}
 use Rattle.vol_disk.proofs.Moments.{quiet, quiet_then}
 use Rattle.block_table.specs.Blocks.{blocks}
 use Rattle.block_reading.specs.Standing.{IsWhole}
+use Rattle.block_reading.specs.Damage.{IsToldBy}
 use Rattle.block_reading.specs.Reading.{IsFound, IsLostFault}
 use Rattle.block_reading.proofs.Before.{same_seen}
-use Rattle.block_reading.proofs.Found.{all_found, all_told, lost_there, no_spot, one_allowed, one_found, one_told, placed_at, spot_within}
+use Rattle.block_reading.proofs.Found.{all_found, all_told, lost_there, no_spot, one_allowed, one_found, placed_at, spot_within}
 use Rattle.block_reading.proofs.reading.read_all.Goals as goal
 
 pub loop-one-init : goal.loop-one-init
@@ -64,7 +66,7 @@ loop-one-preserved g c =
           rw pushed
           (one_found was.seen c.args.table.now c.loop-one.one-index c.one-item.result m c.loop-one.messages c.in-Some.spot at (c.loop-one.invariant.found told)
           (subst (λ (image : Files). IsFound image c.in-Some.spot c.one-item.result m) (same_seen was mid (c.loop-one.invariant.quiet told)) (c.in_ok-message.ensures.found told)));
-      told = rw pushed (one_told c.args.told.now c.loop-one.one-index c.one-item.result m c.loop-one.messages (omega arith) c.one-item.is c.loop-one.invariant.told c.in_ok-message.ensures.told);
+      told = rw pushed (all_zip_more IsToldBy c.args.told.now c.loop-one.messages c.loop-one.one-index c.one-item.result m (omega arith) c.one-item.is c.loop-one.invariant.told c.in_ok-message.ensures.told);
       allowed = rw pushed (one_allowed c.loop-one.messages m c.loop-one.invariant.allowed c.in_ok-message.ensures.allowed);
       quiet = λ told. quiet_then was mid (g.V.Vol.disk c.read_one.new.vol) (c.loop-one.invariant.quiet told) (c.read_one.ensures.quiet told);
       faults = omega (arith, c.loop-one.invariant.faults, c.read_one.ensures.cause.later);
