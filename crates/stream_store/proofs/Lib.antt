@@ -12,6 +12,7 @@ pub mod Staging
 pub mod Folding
 pub mod Storing
 pub mod Recorded
+pub mod Counting
 pub mod Committing
 pub mod Committed
 pub mod Finding

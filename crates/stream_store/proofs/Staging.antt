@@ -31,7 +31,7 @@ pushed_block old now xs i k within is pushed =
     pushed ∙ append_assoc old (take i xs) (k ∷ []) ∙ ap (λ (l : List Block). old ++ l) (ap (λ (x : Block). take i xs ++ x ∷ []) is ∙ sym (take_more xs i k within))
 
 pub all_pushed : (old now : List Block) (xs : List Block) (i : ℕ) → length xs ≤ i → now ≡ old ++ take i xs → now ≡ old ++ xs
-all_pushed old now xs i past so_far = so_far ∙ ap (λ (l : List Block). old ++ l) (take_all xs i past)
+all_pushed old now xs i past so_far = so_far ∙ ap (λ (l : List Block). old ++ l) (take_all i xs past)
 
 pub pushed_run : (old now : List Block) (runs : List Run) (i : ℕ) (r : Run) → i < length runs → r ≡ get_or runs i r → now ≡ (old ++ map block_of (take i runs)) ++ block_of r ∷ [] → now ≡ old ++ map block_of (take (i + 1) runs)
 pushed_run old now runs i r within is pushed =
@@ -39,7 +39,7 @@ pushed_run old now runs i r within is pushed =
     ∙ ap (λ (l : List Block). old ++ l) (sym (map-append block_of (take i runs) (r ∷ [])) ∙ ap (map block_of) (ap (λ (x : Run). take i runs ++ x ∷ []) is ∙ sym (take_more runs i r within)))
 
 pub all_runs_pushed : (old now : List Block) (runs : List Run) (i : ℕ) → length runs ≤ i → now ≡ old ++ map block_of (take i runs) → now ≡ old ++ map block_of runs
-all_runs_pushed old now runs i past so_far = so_far ∙ ap (λ (l : List Run). old ++ map block_of l) (take_all runs i past)
+all_runs_pushed old now runs i past so_far = so_far ∙ ap (λ (l : List Run). old ++ map block_of l) (take_all i runs past)
 
 -- ---- the plan
 
@@ -73,9 +73,8 @@ behind_runs : (runs : List Run) → All (λ run. 2 ≤ run.file) runs → AreBeh
 behind_runs [] h = All-nil (λ (k : Block). 2 ≤ k.file)
 behind_runs (run ∷ runs) h = All-cons (λ (k : Block). 2 ≤ k.file) (block_of run) (map block_of runs) (All-head (λ (r : Run). 2 ≤ r.file) run runs h) (behind_runs runs (All-tail (λ (r : Run). 2 ≤ r.file) run runs h))
 
-pub staged_behind : (b : Blocks) (before : List Block) (es : List Effect) (staged : Staged) → IsTable b → IsTrue (list_all is_record es) → AreBehindLogs before → IsStaged b before es staged → AreBehindLogs staged.blocks.items
-staged_behind b before es staged table allowed old s =
-    let files = (law_plans.runs b es s.made (record { table = table; allowed = allowed; made_is = s.made_is })).files in
-    subst AreBehindLogs (sym s.blocks_are)
-    (All-append (λ (k : Block). 2 ≤ k.file) before (blocks_of s.all b ++ map block_of s.made.runs) old
-    (All-append (λ (k : Block). 2 ≤ k.file) (blocks_of s.all b) (map block_of s.made.runs) (behind_logs b s.all table) (behind_runs s.made.runs files)))
+pub left_behind : (b : Blocks) (before : List Block) (es : List Effect) (made : Planned) (all : Bool) → ArePlannedBy b es made → AreBehindLogs before → AreBehindLogs (before ++ (blocks_of all b ++ map block_of made.runs))
+left_behind b before es made all planned old =
+    let files = (law_plans.runs b es made planned).files in
+    All-append (λ (k : Block). 2 ≤ k.file) before (blocks_of all b ++ map block_of made.runs) old
+    (All-append (λ (k : Block). 2 ≤ k.file) (blocks_of all b) (map block_of made.runs) (behind_logs b all planned.table) (behind_runs made.runs files))

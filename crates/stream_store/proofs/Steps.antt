@@ -1,7 +1,7 @@
 -- Steps that a table takes, and the steps of changes.
-use Rattle.std.proofs.Common.{◌≡◌, ◌≤◌, ◌<◌, ℕ, ◌+◌, List, [], ◌∷◌, ◌++◌, Option, Some, None, get_or, drop, length, refl, sym, ap, subst, ◌∙◌, arith, drop-cons, length-drop}
+use Rattle.std.proofs.Common.{◌≡◌, ◌≤◌, ◌<◌, ℕ, ◌+◌, List, [], ◌∷◌, ◌++◌, Option, Some, None, get_or, drop, length, refl, sym, ap, ◌∙◌}
 use Rattle.std.specs.Prelude.{unwrap_or}
-use Rattle.std.proofs.lemmas.List.{nil_from_length, append-nil, append_assoc}
+use Rattle.std.proofs.lemmas.List.{at_drop_all, at_drop_more, append-nil, append_assoc}
 use Rattle.js_base.specs.declared.spot.Spot.{Spot}
 use Rattle.effects.specs.declared.effect.Effect.{Effect}
 use Rattle.block_table.specs.Blocks.{Blocks}
@@ -20,15 +20,12 @@ put_left_out seq spot b c h same = same ∙ sym (ap (λ (o : Option Blocks). unw
 
 -- ---- steps that wait
 
-drop_none : {X : Type 0} (xs : List X) (n : ℕ) → length xs ≤ n → drop n xs ≡ []
-drop_none xs n past = nil_from_length (drop n xs) (omega (arith, past, length-drop n xs))
-
 pub taken_one : (steps : List Step) (i : ℕ) (s : Step) (b c : Blocks) → i < length steps → s ≡ get_or steps i s → c ≡ with_step s b → with_steps (drop (i + 1) steps) c ≡ with_steps (drop i steps) b
 taken_one steps i s b c within is taken =
-    ap (with_steps (drop (i + 1) steps)) (taken ∙ ap (λ (x : Step). with_step x b) is) ∙ sym (ap (λ (l : List Step). with_steps l b) (drop-cons steps i s within))
+    ap (with_steps (drop (i + 1) steps)) (taken ∙ ap (λ (x : Step). with_step x b) is) ∙ sym (at_drop_more (λ (l : List Step). with_steps l b) steps i s within)
 
 pub taken_all : (steps : List Step) (i : ℕ) (b : Blocks) → length steps ≤ i → with_steps (drop i steps) b ≡ b
-taken_all steps i b past = ap (λ (l : List Step). with_steps l b) (drop_none steps i past)
+taken_all steps i b past = at_drop_all (λ (l : List Step). with_steps l b) steps i past
 
 -- ---- the steps of changes
 
@@ -41,7 +38,7 @@ no_steps es spots = refl
 
 module _ (steps : List Step) (es : List Effect) (i : ℕ) (e : Effect) (spots : List Spot) (used : ℕ) (within : i < length es) (is : e ≡ get_or es i e) (so_far : AreSteps steps es i spots used) where
   next_steps : steps ++ steps_of (e ∷ drop (i + 1) es) (drop used spots) ≡ steps_of es spots
-  next_steps = ap (λ (x : Effect). steps ++ steps_of (x ∷ drop (i + 1) es) (drop used spots)) is ∙ sym (ap (λ (l : List Effect). steps ++ steps_of l (drop used spots)) (drop-cons es i e within)) ∙ so_far
+  next_steps = ap (λ (x : Effect). steps ++ steps_of (x ∷ drop (i + 1) es) (drop used spots)) is ∙ sym (at_drop_more (λ (l : List Effect). steps ++ steps_of l (drop used spots)) es i e within) ∙ so_far
 
   -- it has no step
   pub no_step : steps_of (e ∷ drop (i + 1) es) (drop used spots) ≡ steps_of (drop (i + 1) es) (drop used spots) → AreSteps steps es (i + 1) spots used
@@ -55,4 +52,4 @@ module _ (steps : List Step) (es : List Effect) (i : ℕ) (e : Effect) (spots : 
 
 pub all_steps : (steps : List Step) (es : List Effect) (i : ℕ) (spots : List Spot) (used : ℕ) → length es ≤ i → AreSteps steps es i spots used → steps ≡ steps_of es spots
 all_steps steps es i spots used past so_far =
-    sym (append-nil steps) ∙ sym (ap (λ (l : List Effect). steps ++ steps_of l (drop used spots)) (drop_none es i past)) ∙ so_far
+    sym (append-nil steps) ∙ sym (at_drop_all (λ (l : List Effect). steps ++ steps_of l (drop used spots)) es i past) ∙ so_far

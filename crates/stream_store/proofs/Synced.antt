@@ -45,7 +45,7 @@ synced_more ks i k mid new within is clocked so_far does same durable file there
     synced_one (take i ks) k mid new clocked so_far does same durable file (ap (λ (l : List Block). is_among l file) (sym more) ∙ there)
 
 pub synced_all : (ks : List Block) (i : ℕ) (disk : Disk) → length ks ≤ i → ((file : ℕ) → is_among (take i ks) file ≡ true → IsDurable disk file) → (file : ℕ) → is_among ks file ≡ true → IsDurable disk file
-synced_all ks i disk past so_far file is = so_far file (ap (λ (l : List Block). is_among l file) (take_all ks i past) ∙ is)
+synced_all ks i disk past so_far file is = so_far file (ap (λ (l : List Block). is_among l file) (take_all i ks past) ∙ is)
 
 -- ---- a table's
 

@@ -13,4 +13,5 @@ mod steps;
 mod store;
 
 pub use fault::{CommitFault, OpenFault};
+pub use room::message_len;
 pub use store::Store;

@@ -2,11 +2,10 @@
 
 ghost use Rattle.std.specs.Prelude.{◌≡◌, ◌+◌, ◌<◌, ◌≤◌, ◌^◌, ◌++◌, IfOk, IsErrOf, IsTrue, OnOk, map};
 ghost use Rattle.std.specs.List.{list_all};
-ghost use Rattle.block_table.specs.Tables.{IsTable};
 ghost use Rattle.op_records.specs.Allowed.{is_record};
 ghost use Rattle.stream_store.specs.Committing.{batch_length};
 ghost use Rattle.stream_store.specs.Placing.{can_place};
-ghost use Rattle.stream_store.specs.Staging.{IsStaged, block_of, blocks_of};
+ghost use Rattle.stream_store.specs.Staging.{AreBehindLogs, IsStaged, block_of, blocks_of};
 
 use crate::fault::CommitFault;
 use crate::logs::law_bytes;
@@ -97,8 +96,8 @@ pub(crate) fn stage(
 ) -> Result<Staged, CommitFault>
     requires records { IsTrue (list_all is_record effects.now) }
     requires room { IsTrue (can_place table.now effects.now) }
-    ensures staged { IfOk result (IsStaged table.now before.now effects.now) }
-    ensures table { IsTable table.now }
+    requires behind { AreBehindLogs before.now }
+    ensures staged { IfOk result (IsStaged table.now effects.now) }
     ensures fits { OnOk result (log.now.end + 6 + batch_length effects.now ≤ 2 ^ 31) }
     ensures full { IsErrOf result CommitFault.Full → 2 ^ 31 < log.now.end + 6 + batch_length effects.now }
     ensures fault { IsErrOf result CommitFault.Fault → ⊥ }
