@@ -20,7 +20,7 @@ use Rattle.block_writing.specs.Planning.{spots_in}
 use Rattle.block_writing.specs.Writing.{ChangesRuns, HasStored, IsWritten}
 use Rattle.block_writing.proofs.Commits.{law_plans}
 use Rattle.stream_store.specs.Base.{IsBase, IsBaseOf}
-use Rattle.stream_store.specs.Committing.{IsNextBatch, batch_length}
+use Rattle.stream_store.specs.Committing.{IsNextBatch}
 use Rattle.stream_store.specs.Holding.{Holds}
 use Rattle.stream_store.specs.Staging.{DropsUnused, IsStaged}
 use Rattle.stream_store.specs.Steps.{steps_of, with_steps}
@@ -28,7 +28,6 @@ use Rattle.stream_store.specs.StoreState.{StoreState}
 use Rattle.stream_store.specs.declared.staging.Staged.{Staged}
 use Rattle.stream_store.specs.declared.steps.Step.{Step}
 use Rattle.stream_store.proofs.Committing.{IsPlanned, OneOfBoth, base_dropped, base_late, commits, dropping_leaves, settled_mid, writing_leaves}
-use Rattle.stream_store.proofs.Staging.{plan_length}
 
 module _ (store : StoreState) (effects : List Effect) (staged : Staged) (base next : Durable) (old : Disk) (k : IsBase store base old) (n : IsNextBatch base effects next)
     (s : IsStaged store.blocks effects staged) where
@@ -66,32 +65,30 @@ module _ (store : StoreState) (effects : List Effect) (staged : Staged) (base ne
 
       -- ---- the batch is appended
 
-      module _ (honest : IsHonest mid) (fits : store.log.end + 6 + batch_length effects ≤ 2 ^ 31) where
+      module _ (honest : IsHonest mid) (fits : store.log.end + 6 + length staged.batch ≤ 2 ^ 31) where
         few : IsBatch staged.batch
-        few =
-            let size = ap length s.batch ∙ plan_length store.blocks effects s.made s.planned.made_is in
-            record { are_bytes = s.bytes; short = omega (arith, size, fits) }
+        few = record { are_bytes = s.bytes; short = omega (arith, fits) }
 
         module _ (late : Disk) (appends : AppendsTo store.log staged.batch mid late) where
           pub appending : LeavesOnly old late (OneOfBoth base next)
           appending = commits store.log store.blocks base next effects s.made old plan mid changes_made has honest staged.batch s.batch few late appends
 
           module _ (log : LogState) (log_is : log ≡ with_batch store.log (length staged.batch)) (appended : IsAppended store.log log staged.batch mid late) where
-            late_base : IsBaseOf log after next late
+            pub late_base : IsBaseOf log after next late
             unfolding settled_then plan
             late_base =
                 subst (λ (b : Blocks). IsBaseOf log b next late) after_is
                 (base_late store.log store.blocks base next effects s.made old plan mid changes_made has honest staged.batch s.batch few late appends log log_is (appended k.settled.0 settled_then.1))
 
-            -- ---- unused blocks are dropped
+-- ---- unused blocks are dropped
 
-            module _ (new : Disk) (drops : DropsUnused after late new) where
-              pub new_base : IsBaseOf log after next new
-              new_base = base_dropped log after next late new drops.ks late_base drops.behind_logs drops.changes
+module _ (log : LogState) (b : Blocks) (next : Durable) (late new : Disk) (is : IsBaseOf log b next late) (drops : DropsUnused b late new) where
+  pub new_base : IsBaseOf log b next new
+  new_base = base_dropped log b next late new drops.ks is drops.behind_logs drops.changes
 
-              pub all_leaves : LeavesOnly old new (OneOfBoth base next)
-              all_leaves =
-                  joined old late new (OneOfBoth base next) (λ image. Holds image next) appending (dropping_leaves log after next late new drops.ks late_base drops.behind_logs drops.changes) (λ image h. inr h)
+  pub all_leaves : (base : Durable) (old : Disk) → LeavesOnly old late (OneOfBoth base next) → LeavesOnly old new (OneOfBoth base next)
+  all_leaves base old leaves =
+      joined old late new (OneOfBoth base next) (λ image. Holds image next) leaves (dropping_leaves log b next late new drops.ks is drops.behind_logs drops.changes) (λ image h. inr h)
 
 -- ---- an append that failed
 

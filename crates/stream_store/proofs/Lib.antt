@@ -4,11 +4,11 @@ pub mod Behind
 pub mod Blocks
 pub mod Basing
 pub mod Records
-pub mod Steps
+pub mod Taken
 pub mod Synced
-pub mod Reading
+pub mod Messages
 pub mod Rooms
-pub mod Staging
+pub mod Stages
 pub mod Folding
 pub mod Storing
 pub mod Recorded

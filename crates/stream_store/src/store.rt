@@ -22,8 +22,8 @@ use crate::logs::{FIRST_GENERATION, begin_log, open_current};
 use crate::reading::read_current;
 use crate::room::room_behind;
 use crate::staging::stage;
+use crate::writing::write_staged;
 use block_table::{Block, BlockTable};
-use block_writing::write_runs;
 use effects::{Durable, Effect};
 use gate_log::GateLog;
 use js_base::NoMemory;
@@ -159,13 +159,9 @@ impl Store {
         ensures cause { HasCause (V.faults vol.old) (V.faults vol.new) (IsErrOf result CommitFault.Fault) }
         ensures later { (V.disk vol.old).moment ≤ (V.disk vol.new).moment }
     {
-        self.late.catch_up()?;
         let unused = self.unused.as_slice();
-        let staged = stage(alloc, &self.log, &self.late.table, unused, effects)?;
-        write_runs(vol, staged.runs.as_slice())?;
-        let Ok(()) = self.log.append_batch(vol, &staged.batch) else {
-            return Err(CommitFault::Fault);
-        };
+        let staged = stage(alloc, &self.log, &mut self.late, unused, effects)?;
+        write_staged(vol, &mut self.log, &staged)?;
         self.late.wait(staged.steps);
         self.unused = staged.blocks;
         self.drop_unused(vol)?;
@@ -179,9 +175,9 @@ impl Store {
         ensures cause { HasCause (V.faults vol.old) (V.faults vol.new) (IsErr result) }
         ensures later { (V.disk vol.old).moment ≤ (V.disk vol.new).moment }
     {
-        if self.late.catch_up().is_err() {
+        let Ok(()) = self.late.catch_up() else {
             return Ok(());
-        }
+        };
         block_writing::drop_unused(vol, &self.late.table, self.unused.as_slice())?;
         self.unused.clear();
         Ok(())

@@ -1,5 +1,5 @@
 use Rattle.std.proofs.Common.{arith}
-use Rattle.stream_store.proofs.Staging.{all_pushed, pushed_block}
+use Rattle.stream_store.proofs.Stages.{all_pushed, pushed_block}
 use Rattle.stream_store.proofs.staging.add_blocks.Goals as goal
 
 pub loop-block-preserved : goal.loop-block-preserved

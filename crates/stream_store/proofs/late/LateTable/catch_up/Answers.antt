@@ -1,5 +1,5 @@
 use Rattle.std.proofs.Common.{◌∙◌, arith, refl, sym}
-use Rattle.stream_store.proofs.Steps.{taken_all, taken_one}
+use Rattle.stream_store.proofs.Taken.{taken_all, taken_one}
 use Rattle.stream_store.proofs.late.LateTable.catch_up.Goals as goal
 
 pub loop-self-preserved : goal.loop-self-preserved

@@ -22,6 +22,7 @@ use Rattle.stream_store.specs.Placing.{blocks_by, blocks_then, can_place, plan_o
 use Rattle.stream_store.specs.Staging.{AreBehindLogs, IsStaged, block_of, blocks_of}
 use Rattle.stream_store.specs.Steps.{with_steps}
 use Rattle.stream_store.specs.declared.staging.Staged.{Staged}
+use Rattle.stream_store.specs.declared.steps.Step.{Step}
 use Rattle.stream_store.proofs.Folding.{all_length, goes_on_by}
 
 -- ---- lists that are added to
@@ -55,6 +56,14 @@ not_without b es can none = true≢false (sym can ∙ ap is_some none)
 -- where messages lie behind it
 pub blocks_after : (b : Blocks) (es : List Effect) (made : Planned) → plan_of b es ≡ Some made → blocks_by b es (Some made) ≡ blocks_then b es
 blocks_after b es made is = sym (ap (blocks_by b es) is)
+
+-- what was staged
+module _ (b : Blocks) (es : List Effect) (staged : Staged) (s : IsStaged b es staged) where
+  pub staged_length : length staged.batch ≡ batch_length es
+  staged_length = ap length s.batch ∙ plan_length b es s.made s.planned.made_is
+
+  pub staged_blocks : with_steps staged.steps.items b ≡ blocks_then b es
+  staged_blocks = ap (λ (l : List Step). with_steps l b) s.steps ∙ blocks_after b es s.made s.planned.made_is
 
 -- ---- the blocks that may be dropped
 

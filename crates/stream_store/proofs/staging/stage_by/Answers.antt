@@ -1,0 +1,25 @@
+use Rattle.std.proofs.Common.{◌≡◌, ◌∙◌, List, ap, subst, sym, ◌<◌, arith}
+use Rattle.std.specs.Prelude.{All}
+use Rattle.js_base.specs.Bytes.{Bytes}
+use Rattle.js_base.specs.declared.spot.Spot.{Spot}
+use Rattle.block_table.specs.declared.block.Block.{Block}
+use Rattle.block_writing.specs.declared.run.Run.{Run}
+use Rattle.block_writing.specs.Laws.{ArePlannedBy}
+use Rattle.stream_store.specs.Staging.{AreBehindLogs, block_of, blocks_of}
+use Rattle.stream_store.specs.Steps.{steps_of}
+use Rattle.stream_store.proofs.Stages.{left_behind, not_without, plan_length}
+use Rattle.stream_store.proofs.staging.stage_by.Goals as goal
+
+pub returns-clause-staged : goal.returns-clause-staged
+returns-clause-staged c =
+    let p = c.in_ok-plan.ensures.plan in
+    let planned : ArePlannedBy c.args.table.now c.args.effects.now p.made = record { table = c.writing.ensures.table; allowed = c.requires.records; made_is = p.made_is } in
+    record {
+      made = p.made;
+      planned = planned;
+      runs = p.has.runs;
+      batch = c.in_ok-batch.ensures.value ∙ c.as_slice-records.ensures.value ∙ p.has.batch;
+      bytes = subst (λ (l : Bytes). All (λ byte. byte < 256) l) (sym c.in_ok-batch.ensures.value) c.law_bytes.ensures.law;
+      steps = c.in_ok-steps.ensures.value ∙ ap (steps_of c.args.effects.now) (c.as_slice.ensures.value ∙ p.has.spots);
+      behind = left_behind c.args.table.now c.args.before.now c.args.effects.now p.made c.take_away-all.result planned c.requires.behind;
+    }
