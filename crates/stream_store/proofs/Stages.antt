@@ -1,5 +1,5 @@
 -- What a commit is going to write.
-use Rattle.std.proofs.Common.{◌≡◌, ◌≤◌, ◌<◌, ℕ, ◌+◌, Bool, true, false, cond, List, [], ◌∷◌, ◌++◌, Option, Some, None, IsTrue, All, get_or, take, length, map, refl, sym, ap, subst, ◌∙◌, arith}
+use Rattle.std.proofs.Common.{◌≡◌, ◌≤◌, ◌<◌, ◌^◌, ◌↔◌, ℕ, ◌+◌, Bool, true, false, cond, List, [], ◌∷◌, ◌++◌, Option, Some, None, IsTrue, All, get_or, take, length, map, refl, sym, ap, subst, ◌∙◌, arith}
 use Rattle.std.specs.Prelude.{is_some}
 use Rattle.std.specs.List.{flat_map, list_all}
 use Rattle.std.specs.Option.{option_to_list}
@@ -27,9 +27,9 @@ use Rattle.stream_store.proofs.Folding.{all_length, goes_on_by}
 
 -- ---- lists that are added to
 
-pub pushed_block : (old now : List Block) (xs : List Block) (i : ℕ) (k : Block) → i < length xs → k ≡ get_or xs i k → now ≡ (old ++ take i xs) ++ k ∷ [] → now ≡ old ++ take (i + 1) xs
-pushed_block old now xs i k within is pushed =
-    pushed ∙ append_assoc old (take i xs) (k ∷ []) ∙ ap (λ (l : List Block). old ++ l) (ap (λ (x : Block). take i xs ++ x ∷ []) is ∙ sym (take_more xs i k within))
+pub pushed_block : (old now : List Block) (xs : List Block) (i : ℕ) (d : Block) → i < length xs → now ≡ (old ++ take i xs) ++ get_or xs i d ∷ [] → now ≡ old ++ take (i + 1) xs
+pushed_block old now xs i d within pushed =
+    pushed ∙ append_assoc old (take i xs) (get_or xs i d ∷ []) ∙ ap (λ (l : List Block). old ++ l) (sym (take_more xs i d within))
 
 pub all_pushed : (old now : List Block) (xs : List Block) (i : ℕ) → length xs ≤ i → now ≡ old ++ take i xs → now ≡ old ++ xs
 all_pushed old now xs i past so_far = so_far ∙ ap (λ (l : List Block). old ++ l) (take_all i xs past)
@@ -56,6 +56,12 @@ not_without b es can none = true≢false (sym can ∙ ap is_some none)
 -- where messages lie behind it
 pub blocks_after : (b : Blocks) (es : List Effect) (made : Planned) → plan_of b es ≡ Some made → blocks_by b es (Some made) ≡ blocks_then b es
 blocks_after b es made is = sym (ap (blocks_by b es) is)
+
+-- the log has no room
+pub past_end : (fits : Bool) (n : ℕ) → (IsTrue fits ↔ (n ≤ 2 ^ 31)) → fits ≡ false → 2 ^ 31 < n
+past_end fits n value none =
+    let refused : ¬ (n ≤ 2 ^ 31) = λ le. true≢false (sym (value.1 le) ∙ none) in
+    omega (arith, refused)
 
 -- what was staged
 module _ (b : Blocks) (es : List Effect) (staged : Staged) (s : IsStaged b es staged) where

@@ -97,3 +97,7 @@ returns-in_err-messages-clause-fault g c = λ told.
     let fault = c.in_err-messages.field-0.0 in
     let there = subst (λ (l : List Message). IsMessagesFault mid.seen read.table (last_of read.durable) l fault) c.messages_of.ensures.value (rw (← c.last_of-last.ensures.value) (c.in_err-messages.ensures.fault told)) in
     rw (p.1, p.2) (blocks_back read old mid _ (c.sync_blocks.ensures.quiet told) (blocks_told read mid fault there))
+
+pub returns-in_err-messages-clause-quiet : goal.returns-in_err-messages-clause-quiet
+returns-in_err-messages-clause-quiet g c = λ told.
+    quiet_then (g.V.Vol.disk c.args.vol.now) (g.V.Vol.disk c.sync_blocks.new.vol) (g.V.Vol.disk c.read_messages.new.vol) (c.sync_blocks.ensures.quiet told) (c.read_messages.ensures.quiet told)

@@ -6,7 +6,7 @@ use Rattle.stream_store.proofs.Rooms.{no_room, placings, placings_begun, placing
 use Rattle.stream_store.proofs.room.room_behind.Goals as goal
 
 pub place_effect-requires : goal.place_effect-requires
-place_effect-requires c = record { allowed = record_there c.args.tail.now c.loop-effect.effect-index c.effect-item.result.now c.requires.records (omega arith) c.effect-item.is }
+place_effect-requires c = record { allowed = record_there c.args.tail.now c.loop-effect.effect-index c.effect-item.result c.requires.records (omega arith) c.effect-item.is }
 
 pub loop-effect-init : goal.loop-effect-init
 loop-effect-init c =
@@ -14,5 +14,11 @@ loop-effect-init c =
 
 pub loop-effect-preserved : goal.loop-effect-preserved
 loop-effect-preserved c =
-    placings_next c.args.table.now c.args.tail.now c.loop-effect.effect-index c.effect-item.result.now c.loop-effect.placing (omega arith) c.effect-item.is c.loop-effect.invariant c.place_effect.new.placing
-    (c.place_effect.ensures ∙ ap (λ (t : Bool). cond t (Some c.place_effect.new.placing) None) c.if-place_effect.false)
+    placings_next c.args.table.now c.args.tail.now c.loop-effect.effect-index c.effect-item.result c.loop-effect.placing (omega arith) c.effect-item.is c.loop-effect.invariant c.place_effect.new.placing
+    (c.place_effect.ensures ∙ ap (λ (t : Bool). cond t (Some c.place_effect.new.placing) None) c.if-not-place_effect.false)
+
+pub returns-then-not-place_effect : goal.returns-then-not-place_effect
+returns-then-not-place_effect c = record {
+  value = sym (no_room c.args.table.now c.args.tail.now c.loop-effect.effect-index c.effect-item.result c.loop-effect.placing (omega arith) c.effect-item.is c.loop-effect.invariant c.args.len
+      (c.place_effect.ensures ∙ ap (λ (t : Bool). cond t (Some c.place_effect.new.placing) None) c.if-not-place_effect.true));
+}

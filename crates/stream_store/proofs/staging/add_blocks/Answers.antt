@@ -4,7 +4,7 @@ use Rattle.stream_store.proofs.staging.add_blocks.Goals as goal
 
 pub loop-block-preserved : goal.loop-block-preserved
 loop-block-preserved c =
-    pushed_block c.args.into.now.items c.push.new.self.items c.args.blocks.now c.loop-block.block-index c.block-item.result.now (omega arith) c.block-item.is (rw c.loop-block.invariant at c.in_ok-push.ensures.ok)
+    pushed_block c.args.into.now.items c.push.new.self.items c.args.blocks.now c.loop-block.block-index (record { file = 0; end = 0 }) (omega arith) (rw c.loop-block.invariant at c.in_ok-push.ensures.ok)
 
 pub returns : goal.returns
 returns c = record { ok = all_pushed c.args.into.now.items c.loop-block.into.items c.args.blocks.now c.loop-block.block-index (omega arith) c.loop-block.invariant }

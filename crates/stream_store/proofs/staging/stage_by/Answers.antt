@@ -1,13 +1,14 @@
-use Rattle.std.proofs.Common.{◌≡◌, ◌∙◌, List, ap, subst, sym, ◌<◌, arith}
+use Rattle.std.proofs.Common.{◌≡◌, ◌∙◌, List, ap, subst, sym, ◌<◌, ◌≤◌, ◌+◌, ◌^◌, ℕ, length, arith}
 use Rattle.std.specs.Prelude.{All}
 use Rattle.js_base.specs.Bytes.{Bytes}
 use Rattle.js_base.specs.declared.spot.Spot.{Spot}
 use Rattle.block_table.specs.declared.block.Block.{Block}
 use Rattle.block_writing.specs.declared.run.Run.{Run}
 use Rattle.block_writing.specs.Laws.{ArePlannedBy}
+use Rattle.stream_store.specs.Committing.{batch_length}
 use Rattle.stream_store.specs.Staging.{AreBehindLogs, block_of, blocks_of}
 use Rattle.stream_store.specs.Steps.{steps_of}
-use Rattle.stream_store.proofs.Stages.{left_behind, not_without, plan_length}
+use Rattle.stream_store.proofs.Stages.{left_behind, not_without, past_end, plan_length}
 use Rattle.stream_store.proofs.staging.stage_by.Goals as goal
 
 pub returns-clause-staged : goal.returns-clause-staged
@@ -21,5 +22,17 @@ returns-clause-staged c =
       batch = c.in_ok-batch.ensures.value ∙ c.as_slice-records.ensures.value ∙ p.has.batch;
       bytes = subst (λ (l : Bytes). All (λ byte. byte < 256) l) (sym c.in_ok-batch.ensures.value) c.law_bytes.ensures.law;
       steps = c.in_ok-steps.ensures.value ∙ ap (steps_of c.args.effects.now) (c.as_slice.ensures.value ∙ p.has.spots);
-      behind = left_behind c.args.table.now c.args.before.now c.args.effects.now p.made c.take_away-all.result planned c.requires.behind;
+      behind = subst AreBehindLogs (sym ?) (left_behind c.args.table.now c.args.before.now c.args.effects.now p.made c.take_away-all.result planned c.requires.behind);
     }
+
+pub returns-then-not-fits-clause-full : goal.returns-then-not-fits-clause-full
+returns-then-not-fits-clause-full c = λ is.
+    let p = c.in_ok-plan.ensures.plan in
+    let size : c.len.result ≡ batch_length c.args.effects.now = c.len.ensures.value ∙ ap length p.has.batch ∙ plan_length c.args.table.now c.args.effects.now p.made p.made_is in
+    subst (λ (n : ℕ). 2 ^ 31 < c.args.log.now.end + 6 + n) size (past_end c.fits.result (c.args.log.now.end + 6 + c.len.result) c.fits.ensures.value c.if-not-fits.true)
+
+pub returns-clause-fits : goal.returns-clause-fits
+returns-clause-fits c =
+    let p = c.in_ok-plan.ensures.plan in
+    let size : c.len.result ≡ batch_length c.args.effects.now = c.len.ensures.value ∙ ap length p.has.batch ∙ plan_length c.args.table.now c.args.effects.now p.made p.made_is in
+    subst (λ (n : ℕ). c.args.log.now.end + 6 + n ≤ 2 ^ 31) size (c.fits.ensures.value.0 c.if-not-fits.false)

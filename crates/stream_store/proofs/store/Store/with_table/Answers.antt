@@ -1,3 +1,4 @@
+use Rattle.std.proofs.Common.{◌≤◌}
 use Rattle.std.proofs.lemmas.List.Elements.{All-nil}
 use Rattle.block_table.specs.declared.block.Block.{Block}
 use Rattle.stream_store.proofs.store.Store.with_table.Goals as goal
