@@ -107,10 +107,10 @@ fn stage_by(
     // that the table is one is what the proof takes from this call
     let _ = table.writing();
     let plan = plan(alloc, table, effects)?;
-    if !log.fits(plan.batch.len()) {
+    let records = plan.batch.as_slice();
+    if !log.fits(records.len()) {
         return Err(CommitFault::Full);
     }
-    let records = plan.batch.as_slice();
     law_bytes(records);
     let batch = Batch::of(alloc, records)?;
     let steps = steps_of(alloc, effects, plan.spots.as_slice())?;

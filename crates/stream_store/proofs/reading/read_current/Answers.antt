@@ -71,4 +71,4 @@ returns-else-branch-clause-fault g c = λ told.
     let mid = g.V.Vol.disk c.read_log.new.vol in
     let f = c.in_ok-found.found in
     not_openable c.args.current.now.file c.args.current.now.log old c.in-Ok.read f c.in-Ok.ensures.logged c.in_ok-found.ensures.read (c.in-Ok.ensures.gives told)
-    (stored_back old mid f (c.read_log.ensures.quiet told) (c.in_ok-found.ensures.stored told)) (λ open. true≢false (sym (c.in_ok-is_openable.ensures.value.1 open) ∙ c.if-branch.false))
+    (stored_back old mid f (c.read_log.ensures.quiet told) (c.in_ok-found.ensures.stored told)) (λ can. true≢false (sym (c.in_ok-is_openable.ensures.value.1 can) ∙ c.if-branch.false))

@@ -15,10 +15,10 @@ loop-effect-init c =
 pub loop-effect-preserved : goal.loop-effect-preserved
 loop-effect-preserved c =
     placings_next c.args.table.now c.args.tail.now c.loop-effect.effect-index c.effect-item.result c.loop-effect.placing (omega arith) c.effect-item.is c.loop-effect.invariant c.place_effect.new.placing
-    (c.place_effect.ensures ∙ ap (λ (t : Bool). cond t (Some c.place_effect.new.placing) None) c.if-not-place_effect.false)
+    (c.place_effect.ensures.value ∙ ap (λ (t : Bool). cond t (Some c.place_effect.new.placing) None) c.if-not-place_effect.false)
 
 pub returns-then-not-place_effect : goal.returns-then-not-place_effect
 returns-then-not-place_effect c = record {
   value = sym (no_room c.args.table.now c.args.tail.now c.loop-effect.effect-index c.effect-item.result c.loop-effect.placing (omega arith) c.effect-item.is c.loop-effect.invariant c.args.len
-      (c.place_effect.ensures ∙ ap (λ (t : Bool). cond t (Some c.place_effect.new.placing) None) c.if-not-place_effect.true));
+      (c.place_effect.ensures.value ∙ ap (λ (t : Bool). cond t (Some c.place_effect.new.placing) None) c.if-not-place_effect.true));
 }

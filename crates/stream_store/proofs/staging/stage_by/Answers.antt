@@ -1,4 +1,4 @@
-use Rattle.std.proofs.Common.{◌≡◌, ◌∙◌, List, ap, subst, sym, ◌<◌, ◌≤◌, ◌+◌, ◌^◌, ℕ, length, arith}
+use Rattle.std.proofs.Common.{◌≡◌, ◌∙◌, ◌++◌, List, map, ap, subst, sym, ◌<◌, ◌≤◌, ◌+◌, ◌^◌, ℕ, length, arith}
 use Rattle.std.specs.Prelude.{All}
 use Rattle.js_base.specs.Bytes.{Bytes}
 use Rattle.js_base.specs.declared.spot.Spot.{Spot}
@@ -22,17 +22,17 @@ returns-clause-staged c =
       batch = c.in_ok-batch.ensures.value ∙ c.as_slice-records.ensures.value ∙ p.has.batch;
       bytes = subst (λ (l : Bytes). All (λ byte. byte < 256) l) (sym c.in_ok-batch.ensures.value) c.law_bytes.ensures.law;
       steps = c.in_ok-steps.ensures.value ∙ ap (steps_of c.args.effects.now) (c.as_slice.ensures.value ∙ p.has.spots);
-      behind = subst AreBehindLogs (sym ?) (left_behind c.args.table.now c.args.before.now c.args.effects.now p.made c.take_away-all.result planned c.requires.behind);
+      behind = subst AreBehindLogs (sym (c.in_ok-blocks.ensures.value ∙ ap (λ (l : List Run). c.args.before.now ++ (blocks_of c.take_away-all.result c.args.table.now ++ map block_of l)) (c.as_slice-3.ensures.value ∙ p.has.runs))) (left_behind c.args.table.now c.args.before.now c.args.effects.now p.made c.take_away-all.result planned c.requires.behind);
     }
 
 pub returns-then-not-fits-clause-full : goal.returns-then-not-fits-clause-full
 returns-then-not-fits-clause-full c = λ is.
     let p = c.in_ok-plan.ensures.plan in
-    let size : c.len.result ≡ batch_length c.args.effects.now = c.len.ensures.value ∙ ap length p.has.batch ∙ plan_length c.args.table.now c.args.effects.now p.made p.made_is in
-    subst (λ (n : ℕ). 2 ^ 31 < c.args.log.now.end + 6 + n) size (past_end c.fits.result (c.args.log.now.end + 6 + c.len.result) c.fits.ensures.value c.if-not-fits.true)
+    let size : length c.as_slice-records.result.now ≡ batch_length c.args.effects.now = ap length (c.as_slice-records.ensures.value ∙ p.has.batch) ∙ plan_length c.args.table.now c.args.effects.now p.made p.made_is in
+    subst (λ (n : ℕ). 2 ^ 31 < c.args.log.now.end + 6 + n) size (past_end c.fits.result (c.args.log.now.end + 6 + length c.as_slice-records.result.now) c.fits.ensures.value c.if-not-fits.true)
 
 pub returns-clause-fits : goal.returns-clause-fits
 returns-clause-fits c =
     let p = c.in_ok-plan.ensures.plan in
-    let size : c.len.result ≡ batch_length c.args.effects.now = c.len.ensures.value ∙ ap length p.has.batch ∙ plan_length c.args.table.now c.args.effects.now p.made p.made_is in
+    let size : length c.as_slice-records.result.now ≡ batch_length c.args.effects.now = ap length (c.as_slice-records.ensures.value ∙ p.has.batch) ∙ plan_length c.args.table.now c.args.effects.now p.made p.made_is in
     subst (λ (n : ℕ). c.args.log.now.end + 6 + n ≤ 2 ^ 31) size (c.fits.ensures.value.0 c.if-not-fits.false)

@@ -45,4 +45,4 @@ pub returns-in-Ok-clause-written : goal.returns-in-Ok-clause-written
 returns-in-Ok-clause-written g c = λ told b base next on.
     late_base (record { log = c.args.log.now; blocks = b }) on.effects c.args.staged.now base next (g.V.Vol.disk c.args.vol.now) on.base_is on.next_is on.staged_is (g.V.Vol.disk c.write_runs.new.vol)
     (subst (λ (l : List Run). ChangesRuns l (g.V.Vol.disk c.args.vol.now) (g.V.Vol.disk c.write_runs.new.vol)) c.as_slice.ensures.value (c.write_runs.ensures.changes told)) (subst (λ (l : List Run). All (λ run. AreBytes run.bytes) l) c.as_slice.ensures.value c.in_ok-write_runs.ensures.bytes) (subst (λ (l : List Run). All (IsWritten (g.V.Vol.disk c.args.vol.now) (g.V.Vol.disk c.write_runs.new.vol)) l) c.as_slice.ensures.value (c.in_ok-write_runs.ensures.written told)) (g.met.V.Vol.honest told c.write_runs.new.vol) c.requires.ready.fits (g.V.Vol.disk c.append_batch.new.vol)
-    (c.append_batch.ensures.any_moment told) c.append_batch.new.log c.in-Ok.ensures.log (c.in-Ok.ensures.appended told)
+    (c.append_batch.ensures.any_moment told) c.append_batch.new.self c.in-Ok.ensures.log (c.in-Ok.ensures.appended told)
