@@ -20,13 +20,8 @@ fn with_messages(alloc: Global, sizes: &[usize]) -> Result<MemVol, Fail> {
     make_stream(alloc, &mut store, &mut vol)?;
     for (at, size) in sizes.iter().enumerate() {
         let payload = vec![in alloc; b'x'; *size]?;
-        publish(
-            alloc,
-            &mut store,
-            &mut vol,
-            at as u64 + 1,
-            payload.as_slice(),
-        )?;
+        let seq = (at as u64).saturating_add(1);
+        publish(alloc, &mut store, &mut vol, seq, payload.as_slice())?;
     }
     Ok(vol.into_vol())
 }

@@ -1,12 +1,12 @@
 //! What the tests of a store share: changes of a stream, each of them committed alone, to volumes of which nothing is told.
 
-ghost use Rattle.std.specs.Prelude.{◌≡◌, ◌∷◌, [], IfOk, IsTrue};
-ghost use Rattle.op_records.specs.Allowed.{is_record};
+ghost use Rattle.std.specs.Prelude.{◌≡◌, ◌∷◌, [], false, IfOk, IsTrue};
+ghost use Rattle.op_records.specs.Allowed.{is_put, is_record};
 ghost use Rattle.stream_store.specs.Placing.{can_place};
 
 use crate::blind::Blind;
 use effects::Effect;
-use js_base::{Blob, Moment, Name, NoMemory};
+use js_base::{Blob, Moment, Name};
 use js_json::object;
 use std::alloc::Global;
 use std::test::Fail;
@@ -29,64 +29,32 @@ pub enum Ended {
 }
 
 /// The moment of each change.
-fn moment() -> Result<Moment, Failed> {
+fn moment() -> Result<Moment, Failed>
+    ensures value { IfOk result (λ moment. moment ≡ 1000) }
+{
     Moment::of(1000).ok_or(Failed)
 }
 
 /// The record of a new stream.
 fn making(alloc: Global) -> Result<Effect, Fail>
-    ensures allowed { IfOk result (λ effect. IsTrue (is_record effect)) }
+    ensures allowed { IfOk result (λ change. IsTrue (is_record change)) }
+    ensures other { IfOk result (λ change. is_put change ≡ false) }
 {
     let name = Name::read(alloc, b"ORDERS")?;
     let fields = object(alloc, br#"{"subjects":["orders.*"]}"#)?;
+    let config = read(alloc, &fields, &name)?;
     Ok(Effect::MakeStream {
         incarnation: 1,
         made: moment()?,
-        config: read(alloc, &fields, &name)?,
+        config,
     })
-}
-
-/// The record of a message that is stored.
-fn storing(alloc: Global, seq: u64, payload: &[u8]) -> Result<Effect, Fail>
-    ensures allowed { IfOk result (λ effect. IsTrue (is_record effect)) }
-{
-    if seq >= 1 << 62 || payload.len() > MAX_PAYLOAD {
-        return Err(Failed)?;
-    }
-    Ok(Effect::PutHere {
-        seq,
-        at: moment()?,
-        id: Blob::empty(),
-        subject: Blob::of(alloc, SUBJECT)?,
-        headers: Blob::empty(),
-        payload: Blob::of(alloc, payload)?,
-    })
-}
-
-/// Whether a change stores no message, or one that has a place.
-fn has_room(store: &mut Store, change: &Effect) -> Result<bool, NoMemory>
-    requires allowed { IsTrue (is_record change.now) }
-    ensures value { IfOk result (λ room. IsTrue room → IsTrue (can_place store.new.blocks (change.now ∷ []))) }
-{
-    law_placing();
-    match change {
-        Effect::PutHere {
-            subject,
-            headers,
-            payload,
-            ..
-        } => store.room(&[], message_len(subject, headers, payload)),
-        _ => Ok(true),
-    }
 }
 
 /// Commits a change alone.
 fn commit(alloc: Global, store: &mut Store, vol: &mut Blind, change: Effect) -> Result<Ended, Fail>
     requires allowed { IsTrue (is_record change) }
+    requires placed { IsTrue (can_place store.old.blocks (change ∷ [])) }
 {
-    if !has_room(store, &change)? {
-        return Err(Failed)?;
-    }
     match store.commit(alloc, vol, &[change]) {
         Ok(()) => Ok(Ended::Done),
         Err(CommitFault::Fault) => Ok(Ended::Failed),
@@ -96,7 +64,9 @@ fn commit(alloc: Global, store: &mut Store, vol: &mut Blind, change: Effect) -> 
 
 /// Makes a stream.
 pub fn make_stream(alloc: Global, store: &mut Store, vol: &mut Blind) -> Result<Ended, Fail> {
-    commit(alloc, store, vol, making(alloc)?)
+    law_placing();
+    let change = making(alloc)?;
+    commit(alloc, store, vol, change)
 }
 
 /// Stores a message with the stream's next sequence, which is the number.
@@ -107,7 +77,29 @@ pub fn publish(
     seq: u64,
     payload: &[u8],
 ) -> Result<Ended, Fail> {
-    commit(alloc, store, vol, storing(alloc, seq, payload)?)
+    if seq >= 1 << 62 || payload.len() > MAX_PAYLOAD {
+        return Err(Failed)?;
+    }
+    let at = moment()?;
+    let id = Blob::empty();
+    let subject = Blob::of(alloc, SUBJECT)?;
+    let headers = Blob::empty();
+    let payload = Blob::of(alloc, payload)?;
+    law_placing();
+    let len = message_len(&subject, &headers, &payload);
+    let room = store.room(&[], len)?;
+    if !room {
+        return Err(Failed)?;
+    }
+    let change = Effect::PutHere {
+        seq,
+        at,
+        id,
+        subject,
+        headers,
+        payload,
+    };
+    commit(alloc, store, vol, change)
 }
 
 /// Removes the messages of the stream in front of a sequence.
@@ -115,11 +107,9 @@ pub fn purge(alloc: Global, store: &mut Store, vol: &mut Blind, seq: u64) -> Res
     if seq < 2 || seq >= 1 << 62 {
         return Err(Failed)?;
     }
-    let change = Effect::Remove {
-        low: 1,
-        high: seq - 1,
-    };
-    commit(alloc, store, vol, change)
+    law_placing();
+    let high = seq - 1;
+    commit(alloc, store, vol, Effect::Remove { low: 1, high })
 }
 
 /// How many messages a volume holds of its stream, or `None` if it has none.
