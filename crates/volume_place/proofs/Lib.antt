@@ -10,3 +10,5 @@ mod Steps
 mod Deliveries
 mod Opened
 mod Empty
+mod Plain
+mod Storing
