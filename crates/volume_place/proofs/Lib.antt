@@ -12,3 +12,4 @@ mod Opened
 mod Empty
 mod Plain
 mod Storing
+mod Answering
