@@ -1,9 +1,10 @@
 -- Which records store a message: one of a publish that is taken and kept, and no other.
-use Rattle.std.proofs.Common.{◌≡◌, ◌⊎◌, inl, inr, ℕ, ◌+◌, ◌^◌, ◌==◌, ◌&&◌, not, max, Bool, true, false, cond, List, [], ◌∷◌, ◌++◌, map, refl, sym, ap, subst, ◌∙◌}
+use Rattle.std.proofs.Common.{◌≡◌, ◌⊎◌, inl, inr, ℕ, ◌+◌, ◌^◌, ◌==◌, ◌&&◌, not, max, Bool, true, false, cond, List, [], ◌∷◌, ◌++◌, map, Option, None, Some, refl, sym, ap, subst, ◌∙◌}
+use Rattle.std.specs.Prelude.{filter}
 use Rattle.std.specs.List.{flat_map, list_all, list_any}
 use Rattle.std.proofs.lemmas.Bool.{and_from, and_parts, true≢false}
 use Rattle.std.proofs.lemmas.List.Folds.{list_all-append}
-use Rattle.js_base.specs.Bytes.{Bytes}
+use Rattle.js_base.specs.Bytes.{Bytes, has}
 use Rattle.js_model.specs.declared.ack.AckKind.{AckKind}
 use Rattle.js_model.specs.declared.ack.AckKind.TheVariants.{Ack as Acknowledge, Nak, Wpi, Next, Term}
 use Rattle.js_model.specs.declared.consumer.Consumer.{Consumer}
@@ -23,16 +24,16 @@ use Rattle.js_model.specs.declared.stream.State.TheVariants.{Vacant, Live}
 use Rattle.js_model.specs.declared.stream.Stream.{Stream}
 use Rattle.js_model.specs.Advance.{advance, aged, is_spent, young}
 use Rattle.js_model.specs.Consumers.{making_checks}
-use Rattle.js_model.specs.Events.{message_at, published, with_message}
+use Rattle.js_model.specs.Events.{message_at, published, purge_list, stream_answer, with_message, without_messages}
 use Rattle.js_model.specs.Refusals.{first_refusal}
 use Rattle.js_model.specs.Retention.{kept}
 use Rattle.js_model.specs.Runs.{messages_of}
-use Rattle.js_model.specs.Streams.{by_name}
+use Rattle.js_model.specs.Streams.{by_name, seqs}
 use Rattle.js_model.specs.Trim.{trim, trim_count, trim_subjects}
 use Rattle.js_model.specs.Verdict.{verdict}
-use Rattle.effects.specs.Effects.{ack_effects, acknowledged_effects, change_effects, changes_due, delete_effects, delivery_effects, drop_effects, due_effects, ended_effects, ends_some, event_effects, is_skipped, live_effects, made_effects, make_effects, own_effects, publish_effects, published_skipped, put_effect, sent_effects, settle_effects, vacant_effects}
+use Rattle.effects.specs.Effects.{ack_effects, acknowledged_effects, change_effects, changes_due, delete_effects, delivery_effects, drop_effects, due_effects, ended_effects, ends_some, event_effects, is_skipped, live_effects, made_effects, make_effects, own_effects, publish_effects, published_skipped, put_effect, sent_effects, settle_effects, skipped, vacant_effects}
 use Rattle.js_model.specs.Acknowledge.{is_no_delivery}
-use Rattle.effects.specs.Ranges.{Range}
+use Rattle.effects.specs.Ranges.{Range, ranges}
 use Rattle.effects.specs.TimeEffects.{effects_at, given_up_effects, has_spent_ids, now_effects, removals, remove_of, time_effects}
 use Rattle.effects.specs.declared.effect.Effect.{Effect}
 use Rattle.effects.specs.declared.effect.Effect.TheVariants as effects
@@ -87,7 +88,7 @@ still_ranges [] = refl
 still_ranges (r ∷ rs) = still_ranges rs
 
 still_removals : (skipped : List ℕ) (before after : List Message) → Still (removals skipped before after)
-still_removals skipped before after = still_ranges _
+still_removals skipped before after = still_ranges (ranges (λ n. not (has (seqs after) n)) (filter (λ n. not (has skipped n)) (seqs before)))
 
 still_now : (s : Stream) (moment : ℕ) → Still (now_effects s moment)
 still_now s moment = go ((s.moment == moment) && not (has_spent_ids s moment))
@@ -122,6 +123,15 @@ still_settle missing (Live s) =
     (still_both (removals missing two.messages (trim s).messages) _ (still_removals missing two.messages (trim s).messages)
     (still_removals missing (trim s).messages (kept (trim s)).messages)))
 
+pub plain_time : (s : Stream) (now : ℕ) → Plain (time_effects s now)
+plain_time s now = plain_of (time_effects s now) (still_time s now)
+
+pub plain_settle : (missing : List ℕ) (state : State) → Plain (settle_effects missing state)
+plain_settle missing state = plain_of (settle_effects missing state) (still_settle missing state)
+
+plain_removals : (before after : List Message) → Plain (removals [] before after)
+plain_removals before after = plain_of (removals [] before after) (still_removals [] before after)
+
 -- ---- an event's own
 
 only_if : (b : Bool) (e : Effect) → not (is_put e) ≡ true → Plain (cond b (e ∷ []) [])
@@ -144,7 +154,7 @@ plain_drop (Some c) = refl
 
 plain_delete : (s : Stream) (m : Option Message) → Plain (delete_effects s m)
 plain_delete s None = refl
-plain_delete s (Some m) = plain_of _ (still_removals [] s.messages _)
+plain_delete s (Some m) = plain_removals s.messages (without_messages s (m ∷ [])).messages
 
 plain_ended : (ended : ℕ → Bool) (low high : ℕ) (c : Consumer) → Plain (ended_effects ended low high c)
 plain_ended ended low high c = only_if (ends_some ended c) (effects.Acked c.name low high) refl
@@ -214,12 +224,12 @@ module _ (a : Stream) (p : Publish) where
   -- of a message that is dropped at once a log has no more than its sequence
   by_keeping : (b : Bool) → is_skipped a p ≡ b → Plain (published_effects a p Take) ⊎ ((is_skipped a p ≡ false) × (published_effects a p Take ≡ storing a p))
   by_keeping true e = inl (subst Plain (sym (ap (λ (b : Bool). (cond b (effects.Skip (a.last + 1) a.moment p.wants.id) (put_of a p) ∷ []) ++ settle_effects (cond b ((a.last + 1) ∷ []) []) (Live (with_message a p))) e))
-      (plain_of _ (still_settle ((a.last + 1) ∷ []) (Live (with_message a p)))))
+      (plain_settle ((a.last + 1) ∷ []) (Live (with_message a p))))
   by_keeping false e = inr (e, ap (λ (b : Bool). (cond b (effects.Skip (a.last + 1) a.moment p.wants.id) (put_of a p) ∷ []) ++ settle_effects (cond b ((a.last + 1) ∷ []) []) (Live (with_message a p))) e)
 
   by_verdict : (v w : Verdict) → w ≡ v → Plain (published_effects a p w) ⊎ ((w ≡ Take) × (is_skipped a p ≡ false) × (published_effects a p w ≡ storing a p))
-  by_verdict (TakenBefore n) w e = inl (subst (λ (u : Verdict). Plain (published_effects a p u)) (sym e) (plain_of _ (still_settle [] (Live a))))
-  by_verdict (RefusedBy r) w e = inl (subst (λ (u : Verdict). Plain (published_effects a p u)) (sym e) (plain_of _ (still_settle [] (Live a))))
+  by_verdict (TakenBefore n) w e = inl (subst (λ (u : Verdict). Plain (published_effects a p u)) (sym e) (plain_settle [] (Live a)))
+  by_verdict (RefusedBy r) w e = inl (subst (λ (u : Verdict). Plain (published_effects a p u)) (sym e) (plain_settle [] (Live a)))
   by_verdict Take w e = go (by_keeping (is_skipped a p) refl)
     where
       go : Plain (published_effects a p Take) ⊎ ((is_skipped a p ≡ false) × (published_effects a p Take ≡ storing a p)) → Plain (published_effects a p w) ⊎ ((w ≡ Take) × (is_skipped a p ≡ false) × (published_effects a p w ≡ storing a p))
@@ -228,12 +238,12 @@ module _ (a : Stream) (p : Publish) where
 
 -- ---- events and deliveries
 
-plain_own : (a : Stream) (what : What) (room : Bool) → (p : Publish) × (what ≡ PublishIt p) ⊎ Plain (own_effects a what room)
+plain_own : (a : Stream) (what : What) (room : Bool) → ((p : Publish) × (what ≡ PublishIt p)) ⊎ Plain (own_effects a what room)
 plain_own a (Make reply config) room = inr refl
 plain_own a (Change reply config) room = inr (only_if _ (effects.ChangeStream config) refl)
 plain_own a (DropStream reply) room = inr refl
 plain_own a (PublishIt p) room = inl (p, refl)
-plain_own a (Purge reply pattern below keep) room = inr (plain_of _ (still_removals [] a.messages _))
+plain_own a (Purge reply pattern below keep) room = inr (plain_removals a.messages (without_messages a (purge_list a pattern below keep)).messages)
 plain_own a (Delete reply n) room = inr (plain_delete a (message_at a n))
 plain_own a (MakeConsumer reply name config update) room = inr (plain_make a name config update (by_name a.consumers name))
 plain_own a (DropConsumer reply name) room = inr (plain_drop (by_name a.consumers name))
@@ -255,18 +265,18 @@ plain_or_stores (Live s) what now room = go (plain_own a what room)
     a = advance s now
 
     timed : (xs : List Effect) → Plain xs → Plain (time_effects s now ++ xs)
-    timed xs plain = plain_both (time_effects s now) xs (plain_of _ (still_time s now)) plain
+    timed xs plain = plain_both (time_effects s now) xs (plain_time s now) plain
 
     publish : (p : Publish) → Plain (published_effects a p (verdict a p room)) ⊎ ((verdict a p room ≡ Take) × (is_skipped a p ≡ false) × (published_effects a p (verdict a p room) ≡ storing a p))
         → Plain (event_effects (Live s) (PublishIt p) now room) ⊎ Stores (Live s) (PublishIt p) now room
     publish p (inl plain) = inl (timed (published_effects a p (verdict a p room)) plain)
     publish p (inr h) = inr (record { s = s; p = p; old_is = refl; what_is = refl; taken = h.0; kept = h.1; records = ap (λ (l : List Effect). time_effects s now ++ l) h.2 })
 
-    go : (p : Publish) × (what ≡ PublishIt p) ⊎ Plain (own_effects a what room) → Plain (event_effects (Live s) what now room) ⊎ Stores (Live s) what now room
+    go : ((p : Publish) × (what ≡ PublishIt p)) ⊎ Plain (own_effects a what room) → Plain (event_effects (Live s) what now room) ⊎ Stores (Live s) what now room
     go (inl is) =
         subst (λ (w : What). Plain (event_effects (Live s) w now room) ⊎ Stores (Live s) w now room) (sym is.1)
         (publish is.0 (by_verdict a is.0 (verdict a is.0 room) (verdict a is.0 room) refl))
-    go (inr plain) = inl (timed (live_effects a what room) (plain_both (own_effects a what room) _ plain (plain_of _ (still_settle _ _))))
+    go (inr plain) = inl (timed (live_effects a what room) (plain_both (own_effects a what room) _ plain (plain_settle (skipped a what room) (stream_answer a what room).state)))
 
 plain_sent : (s : Stream) (d : Delivered) (c : Option Consumer) → Plain (sent_effects s d c)
 plain_sent s d None = refl
@@ -277,10 +287,10 @@ plain_sent s Emptied (Some c) = refl
 pub plain_delivery : (old : State) (now : ℕ) (d : Delivery) (new : State) → Plain (delivery_effects old now d new)
 plain_delivery (Vacant i) now d new = refl
 plain_delivery (Live s) now d new =
-    plain_both (time_effects s now) _ (plain_of _ (still_time s now))
+    plain_both (time_effects s now) _ (plain_time s now)
     (plain_both (sent_effects (advance s now) d.what (by_name (advance s now).consumers d.consumer)) _ (plain_sent (advance s now) d.what (by_name (advance s now).consumers d.consumer))
-    (plain_of _ (still_removals [] (advance s now).messages (messages_of new))))
+    (plain_removals (advance s now).messages (messages_of new)))
 
 pub plain_tick : (old : State) (now : ℕ) (room : Bool) → Plain (event_effects old Tick now room)
 plain_tick (Vacant i) now room = refl
-plain_tick (Live s) now room = plain_both (time_effects s now) _ (plain_of _ (still_time s now)) (plain_of _ (still_settle _ _))
+plain_tick (Live s) now room = plain_both (time_effects s now) _ (plain_time s now) (plain_settle [] (Live (advance s now)))

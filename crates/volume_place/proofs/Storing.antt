@@ -1,5 +1,5 @@
 -- What waits keeps its places in blocks as events and deliveries are made, and a message that is stored counts.
-use Rattle.std.proofs.Common.{◌≡◌, ◌≢◌, ◌≤◌, ◌<◌, ◌⊎◌, inl, inr, ℕ, ◌+◌, ◌^◌, ◌==◌, ◌||◌, Bool, true, false, cond, not, List, [], ◌∷◌, ◌++◌, length, map, Option, None, Some, Result, Ok, Err, refl, sym, ap, subst, ◌∙◌, arith, length-append, append-assoc}
+use Rattle.std.proofs.Common.{◌≡◌, ◌≢◌, ◌≤◌, ◌<◌, ◌⊎◌, inl, inr, ℕ, ◌+◌, ◌^◌, ◌==◌, ◌||◌, Bool, true, false, cond, not, List, [], ◌∷◌, ◌++◌, length, map, Option, None, Some, Result, Ok, Err, refl, sym, ap, subst, ◌∙◌, arith, length-append, append_assoc}
 use Rattle.std.specs.Prelude.{IsTrue, filter}
 use Rattle.std.specs.List.{list_all}
 use Rattle.std.specs.Option.{option_to_list}
@@ -24,6 +24,7 @@ use Rattle.js_model.specs.Lists.{Between}
 use Rattle.js_model.specs.Runs.{is_few, new_messages}
 use Rattle.js_model.specs.Streams.{seqs}
 use Rattle.js_model.specs.Verdict.{late_checks, verdict}
+use Rattle.js_model.proofs.Parts.{between_bounds}
 use Rattle.model_laws.specs.Sound.{IsSound}
 use Rattle.model_laws.proofs.Bounded.{ArePassed, all_passed, taken_passed}
 use Rattle.effects.specs.Effects.{delivery_effects, event_effects, is_skipped, settle_effects}
@@ -46,12 +47,12 @@ use Rattle.place_records.specs.declared.made.Made.{Made}
 use Rattle.place_records.specs.declared.made.TimeRecords.{TimeRecords}
 use Rattle.place_records.specs.Records.{effects_in, gives_up, own_in, seen_in, time_in}
 use Rattle.volume_place.specs.Rooms.{HasBlocks, IsCounted, MayStore, block_length, room_for, room_in, stored_by}
-use Rattle.volume_place.proofs.Plain.{Plain, Still, Stores, plain_both, plain_delivery, plain_of, plain_or_stores, plain_tick, put_of, still_ranges, still_settle, still_time, storing}
+use Rattle.volume_place.proofs.Plain.{Plain, Still, Stores, plain_both, plain_delivery, plain_of, plain_or_stores, plain_settle, plain_tick, plain_time, put_of, still_ranges, still_time, storing}
 
 -- ---- how many messages records store
 
 stored_both : (xs ys : List Effect) → stored_by (xs ++ ys) ≡ stored_by xs + stored_by ys
-stored_both [] ys = refl
+stored_both [] ys = omega arith
 stored_both (x ∷ xs) ys = go (is_put x) (stored_both xs ys)
   where
     go : (b : Bool) → stored_by (xs ++ ys) ≡ stored_by xs + stored_by ys
@@ -71,8 +72,8 @@ none_stored (e ∷ es) plain =
 
 pub one_stored : (a : Stream) (p : Publish) (now : ℕ) (s : Stream) → stored_by (time_effects s now ++ storing a p) ≡ 1
 one_stored a p now s =
-    let before = none_stored (time_effects s now) (plain_of _ (still_time s now)) in
-    let behind = none_stored (settle_effects [] (Live (with_message a p))) (plain_of _ (still_settle [] (Live (with_message a p)))) in
+    let before = none_stored (time_effects s now) (plain_time s now) in
+    let behind = none_stored (settle_effects [] (Live (with_message a p))) (plain_settle [] (Live (with_message a p))) in
     omega (arith, stored_both (time_effects s now) (storing a p), before, behind)
 
 -- ---- places
@@ -87,7 +88,7 @@ not_put true so = absurd (true≢false (sym so))
 not_put false so = refl
 
 one_behind : {X : Type 0} (xs : List X) (x : X) (ys : List X) → (xs ++ x ∷ []) ++ ys ≡ xs ++ x ∷ ys
-one_behind xs x ys = append-assoc xs (x ∷ []) ys
+one_behind xs x ys = append_assoc xs (x ∷ []) ys
 
 module _ (b : Blocks) where
   -- records that store nothing
@@ -121,12 +122,12 @@ module _ (b : Blocks) where
   stored_grows es s a p now can room =
       let passed = time_effects s now in
       let leaving = settle_effects [] (Live (with_message a p)) in
-      let first = plain_places es passed (plain_of _ (still_time s now)) can in
+      let first = plain_places es passed (plain_time s now) can in
       let there = ap (has_room b (es ++ passed)) (sym (length_is a p)) ∙ still_room es passed (block_length p) (still_time s now) ∙ room in
       let put = law_placing.message b (es ++ passed) (a.last + 1) a.moment p.wants.id p.subject p.headers p.payload there in
       let more = law_counting.message b (es ++ passed) (a.last + 1) a.moment p.wants.id p.subject p.headers p.payload put in
-      let last = plain_places ((es ++ passed) ++ put_of a p ∷ []) leaving (plain_of _ (still_settle [] (Live (with_message a p)))) put in
-      let seam = one_behind (es ++ passed) (put_of a p) leaving ∙ append-assoc es passed (storing a p) in
+      let last = plain_places ((es ++ passed) ++ put_of a p ∷ []) leaving (plain_settle [] (Live (with_message a p))) put in
+      let seam = one_behind (es ++ passed) (put_of a p) leaving ∙ append_assoc es passed (storing a p) in
       let count = one_stored a p now s in
       let used = ap (used_behind b) (sym seam) ∙ last.1 in
       record { placed = ap (can_place b) (sym seam) ∙ last.0; used = omega (arith, used, more, first.1, count) }
@@ -248,7 +249,7 @@ module _ (b : Blocks) (waiting : List Effect) (stored : ℕ) where
 
 one_new : (before : List ℕ) (n : ℕ) (ms : List Message) → has before n ≡ false → has (seqs ms) n ≡ true → 1 ≤ length (filter (λ m. not (has before m.seq)) ms)
 one_new before n [] none is = absurd (true≢false (sym is))
-one_new before n (m ∷ ms) none is = go (m.seq == n) refl is
+one_new before n (m ∷ ms) none is = go (m.seq == n) refl is (one_new before n ms none)
   where
     passes : (x : Bool) → x ≡ false → 1 ≤ length (cond (not x) (m ∷ filter (λ m. not (has before m.seq)) ms) (filter (λ m. not (has before m.seq)) ms))
     passes true e = absurd (true≢false e)
@@ -258,25 +259,18 @@ one_new before n (m ∷ ms) none is = go (m.seq == n) refl is
     more true some = omega arith
     more false some = some
 
-    go : (x : Bool) → (m.seq == n) ≡ x → (x || has (seqs ms) n) ≡ true → 1 ≤ length (filter (λ m. not (has before m.seq)) (m ∷ ms))
-    go true e h = passes (has before m.seq) (ap (has before) (eqb-true m.seq n e) ∙ none)
-    go false e h = more (not (has before m.seq)) (one_new before n ms none h)
+    go : (x : Bool) → (m.seq == n) ≡ x → (x || has (seqs ms) n) ≡ true → (has (seqs ms) n ≡ true → 1 ≤ length (filter (λ m. not (has before m.seq)) ms)) → 1 ≤ length (filter (λ m. not (has before m.seq)) (m ∷ ms))
+    go true e h rest = passes (has before m.seq) (ap (has before) (eqb-true m.seq n e) ∙ none)
+    go false e h rest = more (not (has before m.seq)) (rest h)
 
 -- the sequences of a sound stream end below the next one
 none_next : (low high : ℕ) (ms : List Message) → Between (λ m. m.seq) low high ms → has (seqs ms) high ≡ false
 none_next low high [] h = refl
-none_next low high (m ∷ ms) h = go (m.seq == high) refl
+none_next low high (m ∷ ms) h = go (m.seq == high) refl (between_bounds (λ x. x.seq) (m.seq + 1) high ms h.1) (none_next (m.seq + 1) high ms h.1)
   where
-    bound : (l : ℕ) (xs : List Message) → Between (λ x. x.seq) l high xs → l ≤ high
-    bound l [] k = k
-    bound l (x ∷ xs) k = let rest = bound (x.seq + 1) xs k.1 in omega (arith, k.0, rest)
-
-    go : (x : Bool) → (m.seq == high) ≡ x → (x || has (seqs ms) high) ≡ false
-    go true e =
-        let same = eqb-true m.seq high e in
-        let rest = bound (m.seq + 1) ms h.1 in
-        absurd (omega (arith, same, rest))
-    go false e = none_next (m.seq + 1) high ms h.1
+    go : (x : Bool) → (m.seq == high) ≡ x → m.seq + 1 ≤ high → has (seqs ms) high ≡ false → (x || has (seqs ms) high) ≡ false
+    go true e bound rest = let same = eqb-true m.seq high e in absurd (omega (arith, same, bound))
+    go false e bound rest = rest
 
 last_of_advance : (s : Stream) (now : ℕ) → (advance s now).last ≡ s.last
 unfolding advance
@@ -327,11 +321,11 @@ plain_given_up moment (name ∷ names) = plain_given_up moment names
 plain_time_in : (time : TimeRecords) → Plain (time_in time)
 plain_time_in time =
     plain_both (seen_in time) _ (plain_seen time)
-    (plain_both (map remove_of time.aged.ranges) _ (plain_of _ (still_ranges time.aged.ranges)) (plain_given_up time.moment time.given_up))
+    (plain_both (map remove_of time.aged.ranges) _ (plain_of (map remove_of time.aged.ranges) (still_ranges time.aged.ranges)) (plain_given_up time.moment time.given_up))
 
 -- just its own record may store one
 pub made_stored : (made : Made) → stored_by (effects_in made) ≡ stored_by (option_to_list made.own.effect)
 made_stored made =
     let time = none_stored (time_in made.time) (plain_time_in made.time) in
-    let left = none_stored (map remove_of made.own.removed.ranges) (plain_of _ (still_ranges made.own.removed.ranges)) in
+    let left = none_stored (map remove_of made.own.removed.ranges) (plain_of (map remove_of made.own.removed.ranges) (still_ranges made.own.removed.ranges)) in
     omega (arith, stored_both (time_in made.time) (own_in made.own), stored_both (option_to_list made.own.effect) (map remove_of made.own.removed.ranges), time, left)
