@@ -6,6 +6,5 @@ mod Crash
 pub mod Openings
 mod Emptying
 mod Appendings
-pub mod Staged
 pub mod GateReads
 pub mod Heads
