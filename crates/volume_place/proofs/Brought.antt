@@ -134,7 +134,7 @@ module _ {V : Type 0} (told : Type 0) (disk : V → Disk) (faults : V → ℕ) (
 
     -- of what stands the volume holds what outlives a crash
     holds_next : (image : Image) → Holds image (durable_of x.state) → holds image (lasting x.state)
-    holds_next image k = (subst (Holds image) (sym (held x.state)) k, lasts_twice x.state)
+    holds_next image k = (subst (λ (d : Durable). Holds image d) (sym (held x.state)) k, lasts_twice x.state)
 
     -- a commit was tried, by which the volume came to this
     module _ (vol : V) (later : (disk x.vol).moment ≤ (disk vol).moment) (any : told → CommitsOrNot x.store effects (disk x.vol) (disk vol)) where

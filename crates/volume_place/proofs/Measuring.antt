@@ -1,5 +1,5 @@
 -- How long the records that wait are, each of which is measured once.
-use Rattle.std.proofs.Common.{◌≡◌, ℕ, ◌+◌, ◌-◌, ◌≤◌, ◌<◌, ◌^◌, Bool, true, false, ◌&&◌, List, [], ◌∷◌, ◌++◌, length, map, get_or, take, drop, refl, sym, ap, subst, ◌∙◌, arith}
+use Rattle.std.proofs.Common.{◌≡◌, ◌≢◌, ℕ, ◌+◌, ◌-◌, ◌≤◌, ◌<◌, ◌^◌, Bool, true, false, ◌&&◌, List, [], ◌∷◌, ◌++◌, length, map, get_or, take, drop, refl, sym, ap, subst, ◌∙◌, arith}
 use Rattle.std.specs.Prelude.{IsTrue, nat_lt}
 use Rattle.std.specs.List.{flat_map, list_all}
 use Rattle.std.proofs.lemmas.Bool.{and_parts, le-ltb, lt-ltb}
@@ -8,7 +8,7 @@ use Rattle.std.proofs.lemmas.List.Concat.{flat_map-append}
 use Rattle.std.proofs.lemmas.List.Folds.{list_all-append}
 use Rattle.js_base.specs.Bytes.{Bytes}
 use Rattle.effects.specs.declared.effect.Effect.{Effect}
-use Rattle.effects.specs.declared.effect.Effect.TheVariants.{PutHere}
+use Rattle.effects.specs.declared.effect.Effect.TheVariants.{MakeStream, ChangeStream, DropStream, PutHere, Skip, Remove, MakeConsumer, DropConsumer, Deliver, Acked, Due, GivenUp, Now}
 use Rattle.op_records.specs.Allowed.{is_record}
 use Rattle.op_records.specs.Spelling.{long, number, spelled, spelled_record, spelled_spot, text}
 use Rattle.op_records.specs.declared.record.Record.{Record}
@@ -92,7 +92,7 @@ each_measured records at lengths past so_far = subst (λ (l : List Effect). Have
 
 -- a log has no message: in its place it has a spot, which is as long as the numbers that tell how long the parts of a message are
 pub put_lengths : (seq at : ℕ) (id subject headers payload : Bytes) → length (spelled (PutHere seq at id subject headers payload)) ≡ length (spelled_record (recorded_at no_spot (PutHere seq at id subject headers payload))) + (length subject + (length headers + length payload))
-unfolding spelled, spelled_record
+unfolding spelled spelled_record
 put_lengths seq at id subject headers payload = omega (
   arith,
   length-append (text id) (text subject ++ (long headers ++ long payload)),
@@ -100,6 +100,29 @@ put_lengths seq at id subject headers payload = omega (
   length-append (long headers) (long payload),
   length-append (text id) (spelled_spot no_spot),
 )
+
+-- of the record of a message
+pub put_lengths_of : (e : Effect) (seq at : ℕ) (id subject headers payload : Bytes) → e ≡ PutHere seq at id subject headers payload
+    → length (spelled e) ≡ length (spelled_record (recorded_at no_spot e)) + (length subject + (length headers + length payload))
+put_lengths_of e seq at id subject headers payload is =
+    subst (λ (x : Effect). length (spelled x) ≡ length (spelled_record (recorded_at no_spot x)) + (length subject + (length headers + length payload))) (sym is) (put_lengths seq at id subject headers payload)
+
+-- each other one is logged as it waits
+pub other_lengths : (e : Effect) → ((seq at : ℕ) (id subject headers payload : Bytes) → e ≢ PutHere seq at id subject headers payload) → length (spelled e) ≡ length (spelled_record (recorded_at no_spot e))
+unfolding spelled_record
+other_lengths (MakeStream incarnation made config) other = refl
+other_lengths (ChangeStream config) other = refl
+other_lengths DropStream other = refl
+other_lengths (PutHere seq at id subject headers payload) other = absurd (other seq at id subject headers payload refl)
+other_lengths (Skip seq at id) other = refl
+other_lengths (Remove low high) other = refl
+other_lengths (MakeConsumer name made config cursor picks) other = refl
+other_lengths (DropConsumer name) other = refl
+other_lengths (Deliver name seq count due dseq) other = refl
+other_lengths (Acked name low high) other = refl
+other_lengths (Due name seq due) other = refl
+other_lengths (GivenUp name moment) other = refl
+other_lengths (Now moment) other = refl
 
 -- ---- whether they are little
 

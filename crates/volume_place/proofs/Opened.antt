@@ -85,7 +85,7 @@ module _ {V : Type 0} (told : Type 0) (disk : V → Disk) (faults : V → ℕ) (
           })
 
       opening : opens told disk old state
-      opening t = (subst (Holds (disk old).seen) (sym held_here) (found t), kept.lasting)
+      opening t = (subst (λ (e : Durable). Holds (disk old).seen e) (sym held_here) (found t), kept.lasting)
 
       pub opened_of : (stored : ℕ) → stored ≡ length (messages_of state) → IsOpened holds (reads told disk) (left told disk) (clock disk) (opens told disk) old
           (seen_of told disk faults (record { state = state; store = store; vol = vol; waiting = waiting; stored = stored; stopped = None }))

@@ -1,5 +1,5 @@
 -- What waits keeps its places in blocks as events and deliveries are made, and a message that is stored counts.
-use Rattle.std.proofs.Common.{◌≡◌, ◌≢◌, ◌≤◌, ◌<◌, ◌⊎◌, inl, inr, ℕ, ◌+◌, ◌^◌, ◌==◌, ◌||◌, Bool, true, false, cond, not, List, [], ◌∷◌, ◌++◌, length, map, Option, None, Some, Result, Ok, Err, refl, sym, ap, subst, ◌∙◌, arith, length-append, append_assoc}
+use Rattle.std.proofs.Common.{◌≡◌, ◌≢◌, ◌≤◌, ◌<◌, ◌⊎◌, inl, inr, ℕ, ◌+◌, ◌-◌, ◌^◌, ◌==◌, ◌||◌, min, Bool, true, false, cond, not, List, [], ◌∷◌, ◌++◌, length, map, Option, None, Some, Result, Ok, Err, refl, sym, ap, subst, ◌∙◌, arith, length-append, append_assoc}
 use Rattle.std.specs.Prelude.{IsTrue, filter}
 use Rattle.std.specs.List.{list_all}
 use Rattle.std.specs.Option.{option_to_list}
@@ -329,3 +329,44 @@ made_stored made =
     let time = none_stored (time_in made.time) (plain_time_in made.time) in
     let left = none_stored (map remove_of made.own.removed.ranges) (plain_of (map remove_of made.own.removed.ranges) (still_ranges made.own.removed.ranges)) in
     omega (arith, stored_both (time_in made.time) (own_in made.own), stored_both (option_to_list made.own.effect) (map remove_of made.own.removed.ranges), time, left)
+
+-- a number that is at its end stands for many
+pub counted_one : (made : Made) (seq at : ℕ) (id subject headers payload : Bytes) (stored count : ℕ) → made.own.effect ≡ Some (effects.PutHere seq at id subject headers payload)
+    → count ≡ min (stored + 1) (2 ^ 64 - 1) → IsCounted stored (stored_by (effects_in made)) count
+counted_one made seq at id subject headers payload stored count is count_is =
+    let one : stored_by (effects_in made) ≡ 1 = made_stored made ∙ ap (λ (o : Option Effect). stored_by (option_to_list o)) is in
+    record {
+      none = λ no. absurd (omega (arith, one, no));
+      most = omega (arith, one, count_is);
+      all = λ few. let below : count < 65533 = ltb-true count 65533 few in omega (arith, one, count_is, below);
+    }
+
+not_stored : (o : Option Effect) → ((seq at : ℕ) (id subject headers payload : Bytes) → o ≢ Some (effects.PutHere seq at id subject headers payload)) → stored_by (option_to_list o) ≡ 0
+not_stored None other = refl
+not_stored (Some (effects.MakeStream incarnation made config)) other = refl
+not_stored (Some (effects.ChangeStream config)) other = refl
+not_stored (Some effects.DropStream) other = refl
+not_stored (Some (effects.PutHere seq at id subject headers payload)) other = absurd (other seq at id subject headers payload refl)
+not_stored (Some (effects.Skip seq at id)) other = refl
+not_stored (Some (effects.Remove low high)) other = refl
+not_stored (Some (effects.MakeConsumer name made config cursor picks)) other = refl
+not_stored (Some (effects.DropConsumer name)) other = refl
+not_stored (Some (effects.Deliver name seq count due dseq)) other = refl
+not_stored (Some (effects.Acked name low high)) other = refl
+not_stored (Some (effects.Due name seq due)) other = refl
+not_stored (Some (effects.GivenUp name moment)) other = refl
+not_stored (Some (effects.Now moment)) other = refl
+
+pub counted_none : (made : Made) (stored : ℕ) → ((seq at : ℕ) (id subject headers payload : Bytes) → made.own.effect ≢ Some (effects.PutHere seq at id subject headers payload))
+    → IsCounted stored (stored_by (effects_in made)) stored
+counted_none made stored other =
+    let none : stored_by (effects_in made) ≡ 0 = made_stored made ∙ not_stored made.own.effect other in
+    record { none = λ no. refl; most = omega arith; all = λ few. omega (arith, none) }
+
+-- each other thing that is asked
+pub others_have_room : (b : Blocks) (waiting : List Effect) (what : What) → ((p : Publish) → what ≢ whats.Publish p) → room_for b waiting what ≡ true
+others_have_room b waiting what other = go (only_publishes b waiting 0 what (room_for b waiting what) refl)
+  where
+    go : (room_for b waiting what ≡ true) ⊎ ((p : Publish) × (what ≡ whats.Publish p)) → room_for b waiting what ≡ true
+    go (inl is) = is
+    go (inr publish) = absurd (other publish.0 publish.1)
