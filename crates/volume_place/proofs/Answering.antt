@@ -14,7 +14,7 @@ use Rattle.stream_store.specs.StoreState.{StoreState}
 use Rattle.place_engine.specs.Answers.{LeftBy, PlaceAnswersIn}
 use Rattle.place_engine.specs.Recording.{TellsEventIn}
 use Rattle.place_engine.specs.declared.faults.Left.{Left}
-use Rattle.volume_place.specs.Rooms.{IsCounted, MayStore, room_for, room_in, stored_by}
+use Rattle.volume_place.specs.Rooms.{HasBlocks, IsCounted, MayStore, room_for, room_in, stored_by}
 use Rattle.volume_place.specs.Sound.{IsSoundPlace}
 use Rattle.volume_place.proofs.Growing.{grown_answer}
 use Rattle.volume_place.proofs.Storing.{grown_blocks, has_blocks, left_plain, may_store, room_going, told_grows, uncounted}
@@ -51,6 +51,7 @@ module _ (told : Type 0) (disk : Disk) (store : StoreState) (waiting : List Effe
           (grown_blocks store.blocks waiting effects stored count blocks (told_grows store.blocks waiting stored result state e.what now room effects for_waiting blocks tells) counted),
         ))
       where
+        blocks : HasBlocks store.blocks waiting stored
         blocks = has_blocks store.blocks waiting stored stopped going h.1
 
     -- one that found no memory counts none

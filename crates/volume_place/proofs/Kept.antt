@@ -1,5 +1,5 @@
 -- What holds of a place on a volume between two calls, as it is seen.
-use Rattle.std.proofs.Common.{◌≡◌, ◌⊎◌, inl, inr, ℕ, Option, Some, None, refl, sym, ap, subst, ◌∙◌}
+use Rattle.std.proofs.Common.{◌≡◌, ◌⊎◌, inl, inr, true, ℕ, Option, Some, None, refl, sym, ap, subst, ◌∙◌}
 use Rattle.std.proofs.lemmas.Option.{none-some}
 use Rattle.js_model.specs.declared.stream.State.{State}
 use Rattle.js_model.specs.Lasting.{lasting}

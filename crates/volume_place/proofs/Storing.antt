@@ -154,7 +154,7 @@ event_grows b es old what now room is can = go (plain_or_stores old what now roo
 
 -- none is counted
 pub uncounted : (stored : ℕ) (es : List Effect) → Plain es → IsCounted stored (stored_by es) stored
-uncounted stored es plain = let none = none_stored es plain in record { none = λ no. refl; most = omega arith; all = λ few. omega (arith, none) }
+uncounted stored es plain = let none = none_stored es plain in record { none = λ zero_is. refl; most = omega arith; all = λ few. omega (arith, none) }
 
 few_before : (old made new : ℕ) → is_few new ≡ true → old + made ≤ new → is_few old ≡ true
 few_before old made new few le = let below : new < 65533 = ltb-true new 65533 few in lt-ltb old 65533 (omega (arith, below, le))
@@ -331,37 +331,26 @@ made_stored made =
     omega (arith, stored_both (time_in made.time) (own_in made.own), stored_both (option_to_list made.own.effect) (map remove_of made.own.removed.ranges), time, left)
 
 -- a number that is at its end stands for many
-pub counted_one : (made : Made) (seq at : ℕ) (id subject headers payload : Bytes) (stored count : ℕ) → made.own.effect ≡ Some (effects.PutHere seq at id subject headers payload)
-    → count ≡ min (stored + 1) (2 ^ 64 - 1) → IsCounted stored (stored_by (effects_in made)) count
-counted_one made seq at id subject headers payload stored count is count_is =
-    let one : stored_by (effects_in made) ≡ 1 = made_stored made ∙ ap (λ (o : Option Effect). stored_by (option_to_list o)) is in
+pub counted_one : (made : Made) (e : Effect) (stored count : ℕ) → made.own.effect ≡ Some e → is_put e ≡ true → count ≡ min (stored + 1) (2 ^ 64 - 1) → IsCounted stored (stored_by (effects_in made)) count
+counted_one made e stored count is put count_is =
+    let one : stored_by (effects_in made) ≡ 1 =
+    made_stored made ∙ ap (λ (o : Option Effect). stored_by (option_to_list o)) is ∙ ap (λ (b : Bool). length (cond b (e ∷ []) [])) put in
     record {
-      none = λ no. absurd (omega (arith, one, no));
+      none = λ zero_is. absurd (omega (arith, one, zero_is));
       most = omega (arith, one, count_is);
       all = λ few. let below : count < 65533 = ltb-true count 65533 few in omega (arith, one, count_is, below);
     }
 
-not_stored : (o : Option Effect) → ((seq at : ℕ) (id subject headers payload : Bytes) → o ≢ Some (effects.PutHere seq at id subject headers payload)) → stored_by (option_to_list o) ≡ 0
-not_stored None other = refl
-not_stored (Some (effects.MakeStream incarnation made config)) other = refl
-not_stored (Some (effects.ChangeStream config)) other = refl
-not_stored (Some effects.DropStream) other = refl
-not_stored (Some (effects.PutHere seq at id subject headers payload)) other = absurd (other seq at id subject headers payload refl)
-not_stored (Some (effects.Skip seq at id)) other = refl
-not_stored (Some (effects.Remove low high)) other = refl
-not_stored (Some (effects.MakeConsumer name made config cursor picks)) other = refl
-not_stored (Some (effects.DropConsumer name)) other = refl
-not_stored (Some (effects.Deliver name seq count due dseq)) other = refl
-not_stored (Some (effects.Acked name low high)) other = refl
-not_stored (Some (effects.Due name seq due)) other = refl
-not_stored (Some (effects.GivenUp name moment)) other = refl
-not_stored (Some (effects.Now moment)) other = refl
+counted_none : (made : Made) (stored : ℕ) → stored_by (option_to_list made.own.effect) ≡ 0 → IsCounted stored (stored_by (effects_in made)) stored
+counted_none made stored nothing =
+    let none : stored_by (effects_in made) ≡ 0 = made_stored made ∙ nothing in
+    record { none = λ zero_is. refl; most = omega arith; all = λ few. omega (arith, none) }
 
-pub counted_none : (made : Made) (stored : ℕ) → ((seq at : ℕ) (id subject headers payload : Bytes) → made.own.effect ≢ Some (effects.PutHere seq at id subject headers payload))
-    → IsCounted stored (stored_by (effects_in made)) stored
-counted_none made stored other =
-    let none : stored_by (effects_in made) ≡ 0 = made_stored made ∙ not_stored made.own.effect other in
-    record { none = λ no. refl; most = omega arith; all = λ few. omega (arith, none) }
+pub counted_other : (made : Made) (e : Effect) (stored : ℕ) → made.own.effect ≡ Some e → is_put e ≡ false → IsCounted stored (stored_by (effects_in made)) stored
+counted_other made e stored is other = counted_none made stored (ap (λ (o : Option Effect). stored_by (option_to_list o)) is ∙ ap (λ (b : Bool). length (cond b (e ∷ []) [])) other)
+
+pub counted_without : (made : Made) (stored : ℕ) → made.own.effect ≡ None → IsCounted stored (stored_by (effects_in made)) stored
+counted_without made stored is = counted_none made stored (ap (λ (o : Option Effect). stored_by (option_to_list o)) is)
 
 -- each other thing that is asked
 pub others_have_room : (b : Blocks) (waiting : List Effect) (what : What) → ((p : Publish) → what ≢ whats.Publish p) → room_for b waiting what ≡ true

@@ -4,7 +4,7 @@ ghost use Rattle.std.specs.Prelude.{◌≡◌, ◌⊎◌, true, IfErr, IfOk, IsT
 ghost use Rattle.std.specs.List.{list_all};
 ghost use Rattle.js_model.specs.declared.event.Publish.{Publish};
 ghost use Rattle.js_model.specs.Proper.{is_proper_publish, is_proper_what};
-ghost use Rattle.op_records.specs.Allowed.{is_record};
+ghost use Rattle.op_records.specs.Allowed.{is_put, is_record};
 ghost use Rattle.place_engine.specs.Answers.{LeftBy, PlaceAnswersIn};
 ghost use Rattle.place_engine.specs.Places.{IsTold};
 ghost use Rattle.place_engine.specs.Recording.{TellsEventIn};
@@ -82,8 +82,19 @@ pub(crate) fn answer_in(
 pub(crate) fn count_with(stored: u64, made: &Made) -> u64
     ensures value { IsCounted stored (stored_by (effects_in made.now)) result }
 {
-    match &made.own.effect {
-        Some(Effect::PutHere { .. }) => stored.saturating_add(1),
-        _ => stored,
+    let Some(effect) = &made.own.effect else {
+        return stored;
+    };
+    if stores_message(effect) {
+        stored.saturating_add(1)
+    } else {
+        stored
     }
+}
+
+/// Whether the record stores a message.
+fn stores_message(effect: &Effect) -> bool
+    ensures value { result ≡ is_put effect.now }
+{
+    matches!(effect, Effect::PutHere { .. })
 }

@@ -3,7 +3,7 @@ use Rattle.vol_disk.specs.Disk.{Disk}
 use Rattle.volume_place.specs.Contents.{Contents}
 use Rattle.volume_place.specs.Rooms.{MayStore}
 use Rattle.volume_place.specs.Sound.{IsSoundPlace}
-use Rattle.volume_place.proofs.Kept.{kept_of}
+use Rattle.volume_place.proofs.Kept.{kept_of, reads_of}
 use Rattle.volume_place.proofs.volume_place.VolumePlacePlace.law_kept.Goals as goal
 
 -- what holds of a place holds of it as it is seen
@@ -19,3 +19,6 @@ pub returns-clause-kept : goal.returns-clause-kept
 returns-clause-kept g c =
     kept_of g.V.Vol.told g.V.Vol.disk g.V.Vol.faults c.args.self.now (g.met.V.Vol.clocked c.args.self.now.vol) (sound_as g.V.Vol.told g.V.Vol.disk _ _ c.self.view_is c.self.invariant.0)
     (blocks_as _ _ c.self.view_is c.self.invariant.1)
+
+pub returns-clause-reads : goal.returns-clause-reads
+returns-clause-reads g c = reads_of g.V.Vol.told g.V.Vol.disk g.V.Vol.faults c.args.self.now (sound_as g.V.Vol.told g.V.Vol.disk _ _ c.self.view_is c.self.invariant.0)
