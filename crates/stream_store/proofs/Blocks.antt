@@ -38,7 +38,7 @@ span_same n at len xs ys within same = span_in n at len ys within ∙ ap (λ (l 
 module _ (x y : Files) where
   pub spot_same : (ks : List Block) (spot : Spot) → All (IsSame x y) ks → lies_in ks spot ≡ true → bytes_at y spot ≡ bytes_at x spot
   spot_same [] spot h is = absurd (true≢false (sym is))
-  spot_same (k ∷ ks) spot h is = go (k.file == spot.file && nat_le (end_of spot) k.end) refl is
+  spot_same (k ∷ ks) spot h is = go (k.file == spot.file && nat_le (end_of spot) k.end) refl is (spot_same ks spot (All-tail (IsSame x y) k ks h))
     where
       there : (k.file == spot.file && nat_le (end_of spot) k.end) ≡ true → bytes_at y spot ≡ bytes_at x spot
       there e =
@@ -47,9 +47,9 @@ module _ (x y : Files) where
           subst (λ (f : ℕ). take spot.len (drop spot.at (y f)) ≡ take spot.len (drop spot.at (x f))) file
           (span_same k.end spot.at spot.len (x k.file) (y k.file) (leb-true (end_of spot) k.end parts.1) (All-head (IsSame x y) k ks h))
 
-      go : (t : Bool) → (k.file == spot.file && nat_le (end_of spot) k.end) ≡ t → (t || lies_in ks spot) ≡ true → bytes_at y spot ≡ bytes_at x spot
-      go true e l = there e
-      go false e l = spot_same ks spot (All-tail (IsSame x y) k ks h) l
+      go : (t : Bool) → (k.file == spot.file && nat_le (end_of spot) k.end) ≡ t → (t || lies_in ks spot) ≡ true → (lies_in ks spot ≡ true → bytes_at y spot ≡ bytes_at x spot) → bytes_at y spot ≡ bytes_at x spot
+      go true e l rest = there e
+      go false e l rest = rest l
 
   pub stands_moved : (spot : Spot) (m : Message) → bytes_at y spot ≡ bytes_at x spot → StandsAt x spot m → StandsAt y spot m
   stands_moved spot m same h = record { few = subst IsBatch (sym same) h.few; reads = subst (λ (l : Bytes). message_at l 0 ≡ Ok (m, spot.len)) (sym same) h.reads }
@@ -85,15 +85,15 @@ end_among ks file = unwrap_or (option_map (λ (k : Block). k.end) (find (in_file
 module _ (k : Block) (ks : List Block) where
   lift : (xs : List Block) → All (λ j. end_among ks j.file ≡ j.end) xs → is_among xs k.file ≡ false → All (λ j. end_among (k ∷ ks) j.file ≡ j.end) xs
   lift [] h none = All-nil (λ (j : Block). end_among (k ∷ ks) j.file ≡ j.end)
-  lift (j ∷ xs) h none = go (j.file == k.file) refl none
+  lift (j ∷ xs) h none = go (j.file == k.file) refl none (lift xs (All-tail (λ (j : Block). end_among ks j.file ≡ j.end) j xs h))
     where
-      go : (t : Bool) → (j.file == k.file) ≡ t → (t || is_among xs k.file) ≡ false → All (λ j. end_among (k ∷ ks) j.file ≡ j.end) (j ∷ xs)
-      go true e l = absurd (true≢false l)
-      go false e l =
+      go : (t : Bool) → (j.file == k.file) ≡ t → (t || is_among xs k.file) ≡ false → (is_among xs k.file ≡ false → All (λ j. end_among (k ∷ ks) j.file ≡ j.end) xs) → All (λ j. end_among (k ∷ ks) j.file ≡ j.end) (j ∷ xs)
+      go true e l rest = absurd (true≢false l)
+      go false e l rest =
           let apart : (k.file == j.file) ≡ false = ne_eqb k.file j.file (λ is. true≢false (sym (eq-eqb j.file k.file (sym is)) ∙ e)) in
           All-cons (λ (j : Block). end_among (k ∷ ks) j.file ≡ j.end) j xs
           (ap (λ (t : Bool). unwrap_or (option_map (λ (k : Block). k.end) (cond t (Some k) (find (in_file j.file) ks))) 0) apart ∙ All-head (λ (j : Block). end_among ks j.file ≡ j.end) j xs h)
-          (lift xs (All-tail (λ (j : Block). end_among ks j.file ≡ j.end) j xs h) l)
+          (rest l)
 
 ends_are : (ks : List Block) → AreApart ks → All (λ k. end_among ks k.file ≡ k.end) ks
 ends_are [] apart = All-nil (λ (k : Block). end_among [] k.file ≡ k.end)
@@ -116,11 +116,11 @@ same_fronts b disk image table stand starts = All-weaker (λ (k : Block). end_am
 find_all : (P : Block → Type 0) (ks : List Block) (file : ℕ) (o : Option Block) → find (in_file file) ks ≡ o → All P ks → IfSome o (λ k. (k.file ≡ file) × P k)
 find_all P [] file None e h = tt
 find_all P [] file (Some k) e h = cc
-find_all P (j ∷ ks) file o e h = go (j.file == file) refl e
+find_all P (j ∷ ks) file o e h = go (j.file == file) refl e (λ same. find_all P ks file o same (All-tail P j ks h))
   where
-    go : (t : Bool) → (j.file == file) ≡ t → cond t (Some j) (find (in_file file) ks) ≡ o → IfSome o (λ k. (k.file ≡ file) × P k)
-    go true is same = subst (λ (q : Option Block). IfSome q (λ k. (k.file ≡ file) × P k)) same (eqb-true j.file file is, All-head P j ks h)
-    go false is same = find_all P ks file o same (All-tail P j ks h)
+    go : (t : Bool) → (j.file == file) ≡ t → cond t (Some j) (find (in_file file) ks) ≡ o → (find (in_file file) ks ≡ o → IfSome o (λ k. (k.file ≡ file) × P k)) → IfSome o (λ k. (k.file ≡ file) × P k)
+    go true is same rest = subst (λ (q : Option Block). IfSome q (λ k. (k.file ≡ file) × P k)) same (eqb-true j.file file is, All-head P j ks h)
+    go false is same rest = rest same
 
 -- the block is written so far, and stands
 pub record IsFirm (disk : Disk) (k : Block) : Type 0 where

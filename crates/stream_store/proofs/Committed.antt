@@ -1,8 +1,7 @@
 -- What a commit leaves, as it was staged.
-use Rattle.std.proofs.Common.{◌≡◌, ◌⊎◌, inl, inr, ℕ, ◌+◌, ◌<◌, ◌≤◌, ◌^◌, List, [], ◌∷◌, ◌++◌, length, refl, sym, ap, subst, ◌∙◌, arith}
-use Rattle.std.specs.Prelude.{All, IsTrue}
-use Rattle.std.specs.List.{list_all}
-use Rattle.vol_disk.specs.Disk.{Disk, Files}
+use Rattle.std.proofs.Common.{◌≡◌, inr, ◌+◌, ◌≤◌, ◌^◌, List, length, refl, sym, ap, subst, ◌∙◌, arith}
+use Rattle.std.specs.Prelude.{All}
+use Rattle.vol_disk.specs.Disk.{Disk}
 use Rattle.vol_disk.specs.Images.{AreBytes, IsHonest}
 use Rattle.vol_disk.specs.Moments.{LeavesOnly}
 use Rattle.vol_disk.proofs.Moments.{joined}
@@ -14,17 +13,14 @@ use Rattle.gate_log.specs.LogState.{LogState, with_batch}
 use Rattle.gate_log.specs.Settled.{IsSettled}
 use Rattle.effects.specs.declared.durable.Durable.{Durable}
 use Rattle.effects.specs.declared.effect.Effect.{Effect}
-use Rattle.op_records.specs.Allowed.{is_record}
 use Rattle.op_records.specs.Laws.{IsBatch}
-use Rattle.block_table.specs.declared.block.Block.{Block}
 use Rattle.block_table.specs.Blocks.{Blocks}
 use Rattle.block_writing.specs.declared.run.Run.{Run}
-use Rattle.block_writing.specs.Laws.{ArePlannedBy}
 use Rattle.block_writing.specs.Planning.{spots_in}
 use Rattle.block_writing.specs.Writing.{ChangesRuns, HasStored, IsWritten}
 use Rattle.block_writing.proofs.Commits.{law_plans}
 use Rattle.stream_store.specs.Base.{IsBase, IsBaseOf}
-use Rattle.stream_store.specs.Committing.{IsNextBatch, batch_length}
+use Rattle.stream_store.specs.Committing.{IsNextBatch}
 use Rattle.stream_store.specs.Holding.{Holds}
 use Rattle.stream_store.specs.Staging.{DropsUnused, IsStaged}
 use Rattle.stream_store.specs.Steps.{steps_of, with_steps}
@@ -32,19 +28,15 @@ use Rattle.stream_store.specs.StoreState.{StoreState}
 use Rattle.stream_store.specs.declared.staging.Staged.{Staged}
 use Rattle.stream_store.specs.declared.steps.Step.{Step}
 use Rattle.stream_store.proofs.Committing.{IsPlanned, OneOfBoth, base_dropped, base_late, commits, dropping_leaves, settled_mid, writing_leaves}
-use Rattle.stream_store.proofs.Staging.{plan_length}
 
-module _ (store : StoreState) (before : List Block) (effects : List Effect) (staged : Staged) (base next : Durable) (old : Disk) (k : IsBase store base old) (n : IsNextBatch base effects next) (allowed : IsTrue (list_all is_record effects))
-    (s : IsStaged store.blocks before effects staged) where
-  planned : ArePlannedBy store.blocks effects s.made
-  planned = record { table = k.table; allowed = allowed; made_is = s.made_is }
-
+module _ (store : StoreState) (effects : List Effect) (staged : Staged) (base next : Durable) (old : Disk) (k : IsBase store base old) (n : IsNextBatch base effects next)
+    (s : IsStaged store.blocks effects staged) where
   plan : IsPlanned store.log store.blocks base next effects s.made old
-  plan = record { base_is = k; next_is = n; planned = planned }
+  plan = record { base_is = k; next_is = n; planned = s.planned }
 
   -- each run begins within its file
   pub within : All (λ run. run.at ≤ length (old.seen run.file)) staged.runs.items
-  within = subst (λ (l : List Run). All (λ run. run.at ≤ length (old.seen run.file)) l) (sym s.runs) (law_plans.within store.blocks effects s.made old planned k.stand)
+  within = subst (λ (l : List Run). All (λ run. run.at ≤ length (old.seen run.file)) l) (sym s.runs) (law_plans.within store.blocks effects s.made old s.planned k.stand)
 
   -- where the messages lie then
   abbrev after : Blocks
@@ -65,7 +57,7 @@ module _ (store : StoreState) (before : List Block) (effects : List Effect) (sta
     module _ (bytes : All (λ run. AreBytes run.bytes) staged.runs.items) (written : All (IsWritten old mid) staged.runs.items) where
       has : HasStored store.blocks effects s.made.records old mid
       has =
-          law_plans.written store.blocks effects s.made old mid planned k.stand changes_made (subst (λ (l : List Run). All (λ run. AreBytes run.bytes) l) s.runs bytes)
+          law_plans.written store.blocks effects s.made old mid s.planned k.stand changes_made (subst (λ (l : List Run). All (λ run. AreBytes run.bytes) l) s.runs bytes)
           (subst (λ (l : List Run). All (IsWritten old mid) l) s.runs written)
 
       pub settled_then : (batches : List Bytes) × IsSettled store.log batches mid
@@ -73,31 +65,30 @@ module _ (store : StoreState) (before : List Block) (effects : List Effect) (sta
 
       -- ---- the batch is appended
 
-      module _ (honest : IsHonest mid) (fits : store.log.end + 6 + batch_length effects ≤ 2 ^ 31) where
+      module _ (honest : IsHonest mid) (fits : store.log.end + 6 + length staged.batch ≤ 2 ^ 31) where
         few : IsBatch staged.batch
-        few =
-            let size = ap length s.batch ∙ plan_length store.blocks effects s.made s.made_is in
-            record { are_bytes = s.bytes; short = omega (arith, size, fits) }
+        few = record { are_bytes = s.bytes; short = omega (arith, fits) }
 
         module _ (late : Disk) (appends : AppendsTo store.log staged.batch mid late) where
           pub appending : LeavesOnly old late (OneOfBoth base next)
           appending = commits store.log store.blocks base next effects s.made old plan mid changes_made has honest staged.batch s.batch few late appends
 
           module _ (log : LogState) (log_is : log ≡ with_batch store.log (length staged.batch)) (appended : IsAppended store.log log staged.batch mid late) where
-            late_base : IsBaseOf log after next late
+            pub late_base : IsBaseOf log after next late
+            unfolding settled_then plan
             late_base =
                 subst (λ (b : Blocks). IsBaseOf log b next late) after_is
                 (base_late store.log store.blocks base next effects s.made old plan mid changes_made has honest staged.batch s.batch few late appends log log_is (appended k.settled.0 settled_then.1))
 
-            -- ---- unused blocks are dropped
+-- ---- unused blocks are dropped
 
-            module _ (new : Disk) (drops : DropsUnused after late new) where
-              pub new_base : IsBaseOf log after next new
-              new_base = base_dropped log after next late new drops.ks late_base drops.behind_logs drops.changes
+module _ (log : LogState) (b : Blocks) (next : Durable) (late new : Disk) (is : IsBaseOf log b next late) (drops : DropsUnused b late new) where
+  pub new_base : IsBaseOf log b next new
+  new_base = base_dropped log b next late new drops.ks is drops.behind_logs drops.changes
 
-              pub all_leaves : LeavesOnly old new (OneOfBoth base next)
-              all_leaves =
-                  joined old late new (OneOfBoth base next) (λ image. Holds image next) appending (dropping_leaves log after next late new drops.ks late_base drops.behind_logs drops.changes) (λ image h. inr h)
+  pub all_leaves : (base : Durable) (old : Disk) → LeavesOnly old late (OneOfBoth base next) → LeavesOnly old new (OneOfBoth base next)
+  all_leaves base old leaves =
+      joined old late new (OneOfBoth base next) (λ image. Holds image next) leaves (dropping_leaves log b next late new drops.ks is drops.behind_logs drops.changes) (λ image h. inr h)
 
 -- ---- an append that failed
 

@@ -52,7 +52,7 @@ use Rattle.stream_store.specs.Holding.{Holds, last_in, last_of, logged}
 use Rattle.stream_store.specs.Base.{IsBaseOf}
 use Rattle.stream_store.specs.Committing.{IsNextBatch}
 use Rattle.stream_store.specs.Logs.{current_file, is_first}
-use Rattle.stream_store.specs.Staging.{AreBehindLogs}
+use Rattle.stream_store.specs.Staging.{AreBehindLogs, DropsUnused}
 use Rattle.stream_store.specs.Steps.{steps_of, with_steps}
 use Rattle.stream_store.proofs.Basing.{IsNow, all_hold, base_of, base_gives, has_logs_by, holds_by, holds_now, now_of, now_with}
 use Rattle.stream_store.proofs.Blocks.{IsFirm, IsSame, firm_blocks, same_fronts, stored_moved}
@@ -391,6 +391,16 @@ module _ (log : LogState) (b : Blocks) (base next : Durable) (effects : List Eff
             (record { table = here.state.table; stand = firm_blocks after late firm_late; storable = w.next_is.storable; stored = stored_late; openable = w.next_is.openable })
 
 -- ---- while unused blocks are dropped
+
+pub drops_nothing : (b : Blocks) (disk : Disk) → IsClocked disk → DropsUnused b disk disk
+drops_nothing b disk clocked = record {
+  ks = [];
+  behind_logs = All-nil (λ (k : Block). 2 ≤ k.file);
+  changes = record {
+    elsewhere = λ file unused. record { seen = refl; leaves = λ bytes left. left };
+    any_moment = started disk (AreUsedKept b [] disk) clocked (λ image is file unused. is.left file);
+  };
+}
 
 -- no log is among them
 log_used : (b : Blocks) (ks : List Block) (file : ℕ) → AreBehindLogs ks → file < 2 → is_unused b ks file ≡ false

@@ -27,6 +27,7 @@ use Rattle.block_table.specs.declared.block.Block.{Block}
 use Rattle.block_table.specs.Blocks.{Blocks, blocks, has_block, no_blocks}
 use Rattle.block_table.specs.Tables.{IsTable}
 use Rattle.block_table.proofs.Lists.{each_passes}
+use Rattle.block_reading.specs.Damage.{AreDamaged}
 use Rattle.block_reading.specs.Standing.{AreStoredIn, IsWhole, written_in}
 use Rattle.block_reading.proofs.Follows.{follow_within}
 use Rattle.log_records.specs.Batches.{Gives}
@@ -51,7 +52,7 @@ use Rattle.stream_store.specs.Finding.{IsCurrent, IsFaultIn, IsLogFault, IsRecor
 use Rattle.stream_store.specs.Opening.{IsNoneOpen, IsOpenFault}
 use Rattle.stream_store.specs.declared.fault.OpenFault.{OpenFault}
 use Rattle.stream_store.specs.declared.fault.OpenFault.TheVariants.{Fault, Damaged, UnknownVersion, NoMemory as OutOfMemory}
-use Rattle.stream_store.specs.Reading.{AreSynced, IsBlocksFault, IsFound}
+use Rattle.stream_store.specs.Reading.{AreSynced, IsBlocksFault, IsFound, IsStoredBy}
 use Rattle.stream_store.specs.declared.logs.Current.{Current}
 use Rattle.stream_store.specs.declared.reading.Found.{Found}
 use Rattle.stream_store.proofs.OneReading.{log_same}
@@ -103,6 +104,19 @@ bad_blocks file log disk read (Damaged damaged at) gives h = λ batches settled.
     inr (record { given = given_in read; gives = law_batches.last batches (given_in read) read.last (gives batches settled); damaged = h })
 bad_blocks file log disk read (UnknownVersion n) gives h = absurd h
 bad_blocks file log disk read OutOfMemory gives h = tt
+
+-- ---- where nothing is written
+
+pub stored_back : (old mid : Disk) (f : Found) → Quiet old mid → IsStoredBy mid f → IsStoredBy old f
+stored_back old mid f still h = subst (λ (x : Files). AreStoredIn x f.table (last_of f.durable) (stored_messages f.durable)) (fun_ext still.seen) h
+
+pub blocks_back : (read : LogRead) (old mid : Disk) (fault : OpenFault) → Quiet old mid → IsBlocksFault read mid fault → IsBlocksFault read old fault
+blocks_back read old mid Fault still h = tt
+blocks_back read old mid (Damaged file at) still h = subst (λ (x : Files). AreDamaged x read.table (last_of read.durable) (stored_messages read.durable) file at) (fun_ext still.seen) h
+blocks_back read old mid (UnknownVersion n) still h = absurd h
+blocks_back read old mid OutOfMemory still h = tt
+
+-- ---- causes
 
 pub told_as : {T E : Type 0} (r : Result T E) (a b : E) → r ≡ Err a → r ≡ Err b → a ≡ b
 told_as r a b p q = cc

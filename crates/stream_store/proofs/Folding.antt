@@ -212,13 +212,13 @@ goes_on_by b [] so_far made h = record {
   records = sym (ap (λ (x : Planned). x.records) (some_is h)) ∙ sym (append-nil so_far.records);
   next = (refl, sym (ap (λ (x : Planned). x.placing) (some_is h)));
 }
-goes_on_by b (e ∷ es) so_far made h = go (planned_one b so_far e) refl h
+goes_on_by b (e ∷ es) so_far made h = go (planned_one b so_far e) refl h (λ next more. goes_on_by b es next made more)
   where
-    go : (o : Option Planned) → planned_one b so_far e ≡ o → planned b es o ≡ Some made → GoesOnBy b (e ∷ es) so_far made
-    go None is more = absurd (none_some (sym (planned_none b es) ∙ more))
-    go (Some next) is more =
+    go : (o : Option Planned) → planned_one b so_far e ≡ o → planned b es o ≡ Some made → ((next : Planned) → planned b es (Some next) ≡ Some made → GoesOnBy b es next made) → GoesOnBy b (e ∷ es) so_far made
+    go None is more on = absurd (none_some (sym (planned_none b es) ∙ more))
+    go (Some next) is more on =
         let one = next_of b so_far e next is in
-        let rest = goes_on_by b es next made more in
+        let rest = on next more in
         record {
           more = recorded_at one.spot e ∷ rest.more;
           records = rest.records ∙ ap (λ (l : List Record). l ++ rest.more) one.records ∙ append_assoc so_far.records (recorded_at one.spot e ∷ []) rest.more;

@@ -57,16 +57,19 @@ told_unread d = subst (λ (l : List Message). AllZip IsToldBy l (stored_messages
 body_same : (b c : Body) → unread_body b ≡ unread_body c → b.messages ≡ c.messages → b ≡ c
 body_same b c same messages = ap (λ (x : Body). record x { messages = b.messages }) same ∙ ap (λ (ms : List Message). record c { messages = ms }) messages
 
+abbrev pub durable_with : ℕ → Option Body → Durable
+durable_with i o = record { incarnation = i; body = o }
+
 pub read_same : (d e : Durable) → unread d ≡ unread e → stored_messages d ≡ stored_messages e → d ≡ e
 read_same d e same messages = go d.body e.body (ap (λ (x : Durable). x.incarnation) same) (ap (λ (x : Durable). x.body) same) messages
   where
     go : (o p : Option Body) → d.incarnation ≡ e.incarnation → option_map unread_body o ≡ option_map unread_body p → messages_of (state_in d.incarnation o) ≡ messages_of (state_in e.incarnation p)
-        → record { incarnation = d.incarnation; body = o } ≡ record { incarnation = e.incarnation; body = p }
-    go None None i k m = ap (λ (n : ℕ). record { incarnation = n; body = None }) i
+        → durable_with d.incarnation o ≡ durable_with e.incarnation p
+    go None None i k m = ap (λ (n : ℕ). durable_with n None) i
     go None (Some c) i k m = absurd (none_some k)
     go (Some b) None i k m = absurd (none_some (sym k))
     go (Some b) (Some c) i k m =
-        ap (λ (n : ℕ). record { incarnation = n; body = Some b }) i ∙ ap (λ (x : Body). record { incarnation = e.incarnation; body = Some x }) (body_same b c (some_is k) m)
+        ap (λ (n : ℕ). durable_with n (Some b)) i ∙ ap (λ (x : Body). durable_with e.incarnation (Some x)) (body_same b c (some_is k) m)
 
 -- ---- the same batches and blocks
 

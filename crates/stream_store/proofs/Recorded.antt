@@ -62,7 +62,7 @@ steps_one (Due name seq due) spot = []
 steps_one (GivenUp name moment) spot = []
 steps_one (Now moment) spot = []
 
-steps_then : (e : Effect) (spot : Spot) (es : List Effect) (more : List Record) (b : Blocks) → with_steps (steps_of (e ∷ es) (spots_in (recorded_at spot e ∷ more))) b ≡ with_steps (steps_of es (spots_in more)) (with_steps (steps_one e spot) b)
+pub steps_then : (e : Effect) (spot : Spot) (es : List Effect) (more : List Record) (b : Blocks) → with_steps (steps_of (e ∷ es) (spots_in (recorded_at spot e ∷ more))) b ≡ with_steps (steps_of es (spots_in more)) (with_steps (steps_one e spot) b)
 steps_then (MakeStream incarnation made config) spot es more b = refl
 steps_then (ChangeStream config) spot es more b = refl
 steps_then DropStream spot es more b = refl
@@ -117,25 +117,22 @@ put_next before p c seq len spot q s above small h = go (stays len p.writing) re
     go true e h = on p.writing refl e h
     go false e h = new (free_from p.from before) refl h
 
+none_above : (image : Files) (last : ℕ) (ps : List Placed) (ms : List Message) → AllZip (IsThere image) ps ms → All (λ m. m.seq ≤ last) ms → list_any (λ p. nat_le (last + 1) p.seq) ps ≡ false
+none_above image last [] [] h below = refl
+none_above image last (p ∷ ps) (m ∷ ms) h below = go (nat_le (last + 1) p.seq) refl (none_above image last ps ms h.1 (All-tail (λ (x : Message). x.seq ≤ last) m ms below))
+  where
+    go : (t : Bool) → nat_le (last + 1) p.seq ≡ t → list_any (λ p. nat_le (last + 1) p.seq) ps ≡ false → (t || list_any (λ p. nat_le (last + 1) p.seq) ps) ≡ false
+    go true e rest =
+        let low = All-head (λ (x : Message). x.seq ≤ last) m ms below in
+        let high = leb-true (last + 1) p.seq e in
+        absurd (omega (arith, low, high, h.0.seq))
+    go false e rest = rest
+none_above image last [] (m ∷ ms) h below = absurd h
+none_above image last (p ∷ ps) [] h below = absurd h
+
 -- a sequence above all messages is above all that are placed
 above_all : (image : Files) (last : ℕ) (ps : List Placed) (ms : List Message) → AllZip (IsThere image) ps ms → All (λ m. m.seq ≤ last) ms → is_above (last + 1) ps ≡ true
-above_all image last ps ms h below = ap not (none ps ms h below)
-  where
-    none : (ps : List Placed) (ms : List Message) → AllZip (IsThere image) ps ms → All (λ m. m.seq ≤ last) ms → list_any (λ p. nat_le (last + 1) p.seq) ps ≡ false
-    none [] [] h below = refl
-    none (p ∷ ps) (m ∷ ms) h below = go (nat_le (last + 1) p.seq) refl
-      where
-        rest : list_any (λ p. nat_le (last + 1) p.seq) ps ≡ false
-        rest = none ps ms h.1 (All-tail (λ (x : Message). x.seq ≤ last) m ms below)
-
-        go : (t : Bool) → nat_le (last + 1) p.seq ≡ t → (t || list_any (λ p. nat_le (last + 1) p.seq) ps) ≡ false
-        go true e =
-            let low = All-head (λ (x : Message). x.seq ≤ last) m ms below in
-            let high = leb-true (last + 1) p.seq e in
-            absurd (omega (arith, low, high, h.0.seq))
-        go false e = rest
-    none [] (m ∷ ms) h below = absurd h
-    none (p ∷ ps) [] h below = absurd h
+above_all image last ps ms h below = ap not (none_above image last ps ms h below)
 
 -- ---- what holds behind each change
 
@@ -242,7 +239,7 @@ module _ (x y : Files) (before : Blocks) (p : Placing) (d new : Durable) (c : Bl
 
 -- another change than a message that is stored may stand as it is
 stands_as : (e : Effect) → not (is_put e) ≡ true → IsTrue (is_record e) → IsTrue (may_stand (Change e))
-stands_as e no is = and_from (is_record e) (not (is_put e)) is no
+stands_as e plain is = and_from (is_record e) (not (is_put e)) is plain
 
 next_state : (x y : Files) (before : Blocks) (p : Placing) (d new : Durable) (c : Blocks) (e : Effect) (spot : Spot) (q : Placing) → IsState x y before p d c → IsTrue (is_record e) → Moves before e p spot q → fold d e ≡ Some new
     → IsStoredBy (StandsAt x) e (recorded_at spot e) → IsStoredBy (StandsAt y) e (recorded_at spot e) → IsStep x y before q spot e new c (with_steps (steps_one e spot) c)
@@ -293,6 +290,7 @@ pub record IsEnd (x y : Files) (before : Blocks) (q : Placing) (rs : List Record
   pub state : IsState x y before q next after
 
 folded_one : (d new : Durable) (c after : Blocks) (spot : Spot) (e : Effect) → fold d e ≡ Some new → blocks_after (recorded_at spot e) c ≡ Some after → fold_record (logged d c) (recorded_at spot e) ≡ Some (logged new after)
+unfolding fold_record
 folded_one d new c after spot e h is =
     let made : fold (unread d) (effect_of (recorded_at spot e)) ≡ Some (unread new) = ap (fold (unread d)) (effect_is spot e) ∙ one_unread d e ∙ ap (option_map unread) h in
     ap (λ (o : Option Durable). both o (blocks_after (recorded_at spot e) c)) made ∙ ap (with_blocks (unread new)) is
@@ -312,18 +310,23 @@ all_states x y before [] p rs q d next c s (none, same) is h there here =
     })
 all_states x y before (e ∷ es) p rs q d next c s (spot, mid, more, rs_are, moves, rest) is h there here =
     subst (λ (l : List Record). IsEnd x y before q l d next c (with_steps (steps_of (e ∷ es) (spots_in l)) c)) (sym rs_are)
-    (go (fold d e) refl h (subst (λ (l : List Record). AreStoredBy (StandsAt x) (e ∷ es) l) rs_are there) (subst (λ (l : List Record). AreStoredBy (StandsAt y) (e ∷ es) l) rs_are here))
+    (go (fold d e) refl h (subst (λ (l : List Record). AreStoredBy (StandsAt x) (e ∷ es) l) rs_are there) (subst (λ (l : List Record). AreStoredBy (StandsAt y) (e ∷ es) l) rs_are here)
+    (λ new after state made there here. all_states x y before es mid more q new next after state rest (and_parts (is_record e) (list_all is_record es) is).1 made there here))
   where
     allowed : IsTrue (is_record e) × IsTrue (list_all is_record es)
     allowed = and_parts (is_record e) (list_all is_record es) is
 
-    go : (o : Option Durable) → fold d e ≡ o → fold_all es o ≡ Some next → AreStoredBy (StandsAt x) (e ∷ es) (recorded_at spot e ∷ more) → AreStoredBy (StandsAt y) (e ∷ es) (recorded_at spot e ∷ more)
+    Rest : Type 0
+    Rest = (new : Durable) (after : Blocks) → IsState x y before mid new after → fold_all es (Some new) ≡ Some next → AreStoredBy (StandsAt x) es more → AreStoredBy (StandsAt y) es more
+        → IsEnd x y before q more new next after (with_steps (steps_of es (spots_in more)) after)
+
+    go : (o : Option Durable) → fold d e ≡ o → fold_all es o ≡ Some next → AreStoredBy (StandsAt x) (e ∷ es) (recorded_at spot e ∷ more) → AreStoredBy (StandsAt y) (e ∷ es) (recorded_at spot e ∷ more) → Rest
         → IsEnd x y before q (recorded_at spot e ∷ more) d next c (with_steps (steps_of (e ∷ es) (spots_in (recorded_at spot e ∷ more))) c)
-    go None made h there here = absurd (none_some (sym (fold_none es) ∙ h))
-    go (Some new) made h there here =
+    go None made h there here rest_of = absurd (none_some (sym (fold_none es) ∙ h))
+    go (Some new) made h there here rest_of =
         let after = with_steps (steps_one e spot) c in
         let one = next_state x y before p d new c e spot mid s allowed.0 moves made there.0 here.0 in
-        let all = all_states x y before es mid more q new next after one.state rest allowed.1 h there.1 here.1 in
+        let all = rest_of new after one.state h there.1 here.1 in
         subst (IsEnd x y before q (recorded_at spot e ∷ more) d next c) (sym (steps_then e spot es more c)) (record {
           folded = ap (fold_records more) (folded_one d new c after spot e made one.fits) ∙ all.folded;
           stand = and_from (may_stand (recorded_at spot e)) (list_all may_stand more) one.stands all.stand;

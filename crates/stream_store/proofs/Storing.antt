@@ -29,14 +29,11 @@ use Rattle.stream_store.proofs.Blocks.{IsSame}
 
 all_kept : {X : Type 0} (P : X → Type 0) (t : X → Bool) (xs more : List X) → All P (xs ++ more) → All P (filter t xs ++ more)
 all_kept P t [] more h = h
-all_kept P t (x ∷ xs) more h = go (t x)
+all_kept P t (x ∷ xs) more h = go (t x) (all_kept P t xs more (All-tail P x (xs ++ more) h))
   where
-    rest : All P (filter t xs ++ more)
-    rest = all_kept P t xs more (All-tail P x (xs ++ more) h)
-
-    go : (b : Bool) → All P (cond b (x ∷ filter t xs) (filter t xs) ++ more)
-    go true = All-cons P x (filter t xs ++ more) (All-head P x (xs ++ more) h) rest
-    go false = rest
+    go : (b : Bool) → All P (filter t xs ++ more) → All P (cond b (x ∷ filter t xs) (filter t xs) ++ more)
+    go true rest = All-cons P x (filter t xs ++ more) (All-head P x (xs ++ more) h) rest
+    go false rest = rest
 
 all_first : {X : Type 0} (P : X → Type 0) (xs more : List X) → All P (xs ++ more) → All P xs
 all_first P [] more h = All-nil P
@@ -57,16 +54,14 @@ zip_push R (a ∷ xs) [] x y h r = absurd h
 module _ (image : Files) (passes : ℕ → Bool) where
   pub there_kept : (ps : List Placed) (ms : List Message) → AllZip (IsThere image) ps ms → AllZip (IsThere image) (filter (λ p. passes p.seq) ps) (filter (λ m. passes m.seq) ms)
   there_kept [] [] h = tt
-  there_kept (p ∷ ps) (m ∷ ms) h = go (passes p.seq) (passes m.seq) (ap passes (sym h.0.seq))
+  there_kept (p ∷ ps) (m ∷ ms) h = go (passes p.seq) (passes m.seq) (ap passes (sym h.0.seq)) (there_kept ps ms h.1)
     where
-      rest : AllZip (IsThere image) (filter (λ p. passes p.seq) ps) (filter (λ m. passes m.seq) ms)
-      rest = there_kept ps ms h.1
-
-      go : (s t : Bool) → s ≡ t → AllZip (IsThere image) (cond s (p ∷ filter (λ p. passes p.seq) ps) (filter (λ p. passes p.seq) ps)) (cond t (m ∷ filter (λ m. passes m.seq) ms) (filter (λ m. passes m.seq) ms))
-      go true true e = (h.0, rest)
-      go false false e = rest
-      go true false e = absurd (true≢false e)
-      go false true e = absurd (true≢false (sym e))
+      go : (s t : Bool) → s ≡ t → AllZip (IsThere image) (filter (λ p. passes p.seq) ps) (filter (λ m. passes m.seq) ms)
+          → AllZip (IsThere image) (cond s (p ∷ filter (λ p. passes p.seq) ps) (filter (λ p. passes p.seq) ps)) (cond t (m ∷ filter (λ m. passes m.seq) ms) (filter (λ m. passes m.seq) ms))
+      go true true e rest = (h.0, rest)
+      go false false e rest = rest
+      go true false e rest = absurd (true≢false e)
+      go false true e rest = absurd (true≢false (sym e))
   there_kept [] (m ∷ ms) h = absurd h
   there_kept (p ∷ ps) [] h = absurd h
 

@@ -38,14 +38,14 @@ synced_one ks k mid new clocked so_far does same durable file is = go (is_among 
     go true e h = quiet_durable mid new file still (so_far file e)
     go false e h = last (k.file == file) refl h
 
-pub synced_more : (ks : List Block) (i : ℕ) (k : Block) (mid new : Disk) → i < length ks → k ≡ get_or ks i k → IsClocked mid → ((file : ℕ) → is_among (take i ks) file ≡ true → IsDurable mid file) → Does k.file Kept mid new → new.seen k.file ≡ mid.seen k.file
-    → IsDurable new k.file → (file : ℕ) → is_among (take (i + 1) ks) file ≡ true → IsDurable new file
-synced_more ks i k mid new within is clocked so_far does same durable file there =
-    let more : take (i + 1) ks ≡ take i ks ++ k ∷ [] = take_more ks i k within ∙ ap (λ (x : Block). take i ks ++ x ∷ []) (sym is) in
-    synced_one (take i ks) k mid new clocked so_far does same durable file (ap (λ (l : List Block). is_among l file) (sym more) ∙ there)
+pub synced_more : (ks : List Block) (i : ℕ) (d : Block) (mid new : Disk) → i < length ks → IsClocked mid → ((file : ℕ) → is_among (take i ks) file ≡ true → IsDurable mid file) → Does (get_or ks i d).file Kept mid new
+    → new.seen (get_or ks i d).file ≡ mid.seen (get_or ks i d).file → IsDurable new (get_or ks i d).file → (file : ℕ) → is_among (take (i + 1) ks) file ≡ true → IsDurable new file
+synced_more ks i d mid new within clocked so_far does same durable file there =
+    let more = take_more ks i d within in
+    synced_one (take i ks) (get_or ks i d) mid new clocked so_far does same durable file (ap (λ (l : List Block). is_among l file) (sym more) ∙ there)
 
 pub synced_all : (ks : List Block) (i : ℕ) (disk : Disk) → length ks ≤ i → ((file : ℕ) → is_among (take i ks) file ≡ true → IsDurable disk file) → (file : ℕ) → is_among ks file ≡ true → IsDurable disk file
-synced_all ks i disk past so_far file is = so_far file (ap (λ (l : List Block). is_among l file) (take_all ks i past) ∙ is)
+synced_all ks i disk past so_far file is = so_far file (ap (λ (l : List Block). is_among l file) (take_all i ks past) ∙ is)
 
 -- ---- a table's
 

@@ -1,5 +1,5 @@
--- That an image of a volume is read in one way, and how changes that wait for a commit have their places.
-use Rattle.std.specs.Prelude.{◌≡◌, ℕ, Bool, true, false, List, [], ◌∷◌, ◌++◌, length}
+-- That an image of a volume is read in one way, how changes that wait for a commit have their places, and how many blocks they leave.
+use Rattle.std.specs.Prelude.{◌≡◌, ◌≤◌, ◌<◌, ℕ, ◌+◌, Bool, true, false, List, [], ◌∷◌, ◌++◌, length}
 use Rattle.js_base.specs.Bytes.{Bytes}
 use Rattle.vol_disk.specs.Disk.{Files}
 use Rattle.effects.specs.declared.durable.Durable.{Durable}
@@ -7,9 +7,9 @@ use Rattle.effects.specs.declared.effect.Effect.{Effect}
 use Rattle.effects.specs.declared.effect.Effect.TheVariants.{MakeStream, DropStream, PutHere}
 use Rattle.op_records.specs.Allowed.{is_put}
 use Rattle.op_records.specs.Blocks.{spelled_message}
-use Rattle.block_table.specs.Blocks.{Blocks}
+use Rattle.block_table.specs.Blocks.{Blocks, blocks}
 use Rattle.block_writing.specs.Planning.{message_by}
-use Rattle.stream_store.specs.Placing.{can_place, has_room}
+use Rattle.stream_store.specs.Placing.{blocks_then, can_place, has_room, used_behind}
 use Rattle.stream_store.specs.Holding.{Holds}
 use Rattle.stream_store.specs.Damage.{IsDamaged, IsOfAnotherVersion}
 
@@ -37,3 +37,13 @@ pub record LawPlacing : Type 0 where
       → has_room b es (length (spelled_message (message_by seq at subject headers payload))) ≡ true
       → can_place b (es ++ PutHere seq at id subject headers payload ∷ []) ≡ true
   pub keeps : (b : Blocks) (es : List Effect) (e : Effect) (len : ℕ) → keeps_placing e ≡ true → has_room b (es ++ e ∷ []) len ≡ has_room b es len
+
+-- each message of a batch begins one file at most; there is room as long as fewer files than the 65,534 from 2 to 65,535 are in use; and a commit leaves no more blocks
+pub record LawCounting : Type 0 where
+  pub none : (b : Blocks) → used_behind b [] ≡ length (blocks b)
+  pub change : (b : Blocks) (es : List Effect) (e : Effect) → is_put e ≡ false → used_behind b (es ++ e ∷ []) ≡ used_behind b es
+  pub message :
+      (b : Blocks) (es : List Effect) (seq at : ℕ) (id subject headers payload : Bytes) → can_place b (es ++ PutHere seq at id subject headers payload ∷ []) ≡ true
+      → used_behind b (es ++ PutHere seq at id subject headers payload ∷ []) ≤ used_behind b es + 1
+  pub room : (b : Blocks) (es : List Effect) → can_place b es ≡ true → used_behind b es < 65534 → (len : ℕ) → has_room b es len ≡ true
+  pub commit : (b : Blocks) (es : List Effect) → can_place b es ≡ true → length (blocks (blocks_then b es)) ≤ used_behind b es

@@ -12,5 +12,6 @@ pub mod Finding
 pub mod Beginning
 pub mod Base
 pub mod Committing
+pub mod Writing
 pub mod Waiting
 pub mod Laws

@@ -6,6 +6,7 @@ use Rattle.op_records.specs.Blocks.{spelled_message}
 use Rattle.block_table.specs.declared.placing.Placing.{Placing}
 use Rattle.block_table.specs.Blocks.{Blocks}
 use Rattle.block_table.specs.Placings.{place, restarted}
+use Rattle.block_table.specs.Rooms.{in_use}
 use Rattle.block_writing.specs.Planning.{Planned, begun, message_by, planned, spots_in}
 use Rattle.stream_store.specs.Steps.{steps_of, with_steps}
 
@@ -45,6 +46,14 @@ has_place b len (Some p) = is_some (place b len p)
 -- a message of so many bytes has a place behind these changes
 abbrev pub has_room : Blocks → List Effect → ℕ → Bool
 has_room b es len = has_place b len (placing_behind b es)
+
+abbrev pub used_by : Blocks → Option Placing → ℕ
+used_by b None = 0
+used_by b (Some p) = in_use b p
+
+-- how many files are blocks, or are begun by these changes
+abbrev pub used_behind : Blocks → List Effect → ℕ
+used_behind b es = used_by b (placing_behind b es)
 
 -- where messages lie once these changes are committed
 abbrev pub blocks_by : Blocks → List Effect → Option Planned → Blocks

@@ -1,5 +1,5 @@
 -- What a commit is going to write.
-use Rattle.std.specs.Prelude.{◌≡◌, ◌<◌, ◌≤◌, List, Some, All, map, ◌++◌, ℕ, Bool, if◌then◌else◌}
+use Rattle.std.specs.Prelude.{◌≡◌, ◌<◌, ◌≤◌, List, All, Bool, if◌then◌else◌}
 use Rattle.std.specs.Option.{option_to_list}
 use Rattle.std.specs.List.{flat_map}
 use Rattle.vol_disk.specs.Disk.{Disk}
@@ -8,9 +8,9 @@ use Rattle.op_records.specs.Spelling.{spelled_record}
 use Rattle.block_table.specs.declared.block.Block.{Block}
 use Rattle.block_table.specs.Blocks.{Blocks, blocks}
 use Rattle.block_writing.specs.Dropping.{ChangesUnused}
+use Rattle.block_writing.specs.Laws.{ArePlannedBy}
 use Rattle.block_writing.specs.declared.run.Run.{Run}
 use Rattle.block_writing.specs.Planning.{Planned, spots_in}
-use Rattle.stream_store.specs.Placing.{plan_of}
 use Rattle.stream_store.specs.Steps.{steps_of}
 use Rattle.stream_store.specs.declared.staging.Staged.{Staged}
 
@@ -26,16 +26,15 @@ blocks_of all b = if all then blocks b else option_to_list b.writing
 abbrev pub AreBehindLogs : List Block → Type 0
 AreBehindLogs ks = All (λ k. 2 ≤ k.file) ks
 
--- what is planned for these changes, and each block that they may leave without messages
-pub record IsStaged (b : Blocks) (before : List Block) (es : List Effect) (staged : Staged) : Type 0 where
+-- what is planned for these changes, and blocks that they may leave without messages
+pub record IsStaged (b : Blocks) (es : List Effect) (staged : Staged) : Type 0 where
   pub made : Planned
-  pub made_is : plan_of b es ≡ Some made
+  pub planned : ArePlannedBy b es made
   pub runs : staged.runs.items ≡ made.runs
   pub batch : staged.batch ≡ flat_map spelled_record made.records
   pub bytes : All (λ byte. byte < 256) staged.batch
   pub steps : staged.steps.items ≡ steps_of es (spots_in made.records)
-  pub all : Bool
-  pub blocks_are : staged.blocks.items ≡ before ++ (blocks_of all b ++ map block_of made.runs)
+  pub behind : AreBehindLogs staged.blocks.items
 
 -- no file is touched but those of blocks that the table has not, whenever a crash comes
 pub record DropsUnused (b : Blocks) (old new : Disk) : Type 0 where

@@ -1,5 +1,5 @@
 -- What a commit makes of where messages lie, by a rule of this server's own. What it made can be taken into a table later, step by step.
-use Rattle.std.specs.Prelude.{ℕ, List, [], ◌∷◌, ◌++◌, drop, unwrap_or}
+use Rattle.std.specs.Prelude.{◌≡◌, List, [], ◌∷◌, ◌++◌, drop, unwrap_or}
 use Rattle.js_base.specs.declared.spot.Spot.{Spot}
 use Rattle.effects.specs.declared.effect.Effect.{Effect}
 use Rattle.effects.specs.declared.effect.Effect.TheVariants.{MakeStream, ChangeStream, DropStream, PutHere, Skip, Remove, MakeConsumer, DropConsumer, Deliver, Acked, Due, GivenUp, Now}
@@ -37,6 +37,10 @@ steps_of (Acked name low high ∷ es) spots = steps_of es spots
 steps_of (Due name seq due ∷ es) spots = steps_of es spots
 steps_of (GivenUp name moment ∷ es) spots = steps_of es spots
 steps_of (Now moment ∷ es) spots = steps_of es spots
+
+-- whatever changes come behind this one, its step was added, if it has one, and the spots are left that are not its message's
+abbrev pub AddsStep : List Step → Effect → List Spot → List Step → List Spot → Type 0
+AddsStep old e spots new left = (es : List Effect) → new ++ steps_of es left ≡ old ++ steps_of (e ∷ es) spots
 
 -- the table with the steps that it has not taken yet
 abbrev pub blocks_in : LateTable → Blocks

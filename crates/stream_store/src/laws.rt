@@ -1,6 +1,6 @@
 //! Laws of the definitions.
 
-ghost use Rattle.stream_store.specs.Laws.{LawHolding, LawPlacing};
+ghost use Rattle.stream_store.specs.Laws.{LawCounting, LawHolding, LawPlacing};
 ghost use Rattle.stream_store.specs.Waiting.{LawWaiting};
 
 /// An image of a volume holds one thing, or has one first fault, and not both.
@@ -16,4 +16,9 @@ pub fn law_waiting()
 /// A change behind others that wait for a commit has its place if it stores no message, or if there is room for its message.
 pub fn law_placing()
     ensures { LawPlacing }
+{}
+
+/// There is room for a message as long as fewer files than all are in use by blocks and by what waits, and a commit leaves no more blocks than that.
+pub fn law_counting()
+    ensures { LawCounting }
 {}

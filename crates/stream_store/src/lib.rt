@@ -11,6 +11,8 @@ mod room;
 mod staging;
 mod steps;
 mod store;
+mod writing;
 
 pub use fault::{CommitFault, OpenFault};
+pub use room::message_len;
 pub use store::Store;

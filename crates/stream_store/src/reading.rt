@@ -1,7 +1,6 @@
 //! Reading what a volume holds.
 
-ghost use Rattle.std.specs.Prelude.{◌≡◌, ◌≤◌, IfErr, IfOk, IsErr, IsErrOf, List, OnOk, true};
-ghost use Rattle.std.specs.Option.{option_to_list};
+ghost use Rattle.std.specs.Prelude.{◌≡◌, ◌≤◌, ◌+◌, IfErr, IfOk, IsErr, IsErrOf, List, OnOk, length, true};
 ghost use Rattle.js_base.specs.Bytes.{Bytes};
 ghost use Rattle.js_base.specs.Causes.{HasCause};
 ghost use Rattle.vol_disk.specs.Images.{IsDurable};
@@ -99,6 +98,7 @@ fn read_blocks<V: Vol>(alloc: Global, vol: &mut V, read: LogRead) -> Result<Foun
     requires logged { IsLogged (given_in read) }
     requires storable { IsStorable read.durable }
     ensures read { IfOk result (IsReadOf read) }
+    ensures placed { IfOk result (λ found. length found.table.placed ≡ length (stored_messages found.durable)) }
     ensures formed { IfOk result (λ found. IsFormed found.durable) }
     ensures storable { IfOk result (λ found. IsStorable found.durable) }
     ensures stored { V.told → IfOk result (IsStoredBy (V.disk vol.old)) }
@@ -128,6 +128,7 @@ pub(crate) fn read_current<V: Vol>(
     ensures synced { V.told → IfOk result (λ found. AreSynced found.table (V.disk vol.new)) }
     // Of any volume:
     ensures table { IfOk result (λ found. IsTable found.table) }
+    ensures held { IfOk result (λ found. length (blocks found.table) ≤ length (stored_messages found.durable) + 1) }
     ensures formed { IfOk result (λ found. IsFormed found.durable) }
     ensures storable { IfOk result (λ found. IsStorable found.durable) }
     ensures openable { IfOk result (λ found. IsOpenable found.durable) }

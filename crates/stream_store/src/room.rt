@@ -13,7 +13,7 @@ use js_base::Blob;
 const FIXED_BYTES: usize = 26;
 
 /// How many bytes a message of these parts takes in a block.
-fn message_len(subject: &Blob, headers: &Blob, payload: &Blob) -> u32
+pub fn message_len(subject: &Blob, headers: &Blob, payload: &Blob) -> u32
     requires short { length subject.now + length headers.now + length payload.now < 2 ^ 31 }
     ensures value { result ≡ 26 + (length subject.now + length headers.now + length payload.now) }
 {

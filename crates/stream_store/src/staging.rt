@@ -1,14 +1,15 @@
 //! What a commit is going to write.
 
-ghost use Rattle.std.specs.Prelude.{◌≡◌, ◌+◌, ◌<◌, ◌≤◌, ◌^◌, ◌++◌, IfOk, IsErrOf, IsTrue, OnOk, map};
+ghost use Rattle.std.specs.Prelude.{◌≡◌, ◌+◌, ◌<◌, ◌≤◌, ◌^◌, ◌++◌, IfOk, IsErrOf, IsTrue, OnOk, length, map};
 ghost use Rattle.std.specs.List.{list_all};
-ghost use Rattle.block_table.specs.Tables.{IsTable};
 ghost use Rattle.op_records.specs.Allowed.{is_record};
 ghost use Rattle.stream_store.specs.Committing.{batch_length};
 ghost use Rattle.stream_store.specs.Placing.{can_place};
-ghost use Rattle.stream_store.specs.Staging.{IsStaged, block_of, blocks_of};
+ghost use Rattle.stream_store.specs.Staging.{AreBehindLogs, IsStaged, block_of, blocks_of};
+ghost use Rattle.stream_store.specs.Steps.{blocks_in};
 
 use crate::fault::CommitFault;
+use crate::late::LateTable;
 use crate::logs::law_bytes;
 use crate::steps::{Step, steps_of};
 use block_table::{Block, BlockTable};
@@ -87,8 +88,8 @@ fn left_blocks(
     Ok(left)
 }
 
-/// What a commit of these changes is going to write, if the log has room for it. Some blocks may be without messages from before.
-pub(crate) fn stage(
+/// What a commit of these changes is going to write, if the log has room for it, by the table before it. Some blocks may be without messages from before.
+fn stage_by(
     alloc: Global,
     log: &GateLog,
     table: &BlockTable,
@@ -97,8 +98,8 @@ pub(crate) fn stage(
 ) -> Result<Staged, CommitFault>
     requires records { IsTrue (list_all is_record effects.now) }
     requires room { IsTrue (can_place table.now effects.now) }
-    ensures staged { IfOk result (IsStaged table.now before.now effects.now) }
-    ensures table { IsTable table.now }
+    requires behind { AreBehindLogs before.now }
+    ensures staged { IfOk result (IsStaged table.now effects.now) }
     ensures fits { OnOk result (log.now.end + 6 + batch_length effects.now ≤ 2 ^ 31) }
     ensures full { IsErrOf result CommitFault.Full → 2 ^ 31 < log.now.end + 6 + batch_length effects.now }
     ensures fault { IsErrOf result CommitFault.Fault → ⊥ }
@@ -106,10 +107,10 @@ pub(crate) fn stage(
     // that the table is one is what the proof takes from this call
     let _ = table.writing();
     let plan = plan(alloc, table, effects)?;
-    if !log.fits(plan.batch.len()) {
+    let records = plan.batch.as_slice();
+    if !log.fits(records.len()) {
         return Err(CommitFault::Full);
     }
-    let records = plan.batch.as_slice();
     law_bytes(records);
     let batch = Batch::of(alloc, records)?;
     let steps = steps_of(alloc, effects, plan.spots.as_slice())?;
@@ -121,4 +122,26 @@ pub(crate) fn stage(
         steps,
         blocks,
     })
+}
+
+/// What a commit of these changes is going to write, if the log has room for it. No step waits for the table then, at `Ok`.
+pub(crate) fn stage(
+    alloc: Global,
+    log: &GateLog,
+    late: &mut LateTable,
+    before: &[Block],
+    effects: &[Effect],
+) -> Result<Staged, CommitFault>
+    requires records { IsTrue (list_all is_record effects.now) }
+    requires room { IsTrue (can_place (blocks_in late.old) effects.now) }
+    requires behind { AreBehindLogs before.now }
+    ensures staged { IfOk result (IsStaged (blocks_in late.old) effects.now) }
+    ensures same { blocks_in late.new ≡ blocks_in late.old }
+    ensures none { OnOk result (length late.new.steps.items ≤ late.new.taken) }
+    ensures fits { OnOk result (log.now.end + 6 + batch_length effects.now ≤ 2 ^ 31) }
+    ensures full { IsErrOf result CommitFault.Full → 2 ^ 31 < log.now.end + 6 + batch_length effects.now }
+    ensures fault { IsErrOf result CommitFault.Fault → ⊥ }
+{
+    late.catch_up()?;
+    stage_by(alloc, log, &late.table, before, effects)
 }

@@ -1,7 +1,7 @@
 //! What a commit makes of where messages lie.
 
-ghost use Rattle.std.specs.Prelude.{◌≡◌, IfOk, OnErr, OnOk};
-ghost use Rattle.stream_store.specs.Steps.{steps_of as steps_in, with_step};
+ghost use Rattle.std.specs.Prelude.{◌≡◌, ◌≤◌, IfOk, OnErr, OnOk, drop, length};
+ghost use Rattle.stream_store.specs.Steps.{AddsStep, steps_of as steps_in, with_step};
 
 use block_table::{BlockTable, PutFault};
 use effects::Effect;
@@ -40,6 +40,43 @@ pub(crate) fn take_step(table: &mut BlockTable, step: Step) -> Result<(), NoMemo
     }
 }
 
+/// Adds the step of a change, if it has one. A message lies at the spot behind those that are used; how many are used then is told.
+fn add_step(
+    steps: &mut Vec<Step>,
+    effect: &Effect,
+    spots: &[Spot],
+    used: usize,
+) -> Result<usize, NoMemory>
+    requires within { used ≤ length spots.now }
+    ensures added { IfOk result (λ after. AddsStep steps.old.items effect.now (drop used spots.now) steps.new.items (drop after spots.now)) }
+    ensures within { IfOk result (λ after. after ≤ length spots.now) }
+{
+    match effect {
+        Effect::PutHere { seq, .. } => {
+            let Some(spot) = spots.get(used) else {
+                return Ok(used);
+            };
+            steps.push(Step::Put {
+                seq: *seq,
+                spot: *spot,
+            })?;
+            Ok(used + 1)
+        }
+        Effect::Remove { low, high } => {
+            steps.push(Step::Remove {
+                low: *low,
+                high: *high,
+            })?;
+            Ok(used)
+        }
+        Effect::MakeStream { .. } | Effect::DropStream => {
+            steps.push(Step::Clear)?;
+            Ok(used)
+        }
+        _ => Ok(used),
+    }
+}
+
 /// The steps of changes, whose messages lie at these spots.
 pub(crate) fn steps_of(
     alloc: Global,
@@ -51,23 +88,7 @@ pub(crate) fn steps_of(
     let mut steps = Vec::new(alloc);
     let mut used = 0;
     for effect in effects {
-        match effect {
-            Effect::PutHere { seq, .. } => {
-                if let Some(spot) = spots.get(used) {
-                    steps.push(Step::Put {
-                        seq: *seq,
-                        spot: *spot,
-                    })?;
-                    used += 1;
-                }
-            }
-            Effect::Remove { low, high } => steps.push(Step::Remove {
-                low: *low,
-                high: *high,
-            })?,
-            Effect::MakeStream { .. } | Effect::DropStream => steps.push(Step::Clear)?,
-            _ => {}
-        }
+        used = add_step(&mut steps, effect, spots, used)?;
     }
     Ok(steps)
 }

@@ -1,6 +1,6 @@
 //! The store of a place.
 
-ghost use Rattle.std.specs.Prelude.{◌≡◌, ◌↔◌, ◌+◌, ◌<◌, ◌≤◌, ◌^◌, Some, IfOk, IfErr, OnOk, IsErr, IsErrOf, IsTrue};
+ghost use Rattle.std.specs.Prelude.{◌≡◌, ◌↔◌, ◌+◌, ◌<◌, ◌≤◌, ◌^◌, Some, IfOk, IfErr, OnOk, IsErr, IsErrOf, IsTrue, length};
 ghost use Rattle.std.specs.List.{list_all};
 ghost use Rattle.js_base.specs.Causes.{HasCause};
 ghost use Rattle.effects.specs.declared.durable.Durable.{Durable};
@@ -9,9 +9,11 @@ ghost use Rattle.stream_store.specs.Base.{IsBase};
 ghost use Rattle.stream_store.specs.Committing.{IsNextBatch, IsCommitted, CommitsOrNot, batch_length, length_with};
 ghost use Rattle.stream_store.specs.Holding.{Holds};
 ghost use Rattle.gate_log.specs.LogState.{with_batch};
+ghost use Rattle.block_table.specs.Blocks.{blocks};
 ghost use Rattle.durable_checks.specs.Storable.{IsFormed, IsOpenable, IsStorable};
+ghost use Rattle.log_records.specs.Unread.{stored_messages};
 ghost use Rattle.stream_store.specs.Opening.{IsFirstLog, IsNoneOpen, IsOpenFault, KeepsHeld, LeavesBegun, RestsBut};
-ghost use Rattle.stream_store.specs.Placing.{blocks_then, can_place, has_room};
+ghost use Rattle.stream_store.specs.Placing.{blocks_then, can_place, has_room, used_behind};
 ghost use Rattle.stream_store.specs.Staging.{DropsUnused};
 
 use crate::fault::{CommitFault, OpenFault};
@@ -20,8 +22,8 @@ use crate::logs::{FIRST_GENERATION, begin_log, open_current};
 use crate::reading::read_current;
 use crate::room::room_behind;
 use crate::staging::stage;
+use crate::writing::write_staged;
 use block_table::{Block, BlockTable};
-use block_writing::write_runs;
 use effects::{Durable, Effect};
 use gate_log::GateLog;
 use js_base::NoMemory;
@@ -67,6 +69,7 @@ impl Store {
         ensures formed { IfOk result (λ opened. IsFormed opened.1) }
         ensures storable { IfOk result (λ opened. IsStorable opened.1) }
         ensures openable { IfOk result (λ opened. IsOpenable opened.1) }
+        ensures held { IfOk result (λ opened. length (blocks opened.0.blocks) ≤ length (stored_messages opened.1) + 1) }
         ensures first_log { V.told → IsNoneOpen (V.disk vol.old).seen → IfOk result (λ opened. IsFirstLog opened.0.log (V.disk vol.new)) }
         ensures quiet { V.told → LeavesBegun (V.disk vol.old) (V.disk vol.new) }
         ensures elsewhere { V.told → RestsBut 0 (V.disk vol.old) (V.disk vol.new) }
@@ -145,6 +148,7 @@ impl Store {
         ensures committed { V.told → OnOk result (IsCommitted self.old self.new effects.now (V.disk vol.old) (V.disk vol.new)) }
         ensures log { OnOk result (self.new.log ≡ with_batch self.old.log (batch_length effects.now)) }
         ensures blocks { OnOk result (self.new.blocks ≡ blocks_then self.old.blocks effects.now) }
+        ensures fewer { OnOk result (length (blocks self.new.blocks) ≤ used_behind self.old.blocks effects.now) }
         ensures any_moment { V.told → CommitsOrNot self.old effects.now (V.disk vol.old) (V.disk vol.new) }
         ensures head { self.new.log.head ≡ self.old.log.head }
         ensures full { IsErrOf result CommitFault.Full → 2 ^ 31 < length_with self.old effects.now }
@@ -155,13 +159,9 @@ impl Store {
         ensures cause { HasCause (V.faults vol.old) (V.faults vol.new) (IsErrOf result CommitFault.Fault) }
         ensures later { (V.disk vol.old).moment ≤ (V.disk vol.new).moment }
     {
-        self.late.catch_up()?;
         let unused = self.unused.as_slice();
-        let staged = stage(alloc, &self.log, &self.late.table, unused, effects)?;
-        write_runs(vol, staged.runs.as_slice())?;
-        let Ok(()) = self.log.append_batch(vol, &staged.batch) else {
-            return Err(CommitFault::Fault);
-        };
+        let staged = stage(alloc, &self.log, &mut self.late, unused, effects)?;
+        write_staged(vol, &mut self.log, &staged)?;
         self.late.wait(staged.steps);
         self.unused = staged.blocks;
         self.drop_unused(vol)?;
@@ -175,9 +175,9 @@ impl Store {
         ensures cause { HasCause (V.faults vol.old) (V.faults vol.new) (IsErr result) }
         ensures later { (V.disk vol.old).moment ≤ (V.disk vol.new).moment }
     {
-        if self.late.catch_up().is_err() {
+        let Ok(()) = self.late.catch_up() else {
             return Ok(());
-        }
+        };
         block_writing::drop_unused(vol, &self.late.table, self.unused.as_slice())?;
         self.unused.clear();
         Ok(())

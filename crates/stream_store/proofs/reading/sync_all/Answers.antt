@@ -1,4 +1,4 @@
-use Rattle.std.proofs.Common.{true≢false, arith, sym}
+use Rattle.std.proofs.Common.{arith, get_or}
 use Rattle.vol_disk.proofs.Moments.{quiet, quiet_on}
 use Rattle.stream_store.proofs.Synced.{synced_all, synced_more, synced_none}
 use Rattle.stream_store.proofs.reading.sync_all.Goals as goal
@@ -13,13 +13,13 @@ loop-block-init g c = record {
 
 pub returns-in_err-sync-clause-quiet : goal.returns-in_err-sync-clause-quiet
 returns-in_err-sync-clause-quiet g c = λ told.
-    quiet_on (g.V.Vol.disk c.args.vol.now) (g.V.Vol.disk c.loop-block.vol) (g.V.Vol.disk c.sync.new.self) c.block-item.result.now.file (c.loop-block.invariant.quiet told) (c.sync.ensures.does told) (c.sync.ensures.seen told)
+    quiet_on (g.V.Vol.disk c.args.vol.now) (g.V.Vol.disk c.loop-block.vol) (g.V.Vol.disk c.sync.new.self) (get_or c.args.blocks.now c.loop-block.block-index (record { file = 0; end = 0 })).file (c.loop-block.invariant.quiet told) (c.sync.ensures.does told) (c.sync.ensures.seen told)
 
 pub loop-block-preserved : goal.loop-block-preserved
 loop-block-preserved g c =
-    let still = λ (told : g.V.Vol.told). quiet_on (g.V.Vol.disk c.args.vol.now) (g.V.Vol.disk c.loop-block.vol) (g.V.Vol.disk c.sync.new.self) c.block-item.result.now.file (c.loop-block.invariant.quiet told) (c.sync.ensures.does told) (c.sync.ensures.seen told) in
+    let still = λ (told : g.V.Vol.told). quiet_on (g.V.Vol.disk c.args.vol.now) (g.V.Vol.disk c.loop-block.vol) (g.V.Vol.disk c.sync.new.self) (get_or c.args.blocks.now c.loop-block.block-index (record { file = 0; end = 0 })).file (c.loop-block.invariant.quiet told) (c.sync.ensures.does told) (c.sync.ensures.seen told) in
     record {
-      synced = λ told. synced_more c.args.blocks.now c.loop-block.block-index c.block-item.result.now (g.V.Vol.disk c.loop-block.vol) (g.V.Vol.disk c.sync.new.self) (omega arith) c.block-item.is (g.met.V.Vol.clocked c.loop-block.vol)
+      synced = λ told. synced_more c.args.blocks.now c.loop-block.block-index (record { file = 0; end = 0 }) (g.V.Vol.disk c.loop-block.vol) (g.V.Vol.disk c.sync.new.self) (omega arith) (g.met.V.Vol.clocked c.loop-block.vol)
           (c.loop-block.invariant.synced told) (c.sync.ensures.does told) (c.sync.ensures.seen told) (c.in_ok-sync.ensures.durable told);
       quiet = still;
       faults = omega (arith, c.loop-block.invariant.faults, c.sync.ensures.cause.later);

@@ -1,5 +1,5 @@
 use Rattle.std.proofs.Common.{◌≤◌, length}
-use Rattle.stream_store.proofs.Steps.{AreSteps}
+use Rattle.stream_store.proofs.Taken.{AreSteps}
 use Rattle.stream_store.proofs.steps.steps_of.Given as goal
 
 -- the steps of the first changes, which use the first spots

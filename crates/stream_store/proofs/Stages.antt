@@ -1,5 +1,5 @@
 -- What a commit is going to write.
-use Rattle.std.proofs.Common.{◌≡◌, ◌≤◌, ◌<◌, ℕ, ◌+◌, Bool, true, false, cond, List, [], ◌∷◌, ◌++◌, Option, Some, None, IsTrue, All, get_or, take, length, map, refl, sym, ap, subst, ◌∙◌, arith}
+use Rattle.std.proofs.Common.{◌≡◌, ◌≤◌, ◌<◌, ◌^◌, ◌↔◌, ℕ, ◌+◌, Bool, true, false, cond, List, [], ◌∷◌, ◌++◌, Option, Some, None, IsTrue, All, get_or, take, length, map, refl, sym, ap, subst, ◌∙◌, arith}
 use Rattle.std.specs.Prelude.{is_some}
 use Rattle.std.specs.List.{flat_map, list_all}
 use Rattle.std.specs.Option.{option_to_list}
@@ -22,16 +22,17 @@ use Rattle.stream_store.specs.Placing.{blocks_by, blocks_then, can_place, plan_o
 use Rattle.stream_store.specs.Staging.{AreBehindLogs, IsStaged, block_of, blocks_of}
 use Rattle.stream_store.specs.Steps.{with_steps}
 use Rattle.stream_store.specs.declared.staging.Staged.{Staged}
+use Rattle.stream_store.specs.declared.steps.Step.{Step}
 use Rattle.stream_store.proofs.Folding.{all_length, goes_on_by}
 
 -- ---- lists that are added to
 
-pub pushed_block : (old now : List Block) (xs : List Block) (i : ℕ) (k : Block) → i < length xs → k ≡ get_or xs i k → now ≡ (old ++ take i xs) ++ k ∷ [] → now ≡ old ++ take (i + 1) xs
-pushed_block old now xs i k within is pushed =
-    pushed ∙ append_assoc old (take i xs) (k ∷ []) ∙ ap (λ (l : List Block). old ++ l) (ap (λ (x : Block). take i xs ++ x ∷ []) is ∙ sym (take_more xs i k within))
+pub pushed_block : (old now : List Block) (xs : List Block) (i : ℕ) (d : Block) → i < length xs → now ≡ (old ++ take i xs) ++ get_or xs i d ∷ [] → now ≡ old ++ take (i + 1) xs
+pushed_block old now xs i d within pushed =
+    pushed ∙ append_assoc old (take i xs) (get_or xs i d ∷ []) ∙ ap (λ (l : List Block). old ++ l) (sym (take_more xs i d within))
 
 pub all_pushed : (old now : List Block) (xs : List Block) (i : ℕ) → length xs ≤ i → now ≡ old ++ take i xs → now ≡ old ++ xs
-all_pushed old now xs i past so_far = so_far ∙ ap (λ (l : List Block). old ++ l) (take_all xs i past)
+all_pushed old now xs i past so_far = so_far ∙ ap (λ (l : List Block). old ++ l) (take_all i xs past)
 
 pub pushed_run : (old now : List Block) (runs : List Run) (i : ℕ) (r : Run) → i < length runs → r ≡ get_or runs i r → now ≡ (old ++ map block_of (take i runs)) ++ block_of r ∷ [] → now ≡ old ++ map block_of (take (i + 1) runs)
 pushed_run old now runs i r within is pushed =
@@ -39,7 +40,7 @@ pushed_run old now runs i r within is pushed =
     ∙ ap (λ (l : List Block). old ++ l) (sym (map-append block_of (take i runs) (r ∷ [])) ∙ ap (map block_of) (ap (λ (x : Run). take i runs ++ x ∷ []) is ∙ sym (take_more runs i r within)))
 
 pub all_runs_pushed : (old now : List Block) (runs : List Run) (i : ℕ) → length runs ≤ i → now ≡ old ++ map block_of (take i runs) → now ≡ old ++ map block_of runs
-all_runs_pushed old now runs i past so_far = so_far ∙ ap (λ (l : List Run). old ++ map block_of l) (take_all runs i past)
+all_runs_pushed old now runs i past so_far = so_far ∙ ap (λ (l : List Run). old ++ map block_of l) (take_all i runs past)
 
 -- ---- the plan
 
@@ -55,6 +56,20 @@ not_without b es can none = true≢false (sym can ∙ ap is_some none)
 -- where messages lie behind it
 pub blocks_after : (b : Blocks) (es : List Effect) (made : Planned) → plan_of b es ≡ Some made → blocks_by b es (Some made) ≡ blocks_then b es
 blocks_after b es made is = sym (ap (blocks_by b es) is)
+
+-- the log has no room
+pub past_end : (fits : Bool) (n : ℕ) → (IsTrue fits ↔ (n ≤ 2 ^ 31)) → fits ≡ false → 2 ^ 31 < n
+past_end fits n value none =
+    let refused : ¬ (n ≤ 2 ^ 31) = λ le. true≢false (sym (value.1 le) ∙ none) in
+    omega (arith, refused)
+
+-- what was staged
+module _ (b : Blocks) (es : List Effect) (staged : Staged) (s : IsStaged b es staged) where
+  pub staged_length : length staged.batch ≡ batch_length es
+  staged_length = ap length s.batch ∙ plan_length b es s.made s.planned.made_is
+
+  pub staged_blocks : with_steps staged.steps.items b ≡ blocks_then b es
+  staged_blocks = ap (λ (l : List Step). with_steps l b) s.steps ∙ blocks_after b es s.made s.planned.made_is
 
 -- ---- the blocks that may be dropped
 
@@ -73,9 +88,8 @@ behind_runs : (runs : List Run) → All (λ run. 2 ≤ run.file) runs → AreBeh
 behind_runs [] h = All-nil (λ (k : Block). 2 ≤ k.file)
 behind_runs (run ∷ runs) h = All-cons (λ (k : Block). 2 ≤ k.file) (block_of run) (map block_of runs) (All-head (λ (r : Run). 2 ≤ r.file) run runs h) (behind_runs runs (All-tail (λ (r : Run). 2 ≤ r.file) run runs h))
 
-pub staged_behind : (b : Blocks) (before : List Block) (es : List Effect) (staged : Staged) → IsTable b → IsTrue (list_all is_record es) → AreBehindLogs before → IsStaged b before es staged → AreBehindLogs staged.blocks.items
-staged_behind b before es staged table allowed old s =
-    let files = (law_plans.runs b es s.made (record { table = table; allowed = allowed; made_is = s.made_is })).files in
-    subst AreBehindLogs (sym s.blocks_are)
-    (All-append (λ (k : Block). 2 ≤ k.file) before (blocks_of s.all b ++ map block_of s.made.runs) old
-    (All-append (λ (k : Block). 2 ≤ k.file) (blocks_of s.all b) (map block_of s.made.runs) (behind_logs b s.all table) (behind_runs s.made.runs files)))
+pub left_behind : (b : Blocks) (before : List Block) (es : List Effect) (made : Planned) (all : Bool) → ArePlannedBy b es made → AreBehindLogs before → AreBehindLogs (before ++ (blocks_of all b ++ map block_of made.runs))
+left_behind b before es made all planned old =
+    let files = (law_plans.runs b es made planned).files in
+    All-append (λ (k : Block). 2 ≤ k.file) before (blocks_of all b ++ map block_of made.runs) old
+    (All-append (λ (k : Block). 2 ≤ k.file) (blocks_of all b) (map block_of made.runs) (behind_logs b all planned.table) (behind_runs made.runs files))

@@ -1,10 +1,11 @@
 -- What a log tells, with the messages of its blocks.
-use Rattle.std.proofs.Common.{◌≡◌, inl, inr, ℕ, Bool, true, List, [], ◌∷◌, map, Option, Some, None, IsTrue, All, refl, sym, ap, subst, ◌∙◌, option_map}
+use Rattle.std.proofs.Common.{◌≡◌, inl, inr, ℕ, Bool, true, List, [], ◌∷◌, map, Option, Some, None, IsTrue, All, refl, sym, ap, subst, ◌∙◌, length, option_map, arith}
 use Rattle.std.specs.List.{AllZip, list_all}
 use Rattle.std.proofs.lemmas.Bool.{and_parts}
 use Rattle.std.proofs.lemmas.List.Elements.{All-nil, All-cons}
 use Rattle.js_base.specs.Bytes.{Bytes}
 use Rattle.js_model.specs.Runs.{messages_of}
+use Rattle.js_model.specs.Streams.{seqs}
 use Rattle.js_model.specs.declared.stream.Message.{Message}
 use Rattle.model_laws.specs.Bounds.{IsWritableMessage}
 use Rattle.effects.specs.Durables.{state_in, state_of}
@@ -16,6 +17,7 @@ use Rattle.op_records.proofs.Exact.{le_is}
 use Rattle.vol_disk.specs.Disk.{Disk}
 use Rattle.gate_log.specs.LogState.{LogState}
 use Rattle.gate_log.specs.Settled.{IsSettled}
+use Rattle.block_table.specs.declared.placed.Placed.{Placed}
 use Rattle.block_table.specs.Blocks.{Blocks}
 use Rattle.block_reading.specs.Damage.{IsToldBy}
 use Rattle.block_reading.specs.Standing.{AreStoredIn}
@@ -33,7 +35,7 @@ use Rattle.stream_store.specs.Reading.{IsFound, IsReadOf, IsStoredBy, body_with,
 use Rattle.stream_store.specs.declared.fault.OpenFault.{OpenFault}
 use Rattle.stream_store.specs.declared.fault.OpenFault.TheVariants.{Damaged}
 use Rattle.stream_store.specs.declared.reading.Found.{Found}
-use Rattle.stream_store.proofs.OneReading.{messages_unread}
+use Rattle.stream_store.proofs.OneReading.{durable_with}
 
 -- ---- messages that are read
 
@@ -84,10 +86,10 @@ unread_with d ms was told = go d.body (ap (λ (x : Durable). x.body) was) told
     some_is b c e = cc
 
     go : (o : Option Body) → option_map unread_body o ≡ o → AllZip IsToldBy (messages_of (state_in d.incarnation o)) ms
-        → record { incarnation = d.incarnation; body = option_map unread_body (option_map (body_with ms) o) } ≡ record { incarnation = d.incarnation; body = o }
+        → durable_with d.incarnation (option_map unread_body (option_map (body_with ms) o)) ≡ durable_with d.incarnation o
     go None e told = refl
     go (Some b) e told =
-        ap (λ (l : List Message). record { incarnation = d.incarnation; body = Some (record b { messages = l }) })
+        ap (λ (l : List Message). durable_with d.incarnation (Some (record b { messages = l })))
         (all_told b.messages ms (ap (λ (x : Body). x.messages) (some_is (unread_body b) b e)) told)
 
 -- ---- what is known of it
@@ -115,6 +117,18 @@ module _ (read : LogRead) (ms : List Message) (l : IsLogged (given_in read)) (to
   pub storable : IsStorable read.durable → IsStorable (with_messages read.durable ms)
   storable h = (law_unread.storable (with_messages read.durable ms)).0 (subst IsStorable (sym unread_is) h)
 
+-- as many are placed as were read
+placed_count : (ps : List Placed) (ts ms : List Message) → map (λ p. p.seq) ps ≡ seqs ts → AllZip IsToldBy ts ms → length ps ≡ length ms
+placed_count [] [] [] same told = refl
+placed_count (p ∷ ps) (t ∷ ts) (m ∷ ms) same told = let rest = placed_count ps ts ms (tail_is p.seq t.seq (map (λ p. p.seq) ps) (seqs ts) same) told.1 in omega (arith, rest)
+  where
+    tail_is : (x y : ℕ) (xs ys : List ℕ) → x ∷ xs ≡ y ∷ ys → xs ≡ ys
+    tail_is x y xs ys e = cc
+placed_count [] (t ∷ ts) ms same told = absurd (cc)
+placed_count (p ∷ ps) [] ms same told = absurd (cc)
+placed_count [] [] (m ∷ ms) same told = absurd told
+placed_count (p ∷ ps) (t ∷ ts) [] same told = absurd told
+
 -- ---- what was found
 
 -- what the log told of what was found
@@ -141,6 +155,11 @@ module _ (read : LogRead) (f : Found) (l : IsLogged (given_in read)) (is : IsRea
 
   pub storable_found : IsStorable read.durable → IsStorable f.durable
   storable_found h = subst IsStorable (sym is.durable) (storable read is.messages l is.told h)
+
+  pub placed_found : length f.table.placed ≡ length (stored_messages f.durable)
+  placed_found =
+      ap (λ (b : Blocks). length b.placed) is.table ∙ placed_count read.table.placed (stored_messages read.durable) is.messages l.placed is.told
+      ∙ ap length (sym (messages_with read.durable is.messages is.told)) ∙ ap (λ (d : Durable). length (stored_messages d)) (sym is.durable)
 
   pub stored_found : (disk : Disk) → AreStoredIn disk.seen read.table (last_of read.durable) is.messages → IsStoredBy disk f
   stored_found disk h =

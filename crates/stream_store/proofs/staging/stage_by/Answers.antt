@@ -1,0 +1,38 @@
+use Rattle.std.proofs.Common.{◌≡◌, ◌∙◌, ◌++◌, List, map, ap, subst, sym, ◌<◌, ◌≤◌, ◌+◌, ◌^◌, ℕ, length, arith}
+use Rattle.std.specs.Prelude.{All}
+use Rattle.js_base.specs.Bytes.{Bytes}
+use Rattle.js_base.specs.declared.spot.Spot.{Spot}
+use Rattle.block_table.specs.declared.block.Block.{Block}
+use Rattle.block_writing.specs.declared.run.Run.{Run}
+use Rattle.block_writing.specs.Laws.{ArePlannedBy}
+use Rattle.stream_store.specs.Committing.{batch_length}
+use Rattle.stream_store.specs.Staging.{AreBehindLogs, block_of, blocks_of}
+use Rattle.stream_store.specs.Steps.{steps_of}
+use Rattle.stream_store.proofs.Stages.{left_behind, not_without, past_end, plan_length}
+use Rattle.stream_store.proofs.staging.stage_by.Goals as goal
+
+pub returns-clause-staged : goal.returns-clause-staged
+returns-clause-staged c =
+    let p = c.in_ok-plan.ensures.plan in
+    let planned : ArePlannedBy c.args.table.now c.args.effects.now p.made = record { table = c.writing.ensures.table; allowed = c.requires.records; made_is = p.made_is } in
+    record {
+      made = p.made;
+      planned = planned;
+      runs = p.has.runs;
+      batch = c.in_ok-batch.ensures.value ∙ c.as_slice-records.ensures.value ∙ p.has.batch;
+      bytes = subst (λ (l : Bytes). All (λ byte. byte < 256) l) (sym c.in_ok-batch.ensures.value) c.law_bytes.ensures.law;
+      steps = c.in_ok-steps.ensures.value ∙ ap (steps_of c.args.effects.now) (c.as_slice.ensures.value ∙ p.has.spots);
+      behind = subst AreBehindLogs (sym (c.in_ok-blocks.ensures.value ∙ ap (λ (l : List Run). c.args.before.now ++ (blocks_of c.take_away-all.result c.args.table.now ++ map block_of l)) (c.as_slice-3.ensures.value ∙ p.has.runs))) (left_behind c.args.table.now c.args.before.now c.args.effects.now p.made c.take_away-all.result planned c.requires.behind);
+    }
+
+pub returns-then-not-fits-clause-full : goal.returns-then-not-fits-clause-full
+returns-then-not-fits-clause-full c = λ is.
+    let p = c.in_ok-plan.ensures.plan in
+    let size : length c.as_slice-records.result.now ≡ batch_length c.args.effects.now = ap length (c.as_slice-records.ensures.value ∙ p.has.batch) ∙ plan_length c.args.table.now c.args.effects.now p.made p.made_is in
+    subst (λ (n : ℕ). 2 ^ 31 < c.args.log.now.end + 6 + n) size (past_end c.fits.result (c.args.log.now.end + 6 + length c.as_slice-records.result.now) c.fits.ensures.value c.if-not-fits.true)
+
+pub returns-clause-fits : goal.returns-clause-fits
+returns-clause-fits c =
+    let p = c.in_ok-plan.ensures.plan in
+    let size : length c.as_slice-records.result.now ≡ batch_length c.args.effects.now = ap length (c.as_slice-records.ensures.value ∙ p.has.batch) ∙ plan_length c.args.table.now c.args.effects.now p.made p.made_is in
+    subst (λ (n : ℕ). c.args.log.now.end + 6 + n ≤ 2 ^ 31) size (c.fits.ensures.value.0 c.if-not-fits.false)

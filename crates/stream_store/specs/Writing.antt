@@ -1,0 +1,39 @@
+-- What the writing of a commit needs, and what it leaves.
+use Rattle.std.specs.Prelude.{◌≤◌, ◌+◌, ◌^◌, ◌⊎◌, List, All, IsSome, length}
+use Rattle.vol_disk.specs.Disk.{Disk}
+use Rattle.vol_disk.specs.Moments.{LeavesOnly}
+use Rattle.effects.specs.declared.durable.Durable.{Durable}
+use Rattle.effects.specs.declared.effect.Effect.{Effect}
+use Rattle.gate_log.specs.LogState.{LogState}
+use Rattle.block_table.specs.Blocks.{Blocks}
+use Rattle.block_writing.specs.Runs.{AreApart, IsShort}
+use Rattle.stream_store.specs.Base.{IsBaseOf}
+use Rattle.stream_store.specs.Committing.{IsNextBatch}
+use Rattle.stream_store.specs.Holding.{Holds}
+use Rattle.stream_store.specs.Staging.{IsStaged}
+use Rattle.stream_store.specs.Steps.{with_steps}
+use Rattle.stream_store.specs.declared.staging.Staged.{Staged}
+
+-- no two runs are in one file, the log may grow, and it has room for the batch
+pub record IsReady (log : LogState) (staged : Staged) : Type 0 where
+  pub short : All IsShort staged.runs.items
+  pub apart : AreApart staged.runs.items
+  pub head : IsSome log.head
+  pub fits : log.end + 6 + length staged.batch ≤ 2 ^ 31
+
+-- it was staged for changes that lead from the base of the disk to another
+pub record IsStagedOn (log : LogState) (b : Blocks) (base next : Durable) (staged : Staged) (disk : Disk) : Type 0 where
+  pub effects : List Effect
+  pub base_is : IsBaseOf log b base disk
+  pub next_is : IsNextBatch base effects next
+  pub staged_is : IsStaged b effects staged
+
+-- at any moment a crash leaves the base or the other
+abbrev pub LeavesStaged : LogState → Staged → Disk → Disk → Type 0
+LeavesStaged log staged old new =
+    (b : Blocks) (base next : Durable) → IsStagedOn log b base next staged old → LeavesOnly old new (λ image. Holds image base ⊎ Holds image next)
+
+-- the other is the base
+abbrev pub IsWritten : LogState → LogState → Staged → Disk → Disk → Type 0
+IsWritten log after staged old new =
+    (b : Blocks) (base next : Durable) → IsStagedOn log b base next staged old → IsBaseOf after (with_steps staged.steps.items b) next new

@@ -1,0 +1,35 @@
+//! Writing what a commit staged.
+
+ghost use Rattle.std.specs.Prelude.{◌≡◌, ◌≤◌, IsErr, OnOk, length};
+ghost use Rattle.js_base.specs.Causes.{HasCause};
+ghost use Rattle.effects.specs.declared.durable.Durable.{Durable};
+ghost use Rattle.gate_log.specs.LogState.{with_batch};
+ghost use Rattle.block_table.specs.Blocks.{Blocks};
+ghost use Rattle.stream_store.specs.Writing.{IsReady, IsStagedOn, IsWritten, LeavesStaged};
+
+use crate::staging::Staged;
+use block_writing::write_runs;
+use gate_log::GateLog;
+use vol_disk::{Failed, Vol};
+
+/// Writes the messages into their blocks, and then the batch behind the log. Nothing but a failure of the volume ends it early.
+pub(crate) fn write_staged<V: Vol>(
+    vol: &mut V,
+    log: &mut GateLog,
+    staged: &Staged,
+) -> Result<(), Failed>
+    requires ready { IsReady log.old staged.now }
+    requires staged { V.told → (b : Blocks) × (base : Durable) × (next : Durable) × IsStagedOn log.old b base next staged.now (V.disk vol.old) }
+    ensures any_moment { V.told → LeavesStaged log.old staged.now (V.disk vol.old) (V.disk vol.new) }
+    ensures written { V.told → OnOk result (IsWritten log.old log.new staged.now (V.disk vol.old) (V.disk vol.new)) }
+    ensures log { OnOk result (log.new ≡ with_batch log.old (length staged.now.batch)) }
+    ensures head { log.new.head ≡ log.old.head }
+    ensures cause { HasCause (V.faults vol.old) (V.faults vol.new) (IsErr result) }
+    ensures later { (V.disk vol.old).moment ≤ (V.disk vol.new).moment }
+{
+    write_runs(vol, staged.runs.as_slice())?;
+    match log.append_batch(vol, &staged.batch) {
+        Ok(()) => Ok(()),
+        Err(_) => Err(Failed),
+    }
+}
