@@ -1,5 +1,6 @@
 -- Runs with a message more.
 use Rattle.std.proofs.Common.{◌≡◌, ◌≢◌, ◌≤◌, ◌⊎◌, inl, inr, ℕ, zero, suc, ◌+◌, ◌-◌, ◌==◌, Bool, true, false, if◌then◌else◌, List, [], ◌∷◌, ◌++◌, All, length, take, drop, refl, sym, ap, subst, ◌∙◌, arith, length-take, length-drop}
+use Rattle.std.proofs.lemmas.Bool.{eq-eqb, ne_eqb}
 use Rattle.std.proofs.lemmas.List.{take-append-le, drop-append-le}
 use Rattle.std.proofs.lemmas.List.Elements.{All-nil, All-cons, All-head, All-tail}
 use Rattle.js_base.specs.Bytes.{Bytes}
@@ -84,6 +85,21 @@ pub other_run : (front : List Run) (run : Run) (spot : Spot) (bytes : Bytes) →
 other_run [] run spot bytes h = ap (λ (b : Bool). if b then with_bytes run bytes ∷ [] else run ∷ run_at spot bytes ∷ []) h
 other_run (x ∷ []) run spot bytes h = ap (λ (l : List Run). x ∷ l) (other_run [] run spot bytes h)
 other_run (x ∷ y ∷ zs) run spot bytes h = ap (λ (l : List Run). x ∷ l) (other_run (y ∷ zs) run spot bytes h)
+
+-- as the code finds it: there is no last run, or it is in another file, or in the message's
+pub added_first : (old left : List Run) (spot : Spot) (bytes : Bytes) → length left ≡ 0 → old ≡ left ++ [] → left ++ run_at spot bytes ∷ [] ≡ with_message old spot bytes
+added_first old [] spot bytes none is = sym (ap (λ (l : List Run). with_message l spot bytes) is)
+added_first old (x ∷ xs) spot bytes none is = absurd (omega (arith, none))
+
+pub added_other : (old front : List Run) (last : Run) (spot : Spot) (bytes : Bytes) → old ≡ front ++ last ∷ [] → last.file ≢ spot.file →
+    (front ++ last ∷ []) ++ run_at spot bytes ∷ [] ≡ with_message old spot bytes
+added_other old front last spot bytes is ne = sym (ap (λ (l : List Run). with_message l spot bytes) is ∙ other_run front last spot bytes (ne_eqb last.file spot.file ne))
+
+pub added_same : (old front : List Run) (last : Run) (spot : Spot) (bytes now : Bytes) → old ≡ front ++ last ∷ [] → last.file ≡ spot.file → now ≡ last.bytes ++ bytes →
+    front ++ record { file = last.file; at = last.at; bytes = now } ∷ [] ≡ with_message old spot bytes
+added_same old front last spot bytes now is same longer =
+    ap (λ (l : Bytes). front ++ record { file = last.file; at = last.at; bytes = l } ∷ []) longer
+    ∙ sym (ap (λ (l : List Run). with_message l spot bytes) is ∙ same_run front last spot bytes (eq-eqb last.file spot.file same))
 
 -- ---- where messages lie
 

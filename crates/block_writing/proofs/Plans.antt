@@ -9,6 +9,7 @@ use Rattle.std.proofs.lemmas.List.Folds.{list_all_at}
 use Rattle.js_base.specs.Bytes.{Bytes}
 use Rattle.js_base.specs.declared.spot.Spot.{Spot}
 use Rattle.js_model.specs.declared.stream.Message.{Message}
+use Rattle.js_model.specs.declared.stream_config.StreamConfig.{StreamConfig}
 use Rattle.effects.specs.declared.effect.Effect.{Effect}
 use Rattle.effects.specs.declared.effect.Effect.TheVariants.{MakeStream, ChangeStream, DropStream, PutHere, Skip, Remove, MakeConsumer, DropConsumer, Deliver, Acked, Due, GivenUp, Now}
 use Rattle.op_records.specs.Allowed.{is_record, is_text, is_spot, may_stand}
@@ -21,7 +22,7 @@ use Rattle.block_table.specs.declared.placing.Placing.{Placing}
 use Rattle.block_table.specs.Blocks.{Blocks, blocks}
 use Rattle.block_table.specs.Placings.{placing, place, restarted}
 use Rattle.block_table.specs.Tables.{IsFile, IsTable}
-use Rattle.block_writing.specs.declared.plan.Plan.{Plan}
+use Rattle.block_writing.specs.declared.commit.Plan.{Plan}
 use Rattle.block_writing.specs.declared.run.Run.{Run}
 use Rattle.block_writing.specs.Planning.{Planned, begun, with_message, with_put, with_change, message_by, plan_message, planned_one, then_planned, planned, spots_in}
 use Rattle.block_writing.specs.Plans.{Has, IsPlan, IsSoFar, WritesBlock}
@@ -113,6 +114,23 @@ change_planned so_far old new p q e h batch spots runs = record {
   };
   placing = refl;
 }
+
+-- a change that stores no message and makes or drops no stream: the messages behind it go on where they would have gone
+pub rest_planned : (b : Blocks) (so_far : Planned) (e : Effect) → ((seq at : ℕ) (id subject headers payload : Bytes) → e ≡ PutHere seq at id subject headers payload → ⊥) →
+    ((incarnation made : ℕ) (config : StreamConfig) → e ≡ MakeStream incarnation made config → ⊥) → (e ≡ DropStream → ⊥) → planned_one b so_far e ≡ Some (with_change so_far e so_far.placing)
+rest_planned b so_far (MakeStream incarnation made config) put make gone = absurd (make incarnation made config refl)
+rest_planned b so_far (ChangeStream config) put make gone = refl
+rest_planned b so_far DropStream put make gone = absurd (gone refl)
+rest_planned b so_far (PutHere seq at id subject headers payload) put make gone = absurd (put seq at id subject headers payload refl)
+rest_planned b so_far (Skip seq at id) put make gone = refl
+rest_planned b so_far (Remove low high) put make gone = refl
+rest_planned b so_far (MakeConsumer name made config cursor picks) put make gone = refl
+rest_planned b so_far (DropConsumer name) put make gone = refl
+rest_planned b so_far (Deliver name seq count due dseq) put make gone = refl
+rest_planned b so_far (Acked name low high) put make gone = refl
+rest_planned b so_far (Due name seq due) put make gone = refl
+rest_planned b so_far (GivenUp name moment) put make gone = refl
+rest_planned b so_far (Now moment) put make gone = refl
 
 -- ---- one change after the other
 

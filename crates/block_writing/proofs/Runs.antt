@@ -71,7 +71,7 @@ spot_is b len p spot q e = go (stays len p.writing) refl e
     onward : (w : Option Block) → p.writing ≡ w → stays len w ≡ true → place_on len p w ≡ Some (spot, q) → IsSpot b len p spot q
     onward None is within h = absurd (true≢false (sym within))
     onward (Some k) is within h =
-        let same = some_is (spot_on k len, behind p.from k.file (k.end + len)) (spot, q) h in
+        let same = some_is {X = Spot × Placing} (spot_on k len, behind p.from k.file (k.end + len)) (spot, q) h in
         inl (record {
           block = k;
           writes = is;
@@ -84,7 +84,7 @@ spot_is b len p spot q e = go (stays len p.writing) refl e
     begun_at None is h = cc
     begun_at (Some file) is h =
         let free = found_free b (max 2 p.from) (65536 - max 2 p.from) file is in
-        let same = some_is (spot_at file len, behind (file + 1) file len) (spot, q) h in
+        let same = some_is {X = Spot × Placing} (spot_at file len, behind (file + 1) file len) (spot, q) h in
         inr (record {
           file = file;
           free = free.0;

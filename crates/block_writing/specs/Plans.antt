@@ -5,7 +5,7 @@ use Rattle.effects.specs.declared.effect.Effect.{Effect}
 use Rattle.op_records.specs.Spelling.{spelled_record}
 use Rattle.block_table.specs.declared.placing.Placing.{Placing}
 use Rattle.block_table.specs.Blocks.{Blocks}
-use Rattle.block_writing.specs.declared.plan.Plan.{Plan}
+use Rattle.block_writing.specs.declared.commit.Plan.{Plan}
 use Rattle.block_writing.specs.Planning.{Planned, begun, planned, spots_in}
 
 -- the records as the bytes of a batch, the spots of their messages, and the runs

@@ -7,7 +7,7 @@ ghost use Rattle.block_writing.specs.Planning.{begun, planned};
 ghost use Rattle.block_writing.specs.Plans.{IsPlan};
 
 use crate::fault::PlanFault;
-use crate::plan::Plan;
+use crate::commit::Plan;
 use block_table::BlockTable;
 use effects::Effect;
 use std::alloc::Global;

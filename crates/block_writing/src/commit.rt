@@ -1,11 +1,12 @@
 //! What a commit writes.
 
-ghost use Rattle.std.specs.Prelude.{◌≡◌, ◌++◌, None, IsTrue, IfOk, OnOk, IsErrOf};
+ghost use Rattle.std.specs.Prelude.{◌≡◌, ◌≤◌, ◌++◌, ◌∷◌, [], None, IsTrue, IfOk, OnOk, IsErrOf};
 ghost use Rattle.std.specs.Option.{IsSomeAnd};
 ghost use Rattle.op_records.specs.Allowed.{is_record, is_text};
-ghost use Rattle.op_records.specs.Blocks.{is_block_message};
-ghost use Rattle.op_records.specs.Spelling.{spelled};
-ghost use Rattle.block_writing.specs.Planning.{Planned, message_by, plan_message, planned_one};
+ghost use Rattle.op_records.specs.Blocks.{is_block_message, spelled_message};
+ghost use Rattle.op_records.specs.Spelling.{spelled, spelled_record};
+ghost use Rattle.op_records.specs.declared.record.Record.TheVariants.{Put};
+ghost use Rattle.block_writing.specs.Planning.{Planned, message_by, plan_message, planned_one, with_message};
 ghost use Rattle.block_writing.specs.Plans.{IsSoFar, WritesBlock};
 
 use crate::fault::PlanFault;
@@ -60,6 +61,32 @@ impl Plan {
         Ok(())
     }
 
+    /// Adds a message that is stored with this id at this spot. An `Err` may leave some of it.
+    fn put_at(
+        &mut self,
+        alloc: Global,
+        spot: Spot,
+        id: &Blob,
+        message: &Message,
+    ) -> Result<(), NoMemory>
+        requires file { spot.file ≤ 65535 }
+        requires allowed { IsTrue (is_block_message message.now) }
+        requires id { IsTrue (is_text id.now) }
+        ensures batch { OnOk result (self.new.batch.items ≡ self.old.batch.items ++ spelled_record (Put message.now.seq message.now.at id.now spot)) }
+        ensures spots { OnOk result (self.new.spots.items ≡ self.old.spots.items ++ spot ∷ []) }
+        ensures runs { OnOk result (self.new.runs.items ≡ with_message self.old.runs.items spot (spelled_message message.now)) }
+    {
+        let entry = Record::Put {
+            seq: message.seq,
+            at: message.at,
+            id: id.clone()?,
+            spot,
+        };
+        write_record(alloc, &entry, &mut self.batch)?;
+        self.spots.push(spot)?;
+        add_message(alloc, &mut self.runs, spot, message)
+    }
+
     /// Adds a message that is stored with this id, at the next spot. `NoRoom` comes exactly if there is none. An `Err` may leave some of it.
     fn put(
         &mut self,
@@ -79,15 +106,7 @@ impl Plan {
         let Some(spot) = placing.place(table, message_len(message)) else {
             return Err(PlanFault::NoRoom);
         };
-        let entry = Record::Put {
-            seq: message.seq,
-            at: message.at,
-            id: id.clone()?,
-            spot,
-        };
-        write_record(alloc, &entry, &mut self.batch)?;
-        self.spots.push(spot)?;
-        add_message(alloc, &mut self.runs, spot, message)?;
+        self.put_at(alloc, spot, id, message)?;
         Ok(())
     }
 
