@@ -114,8 +114,8 @@ drop_behind : (xs ys : Bytes) (n at : ℕ) → at ≡ length xs + n → drop at 
 drop_behind xs ys n at is = ap (λ (k : ℕ). drop k (xs ++ ys)) is ∙ go xs
   where
     go : (zs : Bytes) → drop (length zs + n) (zs ++ ys) ≡ drop n ys
-    go [] = ap (λ (k : ℕ). drop k ys) (omega arith)
-    go (z ∷ zs) = ap (λ (k : ℕ). drop k (z ∷ (zs ++ ys))) (omega arith) ∙ drop_one (length zs + n) z (zs ++ ys) ∙ go zs
+    go [] = let none : length [] + n ≡ n = omega arith in ap (λ (k : ℕ). drop k ys) none
+    go (z ∷ zs) = let more : length (z ∷ zs) + n ≡ 1 + (length zs + n) = omega arith in ap (λ (k : ℕ). drop k (z ∷ (zs ++ ys))) more ∙ drop_one (length zs + n) z (zs ++ ys) ∙ go zs
 
     drop_one : (k z : ℕ) (zs : Bytes) → drop (1 + k) (z ∷ zs) ≡ drop k zs
     drop_one k z zs = ap (λ (j : ℕ). drop j (z ∷ zs)) (one-add k)

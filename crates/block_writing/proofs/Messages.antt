@@ -134,25 +134,29 @@ lies_longer front run spot m bytes h = go (some_split (HasAt spot m) front run h
 
 -- the message that was added
 pub has_first : (spot : Spot) (m : Message) → spot.len ≡ length (spelled_message m) → HasAt spot m (run_at spot (spelled_message m))
-has_first spot m is = record {
-  file = refl;
-  from = omega arith;
-  len = is;
-  spelled = ap (λ (n : ℕ). take spot.len (drop n (spelled_message m))) (omega arith) ∙ ap (λ (n : ℕ). take n (spelled_message m)) is ∙ take_whole (spelled_message m);
-}
+has_first spot m is =
+    let none : spot.at - spot.at ≡ 0 = omega arith in
+    record {
+      file = refl;
+      from = omega arith;
+      len = is;
+      spelled = ap (λ (n : ℕ). take spot.len (drop n (spelled_message m))) none ∙ ap (λ (n : ℕ). take n (spelled_message m)) is ∙ take_whole (spelled_message m);
+    }
   where
     take_whole : (xs : Bytes) → take (length xs) xs ≡ xs
     take_whole [] = refl
     take_whole (x ∷ xs) = ap (λ (l : Bytes). x ∷ l) (take_whole xs)
 
 pub has_last : (run : Run) (spot : Spot) (m : Message) → spot.file ≡ run.file → run.at + length run.bytes ≡ spot.at → spot.len ≡ length (spelled_message m) → HasAt spot m (with_bytes run (spelled_message m))
-has_last run spot m file at is = record {
-  file = file;
-  from = omega (arith, at);
-  len = is;
-  spelled = ap (λ (n : ℕ). take spot.len (drop n (run.bytes ++ spelled_message m))) (omega (arith, at)) ∙ ap (take spot.len) (drop_front run.bytes (spelled_message m))
-      ∙ ap (λ (n : ℕ). take n (spelled_message m)) is ∙ take_whole (spelled_message m);
-}
+has_last run spot m file at is =
+    let front : spot.at - run.at ≡ length run.bytes = omega (arith, at) in
+    record {
+      file = file;
+      from = omega (arith, at);
+      len = is;
+      spelled = ap (λ (n : ℕ). take spot.len (drop n (run.bytes ++ spelled_message m))) front ∙ ap (take spot.len) (drop_front run.bytes (spelled_message m))
+          ∙ ap (λ (n : ℕ). take n (spelled_message m)) is ∙ take_whole (spelled_message m);
+    }
   where
     drop_front : (xs ys : Bytes) → drop (length xs) (xs ++ ys) ≡ ys
     drop_front [] ys = refl

@@ -2,7 +2,7 @@
 use Rattle.std.proofs.Common.{◌≡◌, ◌≢◌, ◌≤◌, ◌<◌, ◌⊎◌, inl, inr, ℕ, suc, ◌+◌, ◌&&◌, ◌==◌, Bool, true, false, not, List, [], ◌∷◌, ◌++◌, All, length, take, drop, get_or, refl, sym, ap, subst, ◌∙◌, arith, take-append-drop, drop-cons}
 use Rattle.std.specs.Io.{StartsWith}
 use Rattle.std.proofs.lemmas.Bool.{cases_eq, true≢false, and_from, eq-eqb}
-use Rattle.std.proofs.lemmas.List.{take_all, take_more}
+use Rattle.std.proofs.lemmas.List.{take_more}
 use Rattle.std.proofs.lemmas.List.Elements.{All-nil, All-cons, All-head, All-tail, All-push, All-weaker, All-append}
 use Rattle.std.proofs.lemmas.List.Folds.{list_any_at}
 use Rattle.js_base.specs.Bytes.{Bytes}
@@ -124,12 +124,6 @@ written_on (x ∷ xs) run old mid new changes ne h =
 pub record AreWrittenSo (runs : List Run) (i : ℕ) (old now : Disk) : Type 0 where
   pub changes : ChangesRuns (take i runs) old now
   pub written : All (IsWritten old now) (take i runs)
-
-pub first_written : (runs : List Run) (disk : Disk) → IsClocked disk → AreWrittenSo runs 0 disk disk
-first_written runs disk clocked = record { changes = none_changed disk clocked; written = All-nil (IsWritten disk disk) }
-
-pub all_written : (runs : List Run) (i : ℕ) (old new : Disk) → length runs ≤ i → AreWrittenSo runs i old new → ChangesRuns runs old new × All (IsWritten old new) runs
-all_written runs i old new past h = let all = take_all i runs past in (subst (λ (l : List Run). ChangesRuns l old new) all h.changes, subst (All (IsWritten old new)) all h.written)
 
 module _ (runs : List Run) (i : ℕ) (run : Run) (old mid : Disk) (within : i < length runs) (is : run ≡ get_or runs i run) (apart : AreApart runs) (so_far : AreWrittenSo runs i old mid) where
   before : All (λ r. r.file ≢ run.file) (take i runs)
