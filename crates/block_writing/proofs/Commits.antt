@@ -155,15 +155,17 @@ module _ (old : Disk) (image : Files) (spot : Spot) (m : Message) (may : IsTrue 
       })
 
       reads : message_at (bytes_at image spot) 0 ≡ Ok (m, spot.len)
-      reads = (law_message (bytes_at image spot) 0 m spot.len few).1 (record {
-        allowed = may;
-        lies = record {
-          order = omega arith;
-          within = omega (arith, ap length there, has.len);
-          bytes_are =
-              ap (λ (n : ℕ). take n (drop 0 (bytes_at image spot))) (omega arith) ∙ ap (take spot.len) there ∙ ap (λ (n : ℕ). take n (spelled_message m)) has.len ∙ take_whole (spelled_message m);
-        };
-      })
+      reads =
+          let whole : spot.len - 0 ≡ spot.len = omega arith in
+          (law_message (bytes_at image spot) 0 m spot.len few).1 (record {
+            allowed = may;
+            lies = record {
+              order = omega arith;
+              within = omega (arith, ap length there, has.len);
+              bytes_are =
+                  ap (λ (n : ℕ). take n (drop 0 (bytes_at image spot))) whole ∙ ap (take spot.len) there ∙ ap (λ (n : ℕ). take n (spelled_message m)) has.len ∙ take_whole (spelled_message m);
+            };
+          })
         where
           take_whole : (xs : Bytes) → take (length xs) xs ≡ xs
           take_whole [] = refl
