@@ -1,4 +1,4 @@
-"""Logs of a stream as they lie in file 0 of a volume: what `bench/openings` opens."""
+"""A volume with a stream: its log in file 0, and the messages in blocks. It is what `bench/openings` opens."""
 import json
 import os
 import struct
@@ -6,6 +6,8 @@ import struct
 MADE = 1_700_000_000_000_000_000
 PAYLOAD = 100 * b"x"
 SECOND = 1_000_000_000
+# The length of a block.
+MOST_BYTES = 8_388_608
 
 
 def number(n):
@@ -52,10 +54,6 @@ def now(at):
     return b"\x0d" + number(at)
 
 
-def put(seq, at, message_id=b""):
-    return b"\4" + number(seq) + number(at) + text(message_id) + text(b"A") + long(b"") + long(PAYLOAD)
-
-
 def remove(low, high):
     return b"\6" + number(low) + number(high)
 
@@ -68,11 +66,33 @@ def acked(seq):
     return b"\x0a" + name(b"C") + number(seq) + number(seq)
 
 
-def write(folder, batches):
-    """Writes a log of generation 1, which begins with a vacant place, and returns its length."""
-    os.makedirs(f"{folder}/place-00")
-    with open(f"{folder}/place-00/f00000", "wb") as log:
-        log.write(b"JSLOG\0\0\1" + number(1) + batch(b"\x20" + number(0)))
-        log.writelines(batches)
-        log.write(b"\0")
-        return log.tell()
+class Volume:
+    """The files of a volume as they are written: a log of generation 1, which begins with a vacant place, and blocks from file 2 on."""
+
+    def __init__(self, folder):
+        self.place = f"{folder}/place-00"
+        os.makedirs(self.place)
+        self.blocks, self.end = [], MOST_BYTES
+
+    def put(self, seq, at, message_id=b""):
+        """Writes a message into a block, and returns its record."""
+        message = long(number(seq) + number(at) + text(b"A") + long(b"") + PAYLOAD)
+        if self.end + len(message) > MOST_BYTES:
+            self.blocks.append(open(f"{self.place}/f{len(self.blocks) + 2:05}", "wb"))
+            self.end = 0
+        self.blocks[-1].write(message)
+        spot = struct.pack(">HII", len(self.blocks) + 1, self.end, len(message))
+        self.end += len(message)
+        return b"\x0e" + number(seq) + number(at) + text(message_id) + spot
+
+    def write(self, batches):
+        """Writes the log, and returns how long it and the blocks are."""
+        with open(f"{self.place}/f00000", "wb") as log:
+            log.write(b"JSLOG\0\0\1" + number(1) + batch(b"\x20" + number(0)))
+            log.writelines(batches)
+            log.write(b"\0")
+            size = log.tell()
+        for block in self.blocks:
+            size += block.tell()
+            block.close()
+        return size

@@ -36,17 +36,15 @@ fn opened(alloc: Global, vol: &mut DirVol) -> Option<GateLog>
     }
 }
 
-/// Adds the record of a message with 100 bytes.
+/// Adds the record of a message with 100 bytes, which stands at the beginning of the first block.
 fn put_message(into: &mut Vec<u8>, seq: u64) -> Result<(), NoMemory> {
-    put_bytes(into, &[4])?;
+    put_bytes(into, &[14])?;
     put_u64(into, seq)?;
     put_u64(into, MOMENT)?;
     put_u16(into, 0)?;
-    put_u16(into, 1)?;
-    put_bytes(into, b"A")?;
+    put_u16(into, 2)?;
     put_u32(into, 0)?;
-    put_u32(into, 100)?;
-    put_bytes(into, &[b'x'; 100])
+    put_u32(into, 127)
 }
 
 /// The records of messages, from a sequence up to another one.

@@ -1,5 +1,5 @@
 -- What is placed fits, step by step.
-use Rattle.std.proofs.Common.{◌≡◌, ℕ, zero, suc, max, ◌+◌, ◌-◌, ◌<◌, ◌≤◌, ◌^◌, ◌==◌, ◌&&◌, ◌||◌, Bool, true, false, cond, not, List, [], ◌∷◌, Option, Some, None, refl, sym, ap, ◌∙◌, subst, arith}
+use Rattle.std.proofs.Common.{◌≡◌, ℕ, zero, suc, max, ◌+◌, ◌-◌, ◌<◌, ◌≤◌, ◌^◌, ◌==◌, ◌&&◌, ◌||◌, Bool, true, false, cond, not, List, [], ◌∷◌, Option, Some, None, length, refl, sym, ap, ◌∙◌, subst, arith}
 use Rattle.std.specs.Prelude.{find, nat_le, option_map, IfSome}
 use Rattle.std.specs.List.{range_with_len}
 use Rattle.std.specs.Option.{option_to_list, IsSomeAnd}
@@ -13,19 +13,23 @@ use Rattle.block_table.specs.Blocks.{Blocks, no_blocks, blocks, has_block, is_am
 use Rattle.block_table.specs.Puts.{end_of, is_above, goes_on, begins, fits, left_by, with_placed, put_at, put, without, removed}
 use Rattle.block_table.specs.Placings.{placing, free_from, stays, place_on, place_at, place, restarted}
 use Rattle.block_table.specs.Batches.{Step, Store, Remove, Restart, AreTaken}
+use Rattle.block_table.specs.Rooms.{in_use}
 use Rattle.block_table.proofs.Lists.{none_kept}
+use Rattle.block_table.proofs.Ranges.{begun_at}
+use Rattle.block_table.proofs.InUse.{removed_count, put_on_count, put_at_count}
 
 -- by the table before a batch the placing serves the table as the batch left it so far: the block being written is the same, and no file
--- that the placing takes for free is a block
+-- that the placing takes for free is a block; and it has no more blocks than are in use
 pub record Serves (before : Blocks) (p : Placing) (b : Blocks) : Type 0 where
   pub writing : b.writing ≡ p.writing
   pub free : (file : ℕ) → p.from ≤ file → has_block before file ≡ false → has_block b file ≡ false
+  pub count : length (blocks b) ≤ in_use before p
 
 pub serves_first : (b : Blocks) → Serves b (placing b) b
-serves_first b = record { writing = refl; free = λ file above h. h }
+serves_first b = record { writing = refl; free = λ file above h. h; count = omega arith }
 
 pub serves_restarted : (before : Blocks) (p : Placing) (b : Blocks) → Serves before p b → Serves before (restarted p) no_blocks
-serves_restarted before p b s = record { writing = refl; free = λ file above h. refl }
+serves_restarted before p b s = record { writing = refl; free = λ file above h. refl; count = omega arith }
 
 -- the parts of a file that is no block
 module _ (b : Blocks) (file : ℕ) (absent : has_block b file ≡ false) where
@@ -58,6 +62,7 @@ pub serves_removed : (before : Blocks) (p : Placing) (b : Blocks) (low high : �
 serves_removed before p b low high s = record {
   writing = s.writing;
   free = λ file above h. absent_removed b file (s.free file above h) low high;
+  count = let fewer = removed_count low high b in let most = s.count in omega (arith, fewer, most);
 }
 
 -- ---- a message that goes on
@@ -81,6 +86,11 @@ module _ (before : Blocks) (p : Placing) (b : Blocks) (seq len : ℕ) (s : Serve
   serves_on = record {
     writing = refl;
     free = λ file above h. let absent = s.free file above h in absent_put b file absent seq (spot_on w len) (absent_written b file absent w (s.writing ∙ is));
+    count =
+        let on : goes_on (spot_on w len) b.writing ≡ true = ap (goes_on (spot_on w len)) (s.writing ∙ is) ∙ and_from (w.file == w.file) (w.end == w.end) (eq-eqb w.file w.file refl) (eq-eqb w.end w.end refl) in
+        let fewer = put_on_count seq (spot_on w len) b on in
+        let most = s.count in
+        omega (arith, fewer, most);
   }
 
 -- ---- a message that begins a file
@@ -130,6 +140,11 @@ module _ (before : Blocks) (p : Placing) (b : Blocks) (seq len file : ℕ) (s : 
         writing = ap (λ (n : ℕ). Some (record { file = file; end = n })) (omega arith);
         free = λ other above h.
             absent_put b other (s.free other (omega (arith, above, low.1)) h) seq (spot_at file len) (ne_eqb file other (λ same. omega (arith, above, same)));
+        count =
+            let most = s.count in
+            let more = put_at_count seq (spot_at file len) b in
+            let begun = begun_at before p.from file found in
+            omega (arith, most, more, begun);
       }
 
 -- ---- the steps
@@ -165,7 +180,7 @@ store_taken before more seq len p b s rest above small = go (stays len p.writing
     go false e = new (free_from p.from before) refl
 
 pub taken : (before : Blocks) (steps : List Step) (p : Placing) (b : Blocks) → Serves before p b → AreTaken before steps p b
-taken before [] p b s = tt
+taken before [] p b s = s.count
 taken before (Store seq len ∷ more) p b s = store_taken before more seq len p b s (taken before more)
 taken before (Remove low high ∷ more) p b s = taken before more p (removed low high b) (serves_removed before p b low high s)
 taken before (Restart ∷ more) p b s = taken before more (restarted p) no_blocks (serves_restarted before p b s)

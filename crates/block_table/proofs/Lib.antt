@@ -3,5 +3,7 @@ pub mod Entries
 pub mod Apart
 pub mod Tables
 pub mod Free
+pub mod Ranges
+pub mod InUse
 pub mod Batches
 pub mod Rooms

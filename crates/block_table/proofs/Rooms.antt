@@ -1,107 +1,138 @@
 -- As long as not all files are in use, one is free.
-use Rattle.std.proofs.Common.{◌≡◌, ◌≤◌, ◌<◌, ℕ, zero, suc, ◌+◌, ◌-◌, max, ◌==◌, ◌||◌, Bool, true, false, cond, not, List, [], ◌∷◌, ◌++◌, Option, Some, None, find, length, refl, sym, ap, subst, ◌∙◌, arith, length-append}
-use Rattle.std.specs.Prelude.{filter, is_some}
+use Rattle.std.proofs.Common.{◌≡◌, ◌≤◌, ◌<◌, ℕ, suc, ◌+◌, ◌-◌, max, ◌==◌, ◌||◌, Bool, true, false, cond, not, List, [], ◌∷◌, ◌++◌, Option, Some, None, length, refl, sym, ap, subst, ◌∙◌, arith, length-append}
+use Rattle.std.specs.Prelude.{All, filter, is_some, option_map, IfSome}
 use Rattle.std.specs.List.{range_with_len}
-use Rattle.std.proofs.lemmas.Bool.{true≢false, eqb-true}
+use Rattle.std.specs.Option.{option_to_list}
+use Rattle.std.proofs.lemmas.Bool.{true≢false, eqb-true, eq-eqb}
+use Rattle.std.proofs.lemmas.List.Elements.{All-head, All-tail, All-nil, All-cons}
+use Rattle.std.proofs.lemmas.List.Filters.{length-filter_both}
 use Rattle.std.proofs.lemmas.List.FromFn.{length-range_with_len}
 use Rattle.block_table.specs.declared.block.Block.{Block}
-use Rattle.block_table.specs.Blocks.{Blocks, blocks, has_block, is_among}
-use Rattle.block_table.specs.Placings.{free_from, lowest_from}
-use Rattle.block_table.specs.Rooms.{LawRoom, begun_below}
-use Rattle.block_table.proofs.Lists.{kept-append}
+use Rattle.block_table.specs.declared.placed.Placed.{Placed}
+use Rattle.block_table.specs.declared.placing.Placing.{Placing}
+use Rattle.block_table.specs.Blocks.{Blocks, blocks, has_block, is_among, is_used}
+use Rattle.block_table.specs.Placings.{free_from, stays, place_on, place_at, place, placing}
+use Rattle.block_table.specs.Tables.{AreApart, IsTable}
+use Rattle.block_table.specs.Rooms.{LawRoom, begun_below, in_use}
+use Rattle.block_table.proofs.Apart.{apart_first, apart_kept}
+use Rattle.block_table.proofs.Ranges.{none_passing, blocks_in, count_free, free_parts, from_two, begun_at}
 
-module _ {X : Type 0} where
-  -- an element passes or not
-  both_parts : (t : X → Bool) (xs : List X) → length (filter t xs) + length (filter (λ x. not (t x)) xs) ≡ length xs
-  both_parts t [] = refl
-  both_parts t (x ∷ xs) = go (t x)
-    where
-      go : (b : Bool) → length (cond b (x ∷ filter t xs) (filter t xs)) + length (cond (not b) (x ∷ filter (λ x. not (t x)) xs) (filter (λ x. not (t x)) xs)) ≡ suc (length xs)
-      go true = let rest = both_parts t xs in omega (arith, rest)
-      go false = let rest = both_parts t xs in omega (arith, rest)
+-- ---- a free file
 
-  -- where none is found, none passes
-  none_passing : (t : X → Bool) (xs : List X) → find t xs ≡ None → length (filter t xs) ≡ 0
-  none_passing t [] e = refl
-  none_passing t (x ∷ xs) e = go (t x) e
-    where
-      go : (b : Bool) → cond b (Some x) (find t xs) ≡ None → length (cond b (x ∷ filter t xs) (filter t xs)) ≡ 0
-      go true h = cc
-      go false h = none_passing t xs h
-
-  -- one of two tests
-  either : (s t : X → Bool) (xs : List X) → length (filter (λ x. s x || t x) xs) ≤ length (filter s xs) + length (filter t xs)
-  either s t [] = omega arith
-  either s t (x ∷ xs) = go (s x) (t x)
-    where
-      rest : length (filter (λ x. s x || t x) xs) ≤ length (filter s xs) + length (filter t xs)
-      rest = either s t xs
-
-      go : (a b : Bool) → length (cond (a || b) (x ∷ filter (λ x. s x || t x) xs) (filter (λ x. s x || t x) xs)) ≤ length (cond a (x ∷ filter s xs) (filter s xs)) + length (cond b (x ∷ filter t xs) (filter t xs))
-      go true true = omega (arith, rest)
-      go true false = omega (arith, rest)
-      go false true = omega (arith, rest)
-      go false false = omega (arith, rest)
-
--- ---- ranges
-
--- a number below a range is not in it
-none_below : (n from count : ℕ) → n < from → length (filter (λ file. n == file) (range_with_len from count)) ≡ 0
-none_below n from zero low = refl
-none_below n from (suc count) low = go (n == from) refl
-  where
-    go : (b : Bool) → (n == from) ≡ b → length (cond b (from ∷ filter (λ file. n == file) (range_with_len (from + 1) count)) (filter (λ file. n == file) (range_with_len (from + 1) count))) ≡ 0
-    go true e = let same = eqb-true n from e in absurd (omega (arith, low, same))
-    go false e = none_below n (from + 1) count (omega (arith, low))
-
--- a number is in it once
-once : (n from count : ℕ) → length (filter (λ file. n == file) (range_with_len from count)) ≤ 1
-once n from zero = omega arith
-once n from (suc count) = go (n == from) refl
-  where
-    go : (b : Bool) → (n == from) ≡ b → length (cond b (from ∷ filter (λ file. n == file) (range_with_len (from + 1) count)) (filter (λ file. n == file) (range_with_len (from + 1) count))) ≤ 1
-    go true e =
-        let same = eqb-true n from e in
-        let none = none_below n (from + 1) count (omega (arith, same)) in
-        omega (arith, none)
-    go false e = once n (from + 1) count
-
-range_parts : (from a b : ℕ) → range_with_len from (a + b) ≡ range_with_len from a ++ range_with_len (from + a) b
-range_parts from zero b = ap (λ (n : ℕ). range_with_len n (0 + b)) (omega arith) ∙ ap (λ (n : ℕ). range_with_len (from + 0) n) (omega arith)
-range_parts from (suc a) b =
-    ap (λ (n : ℕ). range_with_len from n) (omega arith) ∙ ap (λ (l : List ℕ). from ∷ l) (range_parts (from + 1) a b ∙ ap (λ (n : ℕ). range_with_len (from + 1) a ++ range_with_len n b) (omega arith))
-
--- ---- files
-
--- as many files of a range are blocks as there are blocks, or fewer
-blocks_in : (ks : List Block) (from count : ℕ) → length (filter (is_among ks) (range_with_len from count)) ≤ length ks
-blocks_in [] from count = let none = no_files (range_with_len from count) in omega (arith, none)
-  where
-    no_files : (fs : List ℕ) → length (filter (is_among []) fs) ≡ 0
-    no_files [] = refl
-    no_files (f ∷ fs) = no_files fs
-blocks_in (k ∷ ks) from count =
-    let two = either (λ (file : ℕ). k.file == file) (is_among ks) (range_with_len from count) in
-    let first = once k.file from count in
-    let rest = blocks_in ks from count in
-    omega (arith, two, first, rest)
-
-pub law_room : LawRoom
-law_room b from low high few = go (free_from from b) refl
+free_some : (b : Blocks) (from : ℕ) → length (blocks b) + begun_below b from < 65534 → is_some (free_from from b) ≡ true
+free_some b from few = go (free_from from b) refl
   where
     go : (o : Option ℕ) → free_from from b ≡ o → is_some o ≡ true
     go (Some file) e = refl
     go None e =
         let free = λ (file : ℕ). not (has_block b file) in
-        let start : max 2 from ≡ from = omega (arith, low) in
-        let none = none_passing free (range_with_len from (65536 - from)) (ap (λ (n : ℕ). lowest_from n b) (sym start) ∙ e) in
-        let whole : (from - 2) + (65536 - from) ≡ 65534 = omega (arith, low, high) in
-        let at : 2 + (from - 2) ≡ from = omega (arith, low) in
-        let parts : range_with_len 2 65534 ≡ range_with_len 2 (from - 2) ++ range_with_len from (65536 - from) =
-        ap (range_with_len 2) (sym whole) ∙ range_parts 2 (from - 2) (65536 - from) ∙ ap (λ (n : ℕ). range_with_len 2 (from - 2) ++ range_with_len n (65536 - from)) at in
-        let split = ap (λ (l : List ℕ). length (filter free l)) parts ∙ ap length (kept-append free (range_with_len 2 (from - 2)) (range_with_len from (65536 - from)))
-        ∙ length-append (filter free (range_with_len 2 (from - 2))) (filter free (range_with_len from (65536 - from))) in
-        let used = blocks_in (blocks b) 2 65534 in
-        let all = both_parts (has_block b) (range_with_len 2 65534) in
-        let long = length-range_with_len 2 65534 in
-        absurd (omega (arith, few, none, split, used, all, long))
+        let start = from_two from in
+        let count : ℕ = (from - 2) + (65536 - max 2 from) in
+        let none = none_passing free (range_with_len (max 2 from) (65536 - max 2 from)) e in
+        let above : count_free b (2 + (from - 2)) (65536 - max 2 from) ≡ 0 = ap (λ (n : ℕ). count_free b n (65536 - max 2 from)) start ∙ none in
+        let parts = free_parts b 2 (from - 2) (65536 - max 2 from) in
+        let used = blocks_in (blocks b) 2 count in
+        let both = length-filter_both (has_block b) free (λ file. refl) (range_with_len 2 count) in
+        let long = length-range_with_len 2 count in
+        absurd (omega (arith, few, start, above, parts, used, both, long))
+
+room : (b : Blocks) (p : Placing) (len : ℕ) → in_use b p < 65534 → is_some (place b len p) ≡ true
+room b p len few = go (stays len p.writing) refl
+  where
+    on : (o : Option Block) → stays len o ≡ true → is_some (place_on len p o) ≡ true
+    on None is = absurd (true≢false (sym is))
+    on (Some w) is = refl
+
+    mapped : (o : Option ℕ) → is_some o ≡ true → is_some (option_map (place_at len) o) ≡ true
+    mapped None h = absurd (true≢false (sym h))
+    mapped (Some file) h = refl
+
+    go : (g : Bool) → stays len p.writing ≡ g → is_some (cond g (place_on len p p.writing) (option_map (place_at len) (free_from p.from b))) ≡ true
+    go true e = on p.writing e
+    go false e = mapped (free_from p.from b) (free_some b p.from few)
+
+one : (b : Blocks) (p : Placing) (len : ℕ) → IfSome (place b len p) (λ r. in_use b r.1 ≤ in_use b p + 1)
+one b p len = go (stays len p.writing)
+  where
+    on : (o : Option Block) → IfSome (place_on len p o) (λ r. in_use b r.1 ≤ in_use b p + 1)
+    on None = tt
+    on (Some w) = omega arith
+
+    new : (o : Option ℕ) → free_from p.from b ≡ o → IfSome (option_map (place_at len) o) (λ r. in_use b r.1 ≤ in_use b p + 1)
+    new None e = tt
+    new (Some file) e = let more = begun_at b p.from file e in omega (arith, more)
+
+    go : (g : Bool) → IfSome (cond g (place_on len p p.writing) (option_map (place_at len) (free_from p.from b))) (λ r. in_use b r.1 ≤ in_use b p + 1)
+    go true = on p.writing
+    go false = new (free_from p.from b) refl
+
+-- ---- few blocks
+
+abbrev elsewhere : ℕ → Block → Bool
+elsewhere file k = not (k.file == file)
+
+-- of blocks that are apart one is in the file at most
+all_others : (file : ℕ) (ks : List Block) → is_among ks file ≡ false → length (filter (elsewhere file) ks) ≡ length ks
+all_others file [] absent = refl
+all_others file (k ∷ ks) absent = go (k.file == file) absent (all_others file ks)
+  where
+    go : (g : Bool) → (g || is_among ks file) ≡ false → (is_among ks file ≡ false → length (filter (elsewhere file) ks) ≡ length ks)
+        → length (cond (not g) (k ∷ filter (elsewhere file) ks) (filter (elsewhere file) ks)) ≡ suc (length ks)
+    go true h rest = absurd (true≢false h)
+    go false h rest = let r = rest h in omega (arith, r)
+
+but_one : (file : ℕ) (ks : List Block) → AreApart ks → length ks ≤ length (filter (elsewhere file) ks) + 1
+but_one file [] h = omega arith
+but_one file (k ∷ ks) h = go (k.file == file) refl (but_one file ks h.1)
+  where
+    go : (g : Bool) → (k.file == file) ≡ g → length ks ≤ length (filter (elsewhere file) ks) + 1
+        → suc (length ks) ≤ length (cond (not g) (k ∷ filter (elsewhere file) ks) (filter (elsewhere file) ks)) + 1
+    go true e rest = let others = all_others file ks (sym (ap (is_among ks) (eqb-true k.file file e)) ∙ h.0) in omega (arith, others)
+    go false e rest = omega (arith, rest)
+
+-- those elsewhere are used by the other messages
+used_others : (p : Placed) (placed : List Placed) (ks : List Block) → All (λ k. is_used (p ∷ placed) k.file ≡ true) ks
+    → All (λ k. is_used placed k.file ≡ true) (filter (elsewhere p.spot.file) ks)
+used_others p placed [] h = All-nil (λ (k : Block). is_used placed k.file ≡ true)
+used_others p placed (k ∷ ks) h =
+    go (k.file == p.spot.file) refl (p.spot.file == k.file) refl (All-head (λ (x : Block). is_used (p ∷ placed) x.file ≡ true) k ks h)
+    (used_others p placed ks (All-tail (λ (x : Block). is_used (p ∷ placed) x.file ≡ true) k ks h))
+  where
+    go : (g : Bool) → (k.file == p.spot.file) ≡ g → (c : Bool) → (p.spot.file == k.file) ≡ c → (c || is_used placed k.file) ≡ true
+        → All (λ x. is_used placed x.file ≡ true) (filter (elsewhere p.spot.file) ks)
+        → All (λ x. is_used placed x.file ≡ true) (cond (not g) (k ∷ filter (elsewhere p.spot.file) ks) (filter (elsewhere p.spot.file) ks))
+    go true e c f is rest = rest
+    go false e true f is rest = absurd (true≢false (sym (eq-eqb k.file p.spot.file (sym (eqb-true p.spot.file k.file f))) ∙ e))
+    go false e false f is rest = All-cons (λ (x : Block). is_used placed x.file ≡ true) k (filter (elsewhere p.spot.file) ks) is rest
+
+no_more : (placed : List Placed) (ks : List Block) → AreApart ks → All (λ k. is_used placed k.file ≡ true) ks → length ks ≤ length placed
+no_more [] [] apart used = omega arith
+no_more [] (k ∷ ks) apart used = absurd (true≢false (sym (All-head (λ (x : Block). is_used [] x.file ≡ true) k ks used)))
+no_more (p ∷ placed) ks apart used =
+    let most = but_one p.spot.file ks apart in
+    let rest = no_more placed (filter (elsewhere p.spot.file) ks) (others_apart (elsewhere p.spot.file) ks apart) (used_others p placed ks used) in
+    omega (arith, most, rest)
+  where
+    nothing : (xs : List Block) → xs ++ [] ≡ xs
+    nothing [] = refl
+    nothing (x ∷ xs) = ap (λ (l : List Block). x ∷ l) (nothing xs)
+
+    others_apart : (t : Block → Bool) (xs : List Block) → AreApart xs → AreApart (filter t xs)
+    others_apart t xs h = subst AreApart (nothing (filter t xs)) (apart_kept t xs [] (subst AreApart (sym (nothing xs)) h))
+
+held : (b : Blocks) → IsTable b → length (blocks b) ≤ length b.placed + 1
+held b h =
+    let older = no_more b.placed b.older (apart_first b.older (option_to_list b.writing) h.apart) h.held in
+    let all = length-append b.older (option_to_list b.writing) in
+    let most = at_most b.writing in
+    omega (arith, older, all, most)
+  where
+    at_most : (o : Option Block) → length (option_to_list o) ≤ 1
+    at_most None = omega arith
+    at_most (Some w) = omega arith
+
+first : (b : Blocks) → in_use b (placing b) ≡ length (blocks b)
+first b = omega arith
+
+pub law_room : LawRoom
+law_room = record { room = room; first = first; one = one; held = held }

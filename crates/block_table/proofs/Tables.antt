@@ -105,14 +105,11 @@ InFile k = IsFile k.file
 
 files_kept : (t : Block → Bool) (ks more : List Block) → All InFile (ks ++ more) → All InFile (filter t ks ++ more)
 files_kept t [] more h = h
-files_kept t (k ∷ ks) more h = go (t k)
+files_kept t (k ∷ ks) more h = go (t k) (files_kept t ks more (All-tail InFile k (ks ++ more) h))
   where
-    rest : All InFile (filter t ks ++ more)
-    rest = files_kept t ks more (All-tail InFile k (ks ++ more) h)
-
-    go : (b : Bool) → All InFile (cond b (k ∷ filter t ks) (filter t ks) ++ more)
-    go true = All-cons InFile k (filter t ks ++ more) (All-head InFile k (ks ++ more) h) rest
-    go false = rest
+    go : (b : Bool) → All InFile (filter t ks ++ more) → All InFile (cond b (k ∷ filter t ks) (filter t ks) ++ more)
+    go true rest = All-cons InFile k (filter t ks ++ more) (All-head InFile k (ks ++ more) h) rest
+    go false rest = rest
 
 files_first : (ks more : List Block) → All InFile (ks ++ more) → All InFile ks
 files_first [] more h = All-nil InFile

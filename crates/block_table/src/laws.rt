@@ -3,12 +3,12 @@
 ghost use Rattle.block_table.specs.Batches.{LawBatch};
 ghost use Rattle.block_table.specs.Rooms.{LawRoom};
 
-/// No message of a batch misfits where it is placed, whatever else the batch takes away.
+/// No message of a batch misfits where it is placed, whatever else the batch takes away, and the batch leaves no more blocks than it found and began.
 pub fn law_batch()
     ensures { LawBatch }
 {}
 
-/// As long as fewer than all files from 2 to 65,535 are blocks or were begun, one is free.
+/// As long as fewer files than all are blocks or were begun, there is room for a message, and a stream with few messages has few blocks.
 pub fn law_room()
     ensures { LawRoom }
 {}

@@ -1,9 +1,18 @@
 //! The names of records.
 
 use effects::Effect;
+use op_records::Record;
 
 /// The name of the record's kind.
-pub(crate) fn kind_name(effect: &Effect) -> &'static str {
+pub(crate) fn kind_name(record: &Record) -> &'static str {
+    match record {
+        Record::Put { .. } => "Put",
+        Record::Change(effect) => change_name(effect),
+    }
+}
+
+/// The name of the change.
+fn change_name(effect: &Effect) -> &'static str {
     match effect {
         Effect::MakeStream { .. } => "MakeStream",
         Effect::ChangeStream { .. } => "ChangeStream",

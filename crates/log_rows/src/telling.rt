@@ -5,9 +5,8 @@ ghost use Rattle.gate_log.specs.Reading.{IsSomeGate};
 
 use crate::line::LineFault;
 use crate::naming::kind_name;
-use effects::Effect;
 use gate_log::{GateLog, LogFault};
-use op_records::{RecordFault, read_records, read_vacant};
+use op_records::{Record, RecordFault, read_records, read_vacant};
 use std::alloc::Global;
 use vol_disk::{MemVol, Vol};
 
@@ -59,7 +58,7 @@ impl Batch {
     /// A later batch, whose records begin at an offset of the file.
     fn later(alloc: Global, begin: u64, bytes: &[u8]) -> Result<Batch, LineFault> {
         match read_records(alloc, bytes) {
-            Ok(effects) => Ok(Batch::sound(kinds_text(alloc, effects.as_slice())?)),
+            Ok(records) => Ok(Batch::sound(kinds_text(alloc, records.as_slice())?)),
             Err(fault) => Batch::wrong(alloc, begin, fault),
         }
     }
@@ -76,13 +75,13 @@ impl Batch {
 }
 
 /// The kinds of records.
-fn kinds_text(alloc: Global, effects: &[Effect]) -> Result<String, LineFault> {
+fn kinds_text(alloc: Global, records: &[Record]) -> Result<String, LineFault> {
     let mut text = String::new(alloc);
-    for effect in effects {
+    for record in records {
         if !text.is_empty() {
             text.push_str(" ")?;
         }
-        text.push_str(kind_name(effect))?;
+        text.push_str(kind_name(record))?;
     }
     Ok(text)
 }

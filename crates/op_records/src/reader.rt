@@ -198,16 +198,6 @@ impl<'a> Reader<'a> {
         Ok(Blob::of(self.alloc, text)?)
     }
 
-    /// A subject without wildcards.
-    pub(crate) fn subject(&mut self) -> Result<Blob, RecordFault>
-        requires within { IsWithin self.old }
-        ensures behind { IsBehind self.old self.new }
-        ensures reading { Reads result self.new (subject_field self.old.bytes.now self.old.at) }
-    {
-        let subject = self.subject_bytes()?;
-        Ok(Blob::of(self.alloc, subject)?)
-    }
-
     /// The bytes of a subject without wildcards.
     #[tactic(auto, unfolding(crate::specs::Fields::subject_field))]
     pub(crate) fn subject_bytes(&mut self) -> Result<&'a [u8], RecordFault>

@@ -14,8 +14,8 @@ use std::alloc::Global;
 /// The record that begins at a place of the bytes, and the place behind it.
 ///
 /// `Cut` and `BadField` tell the first field that does not end or that holds what it may not hold: a number of 2^62 or more (but for a cursor, which may
-/// be 2^62), no name, a text that is no configuration's, a name that is not the one of its configuration, and of a range out of order its first end. `BadKind` tells a record of no kind, and `BadField` one that
-/// stands nowhere but where a log begins.
+/// be 2^62), no name, a text that is no configuration's, a name that is not the one of its configuration, and of a range out of order its first end.
+/// `BadKind` tells a record of no kind, and `BadField` one that stands nowhere but where a log begins.
 pub fn read_record(alloc: Global, bytes: &[u8], at: usize) -> Result<(Record, usize), RecordFault>
     requires within { at ≤ length bytes.now }
     ensures reading { ReadsAt result (record_at bytes.now at) }

@@ -1,5 +1,6 @@
 pub mod Answering
 pub mod Passing
+pub mod WithoutRoom
 pub mod VerdictTexts
 pub mod Shown
 pub mod Places

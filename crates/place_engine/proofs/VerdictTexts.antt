@@ -76,7 +76,7 @@ numbers_used_up_utf8 : IsUtf8 numbers_used_up.text
 unfolding is_utf8 chars encode
 numbers_used_up_utf8 = IsUtf8-from_is_utf8 numbers_used_up.text refl
 
-no_free_block_utf8 : IsUtf8 no_free_block.text
+pub no_free_block_utf8 : IsUtf8 no_free_block.text
 unfolding is_utf8 chars encode
 no_free_block_utf8 = IsUtf8-from_is_utf8 no_free_block.text refl
 

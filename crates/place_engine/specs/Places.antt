@@ -1,5 +1,5 @@
 -- What may be asked of a place, and what is told of its stream.
-use Rattle.std.specs.Prelude.{◌≡◌, ℕ, true, List, [], length, Option, None, Some, IfSome, IsUtf8}
+use Rattle.std.specs.Prelude.{◌≡◌, ℕ, List, [], length, Option, None, Some, IfSome, IsUtf8}
 use Rattle.js_base.specs.Bytes.{Bytes}
 use Rattle.js_model.specs.declared.stream.Id.{Id}
 use Rattle.js_model.specs.declared.stream.State.{State}
@@ -7,9 +7,7 @@ use Rattle.js_model.specs.declared.stream.State.TheVariants.{Vacant, Live}
 use Rattle.js_model.specs.declared.event.Publish.{Publish}
 use Rattle.js_model.specs.declared.event.What.{What}
 use Rattle.js_model.specs.declared.event.What.TheVariants as whats
-use Rattle.js_model.specs.declared.reply.Verdict.{Verdict}
 use Rattle.js_model.specs.Runs.{messages_of}
-use Rattle.js_model.specs.Verdict.{verdict}
 
 -- the name of a header with a bad number is UTF-8, since it is told
 abbrev pub IsTold : What → Type 0
@@ -38,8 +36,3 @@ messages_in state = length (messages_of state)
 abbrev pub ids_in : State → List Id
 ids_in (Vacant last) = []
 ids_in (Live stream) = stream.ids
-
--- what its stream says to a publish, if its store has a block for each message; nothing if there is no stream
-abbrev pub verdict_in : State → Publish → Option Verdict
-verdict_in (Vacant last) publish = None
-verdict_in (Live stream) publish = Some (verdict stream publish true)

@@ -37,10 +37,14 @@ TellsLeft Nothing old now effects = effects ≡ []
 TellsLeft Ticked old now effects = effects ≡ event_effects old Tick now true
 TellsLeft (Unsaid refused) old now effects = ⊥
 
--- those of an event, if the store has a block for each message
+-- those of an event; `room` is whether the store has a block for a message
+abbrev pub TellsEventIn : Bool → Result Reply Left → State → What → ℕ → List Effect → Type 0
+TellsEventIn room (Ok reply) old what now effects = effects ≡ event_effects old what now room
+TellsEventIn room (Err left) old what now effects = TellsLeft left old now effects
+
+-- the same where it has one
 abbrev pub TellsEvent : Result Reply Left → State → What → ℕ → List Effect → Type 0
-TellsEvent (Ok reply) old what now effects = effects ≡ event_effects old what now true
-TellsEvent (Err left) old what now effects = TellsLeft left old now effects
+TellsEvent = TellsEventIn true
 
 -- those of a delivery, if one is made
 abbrev pub TellsSent : Result (Option Delivery) Left → State → ℕ → State → List Effect → Type 0

@@ -1,6 +1,6 @@
 //! The stream of a place in memory.
 
-ghost use Rattle.std.specs.Prelude.{◌≡◌, ◌≢◌, ◌==◌, ◌||◌, ◌≤◌, ◌++◌, ◌^◌, ◌<◌, [], nat_lt, not, true, Option, length, option_map, slice_get, IfOk, OnOk, OnErr, IsTrue, IsUtf8};
+ghost use Rattle.std.specs.Prelude.{◌≡◌, ◌≢◌, ◌==◌, ◌||◌, ◌≤◌, ◌++◌, ◌^◌, ◌<◌, [], nat_lt, not, true, Option, length, option_map, slice_get, IfOk, IfSome, OnOk, OnErr, IsTrue, IsUtf8};
 ghost use Rattle.std.specs.List.{flat_map, list_any};
 ghost use Rattle.js_base.specs.Bytes.{Bytes};
 ghost use Rattle.js_model.specs.declared.stream.State.TheVariants.{Live};
@@ -14,7 +14,7 @@ ghost use Rattle.js_model.specs.Ready.{is_ready};
 ghost use Rattle.effects.specs.Effects.{live_effects, settle_effects};
 ghost use Rattle.effects.specs.TimeEffects.{time_effects};
 ghost use Rattle.followed_stream.specs.Delivering.{AreCurrent};
-ghost use Rattle.place_engine.specs.Answers.{Acts, MayDeliver, StreamAnswers};
+ghost use Rattle.place_engine.specs.Answers.{reply_without_room, Acts, MayDeliver, StreamAnswers};
 ghost use Rattle.place_engine.specs.Places.{IsTold};
 ghost use Rattle.place_engine.specs.Pushes.{push_of, pushes_in};
 ghost use Rattle.place_engine.specs.Recording.{own_then, TellsSent};
@@ -25,7 +25,10 @@ ghost use Rattle.stream_state.specs.Removing.{HasRoom, HasRoomForOne};
 use crate::faults::Left;
 use crate::push::Push;
 use js_base::{Blob, Moment, NoMemory, Outs};
-use js_model::{Delivery, Listening, Reply, StreamConfig, What, copy_stream_config};
+use js_model::refusals::no_free_block;
+use js_model::{
+    Delivery, Listening, Publish, Reply, StreamConfig, Verdict, What, copy_stream_config,
+};
 use place_records::{Made, OwnRecords, TimeRecords};
 use std::alloc::Global;
 use std::marker::Model;
@@ -245,6 +248,19 @@ impl LiveStream {
             What::ConsumerNames { reply: _, offset } => self.list_names(*offset),
             What::ConsumerList { reply: _, offset } => self.list_consumers(*offset, own),
             What::Drop { reply: _ } | What::Tick => unreachable!(),
+        }
+    }
+
+    /// What it replies to a publish at its moment, where its store has no block for the message.
+    pub fn reply_without_room(&self, publish: &Publish) -> Result<Reply, NoMemory>
+        requires told { IfSome publish.now.wants.bad IsUtf8 }
+        ensures value { IfOk result (λ reply. reply ≡ reply_without_room (Live self.now) publish.now) }
+        ensures shown { IfOk result IsShown }
+    {
+        match self.verdict(publish)? {
+            Verdict::Take => Ok(Reply::Refused(no_free_block(self.alloc)?)),
+            Verdict::Duplicate(seq) => Ok(Reply::Duplicate(seq)),
+            Verdict::Refused(refusal) => Ok(Reply::Refused(refusal)),
         }
     }
 

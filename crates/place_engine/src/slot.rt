@@ -1,6 +1,6 @@
 //! What a place holds, in memory.
 
-ghost use Rattle.std.specs.Prelude.{◌≡◌, ◌≢◌, ◌≤◌, ◌<◌, ◌++◌, ◌^◌, ℕ, [], List, length, option_map, slice_get, IfErr, IfOk, IfSome, OnErr, OnOk, Option, IsTrue, IsUtf8};
+ghost use Rattle.std.specs.Prelude.{◌≡◌, ◌≢◌, ◌≤◌, ◌<◌, ◌++◌, ◌^◌, ℕ, false, [], List, length, option_map, slice_get, IfErr, IfOk, IfSome, OnErr, OnOk, Option, IsTrue, IsUtf8};
 ghost use Rattle.std.specs.Option.{option_copied};
 ghost use Rattle.js_base.specs.Bytes.{Bytes};
 ghost use Rattle.js_base.specs.declared.out.Out.{Out};
@@ -11,12 +11,12 @@ ghost use Rattle.js_model.specs.Proper.{is_proper_what};
 ghost use Rattle.js_model.specs.Ready.{some_ready};
 ghost use Rattle.js_model.specs.StateMoments.{state_at};
 ghost use Rattle.effects.specs.Effects.{settle_effects};
-ghost use Rattle.place_engine.specs.Answers.{outs_by, AnswersThen, LeftBy, MayDeliver, PlaceAnswers};
+ghost use Rattle.place_engine.specs.Answers.{outs_by, reply_without_room, AnswersThen, LeftBy, MayDeliver, PlaceAnswers, PlaceAnswersIn};
 ghost use Rattle.place_engine.specs.InMemory.{left_of, MayLeave};
-ghost use Rattle.place_engine.specs.Places.{IsTold, IsVacant, ids_in, messages_in, name_in, subjects_in, verdict_in};
+ghost use Rattle.place_engine.specs.Places.{IsTold, IsVacant, ids_in, messages_in, name_in, subjects_in};
 ghost use Rattle.place_engine.specs.Pushes.{push_of, pushes_in};
-ghost use Rattle.place_engine.specs.Recording.{asking_effects, passing_effects, HasMadeRoom, HasOwnRoom, HasTimeRoom, TellsEvent, TellsSent};
-ghost use Rattle.place_engine.specs.Shown.{IsShown, IsShownVerdict};
+ghost use Rattle.place_engine.specs.Recording.{asking_effects, passing_effects, HasMadeRoom, HasOwnRoom, HasTimeRoom, TellsEvent, TellsEventIn, TellsSent};
+ghost use Rattle.place_engine.specs.Shown.{IsShown};
 ghost use Rattle.place_records.specs.Records.{effects_in, own_in, time_in, IsFresh, IsFreshOwn, IsFreshTime};
 
 use crate::faults::Left;
@@ -25,9 +25,7 @@ use crate::push::Push;
 use effects::Effect;
 use js_base::{Blob, Moment, NoMemory, Outs};
 use js_model::refusals::{no_stream, numbers_used_up};
-use js_model::{
-    Delivery, Listening, Publish, Reply, StreamConfig, Verdict, What, copy_stream_config,
-};
+use js_model::{Delivery, Listening, Publish, Reply, StreamConfig, What, copy_stream_config};
 use place_records::{Made, OwnRecords, TimeRecords};
 use std::alloc::Global;
 use std::marker::Model;
@@ -129,18 +127,6 @@ impl Slot {
         }
     }
 
-    /// What its stream says to a publish at the moment that it has seen last, if its store has a block for each message; `None` if there is no stream.
-    pub fn verdict(&self, publish: &Publish) -> Result<Option<Verdict>, NoMemory>
-        requires told { IfSome publish.now.wants.bad IsUtf8 }
-        ensures value { IfOk result (λ said. said ≡ verdict_in self.now publish.now) }
-        ensures shown { IfOk result (λ said. IfSome said IsShownVerdict) }
-    {
-        match &self.held {
-            Held::Nothing(_) => Ok(None),
-            Held::Stream(stream) => Ok(Some(stream.verdict(publish)?)),
-        }
-    }
-
     /// The push consumer at a place in the order of their names.
     pub fn push(&self, at: usize) -> Option<Push<'_>>
         ensures value { result ≡ option_map push_of (slice_get (pushes_in self.now) at) }
@@ -187,6 +173,36 @@ impl Slot {
         };
         let left = self.left();
         match self.answer_then(what, now, outs, &mut made.own) {
+            Ok(reply) => Ok(reply),
+            Err(NoMemory) => Err(left),
+        }
+    }
+
+    /// Answers a publish at a moment as `answer` does, where the store has no block for its message: nothing is stored. If the stream would take it, it
+    /// is refused for want of a block; each other refusal and a duplicate are answered as ever. An `Err` says what is left.
+    pub fn answer_without_room(
+        &mut self,
+        publish: &Publish,
+        now: Moment,
+        outs: &mut Outs,
+        made: &mut Made,
+    ) -> Result<Reply, Left>
+        requires told { IfSome publish.now.wants.bad IsUtf8 }
+        ensures answers { IfOk result (λ reply. PlaceAnswersIn false self.old (What.Publish publish.now) now reply outs.old outs.new self.new) }
+        ensures shown { IfOk result IsShown }
+        ensures err { IfErr result (λ left. LeftBy left self.old now outs.old outs.new self.new) }
+        ensures recorded { TellsEventIn false result self.old (What.Publish publish.now) now (effects_in made.new) }
+    {
+        let Ok(()) = self.start(made) else {
+            return Err(Left::Nothing);
+        };
+        let Ok(()) = self.pass(now, outs, &mut made.time) else {
+            return Err(Left::Nothing);
+        };
+        let left = self.left();
+        let said = self.reply_without_room(publish);
+        self.settle(&mut made.own);
+        match said {
             Ok(reply) => Ok(reply),
             Err(NoMemory) => Err(left),
         }
@@ -310,6 +326,18 @@ impl Slot {
         match &mut self.held {
             Held::Nothing(_) => self.answer_vacant(what, now, own),
             Held::Stream(stream) => stream.answer(what, outs, own),
+        }
+    }
+
+    /// What is replied to a publish at a moment to which time has come, where the store has no block for its message.
+    fn reply_without_room(&self, publish: &Publish) -> Result<Reply, NoMemory>
+        requires told { IfSome publish.now.wants.bad IsUtf8 }
+        ensures value { IfOk result (λ reply. reply ≡ reply_without_room self.now publish.now) }
+        ensures shown { IfOk result IsShown }
+    {
+        match &self.held {
+            Held::Nothing(_) => Ok(Reply::Refused(no_stream(self.alloc)?)),
+            Held::Stream(stream) => stream.reply_without_room(publish),
         }
     }
 

@@ -1,4 +1,4 @@
--- Lists of records that may stand in a log, put together; and the numbers and names that stand in them.
+-- Lists of changes that may be recorded, put together; and the numbers and names that stand in them.
 use Rattle.std.proofs.Common.{◌≡◌, ℕ, ◌+◌, ◌<◌, ◌≤◌, ◌^◌, Bool, true, false, cond, List, [], ◌∷◌, ◌++◌, refl, ◌∙◌, subst, arith}
 use Rattle.std.specs.Prelude.{IsTrue}
 use Rattle.std.specs.List.{list_all, flat_map}
@@ -16,9 +16,9 @@ use Rattle.model_laws.proofs.Whole.{IsSoundConsumer}
 use Rattle.effects.specs.declared.effect.Effect.{Effect}
 use Rattle.op_records.specs.Allowed.{is_record}
 
--- ---- lists of records
+-- ---- lists of changes
 
--- each of the records may stand in a log
+-- each of the changes may be recorded
 abbrev pub Allowed : List Effect → Type 0
 Allowed effects = IsTrue (list_all is_record effects)
 
@@ -28,7 +28,7 @@ together xs ys h k = list_all-append is_record xs ys ∙ and_from (list_all is_r
 pub just : (e : Effect) → is_record e ≡ true → Allowed (e ∷ [])
 just e h = and_from (is_record e) true h refl
 
--- a record that is written on a condition
+-- a change that is made on a condition
 pub only_if : (b : Bool) (e : Effect) → (b ≡ true → is_record e ≡ true) → Allowed (cond b (e ∷ []) [])
 only_if true e h = just e (h refl)
 only_if false e h = refl

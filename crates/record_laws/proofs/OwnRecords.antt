@@ -1,4 +1,4 @@
--- The records of an event's own changes may stand in a log.
+-- An event's own changes may be recorded.
 use Rattle.std.proofs.Common.{◌≡◌, ◌≢◌, ℕ, ◌+◌, ◌<◌, ◌≤◌, ◌^◌, Bool, true, false, cond, [], length, refl, arith}
 use Rattle.std.specs.Prelude.{IsTrue, Option, Some, None, ◌==◌, ◌&&◌}
 use Rattle.std.proofs.lemmas.Bool.{and_parts, and_from, or_parts, eqb-false, ltb-true, ltb-false, lt-ltb, le-leb}

@@ -1,4 +1,4 @@
--- The records of passing time, and of what limits and retention drop, may stand in a log.
+-- The changes by passing time, and what limits and retention drop, may be recorded.
 use Rattle.std.proofs.Common.{◌≡◌, ℕ, ◌+◌, ◌<◌, ◌^◌, Bool, true, false, not, cond, List, [], ◌∷◌, ◌++◌, map, max, refl, arith}
 use Rattle.std.specs.Prelude.{◌&&◌, ◌==◌, All}
 use Rattle.std.specs.List.{list_any}

@@ -1,4 +1,4 @@
--- The records of each event and of each delivery may stand in a log.
+-- The changes of each event and of each delivery may be recorded.
 use Rattle.std.proofs.Common.{◌≡◌, ◌≢◌, ℕ, ◌+◌, ◌<◌, ◌≤◌, ◌-◌, ◌^◌, Bool, true, false, cond, List, [], ◌∷◌, ◌++◌, refl, sym, subst, arith}
 use Rattle.std.specs.Prelude.{Option, Some, ◌==◌, ⊤}
 use Rattle.std.proofs.lemmas.Bool.{and_parts, and_from, eqb-false}

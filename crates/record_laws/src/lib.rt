@@ -1,4 +1,4 @@
-//! Which records a place writes; no program calls it.
+//! Which changes a place hands over to be recorded; no program calls it.
 #![tactic(auto)]
 
 mod laws;

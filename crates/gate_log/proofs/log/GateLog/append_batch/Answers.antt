@@ -1,4 +1,4 @@
-use Rattle.std.proofs.Common.{◌≡◌, ◌∙◌, ◌<◌, ◌≤◌, ◌^◌, [], ◌∷◌, length, sym, ap, subst, arith}
+use Rattle.std.proofs.Common.{◌≡◌, ◌∙◌, ℕ, ◌<◌, ◌≤◌, ◌^◌, [], ◌∷◌, length, sym, ap, subst, arith}
 use Rattle.vol_disk.specs.Images.{IsDurable}
 use Rattle.vol_disk.specs.Steps.{written, Torn}
 use Rattle.vol_disk.specs.Synced.{DoesSynced}
@@ -42,7 +42,10 @@ returns-clause-appended g c = λ told.
     let new = g.V.Vol.disk c.write_synced.new.vol in
     let short : length c.args.batch.now < 2 ^ 32 = omega arith in
     let after : LogState = record { file = c.self.inside.file; head = c.self.inside.head; first_end = c.before-self-inside.result.first; end = c.before-self-inside.result.last } in
-    let is : after ≡ with_batch c.args.self.now (length c.args.batch.now) = ap (λ (e : Ends). record { file = c.self.inside.file; head = c.self.inside.head; first_end = e.first; end = e.last }) c.before-self-inside.ensures.value ∙ ap (λ (l : LogState). with_batch l (length c.args.batch.now)) c.self.view_is in
+    let was : LogState = record { file = c.self.inside.file; head = c.self.inside.head; first_end = c.self.inside.ends.first; end = c.self.inside.ends.last } in
+    let is : after ≡ with_batch c.args.self.now (length c.args.batch.now) =
+    ap (λ (e : Ends). record { file = c.self.inside.file; head = c.self.inside.head; first_end = e.first; end = e.last }) c.before-self-inside.ensures.value
+    ∙ ap (λ (n : ℕ). with_batch was n) c.len-count.ensures.value ∙ ap (λ (l : LogState). with_batch l (length c.args.batch.now)) c.self.view_is in
     done c.args.self.now c.args.batch.now old (g.met.V.Vol.clocked c.args.vol.now) mid new after short c.requires.head (c.in_ok-stage.ensures.staged told)
     (subst (λ (l : LogState). new.seen l.file ≡ written l.end (1 ∷ []) (mid.seen l.file)) c.self.view_is (c.in_ok-write_synced.ensures.seen told))
     (subst (λ (l : LogState). IsDurable new l.file) c.self.view_is (c.in_ok-write_synced.ensures.durable told)) is

@@ -1,4 +1,4 @@
-use Rattle.std.proofs.Common.{◌∙◌, ◌+◌, refl, length, subst}
+use Rattle.std.proofs.Common.{◌+◌, refl, length, subst}
 use Rattle.gate_log.specs.LogState.{LogState}
 use Rattle.gate_log.specs.Appending.{AppendsTo}
 use Rattle.gate_log.specs.Staging.{StagesTo}
