@@ -235,5 +235,26 @@ written_of b es made old new h stand changes bytes written = record {
               omega (arith, there, length-take (end_in b f) (old.seen f))
             )) made.runs runs.placed
 
-pub law_plans : LawPlans
+-- ---- of all disks
+
+pub record Plans : Type 1 where
+  pub runs : (b : Blocks) (es : List Effect) (made : Planned) → ArePlannedBy b es made → AreRuns b es made
+  pub within : (b : Blocks) (es : List Effect) (made : Planned) (disk : Disk) → ArePlannedBy b es made → BlocksStand b disk → All (λ run. run.at ≤ length (disk.seen run.file)) made.runs
+  pub kept :
+      (b : Blocks) (es : List Effect) (made : Planned) (old new : Disk) → ArePlannedBy b es made → BlocksStand b old → ChangesRuns made.runs old new
+      → LeavesOnly old new (KeepsBlocks b old)
+  pub written :
+      (b : Blocks) (es : List Effect) (made : Planned) (old new : Disk) → ArePlannedBy b es made → BlocksStand b old → ChangesRuns made.runs old new
+      → All (λ run. AreBytes run.bytes) made.runs → All (IsWritten old new) made.runs → HasStored b es made.records old new
+
+abbrev pub law_plans : Plans
 law_plans = record { runs = runs_of; within = within_of; kept = kept_of; written = written_of }
+
+-- and of two of them
+pub plans_of : (old new : Disk) → LawPlans old new
+plans_of old new = record {
+  runs = runs_of;
+  within = λ b es made h stand. within_of b es made old h stand;
+  kept = λ b es made h stand changes. kept_of b es made old new h stand changes;
+  written = λ b es made h stand changes bytes written. written_of b es made old new h stand changes bytes written;
+}

@@ -86,11 +86,7 @@ other_run [] run spot bytes h = ap (λ (b : Bool). if b then with_bytes run byte
 other_run (x ∷ []) run spot bytes h = ap (λ (l : List Run). x ∷ l) (other_run [] run spot bytes h)
 other_run (x ∷ y ∷ zs) run spot bytes h = ap (λ (l : List Run). x ∷ l) (other_run (y ∷ zs) run spot bytes h)
 
--- as the code finds it: there is no last run, or it is in another file, or in the message's
-pub added_first : (old left : List Run) (spot : Spot) (bytes : Bytes) → length left ≡ 0 → old ≡ left ++ [] → left ++ run_at spot bytes ∷ [] ≡ with_message old spot bytes
-added_first old [] spot bytes none is = sym (ap (λ (l : List Run). with_message l spot bytes) is)
-added_first old (x ∷ xs) spot bytes none is = absurd (omega (arith, none))
-
+-- as the code finds it: the last run is in another file, or in the message's
 pub added_other : (old front : List Run) (last : Run) (spot : Spot) (bytes : Bytes) → old ≡ front ++ last ∷ [] → last.file ≢ spot.file →
     (front ++ last ∷ []) ++ run_at spot bytes ∷ [] ≡ with_message old spot bytes
 added_other old front last spot bytes is ne = sym (ap (λ (l : List Run). with_message l spot bytes) is ∙ other_run front last spot bytes (ne_eqb last.file spot.file ne))

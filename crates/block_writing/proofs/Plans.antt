@@ -25,7 +25,7 @@ use Rattle.block_table.specs.Tables.{IsFile, IsTable}
 use Rattle.block_writing.specs.declared.commit.Plan.{Plan}
 use Rattle.block_writing.specs.declared.run.Run.{Run}
 use Rattle.block_writing.specs.Planning.{Planned, begun, with_message, with_put, with_change, message_by, plan_message, planned_one, then_planned, planned, spots_in}
-use Rattle.block_writing.specs.Plans.{Has, IsPlan, IsSoFar, WritesBlock}
+use Rattle.block_writing.specs.Plans.{Has, HasNoSpot, IsAdded, IsPlan, IsPut, IsSoFar, WritesBlock}
 use Rattle.block_writing.proofs.Runs.{GoesOn, BeginsFile, IsSpot, spot_is, planned_none}
 use Rattle.block_writing.proofs.Written.{all_there, one_more, parts}
 
@@ -85,7 +85,7 @@ put_stands m id spot may text file at len =
 -- ---- what a plan has then
 
 -- a message more
-pub put_planned : (b : Blocks) (so_far : Planned) (old new : Plan) (p q : Placing) (id : Bytes) (m : Message) (spot : Spot) → IsSoFar so_far old p →
+put_planned : (b : Blocks) (so_far : Planned) (old new : Plan) (p q : Placing) (id : Bytes) (m : Message) (spot : Spot) → IsSoFar so_far old p →
     place b (length (spelled_message m)) p ≡ Some (spot, q) → new.batch.items ≡ old.batch.items ++ spelled_record (Put m.seq m.at id spot) →
     new.spots.items ≡ old.spots.items ++ spot ∷ [] → new.runs.items ≡ with_message old.runs.items spot (spelled_message m) →
     IsSomeAnd (plan_message b so_far id m) (λ next. IsSoFar next new q)
@@ -99,24 +99,34 @@ put_planned b so_far old new p q id m spot h e batch spots runs =
       placing = refl;
     })
 
-pub none_planned : (b : Blocks) (so_far : Planned) (p : Placing) (id : Bytes) (m : Message) → so_far.placing ≡ p → place b (length (spelled_message m)) p ≡ None → plan_message b so_far id m ≡ None
-none_planned b so_far p id m is e = ap (λ (o : Option (Spot × Placing)). option_map (with_put so_far id m) o) (ap (place b (length (spelled_message m))) is ∙ e)
+pub put_added : (b : Blocks) (e : Effect) (id : Bytes) (m : Message) (old new : Plan) (p q : Placing) → e ≡ PutHere m.seq m.at id m.subject m.headers m.payload → IsPut b id m old new p q → IsAdded b e old new p q
+put_added b e id m old new p q is h = record {
+  step = λ so_far s.
+      subst (λ (x : Effect). IsSomeAnd (planned_one b so_far x) (λ next. IsSoFar next new q)) (sym is)
+      (put_planned b so_far old new p q id m h.spot s h.placed h.batch h.spots h.runs);
+}
+
+pub no_spot : (b : Blocks) (e : Effect) (id : Bytes) (m : Message) (p : Placing) → e ≡ PutHere m.seq m.at id m.subject m.headers m.payload → place b (length (spelled_message m)) p ≡ None → HasNoSpot b e p
+no_spot b e id m p is none = record {
+  none = λ so_far same.
+      ap (planned_one b so_far) is ∙ ap (λ (o : Option (Spot × Placing)). option_map (with_put so_far id m) o) (ap (place b (length (spelled_message m))) same ∙ none);
+}
 
 -- another change more
-pub change_planned : (so_far : Planned) (old new : Plan) (p q : Placing) (e : Effect) → IsSoFar so_far old p → new.batch.items ≡ old.batch.items ++ spelled e →
-    new.spots ≡ old.spots → new.runs ≡ old.runs → IsSoFar (with_change so_far e q) new q
+change_planned : (so_far : Planned) (old new : Plan) (p r q : Placing) (e : Effect) → IsSoFar so_far old p → new.batch.items ≡ old.batch.items ++ spelled e →
+    new.spots ≡ old.spots → new.runs ≡ old.runs → r ≡ q → IsSoFar (with_change so_far e r) new q
 unfolding spelled_record
-change_planned so_far old new p q e h batch spots runs = record {
+change_planned so_far old new p r q e h batch spots runs is = record {
   has = record {
     batch = batch ∙ ap (λ (l : Bytes). l ++ spelled e) h.has.batch ∙ flat_map_more spelled_record [] so_far.records (Change e);
     spots = ap (λ v. v.items) spots ∙ h.has.spots ∙ sym (spots_change so_far.records e);
     runs = ap (λ v. v.items) runs ∙ h.has.runs;
   };
-  placing = refl;
+  placing = is;
 }
 
 -- a change that stores no message and makes or drops no stream: the messages behind it go on where they would have gone
-pub rest_planned : (b : Blocks) (so_far : Planned) (e : Effect) → ((seq at : ℕ) (id subject headers payload : Bytes) → e ≡ PutHere seq at id subject headers payload → ⊥) →
+rest_planned : (b : Blocks) (so_far : Planned) (e : Effect) → ((seq at : ℕ) (id subject headers payload : Bytes) → e ≡ PutHere seq at id subject headers payload → ⊥) →
     ((incarnation made : ℕ) (config : StreamConfig) → e ≡ MakeStream incarnation made config → ⊥) → (e ≡ DropStream → ⊥) → planned_one b so_far e ≡ Some (with_change so_far e so_far.placing)
 rest_planned b so_far (MakeStream incarnation made config) put make gone = absurd (make incarnation made config refl)
 rest_planned b so_far (ChangeStream config) put make gone = refl
@@ -131,6 +141,32 @@ rest_planned b so_far (Acked name low high) put make gone = refl
 rest_planned b so_far (Due name seq due) put make gone = refl
 rest_planned b so_far (GivenUp name moment) put make gone = refl
 rest_planned b so_far (Now moment) put make gone = refl
+
+pub rest_added : (b : Blocks) (e : Effect) (old new : Plan) (p : Placing) → ((seq at : ℕ) (id subject headers payload : Bytes) → e ≡ PutHere seq at id subject headers payload → ⊥) →
+    ((incarnation made : ℕ) (config : StreamConfig) → e ≡ MakeStream incarnation made config → ⊥) → (e ≡ DropStream → ⊥) →
+    new.batch.items ≡ old.batch.items ++ spelled e → new.spots ≡ old.spots → new.runs ≡ old.runs → IsAdded b e old new p p
+rest_added b e old new p put make gone batch spots runs = record {
+  step = λ so_far s.
+      subst (λ (o : Option Planned). IsSomeAnd o (λ next. IsSoFar next new p)) (sym (rest_planned b so_far e put make gone))
+      (change_planned so_far old new p so_far.placing p e s batch spots runs s.placing);
+}
+
+-- and one that makes or drops a stream: they go on in no block
+pub made_added : (b : Blocks) (e : Effect) (incarnation made : ℕ) (config : StreamConfig) (old new : Plan) (p q : Placing) → e ≡ MakeStream incarnation made config → q ≡ restarted p →
+    new.batch.items ≡ old.batch.items ++ spelled e → new.spots ≡ old.spots → new.runs ≡ old.runs → IsAdded b e old new p q
+made_added b e incarnation made config old new p q is anew batch spots runs = record {
+  step = λ so_far s.
+      subst (λ (x : Effect). IsSomeAnd (planned_one b so_far x) (λ next. IsSoFar next new q)) (sym is)
+      (change_planned so_far old new p (restarted so_far.placing) q (MakeStream incarnation made config) s (subst (λ (x : Effect). new.batch.items ≡ old.batch.items ++ spelled x) is batch) spots runs (ap restarted s.placing ∙ sym anew));
+}
+
+pub dropped_added : (b : Blocks) (e : Effect) (old new : Plan) (p q : Placing) → e ≡ DropStream → q ≡ restarted p →
+    new.batch.items ≡ old.batch.items ++ spelled e → new.spots ≡ old.spots → new.runs ≡ old.runs → IsAdded b e old new p q
+dropped_added b e old new p q is anew batch spots runs = record {
+  step = λ so_far s.
+      subst (λ (x : Effect). IsSomeAnd (planned_one b so_far x) (λ next. IsSoFar next new q)) (sym is)
+      (change_planned so_far old new p (restarted so_far.placing) q DropStream s (subst (λ (x : Effect). new.batch.items ≡ old.batch.items ++ spelled x) is batch) spots runs (ap restarted s.placing ∙ sym anew));
+}
 
 -- ---- one change after the other
 
@@ -156,8 +192,8 @@ first_planned b es plan batch spots runs = record {
 }
 
 pub next_planned : (b : Blocks) (es : List Effect) (i : ℕ) (e : Effect) (old new : Plan) (p q : Placing) → i < length es → e ≡ get_or es i e → (h : ArePlanned b es i old p) →
-    ((so_far : Planned) → IsSoFar so_far old p → IsSomeAnd (planned_one b so_far e) (λ next. IsSoFar next new q)) → ArePlanned b es (i + 1) new q
-next_planned b es i e old new p q within is h step = go (planned_one b h.so_far e) refl (step h.so_far h.has)
+    IsAdded b e old new p q → ArePlanned b es (i + 1) new q
+next_planned b es i e old new p q within is h added = go (planned_one b h.so_far e) refl (added.step h.so_far h.has)
   where
     go : (o : Option Planned) → planned_one b h.so_far e ≡ o → IsSomeAnd o (λ next. IsSoFar next new q) → ArePlanned b es (i + 1) new q
     go None one has = absurd has
@@ -178,12 +214,12 @@ all_planned b es i plan p past h = record {
 
 -- there is no place for a message
 pub no_plan : (b : Blocks) (es : List Effect) (i : ℕ) (e : Effect) (plan : Plan) (p : Placing) → i < length es → e ≡ get_or es i e → (h : ArePlanned b es i plan p) →
-    ((so_far : Planned) → so_far.placing ≡ p → planned_one b so_far e ≡ None) → planned b es (Some (begun b)) ≡ None
-no_plan b es i e plan p within is h none =
+    HasNoSpot b e p → planned b es (Some (begun b)) ≡ None
+no_plan b es i e plan p within is h no =
     ap (λ (l : List Effect). planned b l (Some (begun b))) (sym (parts es i e within is))
     ∙ planned_more b (take i es) (e ∷ drop (suc i) es) (Some (begun b))
     ∙ ap (λ (s : Option Planned). planned b (drop (suc i) es) (then_planned b s e)) h.so_far_is
-    ∙ ap (planned b (drop (suc i) es)) (none h.so_far h.has.placing)
+    ∙ ap (planned b (drop (suc i) es)) (no.none h.so_far h.has.placing)
     ∙ planned_none b (drop (suc i) es)
 
 -- ---- at first

@@ -12,7 +12,7 @@ use Rattle.js_base.specs.declared.spot.Spot.{Spot}
 use Rattle.js_model.specs.declared.stream.Message.{Message}
 use Rattle.effects.specs.declared.effect.Effect.{Effect}
 use Rattle.effects.specs.declared.effect.Effect.TheVariants.{MakeStream, ChangeStream, DropStream, PutHere, Skip, Remove, MakeConsumer, DropConsumer, Deliver, Acked, Due, GivenUp, Now}
-use Rattle.op_records.specs.Allowed.{is_record}
+use Rattle.op_records.specs.Allowed.{is_record, is_text}
 use Rattle.op_records.specs.Blocks.{is_block_message, spelled_message}
 use Rattle.op_records.specs.declared.record.Record.{Record}
 use Rattle.op_records.specs.declared.record.Record.TheVariants.{Put, Change}
@@ -279,9 +279,9 @@ pub record IsSound (b : Blocks) (es : List Effect) (so_far : Planned) : Type 0 w
 
 zip_push : {X Y : Type 0} (R : X → Y → Type 0) (xs : List X) (ys : List Y) (x : X) (y : Y) → AllZip R xs ys → R x y → AllZip R (xs ++ x ∷ []) (ys ++ y ∷ [])
 zip_push R [] [] x y h r = (r, tt)
-zip_push R (a ∷ as) (c ∷ cs) x y h r = (h.0, zip_push R as cs x y h.1 r)
-zip_push R [] (c ∷ cs) x y h r = absurd h
-zip_push R (a ∷ as) [] x y h r = absurd h
+zip_push R (a ∷ us) (c ∷ vs) x y h r = (h.0, zip_push R us vs x y h.1 r)
+zip_push R [] (c ∷ vs) x y h r = absurd h
+zip_push R (a ∷ us) [] x y h r = absurd h
 
 zip_weaker : {X Y : Type 0} (R S : X → Y → Type 0) → ((x : X) (y : Y) → R x y → S x y) → (xs : List X) (ys : List Y) → AllZip R xs ys → AllZip S xs ys
 zip_weaker R S more [] [] h = h
@@ -351,6 +351,14 @@ put_allowed seq at id subject headers payload is =
     let text = and_parts _ _ header.0 in
     let name = and_parts _ _ text.0 in
     and_from _ _ (and_from _ _ (and_from _ _ name.0 text.1) header.1) fits.1
+
+-- and its id
+pub id_allowed : (seq at : ℕ) (id subject headers payload : Bytes) → IsTrue (is_record (PutHere seq at id subject headers payload)) → IsTrue (is_text id)
+id_allowed seq at id subject headers payload is =
+    let fits = and_parts _ _ is in
+    let header = and_parts _ _ fits.0 in
+    let text = and_parts _ _ header.0 in
+    (and_parts _ _ text.0).1
 
 sound_one : (b : Blocks) (es : List Effect) (so_far next : Planned) (e : Effect) → IsTrue (is_record e) → IsSound b es so_far → planned_one b so_far e ≡ Some next → IsSound b (es ++ e ∷ []) next
 sound_one b es so_far next (MakeStream incarnation made config) may s h = subst (IsSound b (es ++ MakeStream incarnation made config ∷ [])) (cc) (sound_restart b es so_far s (MakeStream incarnation made config) tt)
