@@ -113,12 +113,12 @@ kept_of b es made old new h stand changes =
 drop_behind : (xs ys : Bytes) (n at : ℕ) → at ≡ length xs + n → drop at (xs ++ ys) ≡ drop n ys
 drop_behind xs ys n at is = ap (λ (k : ℕ). drop k (xs ++ ys)) is ∙ go xs
   where
+    drop_one : (k z : ℕ) (zs : Bytes) → drop (1 + k) (z ∷ zs) ≡ drop k zs
+    drop_one k z zs = ap (λ (j : ℕ). drop j (z ∷ zs)) (one-add k)
+
     go : (zs : Bytes) → drop (length zs + n) (zs ++ ys) ≡ drop n ys
     go [] = let none : length [] + n ≡ n = omega arith in ap (λ (k : ℕ). drop k ys) none
     go (z ∷ zs) = let more : length (z ∷ zs) + n ≡ 1 + (length zs + n) = omega arith in ap (λ (k : ℕ). drop k (z ∷ (zs ++ ys))) more ∙ drop_one (length zs + n) z (zs ++ ys) ∙ go zs
-
-    drop_one : (k z : ℕ) (zs : Bytes) → drop (1 + k) (z ∷ zs) ≡ drop k zs
-    drop_one k z zs = ap (λ (j : ℕ). drop j (z ∷ zs)) (one-add k)
 
 -- bytes that begin with what was in front of a run, and then the run
 abbrev Starts : Disk → Files → Run → Type 0

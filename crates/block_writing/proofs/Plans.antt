@@ -52,10 +52,6 @@ placed_is (Some (s, q)) spot old new is rest = ap (λ (x : Spot). Some (x, q)) (
     same : (x y : Spot) → Some y ≡ Some x → x ≡ y
     same x y e = cc
 
-pub placed_none : (o : Option (Spot × Placing)) → None ≡ option_map (λ (r : Spot × Placing). r.0) o → o ≡ None
-placed_none None is = refl
-placed_none (Some r) is = cc
-
 -- a block being written in a file that a record can tell
 pub record IsTold (spot : Spot) (q : Placing) : Type 0 where
   pub file : spot.file ≤ 65535
@@ -69,18 +65,6 @@ told b len p spot q writes e = go (spot_is b len p spot q e)
         let low : h.block.file ≤ 65535 = subst (λ (o : Option Block). IfSome o (λ k. k.file ≤ 65535)) h.writes writes in
         record { file = subst (λ (x : Spot). x.file ≤ 65535) (sym h.spot_is) low; block = subst WritesBlock (sym h.rest_is) low }
     go (inr h) = record { file = subst (λ (x : Spot). x.file ≤ 65535) (sym h.spot_is) h.high; block = subst WritesBlock (sym h.rest_is) h.high }
-
--- the record of a message may stand in a log
-pub put_stands : (m : Message) (id : Bytes) (spot : Spot) → IsTrue (is_block_message m) → IsTrue (is_text id) → spot.file ≤ 65535 → spot.at < 2 ^ 32 → spot.len < 2 ^ 32 →
-    IsTrue (may_stand (Put m.seq m.at id spot))
-put_stands m id spot may text file at len =
-    let fits = and_parts _ _ may in
-    let header = and_parts _ _ fits.0 in
-    let subject = and_parts _ _ header.0 in
-    and_from _ _ (and_from _ _ subject.0 text)
-    (and_from (nat_lt spot.file (2 ^ 16) && nat_lt spot.at (2 ^ 32)) (nat_lt spot.len (2 ^ 32))
-    (and_from (nat_lt spot.file (2 ^ 16)) (nat_lt spot.at (2 ^ 32)) (lt-ltb spot.file (2 ^ 16) (omega (arith, file))) (lt-ltb spot.at (2 ^ 32) at))
-    (lt-ltb spot.len (2 ^ 32) len))
 
 -- ---- what a plan has then
 
@@ -152,7 +136,7 @@ rest_added b e old new p put make gone batch spots runs = record {
 }
 
 -- and one that makes or drops a stream: they go on in no block
-pub made_added : (b : Blocks) (e : Effect) (incarnation made : ℕ) (config : StreamConfig) (old new : Plan) (p q : Placing) → e ≡ MakeStream incarnation made config → q ≡ restarted p →
+made_added : (b : Blocks) (e : Effect) (incarnation made : ℕ) (config : StreamConfig) (old new : Plan) (p q : Placing) → e ≡ MakeStream incarnation made config → q ≡ restarted p →
     new.batch.items ≡ old.batch.items ++ spelled e → new.spots ≡ old.spots → new.runs ≡ old.runs → IsAdded b e old new p q
 made_added b e incarnation made config old new p q is anew batch spots runs = record {
   step = λ so_far s.
@@ -160,13 +144,18 @@ made_added b e incarnation made config old new p q is anew batch spots runs = re
       (change_planned so_far old new p (restarted so_far.placing) q (MakeStream incarnation made config) s (subst (λ (x : Effect). new.batch.items ≡ old.batch.items ++ spelled x) is batch) spots runs (ap restarted s.placing ∙ sym anew));
 }
 
-pub dropped_added : (b : Blocks) (e : Effect) (old new : Plan) (p q : Placing) → e ≡ DropStream → q ≡ restarted p →
+dropped_added : (b : Blocks) (e : Effect) (old new : Plan) (p q : Placing) → e ≡ DropStream → q ≡ restarted p →
     new.batch.items ≡ old.batch.items ++ spelled e → new.spots ≡ old.spots → new.runs ≡ old.runs → IsAdded b e old new p q
 dropped_added b e old new p q is anew batch spots runs = record {
   step = λ so_far s.
       subst (λ (x : Effect). IsSomeAnd (planned_one b so_far x) (λ next. IsSoFar next new q)) (sym is)
       (change_planned so_far old new p (restarted so_far.placing) q DropStream s (subst (λ (x : Effect). new.batch.items ≡ old.batch.items ++ spelled x) is batch) spots runs (ap restarted s.placing ∙ sym anew));
 }
+
+pub restart_added : (b : Blocks) (e : Effect) (old new : Plan) (p q : Placing) → ((incarnation : ℕ) × (made : ℕ) × (config : StreamConfig) × (e ≡ MakeStream incarnation made config)) ⊎ (e ≡ DropStream) →
+    q ≡ restarted p → new.batch.items ≡ old.batch.items ++ spelled e → new.spots ≡ old.spots → new.runs ≡ old.runs → IsAdded b e old new p q
+restart_added b e old new p q (inl h) anew batch spots runs = made_added b e h.0 h.1 h.2 old new p q h.3 anew batch spots runs
+restart_added b e old new p q (inr h) anew batch spots runs = dropped_added b e old new p q h anew batch spots runs
 
 -- ---- one change after the other
 
@@ -215,11 +204,11 @@ all_planned b es i plan p past h = record {
 -- there is no place for a message
 pub no_plan : (b : Blocks) (es : List Effect) (i : ℕ) (e : Effect) (plan : Plan) (p : Placing) → i < length es → e ≡ get_or es i e → (h : ArePlanned b es i plan p) →
     HasNoSpot b e p → planned b es (Some (begun b)) ≡ None
-no_plan b es i e plan p within is h no =
+no_plan b es i e plan p within is h none =
     ap (λ (l : List Effect). planned b l (Some (begun b))) (sym (parts es i e within is))
     ∙ planned_more b (take i es) (e ∷ drop (suc i) es) (Some (begun b))
     ∙ ap (λ (s : Option Planned). planned b (drop (suc i) es) (then_planned b s e)) h.so_far_is
-    ∙ ap (planned b (drop (suc i) es)) (no.none h.so_far h.has.placing)
+    ∙ ap (planned b (drop (suc i) es)) (none.none h.so_far h.has.placing)
     ∙ planned_none b (drop (suc i) es)
 
 -- ---- at first

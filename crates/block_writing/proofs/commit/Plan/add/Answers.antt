@@ -7,7 +7,7 @@ use Rattle.op_records.specs.Allowed.{is_record, is_text}
 use Rattle.op_records.specs.Blocks.{is_block_message}
 use Rattle.op_records.specs.Spelling.{spelled}
 use Rattle.block_writing.specs.Plans.{IsAdded, IsPut, WritesBlock}
-use Rattle.block_writing.proofs.Plans.{no_spot, put_added, rest_added}
+use Rattle.block_writing.proofs.Plans.{no_spot, put_added, rest_added, restart_added}
 use Rattle.block_writing.proofs.Runs.{id_allowed, put_allowed}
 use Rattle.block_writing.proofs.commit.Plan.add.Goals as goal
 
@@ -49,7 +49,12 @@ returns-in_default c = record {
 }
 
 pub returns-in-MakeStream-clause-ok : goal.returns-in-MakeStream-clause-ok
-returns-in-MakeStream-clause-ok c = let h = c.in-MakeStream.is in ?
+returns-in-MakeStream-clause-ok c =
+    on_ok_weaker {Q = IsAdded c.args.table.now c.args.effect.now c.args.self.now c.change-in-MakeStream.new.self c.args.placing.now c.restart.new.self} c.change-in-MakeStream.result
+    (λ (h : c.change-in-MakeStream.new.self.batch.items ≡ c.args.self.now.batch.items ++ spelled c.args.effect.now).
+      restart_added c.args.table.now c.args.effect.now c.args.self.now c.change-in-MakeStream.new.self c.args.placing.now c.restart.new.self c.in-MakeStream.is c.restart.ensures h
+      c.change-in-MakeStream.ensures.spots c.change-in-MakeStream.ensures.runs)
+    c.change-in-MakeStream.ensures.batch
 
 pub returns-in-MakeStream-clause-no_room : goal.returns-in-MakeStream-clause-no_room
 returns-in-MakeStream-clause-no_room c = λ err. absurd (c.change-in-MakeStream.ensures.room err)
