@@ -58,7 +58,7 @@ pub end_written : (b : Blocks) (k : Block) → IsTable b → b.writing ≡ Some 
 end_written b k table is =
     ap (λ (o : Option Block). end_of_found (find (λ (x : Block). x.file == k.file) (b.older ++ option_to_list o))) is
     ∙ ap end_of_found (find_last (λ (x : Block). x.file == k.file) b.older k
-        (apart_last b.older k (subst (λ (o : Option Block). ApartBlocks (b.older ++ option_to_list o)) is table.apart)) (eq-eqb k.file k.file refl))
+    (apart_last b.older k (subst (λ (o : Option Block). ApartBlocks (b.older ++ option_to_list o)) is table.apart)) (eq-eqb k.file k.file refl))
 
 -- and of a file that is no block
 pub end_free : (b : Blocks) (file : ℕ) → has_block b file ≡ false → end_in b file ≡ 0
@@ -100,9 +100,9 @@ kept_of b es made old new h stand changes =
     in_front file =
         All-weaker (IsPlaced b) (λ (run : Run). run.file ≡ file → length (front_in b old.seen file) ≤ run.at)
         (λ run placed same. (
-          let is = end_placed b run h.table placed in
-          let there : end_in b file ≡ run.at = ap (end_in b) (sym same) ∙ is in
-          omega (arith, there, length-take (end_in b file) (old.seen file))
+        let is = end_placed b run h.table placed in
+        let there : end_in b file ≡ run.at = ap (end_in b) (sym same) ∙ is in
+        omega (arith, there, length-take (end_in b file) (old.seen file))
         )) made.runs (runs_of b es made h).placed
 
     untouched : (file : ℕ) → file < 2 → IsUntouched made.runs file
@@ -117,7 +117,7 @@ drop_behind xs ys n at is = ap (λ (k : ℕ). drop k (xs ++ ys)) is ∙ go xs
     drop_one k z zs = ap (λ (j : ℕ). drop j (z ∷ zs)) (one-add k)
 
     go : (zs : Bytes) → drop (length zs + n) (zs ++ ys) ≡ drop n ys
-    go [] = let none : length [] + n ≡ n = omega arith in ap (λ (k : ℕ). drop k ys) none
+    go [] = let none : 0 + n ≡ n = omega arith in ap (λ (k : ℕ). drop k ys) none
     go (z ∷ zs) = let more : length (z ∷ zs) + n ≡ 1 + (length zs + n) = omega arith in ap (λ (k : ℕ). drop k (z ∷ (zs ++ ys))) more ∙ drop_one (length zs + n) z (zs ++ ys) ∙ go zs
 
 -- bytes that begin with what was in front of a run, and then the run
@@ -230,9 +230,9 @@ written_of b es made old new h stand changes bytes written = record {
         before f =
             All-weaker (IsPlaced b) (λ (run : Run). run.file ≡ f → length (front_in b old.seen f) ≤ run.at)
             (λ run placed same. (
-              let is = end_placed b run h.table placed in
-              let there : end_in b f ≡ run.at = ap (end_in b) (sym same) ∙ is in
-              omega (arith, there, length-take (end_in b f) (old.seen f))
+            let is = end_placed b run h.table placed in
+            let there : end_in b f ≡ run.at = ap (end_in b) (sym same) ∙ is in
+            omega (arith, there, length-take (end_in b f) (old.seen f))
             )) made.runs runs.placed
 
 -- ---- of all disks

@@ -1,4 +1,4 @@
-use Rattle.std.proofs.Common.{◌≡◌, sym, ◌∙◌, arith}
+use Rattle.std.proofs.Common.{sym, ◌∙◌, arith}
 use Rattle.block_writing.proofs.Written.{one_dropped}
 use Rattle.block_writing.proofs.dropping.drop_unused.Goals as goal
 use Rattle.block_writing.proofs.dropping.drop_unused.Goals.{then-not-has_block+in_ok-drop_block, else-not-has_block}

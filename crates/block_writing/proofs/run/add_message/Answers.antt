@@ -1,4 +1,4 @@
-use Rattle.std.proofs.Common.{◌≡◌, ◌++◌, ◌∷◌, [], List, OnOk, ap, ◌∙◌}
+use Rattle.std.proofs.Common.{◌≡◌, ◌++◌, ◌∷◌, [], List, ap, ◌∙◌}
 use Rattle.std.proofs.lemmas.Result.{on_ok_weaker}
 use Rattle.js_base.specs.Bytes.{Bytes}
 use Rattle.op_records.specs.Blocks.{spelled_message}
@@ -13,8 +13,8 @@ returns-then-last-spot c =
     record {
       ok = on_ok_weaker {Q = c.begin_run-then-last-spot.new.runs.items ≡ with_message c.args.runs.now.items c.args.spot bytes} c.begin_run-then-last-spot.result
           (λ (e : c.begin_run-then-last-spot.new.runs.items ≡ c.push.new.self.items ++ run_at c.args.spot bytes ∷ []).
-            e ∙ ap (λ (l : List Run). l ++ run_at c.args.spot bytes ∷ []) c.in_ok-push.ensures.items
-            ∙ added_other c.args.runs.now.items c.pop.new.self.items c.in-Some.last c.args.spot bytes c.in-Some.ensures.items c.if-last-spot.true)
+          e ∙ ap (λ (l : List Run). l ++ run_at c.args.spot bytes ∷ []) c.in_ok-push.ensures.items
+          ∙ added_other c.args.runs.now.items c.pop.new.self.items c.in-Some.last c.args.spot bytes c.in-Some.ensures.items c.if-last-spot.true)
           c.begin_run-then-last-spot.ensures.ok;
     }
 

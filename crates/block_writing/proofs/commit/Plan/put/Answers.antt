@@ -1,4 +1,3 @@
-use Rattle.std.proofs.Common.{◌≡◌, ◌≤◌}
 use Rattle.block_table.specs.Placings.{place}
 use Rattle.block_writing.proofs.Plans.{placed_is, told}
 use Rattle.block_writing.proofs.commit.Plan.put.Goals as goal
