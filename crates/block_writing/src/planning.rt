@@ -6,8 +6,8 @@ ghost use Rattle.op_records.specs.Allowed.{is_record};
 ghost use Rattle.block_writing.specs.Planning.{begun, planned};
 ghost use Rattle.block_writing.specs.Plans.{IsPlan};
 
+use crate::commit::Plan;
 use crate::fault::PlanFault;
-use crate::plan::Plan;
 use block_table::BlockTable;
 use effects::Effect;
 use std::alloc::Global;
