@@ -111,7 +111,7 @@ impl Plan {
         add_message(alloc, &mut self.runs, spot, message)
     }
 
-    /// Adds a message that is stored with this id, at the next spot. `NoRoom` comes exactly if there is none. An `Err` may leave some of it.
+    /// Adds a message that is stored with this id, at the next spot. `NoRoom` comes only if there is none. An `Err` may leave some of it.
     fn put(
         &mut self,
         alloc: Global,
@@ -134,7 +134,7 @@ impl Plan {
         Ok(())
     }
 
-    /// Adds a change, and its message if it stores one. `NoRoom` comes exactly if there is no spot for that. An `Err` may leave some of it.
+    /// Adds a change, and its message if it stores one. `NoRoom` comes only if there is no spot for that. An `Err` may leave some of it.
     pub(crate) fn add(
         &mut self,
         alloc: Global,
