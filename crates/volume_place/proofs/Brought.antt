@@ -1,5 +1,5 @@
 -- What it comes to that all that waits is committed.
-use Rattle.std.proofs.Common.{◌≡◌, ◌≢◌, ◌≤◌, ◌<◌, ◌^◌, ◌⊎◌, inl, inr, ℕ, List, [], Option, Some, None, refl, sym, ap, subst, ◌∙◌, arith}
+use Rattle.std.proofs.Common.{◌≡◌, ◌≢◌, ◌≤◌, ◌<◌, ◌^◌, ◌⊎◌, inl, inr, ℕ, ◌+◌, List, [], length, Option, Some, None, refl, sym, ap, subst, ◌∙◌, arith}
 use Rattle.std.specs.Prelude.{IsTrue, unwrap_or}
 use Rattle.std.specs.List.{list_all}
 use Rattle.std.proofs.Math.Nat.{le_refl}
@@ -29,6 +29,12 @@ use Rattle.volume_place.specs.Laws.{only_held}
 use Rattle.volume_place.specs.Seeing.{IsFull, seen_of}
 use Rattle.volume_place.specs.Sound.{IsBacked, IsLeftByBoth, IsOnDisk, IsSoundPlace}
 use Rattle.volume_place.proofs.Bases.{flushed_base, lasts_twice, left_base, read_base}
+use Rattle.block_table.specs.Blocks.{Blocks, blocks}
+use Rattle.stream_store.specs.Placing.{can_place, used_behind}
+use Rattle.stream_store.proofs.Counting.{law_counting}
+use Rattle.stream_store.proofs.Rooms.{law_placing}
+use Rattle.volume_place.specs.Rooms.{MayStore}
+use Rattle.volume_place.proofs.Storing.{has_blocks, may_store}
 
 -- Of a place that goes on.
 module _ {V : Type 0} (told : Type 0) (disk : V → Disk) (faults : V → ℕ) (clocked : (vol : V) → IsClocked (disk vol)) (x : Contents V) (going : x.stopped ≡ None)
@@ -73,7 +79,7 @@ module _ {V : Type 0} (told : Type 0) (disk : V → Disk) (faults : V → ℕ) (
 
   -- memory ran out
   pub unbrought : (store : StoreState) (vol : V) (waiting : List Effect) → store ≡ x.store → vol ≡ x.vol → waiting ≡ x.waiting
-      → Unflushed (seen_of told disk faults x) (seen_of told disk faults (record { state = x.state; store = store; vol = vol; waiting = waiting; stopped = x.stopped }))
+      → Unflushed (seen_of told disk faults x) (seen_of told disk faults (record { state = x.state; store = store; vol = vol; waiting = waiting; stored = x.stored; stopped = x.stopped }))
   unbrought store vol waiting same_store same waits = record {
     going = going;
     rests = record {
@@ -84,7 +90,7 @@ module _ {V : Type 0} (told : Type 0) (disk : V → Disk) (faults : V → ℕ) (
       waiting = waits;
       outs = refl;
     };
-    volume = leaves (record { state = x.state; store = store; vol = vol; waiting = waiting; stopped = x.stopped }) same same_store;
+    volume = leaves (record { state = x.state; store = store; vol = vol; waiting = waiting; stored = x.stored; stopped = x.stopped }) same same_store;
   }
 
   pub unbrought_sound : (store : StoreState) (vol : V) (waiting : List Effect) → store ≡ x.store → vol ≡ x.vol → waiting ≡ x.waiting
@@ -128,7 +134,7 @@ module _ {V : Type 0} (told : Type 0) (disk : V → Disk) (faults : V → ℕ) (
 
     -- of what stands the volume holds what outlives a crash
     holds_next : (image : Image) → Holds image (durable_of x.state) → holds image (lasting x.state)
-    holds_next image k = (subst (Holds image) (sym (held x.state)) k, lasts_twice x.state)
+    holds_next image k = (subst (λ (d : Durable). Holds image d) (sym (held x.state)) k, lasts_twice x.state)
 
     -- a commit was tried, by which the volume came to this
     module _ (vol : V) (later : (disk x.vol).moment ≤ (disk vol).moment) (any : told → CommitsOrNot x.store effects (disk x.vol) (disk vol)) where
@@ -182,7 +188,7 @@ module _ {V : Type 0} (told : Type 0) (disk : V → Disk) (faults : V → ℕ) (
           go t (inr next) = inr (only_held on.image b (lasting x.state) on.held next)
 
       pub fails : (store : StoreState) (waiting : List Effect) (count : ℕ) → count ≡ faults vol → Rose (faults x.vol) (faults vol) → length_with x.store effects ≤ 2 ^ 31
-          → FailsFlush (seen_of told disk faults x) (seen_of told disk faults (record { state = x.state; store = store; vol = vol; waiting = waiting; stopped = Some count }))
+          → FailsFlush (seen_of told disk faults x) (seen_of told disk faults (record { state = x.state; store = store; vol = vol; waiting = waiting; stored = x.stored; stopped = Some count }))
       fails store waiting count is rose short = record {
         keeps = record { going = going; state = refl; stored = refl };
         stops = ap (λ (n : ℕ). Some n) is;
@@ -193,13 +199,13 @@ module _ {V : Type 0} (told : Type 0) (disk : V → Disk) (faults : V → ℕ) (
 
     -- the log is too full for it
     pub fills : (store : StoreState) (vol : V) (waiting : List Effect) (count : ℕ) → count ≡ faults vol → store ≡ x.store → vol ≡ x.vol → x.waiting ≢ [] → 2 ^ 31 < length_with x.store effects
-        → FillsFlush (seen_of told disk faults x) (seen_of told disk faults (record { state = x.state; store = store; vol = vol; waiting = waiting; stopped = Some count }))
+        → FillsFlush (seen_of told disk faults x) (seen_of told disk faults (record { state = x.state; store = store; vol = vol; waiting = waiting; stored = x.stored; stopped = Some count }))
     fills store vol waiting count is same_store same some long = record {
       keeps = record { going = going; state = refl; stored = refl };
       stops = ap (λ (n : ℕ). Some n) is;
       cause = (some, subst (λ (l : List Effect). 2 ^ 31 < length_with x.store l) are long);
       base = λ b on. keeps b (subst (λ (v : V). IsLeftNow told disk v b) same on);
-      volume = leaves (record { state = x.state; store = store; vol = vol; waiting = waiting; stopped = Some count }) same same_store;
+      volume = leaves (record { state = x.state; store = store; vol = vol; waiting = waiting; stored = x.stored; stopped = Some count }) same same_store;
     }
       where
         keeps : (b : State) → IsLeftNow told disk x.vol b → base told disk x.stopped x.vol b
@@ -221,7 +227,7 @@ module _ {V : Type 0} (told : Type 0) (disk : V → Disk) (faults : V → ℕ) (
           }
 
       pub brings : (waiting : List Effect) → waiting ≡ [] → length_with x.store effects ≤ 2 ^ 31
-          → Flushed (seen_of told disk faults x) (seen_of told disk faults (record { state = x.state; store = store; vol = vol; waiting = waiting; stopped = x.stopped }))
+          → Flushed (seen_of told disk faults x) (seen_of told disk faults (record { state = x.state; store = store; vol = vol; waiting = waiting; stored = x.stored; stopped = x.stopped }))
       brings waiting none short = record {
         keeps = record { going = going; state = refl; stored = refl };
         goes = going;
@@ -237,3 +243,28 @@ module _ {V : Type 0} (told : Type 0) (disk : V → Disk) (faults : V → ℕ) (
           subst (λ (l : List Effect). IsSoundPlace told (disk vol) store l x.stopped x.state) (sym none)
           (subst (λ (p : Option ℕ). IsSoundPlace told (disk vol) store [] p x.state) (sym going)
           (record { sound = h.sound; bounded = h.bounded; restorable = h.restorable; records = refl; on_disk = backs }))
+
+-- ---- the places in blocks of what waits
+
+-- memory ran out
+pub unbrought_blocks : (old new : StoreState) (before waiting : List Effect) (stored : ℕ) (stopped : Option ℕ) → new ≡ old → waiting ≡ before → MayStore stopped old.blocks before stored
+    → MayStore stopped new.blocks waiting stored
+unbrought_blocks old new before waiting stored stopped same waits h =
+    subst (λ (s : StoreState). MayStore stopped s.blocks waiting stored) (sym same) (subst (λ (l : List Effect). MayStore stopped old.blocks l stored) (sym waits) h)
+
+-- it was committed
+pub brought_blocks : (b : Blocks) (store : StoreState) (effects waiting before : List Effect) (stored : ℕ) (stopped : Option ℕ) → stopped ≡ None → MayStore stopped b before stored → effects ≡ before
+    → waiting ≡ [] → length (blocks store.blocks) ≤ used_behind b effects → MayStore stopped store.blocks waiting stored
+brought_blocks b store effects waiting before stored stopped going h are none fewer =
+    may_store store.blocks waiting stored stopped going (record {
+      placed = ap (can_place store.blocks) none ∙ law_placing.none store.blocks;
+      few = λ few.
+          let used : used_behind store.blocks waiting ≡ length (blocks store.blocks) = ap (used_behind store.blocks) none ∙ law_counting.none store.blocks in
+          let most = (has_blocks b before stored stopped going h).few few in
+          let same : used_behind b effects ≡ used_behind b before = ap (used_behind b) are in
+          omega (arith, used, most, same, fewer);
+    })
+
+-- a commit may be made
+pub places_of : (b : Blocks) (effects before : List Effect) (stored : ℕ) (stopped : Option ℕ) → stopped ≡ None → MayStore stopped b before stored → effects ≡ before → IsTrue (can_place b effects)
+places_of b effects before stored stopped going h are = ap (can_place b) are ∙ (has_blocks b before stored stopped going h).placed

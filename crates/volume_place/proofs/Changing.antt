@@ -39,7 +39,7 @@ use Rattle.effects.proofs.Unwritten.{law_no_records}
 use Rattle.restore_laws.proofs.Holding.{opened}
 use Rattle.place_engine.specs.Places.{ids_in}
 use Rattle.volume_place.specs.Tail.{is_moment, is_now}
-use Rattle.volume_place.proofs.Growing.{step_of}
+use Rattle.volume_place.proofs.Growing.{many, step_of}
 
 -- ---- states of which the same outlives a crash
 
@@ -121,9 +121,9 @@ advance_again : (s : Stream) (now : ℕ) → advance (record s { moment = max s.
 unfolding advance
 advance_again s now = ap (stream_at s) (max_again s.moment now)
 
-answers_again : (s : Stream) (e : Event) (now : ℕ) → (answered (Live s) e now true).state ≡ (answered (Live (record s { moment = max s.moment now })) e now true).state
+answers_again : (s : Stream) (e : Event) (now : ℕ) (room : Bool) → (answered (Live s) e now room).state ≡ (answered (Live (record s { moment = max s.moment now })) e now room).state
 unfolding answered
-answers_again s e now = ap (λ (t : Stream). settled_state (stream_answer t e.what true).state) (sym (advance_again s now))
+answers_again s e now room = ap (λ (t : Stream). settled_state (stream_answer t e.what room).state) (sym (advance_again s now))
 
 nil_parts : {X : Type 0} (xs ys : List X) → xs ++ ys ≡ [] → (xs ≡ []) × (ys ≡ [])
 nil_parts [] ys e = (refl, e)
@@ -134,22 +134,22 @@ alone : {X : Type 0} (first second third : List X) → second ≡ [] → third �
 alone first second third a b = ap (λ l. (first ++ l) ++ third) a ∙ ap (λ l. (first ++ []) ++ l) b ∙ append-nil (first ++ []) ∙ append-nil first
 
 -- if it has no record then, it has no more than the moment before
-only_moment : (s : Stream) (e : Event) (now : ℕ) → event_effects (Live (record s { moment = max s.moment now })) e.what now true ≡ [] → is_moment (event_effects (Live s) e.what now true) ≡ true
-only_moment s e now none = ap is_moment told ∙ go ((s.moment == max s.moment now) && not (has_spent_ids s (max s.moment now)))
+only_moment : (s : Stream) (e : Event) (now : ℕ) (room : Bool) → event_effects (Live (record s { moment = max s.moment now })) e.what now room ≡ [] → is_moment (event_effects (Live s) e.what now room) ≡ true
+only_moment s e now room none = ap is_moment told ∙ go ((s.moment == max s.moment now) && not (has_spent_ids s (max s.moment now)))
   where
     t : Stream
     t = record s { moment = max s.moment now }
 
-    parts : (time_effects t now ≡ []) × (live_effects (advance t now) e.what true ≡ [])
-    parts = nil_parts (time_effects t now) (live_effects (advance t now) e.what true) none
+    parts : (time_effects t now ≡ []) × (live_effects (advance t now) e.what room ≡ [])
+    parts = nil_parts (time_effects t now) (live_effects (advance t now) e.what room) none
 
     passed : effects_at t (max s.moment now) ≡ []
     passed = ap (effects_at t) (sym (max_again s.moment now)) ∙ parts.0
 
-    told : event_effects (Live s) e.what now true ≡ now_effects s (max s.moment now)
-    told = alone (now_effects s (max s.moment now)) _ (live_effects (advance s now) e.what true)
+    told : event_effects (Live s) e.what now room ≡ now_effects s (max s.moment now)
+    told = alone (now_effects s (max s.moment now)) _ (live_effects (advance s now) e.what room)
         (nil_parts (now_effects t (max s.moment now)) _ passed).1
-        (ap (λ (u : Stream). live_effects u e.what true) (sym (advance_again s now)) ∙ parts.1)
+        (ap (λ (u : Stream). live_effects u e.what room) (sym (advance_again s now)) ∙ parts.1)
 
     go : (b : Bool) → is_moment (cond b [] (effects.Now (max s.moment now) ∷ [])) ≡ true
     go true = refl
@@ -212,18 +212,18 @@ bounded_at s now moment b = record {
 -- ---- both ways
 
 -- nothing but the moment changes: there is no other record
-rests_only : (old new : State) (e : Event) (now : ℕ) → e.incarnation ≡ kept_incarnation old → IsTrue (is_proper e) → now < 2 ^ 62 → new ≡ (answered old e now true).state
-    → IsSound old → IsBounded old → at_moment (lasting old) (moment_of new) ≡ lasting new → is_moment (event_effects old e.what now true) ≡ true
+rests_only : (old new : State) (e : Event) (now : ℕ) (room : Bool) → e.incarnation ≡ kept_incarnation old → IsTrue (is_proper e) → now < 2 ^ 62 → new ≡ (answered old e now room).state
+    → IsSound old → IsBounded old → at_moment (lasting old) (moment_of new) ≡ lasting new → is_moment (event_effects old e.what now room) ≡ true
 unfolding step_of
-rests_only (Vacant i) new e now kept proper moment is h b same =
-    ap is_moment ((law_no_records 0 (Vacant i) new e now (answered (Vacant i) e now true).reply (answered (Vacant i) e now true).outs (step_of (Vacant i) new e now kept proper moment is) h b).1 same)
-rests_only (Live s) new e now kept proper moment is h b same =
+rests_only (Vacant i) new e now room kept proper moment is h b same =
+    ap is_moment ((law_no_records many (Vacant i) new e now (answered (Vacant i) e now room).reply (answered (Vacant i) e now room).outs (step_of (Vacant i) new e now room kept proper moment is) h b).1 same)
+rests_only (Live s) new e now room kept proper moment is h b same =
     let t = record s { moment = max s.moment now } in
-    let first = step_of (Live s) new e now kept proper moment is in
-    let again = step_of (Live t) new e now kept proper moment (is ∙ answers_again s e now) in
-    let at = event_moment s new e now (answered (Live s) e now true).reply (answered (Live s) e now true).outs first.event in
-    only_moment s e now
-    ((law_no_records 0 (Live t) new e now (answered (Live t) e now true).reply (answered (Live t) e now true).outs again (sound_at s (max s.moment now) h) (bounded_at s now moment b)).1
+    let first = step_of (Live s) new e now room kept proper moment is in
+    let again = step_of (Live t) new e now room kept proper moment (is ∙ answers_again s e now room) in
+    let at = event_moment s new e now (answered (Live s) e now room).reply (answered (Live s) e now room).outs first.event in
+    only_moment s e now room
+    ((law_no_records many (Live t) new e now (answered (Live t) e now room).reply (answered (Live t) e now room).outs again (sound_at s (max s.moment now) h) (bounded_at s now moment b)).1
     (same_then s new (max s.moment now) at same))
 
 now_in : (effect : Effect) → is_now effect ≡ true → (moment : ℕ) × (effect ≡ effects.Now moment)
@@ -251,11 +251,11 @@ told_only old new (effect ∷ []) same_ids leads none is =
 told_only old new (effect ∷ next ∷ more) same_ids leads none is = absurd (true≢false (sym is))
 
 -- more than the moment changes just if there is another record, or there are fewer ids
-pub changed_by : (old new : State) (e : Event) (now : ℕ) → e.incarnation ≡ kept_incarnation old → IsTrue (is_proper e) → now < 2 ^ 62 → new ≡ (answered old e now true).state
-    → IsSound old → IsBounded old → (more fewer : Bool) → more ≡ not (is_moment (event_effects old e.what now true)) → fewer ≡ nat_lt (length (ids_in new)) (length (ids_in old))
+pub changed_by : (old new : State) (e : Event) (now : ℕ) (room : Bool) → e.incarnation ≡ kept_incarnation old → IsTrue (is_proper e) → now < 2 ^ 62 → new ≡ (answered old e now room).state
+    → IsSound old → IsBounded old → (more fewer : Bool) → more ≡ not (is_moment (event_effects old e.what now room)) → fewer ≡ nat_lt (length (ids_in new)) (length (ids_in old))
     → Decides (more || fewer) (Changes old new)
 unfolding step_of
-changed_by old new e now kept proper moment is h b more fewer more_is fewer_is =
+changed_by old new e now room kept proper moment is h b more fewer more_is fewer_is =
     (λ is same. true≢false (sym is ∙ none_of same), λ changes. go (more || fewer) refl changes)
   where
     Same : Type 0
@@ -263,18 +263,18 @@ changed_by old new e now kept proper moment is h b more fewer more_is fewer_is =
 
     none_of : Same → (more || fewer) ≡ false
     none_of same =
-        ap (λ (c : Bool). c || fewer) (more_is ∙ ap not (rests_only old new e now kept proper moment is h b same))
+        ap (λ (c : Bool). c || fewer) (more_is ∙ ap not (rests_only old new e now room kept proper moment is h b same))
         ∙ fewer_is
         ∙ even_ids old new same
 
-    step : IsStep 0 old e now (answered old e now true).reply (answered old e now true).outs new
-    step = step_of old new e now kept proper moment is
+    step : IsStep many old e now (answered old e now room).reply (answered old e now room).outs new
+    step = step_of old new e now room kept proper moment is
 
     same_of : (more ≡ false) × (fewer ≡ false) → Same
     same_of none =
-        told_only old new (event_effects old e.what now true) (sym fewer_is ∙ none.1) (law_events 0 old new e now (answered old e now true).reply (answered old e now true).outs step h b)
-        (law_no_records 0 old new e now (answered old e now true).reply (answered old e now true).outs step h b).0
-        (not_not (is_moment (event_effects old e.what now true)) (sym more_is ∙ none.0))
+        told_only old new (event_effects old e.what now room) (sym fewer_is ∙ none.1) (law_events many old new e now (answered old e now room).reply (answered old e now room).outs step h b)
+        (law_no_records many old new e now (answered old e now room).reply (answered old e now room).outs step h b).0
+        (not_not (is_moment (event_effects old e.what now room)) (sym more_is ∙ none.0))
       where
         not_not : (c : Bool) → not c ≡ false → c ≡ true
         not_not true e = refl
@@ -289,9 +289,9 @@ changed_by old new e now kept proper moment is h b more fewer more_is fewer_is =
     go false e changes = absurd (changes (same_of (neither more fewer e)))
 
 -- as a place tells it, by the records and the ids that it counts
-pub told_changes : (old new : State) (e : Event) (now : ℕ) → e.incarnation ≡ kept_incarnation old → IsTrue (is_proper e) → now < 2 ^ 62 → new ≡ (answered old e now true).state
-    → IsSound old → IsBounded old → (made : List Effect) → made ≡ event_effects old e.what now true → (more changes : Bool) → more ≡ not (is_moment made)
+pub told_changes : (old new : State) (e : Event) (now : ℕ) (room : Bool) → e.incarnation ≡ kept_incarnation old → IsTrue (is_proper e) → now < 2 ^ 62 → new ≡ (answered old e now room).state
+    → IsSound old → IsBounded old → (made : List Effect) → made ≡ event_effects old e.what now room → (more changes : Bool) → more ≡ not (is_moment made)
     → changes ≡ (more || nat_lt (length (ids_in new)) (length (ids_in old))) → Decides changes (Changes old new)
-told_changes old new e now kept proper moment is h b made records more changes more_is changes_is =
+told_changes old new e now room kept proper moment is h b made records more changes more_is changes_is =
     subst (λ (c : Bool). Decides c (Changes old new)) (sym changes_is)
-    (changed_by old new e now kept proper moment is h b more (nat_lt (length (ids_in new)) (length (ids_in old))) (more_is ∙ ap (λ (l : List Effect). not (is_moment l)) records) refl)
+    (changed_by old new e now room kept proper moment is h b more (nat_lt (length (ids_in new)) (length (ids_in old))) (more_is ∙ ap (λ (l : List Effect). not (is_moment l)) records) refl)

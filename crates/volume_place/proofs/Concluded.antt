@@ -1,11 +1,10 @@
 -- What it comes to that what waits is committed, or waits on.
-use Rattle.std.proofs.Common.{◌≡◌, ◌≢◌, ◌⊎◌, ◌≤◌, ◌<◌, ◌+◌, ◌^◌, inl, inr, ℕ, Bool, true, false, List, [], length, None, Some, Result, Ok, Err, refl, sym, arith}
+use Rattle.std.proofs.Common.{◌≡◌, ◌≢◌, ◌⊎◌, ◌≤◌, ◌<◌, ◌+◌, ◌^◌, inl, inr, ℕ, Bool, true, false, List, [], None, Some, Result, Ok, Err, refl, sym, arith}
 use Rattle.std.specs.Prelude.{◌↔◌, IsTrue, MatchBool}
-use Rattle.std.specs.List.{flat_map}
 use Rattle.std.proofs.lemmas.Bool.{true≢false}
 use Rattle.vol_disk.specs.Disk.{Disk}
 use Rattle.effects.specs.declared.effect.Effect.{Effect}
-use Rattle.op_records.specs.Spelling.{spelled}
+use Rattle.stream_store.specs.Committing.{batch_length}
 use Rattle.stream_store.specs.StoreState.{StoreState}
 use Rattle.stream_store.specs.declared.fault.CommitFault.{CommitFault}
 use Rattle.stream_store.specs.declared.fault.CommitFault.TheVariants.{NoMemory, Fault, Full}
@@ -49,13 +48,13 @@ module _ (store : StoreState) (waiting : List Effect) (small : is_small waiting 
   nothing_waits none = record { small = small; fits = λ full. full.0 none }
 
   -- the log has room, or not, for so many bytes
-  pub room_tells : (bytes : ℕ) (fits : Bool) → bytes ≡ length (flat_map spelled waiting) → waiting ≢ [] → IsTrue fits ↔ (store.log.end + 6 + bytes ≤ 2 ^ 31)
+  pub room_tells : (bytes : ℕ) (fits : Bool) → bytes ≡ batch_length waiting → waiting ≢ [] → IsTrue fits ↔ (store.log.end + 6 + bytes ≤ 2 ^ 31)
       → MatchBool fits (MayWait store waiting) (MustNotWait store waiting)
   room_tells bytes true are some told = record {
     small = small;
     fits = λ full.
         let within : store.log.end + 6 + bytes ≤ 2 ^ 31 = told.0 refl in
-        let beyond : 2 ^ 31 < store.log.end + 6 + length (flat_map spelled waiting) = full.1 in
+        let beyond : 2 ^ 31 < store.log.end + 6 + batch_length waiting = full.1 in
         omega (arith, within, beyond, are);
   }
   room_tells bytes false are some told =

@@ -33,27 +33,27 @@ module _ {V : Type 0} (told : Type 0) (disk : V → Disk) (faults : V → ℕ) (
   delivery_stopped count now listening outs is = record {
     ends = record { stopped = is; rests = rests_still told disk faults a outs; volume = record { volume = refl; images = λ t image left. left } };
     stored = omega arith;
-    time = no_time told disk faults a a.state a.waiting;
+    time = no_time told disk faults a a.state a.waiting a.stored;
   }
 
   module _ (going : a.stopped ≡ None) where
-    starved : (left : Left) (state : State) (waiting effects : List Effect) (now : ℕ) (listening : List Bytes) (before after : List Out) → LeftBy left a.state now before after state
-        → TellsLeft left a.state now effects → waiting ≡ a.waiting ++ effects
-        → EndsDelivery (Err (NoMemory left)) now listening (seen_of told disk faults a) (seen_of told disk faults (record a { state = state; waiting = waiting })) before after
-    starved Nothing state waiting effects now listening before after leaves tells waits =
-        undone told disk faults a going state waiting before after leaves.0 (waits ∙ ap (λ (l : List Effect). a.waiting ++ l) tells ∙ append-nil a.waiting) leaves.1
-    starved Ticked state waiting effects now listening before after leaves tells waits =
-        passes told disk faults a going state waiting (tick_at a.state) now before after refl leaves (waits ∙ ap (λ (l : List Effect). a.waiting ++ l) tells)
-    starved (Unsaid refused) state waiting effects now listening before after leaves tells waits = absurd leaves
+    starved : (left : Left) (state : State) (waiting effects : List Effect) (stored : ℕ) (now : ℕ) (listening : List Bytes) (before after : List Out) → LeftBy left a.state now before after state
+        → TellsLeft left a.state now effects → waiting ≡ a.waiting ++ effects → stored ≡ a.stored
+        → EndsDelivery (Err (NoMemory left)) now listening (seen_of told disk faults a) (seen_of told disk faults (record a { state = state; waiting = waiting; stored = stored })) before after
+    starved Nothing state waiting effects stored now listening before after leaves tells waits counts =
+        undone told disk faults a going state waiting stored before after leaves.0 (waits ∙ ap (λ (l : List Effect). a.waiting ++ l) tells ∙ append-nil a.waiting) counts leaves.1
+    starved Ticked state waiting effects stored now listening before after leaves tells waits counts =
+        passes told disk faults a going state waiting stored (tick_at a.state) now before after refl leaves (waits ∙ ap (λ (l : List Effect). a.waiting ++ l) tells)
+    starved (Unsaid refused) state waiting effects stored now listening before after leaves tells waits counts = absurd leaves
 
     pub delivery_starves : (left : Left) (m : Contents V) (now : ℕ) (listening : List Bytes) (before after : List Out) → KeepsStore a m → LeftBy left a.state now before after m.state
         → RecordsDelivery (Err left) now a m → Delivers holds (Err (NoMemory left)) now listening (seen_of told disk faults a) (seen_of told disk faults m) before after
     delivery_starves left m now listening before after rests leaves records =
         subst (λ (n : Contents V). Delivers holds (Err (NoMemory left)) now listening (seen_of told disk faults a) (seen_of told disk faults n) before after) (sym rests)
         (record {
-          ends = starved left m.state m.waiting records.effects now listening before after leaves records.told records.waiting;
-          stored = omega arith;
-          time = no_time told disk faults a m.state m.waiting;
+          ends = starved left m.state m.waiting records.effects m.stored now listening before after leaves records.told records.waiting records.counted;
+          stored = omega (arith, records.counted);
+          time = no_time told disk faults a m.state m.waiting m.stored;
         })
 
     -- no consumer is ready
@@ -67,7 +67,7 @@ module _ {V : Type 0} (told : Type 0) (disk : V → Disk) (faults : V → ℕ) (
             none = none.none;
             rests = record {
               state = none.same;
-              stored = refl;
+              stored = records.counted;
               stopped = refl;
               base = λ b on. on;
               waiting = records.waiting ∙ ap (λ (l : List Effect). a.waiting ++ l) records.told ∙ append-nil a.waiting;
@@ -75,15 +75,15 @@ module _ {V : Type 0} (told : Type 0) (disk : V → Disk) (faults : V → ℕ) (
             };
             volume = refl;
           };
-          stored = omega arith;
-          time = no_time told disk faults a m.state m.waiting;
+          stored = omega (arith, records.counted);
+          time = no_time told disk faults a m.state m.waiting m.stored;
         })
 
     -- some delivery is made in memory, and waits
-    module _ (state : State) (waiting : List Effect) (delivery : Delivery) (now : ℕ) (listening : List Bytes) (before middle : List Out)
+    module _ (state : State) (waiting : List Effect) (stored : ℕ) (counted : stored ≡ a.stored) (delivery : Delivery) (now : ℕ) (listening : List Bytes) (before middle : List Out)
         (delivers : DeliversSome a.state now listening delivery before middle state) (waits : waiting ≡ a.waiting ++ delivery_effects a.state now delivery state) where
       abbrev Made : Contents V
-      Made = record a { state = state; waiting = waiting }
+      Made = record a { state = state; waiting = waiting; stored = stored }
 
       cut_back : (after : List Out) → after ≡ take (length before) middle → after ≡ before
       cut_back after is = is ∙ ap (take (length before)) delivers.outs_are ∙ take-append_seam before delivers.sent
@@ -168,13 +168,29 @@ module _ {V : Type 0} (told : Type 0) (disk : V → Disk) (faults : V → ℕ) (
       ends_as (Err (Gone kept)) n after h = absurd h
       ends_as (Err (Worn refused)) n after h = absurd h
 
+      kept_stored : (result : Result (Unit {0}) PlaceFault) (n : Contents V) (after : List Out)
+          → Confirms (Some false) false (length before) result (seen_of told disk faults Made) (seen_of told disk faults n) middle after → n.stored ≡ a.stored
+      kept_stored (Ok done) n after h = go h.0
+        where
+          go : GoesOn (Some false) (seen_of told disk faults Made) (seen_of told disk faults n) → n.stored ≡ a.stored
+          go (inl all) = all.all.keeps.stored ∙ counted
+          go (inr held) = held.rests.rests.stored ∙ counted
+      kept_stored (Err (NoMemory (Unsaid refused))) n after h = h.0.rests.stored ∙ counted
+      kept_stored (Err StoreFault) n after h = h.0.keeps.stored ∙ counted
+      kept_stored (Err Full) n after h = h.0.keeps.stored ∙ counted
+      kept_stored (Err (NoMemory Nothing)) n after h = absurd h
+      kept_stored (Err (NoMemory Ticked)) n after h = absurd h
+      kept_stored (Err (Stopped kept)) n after h = absurd h
+      kept_stored (Err (Gone kept)) n after h = absurd h
+      kept_stored (Err (Worn refused)) n after h = absurd h
+
       delivers_as : (result : Result (Unit {0}) PlaceFault) (n : Contents V) (after : List Out)
           → Confirms (Some false) false (length before) result (seen_of told disk faults Made) (seen_of told disk faults n) middle after
           → Elapses holds (seen_of told disk faults Made) (seen_of told disk faults n)
           → Delivers holds (told_as (Some delivery) result) now listening (seen_of told disk faults a) (seen_of told disk faults n) before after
       delivers_as result n after h time = record {
         ends = ends_as result n after h;
-        stored = omega arith;
+        stored = let same = kept_stored result n after h in omega (arith, same);
         time = record { faults = time.faults; moments = time.moments; generations = time.generations; goes_on = time.goes_on };
       }
 
@@ -186,7 +202,7 @@ module _ {V : Type 0} (told : Type 0) (disk : V → Disk) (faults : V → ℕ) (
         let so_many = subst (λ (k : ℕ). Confirms (Some false) false k result (seen_of told disk faults m) (seen_of told disk faults n) middle after) counts confirms in
         let from = subst (λ (p : Contents V). Confirms (Some false) false (length before) result (seen_of told disk faults p) (seen_of told disk faults n) middle after) rests so_many in
         let waits = records.waiting ∙ ap (λ (l : List Effect). a.waiting ++ l) records.told in
-        delivers_as m.state m.waiting delivery now listening before middle delivers waits result n after from
+        delivers_as m.state m.waiting m.stored records.counted delivery now listening before middle delivers waits result n after from
         (subst (λ (p : Contents V). Elapses holds (seen_of told disk faults p) (seen_of told disk faults n)) rests time)
 
     pub delivery_shares : (m n : Contents V) (delivery : Delivery) (now : ℕ) (listening : List Bytes) (before middle after : List Out) (count : ℕ)
@@ -195,5 +211,5 @@ module _ {V : Type 0} (told : Type 0) (disk : V → Disk) (faults : V → ℕ) (
         → SharesDelivery delivery now (seen_of told disk faults a) (seen_of told disk faults n)
     delivery_shares m n delivery now listening before middle after count rests delivers records confirms =
         let waits = records.waiting ∙ ap (λ (l : List Effect). a.waiting ++ l) records.told in
-        shares m.state m.waiting delivery now listening before middle delivers waits n
+        shares m.state m.waiting m.stored records.counted delivery now listening before middle delivers waits n
         (subst (λ (p : Contents V). GoesOn (Some false) (seen_of told disk faults p) (seen_of told disk faults n)) rests confirms.0)

@@ -1,7 +1,7 @@
 -- A place stays sound as events and deliveries are made and their records wait.
-use Rattle.std.proofs.Common.{◌≡◌, ◌<◌, ◌^◌, ℕ, Bool, true, List, [], ◌∷◌, ◌++◌, Option, Some, None, Result, Ok, Err, refl, sym, ap, subst, ◌∙◌}
+use Rattle.std.proofs.Common.{◌≡◌, ◌<◌, ◌^◌, ℕ, Bool, true, false, List, [], ◌∷◌, ◌++◌, Option, Some, None, Result, Ok, Err, refl, sym, ap, subst, ◌∙◌}
 use Rattle.std.specs.Prelude.{IsTrue, IfErr, IfOk, ◌&&◌, nat_le}
-use Rattle.std.proofs.lemmas.Bool.{and_parts}
+use Rattle.std.proofs.lemmas.Bool.{and_parts, true≢false}
 use Rattle.std.proofs.lemmas.List.{append-nil}
 use Rattle.std.proofs.lemmas.Option.{none-some}
 use Rattle.js_base.specs.Bytes.{Bytes}
@@ -29,21 +29,25 @@ use Rattle.vol_disk.specs.Disk.{Disk}
 use Rattle.effects.specs.Durables.{durable_of}
 use Rattle.stream_store.specs.StoreState.{StoreState}
 use Rattle.stream_store.proofs.Behind.{waiting as waits_more}
-use Rattle.place_engine.specs.Answers.{LeftBy, MayDeliver, PlaceAnswers}
-use Rattle.place_engine.specs.Recording.{TellsEvent, TellsLeft, TellsSent}
+use Rattle.place_engine.specs.Answers.{LeftBy, MayDeliver, PlaceAnswersIn}
+use Rattle.place_engine.specs.Recording.{TellsEventIn, TellsLeft, TellsSent}
 use Rattle.place_engine.specs.declared.faults.Left.{Left}
 use Rattle.place_engine.specs.declared.faults.Left.TheVariants.{Nothing, Ticked, Unsaid}
 use Rattle.volume_place.specs.Sound.{IsOnDisk, IsSoundPlace}
 
 -- ---- an event, and a delivery, as the machine makes them
 
-unfoldable pub step_of : (old new : State) (e : Event) (now : ℕ) → e.incarnation ≡ kept_incarnation old → IsTrue (is_proper e) → now < 2 ^ 62 → new ≡ (answered old e now true).state
-    → IsStep 0 old e now (answered old e now true).reply (answered old e now true).outs new
-step_of old new e now kept proper moment is = record {
-  event = record { kept = kept; room = true; answers = ap (λ (s : State). record (answered old e now true) { state = s }) (sym is) };
+-- as of a place where so many messages count that there may be no block for another one
+abbrev pub many : ℕ
+many = 65533
+
+unfoldable pub step_of : (old new : State) (e : Event) (now : ℕ) (room : Bool) → e.incarnation ≡ kept_incarnation old → IsTrue (is_proper e) → now < 2 ^ 62 → new ≡ (answered old e now room).state
+    → IsStep many old e now (answered old e now room).reply (answered old e now room).outs new
+step_of old new e now room kept proper moment is = record {
+  event = record { kept = kept; room = room; answers = ap (λ (s : State). record (answered old e now room) { state = s }) (sym is) };
   proper = proper;
   moment = moment;
-  free = λ few. refl;
+  free = λ few. absurd (true≢false (sym few));
 }
 
 -- a tick is proper where an event of its incarnation is
@@ -59,20 +63,20 @@ module _ (told : Type 0) (disk : Disk) (store : StoreState) (tail : List Effect)
   grows_on_disk (Some count) effects new none leads both = absurd (none-some count (sym none))
 
   module _ (h : IsSoundPlace told disk store tail stopped old) where
-    pub grown_event : (new : State) (e : Event) (now : ℕ) → e.incarnation ≡ kept_incarnation old → IsTrue (is_proper e) → now < 2 ^ 62 → new ≡ (answered old e now true).state
-        → IsSoundPlace told disk store (tail ++ event_effects old e.what now true) stopped new
+    pub grown_event : (new : State) (e : Event) (now : ℕ) (room : Bool) → e.incarnation ≡ kept_incarnation old → IsTrue (is_proper e) → now < 2 ^ 62 → new ≡ (answered old e now room).state
+        → IsSoundPlace told disk store (tail ++ event_effects old e.what now room) stopped new
     unfolding step_of
-    grown_event new e now kept proper moment is =
-        let reply = (answered old e now true).reply in
-        let outs = (answered old e now true).outs in
-        let step = step_of old new e now kept proper moment is in
+    grown_event new e now room kept proper moment is =
+        let reply = (answered old e now room).reply in
+        let outs = (answered old e now room).outs in
+        let step = step_of old new e now room kept proper moment is in
         let entries = Step 0 e now reply outs true ∷ [] in
         record {
-          sound = law_sound 0 old new entries h.sound (new, step, refl);
-          bounded = law_bounded 0 old new entries h.sound h.bounded (new, step, refl);
-          restorable = restorable_event 0 old new e now reply outs h.restorable step;
-          records = together tail (event_effects old e.what now true) h.records (event_records old e now true proper moment h.sound h.bounded);
-          on_disk = λ t. grows_on_disk stopped (event_effects old e.what now true) new goes (law_events 0 old new e now reply outs step h.sound h.bounded) (h.on_disk t);
+          sound = law_sound many old new entries h.sound (new, step, refl);
+          bounded = law_bounded many old new entries h.sound h.bounded (new, step, refl);
+          restorable = restorable_event many old new e now reply outs h.restorable step;
+          records = together tail (event_effects old e.what now room) h.records (event_records old e now room proper moment h.sound h.bounded);
+          on_disk = λ t. grows_on_disk stopped (event_effects old e.what now room) new goes (law_events many old new e now reply outs step h.sound h.bounded) (h.on_disk t);
         }
 
     pub grown_delivery : (new : State) (now : ℕ) (listening : List Bytes) (d : Delivery) (outs : List Out) → now < 2 ^ 62 → IsDelivered old now listening d outs new
@@ -99,16 +103,16 @@ module _ (told : Type 0) (disk : Disk) (store : StoreState) (tail : List Effect)
     grown_left Nothing new e now before after effects kept proper moment leaves tells = grown_none new effects leaves.0 tells
     grown_left Ticked new e now before after effects kept proper moment leaves tells =
         subst (λ (l : List Effect). IsSoundPlace told disk store (tail ++ l) stopped new) (sym tells)
-        (grown_event new (record e { what = Tick }) now kept (tick_proper e proper) moment (leaves e.incarnation).state_is)
+        (grown_event new (record e { what = Tick }) now true kept (tick_proper e proper) moment (leaves e.incarnation).state_is)
     grown_left (Unsaid refused) new e now before after effects kept proper moment leaves tells = absurd leaves
 
     -- whatever was answered
-    pub grown_answer : (result : Result Reply Left) (new : State) (e : Event) (now : ℕ) (before after : List Out) (effects : List Effect) → e.incarnation ≡ kept_incarnation old → IsTrue (is_proper e)
-        → now < 2 ^ 62 → IfOk result (λ reply. PlaceAnswers old e.what now reply before after new) → IfErr result (λ left. LeftBy left old now before after new) → TellsEvent result old e.what now effects
-        → IsSoundPlace told disk store (tail ++ effects) stopped new
-    grown_answer (Ok reply) new e now before after effects kept proper moment answers leaves tells =
-        subst (λ (l : List Effect). IsSoundPlace told disk store (tail ++ l) stopped new) (sym tells) (grown_event new e now kept proper moment (answers e.incarnation).state_is)
-    grown_answer (Err left) new e now before after effects kept proper moment answers leaves tells = grown_left left new e now before after effects kept proper moment leaves tells
+    pub grown_answer : (result : Result Reply Left) (new : State) (e : Event) (now : ℕ) (room : Bool) (before after : List Out) (effects : List Effect) → e.incarnation ≡ kept_incarnation old → IsTrue (is_proper e)
+        → now < 2 ^ 62 → IfOk result (λ reply. PlaceAnswersIn room old e.what now reply before after new) → IfErr result (λ left. LeftBy left old now before after new)
+        → TellsEventIn room result old e.what now effects → IsSoundPlace told disk store (tail ++ effects) stopped new
+    grown_answer (Ok reply) new e now room before after effects kept proper moment answers leaves tells =
+        subst (λ (l : List Effect). IsSoundPlace told disk store (tail ++ l) stopped new) (sym tells) (grown_event new e now room kept proper moment (answers e.incarnation).state_is)
+    grown_answer (Err left) new e now room before after effects kept proper moment answers leaves tells = grown_left left new e now before after effects kept proper moment leaves tells
 
     -- whatever was delivered; a tick is one for what the place keeps
     pub grown_sent : (result : Result (Option Delivery) Left) (new : State) (now : ℕ) (listening : List Bytes) (before after : List Out) (effects : List Effect)

@@ -10,3 +10,6 @@ mod Steps
 mod Deliveries
 mod Opened
 mod Empty
+mod Plain
+mod Storing
+mod Answering

@@ -1,45 +1,70 @@
--- The length of the records that wait, each of which is measured once.
-use Rattle.std.proofs.Common.{◌≡◌, ℕ, ◌+◌, ◌≤◌, ◌<◌, ◌^◌, Bool, true, false, ◌&&◌, List, [], ◌++◌, length, get_or, take, drop, refl, sym, ap, ◌∙◌, arith}
+-- How long the records that wait are, each of which is measured once.
+use Rattle.std.proofs.Common.{◌≡◌, ◌≢◌, ℕ, ◌+◌, ◌-◌, ◌≤◌, ◌<◌, ◌^◌, Bool, true, false, ◌&&◌, List, [], ◌∷◌, ◌++◌, length, map, get_or, take, drop, refl, sym, ap, subst, ◌∙◌, arith}
 use Rattle.std.specs.Prelude.{IsTrue, nat_lt}
 use Rattle.std.specs.List.{flat_map, list_all}
 use Rattle.std.proofs.lemmas.Bool.{and_parts, le-ltb, lt-ltb}
-use Rattle.std.proofs.lemmas.List.{length-append, take-append-drop, take-append-le, take_all}
+use Rattle.std.proofs.lemmas.List.{length-append, map-append, take-append-drop, take-append-le, take_all, take_more}
 use Rattle.std.proofs.lemmas.List.Concat.{flat_map-append}
 use Rattle.std.proofs.lemmas.List.Folds.{list_all-append}
 use Rattle.js_base.specs.Bytes.{Bytes}
 use Rattle.effects.specs.declared.effect.Effect.{Effect}
+use Rattle.effects.specs.declared.effect.Effect.TheVariants.{MakeStream, ChangeStream, DropStream, PutHere, Skip, Remove, MakeConsumer, DropConsumer, Deliver, Acked, Due, GivenUp, Now}
 use Rattle.op_records.specs.Allowed.{is_record}
-use Rattle.op_records.specs.Spelling.{spelled}
-use Rattle.stream_store.proofs.Records.{record_there, spelled_more}
-use Rattle.volume_place.specs.Measured.{IsMeasured}
+use Rattle.op_records.specs.Spelling.{long, number, spelled, spelled_record, spelled_spot, text}
+use Rattle.op_records.specs.declared.record.Record.{Record}
+use Rattle.stream_store.proofs.Records.{record_there}
+use Rattle.stream_store.specs.Committing.{batch_length, no_spot, recorded_at}
+use Rattle.volume_place.specs.Measured.{AddUp, HaveLengths, IsLong, IsMeasured}
 use Rattle.volume_place.specs.Tail.{is_small}
+use Rattle.volume_place.specs.declared.lengths.Lengths.{Lengths}
+
+-- ---- one behind the other
+
+waiting_both : (xs ys : List Effect) → length (flat_map spelled (xs ++ ys)) ≡ length (flat_map spelled xs) + length (flat_map spelled ys)
+waiting_both xs ys = ap (λ (l : Bytes). length l) (flat_map-append spelled xs ys) ∙ length-append (flat_map spelled xs) (flat_map spelled ys)
+
+logged_both : (xs ys : List Effect) → batch_length (xs ++ ys) ≡ batch_length xs + batch_length ys
+logged_both xs ys =
+    ap (λ (l : List Record). length (flat_map spelled_record l)) (map-append (recorded_at no_spot) xs ys)
+    ∙ ap (λ (l : Bytes). length l) (flat_map-append spelled_record (map (recorded_at no_spot) xs) (map (recorded_at no_spot) ys))
+    ∙ length-append (flat_map spelled_record (map (recorded_at no_spot) xs)) (flat_map spelled_record (map (recorded_at no_spot) ys))
+
+both : (xs ys : List Effect) (first more sum : Lengths) → HaveLengths xs first → HaveLengths ys more → AddUp first more sum → HaveLengths (xs ++ ys) sum
+both xs ys first more sum h k adds = record {
+  waiting = omega (arith, h.waiting, k.waiting, adds.waiting, waiting_both xs ys);
+  logged = omega (arith, h.logged, k.logged, adds.logged, logged_both xs ys);
+}
+
+one_has : (e : Effect) (lengths : Lengths) → IsLong e lengths → HaveLengths (e ∷ []) lengths
+one_has e lengths h = record {
+  waiting = omega (arith, h.waiting, length-append (spelled e) []);
+  logged = omega (arith, h.logged, length-append (spelled_record (recorded_at no_spot e)) []);
+}
+
+-- ---- those that were measured, and the others
+
+pub none_measured : (lengths : Lengths) → lengths ≡ record { waiting = 0; logged = 0 } → IsMeasured [] 0 lengths
+none_measured lengths is = subst (IsMeasured [] 0) (sym is) (record { within = omega arith; first = record { waiting = refl; logged = refl } })
 
 -- more records behind them change nothing
-pub measured_more : (records more : List Effect) (measured bytes : ℕ) → IsMeasured records measured bytes → IsMeasured (records ++ more) measured bytes
-measured_more records more measured bytes h = record {
+pub measured_more : (records more : List Effect) (measured : ℕ) (lengths : Lengths) → IsMeasured records measured lengths → IsMeasured (records ++ more) measured lengths
+measured_more records more measured lengths h = record {
   within =
       let within : measured ≤ length records = h.within in
       let both : length (records ++ more) ≡ length records + length more = length-append records more in
       omega (arith, within, both);
-  bytes_are = h.bytes_are ∙ ap (λ (l : List Effect). length (flat_map spelled l)) (sym (take-append-le measured records more h.within));
+  first = subst (λ (l : List Effect). HaveLengths l lengths) (sym (take-append-le measured records more h.within)) h.first;
 }
 
--- those that were measured, and the others
-pub measured_sum : (records : List Effect) (measured bytes more : ℕ) → IsMeasured records measured bytes → more ≡ length (flat_map spelled (drop measured records))
-    → bytes + more ≡ length (flat_map spelled records)
-measured_sum records measured bytes more h are =
-    let first = flat_map spelled (take measured records) in
-    let rest = flat_map spelled (drop measured records) in
-    ap (λ (n : ℕ). n + more) h.bytes_are
-    ∙ ap (λ (n : ℕ). length first + n) are
-    ∙ sym (length-append first rest)
-    ∙ ap (λ (l : Bytes). length l) (sym (flat_map-append spelled (take measured records) (drop measured records)))
-    ∙ ap (λ (l : List Effect). length (flat_map spelled l)) (take-append-drop measured records)
+pub measured_sum : (records : List Effect) (measured : ℕ) (lengths more sum : Lengths) → IsMeasured records measured lengths → HaveLengths (drop measured records) more
+    → AddUp lengths more sum → HaveLengths records sum
+measured_sum records measured lengths more sum h k adds =
+    subst (λ (l : List Effect). HaveLengths l sum) (take-append-drop measured records) (both (take measured records) (drop measured records) lengths more sum h.first k adds)
 
-pub measured_all : (records : List Effect) (bytes : ℕ) → bytes ≡ length (flat_map spelled records) → IsMeasured records (length records) bytes
-measured_all records bytes are = record {
+pub measured_all : (records : List Effect) (lengths : Lengths) → HaveLengths records lengths → IsMeasured records (length records) lengths
+measured_all records lengths h = record {
   within = omega arith;
-  bytes_are = are ∙ ap (λ (l : List Effect). length (flat_map spelled l)) (sym (take_all (length records) records (omega arith)));
+  first = subst (λ (l : List Effect). HaveLengths l lengths) (sym (take_all (length records) records (omega arith))) h;
 }
 
 pub rest_allowed : (records : List Effect) (from : ℕ) → IsTrue (list_all is_record records) → IsTrue (list_all is_record (drop from records))
@@ -51,19 +76,53 @@ rest_allowed records from all =
 pub allowed_at : (records : List Effect) (at : ℕ) (effect : Effect) → IsTrue (list_all is_record records) → at < length records → effect ≡ get_or records at effect → IsTrue (is_record effect)
 allowed_at = record_there
 
--- one record after the other
-pub one_more : (records : List Effect) (at : ℕ) (effect : Effect) (before more after : ℕ) → at < length records → effect ≡ get_or records at effect
-    → before ≡ length (flat_map spelled (take at records)) → more ≡ length (spelled effect) → after ≡ before + more → after ≡ length (flat_map spelled (take (at + 1) records))
-one_more records at effect before more after within is so_far length_is sum =
-    let first = flat_map spelled (take at records) in
-    sum
-    ∙ ap (λ (n : ℕ). n + more) so_far
-    ∙ ap (λ (n : ℕ). length first + n) length_is
-    ∙ sym (length-append first (spelled effect))
-    ∙ ap (λ (l : Bytes). length l) (spelled_more records at effect first (first ++ spelled effect) within is refl refl)
+-- ---- one record after the other
 
-pub each_measured : (records : List Effect) (at bytes : ℕ) → length records ≤ at → bytes ≡ length (flat_map spelled (take at records)) → bytes ≡ length (flat_map spelled records)
-each_measured records at bytes past so_far = so_far ∙ ap (λ (l : List Effect). length (flat_map spelled l)) (take_all at records past)
+pub none_yet : (records : List Effect) (lengths : Lengths) → lengths ≡ record { waiting = 0; logged = 0 } → HaveLengths (take 0 records) lengths
+none_yet records lengths is = subst (HaveLengths []) (sym is) (record { waiting = refl; logged = refl })
+
+pub one_more : (records : List Effect) (at : ℕ) (effect : Effect) (before more after : Lengths) → at < length records → effect ≡ get_or records at effect
+    → HaveLengths (take at records) before → IsLong effect more → AddUp before more after → HaveLengths (take (at + 1) records) after
+one_more records at effect before more after within is so_far length_is adds =
+    let next : take (at + 1) records ≡ take at records ++ effect ∷ [] = take_more records at effect within ∙ ap (λ (e : Effect). take at records ++ e ∷ []) (sym is) in
+    subst (λ (l : List Effect). HaveLengths l after) (sym next) (both (take at records) (effect ∷ []) before more after so_far (one_has effect more length_is) adds)
+
+pub each_measured : (records : List Effect) (at : ℕ) (lengths : Lengths) → length records ≤ at → HaveLengths (take at records) lengths → HaveLengths records lengths
+each_measured records at lengths past so_far = subst (λ (l : List Effect). HaveLengths l lengths) (take_all at records past) so_far
+
+-- a log has no message: in its place it has a spot, which is as long as the numbers that tell how long the parts of a message are
+pub put_lengths : (seq at : ℕ) (id subject headers payload : Bytes) → length (spelled (PutHere seq at id subject headers payload)) ≡ length (spelled_record (recorded_at no_spot (PutHere seq at id subject headers payload))) + (length subject + (length headers + length payload))
+unfolding spelled spelled_record
+put_lengths seq at id subject headers payload = omega (
+  arith,
+  length-append (text id) (text subject ++ (long headers ++ long payload)),
+  length-append (text subject) (long headers ++ long payload),
+  length-append (long headers) (long payload),
+  length-append (text id) (spelled_spot no_spot),
+)
+
+-- of the record of a message
+pub put_lengths_of : (e : Effect) (seq at : ℕ) (id subject headers payload : Bytes) → e ≡ PutHere seq at id subject headers payload
+    → length (spelled e) ≡ length (spelled_record (recorded_at no_spot e)) + (length subject + (length headers + length payload))
+put_lengths_of e seq at id subject headers payload is =
+    subst (λ (x : Effect). length (spelled x) ≡ length (spelled_record (recorded_at no_spot x)) + (length subject + (length headers + length payload))) (sym is) (put_lengths seq at id subject headers payload)
+
+-- each other one is logged as it waits
+pub other_lengths : (e : Effect) → ((seq at : ℕ) (id subject headers payload : Bytes) → e ≢ PutHere seq at id subject headers payload) → length (spelled e) ≡ length (spelled_record (recorded_at no_spot e))
+unfolding spelled_record
+other_lengths (MakeStream incarnation made config) other = refl
+other_lengths (ChangeStream config) other = refl
+other_lengths DropStream other = refl
+other_lengths (PutHere seq at id subject headers payload) other = absurd (other seq at id subject headers payload refl)
+other_lengths (Skip seq at id) other = refl
+other_lengths (Remove low high) other = refl
+other_lengths (MakeConsumer name made config cursor picks) other = refl
+other_lengths (DropConsumer name) other = refl
+other_lengths (Deliver name seq count due dseq) other = refl
+other_lengths (Acked name low high) other = refl
+other_lengths (Due name seq due) other = refl
+other_lengths (GivenUp name moment) other = refl
+other_lengths (Now moment) other = refl
 
 -- ---- whether they are little
 
@@ -75,8 +134,8 @@ few_are records b few short =
     ap (λ (c : Bool). c && nat_lt (length (flat_map spelled records)) (2 ^ 20)) (lt-ltb (length records) 1024 few)
     ∙ short
 
-pub too_long : (records : List Effect) (bytes : ℕ) → length records < 1024 → bytes ≡ length (flat_map spelled records) → 2 ^ 20 ≤ bytes → is_small records ≡ false
-too_long records bytes few are long = few_are records false few (ap (λ (n : ℕ). nat_lt n (2 ^ 20)) (sym are) ∙ le-ltb bytes (2 ^ 20) long)
+pub too_long : (records : List Effect) (lengths : Lengths) → length records < 1024 → HaveLengths records lengths → 2 ^ 20 ≤ lengths.waiting → is_small records ≡ false
+too_long records lengths few are long = few_are records false few (ap (λ (n : ℕ). nat_lt n (2 ^ 20)) (sym are.waiting) ∙ le-ltb lengths.waiting (2 ^ 20) long)
 
-pub little : (records : List Effect) (bytes : ℕ) → length records < 1024 → bytes ≡ length (flat_map spelled records) → bytes < 2 ^ 20 → is_small records ≡ true
-little records bytes few are short = few_are records true few (ap (λ (n : ℕ). nat_lt n (2 ^ 20)) (sym are) ∙ lt-ltb bytes (2 ^ 20) short)
+pub little : (records : List Effect) (lengths : Lengths) → length records < 1024 → HaveLengths records lengths → lengths.waiting < 2 ^ 20 → is_small records ≡ true
+little records lengths few are short = few_are records true few (ap (λ (n : ℕ). nat_lt n (2 ^ 20)) (sym are.waiting) ∙ lt-ltb lengths.waiting (2 ^ 20) short)

@@ -9,6 +9,8 @@ use Rattle.place_records.specs.Records.{effects_in}
 use Rattle.place_records.specs.declared.made.Made.{Made}
 use Rattle.stream_store.specs.StoreState.{StoreState}
 use Rattle.vol_disk.specs.Disk.{Disk}
+use Rattle.block_table.specs.Blocks.{Blocks}
+use Rattle.volume_place.specs.Rooms.{MayStore}
 use Rattle.volume_place.specs.Sound.{IsSoundPlace}
 
 -- they were moved
@@ -33,3 +35,10 @@ module _ (told : Type 0) (disk : Disk) (store : StoreState) (stopped : Option �
   pub sound_unmoved : (given old : List Effect) (made before : Made) → given ≡ old → made ≡ before → IsSoundPlace told disk store (old ++ effects_in before) stopped state
       → IsSoundPlace told disk store (given ++ effects_in made) stopped state
   sound_unmoved given old made before same made_same = subst (λ (l : List Effect). IsSoundPlace told disk store l stopped state) (sym (unmoved given old made before same made_same))
+
+module _ (b : Blocks) (stored : ℕ) (stopped : Option ℕ) where
+  pub blocks_joined : (given : List Effect) (made : Made) (all : List Effect) → given ≡ all → effects_in made ≡ [] → MayStore stopped b all stored → MayStore stopped b (given ++ effects_in made) stored
+  blocks_joined given made all is none = subst (λ (l : List Effect). MayStore stopped b l stored) (sym (joined given made all is none))
+
+  pub blocks_unmoved : (given old : List Effect) (made before : Made) → given ≡ old → made ≡ before → MayStore stopped b (old ++ effects_in before) stored → MayStore stopped b (given ++ effects_in made) stored
+  blocks_unmoved given old made before same made_same = subst (λ (l : List Effect). MayStore stopped b l stored) (sym (unmoved given old made before same made_same))

@@ -1,5 +1,5 @@
 -- What a place is opened to on a volume.
-use Rattle.std.proofs.Common.{◌≡◌, ◌⊎◌, inl, inr, ℕ, List, [], None, refl, sym, ap, subst, ◌∙◌, arith}
+use Rattle.std.proofs.Common.{◌≡◌, ◌⊎◌, inl, inr, ◌≤◌, ◌+◌, ℕ, List, [], length, None, refl, sym, ap, subst, ◌∙◌, arith}
 use Rattle.js_model.specs.declared.stream.State.{State}
 use Rattle.effects.specs.declared.durable.Durable.{Durable}
 use Rattle.effects.specs.declared.effect.Effect.{Effect}
@@ -19,6 +19,13 @@ use Rattle.volume_place.specs.Opening.{opens}
 use Rattle.volume_place.specs.Seeing.{seen_of}
 use Rattle.volume_place.specs.Sound.{IsBacked, IsSoundPlace}
 use Rattle.volume_place.proofs.Bases.{flushed_base, left_now}
+use Rattle.js_model.specs.Runs.{messages_of}
+use Rattle.block_table.specs.Blocks.{Blocks, blocks}
+use Rattle.log_records.specs.Unread.{stored_messages}
+use Rattle.stream_store.specs.Placing.{can_place, used_behind}
+use Rattle.stream_store.proofs.Counting.{law_counting}
+use Rattle.stream_store.proofs.Rooms.{law_placing}
+use Rattle.volume_place.specs.Rooms.{MayStore}
 
 module _ {V : Type 0} (told : Type 0) (disk : V → Disk) (faults : V → ℕ) (clocked : (vol : V) → IsClocked (disk vol)) (old vol : V)
     (any : told → KeepsImages (disk old) (disk vol)) where
@@ -38,6 +45,18 @@ module _ {V : Type 0} (told : Type 0) (disk : V → Disk) (faults : V → ℕ) (
   module _ (d : Durable) (formed : IsFormed d) (storable : IsStorable d) (openable : IsOpenable d) where
     pub restored_of : IsRestored (state_of d)
     restored_of = restored d formed storable openable
+
+    -- each block but the one being written holds a message
+    module _ (b : Blocks) (held : length (blocks b) ≤ length (stored_messages d) + 1) (state : State) (same : state ≡ state_of d) (waiting : List Effect) (none : waiting ≡ [])
+        (stored : ℕ) (counted : stored ≡ length (messages_of state)) where
+      pub opened_blocks : MayStore None b waiting stored
+      opened_blocks = record {
+        placed = ap (can_place b) none ∙ law_placing.none b;
+        few = λ few.
+            let used : used_behind b waiting ≡ length (blocks b) = ap (used_behind b) none ∙ law_counting.none b in
+            let count : stored ≡ length (stored_messages d) = counted ∙ ap (λ (s : State). length (messages_of s)) same in
+            omega (arith, used, count, held);
+      }
 
     module _ (store : StoreState) (state : State) (same : state ≡ state_of d) (waiting : List Effect) (none : waiting ≡ [])
         (found : told → Holds (disk old).seen d) (base : told → IsBase store d (disk vol)) where
@@ -66,11 +85,11 @@ module _ {V : Type 0} (told : Type 0) (disk : V → Disk) (faults : V → ℕ) (
           })
 
       opening : opens told disk old state
-      opening t = (subst (Holds (disk old).seen) (sym held_here) (found t), kept.lasting)
+      opening t = (subst (λ (e : Durable). Holds (disk old).seen e) (sym held_here) (found t), kept.lasting)
 
-      pub opened_of : IsOpened holds (reads told disk) (left told disk) (clock disk) (opens told disk) old
-          (seen_of told disk faults (record { state = state; store = store; vol = vol; waiting = waiting; stopped = None }))
-      opened_of = record {
+      pub opened_of : (stored : ℕ) → stored ≡ length (messages_of state) → IsOpened holds (reads told disk) (left told disk) (clock disk) (opens told disk) old
+          (seen_of told disk faults (record { state = state; store = store; vol = vol; waiting = waiting; stored = stored; stopped = None }))
+      opened_of stored counted = record {
         going = refl;
         state = opening;
         all_lasts = kept.lasting;
@@ -78,6 +97,6 @@ module _ {V : Type 0} (told : Type 0) (disk : V → Disk) (faults : V → ℕ) (
         sound = kept.sound;
         bounded = kept.bounded;
         writable = kept.writable;
-        counted = omega arith;
+        counted = omega (arith, counted);
         earlier = keeps_held state opening;
       }

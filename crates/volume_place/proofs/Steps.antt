@@ -1,5 +1,5 @@
 -- What a step of a place on a volume comes to.
-use Rattle.std.proofs.Common.{◌≡◌, ◌≢◌, ◌⊎◌, inl, inr, ℕ, Bool, true, false, List, ◌++◌, length, take, Some, None, Result, Ok, Err, refl, sym, ap, subst, ◌∙◌, arith}
+use Rattle.std.proofs.Common.{◌≡◌, ◌≢◌, ◌≤◌, ◌+◌, ◌⊎◌, inl, inr, ℕ, Bool, true, false, List, ◌++◌, length, take, Some, None, Result, Ok, Err, refl, sym, ap, subst, ◌∙◌, arith}
 use Rattle.std.proofs.Math.Nat.{le_refl}
 use Rattle.std.proofs.Math.Seq.{take-append_seam}
 use Rattle.std.proofs.lemmas.Bool.{true≢false}
@@ -13,10 +13,12 @@ use Rattle.js_model.specs.declared.event.What.TheVariants.{Tick}
 use Rattle.js_model.specs.declared.reply.Reply.{Reply}
 use Rattle.js_model.specs.Events.{answered, is_refused, kept_incarnation}
 use Rattle.js_model.specs.Firm.{IsFirmStep}
+use Rattle.js_model.specs.Runs.{new_messages}
+use Rattle.model_laws.specs.Sound.{IsSound}
 use Rattle.effects.specs.Effects.{event_effects}
 use Rattle.effects.specs.declared.effect.Effect.{Effect}
 use Rattle.vol_disk.specs.Disk.{Disk}
-use Rattle.place_engine.specs.Answers.{LeftBy, PlaceAnswers}
+use Rattle.place_engine.specs.Answers.{LeftBy}
 use Rattle.place_engine.specs.Recording.{TellsLeft}
 use Rattle.place_engine.specs.Stepping.{Elapses, Ends, IsUndone, Passes, Rests, Steps, Tells}
 use Rattle.place_engine.specs.declared.faults.Left.{Left}
@@ -26,9 +28,11 @@ use Rattle.place_engine.specs.declared.faults.PlaceFault.TheVariants.{NoMemory, 
 use Rattle.volume_place.specs.Bringing.{Confirms, GoesOn}
 use Rattle.volume_place.specs.Contents.{Contents}
 use Rattle.volume_place.specs.Images.{Keeps, holds}
-use Rattle.volume_place.specs.Making.{KeepsStore, RecordsEvent}
+use Rattle.volume_place.specs.Making.{Answers, KeepsStore, RecordsEvent, has_block_for}
+use Rattle.volume_place.specs.Rooms.{room_in, stored_by}
 use Rattle.volume_place.specs.Seeing.{seen_of}
 use Rattle.volume_place.specs.Tail.{SharesStep, is_small}
+use Rattle.volume_place.proofs.Storing.{left_plain, none_stored, stored_new}
 
 -- the call's result, once something was made and its reply is known
 abbrev pub told_as : {T : Type 0} → T → Result (Unit {0}) PlaceFault → Result T PlaceFault
@@ -45,8 +49,8 @@ module _ {V : Type 0} (told : Type 0) (disk : V → Disk) (faults : V → ℕ) w
   rests_still a outs = record { state = refl; stored = refl; stopped = refl; base = λ b on. on; waiting = refl; outs = refl }
 
   -- whatever stands and waits then
-  pub no_time : (a : Contents V) (state : State) (waiting : List Effect) → Elapses holds (seen_of told disk faults a) (seen_of told disk faults (record a { state = state; waiting = waiting }))
-  no_time a state waiting = record {
+  pub no_time : (a : Contents V) (state : State) (waiting : List Effect) (stored : ℕ) → Elapses holds (seen_of told disk faults a) (seen_of told disk faults (record a { state = state; waiting = waiting; stored = stored }))
+  no_time a state waiting stored = record {
     faults = le_refl (faults a.vol);
     moments = le_refl (disk a.vol).moment;
     generations = le_refl (unwrap_or a.store.log.head 0);
@@ -58,7 +62,7 @@ module _ {V : Type 0} (told : Type 0) (disk : V → Disk) (faults : V → ℕ) w
   is_stopped a count e now outs is = record {
     ends = record { stopped = is; rests = rests_still a outs; volume = record { volume = refl; images = λ t image left. left } };
     stored = omega arith;
-    time = no_time a a.state a.waiting;
+    time = no_time a a.state a.waiting a.stored;
   }
 
   pub is_gone : (a : Contents V) (kept : ℕ) (e : Event) (now : ℕ) (outs : List Out) → a.stopped ≡ None → kept ≡ kept_incarnation a.state → e.incarnation ≢ kept
@@ -66,71 +70,82 @@ module _ {V : Type 0} (told : Type 0) (disk : V → Disk) (faults : V → ℕ) w
   is_gone a kept e now outs going is other = record {
     ends = record { going = going; kept_is = is; other = other; rests = rests_still a outs; volume = record { volume = refl; images = λ t image left. left } };
     stored = omega arith;
-    time = no_time a a.state a.waiting;
+    time = no_time a a.state a.waiting a.stored;
   }
 
   -- ---- calls that find no memory
 
   -- Of a place that goes on, and an event for what it keeps.
   module _ (a : Contents V) (going : a.stopped ≡ None) where
-    pub undone : (state : State) (waiting : List Effect) (before after : List Out) → state ≡ a.state → waiting ≡ a.waiting → after ≡ before
-        → IsUndone (seen_of told disk faults a) (seen_of told disk faults (record a { state = state; waiting = waiting })) before after
-    undone state waiting before after same waits outs = record {
-      rests = record { state = same; stored = refl; stopped = refl; base = λ b on. on; waiting = waits; outs = outs };
+    pub undone : (state : State) (waiting : List Effect) (stored : ℕ) (before after : List Out) → state ≡ a.state → waiting ≡ a.waiting → stored ≡ a.stored → after ≡ before
+        → IsUndone (seen_of told disk faults a) (seen_of told disk faults (record a { state = state; waiting = waiting; stored = stored })) before after
+    undone state waiting stored before after same waits counts outs = record {
+      rests = record { state = same; stored = counts; stopped = refl; base = λ b on. on; waiting = waits; outs = outs };
       volume = λ count is. absurd (none-some count (sym going ∙ is));
     }
 
-    pub passes : (state : State) (waiting : List Effect) (e : Event) (now : ℕ) (before after : List Out) → e.incarnation ≡ kept_incarnation a.state
+    -- a tick needs no block
+    tick_room : (o : Option ℕ) → room_in o a.store.blocks a.waiting Tick ≡ true
+    tick_room None = refl
+    tick_room (Some count) = refl
+
+    pub passes : (state : State) (waiting : List Effect) (stored : ℕ) (e : Event) (now : ℕ) (before after : List Out) → e.incarnation ≡ kept_incarnation a.state
         → LeftBy Ticked a.state now before after state → waiting ≡ a.waiting ++ event_effects a.state Tick now true
-        → Passes e now (seen_of told disk faults a) (seen_of told disk faults (record a { state = state; waiting = waiting })) before after
-    passes state waiting e now before after kept ticks waits =
+        → Passes e now (seen_of told disk faults a) (seen_of told disk faults (record a { state = state; waiting = waiting; stored = stored })) before after
+    passes state waiting stored e now before after kept ticks waits =
         let given = ticks e.incarnation in
+        let tick = record e { what = Tick } in
+        let room = sym (tick_room a.stopped) in
         record {
-          does = record { going = going; kept = kept; state = given.state_is };
+          does = record { going = going; kept = kept; state = given.state_is ∙ ap (λ (r : Bool). (answered a.state tick now r).state) room };
           goes = going;
-          outs = given.outs_are;
-          may = inr (record { base = λ b on. on; waiting = waits });
+          outs = given.outs_are ∙ ap (λ (r : Bool). before ++ (answered a.state tick now r).outs) room;
+          may = inr (record { base = λ b on. on; waiting = waits ∙ ap (λ (r : Bool). a.waiting ++ event_effects a.state Tick now r) room });
         }
 
-    starved : (left : Left) (state : State) (waiting effects : List Effect) (e : Event) (now : ℕ) (before after : List Out) → e.incarnation ≡ kept_incarnation a.state
-        → LeftBy left a.state now before after state → TellsLeft left a.state now effects → waiting ≡ a.waiting ++ effects
-        → Ends (Err (NoMemory left)) e now (seen_of told disk faults a) (seen_of told disk faults (record a { state = state; waiting = waiting })) before after
-    starved Nothing state waiting effects e now before after kept leaves tells waits =
-        undone state waiting before after leaves.0 (waits ∙ ap (λ (l : List Effect). a.waiting ++ l) tells ∙ append-nil a.waiting) leaves.1
-    starved Ticked state waiting effects e now before after kept leaves tells waits =
-        passes state waiting e now before after kept leaves (waits ∙ ap (λ (l : List Effect). a.waiting ++ l) tells)
-    starved (Unsaid refused) state waiting effects e now before after kept leaves tells waits = absurd leaves
+    starved : (left : Left) (state : State) (waiting effects : List Effect) (stored : ℕ) (e : Event) (now : ℕ) (before after : List Out) → e.incarnation ≡ kept_incarnation a.state
+        → LeftBy left a.state now before after state → TellsLeft left a.state now effects → waiting ≡ a.waiting ++ effects → stored ≡ a.stored
+        → Ends (Err (NoMemory left)) e now (seen_of told disk faults a) (seen_of told disk faults (record a { state = state; waiting = waiting; stored = stored })) before after
+    starved Nothing state waiting effects stored e now before after kept leaves tells waits counts =
+        undone state waiting stored before after leaves.0 (waits ∙ ap (λ (l : List Effect). a.waiting ++ l) tells ∙ append-nil a.waiting) counts leaves.1
+    starved Ticked state waiting effects stored e now before after kept leaves tells waits counts =
+        passes state waiting stored e now before after kept leaves (waits ∙ ap (λ (l : List Effect). a.waiting ++ l) tells)
+    starved (Unsaid refused) state waiting effects stored e now before after kept leaves tells waits counts = absurd leaves
 
     pub starves : (left : Left) (m : Contents V) (e : Event) (now : ℕ) (before after : List Out) → e.incarnation ≡ kept_incarnation a.state → KeepsStore a m
         → LeftBy left a.state now before after m.state → RecordsEvent (Err left) e.what now a m
         → Steps holds (Err (NoMemory left)) e now (seen_of told disk faults a) (seen_of told disk faults m) before after
     starves left m e now before after kept rests leaves records =
+        let counts : m.stored ≡ a.stored = records.counted.none (none_stored records.effects (left_plain left a.state now records.effects records.told)) in
         subst (λ (n : Contents V). Steps holds (Err (NoMemory left)) e now (seen_of told disk faults a) (seen_of told disk faults n) before after) (sym rests)
         (record {
-          ends = starved left m.state m.waiting records.effects e now before after kept leaves records.told records.waiting;
-          stored = omega arith;
-          time = no_time a m.state m.waiting;
+          ends = starved left m.state m.waiting records.effects m.stored e now before after kept leaves records.told records.waiting counts;
+          stored = omega (arith, counts);
+          time = no_time a m.state m.waiting m.stored;
         })
 
     -- ---- calls that make the event
 
     -- it is made in memory, and waits
-    module _ (state : State) (waiting : List Effect) (e : Event) (now : ℕ) (reply : Reply) (before middle : List Out) (kept : e.incarnation ≡ kept_incarnation a.state)
-        (answers : PlaceAnswers a.state e.what now reply before middle state) (waits : waiting ≡ a.waiting ++ event_effects a.state e.what now true) where
+    module _ (state : State) (waiting : List Effect) (stored : ℕ) (e : Event) (now : ℕ) (reply : Reply) (before middle : List Out) (kept : e.incarnation ≡ kept_incarnation a.state)
+        (answers : Answers e.what now reply before middle a (record a { state = state; waiting = waiting; stored = stored })) (waits : waiting ≡ a.waiting ++ event_effects a.state e.what now (has_block_for a e.what)) where
       abbrev Made : Contents V
-      Made = record a { state = state; waiting = waiting }
+      Made = record a { state = state; waiting = waiting; stored = stored }
 
-      given_reply : reply ≡ (answered a.state e now true).reply
+      abbrev Room : Bool
+      Room = has_block_for a e.what
+
+      given_reply : reply ≡ (answered a.state e now Room).reply
       given_reply = (answers e.incarnation).reply_is
 
-      given_outs : middle ≡ before ++ (answered a.state e now true).outs
+      given_outs : middle ≡ before ++ (answered a.state e now Room).outs
       given_outs = (answers e.incarnation).outs_are
 
-      given_state : state ≡ (answered a.state e now true).state
+      given_state : state ≡ (answered a.state e now Room).state
       given_state = (answers e.incarnation).state_is
 
       cut_back : (after : List Out) → after ≡ take (length before) middle → after ≡ before
-      cut_back after is = is ∙ ap (take (length before)) given_outs ∙ take-append_seam before (answered a.state e now true).outs
+      cut_back after is = is ∙ ap (take (length before)) given_outs ∙ take-append_seam before (answered a.state e now Room).outs
 
       never_firm : (f : Bool) → Decides f (IsFirmStep a.state e.what reply state) → (new : State) → new ≡ state → f ≡ false → ¬ IsFirmStep a.state e.what reply new
       never_firm f decides new same unconfirmed is = true≢false (sym (decides.1 (subst (λ (s : State). IsFirmStep a.state e.what reply s) same is)) ∙ unconfirmed)
@@ -168,7 +183,7 @@ module _ {V : Type 0} (told : Type 0) (disk : V → Disk) (faults : V → ℕ) w
       shares None decides n on = absurd on
       shares (Some f) decides n (inl all) = inl (record { cause = because all.cause; flushed = all.all.flushed })
         where
-          because : (f ≡ true) ⊎ (is_small waiting ≡ false) → IsFirmStep a.state e.what reply n.state ⊎ (is_small (a.waiting ++ event_effects a.state e.what now true) ≡ false)
+          because : (f ≡ true) ⊎ (is_small waiting ≡ false) → IsFirmStep a.state e.what reply n.state ⊎ (is_small (a.waiting ++ event_effects a.state e.what now Room) ≡ false)
           because (inl is) = inl (subst (λ (s : State). IsFirmStep a.state e.what reply s) (sym all.all.keeps.state) (decides.0 is))
           because (inr big) = inr (ap is_small (sym waits) ∙ big)
       shares (Some f) decides n (inr held) = inr (record {
@@ -214,34 +229,65 @@ module _ {V : Type 0} (told : Type 0) (disk : V → Disk) (faults : V → ℕ) w
       ends_as o decides (Err (Gone kept)) n after h = absurd h
       ends_as o decides (Err (Worn refused)) n after h = absurd h
 
-      steps_as : (o : Option Bool) → IfSome o (λ f. Decides f (IsFirmStep a.state e.what reply state)) → (result : Result (Unit {0}) PlaceFault) (n : Contents V) (after : List Out)
-          → Confirms o (is_refused reply) (length before) result (seen_of told disk faults Made) (seen_of told disk faults n) middle after
-          → Elapses holds (seen_of told disk faults Made) (seen_of told disk faults n)
-          → Steps holds (told_as reply result) e now (seen_of told disk faults a) (seen_of told disk faults n) before after
-      steps_as o decides result n after h time = record {
-        ends = ends_as o decides result n after h;
-        stored = omega arith;
-        time = record { faults = time.faults; moments = time.moments; generations = time.generations; goes_on = time.goes_on };
-      }
+      kept_state : (o : Option Bool) (result : Result (Unit {0}) PlaceFault) (n : Contents V) (after : List Out)
+          → Confirms o (is_refused reply) (length before) result (seen_of told disk faults Made) (seen_of told disk faults n) middle after → (n.state ≡ state) × (n.stored ≡ stored)
+      kept_state None (Ok done) n after h = absurd h.0
+      kept_state (Some f) (Ok done) n after h = go h.0
+        where
+          go : GoesOn (Some f) (seen_of told disk faults Made) (seen_of told disk faults n) → (n.state ≡ state) × (n.stored ≡ stored)
+          go (inl all) = (all.all.keeps.state, all.all.keeps.stored)
+          go (inr held) = (held.rests.rests.state, held.rests.rests.stored)
+      kept_state o (Err (NoMemory (Unsaid refused))) n after h = (h.0.rests.state, h.0.rests.stored)
+      kept_state o (Err StoreFault) n after h = (h.0.keeps.state, h.0.keeps.stored)
+      kept_state o (Err Full) n after h = (h.0.keeps.state, h.0.keeps.stored)
+      kept_state o (Err (NoMemory Nothing)) n after h = absurd h
+      kept_state o (Err (NoMemory Ticked)) n after h = absurd h
+      kept_state o (Err (Stopped kept)) n after h = absurd h
+      kept_state o (Err (Gone kept)) n after h = absurd h
+      kept_state o (Err (Worn refused)) n after h = absurd h
+
+      module _ (sound : IsSound a.state) (most : stored ≤ a.stored + stored_by (event_effects a.state e.what now Room)) where
+        counts : (n : Contents V) → n.state ≡ state → n.stored ≡ stored → n.stored ≤ a.stored + length (new_messages a.state n.state)
+        counts n same same_stored =
+            let some : stored_by (event_effects a.state e.what now Room) ≤ length (new_messages a.state n.state) =
+            subst (λ (s : State). stored_by (event_effects a.state e.what now Room) ≤ length (new_messages a.state s)) (sym (same ∙ given_state)) (stored_new a.state e now Room sound) in
+            omega (arith, same_stored, most, some)
+
+        steps_as : (o : Option Bool) → IfSome o (λ f. Decides f (IsFirmStep a.state e.what reply state)) → (result : Result (Unit {0}) PlaceFault) (n : Contents V) (after : List Out)
+            → Confirms o (is_refused reply) (length before) result (seen_of told disk faults Made) (seen_of told disk faults n) middle after
+            → Elapses holds (seen_of told disk faults Made) (seen_of told disk faults n)
+            → Steps holds (told_as reply result) e now (seen_of told disk faults a) (seen_of told disk faults n) before after
+        steps_as o decides result n after h time =
+            let same = kept_state o result n after h in
+            record {
+              ends = ends_as o decides result n after h;
+              stored = counts n same.0 same.1;
+              time = record { faults = time.faults; moments = time.moments; generations = time.generations; goes_on = time.goes_on };
+            }
+
+    -- what waits then, and how many messages count
+    waits_by : (m : Contents V) (e : Event) (now : ℕ) (reply : Reply) → RecordsEvent (Ok reply) e.what now a m → m.waiting ≡ a.waiting ++ event_effects a.state e.what now (has_block_for a e.what)
+    waits_by m e now reply records = records.waiting ∙ ap (λ (l : List Effect). a.waiting ++ l) records.told
+
+    most_by : (m : Contents V) (e : Event) (now : ℕ) (reply : Reply) → RecordsEvent (Ok reply) e.what now a m → m.stored ≤ a.stored + stored_by (event_effects a.state e.what now (has_block_for a e.what))
+    most_by m e now reply records = subst (λ (l : List Effect). m.stored ≤ a.stored + stored_by l) records.told records.counted.most
 
     pub steps_made : (m n : Contents V) (e : Event) (now : ℕ) (reply : Reply) (before middle after : List Out) (o : Option Bool) (refused : Bool) (count : ℕ) (result : Result (Unit {0}) PlaceFault)
-        → e.incarnation ≡ kept_incarnation a.state → KeepsStore a m → PlaceAnswers a.state e.what now reply before middle m.state → RecordsEvent (Ok reply) e.what now a m
+        → IsSound a.state → e.incarnation ≡ kept_incarnation a.state → KeepsStore a m → Answers e.what now reply before middle a m → RecordsEvent (Ok reply) e.what now a m
         → IfSome o (λ f. Decides f (IsFirmStep a.state e.what reply m.state)) → refused ≡ is_refused reply → count ≡ length before
         → Confirms o refused count result (seen_of told disk faults m) (seen_of told disk faults n) middle after → Elapses holds (seen_of told disk faults m) (seen_of told disk faults n)
         → Steps holds (told_as reply result) e now (seen_of told disk faults a) (seen_of told disk faults n) before after
-    steps_made m n e now reply before middle after o refused count result kept rests answers records decides refuses counts confirms time =
+    steps_made m n e now reply before middle after o refused count result sound kept rests answers records decides refuses counts confirms time =
         let told_so = subst (λ (b : Bool). Confirms o b count result (seen_of told disk faults m) (seen_of told disk faults n) middle after) refuses confirms in
         let so_many = subst (λ (k : ℕ). Confirms o (is_refused reply) k result (seen_of told disk faults m) (seen_of told disk faults n) middle after) counts told_so in
         let from = subst (λ (p : Contents V). Confirms o (is_refused reply) (length before) result (seen_of told disk faults p) (seen_of told disk faults n) middle after) rests so_many in
-        let waits = records.waiting ∙ ap (λ (l : List Effect). a.waiting ++ l) records.told in
-        steps_as m.state m.waiting e now reply before middle kept answers waits o decides result n after from
+        steps_as m.state m.waiting m.stored e now reply before middle kept answers (waits_by m e now reply records) sound (most_by m e now reply records) o decides result n after from
         (subst (λ (p : Contents V). Elapses holds (seen_of told disk faults p) (seen_of told disk faults n)) rests time)
 
     pub shares_made : (m n : Contents V) (e : Event) (now : ℕ) (reply : Reply) (before middle after : List Out) (o : Option Bool) (refused : Bool) (count : ℕ)
-        → e.incarnation ≡ kept_incarnation a.state → KeepsStore a m → PlaceAnswers a.state e.what now reply before middle m.state → RecordsEvent (Ok reply) e.what now a m
+        → e.incarnation ≡ kept_incarnation a.state → KeepsStore a m → Answers e.what now reply before middle a m → RecordsEvent (Ok reply) e.what now a m
         → IfSome o (λ f. Decides f (IsFirmStep a.state e.what reply m.state)) → Confirms o refused count (Ok tt) (seen_of told disk faults m) (seen_of told disk faults n) middle after
         → SharesStep reply e now (seen_of told disk faults a) (seen_of told disk faults n)
     shares_made m n e now reply before middle after o refused count kept rests answers records decides confirms =
-        let waits = records.waiting ∙ ap (λ (l : List Effect). a.waiting ++ l) records.told in
-        shares m.state m.waiting e now reply before middle kept answers waits o decides n
+        shares m.state m.waiting m.stored e now reply before middle kept answers (waits_by m e now reply records) o decides n
         (subst (λ (p : Contents V). GoesOn o (seen_of told disk faults p) (seen_of told disk faults n)) rests confirms.0)

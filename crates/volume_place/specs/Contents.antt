@@ -12,5 +12,7 @@ pub record Contents (V : Type 0) : Type 0 where
   pub vol : V
   -- the records of what was made since the last commit
   pub waiting : List Effect
+  -- how many messages stood there when it was opened, or were stored since
+  pub stored : ℕ
   -- the volume's count of faults as it stopped the place, if it did
   pub stopped : Option ℕ

@@ -2,6 +2,7 @@ pub mod Contents
 pub mod Images
 pub mod Laws
 pub mod Opening
+pub mod Rooms
 pub mod Seeing
 pub mod Sound
 pub mod Tail

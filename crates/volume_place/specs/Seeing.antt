@@ -1,5 +1,5 @@
 -- What is seen of a place on a volume.
-use Rattle.std.specs.Prelude.{◌≢◌, ◌<◌, ◌^◌, ℕ, true, List, [], unwrap_or}
+use Rattle.std.specs.Prelude.{◌≢◌, ◌<◌, ◌^◌, ℕ, List, [], unwrap_or}
 use Rattle.effects.specs.declared.effect.Effect.{Effect}
 use Rattle.vol_disk.specs.Disk.{Disk}
 use Rattle.stream_store.specs.Committing.{length_with}
@@ -7,23 +7,24 @@ use Rattle.stream_store.specs.StoreState.{StoreState}
 use Rattle.place_engine.specs.Stepping.{Seen}
 use Rattle.volume_place.specs.Contents.{Contents}
 use Rattle.volume_place.specs.Images.{base, left}
+use Rattle.volume_place.specs.Rooms.{room_in}
 
 -- there are such records, and with a batch of them the log would be longer than 2^31 bytes
 abbrev pub IsFull : StoreState → List Effect → Type 0
 IsFull store effects = (effects ≢ []) × (2 ^ 31 < length_with store effects)
 
--- No message is kept in a block of its own, so that there is room for each. A generation is told once the log has one.
+-- a generation is told once the log has one
 abbrev pub seen_of : {V : Type 0} → Type 0 → (V → Disk) → (V → ℕ) → Contents V → Seen
 seen_of told disk faults place = record {
   place = record {
     state = place.state;
-    stored = 0;
+    stored = place.stored;
     stopped = place.stopped;
     volume = record { faults = faults place.vol; moment = (disk place.vol).moment; generation = unwrap_or place.store.log.head 0 };
   };
   is_base = base told disk place.stopped place.vol;
   waiting = place.waiting;
-  room = λ what. true;
+  room = room_in place.stopped place.store.blocks place.waiting;
   is_full = IsFull place.store;
   left_since = left told disk place.vol;
 }

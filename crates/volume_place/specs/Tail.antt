@@ -14,7 +14,7 @@ use Rattle.stream_store.specs.StoreState.{StoreState}
 use Rattle.place_engine.specs.Stepping.{IsFlushed, IsPutOff, LeavesVolume, Seen, effects_of}
 use Rattle.volume_place.specs.Seeing.{IsFull}
 
--- fewer than 1,024 records, and less than 1 MiB as a log spells them
+-- fewer than 1,024 records, and less than 1 MiB as they are spelled with the messages that they store
 abbrev pub is_small : List Effect → Bool
 is_small effects = nat_lt (length effects) 1024 && nat_lt (length (flat_map spelled effects)) (2 ^ 20)
 

@@ -2,7 +2,9 @@
 #![tactic(auto)]
 
 mod firm;
+mod lengths;
 mod outputs;
+mod room;
 mod tail;
 mod volume_place;
 

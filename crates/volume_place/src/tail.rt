@@ -1,16 +1,16 @@
 //! What of a place waits for a commit.
 
-ghost use Rattle.std.specs.Prelude.{◌≡◌, ◌++◌, [], true, false, length, not, IfOk, MatchOption, OnErr, OnOk, IsTrue};
-ghost use Rattle.std.specs.List.{flat_map, list_all};
+ghost use Rattle.std.specs.Prelude.{◌≡◌, ◌++◌, [], true, false, not, IfOk, MatchOption, OnErr, OnOk, IsTrue};
+ghost use Rattle.std.specs.List.{list_all};
 ghost use Rattle.effects.specs.declared.effect.Effect.{Effect};
 ghost use Rattle.op_records.specs.Allowed.{is_record};
-ghost use Rattle.op_records.specs.Spelling.{spelled};
 ghost use Rattle.place_records.specs.Records.{effects_in};
+ghost use Rattle.stream_store.specs.Committing.{batch_length};
 ghost use Rattle.volume_place.specs.Tail.{is_moment, is_small};
 
+use crate::lengths::{Lengths, lengths_of};
 use effects::Effect;
 use js_base::NoMemory;
-use op_records::write_record;
 use place_records::Made;
 use std::alloc::Global;
 use std::marker::Model;
@@ -27,8 +27,8 @@ pub(crate) struct Tail {
     records: Vec<Effect>,
     /// How many of them, the first ones, were measured.
     measured: usize,
-    /// How many bytes these have as a log spells them.
-    bytes: usize,
+    /// How long these are.
+    lengths: Lengths,
 }
 
 impl Model for Tail {
@@ -40,7 +40,7 @@ impl Model for Tail {
 
     ghost view = { λ tail. tail.records.items };
 
-    ghost invariant = { λ tail. IsMeasured tail.records.items tail.measured tail.bytes };
+    ghost invariant = { λ tail. IsMeasured tail.records.items tail.measured tail.lengths };
 }
 
 impl Tail {
@@ -51,7 +51,7 @@ impl Tail {
         Tail {
             records: Vec::new(alloc),
             measured: 0,
-            bytes: 0,
+            lengths: Lengths::none(),
         }
     }
 
@@ -75,24 +75,24 @@ impl Tail {
         Ok(!is_moment(self.records.as_slice().split_at(before).1))
     }
 
-    /// How many bytes the records have as a log spells them, if they are so few and so short that they may wait.
+    /// In how many bytes a log has the records, if they are so few and so short that they may wait.
     pub(crate) fn measure(&mut self, alloc: Global) -> Result<Option<usize>, NoMemory>
         requires records { IsTrue (list_all is_record self.old) }
         ensures same { self.new ≡ self.old }
-        ensures value { IfOk result (λ bytes. MatchOption bytes (is_small self.old ≡ false) (λ n. (is_small self.old ≡ true) × (n ≡ length (flat_map spelled self.old)))) }
+        ensures value { IfOk result (λ bytes. MatchOption bytes (is_small self.old ≡ false) (λ n. (is_small self.old ≡ true) × (n ≡ batch_length self.old))) }
     {
         let count = self.records.len();
         if count >= MAX_RECORDS {
             return Ok(None);
         }
-        let more = spelled_len(alloc, self.records.as_slice().split_at(self.measured).1)?;
-        let Some(bytes) = self.bytes.checked_add(more) else {
+        let more = lengths_of(alloc, self.records.as_slice().split_at(self.measured).1)?;
+        let Some(lengths) = self.lengths.plus(more) else {
             return Err(NoMemory);
         };
-        self.bytes = bytes;
+        self.lengths = lengths;
         self.measured = count;
-        if bytes < MAX_BYTES {
-            Ok(Some(bytes))
+        if lengths.waiting < MAX_BYTES {
+            Ok(Some(lengths.logged))
         } else {
             Ok(None)
         }
@@ -104,7 +104,7 @@ impl Tail {
     {
         self.records.clear();
         self.measured = 0;
-        self.bytes = 0;
+        self.lengths = Lengths::none();
     }
 }
 
@@ -116,29 +116,4 @@ fn is_moment(records: &[Effect]) -> bool
         [] | [Effect::Now { .. }] => true,
         _ => false,
     }
-}
-
-/// How many bytes a log spells the records in, if that is a number.
-fn spelled_len(alloc: Global, records: &[Effect]) -> Result<usize, NoMemory>
-    requires records { IsTrue (list_all is_record records.now) }
-    ensures value { IfOk result (λ bytes. bytes ≡ length (flat_map spelled records.now)) }
-{
-    let mut bytes: usize = 0;
-    for effect in records {
-        let Some(sum) = bytes.checked_add(record_len(alloc, effect)?) else {
-            return Err(NoMemory);
-        };
-        bytes = sum;
-    }
-    Ok(bytes)
-}
-
-/// How many bytes a log spells the record in.
-fn record_len(alloc: Global, effect: &Effect) -> Result<usize, NoMemory>
-    requires record { IsTrue (is_record effect.now) }
-    ensures value { IfOk result (λ bytes. bytes ≡ length (spelled effect.now)) }
-{
-    let mut bytes = Vec::new(alloc);
-    write_record(alloc, effect, &mut bytes)?;
-    Ok(bytes.len())
 }

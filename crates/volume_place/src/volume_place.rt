@@ -5,7 +5,7 @@ ghost use Rattle.js_base.specs.Causes.{Rose};
 ghost use Rattle.js_model.specs.Events.{kept_incarnation};
 ghost use Rattle.js_model.specs.Firm.{IsFirmStep};
 ghost use Rattle.js_model.specs.Proper.{is_proper};
-ghost use Rattle.place_engine.specs.Answers.{LeftBy, MayDeliver, PlaceAnswers};
+ghost use Rattle.place_engine.specs.Answers.{LeftBy, MayDeliver};
 ghost use Rattle.place_engine.specs.Delivering.{Delivers};
 ghost use Rattle.place_engine.specs.Flushing.{Flushes};
 ghost use Rattle.place_engine.specs.Opening.{IsOpened, IsUnopened};
@@ -14,13 +14,14 @@ ghost use Rattle.place_engine.specs.Shown.{IsShown};
 ghost use Rattle.place_engine.specs.Stepping.{Elapses, IsKept, Steps};
 ghost use Rattle.volume_place.specs.Bringing.{Brings, Concludes, Confirms};
 ghost use Rattle.volume_place.specs.Images.{Keeps, base, clock, holds, left, reads};
-ghost use Rattle.volume_place.specs.Making.{KeepsStore, RecordsDelivery, RecordsEvent};
+ghost use Rattle.volume_place.specs.Making.{Answers, KeepsStore, RecordsDelivery, RecordsEvent};
 ghost use Rattle.volume_place.specs.Opening.{fault_of, opens, refuses};
 ghost use Rattle.volume_place.specs.Seeing.{seen_of};
 ghost use Rattle.volume_place.specs.Tail.{MayWait, MustNotWait, SharesDelivery, SharesStep};
 
 use crate::firm::{Answered, is_firm};
 use crate::outputs::{cut_to, is_refused};
+use crate::room::{answer_in, count_with, has_room};
 use crate::tail::Tail;
 use js_base::{Blob, Moment, NoMemory, Outs};
 use js_model::{Delivery, Event, Listening, Reply};
@@ -43,6 +44,8 @@ pub struct VolumePlace<V: Vol> {
     tail: Tail,
     /// The records of the last event or delivery that are not there yet, which wait behind those.
     made: Made,
+    /// How many messages stood there when the place was opened, or were stored since.
+    stored: u64,
     /// The volume's count of faults as it stopped the place, if it did.
     stopped: Option<u64>,
 }
@@ -51,6 +54,7 @@ impl<V: Vol> Model for VolumePlace<V> {
     ghost use Rattle.std.specs.Prelude.{◌++◌};
     ghost use Rattle.place_records.specs.Records.{effects_in};
     ghost use Rattle.volume_place.specs.Contents.{Contents};
+    ghost use Rattle.volume_place.specs.Rooms.{MayStore};
     ghost use Rattle.volume_place.specs.Sound.{IsSoundPlace};
 
     ghost Value = { Contents V };
@@ -60,10 +64,13 @@ impl<V: Vol> Model for VolumePlace<V> {
       store = place.store;
       vol = place.vol;
       waiting = place.tail ++ effects_in place.made;
+      stored = place.stored;
       stopped = place.stopped;
     } };
 
-    ghost invariant = { λ place. IsSoundPlace V.told (V.disk place.vol) place.store (place.tail ++ effects_in place.made) place.stopped place.slot };
+    ghost invariant = { λ place.
+        IsSoundPlace V.told (V.disk place.vol) place.store (place.tail ++ effects_in place.made) place.stopped place.slot
+        × MayStore place.stopped place.store.blocks (place.tail ++ effects_in place.made) place.stored };
 }
 
 /// Why a store was not opened, as a place tells it.
@@ -88,7 +95,7 @@ impl<V: Vol> VolumePlace<V> {
         requires proper { IsTrue (is_proper event.now) }
         requires kept { event.now.incarnation ≡ kept_incarnation self.old.state }
         requires going { self.old.stopped ≡ None }
-        ensures answers { IfOk result (λ said. PlaceAnswers self.old.state event.now.what now said.reply outs.old outs.new self.new.state) }
+        ensures answers { IfOk result (λ said. Answers event.now.what now said.reply outs.old outs.new self.old self.new) }
         ensures shown { IfOk result (λ said. IsShown said.reply) }
         ensures firm { IfOk result (λ said. IfSome said.firm (λ firm. Decides firm (IsFirmStep self.old.state event.now.what said.reply self.new.state))) }
         ensures err { IfErr result (λ left. LeftBy left self.old.state now outs.old outs.new self.new.state) }
@@ -102,7 +109,12 @@ impl<V: Vol> VolumePlace<V> {
         let Ok(_) = self.tail.take(&mut self.made) else {
             return Err(Left::Nothing);
         };
-        let reply = self.slot.answer(&event.what, now, outs, &mut self.made)?;
+        let waiting = self.tail.records();
+        let Ok(room) = has_room(&mut self.store, waiting, self.stored, &event.what) else {
+            return Err(Left::Nothing);
+        };
+        let reply = answer_in(&mut self.slot, room, &event.what, now, outs, &mut self.made)?;
+        self.stored = count_with(self.stored, &self.made);
         let firm = match self.tail.take(&mut self.made) {
             Ok(more) => {
                 let changes = more || self.slot.id_count() < ids;
@@ -258,6 +270,7 @@ impl<V: Vol> Place for VolumePlace<V> {
         let Ok(slot) = Slot::restore(alloc, durable) else {
             return Err((OpenFault::NoMemory, vol));
         };
+        let stored = slot.messages();
         Ok(VolumePlace {
             alloc,
             slot,
@@ -265,6 +278,7 @@ impl<V: Vol> Place for VolumePlace<V> {
             vol,
             tail: Tail::new(alloc),
             made: Made::new(alloc),
+            stored,
             stopped: None,
         })
     }
@@ -373,6 +387,7 @@ impl<V: Vol> Place for VolumePlace<V> {
             vol,
             tail: _,
             made: _,
+            stored: _,
             stopped: _,
         } = self;
         vol

@@ -1,42 +1,83 @@
-use Rattle.std.proofs.Common.{◌≡◌, ◌<◌, ◌^◌, ◌++◌, ◌||◌, ℕ, Bool, true, false, List, Option, None, Some, length, nat_lt, sym, ap, subst, ◌∙◌, arith}
+use Rattle.std.proofs.Common.{◌≡◌, ◌<◌, ◌^◌, ◌++◌, ◌||◌, ℕ, Bool, true, false, List, Option, None, Some, Ok, Err, length, nat_lt, sym, ap, subst, ◌∙◌, arith}
 use Rattle.std.specs.Prelude.{Decides, IfSome}
 use Rattle.std.proofs.lemmas.Bool.{and_parts}
+use Rattle.std.proofs.lemmas.Result.{err_from_is_err_and}
 use Rattle.effects.specs.declared.effect.Effect.{Effect}
 use Rattle.js_model.specs.Firm.{IsFirmStep}
 use Rattle.place_engine.specs.Places.{ids_in}
 use Rattle.place_records.specs.Records.{effects_in}
-use Rattle.volume_place.specs.Sound.{IsSoundPlace}
+use Rattle.volume_place.specs.Rooms.{room_for}
+use Rattle.volume_place.proofs.Answering.{answered_sound, left_counted}
 use Rattle.volume_place.proofs.Changing.{told_changes}
-use Rattle.volume_place.proofs.Growing.{grown_answer}
 use Rattle.volume_place.proofs.Moved.{taken}
 use Rattle.volume_place.proofs.volume_place.VolumePlace.answer.Goals as goal
 use Rattle.volume_place.proofs.volume_place.VolumePlace.answer.Goals.{in-Ok-take, then-more, else-more, in-Err}
 
-pub answer-requires-clause-proper : goal.answer-requires-clause-proper
-answer-requires-clause-proper g c = (and_parts _ _ c.requires.proper).1
+pub has_room-requires-clause-proper : goal.has_room-requires-clause-proper
+has_room-requires-clause-proper g c = (and_parts _ _ c.requires.proper).1
+
+pub answer_in-requires-clause-proper : goal.answer_in-requires-clause-proper
+answer_in-requires-clause-proper g c = (and_parts _ _ c.requires.proper).1
 
 pub invariant_of-self-in_err-reply : goal.invariant_of-self-in_err-reply
 invariant_of-self-in_err-reply g c =
     let V = g.V.Vol in
     let i = c.self.inside in
+    let e = c.args.event.now in
+    let before = i.tail ++ effects_in i.made in
+    let made = effects_in c.answer_in.new.made in
+    let room = c.in-Ok-has_room.room in
+    let left = c.in_err-reply.field-0.0 in
     let going = rw (← c.self.view_is) at c.requires.going in
     let kept = rw (← c.self.view_is) at c.requires.kept in
     let moment : c.args.now < 2 ^ 62 = omega arith in
-    rw c.in-Ok.ensures.ok
-    (grown_answer V.told (V.disk i.vol) i.store (i.tail ++ effects_in i.made) i.stopped going i.slot c.self.invariant c.answer.result c.answer.new.self c.args.event.now c.args.now
-    c.args.outs.now c.answer.new.outs (effects_in c.answer.new.made) kept c.requires.proper moment c.answer.ensures.answers c.answer.ensures.err c.answer.ensures.recorded)
+    let told_room = c.in-Ok-has_room.ensures.value ∙ ap (λ (l : List Effect). room_for i.store.blocks l e.what) c.records-waiting.ensures.value in
+    answered_sound V.told (V.disk i.vol) i.store before i.stored i.stopped going i.slot c.self.invariant c.has_room.new.store c.has_room.ensures.same c.take.new.self c.in-Ok.ensures.ok
+    e room told_room (Err left) c.answer_in.new.slot c.args.now c.args.outs.now c.answer_in.new.outs made i.stored kept c.requires.proper moment tt c.in_err-reply.ensures.err
+    c.in_err-reply.ensures.recorded
+    (left_counted V.told (V.disk i.vol) i.store before i.stored i.stopped going i.slot c.self.invariant c.has_room.new.store c.has_room.ensures.same c.take.new.self c.in-Ok.ensures.ok
+    e room told_room left c.args.now made c.in_err-reply.ensures.recorded)
+
+pub returns-in_err-reply-clause-err_recorded : goal.returns-in_err-reply-clause-err_recorded
+returns-in_err-reply-clause-err_recorded g c =
+    let V = g.V.Vol in
+    let i = c.self.inside in
+    let e = c.args.event.now in
+    let before = i.tail ++ effects_in i.made in
+    let made = effects_in c.answer_in.new.made in
+    let room = c.in-Ok-has_room.room in
+    let left = c.in_err-reply.field-0.0 in
+    let going = rw (← c.self.view_is) at c.requires.going in
+    let told_room = c.in-Ok-has_room.ensures.value ∙ ap (λ (l : List Effect). room_for i.store.blocks l e.what) c.records-waiting.ensures.value in
+    let counted = left_counted V.told (V.disk i.vol) i.store before i.stored i.stopped going i.slot c.self.invariant c.has_room.new.store c.has_room.ensures.same c.take.new.self c.in-Ok.ensures.ok
+    e room told_room left c.args.now made c.in_err-reply.ensures.recorded in
+    let p = err_from_is_err_and c.from_residual.result c.from_residual.ensures.1 in
+    rw (p.1, p.2)
+    (rw (← c.self.view_is)
+    (record {
+      effects = made;
+      told = c.in_err-reply.ensures.recorded;
+      waiting = ap (λ (l : List Effect). l ++ made) c.in-Ok.ensures.ok;
+      counted = counted;
+    }))
 
 pub invariant_of-self-2 : goal.invariant_of-self-2
 invariant_of-self-2 g c =
     let V = g.V.Vol in
     let i = c.self.inside in
+    let e = c.args.event.now in
+    let before = i.tail ++ effects_in i.made in
+    let made = effects_in c.answer_in.new.made in
+    let room = c.in-Ok-has_room.room in
     let going = rw (← c.self.view_is) at c.requires.going in
     let kept = rw (← c.self.view_is) at c.requires.kept in
     let moment : c.args.now < 2 ^ 62 = omega arith in
-    let moved = taken c.take-2.result c.take-2.new.self c.take.new.self c.take-2.new.made c.answer.new.made c.take-2.ensures.ok c.take-2.ensures.none c.take-2.ensures.err c.take-2.ensures.made_left in
-    rw (moved, c.in-Ok.ensures.ok)
-    (grown_answer V.told (V.disk i.vol) i.store (i.tail ++ effects_in i.made) i.stopped going i.slot c.self.invariant c.answer.result c.answer.new.self c.args.event.now c.args.now
-    c.args.outs.now c.answer.new.outs (effects_in c.answer.new.made) kept c.requires.proper moment c.answer.ensures.answers c.answer.ensures.err c.answer.ensures.recorded)
+    let told_room = c.in-Ok-has_room.ensures.value ∙ ap (λ (l : List Effect). room_for i.store.blocks l e.what) c.records-waiting.ensures.value in
+    let moved = taken c.take-2.result c.take-2.new.self c.take.new.self c.take-2.new.made c.answer_in.new.made c.take-2.ensures.ok c.take-2.ensures.none c.take-2.ensures.err c.take-2.ensures.made_left in
+    rw moved
+    (answered_sound V.told (V.disk i.vol) i.store before i.stored i.stopped going i.slot c.self.invariant c.has_room.new.store c.has_room.ensures.same c.take.new.self c.in-Ok.ensures.ok
+    e room told_room (Ok c.in_ok-reply.reply) c.answer_in.new.slot c.args.now c.args.outs.now c.answer_in.new.outs made c.count_with-self-inside.result kept c.requires.proper moment
+    c.in_ok-reply.ensures.answers tt c.in_ok-reply.ensures.recorded c.count_with-self-inside.ensures.value)
 
 pub returns-clause-firm : goal.returns-clause-firm
 returns-clause-firm g c = elim c.match-take-2.branch [
@@ -46,7 +87,7 @@ returns-clause-firm g c = elim c.match-take-2.branch [
       let i = c.self.inside in
       let kept = rw (← c.self.view_is) at c.requires.kept in
       let moment : c.args.now < 2 ^ 62 = omega arith in
-      let fewer = nat_lt (length (ids_in c.answer.new.self)) (length (ids_in i.slot)) in
+      let fewer = nat_lt (length (ids_in c.answer_in.new.slot)) (length (ids_in i.slot)) in
       let changes : w.if-more.changes ≡ (w.in-Ok-take.more || fewer) = elim w.if-more.branch [
         | then-more b ↦
             let changes_is = b.changes-is in
@@ -61,17 +102,18 @@ returns-clause-firm g c = elim c.match-take-2.branch [
             let less : w.if-more.changes ≡ nat_lt b.id_count.result c.id_count-ids.result = cc in
             less
             ∙ ap (λ (n : ℕ). nat_lt n c.id_count-ids.result) b.id_count.ensures.value
-            ∙ ap (λ (n : ℕ). nat_lt (length (ids_in c.answer.new.self)) n) c.id_count-ids.ensures.value
+            ∙ ap (λ (n : ℕ). nat_lt (length (ids_in c.answer_in.new.slot)) n) c.id_count-ids.ensures.value
             ∙ sym (ap (λ (d : Bool). d || fewer) no_more)
       ] in
-      let decides = told_changes i.slot c.answer.new.self c.args.event.now c.args.now kept c.requires.proper moment (c.in_ok-reply.ensures.answers c.args.event.now.incarnation).state_is
-      c.self.invariant.sound c.self.invariant.bounded (effects_in c.answer.new.made) c.in_ok-reply.ensures.recorded w.in-Ok-take.more w.if-more.changes w.in-Ok-take.ensures.more changes in
+      let decides = told_changes i.slot c.answer_in.new.slot c.args.event.now c.args.now c.in-Ok-has_room.room kept c.requires.proper moment
+      (c.in_ok-reply.ensures.answers c.args.event.now.incarnation).state_is
+      c.self.invariant.0.sound c.self.invariant.0.bounded (effects_in c.answer_in.new.made) c.in_ok-reply.ensures.recorded w.in-Ok-take.more w.if-more.changes w.in-Ok-take.ensures.more changes in
       rw (← c.self.view_is)
-      (subst (λ (o : Option Bool). IfSome o (λ f. Decides f (IsFirmStep i.slot c.args.event.now.what c.in_ok-reply.reply c.answer.new.self))) (sym told)
-      (w.is_firm.ensures.value i.slot c.answer.new.self decides))
+      (subst (λ (o : Option Bool). IfSome o (λ f. Decides f (IsFirmStep i.slot c.args.event.now.what c.in_ok-reply.reply c.answer_in.new.slot))) (sym told)
+      (w.is_firm.ensures.value i.slot c.answer_in.new.slot decides))
   | in-Err w ↦
       let firm_is = w.firm-is in
       let none : c.match-take-2.firm ≡ None = cc in
       rw (← c.self.view_is)
-      (subst (λ (o : Option Bool). IfSome o (λ f. Decides f (IsFirmStep c.self.inside.slot c.args.event.now.what c.in_ok-reply.reply c.answer.new.self))) (sym none) tt)
+      (subst (λ (o : Option Bool). IfSome o (λ f. Decides f (IsFirmStep c.self.inside.slot c.args.event.now.what c.in_ok-reply.reply c.answer_in.new.slot))) (sym none) tt)
 ]

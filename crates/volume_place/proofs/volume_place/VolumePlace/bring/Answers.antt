@@ -5,7 +5,7 @@ use Rattle.place_records.specs.Records.{effects_in}
 use Rattle.stream_store.specs.StoreState.{StoreState}
 use Rattle.stream_store.specs.declared.fault.CommitFault.{CommitFault}
 use Rattle.volume_place.specs.declared.volume_place.VolumePlace.TheView.{view}
-use Rattle.volume_place.proofs.Brought.{brings_none, unbrought, unbrought_sound, stands_still, fits, records_of, brings, brought_sound, fails, fills, stopped_sound, time_goes_on}
+use Rattle.volume_place.proofs.Brought.{brings_none, brought_blocks, places_of, unbrought, unbrought_blocks, unbrought_sound, stands_still, fits, records_of, brings, brought_sound, fails, fills, stopped_sound, time_goes_on}
 use Rattle.volume_place.proofs.Empty.{nothing_in, something_in}
 use Rattle.volume_place.proofs.Moved.{joined, unmoved}
 use Rattle.volume_place.proofs.volume_place.VolumePlace.bring.Goals as goal
@@ -46,7 +46,10 @@ invariant_of-self g c =
     let x = view _ V c.self.inside in
     let going = rw (← c.self.view_is) at c.requires.going in
     let same = unmoved c.take.new.self c.self.inside.tail c.take.new.made c.self.inside.made c.in_default.ensures.err c.in_default.ensures.made_left in
-    unbrought_sound V.told V.disk V.faults g.met.V.Vol.clocked x going c.self.invariant x.store x.vol (c.take.new.self ++ effects_in c.take.new.made) refl refl same
+    (
+      unbrought_sound V.told V.disk V.faults g.met.V.Vol.clocked x going c.self.invariant.0 x.store x.vol (c.take.new.self ++ effects_in c.take.new.made) refl refl same,
+      unbrought_blocks x.store x.store x.waiting (c.take.new.self ++ effects_in c.take.new.made) x.stored x.stopped refl same c.self.invariant.1,
+    )
 
 pub returns-in_default-clause-brings : goal.returns-in_default-clause-brings
 returns-in_default-clause-brings g c =
@@ -55,7 +58,7 @@ returns-in_default-clause-brings g c =
     let going = rw (← c.self.view_is) at c.requires.going in
     let same = unmoved c.take.new.self c.self.inside.tail c.take.new.made c.self.inside.made c.in_default.ensures.err c.in_default.ensures.made_left in
     rw (← c.self.view_is)
-    (unbrought V.told V.disk V.faults g.met.V.Vol.clocked x going c.self.invariant x.store x.vol (c.take.new.self ++ effects_in c.take.new.made) refl refl same)
+    (unbrought V.told V.disk V.faults g.met.V.Vol.clocked x going c.self.invariant.0 x.store x.vol (c.take.new.self ++ effects_in c.take.new.made) refl refl same)
 
 pub returns-in_default-clause-time : goal.returns-in_default-clause-time
 returns-in_default-clause-time g c =
@@ -63,7 +66,7 @@ returns-in_default-clause-time g c =
     let x = view _ V c.self.inside in
     let going = rw (← c.self.view_is) at c.requires.going in
     rw (← c.self.view_is)
-    (stands_still V.told V.disk V.faults g.met.V.Vol.clocked x going c.self.invariant (c.take.new.self ++ effects_in c.take.new.made))
+    (stands_still V.told V.disk V.faults g.met.V.Vol.clocked x going c.self.invariant.0 (c.take.new.self ++ effects_in c.take.new.made))
 
 pub invariant_of-self-then-is_empty : goal.invariant_of-self-then-is_empty
 invariant_of-self-then-is_empty g c =
@@ -71,7 +74,10 @@ invariant_of-self-then-is_empty g c =
     let x = view _ V c.self.inside in
     let going = rw (← c.self.view_is) at c.requires.going in
     let same = joined c.take.new.self c.take.new.made x.waiting c.in-Ok.ensures.ok c.in-Ok.ensures.none in
-    unbrought_sound V.told V.disk V.faults g.met.V.Vol.clocked x going c.self.invariant x.store x.vol (c.take.new.self ++ effects_in c.take.new.made) refl refl same
+    (
+      unbrought_sound V.told V.disk V.faults g.met.V.Vol.clocked x going c.self.invariant.0 x.store x.vol (c.take.new.self ++ effects_in c.take.new.made) refl refl same,
+      unbrought_blocks x.store x.store x.waiting (c.take.new.self ++ effects_in c.take.new.made) x.stored x.stopped refl same c.self.invariant.1,
+    )
 
 pub returns-then-is_empty-clause-brings : goal.returns-then-is_empty-clause-brings
 returns-then-is_empty-clause-brings g c =
@@ -82,7 +88,7 @@ returns-then-is_empty-clause-brings g c =
     let none = nothing_in (length c.records-records.result.now) given (ap (λ (l : List Effect). length l) c.records-records.ensures.value) c.if-is_empty.ensures in
     let same = joined c.take.new.self c.take.new.made x.waiting c.in-Ok.ensures.ok c.in-Ok.ensures.none in
     rw (← c.self.view_is)
-    (brings_none V.told V.disk V.faults g.met.V.Vol.clocked x going c.self.invariant (c.take.new.self ++ effects_in c.take.new.made)
+    (brings_none V.told V.disk V.faults g.met.V.Vol.clocked x going c.self.invariant.0 (c.take.new.self ++ effects_in c.take.new.made)
     (sym c.in-Ok.ensures.ok ∙ none) (joined given c.take.new.made [] none c.in-Ok.ensures.none))
 
 pub returns-then-is_empty-clause-time : goal.returns-then-is_empty-clause-time
@@ -91,7 +97,7 @@ returns-then-is_empty-clause-time g c =
     let x = view _ V c.self.inside in
     let going = rw (← c.self.view_is) at c.requires.going in
     rw (← c.self.view_is)
-    (stands_still V.told V.disk V.faults g.met.V.Vol.clocked x going c.self.invariant (c.take.new.self ++ effects_in c.take.new.made))
+    (stands_still V.told V.disk V.faults g.met.V.Vol.clocked x going c.self.invariant.0 (c.take.new.self ++ effects_in c.take.new.made))
 
 pub commit-requires-clause-records : goal.commit-requires-clause-records
 commit-requires-clause-records g c =
@@ -99,7 +105,7 @@ commit-requires-clause-records g c =
     let x = view _ V c.self.inside in
     let going = rw (← c.self.view_is) at c.requires.going in
     let are = c.records-records.ensures.value ∙ c.in-Ok.ensures.ok in
-    records_of V.told V.disk V.faults g.met.V.Vol.clocked x going c.self.invariant c.records-records.result.now are
+    records_of V.told V.disk V.faults g.met.V.Vol.clocked x going c.self.invariant.0 c.records-records.result.now are
 
 pub commit-requires-clause-fits : goal.commit-requires-clause-fits
 commit-requires-clause-fits g c =
@@ -107,7 +113,15 @@ commit-requires-clause-fits g c =
     let x = view _ V c.self.inside in
     let going = rw (← c.self.view_is) at c.requires.going in
     let are = c.records-records.ensures.value ∙ c.in-Ok.ensures.ok in
-    λ told. fits V.told V.disk V.faults g.met.V.Vol.clocked x going c.self.invariant c.records-records.result.now are told
+    λ told. fits V.told V.disk V.faults g.met.V.Vol.clocked x going c.self.invariant.0 c.records-records.result.now are told
+
+pub commit-requires-clause-room : goal.commit-requires-clause-room
+commit-requires-clause-room g c =
+    let V = g.V.Vol in
+    let x = view _ V c.self.inside in
+    let going = rw (← c.self.view_is) at c.requires.going in
+    let are = c.records-records.ensures.value ∙ c.in-Ok.ensures.ok in
+    places_of x.store.blocks c.records-records.result.now x.waiting x.stored x.stopped going c.self.invariant.1 are
 
 pub invariant_of-self-in-Ok-commit : goal.invariant_of-self-in-Ok-commit
 invariant_of-self-in-Ok-commit g c =
@@ -116,8 +130,12 @@ invariant_of-self-in-Ok-commit g c =
     let going = rw (← c.self.view_is) at c.requires.going in
     let are = c.records-records.ensures.value ∙ c.in-Ok.ensures.ok in
     let nothing = joined c.clear.new.self c.take.new.made [] c.clear.ensures.none c.in-Ok.ensures.none in
-    brought_sound V.told V.disk V.faults g.met.V.Vol.clocked x going c.self.invariant c.records-records.result.now are c.commit.new.vol c.commit.new.self
-    c.in-Ok-commit.ensures.committed (c.clear.new.self ++ effects_in c.take.new.made) nothing
+    (
+      brought_sound V.told V.disk V.faults g.met.V.Vol.clocked x going c.self.invariant.0 c.records-records.result.now are c.commit.new.vol c.commit.new.self
+      c.in-Ok-commit.ensures.committed (c.clear.new.self ++ effects_in c.take.new.made) nothing,
+      brought_blocks x.store.blocks c.commit.new.self c.records-records.result.now (c.clear.new.self ++ effects_in c.take.new.made) x.waiting x.stored x.stopped going c.self.invariant.1 are
+      nothing c.in-Ok-commit.ensures.fewer,
+    )
 
 pub returns-in-Ok-commit-clause-brings : goal.returns-in-Ok-commit-clause-brings
 returns-in-Ok-commit-clause-brings g c =
@@ -127,7 +145,7 @@ returns-in-Ok-commit-clause-brings g c =
     let are = c.records-records.ensures.value ∙ c.in-Ok.ensures.ok in
     let nothing = joined c.clear.new.self c.take.new.made [] c.clear.ensures.none c.in-Ok.ensures.none in
     rw (← c.self.view_is)
-    (brings V.told V.disk V.faults g.met.V.Vol.clocked x going c.self.invariant c.records-records.result.now are c.commit.new.vol c.commit.new.self
+    (brings V.told V.disk V.faults g.met.V.Vol.clocked x going c.self.invariant.0 c.records-records.result.now are c.commit.new.vol c.commit.new.self
     c.in-Ok-commit.ensures.committed (c.clear.new.self ++ effects_in c.take.new.made) nothing c.in-Ok-commit.ensures.fits_in)
 
 pub returns-in-Ok-commit-clause-time : goal.returns-in-Ok-commit-clause-time
@@ -137,10 +155,10 @@ returns-in-Ok-commit-clause-time g c =
     let going = rw (← c.self.view_is) at c.requires.going in
     let are = c.records-records.ensures.value ∙ c.in-Ok.ensures.ok in
     rw (← c.self.view_is)
-    (time_goes_on V.told V.disk V.faults g.met.V.Vol.clocked x going c.self.invariant c.records-records.result.now are c.commit.new.vol
+    (time_goes_on V.told V.disk V.faults g.met.V.Vol.clocked x going c.self.invariant.0 c.records-records.result.now are c.commit.new.vol
     c.commit.ensures.later c.commit.ensures.any_moment
     (view _ V (record c.self.inside { store = c.commit.new.self; vol = c.commit.new.vol; tail = c.clear.new.self; made = c.take.new.made }))
-    refl refl (ap (λ (l : LogState). l.head) c.in-Ok-commit.ensures.log) c.commit.ensures.cause.later)
+    refl refl c.commit.ensures.head c.commit.ensures.cause.later)
 
 pub invariant_of-self-in-Err-NoMemory : goal.invariant_of-self-in-Err-NoMemory
 invariant_of-self-in-Err-NoMemory g c =
@@ -148,9 +166,12 @@ invariant_of-self-in-Err-NoMemory g c =
     let x = view _ V c.self.inside in
     let going = rw (← c.self.view_is) at c.requires.going in
     let same = joined c.take.new.self c.take.new.made x.waiting c.in-Ok.ensures.ok c.in-Ok.ensures.none in
-    unbrought_sound V.told V.disk V.faults g.met.V.Vol.clocked x going c.self.invariant c.commit.new.self c.commit.new.vol
-    (c.take.new.self ++ effects_in c.take.new.made) c.in-Err-NoMemory.ensures.err
-    (c.in-Err-NoMemory.ensures.no_memory (ap (λ (f : CommitFault). Err f) c.in-Err-NoMemory.field-0-is)) same
+    let kept = c.in-Err-NoMemory.ensures.no_memory (ap (λ (f : CommitFault). Err f) c.in-Err-NoMemory.field-0-is) in
+    (
+      unbrought_sound V.told V.disk V.faults g.met.V.Vol.clocked x going c.self.invariant.0 c.commit.new.self c.commit.new.vol
+      (c.take.new.self ++ effects_in c.take.new.made) kept.1 kept.0 same,
+      unbrought_blocks x.store c.commit.new.self x.waiting (c.take.new.self ++ effects_in c.take.new.made) x.stored x.stopped kept.1 same c.self.invariant.1,
+    )
 
 pub returns-in-Err-NoMemory-clause-brings : goal.returns-in-Err-NoMemory-clause-brings
 returns-in-Err-NoMemory-clause-brings g c =
@@ -158,10 +179,10 @@ returns-in-Err-NoMemory-clause-brings g c =
     let x = view _ V c.self.inside in
     let going = rw (← c.self.view_is) at c.requires.going in
     let same = joined c.take.new.self c.take.new.made x.waiting c.in-Ok.ensures.ok c.in-Ok.ensures.none in
+    let kept = c.in-Err-NoMemory.ensures.no_memory (ap (λ (f : CommitFault). Err f) c.in-Err-NoMemory.field-0-is) in
     rw (← c.self.view_is)
-    (unbrought V.told V.disk V.faults g.met.V.Vol.clocked x going c.self.invariant c.commit.new.self c.commit.new.vol
-    (c.take.new.self ++ effects_in c.take.new.made) c.in-Err-NoMemory.ensures.err
-    (c.in-Err-NoMemory.ensures.no_memory (ap (λ (f : CommitFault). Err f) c.in-Err-NoMemory.field-0-is)) same)
+    (unbrought V.told V.disk V.faults g.met.V.Vol.clocked x going c.self.invariant.0 c.commit.new.self c.commit.new.vol
+    (c.take.new.self ++ effects_in c.take.new.made) kept.1 kept.0 same)
 
 pub returns-in-Err-NoMemory-clause-time : goal.returns-in-Err-NoMemory-clause-time
 returns-in-Err-NoMemory-clause-time g c =
@@ -170,10 +191,10 @@ returns-in-Err-NoMemory-clause-time g c =
     let going = rw (← c.self.view_is) at c.requires.going in
     let are = c.records-records.ensures.value ∙ c.in-Ok.ensures.ok in
     rw (← c.self.view_is)
-    (time_goes_on V.told V.disk V.faults g.met.V.Vol.clocked x going c.self.invariant c.records-records.result.now are c.commit.new.vol
+    (time_goes_on V.told V.disk V.faults g.met.V.Vol.clocked x going c.self.invariant.0 c.records-records.result.now are c.commit.new.vol
     c.commit.ensures.later c.commit.ensures.any_moment
     (view _ V (record c.self.inside { store = c.commit.new.self; vol = c.commit.new.vol; tail = c.take.new.self; made = c.take.new.made }))
-    refl refl (ap (λ (s : StoreState). s.log.head) c.in-Err-NoMemory.ensures.err) c.commit.ensures.cause.later)
+    refl refl c.commit.ensures.head c.commit.ensures.cause.later)
 
 pub invariant_of-self-in-Err-Fault : goal.invariant_of-self-in-Err-Fault
 invariant_of-self-in-Err-Fault g c =
@@ -182,9 +203,12 @@ invariant_of-self-in-Err-Fault g c =
     let going = rw (← c.self.view_is) at c.requires.going in
     let are = c.records-records.ensures.value ∙ c.in-Ok.ensures.ok in
     let same = joined c.take.new.self c.take.new.made x.waiting c.in-Ok.ensures.ok c.in-Ok.ensures.none in
-    stopped_sound V.told V.disk V.faults g.met.V.Vol.clocked x going c.self.invariant c.records-records.result.now are c.commit.new.vol
-    c.commit.ensures.later c.commit.ensures.any_moment c.commit.new.self (c.take.new.self ++ effects_in c.take.new.made)
-    c.faults.result same
+    (
+      stopped_sound V.told V.disk V.faults g.met.V.Vol.clocked x going c.self.invariant.0 c.records-records.result.now are c.commit.new.vol
+      c.commit.ensures.later c.commit.ensures.any_moment c.commit.new.self (c.take.new.self ++ effects_in c.take.new.made)
+      c.faults.result same,
+      tt,
+    )
 
 pub returns-in-Err-Fault-clause-brings : goal.returns-in-Err-Fault-clause-brings
 returns-in-Err-Fault-clause-brings g c =
@@ -193,7 +217,7 @@ returns-in-Err-Fault-clause-brings g c =
     let going = rw (← c.self.view_is) at c.requires.going in
     let are = c.records-records.ensures.value ∙ c.in-Ok.ensures.ok in
     rw (← c.self.view_is)
-    (fails V.told V.disk V.faults g.met.V.Vol.clocked x going c.self.invariant c.records-records.result.now are c.commit.new.vol c.commit.ensures.later
+    (fails V.told V.disk V.faults g.met.V.Vol.clocked x going c.self.invariant.0 c.records-records.result.now are c.commit.new.vol c.commit.ensures.later
     c.commit.ensures.any_moment c.commit.new.self (c.take.new.self ++ effects_in c.take.new.made) c.faults.result
     c.faults.ensures.value (c.in-Err-Fault.ensures.cause.failed (ap (λ (f : CommitFault). Err f) c.in-Err-Fault.field-0-is))
     (c.in-Err-Fault.ensures.fault_fits (ap (λ (f : CommitFault). Err f) c.in-Err-Fault.field-0-is)))
@@ -205,10 +229,10 @@ returns-in-Err-Fault-clause-time g c =
     let going = rw (← c.self.view_is) at c.requires.going in
     let are = c.records-records.ensures.value ∙ c.in-Ok.ensures.ok in
     rw (← c.self.view_is)
-    (time_goes_on V.told V.disk V.faults g.met.V.Vol.clocked x going c.self.invariant c.records-records.result.now are c.commit.new.vol
+    (time_goes_on V.told V.disk V.faults g.met.V.Vol.clocked x going c.self.invariant.0 c.records-records.result.now are c.commit.new.vol
     c.commit.ensures.later c.commit.ensures.any_moment
     (view _ V (record c.self.inside { store = c.commit.new.self; vol = c.commit.new.vol; tail = c.take.new.self; made = c.take.new.made; stopped = Some c.faults.result }))
-    refl refl (ap (λ (s : StoreState). s.log.head) c.in-Err-Fault.ensures.err) c.commit.ensures.cause.later)
+    refl refl c.commit.ensures.head c.commit.ensures.cause.later)
 
 pub invariant_of-self-in-Err-Full : goal.invariant_of-self-in-Err-Full
 invariant_of-self-in-Err-Full g c =
@@ -217,9 +241,12 @@ invariant_of-self-in-Err-Full g c =
     let going = rw (← c.self.view_is) at c.requires.going in
     let are = c.records-records.ensures.value ∙ c.in-Ok.ensures.ok in
     let same = joined c.take.new.self c.take.new.made x.waiting c.in-Ok.ensures.ok c.in-Ok.ensures.none in
-    stopped_sound V.told V.disk V.faults g.met.V.Vol.clocked x going c.self.invariant c.records-records.result.now are c.commit.new.vol
-    c.commit.ensures.later c.commit.ensures.any_moment c.commit.new.self (c.take.new.self ++ effects_in c.take.new.made)
-    c.faults-in-Err-Full.result same
+    (
+      stopped_sound V.told V.disk V.faults g.met.V.Vol.clocked x going c.self.invariant.0 c.records-records.result.now are c.commit.new.vol
+      c.commit.ensures.later c.commit.ensures.any_moment c.commit.new.self (c.take.new.self ++ effects_in c.take.new.made)
+      c.faults-in-Err-Full.result same,
+      tt,
+    )
 
 pub returns-in-Err-Full-clause-brings : goal.returns-in-Err-Full-clause-brings
 returns-in-Err-Full-clause-brings g c =
@@ -228,10 +255,11 @@ returns-in-Err-Full-clause-brings g c =
     let going = rw (← c.self.view_is) at c.requires.going in
     let are = c.records-records.ensures.value ∙ c.in-Ok.ensures.ok in
     let some : x.waiting ≢ [] = λ none. something_in (length c.records-records.result.now) c.take.new.self (ap (λ (l : List Effect). length l) c.records-records.ensures.value) c.if-is_empty.ensures (c.in-Ok.ensures.ok ∙ none) in
+    let kept = c.in-Err-Full.ensures.full_leaves (ap (λ (f : CommitFault). Err f) c.in-Err-Full.field-0-is) in
     rw (← c.self.view_is)
-    (fills V.told V.disk V.faults g.met.V.Vol.clocked x going c.self.invariant c.records-records.result.now are c.commit.new.self c.commit.new.vol
+    (fills V.told V.disk V.faults g.met.V.Vol.clocked x going c.self.invariant.0 c.records-records.result.now are c.commit.new.self c.commit.new.vol
     (c.take.new.self ++ effects_in c.take.new.made) c.faults-in-Err-Full.result c.faults-in-Err-Full.ensures.value
-    c.in-Err-Full.ensures.err (c.in-Err-Full.ensures.full_leaves (ap (λ (f : CommitFault). Err f) c.in-Err-Full.field-0-is)) some
+    kept.1 kept.0 some
     (c.in-Err-Full.ensures.full (ap (λ (f : CommitFault). Err f) c.in-Err-Full.field-0-is)))
 
 pub returns-in-Err-Full-clause-time : goal.returns-in-Err-Full-clause-time
@@ -241,7 +269,7 @@ returns-in-Err-Full-clause-time g c =
     let going = rw (← c.self.view_is) at c.requires.going in
     let are = c.records-records.ensures.value ∙ c.in-Ok.ensures.ok in
     rw (← c.self.view_is)
-    (time_goes_on V.told V.disk V.faults g.met.V.Vol.clocked x going c.self.invariant c.records-records.result.now are c.commit.new.vol
+    (time_goes_on V.told V.disk V.faults g.met.V.Vol.clocked x going c.self.invariant.0 c.records-records.result.now are c.commit.new.vol
     c.commit.ensures.later c.commit.ensures.any_moment
     (view _ V (record c.self.inside { store = c.commit.new.self; vol = c.commit.new.vol; tail = c.take.new.self; made = c.take.new.made; stopped = Some c.faults-in-Err-Full.result }))
-    refl refl (ap (λ (s : StoreState). s.log.head) c.in-Err-Full.ensures.err) c.commit.ensures.cause.later)
+    refl refl c.commit.ensures.head c.commit.ensures.cause.later)

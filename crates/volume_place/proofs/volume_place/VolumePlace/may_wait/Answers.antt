@@ -1,8 +1,7 @@
 use Rattle.std.proofs.Common.{◌≡◌, true, false, ℕ, List, length, Option, ap, sym, subst, ◌∙◌}
 use Rattle.std.specs.Prelude.{MatchBool, MatchOption}
-use Rattle.std.specs.List.{flat_map}
 use Rattle.effects.specs.declared.effect.Effect.{Effect}
-use Rattle.op_records.specs.Spelling.{spelled}
+use Rattle.stream_store.specs.Committing.{batch_length}
 use Rattle.volume_place.specs.Tail.{MayWait, MustNotWait, is_small}
 use Rattle.volume_place.specs.declared.volume_place.VolumePlace.TheView.{view}
 use Rattle.volume_place.proofs.Concluded.{nothing_waits, room_tells}
@@ -15,8 +14,8 @@ returns-clause-waits g c =
     let V = g.V.Vol in
     let x = view _ V c.self.inside in
     let given : List Effect = c.take.new.self in
-    let little : (is_small given ≡ true) × (c.in-Some.bytes ≡ length (flat_map spelled given)) =
-    subst (λ (o : Option ℕ). MatchOption o (is_small given ≡ false) (λ n. (is_small given ≡ true) × (n ≡ length (flat_map spelled given)))) c.in-Some.is
+    let little : (is_small given ≡ true) × (c.in-Some.bytes ≡ batch_length given) =
+    subst (λ (o : Option ℕ). MatchOption o (is_small given ≡ false) (λ n. (is_small given ≡ true) × (n ≡ batch_length given))) c.in-Some.is
     c.in_ok-bytes.ensures.value in
     let there : length c.records.result.now ≡ length given = ap (λ (l : List Effect). length l) (c.records.ensures.value ∙ c.in_ok-bytes.ensures.same) in
     let decided : MatchBool c.if-is_empty.result (MayWait x.store given) (MustNotWait x.store given) = elim c.if-is_empty.branch [

@@ -1,9 +1,13 @@
-use Rattle.std.proofs.Common.{◌≡◌, None, Ok, Err, ap, ◌∙◌, rules}
+use Rattle.std.proofs.Common.{◌≡◌, None, Ok, Err, ap, subst, ◌∙◌, rules}
 use Rattle.std.proofs.lemmas.Result.{err_from_is_err_and}
 use Rattle.js_model.specs.Events.{kept_incarnation}
+use Rattle.model_laws.specs.Sound.{IsSound}
 use Rattle.volume_place.specs.Contents.{Contents}
-use Rattle.volume_place.proofs.Steps.{shares_made, steps_made}
+use Rattle.volume_place.proofs.Steps.{shares_made, starves, steps_made}
 use Rattle.volume_place.proofs.volume_place.VolumePlacePlace.step.Goals as goal
+
+sound_as : {V : Type 0} (inside place : Contents V) → inside ≡ place → IsSound inside.state → IsSound place.state
+sound_as {V} inside place is = subst (λ (p : Contents V). IsSound p.state) is
 
 kept_as : {V : Type 0} (inside place : Contents V) → inside ≡ place → kept_incarnation inside.state ≡ kept_incarnation place.state
 kept_as {V} inside place is = ap (λ (p : Contents V). kept_incarnation p.state) is
@@ -15,7 +19,8 @@ returns-in_err-confirm-in-Ok-clause-steps g c =
     let p = err_from_is_err_and c.from_residual.result c.from_residual.ensures.1 in
     rw (p.1, p.2)
     (steps_made g.V.Vol.told g.V.Vol.disk g.V.Vol.faults c.args.self.now going c.answer.new.self c.confirm.new.self c.args.event.now c.args.now c.in-Ok.said.reply c.args.outs.now
-    c.answer.new.outs c.confirm.new.outs c.in-Ok.said.firm c.is_refused.result c.len-count.result (Err c.in_err-confirm-in-Ok.field-0.0) kept c.in-Ok.ensures.rests c.in-Ok.ensures.answers
+    c.answer.new.outs c.confirm.new.outs c.in-Ok.said.firm c.is_refused.result c.len-count.result (Err c.in_err-confirm-in-Ok.field-0.0)
+    (sound_as _ _ c.self.view_is c.self.invariant.0.sound) kept c.in-Ok.ensures.rests c.in-Ok.ensures.answers
     c.in-Ok.ensures.recorded c.in-Ok.ensures.firm c.is_refused.ensures.value c.len-count.ensures c.in_err-confirm-in-Ok.ensures.confirms c.in_err-confirm-in-Ok.ensures.time)
 
 pub returns-in_ok-confirm-in-Ok-clause-steps : goal.returns-in_ok-confirm-in-Ok-clause-steps
@@ -23,7 +28,8 @@ returns-in_ok-confirm-in-Ok-clause-steps g c =
     let going : c.args.self.now.stopped ≡ None = search rules in
     let kept = c.if-event-kept.false ∙ c.incarnation-kept.ensures.value ∙ kept_as _ _ c.self.view_is in
     steps_made g.V.Vol.told g.V.Vol.disk g.V.Vol.faults c.args.self.now going c.answer.new.self c.confirm.new.self c.args.event.now c.args.now c.in-Ok.said.reply c.args.outs.now
-    c.answer.new.outs c.confirm.new.outs c.in-Ok.said.firm c.is_refused.result c.len-count.result (Ok c.in_ok-confirm-in-Ok.field-0) kept c.in-Ok.ensures.rests c.in-Ok.ensures.answers
+    c.answer.new.outs c.confirm.new.outs c.in-Ok.said.firm c.is_refused.result c.len-count.result (Ok c.in_ok-confirm-in-Ok.field-0)
+    (sound_as _ _ c.self.view_is c.self.invariant.0.sound) kept c.in-Ok.ensures.rests c.in-Ok.ensures.answers
     c.in-Ok.ensures.recorded c.in-Ok.ensures.firm c.is_refused.ensures.value c.len-count.ensures c.in_ok-confirm-in-Ok.ensures.confirms c.in_ok-confirm-in-Ok.ensures.time
 
 pub returns-in_ok-confirm-in-Ok-clause-shares : goal.returns-in_ok-confirm-in-Ok-clause-shares
@@ -33,3 +39,10 @@ returns-in_ok-confirm-in-Ok-clause-shares g c =
     shares_made g.V.Vol.told g.V.Vol.disk g.V.Vol.faults c.args.self.now going c.answer.new.self c.confirm.new.self c.args.event.now c.args.now c.in-Ok.said.reply c.args.outs.now
     c.answer.new.outs c.confirm.new.outs c.in-Ok.said.firm c.is_refused.result c.len-count.result kept c.in-Ok.ensures.rests c.in-Ok.ensures.answers
     c.in-Ok.ensures.recorded c.in-Ok.ensures.firm c.in_ok-confirm-in-Ok.ensures.confirms
+
+pub returns-in-Err-clause-steps : goal.returns-in-Err-clause-steps
+returns-in-Err-clause-steps g c =
+    let going : c.args.self.now.stopped ≡ None = search rules in
+    let kept = c.if-event-kept.false ∙ c.incarnation-kept.ensures.value ∙ kept_as _ _ c.self.view_is in
+    starves g.V.Vol.told g.V.Vol.disk g.V.Vol.faults c.args.self.now going c.in-Err.left c.answer.new.self c.args.event.now c.args.now c.args.outs.now c.answer.new.outs kept c.in-Err.ensures.rests
+    c.in-Err.ensures.err c.in-Err.ensures.err_recorded

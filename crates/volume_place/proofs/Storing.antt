@@ -1,0 +1,361 @@
+-- What waits keeps its places in blocks as events and deliveries are made, and a message that is stored counts.
+use Rattle.std.proofs.Common.{◌≡◌, ◌≢◌, ◌≤◌, ◌<◌, ◌⊎◌, inl, inr, ℕ, ◌+◌, ◌-◌, ◌^◌, ◌==◌, ◌||◌, min, Bool, true, false, cond, not, List, [], ◌∷◌, ◌++◌, length, map, Option, None, Some, Result, Ok, Err, refl, sym, ap, subst, ◌∙◌, arith, length-append, append_assoc}
+use Rattle.std.specs.Prelude.{IsTrue, filter}
+use Rattle.std.specs.List.{list_all}
+use Rattle.std.specs.Option.{option_to_list}
+use Rattle.std.proofs.lemmas.Bool.{and_from, and_parts, eqb-true, eq-eqb, lt-ltb, ltb-true, true≢false}
+use Rattle.std.proofs.lemmas.List.{append-nil}
+use Rattle.js_base.specs.Bytes.{Bytes, has}
+use Rattle.js_base.specs.declared.out.Out.{Out}
+use Rattle.js_model.specs.declared.entry.Delivery.{Delivery}
+use Rattle.js_model.specs.declared.event.Event.{Event}
+use Rattle.js_model.specs.declared.event.Publish.{Publish}
+use Rattle.js_model.specs.declared.event.What.{What}
+use Rattle.js_model.specs.declared.event.What.TheVariants as whats
+use Rattle.js_model.specs.declared.reply.Reply.{Reply}
+use Rattle.js_model.specs.declared.reply.Verdict.TheVariants.{Take}
+use Rattle.js_model.specs.declared.stream.Message.{Message}
+use Rattle.js_model.specs.declared.stream.State.{State}
+use Rattle.js_model.specs.declared.stream.State.TheVariants.{Vacant, Live}
+use Rattle.js_model.specs.declared.stream.Stream.{Stream}
+use Rattle.js_model.specs.Advance.{advance}
+use Rattle.js_model.specs.Events.{answered, published, settled, settled_state, with_message}
+use Rattle.js_model.specs.Lists.{Between}
+use Rattle.js_model.specs.Runs.{is_few, new_messages}
+use Rattle.js_model.specs.Streams.{seqs}
+use Rattle.js_model.specs.Verdict.{late_checks, verdict}
+use Rattle.js_model.proofs.Parts.{between_bounds}
+use Rattle.model_laws.specs.Sound.{IsSound}
+use Rattle.model_laws.proofs.Bounded.{ArePassed, all_passed, taken_passed}
+use Rattle.effects.specs.Effects.{delivery_effects, event_effects, is_skipped, settle_effects}
+use Rattle.effects.specs.TimeEffects.{remove_of, time_effects}
+use Rattle.effects.specs.declared.effect.Effect.{Effect}
+use Rattle.effects.specs.declared.effect.Effect.TheVariants as effects
+use Rattle.op_records.specs.Allowed.{is_put}
+use Rattle.op_records.specs.Blocks.{spelled_message}
+use Rattle.op_records.proofs.BlockSizes.{spelled_len}
+use Rattle.block_table.specs.Blocks.{Blocks, blocks}
+use Rattle.block_writing.specs.Planning.{message_by}
+use Rattle.stream_store.specs.Laws.{keeps_placing}
+use Rattle.stream_store.specs.Placing.{can_place, has_room, used_behind}
+use Rattle.stream_store.proofs.Counting.{law_counting}
+use Rattle.stream_store.proofs.Rooms.{law_placing}
+use Rattle.place_engine.specs.Recording.{TellsEventIn, TellsLeft, TellsSent}
+use Rattle.place_engine.specs.declared.faults.Left.{Left}
+use Rattle.place_engine.specs.declared.faults.Left.TheVariants.{Nothing, Ticked, Unsaid}
+use Rattle.place_records.specs.declared.made.Made.{Made}
+use Rattle.place_records.specs.declared.made.TimeRecords.{TimeRecords}
+use Rattle.place_records.specs.Records.{effects_in, gives_up, own_in, seen_in, time_in}
+use Rattle.volume_place.specs.Rooms.{HasBlocks, IsCounted, MayStore, block_length, room_for, room_in, stored_by}
+use Rattle.volume_place.proofs.Plain.{Plain, Still, Stores, plain_both, plain_delivery, plain_of, plain_or_stores, plain_settle, plain_tick, plain_time, put_of, still_ranges, still_time, storing}
+
+-- ---- how many messages records store
+
+stored_both : (xs ys : List Effect) → stored_by (xs ++ ys) ≡ stored_by xs + stored_by ys
+stored_both [] ys = omega arith
+stored_both (x ∷ xs) ys = go (is_put x) (stored_both xs ys)
+  where
+    go : (b : Bool) → stored_by (xs ++ ys) ≡ stored_by xs + stored_by ys
+        → length (cond b (x ∷ filter is_put (xs ++ ys)) (filter is_put (xs ++ ys))) ≡ length (cond b (x ∷ filter is_put xs) (filter is_put xs)) + stored_by ys
+    go true rest = omega (arith, rest)
+    go false rest = rest
+
+pub none_stored : (es : List Effect) → Plain es → stored_by es ≡ 0
+none_stored [] plain = refl
+none_stored (e ∷ es) plain =
+    let parts = and_parts (not (is_put e)) _ plain in
+    go (is_put e) parts.0 (none_stored es parts.1)
+  where
+    go : (b : Bool) → not b ≡ true → stored_by es ≡ 0 → length (cond b (e ∷ filter is_put es) (filter is_put es)) ≡ 0
+    go true not_so rest = absurd (true≢false (sym not_so))
+    go false so rest = rest
+
+pub one_stored : (a : Stream) (p : Publish) (now : ℕ) (s : Stream) → stored_by (time_effects s now ++ storing a p) ≡ 1
+one_stored a p now s =
+    let before = none_stored (time_effects s now) (plain_time s now) in
+    let behind = none_stored (settle_effects [] (Live (with_message a p))) (plain_settle [] (Live (with_message a p))) in
+    omega (arith, stored_both (time_effects s now) (storing a p), before, behind)
+
+-- ---- places
+
+-- the records behind those that wait have their places, and use so many files more
+pub record Grows (b : Blocks) (waiting effects : List Effect) : Type 0 where
+  pub placed : can_place b (waiting ++ effects) ≡ true
+  pub used : used_behind b (waiting ++ effects) ≤ used_behind b waiting + stored_by effects
+
+not_put : (x : Bool) → not x ≡ true → x ≡ false
+not_put true so = absurd (true≢false (sym so))
+not_put false so = refl
+
+one_behind : {X : Type 0} (xs : List X) (x : X) (ys : List X) → (xs ++ x ∷ []) ++ ys ≡ xs ++ x ∷ ys
+one_behind xs x ys = append_assoc xs (x ∷ []) ys
+
+module _ (b : Blocks) where
+  -- records that store nothing
+  plain_places : (es xs : List Effect) → Plain xs → can_place b es ≡ true → (can_place b (es ++ xs) ≡ true) × (used_behind b (es ++ xs) ≡ used_behind b es)
+  plain_places es [] plain can = (ap (can_place b) (append-nil es) ∙ can, ap (used_behind b) (append-nil es))
+  plain_places es (x ∷ xs) plain can =
+      let parts = and_parts (not (is_put x)) _ plain in
+      let none = not_put (is_put x) parts.0 in
+      let rest = plain_places (es ++ x ∷ []) xs parts.1 (law_placing.change b es x none can) in
+      let seam = one_behind es x xs in
+      (ap (can_place b) (sym seam) ∙ rest.0, ap (used_behind b) (sym seam) ∙ rest.1 ∙ law_counting.change b es x none)
+
+  plain_grows : (es xs : List Effect) → Plain xs → can_place b es ≡ true → Grows b es xs
+  plain_grows es xs plain can =
+      let h = plain_places es xs plain can in
+      record { placed = h.0; used = omega (arith, h.1) }
+
+  -- records that do not change where the next message goes
+  still_room : (es xs : List Effect) (len : ℕ) → Still xs → has_room b (es ++ xs) len ≡ has_room b es len
+  still_room es [] len still = ap (λ (l : List Effect). has_room b l len) (append-nil es)
+  still_room es (x ∷ xs) len still =
+      let parts = and_parts (keeps_placing x) _ still in
+      ap (λ (l : List Effect). has_room b l len) (sym (one_behind es x xs)) ∙ still_room (es ++ x ∷ []) xs len parts.1 ∙ law_placing.keeps b es x len parts.0
+
+  -- a message is as long whatever its numbers are
+  length_is : (a : Stream) (p : Publish) → block_length p ≡ length (spelled_message (message_by (a.last + 1) a.moment p.subject p.headers p.payload))
+  length_is a p = spelled_len (message_by 0 0 p.subject p.headers p.payload) ∙ sym (spelled_len (message_by (a.last + 1) a.moment p.subject p.headers p.payload))
+
+  -- a message for which there is room, between passing time and what leaves by it
+  stored_grows : (es : List Effect) (s a : Stream) (p : Publish) (now : ℕ) → can_place b es ≡ true → has_room b es (block_length p) ≡ true → Grows b es (time_effects s now ++ storing a p)
+  stored_grows es s a p now can room =
+      let passed = time_effects s now in
+      let leaving = settle_effects [] (Live (with_message a p)) in
+      let first = plain_places es passed (plain_time s now) can in
+      let there = ap (has_room b (es ++ passed)) (sym (length_is a p)) ∙ still_room es passed (block_length p) (still_time s now) ∙ room in
+      let put = law_placing.message b (es ++ passed) (a.last + 1) a.moment p.wants.id p.subject p.headers p.payload there in
+      let more = law_counting.message b (es ++ passed) (a.last + 1) a.moment p.wants.id p.subject p.headers p.payload put in
+      let last = plain_places ((es ++ passed) ++ put_of a p ∷ []) leaving (plain_settle [] (Live (with_message a p))) put in
+      let seam = one_behind (es ++ passed) (put_of a p) leaving ∙ append_assoc es passed (storing a p) in
+      let count = one_stored a p now s in
+      let used = ap (used_behind b) (sym seam) ∙ last.1 in
+      record { placed = ap (can_place b) (sym seam) ∙ last.0; used = omega (arith, used, more, first.1, count) }
+
+taken_has_room : (a : Stream) (p : Publish) (room : Bool) → verdict a p room ≡ Take → room ≡ true
+taken_has_room a p room e =
+    let late : ArePassed (late_checks a p room) = all_passed (late_checks a p room) (taken_passed a p room e).1 in
+    go room late.1.1.1.1.1.1.1.0
+  where
+    go : (x : Bool) → not x ≡ false → x ≡ true
+    go true so = refl
+    go false so = absurd (true≢false so)
+
+pub event_grows : (b : Blocks) (es : List Effect) (old : State) (what : What) (now : ℕ) (room : Bool) → room ≡ room_for b es what → can_place b es ≡ true → Grows b es (event_effects old what now room)
+event_grows b es old what now room is can = go (plain_or_stores old what now room)
+  where
+    go : Plain (event_effects old what now room) ⊎ Stores old what now room → Grows b es (event_effects old what now room)
+    go (inl plain) = plain_grows b es (event_effects old what now room) plain can
+    go (inr h) =
+        let there : has_room b es (block_length h.p) ≡ true = sym (ap (room_for b es) h.what_is) ∙ sym is ∙ taken_has_room (advance h.s now) h.p room h.taken in
+        subst (Grows b es) (sym h.records) (stored_grows b es h.s (advance h.s now) h.p now can there)
+
+-- ---- counts
+
+-- none is counted
+pub uncounted : (stored : ℕ) (es : List Effect) → Plain es → IsCounted stored (stored_by es) stored
+uncounted stored es plain = let none = none_stored es plain in record { none = λ zero_is. refl; most = omega arith; all = λ few. omega (arith, none) }
+
+few_before : (old made new : ℕ) → is_few new ≡ true → old + made ≤ new → is_few old ≡ true
+few_before old made new few le = let below : new < 65533 = ltb-true new 65533 few in lt-ltb old 65533 (omega (arith, below, le))
+
+pub grown_blocks : (b : Blocks) (es effects : List Effect) (stored count : ℕ) → HasBlocks b es stored → Grows b es effects → IsCounted stored (stored_by effects) count → HasBlocks b (es ++ effects) count
+grown_blocks b es effects stored count h grows counted = record {
+  placed = grows.placed;
+  few = λ is.
+      let all = counted.all is in
+      let before = h.few (few_before stored (stored_by effects) count is all) in
+      omega (arith, all, before, grows.used);
+}
+
+-- a call that finds no memory stores nothing
+pub left_plain : (left : Left) (old : State) (now : ℕ) (es : List Effect) → TellsLeft left old now es → Plain es
+left_plain Nothing old now es tells = subst Plain (sym tells) refl
+left_plain Ticked old now es tells = subst Plain (sym tells) (plain_tick old now true)
+left_plain (Unsaid refused) old now es tells = absurd tells
+
+module _ (b : Blocks) (waiting : List Effect) (stored : ℕ) where
+  going_blocks : (o : Option ℕ) → o ≡ None → MayStore o b waiting stored → HasBlocks b waiting stored
+  going_blocks o goes = subst (λ (p : Option ℕ). MayStore p b waiting stored) goes
+
+  pub has_blocks : (stopped : Option ℕ) → stopped ≡ None → MayStore stopped b waiting stored → HasBlocks b waiting stored
+  has_blocks stopped goes h = going_blocks stopped goes h
+
+  pub may_store : (stopped : Option ℕ) → stopped ≡ None → HasBlocks b waiting stored → MayStore stopped b waiting stored
+  may_store stopped goes h = subst (λ (p : Option ℕ). MayStore p b waiting stored) (sym goes) h
+
+  pub room_going : (stopped : Option ℕ) (what : What) → stopped ≡ None → room_in stopped b waiting what ≡ room_for b waiting what
+  room_going stopped what goes = ap (λ (p : Option ℕ). room_in p b waiting what) goes
+
+  -- few messages count
+  pub room_by_count : (what : What) → HasBlocks b waiting stored → is_few stored ≡ true → room_for b waiting what ≡ true
+  room_by_count (whats.Publish p) h few =
+      let below : stored < 65533 = ltb-true stored 65533 few in
+      let used = h.few few in
+      law_counting.room b waiting h.placed (omega (arith, below, used)) (block_length p)
+  room_by_count (whats.Make reply config) h few = refl
+  room_by_count (whats.Change reply config) h few = refl
+  room_by_count (whats.Drop reply) h few = refl
+  room_by_count (whats.Purge reply pattern below keep) h few = refl
+  room_by_count (whats.Delete reply n) h few = refl
+  room_by_count (whats.MakeConsumer reply name config update) h few = refl
+  room_by_count (whats.DropConsumer reply name) h few = refl
+  room_by_count (whats.Ack reply ack) h few = refl
+  room_by_count (whats.Pull reply name ask) h few = refl
+  room_by_count whats.Tick h few = refl
+  room_by_count (whats.StreamInfo reply) h few = refl
+  room_by_count (whats.MessageGet reply by) h few = refl
+  room_by_count (whats.ConsumerInfo reply name) h few = refl
+  room_by_count (whats.ConsumerNames reply offset) h few = refl
+  room_by_count (whats.ConsumerList reply offset) h few = refl
+
+  -- only a publish may find none
+  pub only_publishes : (what : What) (room : Bool) → room ≡ room_for b waiting what → (room ≡ true) ⊎ ((p : Publish) × (what ≡ whats.Publish p))
+  only_publishes (whats.Publish p) room is = inr (p, refl)
+  only_publishes (whats.Make reply config) room is = inl is
+  only_publishes (whats.Change reply config) room is = inl is
+  only_publishes (whats.Drop reply) room is = inl is
+  only_publishes (whats.Purge reply pattern below keep) room is = inl is
+  only_publishes (whats.Delete reply n) room is = inl is
+  only_publishes (whats.MakeConsumer reply name config update) room is = inl is
+  only_publishes (whats.DropConsumer reply name) room is = inl is
+  only_publishes (whats.Ack reply ack) room is = inl is
+  only_publishes (whats.Pull reply name ask) room is = inl is
+  only_publishes whats.Tick room is = inl is
+  only_publishes (whats.StreamInfo reply) room is = inl is
+  only_publishes (whats.MessageGet reply by) room is = inl is
+  only_publishes (whats.ConsumerInfo reply name) room is = inl is
+  only_publishes (whats.ConsumerNames reply offset) room is = inl is
+  only_publishes (whats.ConsumerList reply offset) room is = inl is
+
+  -- ---- what was made
+
+  pub told_grows : (result : Result Reply Left) (old : State) (what : What) (now : ℕ) (room : Bool) (es : List Effect) → room ≡ room_for b waiting what → HasBlocks b waiting stored
+      → TellsEventIn room result old what now es → Grows b waiting es
+  told_grows (Ok reply) old what now room es is h tells = subst (Grows b waiting) (sym tells) (event_grows b waiting old what now room is h.placed)
+  told_grows (Err left) old what now room es is h tells = plain_grows b waiting es (left_plain left old now es tells) h.placed
+
+  pub sent_plain : (result : Result (Option Delivery) Left) (old : State) (now : ℕ) (new : State) (es : List Effect) → TellsSent result old now new es → Plain es
+  sent_plain (Ok (Some d)) old now new es tells = subst Plain (sym tells) (plain_delivery old now d new)
+  sent_plain (Ok None) old now new es tells = subst Plain (sym tells) refl
+  sent_plain (Err left) old now new es tells = left_plain left old now es tells
+
+  pub sent_blocks : (result : Result (Option Delivery) Left) (old : State) (now : ℕ) (new : State) (es : List Effect) → HasBlocks b waiting stored → TellsSent result old now new es → HasBlocks b (waiting ++ es) stored
+  sent_blocks result old now new es h tells =
+      let plain = sent_plain result old now new es tells in
+      grown_blocks b waiting es stored stored h (plain_grows b waiting es plain h.placed) (uncounted stored es plain)
+
+-- ---- the messages that a state has, and the one before has not
+
+one_new : (before : List ℕ) (n : ℕ) (ms : List Message) → has before n ≡ false → has (seqs ms) n ≡ true → 1 ≤ length (filter (λ m. not (has before m.seq)) ms)
+one_new before n [] none is = absurd (true≢false (sym is))
+one_new before n (m ∷ ms) none is = go (m.seq == n) refl is (one_new before n ms none)
+  where
+    passes : (x : Bool) → x ≡ false → 1 ≤ length (cond (not x) (m ∷ filter (λ m. not (has before m.seq)) ms) (filter (λ m. not (has before m.seq)) ms))
+    passes true e = absurd (true≢false e)
+    passes false e = omega arith
+
+    more : (x : Bool) → 1 ≤ length (filter (λ m. not (has before m.seq)) ms) → 1 ≤ length (cond x (m ∷ filter (λ m. not (has before m.seq)) ms) (filter (λ m. not (has before m.seq)) ms))
+    more true some = omega arith
+    more false some = some
+
+    go : (x : Bool) → (m.seq == n) ≡ x → (x || has (seqs ms) n) ≡ true → (has (seqs ms) n ≡ true → 1 ≤ length (filter (λ m. not (has before m.seq)) ms)) → 1 ≤ length (filter (λ m. not (has before m.seq)) (m ∷ ms))
+    go true e h rest = passes (has before m.seq) (ap (has before) (eqb-true m.seq n e) ∙ none)
+    go false e h rest = more (not (has before m.seq)) (rest h)
+
+-- the sequences of a sound stream end below the next one
+none_next : (low high : ℕ) (ms : List Message) → Between (λ m. m.seq) low high ms → has (seqs ms) high ≡ false
+none_next low high [] h = refl
+none_next low high (m ∷ ms) h = go (m.seq == high) refl (between_bounds (λ x. x.seq) (m.seq + 1) high ms h.1) (none_next (m.seq + 1) high ms h.1)
+  where
+    go : (x : Bool) → (m.seq == high) ≡ x → m.seq + 1 ≤ high → has (seqs ms) high ≡ false → (x || has (seqs ms) high) ≡ false
+    go true e bound rest = let same = eqb-true m.seq high e in absurd (omega (arith, same, bound))
+    go false e bound rest = rest
+
+last_of_advance : (s : Stream) (now : ℕ) → (advance s now).last ≡ s.last
+unfolding advance
+last_of_advance s now = refl
+
+state_of_publish : (s : Stream) (e : Event) (now : ℕ) (room : Bool) (p : Publish) → e.what ≡ whats.Publish p → verdict (advance s now) p room ≡ Take
+    → (answered (Live s) e now room).state ≡ Live (settled (with_message (advance s now) p))
+unfolding answered
+state_of_publish s e now room p is taken = cc
+
+not_skipped : (x : Bool) → not x ≡ false → x ≡ true
+not_skipped true so = refl
+not_skipped false so = absurd (true≢false so)
+
+-- as many messages are stored as are new, or fewer
+pub stored_new : (old : State) (e : Event) (now : ℕ) (room : Bool) → IsSound old → stored_by (event_effects old e.what now room) ≤ length (new_messages old (answered old e now room).state)
+stored_new old e now room sound = go (plain_or_stores old e.what now room)
+  where
+    go : Plain (event_effects old e.what now room) ⊎ Stores old e.what now room → stored_by (event_effects old e.what now room) ≤ length (new_messages old (answered old e now room).state)
+    go (inl plain) = let none = none_stored (event_effects old e.what now room) plain in omega (arith, none)
+    go (inr h) =
+        let a = advance h.s now in
+        let count : stored_by (event_effects old e.what now room) ≡ 1 = ap stored_by h.records ∙ one_stored a h.p now h.s in
+        let left : (answered old e now room).state ≡ Live (settled (with_message a h.p)) =
+        ap (λ (x : State). (answered x e now room).state) h.old_is ∙ state_of_publish h.s e now room h.p h.what_is h.taken in
+        let stays : has (seqs (settled (with_message a h.p)).messages) (a.last + 1) ≡ true = not_skipped (has (seqs (settled (with_message a h.p)).messages) (a.last + 1)) h.kept in
+        let stood : Between (λ m. m.seq) 1 (h.s.last + 1) h.s.messages = (subst IsSound h.old_is sound).stored.messages in
+        let fresh : has (seqs h.s.messages) (a.last + 1) ≡ false = ap (λ (n : ℕ). has (seqs h.s.messages) (n + 1)) (last_of_advance h.s now) ∙ none_next 1 (h.s.last + 1) h.s.messages stood in
+        let some = one_new (seqs h.s.messages) (a.last + 1) (settled (with_message a h.p)).messages fresh stays in
+        let both : 1 ≤ length (new_messages old (answered old e now room).state) =
+        subst (λ (x : State). 1 ≤ length (new_messages x (answered old e now room).state)) (sym h.old_is)
+        (subst (λ (x : State). 1 ≤ length (new_messages (Live h.s) x)) (sym left) some) in
+        omega (arith, count, both)
+
+-- ---- the records that were made
+
+plain_seen : (time : TimeRecords) → Plain (seen_in time)
+plain_seen time = go time.seen
+  where
+    go : (b : Bool) → Plain (cond b (effects.Now time.moment ∷ []) [])
+    go true = refl
+    go false = refl
+
+plain_given_up : (moment : ℕ) (names : List Bytes) → Plain (map (gives_up moment) names)
+plain_given_up moment [] = refl
+plain_given_up moment (name ∷ names) = plain_given_up moment names
+
+plain_time_in : (time : TimeRecords) → Plain (time_in time)
+plain_time_in time =
+    plain_both (seen_in time) _ (plain_seen time)
+    (plain_both (map remove_of time.aged.ranges) _ (plain_of (map remove_of time.aged.ranges) (still_ranges time.aged.ranges)) (plain_given_up time.moment time.given_up))
+
+-- just its own record may store one
+pub made_stored : (made : Made) → stored_by (effects_in made) ≡ stored_by (option_to_list made.own.effect)
+made_stored made =
+    let time = none_stored (time_in made.time) (plain_time_in made.time) in
+    let left = none_stored (map remove_of made.own.removed.ranges) (plain_of (map remove_of made.own.removed.ranges) (still_ranges made.own.removed.ranges)) in
+    omega (arith, stored_both (time_in made.time) (own_in made.own), stored_both (option_to_list made.own.effect) (map remove_of made.own.removed.ranges), time, left)
+
+-- a number that is at its end stands for many
+pub counted_one : (made : Made) (e : Effect) (stored count : ℕ) → made.own.effect ≡ Some e → is_put e ≡ true → count ≡ min (stored + 1) (2 ^ 64 - 1) → IsCounted stored (stored_by (effects_in made)) count
+counted_one made e stored count is put count_is =
+    let one : stored_by (effects_in made) ≡ 1 =
+    made_stored made ∙ ap (λ (o : Option Effect). stored_by (option_to_list o)) is ∙ ap (λ (b : Bool). length (cond b (e ∷ []) [])) put in
+    record {
+      none = λ zero_is. absurd (omega (arith, one, zero_is));
+      most = omega (arith, one, count_is);
+      all = λ few. let below : count < 65533 = ltb-true count 65533 few in omega (arith, one, count_is, below);
+    }
+
+counted_none : (made : Made) (stored : ℕ) → stored_by (option_to_list made.own.effect) ≡ 0 → IsCounted stored (stored_by (effects_in made)) stored
+counted_none made stored nothing =
+    let none : stored_by (effects_in made) ≡ 0 = made_stored made ∙ nothing in
+    record { none = λ zero_is. refl; most = omega arith; all = λ few. omega (arith, none) }
+
+pub counted_other : (made : Made) (e : Effect) (stored : ℕ) → made.own.effect ≡ Some e → is_put e ≡ false → IsCounted stored (stored_by (effects_in made)) stored
+counted_other made e stored is other = counted_none made stored (ap (λ (o : Option Effect). stored_by (option_to_list o)) is ∙ ap (λ (b : Bool). length (cond b (e ∷ []) [])) other)
+
+pub counted_without : (made : Made) (stored : ℕ) → made.own.effect ≡ None → IsCounted stored (stored_by (effects_in made)) stored
+counted_without made stored is = counted_none made stored (ap (λ (o : Option Effect). stored_by (option_to_list o)) is)
+
+-- each other thing that is asked
+pub others_have_room : (b : Blocks) (waiting : List Effect) (what : What) → ((p : Publish) → what ≢ whats.Publish p) → room_for b waiting what ≡ true
+others_have_room b waiting what other = go (only_publishes b waiting 0 what (room_for b waiting what) refl)
+  where
+    go : (room_for b waiting what ≡ true) ⊎ ((p : Publish) × (what ≡ whats.Publish p)) → room_for b waiting what ≡ true
+    go (inl is) = is
+    go (inr publish) = absurd (other publish.0 publish.1)
