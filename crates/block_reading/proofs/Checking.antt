@@ -1,12 +1,12 @@
 -- The check of a block's bytes, message by message.
-use Rattle.std.proofs.Common.{◌≡◌, ◌≤◌, ◌<◌, ◌⊎◌, ◌^◌, inl, inr, ℕ, ◌+◌, ◌&&◌, nat_lt, List, [], ◌∷◌, ◌++◌, Ok, Err, IsTrue, length, take, drop, ◌-◌, refl, sym, ap, subst, ◌∙◌, arith, length-take}
+use Rattle.std.proofs.Common.{◌≡◌, ◌≤◌, ◌<◌, ◌⊎◌, ◌^◌, inl, inr, ℕ, ◌+◌, List, [], ◌∷◌, ◌++◌, Ok, Err, IsTrue, get_or, length, drop, ◌-◌, refl, sym, ap, subst, ◌∙◌, arith, length-take}
 use Rattle.std.proofs.lemmas.Bool.{and_parts}
+use Rattle.std.proofs.lemmas.List.Elements.{All-from_get_or}
 use Rattle.js_base.specs.Bytes.{Bytes}
-use Rattle.js_model.specs.Configs.{is_number}
 use Rattle.js_model.specs.declared.stream.Message.{Message}
 use Rattle.op_records.specs.Answers.{IsFaultOf}
 use Rattle.op_records.specs.BlockAnswers.{EndsAt}
-use Rattle.op_records.specs.Blocks.{message_at, is_block_message, spelled_message}
+use Rattle.op_records.specs.Blocks.{message_at, is_block_message}
 use Rattle.op_records.specs.Laws.{IsBatch}
 use Rattle.op_records.specs.declared.fault.RecordFault.{RecordFault}
 use Rattle.op_records.specs.declared.fault.RecordFault.TheVariants.{Cut, BadKind, BadField, NoMemory as OutOfMemory}
@@ -19,7 +19,7 @@ use Rattle.block_reading.specs.Reading.{IsBytesFault, IsEndFault, IsOn, bytes_fa
 use Rattle.block_reading.specs.declared.bytes.BytesFault.{BytesFault}
 use Rattle.block_reading.specs.declared.bytes.BytesFault.TheVariants as checked
 use Rattle.block_reading.specs.declared.bytes.BytesFault.TheVariants.{Wrong}
-use Rattle.block_reading.proofs.Follows.{follow_push, message_on, next_seq, next_push, between_push}
+use Rattle.block_reading.proofs.Follows.{follow_push, next_seq, next_push, between_push}
 use Rattle.block_reading.proofs.Wrong.{wrong_message, wrong_seq}
 
 -- messages stand up to here, and the next one has this sequence or a greater one
@@ -61,21 +61,22 @@ module _ (bytes : Bytes) (last : ℕ) where
 
 -- ---- one message
 
+-- what a slice has
+pub is_batch : (bytes : Bytes) → ((i : ℕ) → get_or bytes i 0 < 256) → length bytes < 2 ^ 32 → IsBatch bytes
+is_batch bytes fits short = record { are_bytes = All-from_get_or (λ (byte : ℕ). byte < 256) bytes 0 (λ i within. fits i); short = short }
+
 -- its beginning and its end, and its sequence
 pub is_on : (bytes : Bytes) (at seq behind : ℕ) → IsBatch bytes → EndsAt (Ok (seq, behind)) (message_at bytes at) → IsOn bytes at seq behind
 is_on bytes at seq behind few (m, is, reads) =
     let spells = (law_message bytes at m behind few).0 reads in
     let size = spelled_size m spells.allowed in
-    let same = span_lie_len (behind - at) (drop at bytes) (spelled_message m) spells.lies.bytes_are in
+    let same = ap length spells.lies.bytes_are in
     record {
       further = omega (arith, size.least, same, length-take (behind - at) (drop at bytes));
       within = spells.lies.within;
       number = subst (λ (n : ℕ). n < 2 ^ 62) is (number_of m spells.allowed);
     }
   where
-    span_lie_len : (n : ℕ) (xs ys : Bytes) → take n xs ≡ ys → length (take n xs) ≡ length ys
-    span_lie_len n xs ys e = ap length e
-
     number_of : (m : Message) → IsTrue (is_block_message m) → m.seq < 2 ^ 62
     number_of m is =
         let fits = and_parts _ _ is in
@@ -85,13 +86,13 @@ is_on bytes at seq behind few (m, is, reads) =
         lt_is m.seq (2 ^ 62) numbers.0
 
 pub told_fault : (bytes : Bytes) (at : ℕ) (fault : RecordFault) → IsFaultOf (message_at bytes at) fault → IsEndFault bytes at (bytes_fault at fault)
-told_fault bytes at (Cut place) h = (refl, Cut place, h)
-told_fault bytes at (BadKind place) h = (refl, BadKind place, h)
-told_fault bytes at (BadField place) h = (refl, BadField place, h)
+told_fault bytes at (Cut place) h = (refl, (Cut place, h))
+told_fault bytes at (BadKind place) h = (refl, (BadKind place, h))
+told_fault bytes at (BadField place) h = (refl, (BadField place, h))
 told_fault bytes at OutOfMemory h = tt
 
 -- why the check ends there
 pub end_fault : (bytes : Bytes) (last at low end : ℕ) (fault : BytesFault) → StandSo bytes last at low → at < end → IsEndFault bytes at fault → IsBytesFault bytes last end fault
-end_fault bytes last at low end (Wrong place) so_far more (is, fault, reads) =
+end_fault bytes last at low end (Wrong place) so_far more (is, (fault, reads)) =
     subst (λ (k : ℕ). AreWrongAt bytes last end k) (sym is) (wrong_there bytes last at low end fault so_far more reads)
 end_fault bytes last at low end checked.NoMemory so_far more h = tt

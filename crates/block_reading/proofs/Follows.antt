@@ -3,10 +3,9 @@ use Rattle.std.proofs.Common.{◌≡◌, ◌≤◌, ℕ, ◌+◌, List, [], ◌�
 use Rattle.js_base.specs.Bytes.{Bytes}
 use Rattle.js_model.specs.Lists.{Between}
 use Rattle.js_model.specs.declared.stream.Message.{Message}
-use Rattle.js_model.proofs.Parts.{between_bounds}
 use Rattle.op_records.specs.Blocks.{message_at, Follow}
 use Rattle.op_records.specs.Laws.{IsBatch}
-use Rattle.op_records.proofs.Steps.{value_is, place_is}
+use Rattle.op_records.proofs.Steps.{place_is}
 use Rattle.op_records.proofs.BlocksLaws.{law_message}
 
 module _ (bytes : Bytes) where
@@ -33,7 +32,7 @@ module _ (bytes : Bytes) where
   follow_within (x ∷ xs) here end few within f = follow_within xs f.0 end few (message_on here x f.0 few f.1).1 f.2
 
 -- the least sequence that the next message may have
-pub next_seq : ℕ → List Message → ℕ
+abbrev pub next_seq : ℕ → List Message → ℕ
 next_seq low [] = low
 next_seq low (m ∷ ms) = next_seq (m.seq + 1) ms
 

@@ -1,5 +1,5 @@
 -- Stored messages that were read one after the other.
-use Rattle.std.proofs.Common.{◌≡◌, ◌<◌, ◌≤◌, ◌⊎◌, inl, inr, ℕ, zero, suc, ◌+◌, ◌==◌, ◌&&◌, Bool, true, false, cond, List, [], ◌∷◌, ◌++◌, Option, Some, None, All, IsTrue, length, take, drop, get_or, map, find, option_map, refl, sym, ap, subst, ◌∙◌, arith, length-take}
+use Rattle.std.proofs.Common.{◌≡◌, ◌<◌, ◌≤◌, ◌⊎◌, inl, inr, ℕ, zero, suc, ◌+◌, ◌==◌, ◌&&◌, Bool, true, cond, List, [], ◌∷◌, ◌++◌, Some, None, All, IsTrue, length, take, drop, get_or, map, find, option_map, refl, sym, ap, subst, ◌∙◌, arith, length-take}
 use Rattle.std.specs.Prelude.{nat_le}
 use Rattle.std.specs.List.{AllZip, list_all}
 use Rattle.std.specs.List.Sorted.{IsStrictlySortedBy}
@@ -20,12 +20,12 @@ use Rattle.block_table.specs.Blocks.{Blocks, blocks, spot_of}
 use Rattle.block_table.specs.Puts.{end_of}
 use Rattle.block_table.specs.Tables.{IsTable, lies_in}
 use Rattle.block_reading.specs.Standing.{IsWhole, IsThere, StandsAt, written_in}
-use Rattle.block_reading.specs.Damage.{HasLost, IsHere, IsToldBy}
-use Rattle.block_reading.specs.Reading.{AreLostFault, IsFound, IsLostFault}
+use Rattle.block_reading.specs.Damage.{IsToldBy}
+use Rattle.block_reading.specs.Reading.{AreLostFault, IsCheckFault, IsFound, IsLostFault, IsMessagesFault}
 use Rattle.block_reading.specs.declared.fault.MessagesFault.{MessagesFault}
 use Rattle.block_reading.specs.declared.fault.MessagesFault.TheVariants.{Fault, Damaged, NoMemory as OutOfMemory}
 use Rattle.block_reading.proofs.Follows.{follow_within}
-use Rattle.block_reading.proofs.Loads.{parts, one_more}
+use Rattle.block_reading.proofs.Loads.{item_is, parts, one_more}
 use Rattle.block_reading.proofs.OneReading.{here_of}
 
 -- ---- where a stored message lies
@@ -34,12 +34,12 @@ abbrev pub placed_seqs : List Placed → List ℕ
 placed_seqs ps = map (λ p. p.seq) ps
 
 find_seq : (ps : List Placed) (i : ℕ) (d : Placed) → IsStrictlySortedBy nat_cmp (placed_seqs ps) → i < length ps → find (λ p. p.seq == (get_or ps i d).seq) ps ≡ Some (get_or ps i d)
-find_seq [] i d sorted within = omega (arith, within)
+find_seq [] i d sorted within = absurd (omega (arith, within))
 find_seq (p ∷ ps) zero d sorted within = ap (λ (c : Bool). cond c (Some p) (find (λ (q : Placed). q.seq == p.seq) ps)) (eq-eqb p.seq p.seq refl)
 find_seq (p ∷ ps) (suc j) d sorted within =
     let inner : j < length ps = omega (arith, within) in
     let less = below_from_sorted (placed_seqs (p ∷ ps)) 0 (suc j) d.seq sorted (omega arith) (omega (arith, within, length_map ps)) in
-    let below : p.seq < (get_or ps j d).seq = subst (λ (n : ℕ). p.seq < n) (get_or-map (λ (q : Placed). q.seq) ps j d) less in
+    let below : p.seq < (get_or ps j d).seq = subst (λ (n : ℕ). p.seq < n) (get_or-map (λ (q : Placed). q.seq) ps j d d.seq inner) less in
     ap (λ (c : Bool). cond c (Some p) (find (λ (q : Placed). q.seq == (get_or ps j d).seq) ps)) (ne_eqb p.seq (get_or ps j d).seq (λ same. omega (arith, below, same)))
     ∙ find_seq ps j d (sorted_tail nat_cmp p.seq (placed_seqs ps) sorted) inner
   where
@@ -68,15 +68,15 @@ module _ (b : Blocks) (us : List Message) (i : ℕ) (u : Message) (table : IsTab
       counts (m ∷ ms) = let more = counts ms in omega (arith, more)
 
   -- the message placed there
-  other : Spot → Placed
+  abbrev other : Spot → Placed
   other spot = record { seq = u.seq; spot = spot }
 
-  here : Spot → Placed
+  abbrev here : Spot → Placed
   here spot = get_or b.placed i (other spot)
 
   seq_is : (spot : Spot) → (here spot).seq ≡ u.seq
   seq_is spot =
-      sym (get_or-map (λ (p : Placed). p.seq) b.placed i (other spot)) ∙ ap (λ (l : List ℕ). get_or l i u.seq) same ∙ get_or-map (λ (m : Message). m.seq) us i u
+      sym (get_or-map (λ (p : Placed). p.seq) b.placed i (other spot) u.seq (omega (arith, within, long))) ∙ ap (λ (l : List ℕ). get_or l i u.seq) same ∙ get_or-map (λ (m : Message). m.seq) us i u u.seq within
       ∙ ap (λ (m : Message). m.seq) (sym is)
 
   spot_there : (spot : Spot) → spot_of b.placed u.seq ≡ Some (here spot).spot
@@ -93,18 +93,13 @@ module _ (b : Blocks) (us : List Message) (i : ℕ) (u : Message) (table : IsTab
   placed_at spot found = record {
     p = here spot;
     within = omega (arith, within, long);
-    is = itself b.placed i (other spot) (omega (arith, within, long));
+    is = item_is b.placed b.placed i (other spot) refl (omega (arith, within, long));
     seq = seq_is spot;
     spot_is = sym (go (found ∙ spot_there spot));
   }
     where
       go : {x y : Spot} → Some x ≡ Some y → x ≡ y
       go e = cc
-
-      itself : (xs : List Placed) (j : ℕ) (d : Placed) → j < length xs → get_or xs j d ≡ get_or xs j (get_or xs j d)
-      itself [] j d inside = omega (arith, inside)
-      itself (x ∷ xs) zero d inside = refl
-      itself (x ∷ xs) (suc j) d inside = itself xs j d (omega (arith, inside))
 
 -- ---- within its file
 
@@ -115,15 +110,16 @@ block_within image last k h =
 
 inside_file : (image : Files) (last : ℕ) (ks : List Block) (spot : Spot) → lies_in ks spot ≡ true → All (IsWhole image last) ks → spot.at + spot.len ≤ length (image spot.file)
 inside_file image last [] spot h all = absurd (true≢false (sym h))
-inside_file image last (k ∷ ks) spot h all = go (or_cases (k.file == spot.file && nat_le (end_of spot) k.end) (lies_in ks spot) h)
+inside_file image last (k ∷ ks) spot h all =
+    go (λ is. inside_file image last ks spot is (All-tail (IsWhole image last) k ks all)) (or_cases (k.file == spot.file && nat_le (end_of spot) k.end) (lies_in ks spot) h)
   where
-    go : ((k.file == spot.file && nat_le (end_of spot) k.end) ≡ true) ⊎ (lies_in ks spot ≡ true) → spot.at + spot.len ≤ length (image spot.file)
-    go (inl is) =
+    go : (lies_in ks spot ≡ true → spot.at + spot.len ≤ length (image spot.file)) → ((k.file == spot.file && nat_le (end_of spot) k.end) ≡ true) ⊎ (lies_in ks spot ≡ true) → spot.at + spot.len ≤ length (image spot.file)
+    go rest (inl is) =
         let both = and_parts (k.file == spot.file) (nat_le (end_of spot) k.end) is in
         let most = leb-true (end_of spot) k.end both.1 in
         let whole = block_within image last k (All-head (IsWhole image last) k ks all) in
         subst (λ (f : ℕ). spot.at + spot.len ≤ length (image f)) (eqb-true k.file spot.file both.0) (omega (arith, most, whole))
-    go (inr is) = inside_file image last ks spot is (All-tail (IsWhole image last) k ks all)
+    go rest (inr is) = rest is
 
 pub spot_within : (image : Files) (last : ℕ) (b : Blocks) (i : ℕ) (u : Message) (spot : Spot) → IsTable b → IsPlacedAt b i u spot → All (IsWhole image last) (blocks b) → spot.at + spot.len ≤ length (image spot.file)
 spot_within image last b i u spot table at all =
@@ -146,10 +142,6 @@ pub one_found : (image : Files) (b : Blocks) (i : ℕ) (u m : Message) (ms : Lis
 one_found image b i u m ms spot at so_far found =
     subst (λ (l : List Placed). AllZip (IsThere image) l (ms ++ m ∷ [])) (sym (one_more b.placed i at.p at.within at.is))
     (zip_push (IsThere image) (take i b.placed) ms at.p m so_far (record { seq = found.by_log.seq ∙ sym at.seq; stands = subst (λ (s : Spot). StandsAt image s m) (sym at.spot_is) found.stands }))
-
-pub one_told : (us : List Message) (i : ℕ) (u m : Message) (ms : List Message) → i < length us → u ≡ get_or us i u → AllZip IsToldBy (take i us) ms → IsToldBy u m → AllZip IsToldBy (take (i + 1) us) (ms ++ m ∷ [])
-one_told us i u m ms within is so_far told =
-    subst (λ (l : List Message). AllZip IsToldBy l (ms ++ m ∷ [])) (sym (one_more us i u within is)) (zip_push IsToldBy (take i us) ms u m so_far told)
 
 pub one_allowed : (ms : List Message) (m : Message) → IsTrue (list_all is_block_message ms) → IsTrue (is_block_message m) → IsTrue (list_all is_block_message (ms ++ m ∷ []))
 one_allowed ms m all one = list_all-append is_block_message ms (m ∷ []) ∙ and_from (list_all is_block_message ms) (is_block_message m && true) all (and_from (is_block_message m) true one refl)
@@ -187,3 +179,16 @@ lost_there image b us i u ms spot (Damaged file place) within is at found told h
   file_is = h.0 ∙ ap (λ (s : Spot). s.file) (sym at.spot_is);
   at_is = h.1 ∙ ap (λ (s : Spot). s.at) (sym at.spot_is);
 }
+
+-- ---- why messages were not read
+
+pub check_told : (image : Files) (b : Blocks) (last : ℕ) (told : List Message) (fault : MessagesFault) → IsCheckFault image last (blocks b) fault → IsMessagesFault image b last told fault
+check_told image b last told Fault h = tt
+check_told image b last told (Damaged file at) h = inl h
+check_told image b last told OutOfMemory h = tt
+
+pub lost_told : (image : Files) (b : Blocks) (last : ℕ) (told : List Message) (fault : MessagesFault) → All (IsWhole image last) (blocks b) → AreLostFault image b.placed told fault →
+    IsMessagesFault image b last told fault
+lost_told image b last told Fault all h = tt
+lost_told image b last told (Damaged file at) all h = inr (all, h)
+lost_told image b last told OutOfMemory all h = tt

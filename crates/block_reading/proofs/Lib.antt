@@ -4,3 +4,5 @@ pub mod Checking
 pub mod Loads
 pub mod OneReading
 pub mod Found
+pub mod Before
+pub mod Stored

@@ -1,5 +1,5 @@
 -- The blocks of a volume are read in one way.
-use Rattle.std.proofs.Common.{◌+◌, ◌≡◌, ◌⊎◌, inl, inr, ℕ, List, [], ◌∷◌, ◌++◌, All, Ok, get_or, drop, length, refl, sym, ap, subst, ◌∙◌, arith}
+use Rattle.std.proofs.Common.{◌≡◌, inl, inr, ℕ, List, [], ◌∷◌, ◌++◌, All, get_or, drop, length, refl, sym, ap, subst, ◌∙◌, arith}
 use Rattle.std.specs.List.{AllZip}
 use Rattle.std.proofs.lemmas.List.Elements.{All-head, All-tail}
 use Rattle.js_model.specs.declared.stream.Message.{Message}
@@ -58,8 +58,8 @@ module _ {X Y : Type 0} (Good : X → Y → Type 0) where
   good_pair (p ∷ ps) x us zs (r ∷ rs) y ks ws e f long all =
       good_pair ps x us (ps ++ x ∷ us) rs y ks (rs ++ y ∷ ks) refl refl (omega (arith, long))
       (subst (AllZip Good (p ∷ (ps ++ x ∷ us))) f (subst (λ (l : List X). AllZip Good l ws) e all)).1
-  good_pair [] x us zs (r ∷ rs) y ks ws e f long all = omega (arith, long)
-  good_pair (p ∷ ps) x us zs [] y ks ws e f long all = omega (arith, long)
+  good_pair [] x us zs (r ∷ rs) y ks ws e f long all = absurd (omega (arith, long))
+  good_pair (p ∷ ps) x us zs [] y ks ws e f long all = absurd (omega (arith, long))
 
   zip_long : (xs : List X) (ys : List Y) → AllZip Good xs ys → length xs ≡ length ys
   zip_long [] [] all = refl

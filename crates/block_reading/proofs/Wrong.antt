@@ -29,7 +29,7 @@ module _ (bytes : Bytes) (high : ℕ) where
       (subst (λ (m : Message). Between (λ m. m.seq) (m.seq + 1) high ys) is d.1)
       (λ m behind more rises. n m behind (f.0, f.1, more) (b.0, rises))
       (λ m behind more rises. o m behind (g.0, g.1, subst (λ (k : ℕ). Follow bytes k (ys ++ m ∷ []) behind) (sym ends) more)
-          (d.0, subst (λ (z : Message). Between (λ m. m.seq) (z.seq + 1) high (ys ++ m ∷ [])) (sym is) rises))
+      (d.0, subst (λ (z : Message). Between (λ m. m.seq) (z.seq + 1) high (ys ++ m ∷ [])) (sym is) rises))
 
   pub not_before : (xs ys : List Message) (here low a c : ℕ) → IsBatch bytes → Follow bytes here xs a → Follow bytes here ys c →
       Between (λ m. m.seq) low high ys → NoneMore bytes high here low xs → c ≤ a

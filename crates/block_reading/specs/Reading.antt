@@ -1,9 +1,10 @@
 -- What was read of the message blocks of a volume, and why it was not.
-use Rattle.std.specs.Prelude.{◌≡◌, ◌<◌, ◌≤◌, ◌^◌, ℕ, List, length, Err}
+use Rattle.std.specs.Prelude.{◌≡◌, ◌<◌, ◌≤◌, ◌^◌, ℕ, List, length, Ok, Err}
 use Rattle.js_base.specs.Bytes.{Bytes}
 use Rattle.js_base.specs.declared.spot.Spot.{Spot}
 use Rattle.js_model.specs.declared.stream.Message.{Message}
 use Rattle.op_records.specs.Blocks.{message_at}
+use Rattle.op_records.specs.Laws.{IsBatch}
 use Rattle.op_records.specs.declared.fault.RecordFault.{RecordFault}
 use Rattle.op_records.specs.declared.fault.RecordFault.TheVariants as faults
 use Rattle.vol_disk.specs.Disk.{Files}
@@ -13,7 +14,7 @@ use Rattle.block_table.specs.declared.block.Block.{Block}
 use Rattle.block_table.specs.declared.placed.Placed.{Placed}
 use Rattle.block_table.specs.Blocks.{Blocks}
 use Rattle.block_reading.specs.Standing.{StandsAt, written_in}
-use Rattle.block_reading.specs.Damage.{AreDamaged, AreWrongAt, HasBadBlock, HasLost, IsHere, IsToldBy}
+use Rattle.block_reading.specs.Damage.{AreDamaged, AreWrongAt, HasBadBlock, HasLost, IsToldBy}
 use Rattle.block_reading.specs.declared.bytes.BytesFault.{BytesFault}
 use Rattle.block_reading.specs.declared.bytes.BytesFault.TheVariants as checked
 use Rattle.block_reading.specs.declared.fault.MessagesFault.{MessagesFault}
@@ -62,6 +63,17 @@ IsEndFault bytes at checked.NoMemory = Unit {0}
 abbrev pub IsBytesFault : Bytes → ℕ → ℕ → BytesFault → Type 0
 IsBytesFault bytes last end (checked.Wrong at) = AreWrongAt bytes last end at
 IsBytesFault bytes last end checked.NoMemory = Unit {0}
+
+-- the bytes are the message, whose sequence and moment the log tells
+pub record IsStoredAs (bytes : Bytes) (told m : Message) : Type 0 where
+  pub few : IsBatch bytes
+  pub reads : message_at bytes 0 ≡ Ok (m, length bytes)
+  pub by_log : IsToldBy told m
+
+-- of the bytes of a stored message
+abbrev pub IsStoredFault : Bytes → Message → BytesFault → Type 0
+IsStoredFault bytes told (checked.Wrong at) = (m : Message) → ¬ IsStoredAs bytes told m
+IsStoredFault bytes told checked.NoMemory = Unit {0}
 
 -- of one block
 abbrev pub IsBlockFault : Files → ℕ → Block → MessagesFault → Type 0

@@ -1,12 +1,13 @@
-//! Whether the bytes of a block are messages.
+//! Messages in bytes that were read.
 
-ghost use Rattle.std.specs.Prelude.{◌≡◌, ◌≤◌, ◌<◌, ◌^◌, length, Ok, IfOk, IfErr, OnOk};
+ghost use Rattle.std.specs.Prelude.{◌≡◌, ◌==◌, ◌&&◌, ◌≤◌, ◌<◌, ◌^◌, length, Ok, IfOk, IfErr, OnOk};
 ghost use Rattle.op_records.specs.BlockAnswers.{EndsAt};
 ghost use Rattle.op_records.specs.Blocks.{message_at};
 ghost use Rattle.block_reading.specs.Standing.{AreMessages};
-ghost use Rattle.block_reading.specs.Reading.{IsBytesFault, IsEndFault, IsOn, bytes_fault};
+ghost use Rattle.block_reading.specs.Reading.{IsBytesFault, IsEndFault, IsOn, IsStoredAs, IsStoredFault, bytes_fault};
 
-use op_records::{RecordFault, message_end};
+use js_model::Message;
+use op_records::{RecordFault, message_end, read_message};
 use std::alloc::Global;
 
 /// Why bytes are not seen to be messages.
@@ -18,8 +19,8 @@ pub(crate) enum BytesFault {
 }
 
 /// The fault of the message at an offset.
-fn told(at: u32, fault: RecordFault) -> BytesFault
-    ensures { result ≡ bytes_fault at fault }
+fn fault_at(at: u32, fault: RecordFault) -> BytesFault
+    ensures value { result ≡ bytes_fault at fault }
 {
     match fault {
         RecordFault::NoMemory => BytesFault::NoMemory,
@@ -37,7 +38,7 @@ fn next_message(alloc: Global, bytes: &[u8], at: u32) -> Result<(u64, u32), Byte
 {
     match message_end(alloc, bytes, at as usize) {
         Ok((seq, behind)) => Ok((seq, behind as u32)),
-        Err(fault) => Err(told(at, fault)),
+        Err(fault) => Err(fault_at(at, fault)),
     }
 }
 
@@ -64,4 +65,33 @@ pub(crate) fn check_bytes(
         at = behind;
     }
     Ok(())
+}
+
+/// Whether the message has the sequence and the moment that the log tells.
+fn is_told(told: &Message, message: &Message) -> bool
+    ensures value { result ≡ (message.now.seq == told.now.seq && message.now.at == told.now.at) }
+{
+    message.seq == told.seq && message.at == told.at
+}
+
+/// The stored message that the bytes are, which has the sequence and the moment that the log tells.
+pub(crate) fn stored_message(
+    alloc: Global,
+    bytes: &[u8],
+    told: &Message,
+) -> Result<Message, BytesFault>
+    requires short { length bytes.now < 2 ^ 32 }
+    ensures stored { IfOk result (IsStoredAs bytes.now told.now) }
+    ensures fault { IfErr result (IsStoredFault bytes.now told.now) }
+{
+    match read_message(alloc, bytes, 0) {
+        Ok((message, end)) => {
+            if end == bytes.len() && is_told(told, &message) {
+                Ok(message)
+            } else {
+                Err(BytesFault::Wrong(0))
+            }
+        }
+        Err(fault) => Err(fault_at(0, fault)),
+    }
 }

@@ -1,9 +1,10 @@
 //! Reading blocks from a volume.
 
-ghost use Rattle.std.specs.Prelude.{◌≡◌, ◌≤◌, take, IfOk, IfErr, IsErrOf, OnOk, All};
+ghost use Rattle.std.specs.Prelude.{◌≡◌, ◌≤◌, length, take, IfOk, IfErr, IsErrOf, OnOk, All};
 ghost use Rattle.js_base.specs.Causes.{HasCause};
 ghost use Rattle.vol_disk.specs.Moments.{Quiet};
 ghost use Rattle.block_table.specs.Blocks.{blocks};
+ghost use Rattle.block_table.specs.Tables.{IsTable};
 ghost use Rattle.block_reading.specs.Standing.{IsWhole};
 ghost use Rattle.block_reading.specs.Reading.{IsBlockFault, IsCheckFault, IsOutside};
 
@@ -22,6 +23,8 @@ pub(crate) fn load<V: Vol>(
     end: u32,
 ) -> Result<Blob, MessagesFault>
     ensures value { V.told → IfOk result (λ bytes. bytes ≡ take end ((V.disk vol.old).seen file)) }
+    // Of any volume:
+    ensures short { IfOk result (λ bytes. length bytes ≤ end) }
     ensures only { IfErr result IsOutside }
     ensures quiet { V.told → Quiet (V.disk vol.old) (V.disk vol.new) }
     ensures cause { HasCause (V.faults vol.old) (V.faults vol.new) (IsErrOf result MessagesFault.Fault) }
@@ -70,6 +73,7 @@ pub(crate) fn check_blocks<V: Vol>(
 ) -> Result<(), MessagesFault>
     ensures whole { V.told → OnOk result (All (IsWhole (V.disk vol.old).seen last) (blocks table.now)) }
     ensures fault { V.told → IfErr result (IsCheckFault (V.disk vol.old).seen last (blocks table.now)) }
+    ensures table { IsTable table.now }
     ensures quiet { V.told → Quiet (V.disk vol.old) (V.disk vol.new) }
     ensures cause { HasCause (V.faults vol.old) (V.faults vol.new) (IsErrOf result MessagesFault.Fault) }
     ensures later { (V.disk vol.old).moment ≤ (V.disk vol.new).moment }

@@ -7,16 +7,17 @@ ghost use Rattle.js_model.specs.Streams.{seqs};
 ghost use Rattle.op_records.specs.Blocks.{is_block_message};
 ghost use Rattle.vol_disk.specs.Moments.{Quiet};
 ghost use Rattle.block_table.specs.Blocks.{blocks};
+ghost use Rattle.block_table.specs.Tables.{IsTable};
 ghost use Rattle.block_reading.specs.Standing.{AreStoredIn, IsThere, IsWhole};
 ghost use Rattle.block_reading.specs.Damage.{IsToldBy};
 ghost use Rattle.block_reading.specs.Reading.{AreLostFault, IsFound, IsLostFault, IsMessagesFault};
 
+use crate::bytes::{BytesFault, stored_message};
 use crate::fault::MessagesFault;
 use crate::loading::check_blocks;
 use block_table::BlockTable;
 use js_base::{List, Spot};
 use js_model::Message;
-use op_records::{RecordFault, read_message};
 use std::alloc::Global;
 use vol_disk::Vol;
 
@@ -38,17 +39,13 @@ fn read_one<V: Vol>(
     ensures later { (V.disk vol.old).moment ≤ (V.disk vol.new).moment }
 {
     let bytes = message_block::read(alloc, vol, spot)?;
-    match read_message(alloc, bytes.as_slice(), 0) {
-        Ok((message, end))
-            if end == spot.len as usize && message.seq == told.seq && message.at == told.at =>
-        {
-            Ok(message)
-        }
-        Err(RecordFault::NoMemory) => Err(MessagesFault::NoMemory),
-        _ => Err(MessagesFault::Damaged {
+    match stored_message(alloc, bytes.as_slice(), told) {
+        Ok(message) => Ok(message),
+        Err(BytesFault::Wrong(_)) => Err(MessagesFault::Damaged {
             file: spot.file,
             at: spot.at,
         }),
+        Err(BytesFault::NoMemory) => Err(MessagesFault::NoMemory),
     }
 }
 
@@ -61,6 +58,7 @@ fn read_all<V: Vol>(
     told: &[Message],
 ) -> Result<List<Message>, MessagesFault>
     requires placed { map (λ p. p.seq) table.now.placed ≡ seqs told.now }
+    requires table { IsTable table.now }
     requires whole { V.told → All (IsWhole (V.disk vol.old).seen last) (blocks table.now) }
     ensures found { V.told → IfOk result (λ ms. AllZip (IsThere (V.disk vol.old).seen) table.now.placed ms) }
     // Of any volume:

@@ -1,15 +1,12 @@
 -- What the records of a log have made stays sound, whatever record is added.
 use Rattle.std.proofs.Common.{◌≡◌, ℕ, ◌+◌, Bool, true, false, cond, ◌&&◌, not, List, [], ◌∷◌, ◌++◌, map, Option, Some, None, IsTrue, refl, sym, ap, subst, ◌∙◌}
-use Rattle.std.specs.Prelude.{filter, nat_le, ◌==◌, option_map, if◌then◌else◌}
-use Rattle.std.specs.List.{list_any}
+use Rattle.std.specs.Prelude.{filter, nat_le, ◌==◌, option_map}
 use Rattle.std.proofs.lemmas.Bool.{and_parts}
 use Rattle.std.proofs.lemmas.List.{map-append}
 use Rattle.js_base.specs.Subjects.{is_subject_text}
 use Rattle.js_base.specs.declared.spot.Spot.{Spot}
-use Rattle.js_model.specs.declared.consumer.Pending.{Pending}
 use Rattle.js_model.specs.declared.stream.Message.{Message}
 use Rattle.js_model.specs.declared.consumer.Consumer.{Consumer}
-use Rattle.js_model.specs.Acknowledge.{with_due}
 use Rattle.js_model.specs.Configs.{is_number}
 use Rattle.js_model.specs.Streams.{by_name, seqs}
 use Rattle.js_model.proofs.Named.{some_is, none_some}
@@ -17,7 +14,7 @@ use Rattle.effects.specs.declared.durable.Body.{Body}
 use Rattle.effects.specs.declared.durable.Durable.{Durable}
 use Rattle.effects.specs.declared.effect.Effect.{Effect}
 use Rattle.effects.specs.declared.effect.Effect.TheVariants.{MakeStream, ChangeStream, DropStream, PutHere, Skip, Remove, MakeConsumer, DropConsumer, Deliver, Acked, Due, GivenUp, Now}
-use Rattle.effects.specs.Folding.{live, live_if, fold, fold_in, fold_live, fold_vacant, vacant, empty_body, consumer_from, with_made, without_consumer, replaced, is_next, numbered, put, removed, at_moment, delivered, acked, due_at, given_up_by}
+use Rattle.effects.specs.Folding.{live, live_if, fold, fold_in, fold_live, fold_vacant, empty_body, consumer_from, with_made, without_consumer, replaced, is_next, numbered, put, at_moment, delivered, acked, due_at, given_up_by}
 use Rattle.effects.specs.Ranges.{is_within}
 use Rattle.block_table.specs.declared.placed.Placed.{Placed}
 use Rattle.block_table.specs.Blocks.{Blocks, no_blocks}
@@ -26,9 +23,9 @@ use Rattle.op_records.specs.declared.record.Record.{Record}
 use Rattle.op_records.specs.declared.record.Record.TheVariants.{Put, Change}
 use Rattle.op_records.specs.Allowed.{is_record, is_put, is_spot, is_text, is_header, fits_block, may_stand}
 use Rattle.log_records.specs.Unread.{unread_subject, unread, unread_effect, stored_messages}
-use Rattle.log_records.specs.Logged.{Logged, IsLogged, beginning, effect_of, blocks_by, blocks_after, fold_record}
+use Rattle.log_records.specs.Logged.{Logged, IsLogged, beginning, effect_of, blocks_by}
 use Rattle.log_records.proofs.Forming.{stays_formed}
-use Rattle.log_records.proofs.Logging.{IsFoldOf, fold_parts}
+use Rattle.log_records.proofs.Logging.{IsFoldOf}
 use Rattle.log_records.proofs.Unreading.{hyphen_spelled, one_unread}
 
 -- ---- the change of a record
@@ -108,38 +105,38 @@ vacant_placed b i (GivenUp name moment) new h = absurd (none_some h)
 vacant_placed b i (Now moment) new h = absurd (none_some h)
 
 live_placed : (bs : Blocks) (i : ℕ) (b : Body) (e : Effect) (new : Durable) → IsNoPut e → ArePlaced bs (live i b) → fold_live i b e ≡ Some new → ArePlaced (blocks_by e bs) new
-live_placed bs i b (MakeStream incarnation made config) new no h made_is = absurd (none_some made_is)
-live_placed bs i b (ChangeStream config) new no h e = subst (ArePlaced bs) (some_is e) h
-live_placed bs i b DropStream new no h e = subst (ArePlaced no_blocks) (some_is e) refl
-live_placed bs i b (PutHere seq at id subject headers payload) new no h e = absurd (cc)
-live_placed bs i b (Skip seq at id) new no h e = tested_placed bs (is_next seq at b) (live i (numbered seq at id b)) new h e
-live_placed bs i b (Remove low high) new no h e =
+live_placed bs i b (MakeStream incarnation made config) new plain h made_is = absurd (none_some made_is)
+live_placed bs i b (ChangeStream config) new plain h e = subst (ArePlaced bs) (some_is e) h
+live_placed bs i b DropStream new plain h e = subst (ArePlaced no_blocks) (some_is e) refl
+live_placed bs i b (PutHere seq at id subject headers payload) new plain h e = absurd (cc)
+live_placed bs i b (Skip seq at id) new plain h e = tested_placed bs (is_next seq at b) (live i (numbered seq at id b)) new h e
+live_placed bs i b (Remove low high) new plain h e =
     let passes = λ (n : ℕ). not (is_within low high n) in
     subst (ArePlaced (blocks_by (Remove low high) bs)) (some_is e)
     (passing (λ (p : Placed). p.seq) passes bs.placed ∙ ap (filter passes) h ∙ sym (passing (λ (m : Message). m.seq) passes b.messages))
-live_placed bs i b (MakeConsumer name made config cursor picks) new no h e = go (by_name b.consumers name) e
+live_placed bs i b (MakeConsumer name made config cursor picks) new plain h e = go (by_name b.consumers name) e
   where
     go : (o : Option Consumer) → live_if i (with_made b (consumer_from name made config cursor picks) o) ≡ Some new → ArePlaced bs new
     go None e = subst (ArePlaced bs) (some_is e) h
     go (Some c) e = absurd (none_some e)
-live_placed bs i b (DropConsumer name) new no h e = go (by_name b.consumers name) e
+live_placed bs i b (DropConsumer name) new plain h e = go (by_name b.consumers name) e
   where
     go : (o : Option Consumer) → live_if i (without_consumer b o) ≡ Some new → ArePlaced bs new
     go None e = absurd (none_some e)
     go (Some c) e = subst (ArePlaced bs) (some_is e) h
-live_placed bs i b (Deliver name seq count due dseq) new no h e =
+live_placed bs i b (Deliver name seq count due dseq) new plain h e =
     other_placed bs i b (delivered (record { seq = seq; count = count; due = due }) dseq (by_name b.consumers name)) new h e
-live_placed bs i b (Acked name low high) new no h e = other_placed bs i b (acked low high (by_name b.consumers name)) new h e
-live_placed bs i b (Due name seq due) new no h e = other_placed bs i b (due_at seq due (by_name b.consumers name)) new h e
-live_placed bs i b (GivenUp name moment) new no h e = other_placed bs i b (given_up_by moment (by_name b.consumers name)) new h e
-live_placed bs i b (Now moment) new no h e = tested_placed bs (nat_le b.moment moment) (live i (at_moment moment b)) new h e
+live_placed bs i b (Acked name low high) new plain h e = other_placed bs i b (acked low high (by_name b.consumers name)) new h e
+live_placed bs i b (Due name seq due) new plain h e = other_placed bs i b (due_at seq due (by_name b.consumers name)) new h e
+live_placed bs i b (GivenUp name moment) new plain h e = other_placed bs i b (given_up_by moment (by_name b.consumers name)) new h e
+live_placed bs i b (Now moment) new plain h e = tested_placed bs (nat_le b.moment moment) (live i (at_moment moment b)) new h e
 
 change_placed : (bs : Blocks) (old : Durable) (e : Effect) (new : Durable) → IsNoPut e → ArePlaced bs old → fold old e ≡ Some new → ArePlaced (blocks_by e bs) new
-change_placed bs old e new no h made = go old.body h made
+change_placed bs old e new plain h made = go old.body h made
   where
     go : (o : Option Body) → ArePlaced bs (record { incarnation = old.incarnation; body = o }) → fold_in old.incarnation o e ≡ Some new → ArePlaced (blocks_by e bs) new
     go None h made = vacant_placed bs old.incarnation e new made
-    go (Some b) h made = live_placed bs old.incarnation b e new no h made
+    go (Some b) h made = live_placed bs old.incarnation b e new plain h made
 
 put_placed : (bs : Blocks) (old : Durable) (seq at : ℕ) (id : List ℕ) (spot : Spot) (new : Durable) (after : Blocks) → ArePlaced bs old → fold old (PutHere seq at id unread_subject [] []) ≡ Some new → put_spot seq spot bs ≡ Some after
     → ArePlaced after new
@@ -156,7 +153,7 @@ put_placed bs old seq at id spot new after h made puts = go old.body h made
     go None h made = absurd (none_some made)
     go (Some b) h made =
         let ends : ArePlaced (put_at seq spot bs) (live old.incarnation (put m id b)) =
-            map-append (λ (p : Placed). p.seq) bs.placed (record { seq = seq; spot = spot } ∷ []) ∙ ap (λ (ns : List ℕ). ns ++ seq ∷ []) h ∙ sym (map-append (λ (m : Message). m.seq) b.messages (m ∷ [])) in
+        map-append (λ (p : Placed). p.seq) bs.placed (record { seq = seq; spot = spot } ∷ []) ∙ ap (λ (ns : List ℕ). ns ++ seq ∷ []) h ∙ sym (map-append (λ (m : Message). m.seq) b.messages (m ∷ [])) in
         subst (λ (x : Blocks). ArePlaced x new) (spotted (fits seq spot bs) puts) (tested_placed (put_at seq spot bs) (is_next seq at b) (live old.incarnation (put m id b)) new ends made)
 
 stays_placed : (g : Logged) (r : Record) (d : Durable) (b : Blocks) → IsTrue (may_stand r) → ArePlaced g.blocks g.durable → IsFoldOf g r d b → ArePlaced b d

@@ -1,5 +1,5 @@
 -- How a record is taken: what it makes, or which field does not fit.
-use Rattle.std.proofs.Common.{◌≡◌, ℕ, ◌<◌, ◌^◌, [], Option, Some, None, IsTrue, length, refl, sym, subst, ◌∙◌}
+use Rattle.std.proofs.Common.{◌≡◌, ℕ, ◌<◌, ◌^◌, [], Option, Some, None, IsTrue, length, sym, ap, subst, ◌∙◌}
 use Rattle.js_base.specs.Bytes.{Bytes}
 use Rattle.js_base.specs.declared.spot.Spot.{Spot}
 use Rattle.effects.specs.declared.durable.Durable.{Durable}
@@ -61,6 +61,8 @@ pub put_fault : (g : Logged) (seq at : ℕ) (id subject : Bytes) (spot : Spot) (
 put_fault g seq at id subject spot fault is h =
     durable_fault g (Put seq at id spot) fault (subst (λ (s : Bytes). IsFoldFault g.durable (PutHere seq at id s [] []) fault) is h)
 
-pub spot_fault : (g : Logged) (seq at : ℕ) (id : Bytes) (spot : Spot) (made : Durable) (field : ℕ) → fold g.durable (effect_of (Put seq at id spot)) ≡ Some made → put seq spot g.blocks ≡ None
-    → field ≡ spot_misfit (length id) spot g.blocks → IsTakeFault g (Put seq at id spot) (Misfit field)
-spot_fault g seq at id spot made field e none is = let u = blocks_unfit g (Put seq at id spot) made e none in (u.unfit, is ∙ sym u.place)
+pub spot_fault : (g : Logged) (seq at : ℕ) (id : Bytes) (spot : Spot) (made : Durable) (field len : ℕ) (table : Blocks) → fold g.durable (effect_of (Put seq at id spot)) ≡ Some made → put seq spot g.blocks ≡ None
+    → len ≡ length id → table ≡ g.blocks → field ≡ spot_misfit len spot table → IsTakeFault g (Put seq at id spot) (Misfit field)
+spot_fault g seq at id spot made field len table e none long same is =
+    let u = blocks_unfit g (Put seq at id spot) made e none in
+    (u.unfit, is ∙ ap (λ (n : ℕ). spot_misfit n spot table) long ∙ ap (spot_misfit (length id) spot) same ∙ sym u.place)

@@ -1,16 +1,16 @@
 -- The first fault of a log's batches is one, and so is its last record.
-use Rattle.std.proofs.Common.{◌≡◌, ◌⊎◌, inl, inr, ℕ, List, [], ◌∷◌, ◌++◌, Some, Ok, Err, length, refl, sym, ap, ◌∙◌, subst, arith}
+use Rattle.std.proofs.Common.{◌≡◌, ◌⊎◌, inl, inr, ℕ, suc, List, [], ◌∷◌, ◌++◌, Ok, Err, length, refl, sym, ap, ◌∙◌, subst, arith}
 use Rattle.std.specs.Prelude.{All}
 use Rattle.js_base.specs.Bytes.{Bytes}
 use Rattle.op_records.specs.declared.record.Record.{Record}
 use Rattle.op_records.specs.Reading.{Stand, record_at, vacant_field, vacant_record}
 use Rattle.op_records.specs.declared.fault.RecordFault.{RecordFault}
-use Rattle.log_records.specs.Logged.{Logged, fold_records}
+use Rattle.log_records.specs.Logged.{Logged}
 use Rattle.log_records.specs.Batches.{Adds, AddAll, Begins, Gives}
 use Rattle.log_records.specs.Damage.{IsAt, IsLast, HasBadRecord, offset, IsEmptyFirst, IsWrongFirst, IsBadFirst, IsBadLater, HasBadBatch}
-use Rattle.log_records.specs.Ends.{IsLastAt, IsLastOfNone, IsLastBehind, IsLastIn}
+use Rattle.log_records.specs.Ends.{IsLastAt, IsLastBehind, IsLastIn}
 use Rattle.log_records.specs.Laws.{LawBatches}
-use Rattle.log_records.proofs.OneReading.{begins_same, adds_same, add_all_same, gives_same}
+use Rattle.log_records.proofs.OneReading.{begins_same, adds_same, gives_same}
 use Rattle.log_records.proofs.NoDamage.{no_record, no_bad_record, no_bad_batch}
 use Rattle.log_records.proofs.OneDamage.{same_place, one_bad_record, one_last}
 

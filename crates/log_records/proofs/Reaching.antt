@@ -160,7 +160,7 @@ all_read log gate d last disk r read batches settled =
 pub end_gives : (log : LogState) (gate : ℕ) (d : Logged) (last : ℕ) (disk : Disk) (found : LogRead) → Reaches log gate d last disk → IsReadAt log gate disk None → given_in found ≡ d → found.last ≡ last → GivesIn log disk found
 end_gives log gate d last disk found r read given end batches settled =
     let at_end : IsLastIn batches d last =
-        subst (λ (l : List Bytes). IsLastIn l d last) (sym (all_read log gate d last disk r read batches settled)) (r.begun, r.begins, r.read.added, r.read.last_is) in
+    subst (λ (l : List Bytes). IsLastIn l d last) (sym (all_read log gate d last disk r read batches settled)) (r.begun, r.begins, r.read.added, r.read.last_is) in
     subst (λ (n : ℕ). IsLastIn batches (given_in found) n) (sym end) (subst (λ (g : Logged). IsLastIn batches g last) (sym given) at_end)
 
 -- ---- what is known of the disk later was known of it before

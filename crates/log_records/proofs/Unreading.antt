@@ -1,29 +1,25 @@
 -- Records make of messages that are not read what they make of messages.
-use Rattle.std.proofs.Common.{◌≡◌, ℕ, suc, ◌+◌, ◌≤◌, ◌^◌, Bool, true, false, cond, not, List, [], ◌∷◌, ◌++◌, length, get_or, map, Option, Some, None, IsTrue, refl, sym, ap, subst, ◌∙◌, arith}
+use Rattle.std.proofs.Common.{◌≡◌, ℕ, suc, ◌+◌, ◌≤◌, ◌^◌, Bool, true, false, cond, not, List, [], ◌∷◌, length, get_or, map, Option, Some, None, IsTrue, refl, sym, ap, subst, ◌∙◌, arith}
 use Rattle.std.specs.Prelude.{All, filter, nat_le, ◌==◌, ◌↔◌, option_map}
-use Rattle.std.specs.List.{list_any}
 use Rattle.std.proofs.lemmas.List.{map-append}
 use Rattle.std.proofs.lemmas.List.Elements.{All-nil, All-cons, All-head, All-tail}
 use Rattle.std.specs.Str.{is_utf8, chars}
 use Rattle.std.proofs.Math.Utf8.{encode}
-use Rattle.js_base.specs.Bytes.{has, same}
+use Rattle.js_base.specs.Bytes.{has}
 use Rattle.js_base.specs.Subjects.{is_subject_text}
 use Rattle.js_model.specs.declared.stream.Message.{Message}
-use Rattle.js_model.specs.declared.consumer.Pending.{Pending}
 use Rattle.js_model.specs.declared.consumer.Consumer.{Consumer}
 use Rattle.js_model.specs.Lists.{Between}
 use Rattle.js_model.specs.Streams.{by_name, seqs, pending_seqs}
-use Rattle.js_model.specs.Acknowledge.{without, with_due}
 use Rattle.model_laws.specs.Sound.{AreStored, IsWellStoredConsumer}
 use Rattle.model_laws.specs.Bounds.{IsBoundedMessage, IsWritableMessage}
 use Rattle.effects.specs.declared.durable.Body.{Body}
 use Rattle.effects.specs.declared.durable.Durable.{Durable}
 use Rattle.effects.specs.declared.effect.Effect.{Effect}
 use Rattle.effects.specs.declared.effect.Effect.TheVariants.{MakeStream, ChangeStream, DropStream, PutHere, Skip, Remove, MakeConsumer, DropConsumer, Deliver, Acked, Due, GivenUp, Now}
-use Rattle.effects.specs.Durables.{state_of, state_in, stream_of}
-use Rattle.effects.specs.Folding.{removed, live, live_if, fold, fold_in, fold_live, fold_vacant, fold_all, then_fold, empty_body, consumer_from, with_made, without_consumer, replaced, is_next, numbered, put, at_moment, delivered, delivered_to, acked, due_at, with_given_up, given_up_by}
+use Rattle.effects.specs.Folding.{removed, live, live_if, fold, fold_in, fold_live, fold_vacant, fold_all, empty_body, consumer_from, with_made, without_consumer, replaced, is_next, numbered, put, at_moment, delivered, acked, due_at, given_up_by}
 use Rattle.effects.specs.Ranges.{is_within}
-use Rattle.durable_checks.specs.Storable.{IsStorable, IsFormed, IsFormedOf, IsFormedBody}
+use Rattle.durable_checks.specs.Storable.{IsStorable, IsFormed, IsFormedOf}
 use Rattle.log_records.specs.Unread.{unread_subject, unread_message, unread_body, unread, unread_effect, stored_messages}
 use Rattle.log_records.specs.Laws.{LawUnread}
 
@@ -133,8 +129,7 @@ between_unread low high (m ∷ ms) =
 bounded_unread : (ms : List Message) → All IsBoundedMessage (map unread_message ms) ↔ All IsBoundedMessage ms
 bounded_unread [] = ((λ h. h), (λ h. h))
 bounded_unread (m ∷ ms) =
-    let more = bounded_unread ms in
-    (
+    let more = bounded_unread ms in (
       (λ h.
           let first = All-head IsBoundedMessage (unread_message m) (map unread_message ms) h in
           All-cons IsBoundedMessage m ms (record { seq = first.seq; at = first.at }) (more.0 (All-tail IsBoundedMessage (unread_message m) (map unread_message ms) h))),
@@ -207,8 +202,7 @@ storable_unread d = go d.body
     go None = ((λ h. h), (λ h. h))
     go (Some b) =
         let between = between_unread 1 (b.last + 1) b.messages in
-        let bounded = bounded_unread b.messages in
-        (
+        let bounded = bounded_unread b.messages in (
           storable_like d.incarnation (unread_body b) b.messages (record { seqs_are = seqs_unread b.messages; many = many_unread b.messages; between = between.0; bounded = bounded.0 }),
           storable_like d.incarnation b (map unread_message b.messages) (record { seqs_are = sym (seqs_unread b.messages); many = sym (many_unread b.messages); between = between.1; bounded = bounded.1 }),
         )

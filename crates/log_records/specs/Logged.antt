@@ -1,7 +1,6 @@
 -- What the records of a log make: what outlives a crash of a place, with its messages unread, and the blocks in which these lie. By a format of this server's
 -- own.
 use Rattle.std.specs.Prelude.{◌≡◌, ℕ, List, [], ◌∷◌, map, Option, Some, None}
-use Rattle.js_base.specs.Bytes.{Bytes}
 use Rattle.js_model.specs.Streams.{seqs}
 use Rattle.effects.specs.declared.durable.Durable.{Durable}
 use Rattle.effects.specs.declared.effect.Effect.{Effect}

@@ -1,6 +1,6 @@
 -- What a log tells of the messages that a place holds, by a format of this server's own: it has their sequences and moments, and their subjects, headers and
 -- payloads lie in blocks. Until its block is read, a message stands there with the shortest subject, and with neither headers nor payload.
-use Rattle.std.specs.Prelude.{ℕ, List, [], ◌∷◌, map, option_map}
+use Rattle.std.specs.Prelude.{List, [], ◌∷◌, map, option_map}
 use Rattle.js_base.specs.Bytes.{Bytes}
 use Rattle.js_model.specs.declared.stream.Message.{Message}
 use Rattle.js_model.specs.Runs.{messages_of}

@@ -1,4 +1,4 @@
-//! What the records of a log have made so far.
+//! What outlives a crash, as the records of a log have made it so far.
 
 ghost use Rattle.std.specs.Prelude.{◌≡◌, ◌↔◌, IfOk, IfErr, IsTrue, Some};
 ghost use Rattle.effects.specs.Folding.{fold};
@@ -14,7 +14,7 @@ use log_replay::Replay;
 use record_fold::{FoldFault, fold};
 use std::alloc::Global;
 
-/// What the records of a log have made so far.
+/// What outlives a crash, as the records of a log have made it so far.
 #[derive(Drop)]
 pub(crate) enum Held {
     /// Each record was one that a replay takes.

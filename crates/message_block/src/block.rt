@@ -40,6 +40,8 @@ pub fn write<V: Vol>(vol: &mut V, file: u32, at: u32, bytes: &[u8]) -> Result<Sp
 pub fn read<V: Vol>(alloc: Global, vol: &mut V, spot: Spot) -> Result<Blob, BlockFault>
     requires within { V.told → spot.at + spot.len ≤ length ((V.disk vol.old).seen spot.file) }
     ensures value { V.told → IfOk result (λ bytes. bytes ≡ take spot.len (drop spot.at ((V.disk vol.old).seen spot.file))) }
+    // Of any volume:
+    ensures len { IfOk result (λ bytes. length bytes ≡ spot.len) }
     ensures quiet { V.told → Quiet (V.disk vol.old) (V.disk vol.new) }
     ensures cause { HasCause (V.faults vol.old) (V.faults vol.new) (IsErrOf result BlockFault.Fault) }
     ensures later { (V.disk vol.old).moment ≤ (V.disk vol.new).moment }

@@ -1,5 +1,5 @@
 use Rattle.std.proofs.Common.{subst, sym}
-use Rattle.std.proofs.lemmas.Result.{err_from_is_err_and, IfErr-weaker, IfOk-weaker}
+use Rattle.std.proofs.lemmas.Result.{err_from_is_err_and}
 use Rattle.durable_checks.specs.Storable.{IsFormed}
 use Rattle.log_records.proofs.Forming.{replayed}
 use Rattle.log_records.proofs.held.replayed.Goals as goal

@@ -1,4 +1,4 @@
-use Rattle.std.proofs.Common.{◌<◌, ◌^◌, ℕ, ◌∷◌, ◌∙◌, Option, length, sym, subst, arith}
+use Rattle.std.proofs.Common.{◌<◌, ◌^◌, ℕ, ◌∷◌, Option, length, sym, subst, arith}
 use Rattle.std.proofs.lemmas.Result.{err_from_is_err_and}
 use Rattle.vol_disk.proofs.Moments.{quiet, quiet_then}
 use Rattle.js_base.specs.Bytes.{Bytes}
@@ -6,7 +6,7 @@ use Rattle.gate_log.specs.Reading.{IsReadAt}
 use Rattle.durable_checks.specs.Storable.{IsStorable}
 use Rattle.log_records.specs.Logged.{Logged, IsLogged}
 use Rattle.log_records.specs.Holding.{made_in}
-use Rattle.log_records.specs.Reading.{GivesIn, IsAddedAt, IsFurther, IsLaterFault}
+use Rattle.log_records.specs.Reading.{IsAddedAt, IsFurther, IsLaterFault}
 use Rattle.log_records.proofs.Reaching.{Reaches, reaches_first, reaches_next, end_gives, gives_before, outside_fault, cause_told, later_read_fault, later_is_own}
 use Rattle.log_records.proofs.log.read_later.Goals as goal
 
@@ -15,7 +15,7 @@ loop-made-init g c =
     let disk = g.V.Vol.disk c.args.vol.now in
     record {
       quiet = λ told. quiet disk (g.met.V.Vol.clocked c.args.vol.now);
-      reaches = λ told. reaches_first c.args.log.now c.args.first_end c.args.begun disk (c.requires.begun told);
+      reaches = λ told. reaches_first c.args.log.now c.args.first_end (made_in c.args.begun) disk (c.requires.begun told);
       sound = c.requires.sound;
       storable = c.requires.storable;
       faults = omega arith;
@@ -125,14 +125,8 @@ returns-in_err-records-clause-quiet g c = λ told. quiet_then (g.V.Vol.disk c.ar
 pub returns-in_err-added-clause-quiet : goal.returns-in_err-added-clause-quiet
 returns-in_err-added-clause-quiet g c = λ told. quiet_then (g.V.Vol.disk c.args.vol.now) (g.V.Vol.disk c.loop-made.vol) (g.V.Vol.disk c.next_batch.new.vol) (c.loop-made.invariant.quiet told) (c.next_batch.ensures.quiet told)
 
-pub returns-in_err-openable-clause-quiet : goal.returns-in_err-openable-clause-quiet
-returns-in_err-openable-clause-quiet g c = λ told. quiet_then (g.V.Vol.disk c.args.vol.now) (g.V.Vol.disk c.loop-made.vol) (g.V.Vol.disk c.next_batch.new.vol) (c.loop-made.invariant.quiet told) (c.next_batch.ensures.quiet told)
+pub returns-in_err-read-clause-quiet : goal.returns-in_err-read-clause-quiet
+returns-in_err-read-clause-quiet g c = λ told. quiet_then (g.V.Vol.disk c.args.vol.now) (g.V.Vol.disk c.loop-made.vol) (g.V.Vol.disk c.next_batch.new.vol) (c.loop-made.invariant.quiet told) (c.next_batch.ensures.quiet told)
 
-pub returns-then-openable-clause-quiet : goal.returns-then-openable-clause-quiet
-returns-then-openable-clause-quiet g c = λ told. quiet_then (g.V.Vol.disk c.args.vol.now) (g.V.Vol.disk c.loop-made.vol) (g.V.Vol.disk c.next_batch.new.vol) (c.loop-made.invariant.quiet told) (c.next_batch.ensures.quiet told)
-
-pub returns-else-openable-clause-quiet : goal.returns-else-openable-clause-quiet
-returns-else-openable-clause-quiet g c = λ told. quiet_then (g.V.Vol.disk c.args.vol.now) (g.V.Vol.disk c.loop-made.vol) (g.V.Vol.disk c.next_batch.new.vol) (c.loop-made.invariant.quiet told) (c.next_batch.ensures.quiet told)
-
-pub returns-in_err-durable-clause-quiet : goal.returns-in_err-durable-clause-quiet
-returns-in_err-durable-clause-quiet g c = λ told. quiet_then (g.V.Vol.disk c.args.vol.now) (g.V.Vol.disk c.loop-made.vol) (g.V.Vol.disk c.next_batch.new.vol) (c.loop-made.invariant.quiet told) (c.next_batch.ensures.quiet told)
+pub returns-clause-quiet : goal.returns-clause-quiet
+returns-clause-quiet g c = λ told. quiet_then (g.V.Vol.disk c.args.vol.now) (g.V.Vol.disk c.loop-made.vol) (g.V.Vol.disk c.next_batch.new.vol) (c.loop-made.invariant.quiet told) (c.next_batch.ensures.quiet told)

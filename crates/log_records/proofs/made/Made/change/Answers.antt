@@ -1,7 +1,7 @@
 use Rattle.std.proofs.Common.{Some, sym, ap}
 use Rattle.std.proofs.lemmas.Result.{err_from_is_err_and}
 use Rattle.op_records.specs.declared.record.Record.TheVariants.{Change}
-use Rattle.log_records.specs.Holding.{held_in, made_in}
+use Rattle.log_records.specs.Holding.{made_in}
 use Rattle.log_records.proofs.Keeping.{recorded}
 use Rattle.log_records.proofs.Making.{taken, durable_fault}
 use Rattle.log_records.proofs.made.Made.change.Goals as goal

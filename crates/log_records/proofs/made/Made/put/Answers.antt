@@ -1,9 +1,10 @@
-use Rattle.std.proofs.Common.{◌≡◌, Some, IsTrue, refl, sym, subst, ◌∙◌}
+use Rattle.std.proofs.Common.{◌≡◌, Some, Err, IsTrue, sym, subst}
 use Rattle.std.proofs.lemmas.Result.{err_from_is_err_and}
 use Rattle.effects.specs.declared.effect.Effect.{Effect}
 use Rattle.effects.specs.Folding.{fold}
 use Rattle.op_records.specs.Allowed.{is_record}
 use Rattle.op_records.specs.declared.record.Record.TheVariants.{Put}
+use Rattle.block_table.specs.declared.fault.PutFault.{PutFault}
 use Rattle.record_fold.specs.Faults.{IsFoldFault}
 use Rattle.log_records.specs.Holding.{held_in, made_in}
 use Rattle.log_records.proofs.Keeping.{recorded}
@@ -36,10 +37,12 @@ returns-in-Ok-clause-taken c =
     taken c.args.self (Put c.args.seq c.args.at c.args.id c.args.spot) c.in_ok-held.held c.put.new.self c.requires.sound c.requires.allowed
     (record { durable = made; blocks = c.in-Ok.ensures.ok }) c.in_ok-held.ensures.sound
 
-pub wrong_field-requires : goal.wrong_field-requires
-wrong_field-requires c = record { bound = rw c.len.ensures.value c.len.ensures.bound }
+pub wrong_field-field-requires : goal.wrong_field-field-requires
+wrong_field-field-requires c = record { bound = rw c.len-id_len.ensures.value c.len-id_len.ensures.bound }
 
 pub returns-in-Err-Misfit-clause-fault : goal.returns-in-Err-Misfit-clause-fault
 returns-in-Err-Misfit-clause-fault c =
     let made = subst (λ (e : Effect). fold (held_in c.args.self.held) e ≡ Some (held_in c.in_ok-held.held)) c.in_ok-effect.ensures.value c.in_ok-held.ensures.ok in
-    spot_fault (made_in c.args.self) c.args.seq c.args.at c.args.id c.args.spot (held_in c.in_ok-held.held) c.wrong_field.result made ? ?
+    let refused = subst (λ (fault : PutFault). c.put.result ≡ Err fault) c.in-Err-Misfit.field-0-is c.in-Err-Misfit.is in
+    spot_fault (made_in c.args.self) c.args.seq c.args.at c.args.id c.args.spot (held_in c.in_ok-held.held) c.wrong_field-field.result c.len-id_len.result c.put.new.self made (c.put.ensures.misfit.0 refused)
+    c.len-id_len.ensures.value c.in-Err-Misfit.ensures.err c.wrong_field-field.ensures
