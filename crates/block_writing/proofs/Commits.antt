@@ -58,7 +58,7 @@ pub end_written : (b : Blocks) (k : Block) → IsTable b → b.writing ≡ Some 
 end_written b k table is =
     ap (λ (o : Option Block). end_of_found (find (λ (x : Block). x.file == k.file) (b.older ++ option_to_list o))) is
     ∙ ap end_of_found (find_last (λ (x : Block). x.file == k.file) b.older k
-        (apart_last b.older k (subst (λ (o : Option Block). ApartBlocks (b.older ++ option_to_list o)) is table.apart)) (eq-eqb k.file k.file refl))
+    (apart_last b.older k (subst (λ (o : Option Block). ApartBlocks (b.older ++ option_to_list o)) is table.apart)) (eq-eqb k.file k.file refl))
 
 -- and of a file that is no block
 pub end_free : (b : Blocks) (file : ℕ) → has_block b file ≡ false → end_in b file ≡ 0
@@ -100,9 +100,9 @@ kept_of b es made old new h stand changes =
     in_front file =
         All-weaker (IsPlaced b) (λ (run : Run). run.file ≡ file → length (front_in b old.seen file) ≤ run.at)
         (λ run placed same. (
-          let is = end_placed b run h.table placed in
-          let there : end_in b file ≡ run.at = ap (end_in b) (sym same) ∙ is in
-          omega (arith, there, length-take (end_in b file) (old.seen file))
+        let is = end_placed b run h.table placed in
+        let there : end_in b file ≡ run.at = ap (end_in b) (sym same) ∙ is in
+        omega (arith, there, length-take (end_in b file) (old.seen file))
         )) made.runs (runs_of b es made h).placed
 
     untouched : (file : ℕ) → file < 2 → IsUntouched made.runs file
@@ -113,12 +113,12 @@ kept_of b es made old new h stand changes =
 drop_behind : (xs ys : Bytes) (n at : ℕ) → at ≡ length xs + n → drop at (xs ++ ys) ≡ drop n ys
 drop_behind xs ys n at is = ap (λ (k : ℕ). drop k (xs ++ ys)) is ∙ go xs
   where
-    go : (zs : Bytes) → drop (length zs + n) (zs ++ ys) ≡ drop n ys
-    go [] = ap (λ (k : ℕ). drop k ys) (omega arith)
-    go (z ∷ zs) = ap (λ (k : ℕ). drop k (z ∷ (zs ++ ys))) (omega arith) ∙ drop_one (length zs + n) z (zs ++ ys) ∙ go zs
-
     drop_one : (k z : ℕ) (zs : Bytes) → drop (1 + k) (z ∷ zs) ≡ drop k zs
     drop_one k z zs = ap (λ (j : ℕ). drop j (z ∷ zs)) (one-add k)
+
+    go : (zs : Bytes) → drop (length zs + n) (zs ++ ys) ≡ drop n ys
+    go [] = let none : 0 + n ≡ n = omega arith in ap (λ (k : ℕ). drop k ys) none
+    go (z ∷ zs) = let more : length (z ∷ zs) + n ≡ 1 + (length zs + n) = omega arith in ap (λ (k : ℕ). drop k (z ∷ (zs ++ ys))) more ∙ drop_one (length zs + n) z (zs ++ ys) ∙ go zs
 
 -- bytes that begin with what was in front of a run, and then the run
 abbrev Starts : Disk → Files → Run → Type 0
@@ -155,15 +155,17 @@ module _ (old : Disk) (image : Files) (spot : Spot) (m : Message) (may : IsTrue 
       })
 
       reads : message_at (bytes_at image spot) 0 ≡ Ok (m, spot.len)
-      reads = (law_message (bytes_at image spot) 0 m spot.len few).1 (record {
-        allowed = may;
-        lies = record {
-          order = omega arith;
-          within = omega (arith, ap length there, has.len);
-          bytes_are =
-              ap (λ (n : ℕ). take n (drop 0 (bytes_at image spot))) (omega arith) ∙ ap (take spot.len) there ∙ ap (λ (n : ℕ). take n (spelled_message m)) has.len ∙ take_whole (spelled_message m);
-        };
-      })
+      reads =
+          let whole : spot.len - 0 ≡ spot.len = omega arith in
+          (law_message (bytes_at image spot) 0 m spot.len few).1 (record {
+            allowed = may;
+            lies = record {
+              order = omega arith;
+              within = omega (arith, ap length there, has.len);
+              bytes_are =
+                  ap (λ (n : ℕ). take n (drop 0 (bytes_at image spot))) whole ∙ ap (take spot.len) there ∙ ap (λ (n : ℕ). take n (spelled_message m)) has.len ∙ take_whole (spelled_message m);
+            };
+          })
         where
           take_whole : (xs : Bytes) → take (length xs) xs ≡ xs
           take_whole [] = refl
@@ -228,10 +230,31 @@ written_of b es made old new h stand changes bytes written = record {
         before f =
             All-weaker (IsPlaced b) (λ (run : Run). run.file ≡ f → length (front_in b old.seen f) ≤ run.at)
             (λ run placed same. (
-              let is = end_placed b run h.table placed in
-              let there : end_in b f ≡ run.at = ap (end_in b) (sym same) ∙ is in
-              omega (arith, there, length-take (end_in b f) (old.seen f))
+            let is = end_placed b run h.table placed in
+            let there : end_in b f ≡ run.at = ap (end_in b) (sym same) ∙ is in
+            omega (arith, there, length-take (end_in b f) (old.seen f))
             )) made.runs runs.placed
 
-pub law_plans : LawPlans
+-- ---- of all disks
+
+pub record Plans : Type 1 where
+  pub runs : (b : Blocks) (es : List Effect) (made : Planned) → ArePlannedBy b es made → AreRuns b es made
+  pub within : (b : Blocks) (es : List Effect) (made : Planned) (disk : Disk) → ArePlannedBy b es made → BlocksStand b disk → All (λ run. run.at ≤ length (disk.seen run.file)) made.runs
+  pub kept :
+      (b : Blocks) (es : List Effect) (made : Planned) (old new : Disk) → ArePlannedBy b es made → BlocksStand b old → ChangesRuns made.runs old new
+      → LeavesOnly old new (KeepsBlocks b old)
+  pub written :
+      (b : Blocks) (es : List Effect) (made : Planned) (old new : Disk) → ArePlannedBy b es made → BlocksStand b old → ChangesRuns made.runs old new
+      → All (λ run. AreBytes run.bytes) made.runs → All (IsWritten old new) made.runs → HasStored b es made.records old new
+
+abbrev pub law_plans : Plans
 law_plans = record { runs = runs_of; within = within_of; kept = kept_of; written = written_of }
+
+-- and of two of them
+pub plans_of : (old new : Disk) → LawPlans old new
+plans_of old new = record {
+  runs = runs_of;
+  within = λ b es made h stand. within_of b es made old h stand;
+  kept = λ b es made h stand changes. kept_of b es made old new h stand changes;
+  written = λ b es made h stand changes bytes written. written_of b es made old new h stand changes bytes written;
+}

@@ -1,5 +1,6 @@
 -- Runs with a message more.
 use Rattle.std.proofs.Common.{◌≡◌, ◌≢◌, ◌≤◌, ◌⊎◌, inl, inr, ℕ, zero, suc, ◌+◌, ◌-◌, ◌==◌, Bool, true, false, if◌then◌else◌, List, [], ◌∷◌, ◌++◌, All, length, take, drop, refl, sym, ap, subst, ◌∙◌, arith, length-take, length-drop}
+use Rattle.std.proofs.lemmas.Bool.{eq-eqb, ne_eqb}
 use Rattle.std.proofs.lemmas.List.{take-append-le, drop-append-le}
 use Rattle.std.proofs.lemmas.List.Elements.{All-nil, All-cons, All-head, All-tail}
 use Rattle.js_base.specs.Bytes.{Bytes}
@@ -85,6 +86,17 @@ other_run [] run spot bytes h = ap (λ (b : Bool). if b then with_bytes run byte
 other_run (x ∷ []) run spot bytes h = ap (λ (l : List Run). x ∷ l) (other_run [] run spot bytes h)
 other_run (x ∷ y ∷ zs) run spot bytes h = ap (λ (l : List Run). x ∷ l) (other_run (y ∷ zs) run spot bytes h)
 
+-- as the code finds it: the last run is in another file, or in the message's
+pub added_other : (old front : List Run) (last : Run) (spot : Spot) (bytes : Bytes) → old ≡ front ++ last ∷ [] → last.file ≢ spot.file →
+    (front ++ last ∷ []) ++ run_at spot bytes ∷ [] ≡ with_message old spot bytes
+added_other old front last spot bytes is ne = sym (ap (λ (l : List Run). with_message l spot bytes) is ∙ other_run front last spot bytes (ne_eqb last.file spot.file ne))
+
+pub added_same : (old front : List Run) (last : Run) (spot : Spot) (bytes now : Bytes) → old ≡ front ++ last ∷ [] → last.file ≡ spot.file → now ≡ last.bytes ++ bytes →
+    front ++ record { file = last.file; at = last.at; bytes = now } ∷ [] ≡ with_message old spot bytes
+added_same old front last spot bytes now is same longer =
+    ap (λ (l : Bytes). front ++ record { file = last.file; at = last.at; bytes = l } ∷ []) longer
+    ∙ sym (ap (λ (l : List Run). with_message l spot bytes) is ∙ same_run front last spot bytes (eq-eqb last.file spot.file same))
+
 -- ---- where messages lie
 
 -- a longer run has what it had
@@ -118,25 +130,29 @@ lies_longer front run spot m bytes h = go (some_split (HasAt spot m) front run h
 
 -- the message that was added
 pub has_first : (spot : Spot) (m : Message) → spot.len ≡ length (spelled_message m) → HasAt spot m (run_at spot (spelled_message m))
-has_first spot m is = record {
-  file = refl;
-  from = omega arith;
-  len = is;
-  spelled = ap (λ (n : ℕ). take spot.len (drop n (spelled_message m))) (omega arith) ∙ ap (λ (n : ℕ). take n (spelled_message m)) is ∙ take_whole (spelled_message m);
-}
+has_first spot m is =
+    let none : spot.at - spot.at ≡ 0 = omega arith in
+    record {
+      file = refl;
+      from = omega arith;
+      len = is;
+      spelled = ap (λ (n : ℕ). take spot.len (drop n (spelled_message m))) none ∙ ap (λ (n : ℕ). take n (spelled_message m)) is ∙ take_whole (spelled_message m);
+    }
   where
     take_whole : (xs : Bytes) → take (length xs) xs ≡ xs
     take_whole [] = refl
     take_whole (x ∷ xs) = ap (λ (l : Bytes). x ∷ l) (take_whole xs)
 
 pub has_last : (run : Run) (spot : Spot) (m : Message) → spot.file ≡ run.file → run.at + length run.bytes ≡ spot.at → spot.len ≡ length (spelled_message m) → HasAt spot m (with_bytes run (spelled_message m))
-has_last run spot m file at is = record {
-  file = file;
-  from = omega (arith, at);
-  len = is;
-  spelled = ap (λ (n : ℕ). take spot.len (drop n (run.bytes ++ spelled_message m))) (omega (arith, at)) ∙ ap (take spot.len) (drop_front run.bytes (spelled_message m))
-      ∙ ap (λ (n : ℕ). take n (spelled_message m)) is ∙ take_whole (spelled_message m);
-}
+has_last run spot m file at is =
+    let front : spot.at - run.at ≡ length run.bytes = omega (arith, at) in
+    record {
+      file = file;
+      from = omega (arith, at);
+      len = is;
+      spelled = ap (λ (n : ℕ). take spot.len (drop n (run.bytes ++ spelled_message m))) front ∙ ap (take spot.len) (drop_front run.bytes (spelled_message m))
+          ∙ ap (λ (n : ℕ). take n (spelled_message m)) is ∙ take_whole (spelled_message m);
+    }
   where
     drop_front : (xs ys : Bytes) → drop (length xs) (xs ++ ys) ≡ ys
     drop_front [] ys = refl

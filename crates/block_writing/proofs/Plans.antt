@@ -9,6 +9,7 @@ use Rattle.std.proofs.lemmas.List.Folds.{list_all_at}
 use Rattle.js_base.specs.Bytes.{Bytes}
 use Rattle.js_base.specs.declared.spot.Spot.{Spot}
 use Rattle.js_model.specs.declared.stream.Message.{Message}
+use Rattle.js_model.specs.declared.stream_config.StreamConfig.{StreamConfig}
 use Rattle.effects.specs.declared.effect.Effect.{Effect}
 use Rattle.effects.specs.declared.effect.Effect.TheVariants.{MakeStream, ChangeStream, DropStream, PutHere, Skip, Remove, MakeConsumer, DropConsumer, Deliver, Acked, Due, GivenUp, Now}
 use Rattle.op_records.specs.Allowed.{is_record, is_text, is_spot, may_stand}
@@ -21,10 +22,10 @@ use Rattle.block_table.specs.declared.placing.Placing.{Placing}
 use Rattle.block_table.specs.Blocks.{Blocks, blocks}
 use Rattle.block_table.specs.Placings.{placing, place, restarted}
 use Rattle.block_table.specs.Tables.{IsFile, IsTable}
-use Rattle.block_writing.specs.declared.plan.Plan.{Plan}
+use Rattle.block_writing.specs.declared.commit.Plan.{Plan}
 use Rattle.block_writing.specs.declared.run.Run.{Run}
 use Rattle.block_writing.specs.Planning.{Planned, begun, with_message, with_put, with_change, message_by, plan_message, planned_one, then_planned, planned, spots_in}
-use Rattle.block_writing.specs.Plans.{Has, IsPlan, IsSoFar, WritesBlock}
+use Rattle.block_writing.specs.Plans.{Has, HasNoSpot, IsAdded, IsPlan, IsPut, IsSoFar, WritesBlock}
 use Rattle.block_writing.proofs.Runs.{GoesOn, BeginsFile, IsSpot, spot_is, planned_none}
 use Rattle.block_writing.proofs.Written.{all_there, one_more, parts}
 
@@ -51,10 +52,6 @@ placed_is (Some (s, q)) spot old new is rest = ap (λ (x : Spot). Some (x, q)) (
     same : (x y : Spot) → Some y ≡ Some x → x ≡ y
     same x y e = cc
 
-pub placed_none : (o : Option (Spot × Placing)) → None ≡ option_map (λ (r : Spot × Placing). r.0) o → o ≡ None
-placed_none None is = refl
-placed_none (Some r) is = cc
-
 -- a block being written in a file that a record can tell
 pub record IsTold (spot : Spot) (q : Placing) : Type 0 where
   pub file : spot.file ≤ 65535
@@ -69,22 +66,10 @@ told b len p spot q writes e = go (spot_is b len p spot q e)
         record { file = subst (λ (x : Spot). x.file ≤ 65535) (sym h.spot_is) low; block = subst WritesBlock (sym h.rest_is) low }
     go (inr h) = record { file = subst (λ (x : Spot). x.file ≤ 65535) (sym h.spot_is) h.high; block = subst WritesBlock (sym h.rest_is) h.high }
 
--- the record of a message may stand in a log
-pub put_stands : (m : Message) (id : Bytes) (spot : Spot) → IsTrue (is_block_message m) → IsTrue (is_text id) → spot.file ≤ 65535 → spot.at < 2 ^ 32 → spot.len < 2 ^ 32 →
-    IsTrue (may_stand (Put m.seq m.at id spot))
-put_stands m id spot may text file at len =
-    let fits = and_parts _ _ may in
-    let header = and_parts _ _ fits.0 in
-    let subject = and_parts _ _ header.0 in
-    and_from _ _ (and_from _ _ subject.0 text)
-    (and_from (nat_lt spot.file (2 ^ 16) && nat_lt spot.at (2 ^ 32)) (nat_lt spot.len (2 ^ 32))
-    (and_from (nat_lt spot.file (2 ^ 16)) (nat_lt spot.at (2 ^ 32)) (lt-ltb spot.file (2 ^ 16) (omega (arith, file))) (lt-ltb spot.at (2 ^ 32) at))
-    (lt-ltb spot.len (2 ^ 32) len))
-
 -- ---- what a plan has then
 
 -- a message more
-pub put_planned : (b : Blocks) (so_far : Planned) (old new : Plan) (p q : Placing) (id : Bytes) (m : Message) (spot : Spot) → IsSoFar so_far old p →
+put_planned : (b : Blocks) (so_far : Planned) (old new : Plan) (p q : Placing) (id : Bytes) (m : Message) (spot : Spot) → IsSoFar so_far old p →
     place b (length (spelled_message m)) p ≡ Some (spot, q) → new.batch.items ≡ old.batch.items ++ spelled_record (Put m.seq m.at id spot) →
     new.spots.items ≡ old.spots.items ++ spot ∷ [] → new.runs.items ≡ with_message old.runs.items spot (spelled_message m) →
     IsSomeAnd (plan_message b so_far id m) (λ next. IsSoFar next new q)
@@ -98,21 +83,79 @@ put_planned b so_far old new p q id m spot h e batch spots runs =
       placing = refl;
     })
 
-pub none_planned : (b : Blocks) (so_far : Planned) (p : Placing) (id : Bytes) (m : Message) → so_far.placing ≡ p → place b (length (spelled_message m)) p ≡ None → plan_message b so_far id m ≡ None
-none_planned b so_far p id m is e = ap (λ (o : Option (Spot × Placing)). option_map (with_put so_far id m) o) (ap (place b (length (spelled_message m))) is ∙ e)
+pub put_added : (b : Blocks) (e : Effect) (id : Bytes) (m : Message) (old new : Plan) (p q : Placing) → e ≡ PutHere m.seq m.at id m.subject m.headers m.payload → IsPut b id m old new p q → IsAdded b e old new p q
+put_added b e id m old new p q is h = record {
+  step = λ so_far s.
+      subst (λ (x : Effect). IsSomeAnd (planned_one b so_far x) (λ next. IsSoFar next new q)) (sym is)
+      (put_planned b so_far old new p q id m h.spot s h.placed h.batch h.spots h.runs);
+}
+
+pub no_spot : (b : Blocks) (e : Effect) (id : Bytes) (m : Message) (p : Placing) → e ≡ PutHere m.seq m.at id m.subject m.headers m.payload → place b (length (spelled_message m)) p ≡ None → HasNoSpot b e p
+no_spot b e id m p is none = record {
+  none = λ so_far same.
+      ap (planned_one b so_far) is ∙ ap (λ (o : Option (Spot × Placing)). option_map (with_put so_far id m) o) (ap (place b (length (spelled_message m))) same ∙ none);
+}
 
 -- another change more
-pub change_planned : (so_far : Planned) (old new : Plan) (p q : Placing) (e : Effect) → IsSoFar so_far old p → new.batch.items ≡ old.batch.items ++ spelled e →
-    new.spots ≡ old.spots → new.runs ≡ old.runs → IsSoFar (with_change so_far e q) new q
+change_planned : (so_far : Planned) (old new : Plan) (p r q : Placing) (e : Effect) → IsSoFar so_far old p → new.batch.items ≡ old.batch.items ++ spelled e →
+    new.spots ≡ old.spots → new.runs ≡ old.runs → r ≡ q → IsSoFar (with_change so_far e r) new q
 unfolding spelled_record
-change_planned so_far old new p q e h batch spots runs = record {
+change_planned so_far old new p r q e h batch spots runs is = record {
   has = record {
     batch = batch ∙ ap (λ (l : Bytes). l ++ spelled e) h.has.batch ∙ flat_map_more spelled_record [] so_far.records (Change e);
     spots = ap (λ v. v.items) spots ∙ h.has.spots ∙ sym (spots_change so_far.records e);
     runs = ap (λ v. v.items) runs ∙ h.has.runs;
   };
-  placing = refl;
+  placing = is;
 }
+
+-- a change that stores no message and makes or drops no stream: the messages behind it go on where they would have gone
+rest_planned : (b : Blocks) (so_far : Planned) (e : Effect) → ((seq at : ℕ) (id subject headers payload : Bytes) → e ≡ PutHere seq at id subject headers payload → ⊥) →
+    ((incarnation made : ℕ) (config : StreamConfig) → e ≡ MakeStream incarnation made config → ⊥) → (e ≡ DropStream → ⊥) → planned_one b so_far e ≡ Some (with_change so_far e so_far.placing)
+rest_planned b so_far (MakeStream incarnation made config) put make gone = absurd (make incarnation made config refl)
+rest_planned b so_far (ChangeStream config) put make gone = refl
+rest_planned b so_far DropStream put make gone = absurd (gone refl)
+rest_planned b so_far (PutHere seq at id subject headers payload) put make gone = absurd (put seq at id subject headers payload refl)
+rest_planned b so_far (Skip seq at id) put make gone = refl
+rest_planned b so_far (Remove low high) put make gone = refl
+rest_planned b so_far (MakeConsumer name made config cursor picks) put make gone = refl
+rest_planned b so_far (DropConsumer name) put make gone = refl
+rest_planned b so_far (Deliver name seq count due dseq) put make gone = refl
+rest_planned b so_far (Acked name low high) put make gone = refl
+rest_planned b so_far (Due name seq due) put make gone = refl
+rest_planned b so_far (GivenUp name moment) put make gone = refl
+rest_planned b so_far (Now moment) put make gone = refl
+
+pub rest_added : (b : Blocks) (e : Effect) (old new : Plan) (p : Placing) → ((seq at : ℕ) (id subject headers payload : Bytes) → e ≡ PutHere seq at id subject headers payload → ⊥) →
+    ((incarnation made : ℕ) (config : StreamConfig) → e ≡ MakeStream incarnation made config → ⊥) → (e ≡ DropStream → ⊥) →
+    new.batch.items ≡ old.batch.items ++ spelled e → new.spots ≡ old.spots → new.runs ≡ old.runs → IsAdded b e old new p p
+rest_added b e old new p put make gone batch spots runs = record {
+  step = λ so_far s.
+      subst (λ (o : Option Planned). IsSomeAnd o (λ next. IsSoFar next new p)) (sym (rest_planned b so_far e put make gone))
+      (change_planned so_far old new p so_far.placing p e s batch spots runs s.placing);
+}
+
+-- and one that makes or drops a stream: they go on in no block
+made_added : (b : Blocks) (e : Effect) (incarnation made : ℕ) (config : StreamConfig) (old new : Plan) (p q : Placing) → e ≡ MakeStream incarnation made config → q ≡ restarted p →
+    new.batch.items ≡ old.batch.items ++ spelled e → new.spots ≡ old.spots → new.runs ≡ old.runs → IsAdded b e old new p q
+made_added b e incarnation made config old new p q is anew batch spots runs = record {
+  step = λ so_far s.
+      subst (λ (x : Effect). IsSomeAnd (planned_one b so_far x) (λ next. IsSoFar next new q)) (sym is)
+      (change_planned so_far old new p (restarted so_far.placing) q (MakeStream incarnation made config) s (subst (λ (x : Effect). new.batch.items ≡ old.batch.items ++ spelled x) is batch) spots runs (ap restarted s.placing ∙ sym anew));
+}
+
+dropped_added : (b : Blocks) (e : Effect) (old new : Plan) (p q : Placing) → e ≡ DropStream → q ≡ restarted p →
+    new.batch.items ≡ old.batch.items ++ spelled e → new.spots ≡ old.spots → new.runs ≡ old.runs → IsAdded b e old new p q
+dropped_added b e old new p q is anew batch spots runs = record {
+  step = λ so_far s.
+      subst (λ (x : Effect). IsSomeAnd (planned_one b so_far x) (λ next. IsSoFar next new q)) (sym is)
+      (change_planned so_far old new p (restarted so_far.placing) q DropStream s (subst (λ (x : Effect). new.batch.items ≡ old.batch.items ++ spelled x) is batch) spots runs (ap restarted s.placing ∙ sym anew));
+}
+
+pub restart_added : (b : Blocks) (e : Effect) (old new : Plan) (p q : Placing) → ((incarnation : ℕ) × (made : ℕ) × (config : StreamConfig) × (e ≡ MakeStream incarnation made config)) ⊎ (e ≡ DropStream) →
+    q ≡ restarted p → new.batch.items ≡ old.batch.items ++ spelled e → new.spots ≡ old.spots → new.runs ≡ old.runs → IsAdded b e old new p q
+restart_added b e old new p q (inl h) anew batch spots runs = made_added b e h.0 h.1 h.2 old new p q h.3 anew batch spots runs
+restart_added b e old new p q (inr h) anew batch spots runs = dropped_added b e old new p q h anew batch spots runs
 
 -- ---- one change after the other
 
@@ -138,8 +181,8 @@ first_planned b es plan batch spots runs = record {
 }
 
 pub next_planned : (b : Blocks) (es : List Effect) (i : ℕ) (e : Effect) (old new : Plan) (p q : Placing) → i < length es → e ≡ get_or es i e → (h : ArePlanned b es i old p) →
-    ((so_far : Planned) → IsSoFar so_far old p → IsSomeAnd (planned_one b so_far e) (λ next. IsSoFar next new q)) → ArePlanned b es (i + 1) new q
-next_planned b es i e old new p q within is h step = go (planned_one b h.so_far e) refl (step h.so_far h.has)
+    IsAdded b e old new p q → ArePlanned b es (i + 1) new q
+next_planned b es i e old new p q within is h added = go (planned_one b h.so_far e) refl (added.step h.so_far h.has)
   where
     go : (o : Option Planned) → planned_one b h.so_far e ≡ o → IsSomeAnd o (λ next. IsSoFar next new q) → ArePlanned b es (i + 1) new q
     go None one has = absurd has
@@ -160,12 +203,12 @@ all_planned b es i plan p past h = record {
 
 -- there is no place for a message
 pub no_plan : (b : Blocks) (es : List Effect) (i : ℕ) (e : Effect) (plan : Plan) (p : Placing) → i < length es → e ≡ get_or es i e → (h : ArePlanned b es i plan p) →
-    ((so_far : Planned) → so_far.placing ≡ p → planned_one b so_far e ≡ None) → planned b es (Some (begun b)) ≡ None
+    HasNoSpot b e p → planned b es (Some (begun b)) ≡ None
 no_plan b es i e plan p within is h none =
     ap (λ (l : List Effect). planned b l (Some (begun b))) (sym (parts es i e within is))
     ∙ planned_more b (take i es) (e ∷ drop (suc i) es) (Some (begun b))
     ∙ ap (λ (s : Option Planned). planned b (drop (suc i) es) (then_planned b s e)) h.so_far_is
-    ∙ ap (planned b (drop (suc i) es)) (none h.so_far h.has.placing)
+    ∙ ap (planned b (drop (suc i) es)) (none.none h.so_far h.has.placing)
     ∙ planned_none b (drop (suc i) es)
 
 -- ---- at first

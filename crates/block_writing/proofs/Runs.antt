@@ -12,7 +12,9 @@ use Rattle.js_base.specs.declared.spot.Spot.{Spot}
 use Rattle.js_model.specs.declared.stream.Message.{Message}
 use Rattle.effects.specs.declared.effect.Effect.{Effect}
 use Rattle.effects.specs.declared.effect.Effect.TheVariants.{MakeStream, ChangeStream, DropStream, PutHere, Skip, Remove, MakeConsumer, DropConsumer, Deliver, Acked, Due, GivenUp, Now}
-use Rattle.op_records.specs.Allowed.{is_record}
+use Rattle.js_base.specs.Subjects.{is_subject_text}
+use Rattle.js_model.specs.Configs.{is_number}
+use Rattle.op_records.specs.Allowed.{is_record, is_text, is_header, fits_block}
 use Rattle.op_records.specs.Blocks.{is_block_message, spelled_message}
 use Rattle.op_records.specs.declared.record.Record.{Record}
 use Rattle.op_records.specs.declared.record.Record.TheVariants.{Put, Change}
@@ -71,7 +73,7 @@ spot_is b len p spot q e = go (stays len p.writing) refl e
     onward : (w : Option Block) → p.writing ≡ w → stays len w ≡ true → place_on len p w ≡ Some (spot, q) → IsSpot b len p spot q
     onward None is within h = absurd (true≢false (sym within))
     onward (Some k) is within h =
-        let same = some_is (spot_on k len, behind p.from k.file (k.end + len)) (spot, q) h in
+        let same = some_is {X = Spot × Placing} (spot_on k len, behind p.from k.file (k.end + len)) (spot, q) h in
         inl (record {
           block = k;
           writes = is;
@@ -84,7 +86,7 @@ spot_is b len p spot q e = go (stays len p.writing) refl e
     begun_at None is h = cc
     begun_at (Some file) is h =
         let free = found_free b (max 2 p.from) (65536 - max 2 p.from) file is in
-        let same = some_is (spot_at file len, behind (file + 1) file len) (spot, q) h in
+        let same = some_is {X = Spot × Placing} (spot_at file len, behind (file + 1) file len) (spot, q) h in
         inr (record {
           file = file;
           free = free.0;
@@ -102,7 +104,7 @@ spot_is b len p spot q e = go (stays len p.writing) refl e
 -- ---- what holds of the runs so far
 
 -- the block being written is the table's, or ends where the last run does
-pub IsEnd : Blocks → List Run → Option Block → Type 0
+abbrev pub IsEnd : Blocks → List Run → Option Block → Type 0
 IsEnd b runs None = Unit {0}
 IsEnd b runs (Some k) =
     ((runs ≡ []) × (b.writing ≡ Some k)) ⊎ ((front : List Run) × (run : Run) × (runs ≡ front ++ run ∷ []) × (run.file ≡ k.file) × (run.at + length run.bytes ≡ k.end))
@@ -191,12 +193,12 @@ module _ (b : Blocks) where
         placed = All-push (IsPlaced b) runs new s.placed
             (or_right (goes_on (spot_of new) b.writing) (begins (spot_of new) b)
             (and_from (nat_le 2 file && nat_le file 65535) (not (has_block b file)) (and_from (nat_le 2 file) (nat_le file 65535) (le-leb 2 file low) (le-leb file 65535 high)) (ap not free)));
-        small = All-push IsSmall runs new s.small within;
+        small = All-push IsSmall runs new s.small (omega (arith, within));
         apart = apart_push runs new s.apart (All-weaker (IsBelow b p.from) (λ (run : Run). file ≢ run.file) (λ run below is. untouched p.from file run free above below (sym is)) runs s.below);
         below = All-push (IsBelow b (file + 1)) runs new
             (All-weaker (IsBelow b p.from) (IsBelow b (file + 1)) (λ run below absent. (let less = below absent in omega (arith, less, above))) runs s.below)
             (λ absent. omega arith);
-        end = inr (runs, new, refl, refl, refl);
+        end = inr (runs, new, refl, refl, omega arith);
       })
     where
       spot : Spot
@@ -279,9 +281,9 @@ pub record IsSound (b : Blocks) (es : List Effect) (so_far : Planned) : Type 0 w
 
 zip_push : {X Y : Type 0} (R : X → Y → Type 0) (xs : List X) (ys : List Y) (x : X) (y : Y) → AllZip R xs ys → R x y → AllZip R (xs ++ x ∷ []) (ys ++ y ∷ [])
 zip_push R [] [] x y h r = (r, tt)
-zip_push R (a ∷ as) (c ∷ cs) x y h r = (h.0, zip_push R as cs x y h.1 r)
-zip_push R [] (c ∷ cs) x y h r = absurd h
-zip_push R (a ∷ as) [] x y h r = absurd h
+zip_push R (a ∷ us) (c ∷ vs) x y h r = (h.0, zip_push R us vs x y h.1 r)
+zip_push R [] (c ∷ vs) x y h r = absurd h
+zip_push R (a ∷ us) [] x y h r = absurd h
 
 zip_weaker : {X Y : Type 0} (R S : X → Y → Type 0) → ((x : X) (y : Y) → R x y → S x y) → (xs : List X) (ys : List Y) → AllZip R xs ys → AllZip S xs ys
 zip_weaker R S more [] [] h = h
@@ -343,14 +345,33 @@ module _ (b : Blocks) (es : List Effect) (so_far : Planned) (s : IsSound b es so
       go (Some (spot, q)) is h =
           subst (IsSound b (es ++ PutHere seq at id subject headers payload ∷ [])) (some_is _ _ h) (made spot q (spot_is b (length (spelled_message m)) so_far.placing spot q is))
 
--- the message of a change that may be recorded
+-- the parts of a message's change that may be recorded
+record Parts (seq at : ℕ) (id subject headers payload : Bytes) : Type 0 where
+  numbers : IsTrue (is_number seq && is_number at)
+  text : IsTrue (is_text id)
+  subject_is : IsTrue (is_subject_text subject)
+  header : IsTrue (is_header headers)
+  fits : IsTrue (fits_block headers payload)
+
+parts_of : (seq at : ℕ) (id subject headers payload : Bytes) → IsTrue (is_record (PutHere seq at id subject headers payload)) → Parts seq at id subject headers payload
+parts_of seq at id subject headers payload is =
+    let fits = and_parts (is_number seq && is_number at && is_text id && is_subject_text subject && is_header headers) (fits_block headers payload) is in
+    let header = and_parts (is_number seq && is_number at && is_text id && is_subject_text subject) (is_header headers) fits.0 in
+    let text = and_parts (is_number seq && is_number at && is_text id) (is_subject_text subject) header.0 in
+    let name = and_parts (is_number seq && is_number at) (is_text id) text.0 in
+    record { numbers = name.0; text = name.1; subject_is = text.1; header = header.1; fits = fits.1 }
+
+-- its message
 pub put_allowed : (seq at : ℕ) (id subject headers payload : Bytes) → IsTrue (is_record (PutHere seq at id subject headers payload)) → IsTrue (is_block_message (message_by seq at subject headers payload))
 put_allowed seq at id subject headers payload is =
-    let fits = and_parts _ _ is in
-    let header = and_parts _ _ fits.0 in
-    let text = and_parts _ _ header.0 in
-    let name = and_parts _ _ text.0 in
-    and_from _ _ (and_from _ _ (and_from _ _ name.0 text.1) header.1) fits.1
+    let p = parts_of seq at id subject headers payload is in
+    and_from (is_number seq && is_number at && is_subject_text subject && is_header headers) (fits_block headers payload)
+    (and_from (is_number seq && is_number at && is_subject_text subject) (is_header headers)
+    (and_from (is_number seq && is_number at) (is_subject_text subject) p.numbers p.subject_is) p.header) p.fits
+
+-- and its id
+pub id_allowed : (seq at : ℕ) (id subject headers payload : Bytes) → IsTrue (is_record (PutHere seq at id subject headers payload)) → IsTrue (is_text id)
+id_allowed seq at id subject headers payload is = (parts_of seq at id subject headers payload is).text
 
 sound_one : (b : Blocks) (es : List Effect) (so_far next : Planned) (e : Effect) → IsTrue (is_record e) → IsSound b es so_far → planned_one b so_far e ≡ Some next → IsSound b (es ++ e ∷ []) next
 sound_one b es so_far next (MakeStream incarnation made config) may s h = subst (IsSound b (es ++ MakeStream incarnation made config ∷ [])) (cc) (sound_restart b es so_far s (MakeStream incarnation made config) tt)
@@ -378,11 +399,9 @@ sound_all b [] done so_far made may s h = subst (λ (l : List Effect). IsSound b
     append_nil : (xs : List Effect) → xs ++ [] ≡ xs
     append_nil [] = refl
     append_nil (x ∷ xs) = ap (λ (l : List Effect). x ∷ l) (append_nil xs)
-sound_all b (e ∷ es) done so_far made may s h = go (planned_one b so_far e) refl h
+sound_all b (e ∷ es) done so_far made may s h =
+    go (planned_one b so_far e) refl h (λ next one more. sound_all b es (done ++ e ∷ []) next made (and_parts (is_record e) (list_all is_record es) may).1 one more)
   where
-    parts : (is_record e ≡ true) × (list_all is_record es ≡ true)
-    parts = and_parts (is_record e) (list_all is_record es) may
-
     joined : (xs : List Effect) → (xs ++ e ∷ []) ++ es ≡ xs ++ e ∷ es
     joined [] = refl
     joined (x ∷ xs) = ap (λ (l : List Effect). x ∷ l) (joined xs)
@@ -390,9 +409,12 @@ sound_all b (e ∷ es) done so_far made may s h = go (planned_one b so_far e) re
     none_some : (x : Planned) → None ≡ Some x → ⊥
     none_some x e = cc
 
-    go : (o : Option Planned) → planned_one b so_far e ≡ o → planned b es o ≡ Some made → IsSound b (done ++ e ∷ es) made
-    go None is more = let none = planned_none b es in absurd (none_some made (sym none ∙ more))
-    go (Some next) is more = subst (λ (l : List Effect). IsSound b l made) (joined done) (sound_all b es (done ++ e ∷ []) next made parts.1 (sound_one b done so_far next e parts.0 s is) more)
+    go : (o : Option Planned) → planned_one b so_far e ≡ o → planned b es o ≡ Some made →
+        ((next : Planned) → IsSound b (done ++ e ∷ []) next → planned b es (Some next) ≡ Some made → IsSound b ((done ++ e ∷ []) ++ es) made) → IsSound b (done ++ e ∷ es) made
+    go None is more rest = let none = planned_none b es in absurd (none_some made (sym none ∙ more))
+    go (Some next) is more rest =
+        subst (λ (l : List Effect). IsSound b l made) (joined done)
+        (rest next (sound_one b done so_far next e (and_parts (is_record e) (list_all is_record es) may).0 s is) more)
 
 -- the file of a run is none of a log
 file_of : (b : Blocks) → IsTable b → (run : Run) → IsPlaced b run → 2 ≤ run.file

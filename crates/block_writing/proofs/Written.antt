@@ -164,19 +164,19 @@ none_dropped b ks disk clocked = record {
   any_moment = moments.started disk (AreUsedKept b ks disk) clocked (λ image left file used. left.left file);
 }
 
-pub one_dropped : (b : Blocks) (ks : List Block) (i : ℕ) (k : Block) (old mid new : Disk) → i < length ks → k ≡ get_or ks i k → has_block b k.file ≡ false →
-    ChangesUnused b ks old mid → ChangesOnly k.file mid new → ChangesUnused b ks old new
-one_dropped b ks i k old mid new within is free so_far changes = record {
+pub one_dropped : (b : Blocks) (ks : List Block) (i : ℕ) (d : Block) (old mid new : Disk) → i < length ks → has_block b (get_or ks i d).file ≡ false →
+    ChangesUnused b ks old mid → ChangesOnly (get_or ks i d).file mid new → ChangesUnused b ks old new
+one_dropped b ks i d old mid new within free so_far changes = record {
   elsewhere = λ file used. moments.rests_on file old mid new (so_far.elsewhere file used) (changes.elsewhere file (other file used));
-  any_moment = moments.joined old mid new (AreUsedKept b ks old) (Elsewhere k.file mid) so_far.any_moment changes.any_moment
+  any_moment = moments.joined old mid new (AreUsedKept b ks old) (Elsewhere (get_or ks i d).file mid) so_far.any_moment changes.any_moment
       (λ image h file used. (so_far.elsewhere file used).leaves (image file) (h file (other file used)));
 }
   where
-    unused : is_unused b ks k.file ≡ true
+    unused : is_unused b ks (get_or ks i d).file ≡ true
     unused =
-        and_from (is_among ks k.file) (not (has_block b k.file))
-        (list_any_at (λ (x : Block). x.file == k.file) ks i k within (eq-eqb (get_or ks i k).file k.file (ap (λ (x : Block). x.file) (sym is))))
+        and_from (is_among ks (get_or ks i d).file) (not (has_block b (get_or ks i d).file))
+        (list_any_at (λ (x : Block). x.file == (get_or ks i d).file) ks i d within (eq-eqb (get_or ks i d).file (get_or ks i d).file refl))
         (ap not free)
 
-    other : (file : ℕ) → is_unused b ks file ≡ false → file ≢ k.file
+    other : (file : ℕ) → is_unused b ks file ≡ false → file ≢ (get_or ks i d).file
     other file used same = true≢false (sym unused ∙ sym (ap (is_unused b ks) same) ∙ used)

@@ -26,14 +26,13 @@ pub record AreRuns (b : Blocks) (es : List Effect) (made : Planned) : Type 0 whe
   pub apart : AreApart made.runs
   pub stored : AreStoredBy (LiesIn made.runs) es made.records
 
-pub record LawPlans : Type 1 where
+-- of a volume before and after the runs are written, or while they are
+pub record LawPlans (old new : Disk) : Type 0 where
   pub runs : (b : Blocks) (es : List Effect) (made : Planned) → ArePlannedBy b es made → AreRuns b es made
-  pub within :
-      (b : Blocks) (es : List Effect) (made : Planned) (disk : Disk) → ArePlannedBy b es made → BlocksStand b disk
-      → All (λ run. run.at ≤ length (disk.seen run.file)) made.runs
+  pub within : (b : Blocks) (es : List Effect) (made : Planned) → ArePlannedBy b es made → BlocksStand b old → All (λ run. run.at ≤ length (old.seen run.file)) made.runs
   pub kept :
-      (b : Blocks) (es : List Effect) (made : Planned) (old new : Disk) → ArePlannedBy b es made → BlocksStand b old → ChangesRuns made.runs old new
+      (b : Blocks) (es : List Effect) (made : Planned) → ArePlannedBy b es made → BlocksStand b old → ChangesRuns made.runs old new
       → LeavesOnly old new (KeepsBlocks b old)
   pub written :
-      (b : Blocks) (es : List Effect) (made : Planned) (old new : Disk) → ArePlannedBy b es made → BlocksStand b old → ChangesRuns made.runs old new
+      (b : Blocks) (es : List Effect) (made : Planned) → ArePlannedBy b es made → BlocksStand b old → ChangesRuns made.runs old new
       → All (λ run. AreBytes run.bytes) made.runs → All (IsWritten old new) made.runs → HasStored b es made.records old new

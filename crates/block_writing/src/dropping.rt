@@ -11,11 +11,7 @@ use vol_disk::{Failed, Vol};
 ///
 /// `Failed` comes only if the volume's count of faults rose; the next blocks are then left as they were. No file but these is touched, at any moment of the
 /// call.
-pub fn drop_unused<V: Vol>(
-    vol: &mut V,
-    table: &BlockTable,
-    blocks: &[Block],
-) -> Result<(), Failed>
+pub fn drop_unused<V: Vol>(vol: &mut V, table: &BlockTable, blocks: &[Block]) -> Result<(), Failed>
     ensures changes { V.told → ChangesUnused table.now blocks.now (V.disk vol.old) (V.disk vol.new) }
     ensures cause { HasCause (V.faults vol.old) (V.faults vol.new) (IsErr result) }
     ensures later { (V.disk vol.old).moment ≤ (V.disk vol.new).moment }

@@ -6,14 +6,14 @@ ghost use Rattle.op_records.specs.Allowed.{is_record};
 ghost use Rattle.block_writing.specs.Planning.{begun, planned};
 ghost use Rattle.block_writing.specs.Plans.{IsPlan};
 
+use crate::commit::Plan;
 use crate::fault::PlanFault;
-use crate::plan::Plan;
 use block_table::BlockTable;
 use effects::Effect;
 use std::alloc::Global;
 
 /// Plans the commit of these changes: each message goes to the next spot of the table, as far as the messages before it leave one, and into the run of its
-/// file. `NoRoom` comes exactly if there is none for a message. Nothing is written, and the table stays as it is.
+/// file. `NoRoom` comes only if there is none for a message. Nothing is written, and the table stays as it is.
 pub fn plan(alloc: Global, table: &BlockTable, effects: &[Effect]) -> Result<Plan, PlanFault>
     requires allowed { IsTrue (list_all is_record effects.now) }
     ensures plan { IfOk result (IsPlan table.now effects.now) }

@@ -9,6 +9,11 @@ ghost use Rattle.block_writing.specs.Writing.{ChangesRuns, IsWritten};
 use crate::run::Run;
 use vol_disk::{Failed, Vol};
 
+/// Each byte of a slice is below 256. The type says so, and clauses that speak of numbers need it said.
+fn law_bytes(bytes: &[u8])
+    ensures { AreBytes bytes.now }
+{}
+
 /// Writes each run into its file and syncs it. Each begins within its file, and no two are in one.
 ///
 /// At `Ok` a crash leaves each run behind what its file read as in front of it. `Failed` comes only if the volume's count of faults rose. What stood in front
@@ -24,7 +29,9 @@ pub fn write_runs<V: Vol>(vol: &mut V, runs: &[Run]) -> Result<(), Failed>
     ensures later { (V.disk vol.old).moment ≤ (V.disk vol.new).moment }
 {
     for run in runs {
-        message_block::write(vol, run.file, run.at, run.bytes.as_slice())?;
+        let bytes = run.bytes.as_slice();
+        law_bytes(bytes);
+        message_block::write(vol, run.file, run.at, bytes)?;
     }
     Ok(())
 }

@@ -7,6 +7,8 @@ mod append_calls;
 #[cfg(test)]
 mod blind;
 #[cfg(test)]
+mod block_files;
+#[cfg(test)]
 mod blocks;
 #[cfg(test)]
 mod contents;
@@ -16,6 +18,8 @@ mod folder;
 mod locked_folder;
 #[cfg(test)]
 mod stopped_appends;
+#[cfg(test)]
+mod store_calls;
 #[cfg(test)]
 mod stores;
 #[cfg(test)]

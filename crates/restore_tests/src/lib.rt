@@ -26,6 +26,10 @@ const CONSUMER: &[u8] =
 /// A log's head, and a batch that says that no stream was there.
 const BEGUN: &[u8] = b"JSLOG\0\0\x01\0\0\0\0\0\0\0\x01\x01\0\0\0\x09\x20\0\0\0\0\0\0\0\0";
 
+/// The block of file 2, with one message.
+const BLOCK: &[u8] =
+    b"\0\0\0\x1C\0\0\0\0\0\0\0\x01\0\0\0\0\0\0\x03\xE8\0\x01A\0\0\0\0hello";
+
 /// Adds the text behind its length, of which the last four bytes are written.
 fn add_text(bytes: &mut Vec<u8>, text: &[u8]) -> Result<(), NoMemory> {
     let len = (text.len() as u64).to_be_bytes();
@@ -34,12 +38,12 @@ fn add_text(bytes: &mut Vec<u8>, text: &[u8]) -> Result<(), NoMemory> {
     Ok(())
 }
 
-/// The records of a stream, its first message, a consumer that begins at it, and a delivery of the message.
+/// The records of a stream, its first message, which stands in the block, a consumer that begins at it, and a delivery of the message.
 fn records(alloc: Global) -> Result<Vec<u8>, NoMemory> {
     let mut bytes = Vec::from_slice(alloc, b"\x01\0\0\0\0\0\0\0\x01\0\0\0\0\0\0\x03\xE8")?;
     add_text(&mut bytes, STREAM)?;
     bytes.extend_from_slice(
-        b"\x04\0\0\0\0\0\0\0\x01\0\0\0\0\0\0\x03\xE8\0\0\0\x01A\0\0\0\0\0\0\0\x05hello",
+        b"\x0E\0\0\0\0\0\0\0\x01\0\0\0\0\0\0\x03\xE8\0\0\0\x02\0\0\0\0\0\0\0\x20",
     )?;
     bytes.extend_from_slice(b"\x07\x01C\0\0\0\0\0\0\x03\xE8")?;
     add_text(&mut bytes, CONSUMER)?;
@@ -50,7 +54,7 @@ fn records(alloc: Global) -> Result<Vec<u8>, NoMemory> {
     Ok(bytes)
 }
 
-/// A volume whose log has these records as its second batch.
+/// A volume with the block, whose log has these records as its second batch.
 fn volume(alloc: Global) -> Result<MemVol, Fail> {
     let mut bytes = Vec::from_slice(alloc, BEGUN)?;
     bytes.extend_from_slice(b"\x01")?;
@@ -58,6 +62,7 @@ fn volume(alloc: Global) -> Result<MemVol, Fail> {
     bytes.extend_from_slice(b"\0")?;
     let mut vol = MemVol::new(alloc);
     vol.write_at(0, 0, bytes.as_slice())?;
+    vol.write_at(2, 0, BLOCK)?;
     Ok(vol)
 }
 
