@@ -1,5 +1,5 @@
 -- What a commit leaves, as it was staged.
-use Rattle.std.proofs.Common.{◌≡◌, inr, ◌+◌, ◌≤◌, ◌^◌, List, length, refl, sym, ap, subst, ◌∙◌, arith}
+use Rattle.std.proofs.Common.{◌≡◌, inr, ◌+◌, ◌≤◌, ◌^◌, List, length, refl, sym, ap, subst, arith}
 use Rattle.std.specs.Prelude.{All}
 use Rattle.vol_disk.specs.Disk.{Disk}
 use Rattle.vol_disk.specs.Images.{AreBytes, IsHonest}

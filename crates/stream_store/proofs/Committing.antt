@@ -1,6 +1,6 @@
 -- What a commit leaves, call by call.
 use Rattle.std.proofs.Common.{◌≡◌, ◌≢◌, ◌⊎◌, inl, inr, ℕ, ◌+◌, ◌<◌, ◌≤◌, ◌&&◌, ◌||◌, Bool, true, false, cond, not, List, [], ◌∷◌, ◌++◌, Option, Some, None, IfSome, length, take, refl, sym, ap, subst, ◌∙◌, arith, eq-eqb, length-take, slice_index_or}
-use Rattle.std.specs.Prelude.{IsSome, IsTrue, All, ◌==◌}
+use Rattle.std.specs.Prelude.{IsSome, All, ◌==◌}
 use Rattle.std.specs.Io.{StartsWith}
 use Rattle.std.specs.List.{flat_map}
 use Rattle.std.proofs.lemmas.Bool.{eqb-true, ne_eqb, true≢false}
@@ -10,7 +10,7 @@ use Rattle.vol_disk.specs.Does.{Rests}
 use Rattle.vol_disk.specs.Clock.{IsClocked}
 use Rattle.vol_disk.specs.Images.{IsDurable, IsHonest}
 use Rattle.vol_disk.specs.Moments.{LeavesOnly, Elsewhere}
-use Rattle.vol_disk.proofs.Moments.{joined, rests_on, started, widened}
+use Rattle.vol_disk.proofs.Moments.{joined, started, widened}
 use Rattle.js_base.specs.Bytes.{Bytes}
 use Rattle.js_model.specs.Lists.{Between}
 use Rattle.js_model.specs.Runs.{messages_of}
@@ -51,7 +51,7 @@ use Rattle.log_records.proofs.Unreading.{law_unread}
 use Rattle.stream_store.specs.Holding.{Holds, last_in, last_of, logged}
 use Rattle.stream_store.specs.Base.{IsBaseOf}
 use Rattle.stream_store.specs.Committing.{IsNextBatch}
-use Rattle.stream_store.specs.Logs.{current_file, is_first}
+use Rattle.stream_store.specs.Logs.{is_first}
 use Rattle.stream_store.specs.Staging.{AreBehindLogs, DropsUnused}
 use Rattle.stream_store.specs.Steps.{steps_of, with_steps}
 use Rattle.stream_store.proofs.Basing.{IsNow, all_hold, base_of, base_gives, has_logs_by, holds_by, holds_now, now_of, now_with}

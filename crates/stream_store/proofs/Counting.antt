@@ -15,7 +15,7 @@ use Rattle.block_table.specs.declared.block.Block.{Block}
 use Rattle.block_table.specs.declared.placing.Placing.{Placing}
 use Rattle.block_table.specs.Blocks.{Blocks, blocks, no_blocks}
 use Rattle.block_table.specs.Placings.{free_from, place, place_at, place_on, placing, stays}
-use Rattle.block_table.specs.Puts.{begins, end_of, fits, goes_on, is_above, put, put_at}
+use Rattle.block_table.specs.Puts.{begins, fits, goes_on, is_above, put, put_at}
 use Rattle.block_table.specs.Rooms.{in_use}
 use Rattle.block_table.proofs.InUse.{put_at_count, put_on_count, removed_count}
 use Rattle.block_table.proofs.Ranges.{begun_at}

@@ -22,7 +22,7 @@ use Rattle.js_model.proofs.Named.{none_some}
 use Rattle.effects.specs.declared.durable.Durable.{Durable}
 use Rattle.effects.specs.Folding.{vacant}
 use Rattle.effects.specs.declared.durable.Body.{Body}
-use Rattle.durable_checks.specs.Storable.{IsOpenable, IsStorable}
+use Rattle.durable_checks.specs.Storable.{IsStorable}
 use Rattle.block_table.specs.declared.block.Block.{Block}
 use Rattle.block_table.specs.Blocks.{Blocks, blocks, has_block, no_blocks}
 use Rattle.block_table.specs.Tables.{IsTable}
@@ -56,7 +56,7 @@ use Rattle.stream_store.specs.Reading.{AreSynced, IsBlocksFault, IsFound, IsStor
 use Rattle.stream_store.specs.declared.logs.Current.{Current}
 use Rattle.stream_store.specs.declared.reading.Found.{Found}
 use Rattle.stream_store.proofs.OneReading.{log_same}
-use Rattle.stream_store.proofs.Basing.{IsNow, IsStoredBase, base_of, has_logs_by, current_has}
+use Rattle.stream_store.proofs.Basing.{IsNow, base_of, has_logs_by, current_has}
 use Rattle.stream_store.proofs.Blocks.{IsFirm, firm_blocks}
 
 -- ---- faults

@@ -1,44 +1,33 @@
 -- The records of a commit make of what a log told what its changes make of what the volume holds.
-use Rattle.std.proofs.Common.{◌≡◌, ◌≤◌, ◌<◌, ◌^◌, ℕ, ◌+◌, ◌==◌, ◌&&◌, Bool, true, false, cond, not, List, [], ◌∷◌, ◌++◌, Option, Some, None, IfSome, All, IsTrue, length, map, option_map, refl, sym, ap, subst, ◌∙◌, arith, length-append}
-use Rattle.std.specs.Prelude.{filter, nat_le, unwrap_or, ⊤}
-use Rattle.std.specs.List.{flat_map, list_all, list_any}
-use Rattle.std.specs.Option.{IsSomeAnd}
-use Rattle.std.proofs.lemmas.Bool.{true≢false, and_parts, and_from, eqb-true, leb-true, lt-ltb}
+use Rattle.std.proofs.Common.{◌≡◌, ℕ, ◌+◌, ◌==◌, Bool, true, false, cond, not, List, [], ◌∷◌, ◌++◌, Option, Some, None, length, map, option_map, refl, sym, ap, subst, ◌∙◌, arith, length-append}
+use Rattle.std.specs.Prelude.{filter, nat_le}
+use Rattle.std.specs.List.{flat_map}
+use Rattle.std.proofs.lemmas.Bool.{and_parts, eqb-true}
 use Rattle.std.proofs.lemmas.List.{append-nil, append_assoc}
-use Rattle.std.proofs.lemmas.List.Elements.{All-nil, All-cons, All-head, All-tail, All-push, All-filter, All-weaker}
 use Rattle.js_base.specs.Bytes.{Bytes}
 use Rattle.js_base.specs.declared.spot.Spot.{Spot}
 use Rattle.js_model.specs.declared.consumer.Consumer.{Consumer}
 use Rattle.js_model.specs.declared.stream.Message.{Message}
-use Rattle.js_model.specs.Configs.{is_number}
-use Rattle.js_model.specs.Runs.{messages_of}
 use Rattle.js_model.specs.Streams.{by_name}
 use Rattle.js_model.proofs.Named.{some_is, none_some}
-use Rattle.effects.specs.Durables.{state_in}
 use Rattle.effects.specs.declared.durable.Body.{Body}
 use Rattle.effects.specs.declared.durable.Durable.{Durable}
 use Rattle.effects.specs.declared.effect.Effect.{Effect}
 use Rattle.effects.specs.declared.effect.Effect.TheVariants.{MakeStream, ChangeStream, DropStream, PutHere, Skip, Remove, MakeConsumer, DropConsumer, Deliver, Acked, Due, GivenUp, Now}
-use Rattle.effects.specs.Folding.{live, live_if, fold, fold_in, fold_live, fold_vacant, fold_all, then_fold, vacant, empty_body, consumer_from, with_made, without_consumer, replaced, is_next, numbered, put as put_message, removed as removed_in, at_moment, delivered, acked, due_at, given_up_by}
+use Rattle.effects.specs.Folding.{live, live_if, fold, fold_in, fold_live, fold_vacant, vacant, empty_body, consumer_from, with_made, without_consumer, replaced, is_next, numbered, put as put_message, at_moment, delivered, acked, due_at, given_up_by}
 use Rattle.effects.specs.Ranges.{is_within}
-use Rattle.op_records.specs.Allowed.{is_record, is_put, is_spot, is_text, may_stand}
 use Rattle.op_records.specs.Blocks.{spelled_message}
 use Rattle.op_records.specs.Spelling.{spelled_record, spelled_spot}
 use Rattle.op_records.specs.declared.record.Record.{Record}
 use Rattle.op_records.specs.declared.record.Record.TheVariants.{Put, Change}
 use Rattle.block_table.specs.declared.placing.Placing.{Placing}
-use Rattle.block_table.specs.Blocks.{Blocks, no_blocks}
+use Rattle.block_table.specs.Blocks.{Blocks}
 use Rattle.block_table.specs.Placings.{place, restarted}
-use Rattle.block_table.specs.Puts.{put, removed}
-use Rattle.block_writing.specs.Planning.{Planned, message_by, plan_message, planned, planned_one, spots_in, with_change, with_put}
+use Rattle.block_writing.specs.Planning.{Planned, message_by, planned, planned_one, with_change, with_put}
 use Rattle.block_writing.proofs.Runs.{planned_none}
-use Rattle.log_records.specs.Logged.{Logged, blocks_after, both, effect_of, fold_record, fold_records, then_record, with_blocks}
-use Rattle.log_records.specs.Unread.{unread, unread_effect, stored_messages}
-use Rattle.log_records.proofs.Unreading.{one_unread}
+use Rattle.log_records.specs.Unread.{stored_messages}
 use Rattle.stream_store.specs.Committing.{batch_length, no_spot, recorded_at}
-use Rattle.stream_store.specs.Holding.{last_in, last_of, logged}
-use Rattle.stream_store.specs.Steps.{steps_of, with_step, with_steps}
-use Rattle.stream_store.specs.declared.steps.Step.{Step}
+use Rattle.stream_store.specs.Holding.{last_of}
 use Rattle.stream_store.specs.declared.steps.Step.TheVariants as step
 
 -- ---- what a change makes of messages

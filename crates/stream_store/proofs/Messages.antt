@@ -1,5 +1,5 @@
 -- What a log tells, with the messages of its blocks.
-use Rattle.std.proofs.Common.{◌≡◌, inl, inr, ℕ, Bool, true, List, [], ◌∷◌, map, Option, Some, None, IsTrue, All, refl, sym, ap, subst, ◌∙◌, length, option_map, arith}
+use Rattle.std.proofs.Common.{◌≡◌, inl, inr, ℕ, List, [], ◌∷◌, map, Option, Some, None, IsTrue, All, refl, sym, ap, subst, ◌∙◌, length, option_map, arith}
 use Rattle.std.specs.List.{AllZip, list_all}
 use Rattle.std.proofs.lemmas.Bool.{and_parts}
 use Rattle.std.proofs.lemmas.List.Elements.{All-nil, All-cons}
@@ -8,7 +8,7 @@ use Rattle.js_model.specs.Runs.{messages_of}
 use Rattle.js_model.specs.Streams.{seqs}
 use Rattle.js_model.specs.declared.stream.Message.{Message}
 use Rattle.model_laws.specs.Bounds.{IsWritableMessage}
-use Rattle.effects.specs.Durables.{state_in, state_of}
+use Rattle.effects.specs.Durables.{state_in}
 use Rattle.effects.specs.declared.durable.Body.{Body}
 use Rattle.effects.specs.declared.durable.Durable.{Durable}
 use Rattle.durable_checks.specs.Storable.{IsFormed, IsOpenable, IsStorable}
@@ -28,11 +28,9 @@ use Rattle.log_records.specs.Reading.{GivesIn}
 use Rattle.log_records.specs.Unread.{unread, unread_body, unread_message, stored_messages}
 use Rattle.log_records.specs.declared.log.LogRead.{LogRead}
 use Rattle.log_records.proofs.Unreading.{law_unread}
-use Rattle.stream_store.specs.Damage.{IsBadLogged}
 use Rattle.stream_store.specs.Finding.{IsRecordsFault}
 use Rattle.stream_store.specs.Holding.{last_in, last_of, logged}
-use Rattle.stream_store.specs.Reading.{IsFound, IsReadOf, IsStoredBy, body_with, with_messages}
-use Rattle.stream_store.specs.declared.fault.OpenFault.{OpenFault}
+use Rattle.stream_store.specs.Reading.{IsReadOf, IsStoredBy, body_with, with_messages}
 use Rattle.stream_store.specs.declared.fault.OpenFault.TheVariants.{Damaged}
 use Rattle.stream_store.specs.declared.reading.Found.{Found}
 use Rattle.stream_store.proofs.OneReading.{durable_with}

@@ -15,8 +15,8 @@ use Rattle.log_records.specs.Unread.{unread, stored_messages}
 use Rattle.log_records.proofs.OneBad.{law_batches}
 use Rattle.log_records.proofs.OneReading.{gives_same}
 use Rattle.stream_store.specs.Logs.{LogIn, HasLogs, current, current_file}
-use Rattle.stream_store.specs.Holding.{Holds, HoldsIn, last_of, logged}
-use Rattle.stream_store.specs.Damage.{IsSomeLog, IsBadLog, IsBadLogged, HasBadBlocks, IsUnopenable, IsBadVolume, IsDamaged, IsOfAnotherVersion}
+use Rattle.stream_store.specs.Holding.{Holds, last_of, logged}
+use Rattle.stream_store.specs.Damage.{IsSomeLog, IsBadLog, IsBadLogged, HasBadBlocks, IsUnopenable, IsDamaged, IsOfAnotherVersion}
 use Rattle.durable_checks.specs.Storable.{IsOpenable}
 use Rattle.stream_store.specs.Laws.{LawHolding}
 use Rattle.stream_store.proofs.OneReading.{log_same, holds_same, known, one_log_fault, last_unread, told_unread, read_one}

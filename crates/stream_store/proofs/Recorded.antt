@@ -1,9 +1,9 @@
 -- What the changes of a commit make of a base, its table and its blocks, one after the other.
-use Rattle.std.proofs.Common.{◌≡◌, ◌≤◌, ◌<◌, ◌^◌, ℕ, ◌+◌, ◌==◌, ◌&&◌, ◌||◌, Bool, true, false, cond, not, List, [], ◌∷◌, ◌++◌, Option, Some, None, All, IsTrue, length, map, option_map, refl, sym, ap, subst, ◌∙◌, arith}
-use Rattle.std.specs.Prelude.{filter, nat_le, unwrap_or, ⊤}
+use Rattle.std.proofs.Common.{◌≡◌, ◌≤◌, ◌<◌, ◌^◌, ℕ, ◌+◌, ◌&&◌, ◌||◌, Bool, true, false, cond, not, List, [], ◌∷◌, ◌++◌, Option, Some, None, All, IsTrue, length, option_map, refl, sym, ap, subst, ◌∙◌, arith}
+use Rattle.std.specs.Prelude.{nat_le, unwrap_or}
 use Rattle.std.specs.List.{AllZip, list_all, list_any}
-use Rattle.std.proofs.lemmas.Bool.{true≢false, and_parts, and_from, lt-ltb, leb-true}
-use Rattle.std.proofs.lemmas.List.Elements.{All-nil, All-cons, All-head, All-tail, All-push, All-filter, All-weaker}
+use Rattle.std.proofs.lemmas.Bool.{and_parts, and_from, lt-ltb, leb-true}
+use Rattle.std.proofs.lemmas.List.Elements.{All-nil, All-head, All-tail, All-push, All-filter, All-weaker}
 use Rattle.js_base.specs.Bytes.{Bytes}
 use Rattle.js_base.specs.declared.spot.Spot.{Spot}
 use Rattle.js_model.specs.declared.stream.Message.{Message}
@@ -12,7 +12,7 @@ use Rattle.js_model.proofs.Named.{some_is, none_some}
 use Rattle.effects.specs.declared.durable.Durable.{Durable}
 use Rattle.effects.specs.declared.effect.Effect.{Effect}
 use Rattle.effects.specs.declared.effect.Effect.TheVariants.{MakeStream, ChangeStream, DropStream, PutHere, Skip, Remove, MakeConsumer, DropConsumer, Deliver, Acked, Due, GivenUp, Now}
-use Rattle.effects.specs.Folding.{fold, fold_all, then_fold}
+use Rattle.effects.specs.Folding.{fold, fold_all}
 use Rattle.op_records.specs.Allowed.{is_record, is_put, is_spot, is_text, may_stand}
 use Rattle.op_records.specs.Blocks.{spelled_message}
 use Rattle.op_records.specs.declared.record.Record.{Record}
@@ -24,7 +24,7 @@ use Rattle.block_table.specs.declared.placed.Placed.{Placed}
 use Rattle.block_table.specs.declared.placing.Placing.{Placing}
 use Rattle.block_table.specs.Blocks.{Blocks, blocks, no_blocks}
 use Rattle.block_table.specs.Placings.{free_from, place, place_at, place_on, restarted, stays}
-use Rattle.block_table.specs.Puts.{end_of, fits, is_above, put, put_at, removed}
+use Rattle.block_table.specs.Puts.{fits, is_above, put_at, removed}
 use Rattle.block_table.specs.Tables.{IsTable}
 use Rattle.block_table.proofs.Batches.{Serves, fits_at, fits_on, serves_at, serves_on, serves_removed, serves_restarted}
 use Rattle.block_table.proofs.Tables.{fits_end, put_file, table_none, table_put, table_removed}
@@ -32,7 +32,7 @@ use Rattle.block_reading.specs.Standing.{AreStoredIn, IsThere, StandsAt}
 use Rattle.block_writing.specs.Planning.{message_by, spots_in}
 use Rattle.block_writing.specs.Runs.{AreStoredBy, IsStoredBy}
 use Rattle.block_writing.proofs.Runs.{put_allowed}
-use Rattle.log_records.specs.Logged.{Logged, blocks_after, both, effect_of, fold_record, fold_records, then_record, with_blocks}
+use Rattle.log_records.specs.Logged.{blocks_after, both, effect_of, fold_record, fold_records, with_blocks}
 use Rattle.log_records.specs.Unread.{unread, unread_effect, stored_messages}
 use Rattle.log_records.proofs.Unreading.{one_unread}
 use Rattle.stream_store.specs.Committing.{recorded_at}
@@ -41,7 +41,7 @@ use Rattle.stream_store.specs.Steps.{steps_of, with_step, with_steps}
 use Rattle.stream_store.specs.declared.steps.Step.{Step}
 use Rattle.stream_store.specs.declared.steps.Step.TheVariants as step
 use Rattle.stream_store.proofs.Blocks.{IsSame}
-use Rattle.stream_store.proofs.Folding.{AreNext, Lasts, Makes, Moves, makes, messages_by}
+use Rattle.stream_store.proofs.Folding.{AreNext, Makes, Moves, makes, messages_by}
 use Rattle.stream_store.proofs.Storing.{blocks_removed, same_put, stored_more, stored_none, stored_put, stored_removed}
 
 -- ---- steps

@@ -13,7 +13,7 @@ use Rattle.op_records.specs.Blocks.{spelled_message}
 use Rattle.op_records.proofs.BlockSizes.{sizes, spelled_len}
 use Rattle.block_table.specs.declared.placing.Placing.{Placing}
 use Rattle.block_table.specs.Blocks.{Blocks}
-use Rattle.block_table.specs.Placings.{place, placing, restarted}
+use Rattle.block_table.specs.Placings.{place, placing}
 use Rattle.block_writing.specs.Planning.{Planned, begun, message_by, planned, planned_one, then_planned, with_put}
 use Rattle.block_writing.proofs.Runs.{put_allowed}
 use Rattle.stream_store.specs.Laws.{LawPlacing, keeps_placing}

@@ -1,17 +1,17 @@
 -- What is stored in the blocks of an image, change by change.
-use Rattle.std.proofs.Common.{◌≡◌, ◌⊎◌, inl, inr, ◌≤◌, ◌<◌, ◌^◌, ℕ, ◌+◌, ◌-◌, ◌==◌, ◌&&◌, ◌||◌, Bool, true, false, cond, not, List, [], ◌∷◌, ◌++◌, Option, Some, None, All, Ok, length, take, drop, refl, sym, ap, subst, ◌∙◌, arith, length-take, length-append, length-drop}
+use Rattle.std.proofs.Common.{◌≡◌, ◌⊎◌, inl, inr, ◌≤◌, ◌<◌, ◌^◌, ℕ, ◌+◌, ◌-◌, ◌==◌, ◌&&◌, ◌||◌, Bool, true, false, cond, not, List, [], ◌∷◌, ◌++◌, Option, Some, None, All, Ok, length, take, drop, refl, sym, ap, subst, ◌∙◌, arith, length-take, length-append}
 use Rattle.std.specs.Prelude.{filter, nat_le}
-use Rattle.std.specs.List.{AllZip, list_any}
+use Rattle.std.specs.List.{AllZip}
 use Rattle.std.specs.Option.{option_to_list}
 use Rattle.std.proofs.Math.Seq.{take-add}
-use Rattle.std.proofs.lemmas.Bool.{true≢false, and_parts, eqb-true, leb-true}
+use Rattle.std.proofs.lemmas.Bool.{true≢false, and_parts, eqb-true}
 use Rattle.std.proofs.lemmas.List.{drop-take, take-take}
-use Rattle.std.proofs.lemmas.List.Elements.{All-nil, All-cons, All-head, All-tail, All-append, All-push, All-filter, All-weaker}
+use Rattle.std.proofs.lemmas.List.Elements.{All-nil, All-cons, All-head, All-tail, All-append, All-push, All-weaker}
 use Rattle.js_base.specs.Bytes.{Bytes}
 use Rattle.js_base.specs.declared.spot.Spot.{Spot}
 use Rattle.js_model.specs.Lists.{Between}
 use Rattle.js_model.specs.declared.stream.Message.{Message}
-use Rattle.op_records.specs.BlockLaws.{SpellsMessage, Lie}
+use Rattle.op_records.specs.BlockLaws.{SpellsMessage}
 use Rattle.op_records.specs.Blocks.{message_at, Follow, spelled_message}
 use Rattle.op_records.specs.Laws.{IsBatch}
 use Rattle.op_records.proofs.BlocksLaws.{law_message}
@@ -21,7 +21,7 @@ use Rattle.block_table.specs.declared.placed.Placed.{Placed}
 use Rattle.block_table.specs.Blocks.{Blocks, blocks, is_used, no_blocks}
 use Rattle.block_table.specs.Puts.{begins, end_of, fits, goes_on, is_above, is_within, left_by, put_at, removed, with_placed, without}
 use Rattle.block_table.proofs.Tables.{fits_end}
-use Rattle.block_reading.specs.Standing.{AreMessages, AreStoredIn, IsThere, IsWhole, StandIn, StandsAt, bytes_at}
+use Rattle.block_reading.specs.Standing.{AreMessages, AreStoredIn, IsThere, IsWhole, StandsAt, bytes_at}
 use Rattle.block_reading.proofs.Follows.{between_push, follow_push, follow_within, next_seq}
 use Rattle.stream_store.proofs.Blocks.{IsSame}
 

@@ -1,6 +1,5 @@
 -- Files of blocks that were synced, one after the other.
 use Rattle.std.proofs.Common.{◌≡◌, ◌≤◌, ◌<◌, ℕ, ◌+◌, ◌==◌, ◌||◌, Bool, true, false, List, [], ◌∷◌, ◌++◌, Option, Some, None, get_or, take, length, refl, sym, ap, subst, ◌∙◌}
-use Rattle.std.specs.List.{list_any}
 use Rattle.std.specs.Option.{option_to_list}
 use Rattle.std.proofs.lemmas.Bool.{true≢false, eqb-true}
 use Rattle.std.proofs.lemmas.List.{take_more, take_all}
@@ -13,7 +12,7 @@ use Rattle.vol_disk.specs.Steps.{Kept}
 use Rattle.vol_disk.specs.Moments.{Quiet}
 use Rattle.vol_disk.proofs.Moments.{quiet, quiet_durable, quiet_on}
 use Rattle.block_table.specs.declared.block.Block.{Block}
-use Rattle.block_table.specs.Blocks.{Blocks, blocks, has_block, is_among}
+use Rattle.block_table.specs.Blocks.{Blocks, blocks, is_among}
 use Rattle.stream_store.specs.Reading.{AreSynced}
 
 pub synced_none : (disk : Disk) (file : ℕ) → is_among [] file ≡ true → IsDurable disk file

@@ -51,6 +51,7 @@ fn sync_all<V: Vol>(vol: &mut V, blocks: &[Block]) -> Result<(), Failed>
 /// Syncs the blocks of a table, so that what is read of them is what a crash leaves.
 fn sync_blocks<V: Vol>(vol: &mut V, table: &BlockTable) -> Result<(), Failed>
     ensures synced { V.told → OnOk result (AreSynced table.now (V.disk vol.new)) }
+    ensures table { OnOk result (IsTable table.now) }
     ensures quiet { V.told → Quiet (V.disk vol.old) (V.disk vol.new) }
     ensures cause { HasCause (V.faults vol.old) (V.faults vol.new) (IsErr result) }
     ensures later { (V.disk vol.old).moment ≤ (V.disk vol.new).moment }
@@ -98,6 +99,7 @@ fn read_blocks<V: Vol>(alloc: Global, vol: &mut V, read: LogRead) -> Result<Foun
     requires logged { IsLogged (given_in read) }
     requires storable { IsStorable read.durable }
     ensures read { IfOk result (IsReadOf read) }
+    ensures table { IfOk result (λ found. IsTable found.table) }
     ensures placed { IfOk result (λ found. length found.table.placed ≡ length (stored_messages found.durable)) }
     ensures formed { IfOk result (λ found. IsFormed found.durable) }
     ensures storable { IfOk result (λ found. IsStorable found.durable) }
@@ -143,8 +145,6 @@ pub(crate) fn read_current<V: Vol>(
     };
     let last = read.last;
     let found = read_blocks(alloc, vol, read)?;
-    // that the table is one is what the proof takes from this call
-    let _ = found.table.writing();
     if is_openable(alloc, &found.durable)? {
         Ok(found)
     } else {

@@ -2,6 +2,7 @@
 
 ghost use Rattle.std.specs.Prelude.{◌≡◌, ◌+◌, ◌<◌, ◌≤◌, ◌^◌, ◌++◌, IfOk, IsErrOf, IsTrue, OnOk, length, map};
 ghost use Rattle.std.specs.List.{list_all};
+ghost use Rattle.block_table.specs.Tables.{IsTable};
 ghost use Rattle.op_records.specs.Allowed.{is_record};
 ghost use Rattle.stream_store.specs.Committing.{batch_length};
 ghost use Rattle.stream_store.specs.Placing.{can_place};
@@ -75,6 +76,7 @@ fn left_blocks(
     all: bool,
 ) -> Result<Vec<Block>, NoMemory>
     ensures value { IfOk result (λ left. left.items ≡ before.now ++ (blocks_of all table.now ++ map block_of runs.now)) }
+    ensures table { OnOk result (IsTable table.now) }
 {
     let mut left = Vec::new(alloc);
     add_blocks(&mut left, before)?;
@@ -104,8 +106,6 @@ fn stage_by(
     ensures full { IsErrOf result CommitFault.Full → 2 ^ 31 < log.now.end + 6 + batch_length effects.now }
     ensures fault { IsErrOf result CommitFault.Fault → ⊥ }
 {
-    // that the table is one is what the proof takes from this call
-    let _ = table.writing();
     let plan = plan(alloc, table, effects)?;
     let records = plan.batch.as_slice();
     if !log.fits(records.len()) {

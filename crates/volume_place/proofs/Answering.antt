@@ -1,9 +1,8 @@
 -- What holds of a place once an event was answered and its records wait.
-use Rattle.std.proofs.Common.{◌≡◌, ◌<◌, ◌^◌, ℕ, Bool, List, ◌++◌, Option, None, Result, Ok, Err, sym, ap, subst, ◌∙◌}
+use Rattle.std.proofs.Common.{◌≡◌, ◌<◌, ◌^◌, ℕ, Bool, List, ◌++◌, Option, None, Result, Err, sym, ap, subst, ◌∙◌}
 use Rattle.std.specs.Prelude.{IfErr, IfOk, IsTrue}
 use Rattle.js_base.specs.declared.out.Out.{Out}
 use Rattle.js_model.specs.declared.event.Event.{Event}
-use Rattle.js_model.specs.declared.event.What.{What}
 use Rattle.js_model.specs.declared.reply.Reply.{Reply}
 use Rattle.js_model.specs.declared.stream.State.{State}
 use Rattle.js_model.specs.Events.{kept_incarnation}
@@ -44,11 +43,10 @@ module _ (told : Type 0) (disk : Disk) (store : StoreState) (waiting : List Effe
         → TellsEventIn room result state e.what now effects → IsCounted stored (stored_by effects) count → Holds told disk asked (given ++ effects) count stopped new
     answered_sound result new now before after effects count kept proper moment answers leaves tells counted =
         subst (λ (s : StoreState). Holds told disk s (given ++ effects) count stopped new) (sym same)
-        (subst (λ (l : List Effect). Holds told disk store (l ++ effects) count stopped new) (sym are)
-        (
+        (subst (λ (l : List Effect). Holds told disk store (l ++ effects) count stopped new) (sym are) (
           grown_answer told disk store waiting stopped going state h.0 result new e now room before after effects kept proper moment answers leaves tells,
           may_store store.blocks (waiting ++ effects) count stopped going
-          (grown_blocks store.blocks waiting effects stored count blocks (told_grows store.blocks waiting stored result state e.what now room effects for_waiting blocks tells) counted),
+              (grown_blocks store.blocks waiting effects stored count blocks (told_grows store.blocks waiting stored result state e.what now room effects for_waiting blocks tells) counted),
         ))
       where
         blocks : HasBlocks store.blocks waiting stored

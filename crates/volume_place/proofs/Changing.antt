@@ -1,12 +1,11 @@
 -- Whether more than the moment changes by an event is told by its records, and by how many ids the window has before and after it.
-use Rattle.std.proofs.Common.{◌≡◌, ◌≢◌, ◌≤◌, ◌<◌, ◌^◌, ℕ, ◌+◌, Bool, true, false, ◌||◌, ◌&&◌, ◌==◌, not, cond, List, [], ◌∷◌, ◌++◌, length, map, max, Option, Some, None, refl, sym, ap, subst, ◌∙◌, arith}
+use Rattle.std.proofs.Common.{◌≡◌, ◌≤◌, ◌<◌, ◌^◌, ℕ, ◌+◌, Bool, true, false, ◌||◌, ◌&&◌, ◌==◌, not, cond, List, [], ◌∷◌, ◌++◌, length, map, max, Some, None, refl, sym, ap, subst, ◌∙◌, arith}
 use Rattle.std.specs.Prelude.{Decides, IsTrue, filter, nat_le, nat_lt, ⊤}
-use Rattle.std.proofs.lemmas.Bool.{le-ltb, lt-ltb, ltb-false, true≢false}
+use Rattle.std.proofs.lemmas.Bool.{le-ltb, ltb-false, true≢false}
 use Rattle.std.proofs.lemmas.List.{append-nil}
 use Rattle.std.proofs.lemmas.Option.{none-some}
 use Rattle.js_base.specs.Bytes.{Bytes}
 use Rattle.js_base.specs.Moments.{plus}
-use Rattle.js_model.specs.declared.consumer.Consumer.{Consumer}
 use Rattle.js_model.specs.declared.stream.Id.{Id}
 use Rattle.js_model.specs.declared.stream.Stream.{Stream}
 use Rattle.js_model.specs.declared.stream.State.{State}
@@ -28,7 +27,6 @@ use Rattle.model_laws.specs.Sound.{IsSound}
 use Rattle.model_laws.proofs.Facts.{IfLive, IsChangeFact, change_time}
 use Rattle.effects.specs.Durables.{body_of, durable_of, state_of}
 use Rattle.effects.specs.Effects.{event_effects, live_effects}
-use Rattle.effects.specs.Folding.{fold_all}
 use Rattle.effects.specs.Laws.{Leads}
 use Rattle.effects.specs.TimeEffects.{effects_at, has_spent_ids, now_effects, time_effects}
 use Rattle.effects.specs.declared.durable.Durable.{Durable}

@@ -11,7 +11,7 @@ use Rattle.stream_store.specs.declared.fault.CommitFault.TheVariants.{NoMemory, 
 use Rattle.place_engine.specs.Flushing.{Unflushed}
 use Rattle.volume_place.specs.Bringing.{Brings, Concludes, GoesOn}
 use Rattle.volume_place.specs.Contents.{Contents}
-use Rattle.volume_place.specs.Seeing.{IsFull, seen_of}
+use Rattle.volume_place.specs.Seeing.{seen_of}
 use Rattle.volume_place.specs.Tail.{MayWait, MustNotWait, is_small}
 
 module _ {V : Type 0} (told : Type 0) (disk : V → Disk) (faults : V → ℕ) (a : Contents V) where

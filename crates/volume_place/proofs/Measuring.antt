@@ -1,5 +1,5 @@
 -- How long the records that wait are, each of which is measured once.
-use Rattle.std.proofs.Common.{◌≡◌, ◌≢◌, ℕ, ◌+◌, ◌-◌, ◌≤◌, ◌<◌, ◌^◌, Bool, true, false, ◌&&◌, List, [], ◌∷◌, ◌++◌, length, map, get_or, take, drop, refl, sym, ap, subst, ◌∙◌, arith}
+use Rattle.std.proofs.Common.{◌≡◌, ◌≢◌, ℕ, ◌+◌, ◌≤◌, ◌<◌, ◌^◌, Bool, true, false, ◌&&◌, List, [], ◌∷◌, ◌++◌, length, map, get_or, take, drop, refl, sym, ap, subst, ◌∙◌, arith}
 use Rattle.std.specs.Prelude.{IsTrue, nat_lt}
 use Rattle.std.specs.List.{flat_map, list_all}
 use Rattle.std.proofs.lemmas.Bool.{and_parts, le-ltb, lt-ltb}
@@ -10,7 +10,7 @@ use Rattle.js_base.specs.Bytes.{Bytes}
 use Rattle.effects.specs.declared.effect.Effect.{Effect}
 use Rattle.effects.specs.declared.effect.Effect.TheVariants.{MakeStream, ChangeStream, DropStream, PutHere, Skip, Remove, MakeConsumer, DropConsumer, Deliver, Acked, Due, GivenUp, Now}
 use Rattle.op_records.specs.Allowed.{is_record}
-use Rattle.op_records.specs.Spelling.{long, number, spelled, spelled_record, spelled_spot, text}
+use Rattle.op_records.specs.Spelling.{long, spelled, spelled_record, spelled_spot, text}
 use Rattle.op_records.specs.declared.record.Record.{Record}
 use Rattle.stream_store.proofs.Records.{record_there}
 use Rattle.stream_store.specs.Committing.{batch_length, no_spot, recorded_at}

@@ -31,7 +31,7 @@ use Rattle.js_model.specs.Runs.{messages_of}
 use Rattle.js_model.specs.Streams.{by_name, seqs}
 use Rattle.js_model.specs.Trim.{trim, trim_count, trim_subjects}
 use Rattle.js_model.specs.Verdict.{verdict}
-use Rattle.effects.specs.Effects.{ack_effects, acknowledged_effects, change_effects, changes_due, delete_effects, delivery_effects, drop_effects, due_effects, ended_effects, ends_some, event_effects, is_skipped, live_effects, made_effects, make_effects, own_effects, publish_effects, published_skipped, put_effect, sent_effects, settle_effects, skipped, vacant_effects}
+use Rattle.effects.specs.Effects.{ack_effects, acknowledged_effects, changes_due, delete_effects, delivery_effects, drop_effects, due_effects, ended_effects, ends_some, event_effects, is_skipped, live_effects, made_effects, make_effects, own_effects, publish_effects, published_skipped, sent_effects, settle_effects, skipped, vacant_effects}
 use Rattle.js_model.specs.Acknowledge.{is_no_delivery}
 use Rattle.effects.specs.Ranges.{Range, ranges}
 use Rattle.effects.specs.TimeEffects.{effects_at, given_up_effects, has_spent_ids, now_effects, removals, remove_of, time_effects}

@@ -1,12 +1,10 @@
 -- What waits keeps its places in blocks as events and deliveries are made, and a message that is stored counts.
-use Rattle.std.proofs.Common.{◌≡◌, ◌≢◌, ◌≤◌, ◌<◌, ◌⊎◌, inl, inr, ℕ, ◌+◌, ◌-◌, ◌^◌, ◌==◌, ◌||◌, min, Bool, true, false, cond, not, List, [], ◌∷◌, ◌++◌, length, map, Option, None, Some, Result, Ok, Err, refl, sym, ap, subst, ◌∙◌, arith, length-append, append_assoc}
-use Rattle.std.specs.Prelude.{IsTrue, filter}
-use Rattle.std.specs.List.{list_all}
+use Rattle.std.proofs.Common.{◌≡◌, ◌≢◌, ◌≤◌, ◌<◌, ◌⊎◌, inl, inr, ℕ, ◌+◌, ◌-◌, ◌^◌, ◌==◌, ◌||◌, min, Bool, true, false, cond, not, List, [], ◌∷◌, ◌++◌, length, map, Option, None, Some, Result, Ok, Err, refl, sym, ap, subst, ◌∙◌, arith, append_assoc}
+use Rattle.std.specs.Prelude.{filter}
 use Rattle.std.specs.Option.{option_to_list}
-use Rattle.std.proofs.lemmas.Bool.{and_from, and_parts, eqb-true, eq-eqb, lt-ltb, ltb-true, true≢false}
+use Rattle.std.proofs.lemmas.Bool.{and_parts, eqb-true, lt-ltb, ltb-true, true≢false}
 use Rattle.std.proofs.lemmas.List.{append-nil}
 use Rattle.js_base.specs.Bytes.{Bytes, has}
-use Rattle.js_base.specs.declared.out.Out.{Out}
 use Rattle.js_model.specs.declared.entry.Delivery.{Delivery}
 use Rattle.js_model.specs.declared.event.Event.{Event}
 use Rattle.js_model.specs.declared.event.Publish.{Publish}
@@ -16,10 +14,10 @@ use Rattle.js_model.specs.declared.reply.Reply.{Reply}
 use Rattle.js_model.specs.declared.reply.Verdict.TheVariants.{Take}
 use Rattle.js_model.specs.declared.stream.Message.{Message}
 use Rattle.js_model.specs.declared.stream.State.{State}
-use Rattle.js_model.specs.declared.stream.State.TheVariants.{Vacant, Live}
+use Rattle.js_model.specs.declared.stream.State.TheVariants.{Live}
 use Rattle.js_model.specs.declared.stream.Stream.{Stream}
 use Rattle.js_model.specs.Advance.{advance}
-use Rattle.js_model.specs.Events.{answered, published, settled, settled_state, with_message}
+use Rattle.js_model.specs.Events.{answered, settled, with_message}
 use Rattle.js_model.specs.Lists.{Between}
 use Rattle.js_model.specs.Runs.{is_few, new_messages}
 use Rattle.js_model.specs.Streams.{seqs}
@@ -27,14 +25,14 @@ use Rattle.js_model.specs.Verdict.{late_checks, verdict}
 use Rattle.js_model.proofs.Parts.{between_bounds}
 use Rattle.model_laws.specs.Sound.{IsSound}
 use Rattle.model_laws.proofs.Bounded.{ArePassed, all_passed, taken_passed}
-use Rattle.effects.specs.Effects.{delivery_effects, event_effects, is_skipped, settle_effects}
+use Rattle.effects.specs.Effects.{event_effects, settle_effects}
 use Rattle.effects.specs.TimeEffects.{remove_of, time_effects}
 use Rattle.effects.specs.declared.effect.Effect.{Effect}
 use Rattle.effects.specs.declared.effect.Effect.TheVariants as effects
 use Rattle.op_records.specs.Allowed.{is_put}
 use Rattle.op_records.specs.Blocks.{spelled_message}
 use Rattle.op_records.proofs.BlockSizes.{spelled_len}
-use Rattle.block_table.specs.Blocks.{Blocks, blocks}
+use Rattle.block_table.specs.Blocks.{Blocks}
 use Rattle.block_writing.specs.Planning.{message_by}
 use Rattle.stream_store.specs.Laws.{keeps_placing}
 use Rattle.stream_store.specs.Placing.{can_place, has_room, used_behind}

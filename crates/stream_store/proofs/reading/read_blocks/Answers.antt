@@ -1,4 +1,4 @@
-use Rattle.std.proofs.Common.{◌≡◌, ◌∙◌, List, ap, refl, sym, subst}
+use Rattle.std.proofs.Common.{◌∙◌, List, ap, refl, sym, subst}
 use Rattle.std.proofs.Math.Path.{fun_ext}
 use Rattle.std.proofs.lemmas.Result.{err_from_is_err_and}
 use Rattle.std.specs.List.{AllZip}
@@ -9,7 +9,6 @@ use Rattle.vol_disk.proofs.Moments.{quiet_durable, quiet_then}
 use Rattle.block_reading.specs.Damage.{IsToldBy}
 use Rattle.block_reading.specs.Reading.{IsMessagesFault}
 use Rattle.block_reading.specs.Standing.{AreStoredIn}
-use Rattle.log_records.specs.Unread.{stored_messages}
 use Rattle.stream_store.specs.Holding.{last_of}
 use Rattle.stream_store.specs.Reading.{IsReadOf}
 use Rattle.stream_store.specs.declared.reading.Found.{Found}

@@ -1,7 +1,7 @@
-use Rattle.std.proofs.Common.{◌≡◌, ◌≤◌, ◌+◌, ◌∙◌, ℕ, Err, ap, length, refl, sym, subst}
+use Rattle.std.proofs.Common.{◌≤◌, ◌+◌, ◌∙◌, ℕ, Err, ap, length, refl, sym, subst}
 use Rattle.std.proofs.lemmas.Bool.{true≢false}
 use Rattle.std.proofs.lemmas.Result.{err_from_is_err_and}
-use Rattle.vol_disk.proofs.Moments.{quiet_durable, quiet_then}
+use Rattle.vol_disk.proofs.Moments.{quiet_then}
 use Rattle.block_table.specs.Blocks.{blocks}
 use Rattle.block_table.proofs.Rooms.{law_room}
 use Rattle.log_records.specs.declared.fault.ReadFault.{ReadFault}
@@ -63,7 +63,7 @@ returns-then-branch-clause-found g c = λ told.
 pub returns-then-branch-clause-held : goal.returns-then-branch-clause-held
 returns-then-branch-clause-held g c =
     let f = c.in_ok-found.found in
-    subst (λ (n : ℕ). length (blocks f.table) ≤ n + 1) c.in_ok-found.ensures.placed (law_room.held f.table c.writing.ensures.table)
+    subst (λ (n : ℕ). length (blocks f.table) ≤ n + 1) c.in_ok-found.ensures.placed (law_room.held f.table c.in_ok-found.ensures.table)
 
 pub returns-else-branch-clause-fault : goal.returns-else-branch-clause-fault
 returns-else-branch-clause-fault g c = λ told.

@@ -1,6 +1,6 @@
 use Rattle.std.proofs.Common.{◌∙◌, List, ap, sym}
 use Rattle.std.proofs.lemmas.Result.{on_ok_weaker}
-use Rattle.vol_disk.proofs.Moments.{quiet, quiet_on}
+use Rattle.vol_disk.proofs.Moments.{quiet_on}
 use Rattle.block_table.specs.declared.block.Block.{Block}
 use Rattle.block_table.specs.Blocks.{is_among}
 use Rattle.stream_store.proofs.Synced.{synced_none_written, synced_written}

@@ -2,7 +2,7 @@ use Rattle.std.proofs.Common.{◌≡◌, ◌∙◌, Bool, Some, None, cond, drop
 use Rattle.block_table.specs.declared.placing.Placing.{Placing}
 use Rattle.stream_store.specs.Placing.{placing_behind}
 use Rattle.stream_store.proofs.Records.{record_there}
-use Rattle.stream_store.proofs.Rooms.{no_room, placings, placings_begun, placings_next, room_at_end}
+use Rattle.stream_store.proofs.Rooms.{no_room, placings, placings_begun, placings_next}
 use Rattle.stream_store.proofs.room.room_behind.Goals as goal
 
 pub place_effect-requires : goal.place_effect-requires

@@ -1,20 +1,18 @@
-use Rattle.std.proofs.Common.{◌≡◌, ◌∙◌, ◌++◌, List, map, ap, subst, sym, ◌<◌, ◌≤◌, ◌+◌, ◌^◌, ℕ, length, arith}
+use Rattle.std.proofs.Common.{◌≡◌, ◌∙◌, ◌++◌, List, map, ap, subst, sym, ◌<◌, ◌≤◌, ◌+◌, ◌^◌, ℕ, length}
 use Rattle.std.specs.Prelude.{All}
 use Rattle.js_base.specs.Bytes.{Bytes}
-use Rattle.js_base.specs.declared.spot.Spot.{Spot}
-use Rattle.block_table.specs.declared.block.Block.{Block}
 use Rattle.block_writing.specs.declared.run.Run.{Run}
 use Rattle.block_writing.specs.Laws.{ArePlannedBy}
 use Rattle.stream_store.specs.Committing.{batch_length}
 use Rattle.stream_store.specs.Staging.{AreBehindLogs, block_of, blocks_of}
 use Rattle.stream_store.specs.Steps.{steps_of}
-use Rattle.stream_store.proofs.Stages.{left_behind, not_without, past_end, plan_length}
+use Rattle.stream_store.proofs.Stages.{left_behind, past_end, plan_length}
 use Rattle.stream_store.proofs.staging.stage_by.Goals as goal
 
 pub returns-clause-staged : goal.returns-clause-staged
 returns-clause-staged c =
     let p = c.in_ok-plan.ensures.plan in
-    let planned : ArePlannedBy c.args.table.now c.args.effects.now p.made = record { table = c.writing.ensures.table; allowed = c.requires.records; made_is = p.made_is } in
+    let planned : ArePlannedBy c.args.table.now c.args.effects.now p.made = record { table = c.in_ok-blocks.ensures.table; allowed = c.requires.records; made_is = p.made_is } in
     record {
       made = p.made;
       planned = planned;

@@ -1,5 +1,5 @@
 use Rattle.std.proofs.Common.{arith}
-use Rattle.stream_store.proofs.Taken.{all_steps, no_steps, step_added}
+use Rattle.stream_store.proofs.Taken.{all_steps, step_added}
 use Rattle.stream_store.proofs.steps.steps_of.Goals as goal
 
 pub loop-effect-preserved : goal.loop-effect-preserved

@@ -1,4 +1,4 @@
-use Rattle.std.proofs.Common.{◌≡◌, ◌≤◌, List, length, sym, subst}
+use Rattle.std.proofs.Common.{◌≤◌, List, length, sym, subst}
 use Rattle.std.specs.Prelude.{All}
 use Rattle.vol_disk.specs.Images.{AreBytes}
 use Rattle.block_writing.specs.declared.run.Run.{Run}

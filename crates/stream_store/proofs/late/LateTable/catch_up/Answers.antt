@@ -1,4 +1,4 @@
-use Rattle.std.proofs.Common.{◌∙◌, arith, refl, sym}
+use Rattle.std.proofs.Common.{◌∙◌, arith, sym}
 use Rattle.stream_store.proofs.Taken.{taken_all, taken_one}
 use Rattle.stream_store.proofs.late.LateTable.catch_up.Goals as goal
 

@@ -1,7 +1,6 @@
-use Rattle.std.proofs.Common.{◌≡◌, ◌≤◌, ◌<◌, ◌+◌, ◌^◌, ◌∙◌, ℕ, IsSome, List, true, length, ap, refl, subst, sym, arith}
+use Rattle.std.proofs.Common.{◌≡◌, ◌≤◌, ◌+◌, ◌^◌, ◌∙◌, ℕ, IsSome, true, length, ap, refl, subst, sym}
 use Rattle.std.specs.Prelude.{All}
-use Rattle.gate_log.specs.LogState.{LogState, with_batch}
-use Rattle.block_table.specs.declared.block.Block.{Block}
+use Rattle.gate_log.specs.LogState.{with_batch}
 use Rattle.block_table.specs.Blocks.{Blocks, blocks}
 use Rattle.block_writing.specs.Runs.{AreApart, IsShort}
 use Rattle.block_writing.proofs.Commits.{law_plans}

@@ -1,8 +1,6 @@
-use Rattle.std.proofs.Common.{◌≡◌, ◌≢◌, ◌++◌, List, [], length, Some, Err, ap, refl, sym, ◌∙◌, rules}
+use Rattle.std.proofs.Common.{◌≢◌, ◌++◌, List, [], length, Some, Err, ap, refl, sym, ◌∙◌, rules}
 use Rattle.effects.specs.declared.effect.Effect.{Effect}
-use Rattle.gate_log.specs.LogState.{LogState}
 use Rattle.place_records.specs.Records.{effects_in}
-use Rattle.stream_store.specs.StoreState.{StoreState}
 use Rattle.stream_store.specs.declared.fault.CommitFault.{CommitFault}
 use Rattle.volume_place.specs.declared.volume_place.VolumePlace.TheView.{view}
 use Rattle.volume_place.proofs.Brought.{brings_none, brought_blocks, places_of, unbrought, unbrought_blocks, unbrought_sound, stands_still, fits, records_of, brings, brought_sound, fails, fills, stopped_sound, time_goes_on}
@@ -45,8 +43,7 @@ invariant_of-self g c =
     let V = g.V.Vol in
     let x = view _ V c.self.inside in
     let going = rw (← c.self.view_is) at c.requires.going in
-    let same = unmoved c.take.new.self c.self.inside.tail c.take.new.made c.self.inside.made c.in_default.ensures.err c.in_default.ensures.made_left in
-    (
+    let same = unmoved c.take.new.self c.self.inside.tail c.take.new.made c.self.inside.made c.in_default.ensures.err c.in_default.ensures.made_left in (
       unbrought_sound V.told V.disk V.faults g.met.V.Vol.clocked x going c.self.invariant.0 x.store x.vol (c.take.new.self ++ effects_in c.take.new.made) refl refl same,
       unbrought_blocks x.store x.store x.waiting (c.take.new.self ++ effects_in c.take.new.made) x.stored x.stopped refl same c.self.invariant.1,
     )
@@ -73,8 +70,7 @@ invariant_of-self-then-is_empty g c =
     let V = g.V.Vol in
     let x = view _ V c.self.inside in
     let going = rw (← c.self.view_is) at c.requires.going in
-    let same = joined c.take.new.self c.take.new.made x.waiting c.in-Ok.ensures.ok c.in-Ok.ensures.none in
-    (
+    let same = joined c.take.new.self c.take.new.made x.waiting c.in-Ok.ensures.ok c.in-Ok.ensures.none in (
       unbrought_sound V.told V.disk V.faults g.met.V.Vol.clocked x going c.self.invariant.0 x.store x.vol (c.take.new.self ++ effects_in c.take.new.made) refl refl same,
       unbrought_blocks x.store x.store x.waiting (c.take.new.self ++ effects_in c.take.new.made) x.stored x.stopped refl same c.self.invariant.1,
     )
@@ -129,12 +125,11 @@ invariant_of-self-in-Ok-commit g c =
     let x = view _ V c.self.inside in
     let going = rw (← c.self.view_is) at c.requires.going in
     let are = c.records-records.ensures.value ∙ c.in-Ok.ensures.ok in
-    let nothing = joined c.clear.new.self c.take.new.made [] c.clear.ensures.none c.in-Ok.ensures.none in
-    (
+    let nothing = joined c.clear.new.self c.take.new.made [] c.clear.ensures.none c.in-Ok.ensures.none in (
       brought_sound V.told V.disk V.faults g.met.V.Vol.clocked x going c.self.invariant.0 c.records-records.result.now are c.commit.new.vol c.commit.new.self
-      c.in-Ok-commit.ensures.committed (c.clear.new.self ++ effects_in c.take.new.made) nothing,
+          c.in-Ok-commit.ensures.committed (c.clear.new.self ++ effects_in c.take.new.made) nothing,
       brought_blocks x.store.blocks c.commit.new.self c.records-records.result.now (c.clear.new.self ++ effects_in c.take.new.made) x.waiting x.stored x.stopped going c.self.invariant.1 are
-      nothing c.in-Ok-commit.ensures.fewer,
+          nothing c.in-Ok-commit.ensures.fewer,
     )
 
 pub returns-in-Ok-commit-clause-brings : goal.returns-in-Ok-commit-clause-brings
@@ -166,10 +161,9 @@ invariant_of-self-in-Err-NoMemory g c =
     let x = view _ V c.self.inside in
     let going = rw (← c.self.view_is) at c.requires.going in
     let same = joined c.take.new.self c.take.new.made x.waiting c.in-Ok.ensures.ok c.in-Ok.ensures.none in
-    let kept = c.in-Err-NoMemory.ensures.no_memory (ap (λ (f : CommitFault). Err f) c.in-Err-NoMemory.field-0-is) in
-    (
+    let kept = c.in-Err-NoMemory.ensures.no_memory (ap (λ (f : CommitFault). Err f) c.in-Err-NoMemory.field-0-is) in (
       unbrought_sound V.told V.disk V.faults g.met.V.Vol.clocked x going c.self.invariant.0 c.commit.new.self c.commit.new.vol
-      (c.take.new.self ++ effects_in c.take.new.made) kept.1 kept.0 same,
+          (c.take.new.self ++ effects_in c.take.new.made) kept.1 kept.0 same,
       unbrought_blocks x.store c.commit.new.self x.waiting (c.take.new.self ++ effects_in c.take.new.made) x.stored x.stopped kept.1 same c.self.invariant.1,
     )
 
@@ -202,11 +196,10 @@ invariant_of-self-in-Err-Fault g c =
     let x = view _ V c.self.inside in
     let going = rw (← c.self.view_is) at c.requires.going in
     let are = c.records-records.ensures.value ∙ c.in-Ok.ensures.ok in
-    let same = joined c.take.new.self c.take.new.made x.waiting c.in-Ok.ensures.ok c.in-Ok.ensures.none in
-    (
+    let same = joined c.take.new.self c.take.new.made x.waiting c.in-Ok.ensures.ok c.in-Ok.ensures.none in (
       stopped_sound V.told V.disk V.faults g.met.V.Vol.clocked x going c.self.invariant.0 c.records-records.result.now are c.commit.new.vol
-      c.commit.ensures.later c.commit.ensures.any_moment c.commit.new.self (c.take.new.self ++ effects_in c.take.new.made)
-      c.faults.result same,
+          c.commit.ensures.later c.commit.ensures.any_moment c.commit.new.self (c.take.new.self ++ effects_in c.take.new.made)
+          c.faults.result same,
       tt,
     )
 
@@ -240,11 +233,10 @@ invariant_of-self-in-Err-Full g c =
     let x = view _ V c.self.inside in
     let going = rw (← c.self.view_is) at c.requires.going in
     let are = c.records-records.ensures.value ∙ c.in-Ok.ensures.ok in
-    let same = joined c.take.new.self c.take.new.made x.waiting c.in-Ok.ensures.ok c.in-Ok.ensures.none in
-    (
+    let same = joined c.take.new.self c.take.new.made x.waiting c.in-Ok.ensures.ok c.in-Ok.ensures.none in (
       stopped_sound V.told V.disk V.faults g.met.V.Vol.clocked x going c.self.invariant.0 c.records-records.result.now are c.commit.new.vol
-      c.commit.ensures.later c.commit.ensures.any_moment c.commit.new.self (c.take.new.self ++ effects_in c.take.new.made)
-      c.faults-in-Err-Full.result same,
+          c.commit.ensures.later c.commit.ensures.any_moment c.commit.new.self (c.take.new.self ++ effects_in c.take.new.made)
+          c.faults-in-Err-Full.result same,
       tt,
     )
 

@@ -16,10 +16,9 @@ invariant_of-self-2 g c =
     let before = i.tail ++ effects_in i.made in
     let blocks = sent_blocks i.store.blocks before i.stored c.deliver_one.result i.slot c.args.now c.deliver_one.new.self (effects_in c.deliver_one.new.made)
     (has_blocks i.store.blocks before i.stored i.stopped going c.self.invariant.1) c.deliver_one.ensures.recorded in
-    rw c.in-Ok.ensures.ok
-    (
+    rw c.in-Ok.ensures.ok (
       grown_sent V.told (V.disk i.vol) i.store before i.stopped going i.slot c.self.invariant.0 c.deliver_one.result c.deliver_one.new.self c.args.now
-      c.args.listening.now c.args.outs.now c.deliver_one.new.outs (effects_in c.deliver_one.new.made) (le-leb _ _ bound) moment c.deliver_one.ensures.delivers c.deliver_one.ensures.recorded,
+          c.args.listening.now c.args.outs.now c.deliver_one.new.outs (effects_in c.deliver_one.new.made) (le-leb _ _ bound) moment c.deliver_one.ensures.delivers c.deliver_one.ensures.recorded,
       may_store i.store.blocks (before ++ effects_in c.deliver_one.new.made) i.stored i.stopped going blocks,
     )
 

@@ -20,11 +20,11 @@ returns-in_default-clause-unopened g c = unopened g.V.Vol.told g.V.Vol.disk g.V.
 pub invariant_of-result : goal.invariant_of-result
 invariant_of-result g c = (
   opened_sound g.V.Vol.told g.V.Vol.disk g.V.Vol.faults g.met.V.Vol.clocked c.args.volume c.open.new.vol c.open.ensures.any_moment c.in-Ok.opened.1 c.in-Ok.ensures.formed
-  c.in-Ok.ensures.storable c.in-Ok.ensures.openable c.in-Ok.opened.0 c.in-Ok-restore.slot c.in-Ok-restore.ensures.value _ (none_waits c.new.result _ c.new.ensures.none c.new-2.ensures.none)
-  c.in-Ok.ensures.found c.in-Ok.ensures.base,
+      c.in-Ok.ensures.storable c.in-Ok.ensures.openable c.in-Ok.opened.0 c.in-Ok-restore.slot c.in-Ok-restore.ensures.value _ (none_waits c.new.result _ c.new.ensures.none c.new-2.ensures.none)
+      c.in-Ok.ensures.found c.in-Ok.ensures.base,
   opened_blocks g.V.Vol.told g.V.Vol.disk g.V.Vol.faults g.met.V.Vol.clocked c.args.volume c.open.new.vol c.open.ensures.any_moment c.in-Ok.opened.1 c.in-Ok.ensures.formed
-  c.in-Ok.ensures.storable c.in-Ok.ensures.openable c.in-Ok.opened.0.blocks c.in-Ok.ensures.held c.in-Ok-restore.slot c.in-Ok-restore.ensures.value _
-  (none_waits c.new.result _ c.new.ensures.none c.new-2.ensures.none) c.messages-stored.result c.messages-stored.ensures.value,
+      c.in-Ok.ensures.storable c.in-Ok.ensures.openable c.in-Ok.opened.0.blocks c.in-Ok.ensures.held c.in-Ok-restore.slot c.in-Ok-restore.ensures.value _
+      (none_waits c.new.result _ c.new.ensures.none c.new-2.ensures.none) c.messages-stored.result c.messages-stored.ensures.value,
 )
 
 pub returns-clause-opened : goal.returns-clause-opened
