@@ -27,8 +27,7 @@ const CONSUMER: &[u8] =
 const BEGUN: &[u8] = b"JSLOG\0\0\x01\0\0\0\0\0\0\0\x01\x01\0\0\0\x09\x20\0\0\0\0\0\0\0\0";
 
 /// The block of file 2, with one message.
-const BLOCK: &[u8] =
-    b"\0\0\0\x1C\0\0\0\0\0\0\0\x01\0\0\0\0\0\0\x03\xE8\0\x01A\0\0\0\0hello";
+const BLOCK: &[u8] = b"\0\0\0\x1C\0\0\0\0\0\0\0\x01\0\0\0\0\0\0\x03\xE8\0\x01A\0\0\0\0hello";
 
 /// Adds the text behind its length, of which the last four bytes are written.
 fn add_text(bytes: &mut Vec<u8>, text: &[u8]) -> Result<(), NoMemory> {
