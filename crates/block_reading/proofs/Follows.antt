@@ -1,12 +1,11 @@
 -- How messages stand one behind the other in bytes.
-use Rattle.std.proofs.Common.{◌≡◌, ◌≤◌, ℕ, ◌+◌, List, [], ◌∷◌, ◌++◌, Ok, refl, sym, ap, subst, ◌∙◌, length, arith}
+use Rattle.std.proofs.Common.{◌≡◌, ◌≤◌, ℕ, ◌+◌, List, [], ◌∷◌, ◌++◌, Ok, refl, sym, ap, subst, ◌∙◌, arith}
 use Rattle.js_base.specs.Bytes.{Bytes}
 use Rattle.js_model.specs.Lists.{Between}
 use Rattle.js_model.specs.declared.stream.Message.{Message}
 use Rattle.op_records.specs.Blocks.{message_at, Follow}
-use Rattle.op_records.specs.Laws.{IsBatch}
 use Rattle.op_records.proofs.Steps.{place_is}
-use Rattle.op_records.proofs.BlocksLaws.{law_message}
+use Rattle.block_reading.proofs.Order.{message_on}
 
 module _ (bytes : Bytes) where
   pub follow_push : (ms : List Message) (here at behind : ℕ) (m : Message) → Follow bytes here ms at → message_at bytes at ≡ Ok (m, behind) → Follow bytes here (ms ++ m ∷ []) behind
@@ -19,17 +18,9 @@ module _ (bytes : Bytes) where
       let same = place_is x g.0 x f.0 (sym g.1 ∙ f.1) in
       follow_last xs f.0 at behind m f.2 (subst (λ (k : ℕ). Follow bytes k (xs ++ m ∷ []) behind) same g.2)
 
-  -- each message ends behind its beginning, within the bytes
-  pub message_on : (at : ℕ) (m : Message) (behind : ℕ) → IsBatch bytes → message_at bytes at ≡ Ok (m, behind) → (at ≤ behind) × (behind ≤ length bytes)
-  message_on at m behind few is = let lies = ((law_message bytes at m behind few).0 is).lies in (lies.order, lies.within)
-
-  pub follow_on : (ms : List Message) (here end : ℕ) → IsBatch bytes → Follow bytes here ms end → here ≤ end
-  follow_on [] here end few f = omega (arith, f)
-  follow_on (x ∷ xs) here end few f = omega (arith, (message_on here x f.0 few f.1).0, follow_on xs f.0 end few f.2)
-
-  pub follow_within : (ms : List Message) (here end : ℕ) → IsBatch bytes → here ≤ length bytes → Follow bytes here ms end → end ≤ length bytes
-  follow_within [] here end few within f = omega (arith, f, within)
-  follow_within (x ∷ xs) here end few within f = follow_within xs f.0 end few (message_on here x f.0 few f.1).1 f.2
+  pub follow_on : (ms : List Message) (here end : ℕ) → Follow bytes here ms end → here ≤ end
+  follow_on [] here end f = omega (arith, f)
+  follow_on (x ∷ xs) here end f = omega (arith, message_on bytes here x f.0 f.1, follow_on xs f.0 end f.2)
 
 -- the least sequence that the next message may have
 abbrev pub next_seq : ℕ → List Message → ℕ

@@ -24,7 +24,7 @@ use Rattle.block_reading.specs.Damage.{IsToldBy}
 use Rattle.block_reading.specs.Reading.{AreLostFault, IsCheckFault, IsFound, IsLostFault, IsMessagesFault}
 use Rattle.block_reading.specs.declared.fault.MessagesFault.{MessagesFault}
 use Rattle.block_reading.specs.declared.fault.MessagesFault.TheVariants.{Fault, Damaged, NoMemory as OutOfMemory}
-use Rattle.block_reading.proofs.Follows.{follow_within}
+use Rattle.block_reading.proofs.Within.{follow_within}
 use Rattle.block_reading.proofs.Loads.{item_is, parts, one_more}
 use Rattle.block_reading.proofs.OneReading.{here_of}
 

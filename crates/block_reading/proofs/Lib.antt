@@ -1,4 +1,6 @@
+pub mod Order
 pub mod Follows
+pub mod Within
 pub mod Wrong
 pub mod Checking
 pub mod Loads

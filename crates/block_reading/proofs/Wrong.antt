@@ -5,7 +5,6 @@ use Rattle.js_model.specs.Lists.{Between}
 use Rattle.js_model.specs.declared.stream.Message.{Message}
 use Rattle.js_model.proofs.Parts.{between_bounds}
 use Rattle.op_records.specs.Blocks.{message_at, Follow}
-use Rattle.op_records.specs.Laws.{IsBatch}
 use Rattle.op_records.specs.declared.fault.RecordFault.{RecordFault}
 use Rattle.op_records.proofs.Steps.{value_is, place_is}
 use Rattle.block_reading.specs.Standing.{StandIn, AreMessages}
@@ -31,15 +30,15 @@ module _ (bytes : Bytes) (high : ℕ) where
       (λ m behind more rises. o m behind (g.0, g.1, subst (λ (k : ℕ). Follow bytes k (ys ++ m ∷ []) behind) (sym ends) more)
       (d.0, subst (λ (z : Message). Between (λ m. m.seq) (z.seq + 1) high (ys ++ m ∷ [])) (sym is) rises))
 
-  pub not_before : (xs ys : List Message) (here low a c : ℕ) → IsBatch bytes → Follow bytes here xs a → Follow bytes here ys c →
+  pub not_before : (xs ys : List Message) (here low a c : ℕ) → Follow bytes here xs a → Follow bytes here ys c →
       Between (λ m. m.seq) low high ys → NoneMore bytes high here low xs → c ≤ a
-  not_before [] [] here low a c few f g d n = omega (arith, f, g)
-  not_before [] (y ∷ ys) here low a c few f g d n = absurd (n y g.0 (g.0, g.1, refl) (d.0, between_bounds (λ (m : Message). m.seq) (y.seq + 1) high ys d.1))
-  not_before (x ∷ xs) [] here low a c few f g d n = let on = follow_on bytes (x ∷ xs) here a few f in omega (arith, g, on)
-  not_before (x ∷ xs) (y ∷ ys) here low a c few f g d n =
+  not_before [] [] here low a c f g d n = omega (arith, f, g)
+  not_before [] (y ∷ ys) here low a c f g d n = absurd (n y g.0 (g.0, g.1, refl) (d.0, between_bounds (λ (m : Message). m.seq) (y.seq + 1) high ys d.1))
+  not_before (x ∷ xs) [] here low a c f g d n = let on = follow_on bytes (x ∷ xs) here a f in omega (arith, g, on)
+  not_before (x ∷ xs) (y ∷ ys) here low a c f g d n =
       let is = value_is y g.0 x f.0 (sym g.1 ∙ f.1) in
       let ends = place_is y g.0 x f.0 (sym g.1 ∙ f.1) in
-      not_before xs ys f.0 (x.seq + 1) a c few f.2 (subst (λ (k : ℕ). Follow bytes k ys c) ends g.2)
+      not_before xs ys f.0 (x.seq + 1) a c f.2 (subst (λ (k : ℕ). Follow bytes k ys c) ends g.2)
       (subst (λ (m : Message). Between (λ m. m.seq) (m.seq + 1) high ys) is d.1)
       (λ m behind more rises. n m behind (f.0, f.1, more) (low_of x y is d, rises))
     where
@@ -55,7 +54,7 @@ one_wrong bytes last end at other v w =
 
 pub none_wrong : (bytes : Bytes) (last end at : ℕ) → AreMessages bytes last end → ¬ AreWrongAt bytes last end at
 none_wrong bytes last end at h w =
-    let past = not_before bytes (last + 1) w.before h.messages 0 0 at end h.few w.stand.follow h.stand.follow h.stand.rising (none_of bytes last end at w) in
+    let past = not_before bytes (last + 1) w.before h.messages 0 0 at end w.stand.follow h.stand.follow h.stand.rising (none_of bytes last end at w) in
     omega (arith, past, w.more)
 
 -- ---- as they are found

@@ -34,7 +34,7 @@ use Rattle.block_table.specs.Placings.{placing}
 use Rattle.block_table.specs.Tables.{IsFile, IsTable}
 use Rattle.block_table.proofs.Batches.{serves_first}
 use Rattle.block_reading.specs.Standing.{AreStoredIn, IsWhole, written_in}
-use Rattle.block_reading.proofs.Follows.{follow_within}
+use Rattle.block_reading.proofs.Within.{follow_within}
 use Rattle.block_writing.specs.Dropping.{AreUsedKept, ChangesUnused, is_unused}
 use Rattle.block_writing.specs.Laws.{ArePlannedBy}
 use Rattle.block_writing.specs.Planning.{Planned, begun, spots_in}

@@ -29,7 +29,7 @@ use Rattle.block_table.specs.Tables.{IsTable}
 use Rattle.block_table.proofs.Lists.{each_passes}
 use Rattle.block_reading.specs.Damage.{AreDamaged}
 use Rattle.block_reading.specs.Standing.{AreStoredIn, IsWhole, written_in}
-use Rattle.block_reading.proofs.Follows.{follow_within}
+use Rattle.block_reading.proofs.Within.{follow_within}
 use Rattle.log_records.specs.Batches.{Gives}
 use Rattle.log_records.specs.Logged.{Logged, beginning}
 use Rattle.log_records.specs.Unread.{unread, unread_body, stored_messages}

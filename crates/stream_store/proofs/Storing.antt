@@ -22,7 +22,8 @@ use Rattle.block_table.specs.Blocks.{Blocks, blocks, is_used, no_blocks}
 use Rattle.block_table.specs.Puts.{begins, end_of, fits, goes_on, is_above, is_within, left_by, put_at, removed, with_placed, without}
 use Rattle.block_table.proofs.Tables.{fits_end}
 use Rattle.block_reading.specs.Standing.{AreMessages, AreStoredIn, IsThere, IsWhole, StandsAt, bytes_at}
-use Rattle.block_reading.proofs.Follows.{between_push, follow_push, follow_within, next_seq}
+use Rattle.block_reading.proofs.Follows.{between_push, follow_push, next_seq}
+use Rattle.block_reading.proofs.Within.{follow_within}
 use Rattle.stream_store.proofs.Blocks.{IsSame}
 
 -- ---- lists
