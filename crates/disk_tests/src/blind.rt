@@ -61,7 +61,7 @@ fn cut_within(vol: &mut MemVol, file: u32, to: u64) -> Result<(), Failed> {
 }
 
 impl Blind {
-    /// The volume, of which the calls with these numbers fail, and all from the stop on, counted from now.
+    /// The volume, of which the calls with these numbers fail, and all from the stop on, counted from now. `NoMemory` is want of memory.
     pub fn over(
         alloc: Global,
         vol: MemVol,

@@ -1,13 +1,13 @@
 //! Tests of the volumes and of what lies on them, of what no clause says: which images a volume in memory picks, that calls succeed where memory
-//! suffices, and what a folder of the system holds. There is one file for each thing that is tested, and nothing else.
+//! suffices, and what a folder of the system holds. There is one file for each thing that is tested, and a volume of which nothing is told, for tests.
 #![tactic(auto)]
+
+mod blind;
+
+pub use blind::Blind;
 
 #[cfg(test)]
 mod append_calls;
-#[cfg(test)]
-mod blind;
-#[cfg(test)]
-mod block_files;
 #[cfg(test)]
 mod blocks;
 #[cfg(test)]
@@ -18,9 +18,5 @@ mod folder;
 mod locked_folder;
 #[cfg(test)]
 mod stopped_appends;
-#[cfg(test)]
-mod store_calls;
-#[cfg(test)]
-mod stores;
 #[cfg(test)]
 mod volumes;

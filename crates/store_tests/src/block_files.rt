@@ -1,8 +1,8 @@
 //! `stream_store`: how a stream's messages fill the block files of a volume, which of these are dropped, and what is found after each stop of a publish and of
 //! a purge.
 
-use crate::blind::Blind;
 use crate::store_calls::{Ended, make_stream, message_count, publish, purge};
+use disk_tests::Blind;
 use js_base::NoMemory;
 use std::alloc::Global;
 use std::process::Abort;

@@ -4,7 +4,7 @@ ghost use Rattle.std.specs.Prelude.{◌≡◌, ◌∷◌, [], false, IfOk, IsTru
 ghost use Rattle.op_records.specs.Allowed.{is_put, is_record};
 ghost use Rattle.stream_store.specs.Placing.{can_place};
 
-use crate::blind::Blind;
+use disk_tests::Blind;
 use effects::Effect;
 use js_base::{Blob, Moment, Name};
 use js_json::object;
