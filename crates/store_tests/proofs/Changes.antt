@@ -4,7 +4,7 @@ use Rattle.std.proofs.lemmas.Bool.{lt-ltb, le-leb}
 use Rattle.js_base.specs.Bytes.{Bytes}
 use Rattle.js_base.specs.Subjects.{is_subject_text}
 use Rattle.js_model.specs.Configs.{is_number, is_stream_config}
-use Rattle.js_model.specs.declared.config.StreamConfig.{StreamConfig}
+use Rattle.js_model.specs.declared.stream_config.StreamConfig.{StreamConfig}
 use Rattle.effects.specs.declared.effect.Effect.{Effect}
 use Rattle.effects.specs.declared.effect.Effect.TheVariants.{MakeStream, PutHere}
 use Rattle.op_records.specs.Allowed.{is_record, is_put, is_text, is_header, fits_block}
