@@ -1,13 +1,14 @@
 -- Runs that were written one after the other, and blocks that were dropped.
-use Rattle.std.proofs.Common.{◌≡◌, ◌≢◌, ◌≤◌, ◌<◌, ◌⊎◌, inl, inr, ℕ, suc, ◌+◌, ◌&&◌, ◌==◌, Bool, true, false, not, List, [], ◌∷◌, ◌++◌, All, length, take, drop, get_or, refl, sym, ap, subst, ◌∙◌, arith, take-append-drop, drop-cons}
+use Rattle.std.proofs.Common.{◌≡◌, ◌≢◌, ◌≤◌, ◌<◌, ◌⊎◌, inl, inr, ℕ, suc, ◌+◌, ◌&&◌, ◌||◌, ◌==◌, Bool, true, false, not, List, [], ◌∷◌, ◌++◌, All, length, take, drop, get_or, refl, sym, ap, subst, ◌∙◌, arith, take-append-drop, drop-cons}
 use Rattle.std.specs.Io.{StartsWith}
-use Rattle.std.proofs.lemmas.Bool.{cases_eq, true≢false, and_from, eq-eqb}
-use Rattle.std.proofs.lemmas.List.{take_more}
+use Rattle.std.proofs.lemmas.Bool.{cases_eq, true≢false, and_from, and_parts, eq-eqb, ne_eqb}
+use Rattle.std.proofs.lemmas.List.{take_more, take_all}
 use Rattle.std.proofs.lemmas.List.Elements.{All-nil, All-cons, All-head, All-tail, All-push, All-weaker, All-append}
-use Rattle.std.proofs.lemmas.List.Folds.{list_any_at}
+use Rattle.std.proofs.lemmas.List.Folds.{list_any_at, list_any-append}
 use Rattle.js_base.specs.Bytes.{Bytes}
 use Rattle.vol_disk.specs.Disk.{Disk, Files}
 use Rattle.vol_disk.specs.Does.{Rests}
+use Rattle.vol_disk.specs.Images.{IsDurable}
 use Rattle.vol_disk.specs.Clock.{IsClocked}
 use Rattle.vol_disk.specs.Moments.{LeavesOnly, Elsewhere}
 use Rattle.vol_disk.proofs.Moments as moments
@@ -19,7 +20,7 @@ use Rattle.block_table.specs.Blocks.{Blocks, has_block, is_among}
 use Rattle.block_writing.specs.declared.run.Run.{Run}
 use Rattle.block_writing.specs.Runs.{AreApart}
 use Rattle.block_writing.specs.Writing.{IsUntouched, IsInFront, AreKept, ChangesRuns, IsWritten}
-use Rattle.block_writing.specs.Dropping.{is_unused, AreUsedKept, ChangesUnused}
+use Rattle.block_writing.specs.Dropping.{is_unused, AreUsedKept, ChangesUnused, IsEmptied, AreEmptied}
 use Rattle.block_writing.proofs.Messages.{all_front, all_last}
 
 -- ---- parts of lists
@@ -180,3 +181,48 @@ one_dropped b ks i d old mid new within free so_far changes = record {
 
     other : (file : ℕ) → is_unused b ks file ≡ false → file ≢ (get_or ks i d).file
     other file used same = true≢false (sym unused ∙ sym (ap (is_unused b ks) same) ∙ used)
+
+-- ---- blocks that are emptied
+
+pub none_emptied : (b : Blocks) (disk : Disk) → AreEmptied b [] disk
+none_emptied b disk file unused = absurd (true≢false (sym unused))
+
+module _ (b : Blocks) (ks : List Block) (k : Block) (file : ℕ) where
+  -- an unused one of these is among the first of them, or it is the last
+  unused_before : is_unused b (ks ++ k ∷ []) file ≡ true → file ≢ k.file → is_unused b ks file ≡ true
+  unused_before unused ne =
+      let p = and_parts (is_among (ks ++ k ∷ []) file) (not (has_block b file)) unused in
+      and_from (is_among ks file) (not (has_block b file)) (first (is_among ks file) (sym (list_any-append (λ (x : Block). x.file == file) ks (k ∷ [])) ∙ p.0)) p.1
+    where
+      first : (t : Bool) → (t || (k.file == file || false)) ≡ true → t ≡ true
+      first true h = refl
+      first false h = absurd (true≢false (sym h ∙ ap (λ (t : Bool). t || false) (ne_eqb k.file file (λ is. ne (sym is)))))
+
+  unused_has : is_unused b ks file ≡ true → has_block b file ≡ true → ⊥
+  unused_has unused has = true≢false (sym (and_parts (is_among ks file) (not (has_block b file)) unused).1 ∙ ap not has)
+
+pub emptied_still : (disk new : Disk) (file : ℕ) → Rests file disk new → IsEmptied disk file → IsEmptied new file
+emptied_still disk new file rests e = record { empty = rests.seen ∙ e.empty; durable = λ bytes left. e.durable bytes (rests.leaves bytes left) ∙ sym rests.seen }
+
+module _ (b : Blocks) (ks : List Block) (i : ℕ) (d : Block) (within : i < length ks) where
+  -- the next one is emptied
+  pub emptied_more : (mid new : Disk) → AreEmptied b (take i ks) mid → ChangesOnly (get_or ks i d).file mid new → new.seen (get_or ks i d).file ≡ [] → IsDurable new (get_or ks i d).file
+      → AreEmptied b (take (i + 1) ks) new
+  emptied_more mid new so_far changes empty durable file unused = go (cases_eq file (get_or ks i d).file)
+    where
+      go : (file ≡ (get_or ks i d).file) ⊎ (file ≢ (get_or ks i d).file) → IsEmptied new file
+      go (inl is) = subst (IsEmptied new) (sym is) (record { empty = empty; durable = durable })
+      go (inr ne) =
+          emptied_still mid new file (changes.elsewhere file ne)
+          (so_far file (unused_before b (take i ks) (get_or ks i d) file (subst (λ (l : List Block). is_unused b l file ≡ true) (take_more ks i d within) unused) ne))
+
+  -- it is a block of the table
+  pub emptied_on : (disk : Disk) → AreEmptied b (take i ks) disk → has_block b (get_or ks i d).file ≡ true → AreEmptied b (take (i + 1) ks) disk
+  emptied_on disk so_far has file unused = go (cases_eq file (get_or ks i d).file)
+    where
+      go : (file ≡ (get_or ks i d).file) ⊎ (file ≢ (get_or ks i d).file) → IsEmptied disk file
+      go (inl is) = absurd (unused_has b (take (i + 1) ks) (get_or ks i d) file unused (subst (λ (n : ℕ). has_block b n ≡ true) (sym is) has))
+      go (inr ne) = so_far file (unused_before b (take i ks) (get_or ks i d) file (subst (λ (l : List Block). is_unused b l file ≡ true) (take_more ks i d within) unused) ne)
+
+pub emptied_all : (b : Blocks) (ks : List Block) (i : ℕ) (disk : Disk) → length ks ≤ i → AreEmptied b (take i ks) disk → AreEmptied b ks disk
+emptied_all b ks i disk past so_far file unused = so_far file (ap (λ (l : List Block). is_unused b l file) (take_all i ks past) ∙ unused)

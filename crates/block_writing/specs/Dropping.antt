@@ -1,7 +1,8 @@
 -- What the dropping of blocks leaves.
-use Rattle.std.specs.Prelude.{◌≡◌, ℕ, ◌&&◌, Bool, true, false, not, List}
+use Rattle.std.specs.Prelude.{◌≡◌, ℕ, ◌&&◌, Bool, true, false, not, List, []}
 use Rattle.vol_disk.specs.Disk.{Disk, Files}
 use Rattle.vol_disk.specs.Does.{Rests}
+use Rattle.vol_disk.specs.Images.{IsDurable}
 use Rattle.vol_disk.specs.Moments.{LeavesOnly}
 use Rattle.block_table.specs.declared.block.Block.{Block}
 use Rattle.block_table.specs.Blocks.{Blocks, has_block, is_among}
@@ -18,3 +19,12 @@ AreUsedKept b ks old image = (file : ℕ) → is_unused b ks file ≡ false → 
 pub record ChangesUnused (b : Blocks) (ks : List Block) (old new : Disk) : Type 0 where
   pub elsewhere : (file : ℕ) → is_unused b ks file ≡ false → Rests file old new
   pub any_moment : LeavesOnly old new (AreUsedKept b ks old)
+
+-- the file reads as empty, and a crash leaves nothing of it
+pub record IsEmptied (disk : Disk) (file : ℕ) : Type 0 where
+  pub empty : disk.seen file ≡ []
+  pub durable : IsDurable disk file
+
+-- each file of a block that is unused is emptied
+abbrev pub AreEmptied : Blocks → List Block → Disk → Type 0
+AreEmptied b ks disk = (file : ℕ) → is_unused b ks file ≡ true → IsEmptied disk file

@@ -1,10 +1,10 @@
 -- What a commit leaves, as it was staged.
-use Rattle.std.proofs.Common.{◌≡◌, inr, ◌+◌, ◌≤◌, ◌^◌, List, length, refl, sym, ap, subst, arith}
+use Rattle.std.proofs.Common.{◌≡◌, inl, inr, ◌+◌, ◌≤◌, ◌^◌, List, length, refl, sym, ap, subst, arith}
 use Rattle.std.specs.Prelude.{All}
 use Rattle.vol_disk.specs.Disk.{Disk}
 use Rattle.vol_disk.specs.Images.{AreBytes, IsHonest}
 use Rattle.vol_disk.specs.Moments.{LeavesOnly}
-use Rattle.vol_disk.proofs.Moments.{joined}
+use Rattle.vol_disk.proofs.Moments.{joined, widened}
 use Rattle.js_base.specs.Bytes.{Bytes}
 use Rattle.gate_log.specs.Appending.{AppendsTo, IsAppended, IsBatchFault}
 use Rattle.gate_log.specs.declared.fault.LogFault.{LogFault}
@@ -15,14 +15,16 @@ use Rattle.effects.specs.declared.durable.Durable.{Durable}
 use Rattle.effects.specs.declared.effect.Effect.{Effect}
 use Rattle.op_records.specs.Laws.{IsBatch}
 use Rattle.block_table.specs.Blocks.{Blocks}
+use Rattle.block_table.specs.declared.block.Block.{Block}
 use Rattle.block_writing.specs.declared.run.Run.{Run}
+use Rattle.block_writing.specs.Dropping.{ChangesUnused}
 use Rattle.block_writing.specs.Planning.{spots_in}
 use Rattle.block_writing.specs.Writing.{ChangesRuns, HasStored, IsWritten}
 use Rattle.block_writing.proofs.Commits.{law_plans}
 use Rattle.stream_store.specs.Base.{IsBase, IsBaseOf}
 use Rattle.stream_store.specs.Committing.{IsNextBatch}
 use Rattle.stream_store.specs.Holding.{Holds}
-use Rattle.stream_store.specs.Staging.{DropsUnused, IsStaged}
+use Rattle.stream_store.specs.Staging.{AreBehindLogs, DropsUnused, IsStaged}
 use Rattle.stream_store.specs.Steps.{steps_of, with_steps}
 use Rattle.stream_store.specs.StoreState.{StoreState}
 use Rattle.stream_store.specs.declared.staging.Staged.{Staged}
@@ -89,6 +91,18 @@ module _ (log : LogState) (b : Blocks) (next : Durable) (late new : Disk) (is : 
   pub all_leaves : (base : Durable) (old : Disk) → LeavesOnly old late (OneOfBoth base next) → LeavesOnly old new (OneOfBoth base next)
   all_leaves base old leaves =
       joined old late new (OneOfBoth base next) (λ image. Holds image next) leaves (dropping_leaves log b next late new drops.ks is drops.behind_logs drops.changes) (λ image h. inr h)
+
+-- ---- blocks that were left over are dropped first
+
+module _ (log : LogState) (b : Blocks) (base next : Durable) (old begun : Disk) (ks : List Block) (is : IsBaseOf log b base old) (behind : AreBehindLogs ks) (changes : ChangesUnused b ks old begun) where
+  pub first_base : IsBaseOf log b base begun
+  first_base = base_dropped log b base old begun ks is behind changes
+
+  pub first_leaves : LeavesOnly old begun (OneOfBoth base next)
+  first_leaves = widened old begun (OneOfBoth base next) (λ image. Holds image base) (dropping_leaves log b base old begun ks is behind changes) (λ image h. inl h)
+
+  pub then_leaves : (new : Disk) → LeavesOnly begun new (OneOfBoth base next) → LeavesOnly old new (OneOfBoth base next)
+  then_leaves new leaves = joined old begun new (OneOfBoth base next) (OneOfBoth base next) first_leaves leaves (λ image h. h)
 
 -- ---- an append that failed
 

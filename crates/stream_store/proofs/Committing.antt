@@ -126,7 +126,7 @@ firm_by k old new r h = record {
 }
 
 -- the current log is one of the first two files
-log_low : (log : LogState) (b : Blocks) (base : Durable) (disk : Disk) → IsBaseOf log b base disk → log.file < 2
+pub log_low : (log : LogState) (b : Blocks) (base : Durable) (disk : Disk) → IsBaseOf log b base disk → log.file < 2
 log_low log b base disk k = go (is_first k.holds.zero.generation k.holds.one.generation) (k.current k.holds.zero k.holds.one k.holds.logs)
   where
     go : (t : Bool) → cond t 0 1 ≡ log.file → log.file < 2

@@ -15,5 +15,6 @@ pub mod Recorded
 pub mod Counting
 pub mod Committing
 pub mod Committed
+pub mod Unused
 pub mod Finding
 pub mod Beginning

@@ -87,8 +87,7 @@ behind_runs : (runs : List Run) → All (λ run. 2 ≤ run.file) runs → AreBeh
 behind_runs [] h = All-nil (λ (k : Block). 2 ≤ k.file)
 behind_runs (run ∷ runs) h = All-cons (λ (k : Block). 2 ≤ k.file) (block_of run) (map block_of runs) (All-head (λ (r : Run). 2 ≤ r.file) run runs h) (behind_runs runs (All-tail (λ (r : Run). 2 ≤ r.file) run runs h))
 
-pub left_behind : (b : Blocks) (before : List Block) (es : List Effect) (made : Planned) (all : Bool) → ArePlannedBy b es made → AreBehindLogs before → AreBehindLogs (before ++ (blocks_of all b ++ map block_of made.runs))
-left_behind b before es made all planned old =
+pub left_behind : (b : Blocks) (es : List Effect) (made : Planned) (all : Bool) → ArePlannedBy b es made → AreBehindLogs (blocks_of all b ++ map block_of made.runs)
+left_behind b es made all planned =
     let files = (law_plans.runs b es made planned).files in
-    All-append (λ (k : Block). 2 ≤ k.file) before (blocks_of all b ++ map block_of made.runs) old
-    (All-append (λ (k : Block). 2 ≤ k.file) (blocks_of all b) (map block_of made.runs) (behind_logs b all planned.table) (behind_runs made.runs files))
+    All-append (λ (k : Block). 2 ≤ k.file) (blocks_of all b) (map block_of made.runs) (behind_logs b all planned.table) (behind_runs made.runs files)

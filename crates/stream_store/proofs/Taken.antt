@@ -8,7 +8,8 @@ use Rattle.effects.specs.declared.effect.Effect.{Effect}
 use Rattle.effects.specs.declared.effect.Effect.TheVariants.{PutHere}
 use Rattle.block_table.specs.Blocks.{Blocks}
 use Rattle.block_table.specs.Puts.{put}
-use Rattle.stream_store.specs.Steps.{AddsStep, steps_of, with_step, with_steps}
+use Rattle.stream_store.specs.Steps.{AddsStep, blocks_in, steps_of, with_step, with_steps}
+use Rattle.stream_store.specs.declared.late.LateTable.{LateTable}
 use Rattle.stream_store.specs.declared.steps.Step.{Step}
 use Rattle.stream_store.specs.declared.steps.Step.TheVariants as step
 
@@ -28,6 +29,10 @@ taken_one steps i s b c within is taken =
 
 pub taken_all : (steps : List Step) (i : ℕ) (b : Blocks) → length steps ≤ i → with_steps (drop i steps) b ≡ b
 taken_all steps i b past = at_drop_all (λ (l : List Step). with_steps l b) steps i past
+
+-- a table for which no step waits any more
+pub table_then : (old new : LateTable) → blocks_in new ≡ blocks_in old → length new.steps.items ≤ new.taken → new.table ≡ blocks_in old
+table_then old new same none = sym (taken_all new.steps.items new.taken new.table none) ∙ same
 
 -- ---- the step of one change
 

@@ -1,8 +1,9 @@
 -- What a commit needs, and what it leaves.
-use Rattle.std.specs.Prelude.{◌≡◌, ◌⊎◌, ℕ, ◌+◌, length, List, Some, map}
+use Rattle.std.specs.Prelude.{◌≡◌, ◌⊎◌, ◌≤◌, ℕ, ◌+◌, ◌||◌, Bool, true, false, length, List, Option, Some, None, map}
 use Rattle.std.specs.List.{flat_map}
 use Rattle.js_base.specs.declared.spot.Spot.{Spot}
 use Rattle.vol_disk.specs.Disk.{Disk}
+use Rattle.vol_disk.specs.Does.{Rests}
 use Rattle.vol_disk.specs.Moments.{LeavesOnly}
 use Rattle.effects.specs.declared.durable.Durable.{Durable}
 use Rattle.effects.specs.declared.effect.Effect.{Effect}
@@ -11,7 +12,12 @@ use Rattle.effects.specs.Folding.{fold_all}
 use Rattle.op_records.specs.Spelling.{spelled_record}
 use Rattle.op_records.specs.declared.record.Record.{Record}
 use Rattle.op_records.specs.declared.record.Record.TheVariants.{Put, Change}
+use Rattle.block_table.specs.Blocks.{Blocks, has_block, is_among}
+use Rattle.block_writing.specs.Dropping.{IsEmptied}
+use Rattle.block_writing.specs.Planning.{Planned}
 use Rattle.stream_store.specs.Base.{IsBase}
+use Rattle.stream_store.specs.Placing.{plan_of}
+use Rattle.stream_store.specs.Staging.{is_written}
 use Rattle.stream_store.specs.StoreState.{StoreState}
 use Rattle.durable_checks.specs.Storable.{IsStorable, IsOpenable}
 use Rattle.stream_store.specs.Holding.{Holds}
@@ -61,3 +67,24 @@ IsCommitted store after effects old new = (base next : Durable) → IsBase store
 abbrev pub CommitsOrNot : StoreState → List Effect → Disk → Disk → Type 0
 CommitsOrNot store effects old new =
     (base next : Durable) → IsBase store base old → IsNextBatch base effects next → LeavesOnly old new (λ image. Holds image base ⊎ Holds image next)
+
+-- ---- what is given back
+
+abbrev pub writes_in : Option Planned → ℕ → Bool
+writes_in None file = false
+writes_in (Some made) file = is_written made.runs file
+
+-- the file is a block, or a message of these changes goes into it
+abbrev pub touches : Blocks → List Effect → ℕ → Bool
+touches b es file = has_block b file || writes_in (plan_of b es) file
+
+-- The files of blocks that hold no message any more, and are not being written, are empty, and a crash leaves nothing of them.
+pub record EmptiesUnused (store after : StoreState) (effects : List Effect) (old new : Disk) : Type 0 where
+  -- of the files that were blocks, or were to be cut still, or in which the commit wrote, each that is no block now, and is not to be cut still
+  pub emptied :
+      (file : ℕ) → (touches store.blocks effects file || is_among store.unused file) ≡ true → has_block after.blocks file ≡ false → is_among after.unused file ≡ false
+      → IsEmptied new file
+  -- what was to be cut still is not left over again
+  pub late : (file : ℕ) → is_among after.unused file ≡ true → touches store.blocks effects file ≡ true
+  -- no other file but those of the logs is touched
+  pub elsewhere : (file : ℕ) → 2 ≤ file → touches store.blocks effects file ≡ false → is_among store.unused file ≡ false → Rests file old new

@@ -1,17 +1,17 @@
 -- What a commit is going to write.
-use Rattle.std.specs.Prelude.{◌≡◌, ◌<◌, ◌≤◌, List, All, Bool, if◌then◌else◌}
+use Rattle.std.specs.Prelude.{◌≡◌, ◌<◌, ◌≤◌, ◌⊎◌, ◌==◌, ◌||◌, ℕ, List, [], All, Bool, true, false, if◌then◌else◌}
 use Rattle.std.specs.Option.{option_to_list}
-use Rattle.std.specs.List.{flat_map}
+use Rattle.std.specs.List.{flat_map, list_any}
 use Rattle.vol_disk.specs.Disk.{Disk}
 use Rattle.effects.specs.declared.effect.Effect.{Effect}
 use Rattle.op_records.specs.Spelling.{spelled_record}
 use Rattle.block_table.specs.declared.block.Block.{Block}
-use Rattle.block_table.specs.Blocks.{Blocks, blocks}
-use Rattle.block_writing.specs.Dropping.{ChangesUnused}
+use Rattle.block_table.specs.Blocks.{Blocks, blocks, has_block, is_among}
+use Rattle.block_writing.specs.Dropping.{AreEmptied, ChangesUnused}
 use Rattle.block_writing.specs.Laws.{ArePlannedBy}
 use Rattle.block_writing.specs.declared.run.Run.{Run}
 use Rattle.block_writing.specs.Planning.{Planned, spots_in}
-use Rattle.stream_store.specs.Steps.{steps_of}
+use Rattle.stream_store.specs.Steps.{steps_of, with_steps}
 use Rattle.stream_store.specs.declared.staging.Staged.{Staged}
 
 -- a block of a file, of which only its number counts
@@ -22,11 +22,15 @@ block_of run = record { file = run.file; end = 0 }
 abbrev pub blocks_of : Bool → Blocks → List Block
 blocks_of all b = if all then blocks b else option_to_list b.writing
 
+-- one of the runs is in the file
+abbrev pub is_written : List Run → ℕ → Bool
+is_written runs file = list_any (λ run. run.file == file) runs
+
 -- none of them is in the file of a log
 abbrev pub AreBehindLogs : List Block → Type 0
 AreBehindLogs ks = All (λ k. 2 ≤ k.file) ks
 
--- what is planned for these changes, and blocks that they may leave without messages
+-- What is planned for these changes, and the blocks that they may leave without messages: each that was one and is none behind them, and each in which they write.
 pub record IsStaged (b : Blocks) (es : List Effect) (staged : Staged) : Type 0 where
   pub made : Planned
   pub planned : ArePlannedBy b es made
@@ -35,9 +39,16 @@ pub record IsStaged (b : Blocks) (es : List Effect) (staged : Staged) : Type 0 w
   pub bytes : All (λ byte. byte < 256) staged.batch
   pub steps : staged.steps.items ≡ steps_of es (spots_in made.records)
   pub behind : AreBehindLogs staged.blocks.items
+  pub left : (file : ℕ) → has_block b file ≡ true → has_block (with_steps staged.steps.items b) file ≡ false → is_among staged.blocks.items file ≡ true
+  pub begun : (file : ℕ) → is_written staged.runs.items file ≡ true → is_among staged.blocks.items file ≡ true
+  pub only : (file : ℕ) → is_among staged.blocks.items file ≡ true → (has_block b file || is_written staged.runs.items file) ≡ true
 
 -- no file is touched but those of blocks that the table has not, whenever a crash comes
 pub record DropsUnused (b : Blocks) (old new : Disk) : Type 0 where
   pub ks : List Block
   pub behind_logs : AreBehindLogs ks
   pub changes : ChangesUnused b ks old new
+
+-- those of them that the table has not are emptied, and none is to be cut any more; or memory ran out, and all are to be cut still
+abbrev pub HasDropped : Blocks → List Block → List Block → Disk → Type 0
+HasDropped b ks left disk = ((left ≡ []) × AreEmptied b ks disk) ⊎ (left ≡ ks)

@@ -1,5 +1,6 @@
 -- What a commit makes of where messages lie, by a rule of this server's own. What it made can be taken into a table later, step by step.
-use Rattle.std.specs.Prelude.{◌≡◌, List, [], ◌∷◌, ◌++◌, drop, unwrap_or}
+use Rattle.std.specs.Prelude.{◌≡◌, Bool, true, false, List, [], ◌∷◌, ◌++◌, drop, unwrap_or}
+use Rattle.std.specs.List.{list_any}
 use Rattle.js_base.specs.declared.spot.Spot.{Spot}
 use Rattle.effects.specs.declared.effect.Effect.{Effect}
 use Rattle.effects.specs.declared.effect.Effect.TheVariants.{MakeStream, ChangeStream, DropStream, PutHere, Skip, Remove, MakeConsumer, DropConsumer, Deliver, Acked, Due, GivenUp, Now}
@@ -19,6 +20,16 @@ with_step step.Clear b = no_blocks
 abbrev pub with_steps : List Step → Blocks → Blocks
 with_steps [] b = b
 with_steps (s ∷ steps) b = with_steps steps (with_step s b)
+
+-- messages go by it
+abbrev pub is_loss : Step → Bool
+is_loss (step.Put seq spot) = false
+is_loss (step.Remove low high) = true
+is_loss step.Clear = true
+
+-- messages go by one of them
+abbrev pub takes_away : List Step → Bool
+takes_away steps = list_any is_loss steps
 
 -- the steps of these changes, whose messages lie at these spots, in their order
 abbrev pub steps_of : List Effect → List Spot → List Step

@@ -6,8 +6,8 @@ ghost use Rattle.block_table.specs.Tables.{IsTable};
 ghost use Rattle.op_records.specs.Allowed.{is_record};
 ghost use Rattle.stream_store.specs.Committing.{batch_length};
 ghost use Rattle.stream_store.specs.Placing.{can_place};
-ghost use Rattle.stream_store.specs.Staging.{AreBehindLogs, IsStaged, block_of, blocks_of};
-ghost use Rattle.stream_store.specs.Steps.{blocks_in};
+ghost use Rattle.stream_store.specs.Staging.{IsStaged, block_of, blocks_of};
+ghost use Rattle.stream_store.specs.Steps.{blocks_in, takes_away};
 
 use crate::fault::CommitFault;
 use crate::late::LateTable;
@@ -57,7 +57,9 @@ fn add_files(into: &mut Vec<Block>, runs: &[Run]) -> Result<(), NoMemory>
 }
 
 /// Whether messages go by one of these steps.
-fn take_away(steps: &[Step]) -> bool {
+fn take_away(steps: &[Step]) -> bool
+    ensures value { result ≡ takes_away steps.now }
+{
     for step in steps {
         match step {
             Step::Put { .. } => {}
@@ -67,19 +69,17 @@ fn take_away(steps: &[Step]) -> bool {
     false
 }
 
-/// These blocks, the files of runs, and the blocks of a table: all of them if messages go, and else the one being written.
+/// The blocks of a table, all of them if messages go, and else the one being written; and the files of runs.
 fn left_blocks(
     alloc: Global,
-    before: &[Block],
     table: &BlockTable,
     runs: &[Run],
     all: bool,
 ) -> Result<Vec<Block>, NoMemory>
-    ensures value { IfOk result (λ left. left.items ≡ before.now ++ (blocks_of all table.now ++ map block_of runs.now)) }
+    ensures value { IfOk result (λ left. left.items ≡ blocks_of all table.now ++ map block_of runs.now) }
     ensures table { OnOk result (IsTable table.now) }
 {
     let mut left = Vec::new(alloc);
-    add_blocks(&mut left, before)?;
     if all {
         add_blocks(&mut left, table.older())?;
     }
@@ -90,17 +90,15 @@ fn left_blocks(
     Ok(left)
 }
 
-/// What a commit of these changes is going to write, if the log has room for it, by the table before it. Some blocks may be without messages from before.
+/// What a commit of these changes is going to write, if the log has room for it, by the table before it.
 fn stage_by(
     alloc: Global,
     log: &GateLog,
     table: &BlockTable,
-    before: &[Block],
     effects: &[Effect],
 ) -> Result<Staged, CommitFault>
     requires records { IsTrue (list_all is_record effects.now) }
     requires room { IsTrue (can_place table.now effects.now) }
-    requires behind { AreBehindLogs before.now }
     ensures staged { IfOk result (IsStaged table.now effects.now) }
     ensures fits { OnOk result (log.now.end + 6 + batch_length effects.now ≤ 2 ^ 31) }
     ensures full { IsErrOf result CommitFault.Full → 2 ^ 31 < log.now.end + 6 + batch_length effects.now }
@@ -115,7 +113,7 @@ fn stage_by(
     let batch = Batch::of(alloc, records)?;
     let steps = steps_of(alloc, effects, plan.spots.as_slice())?;
     let all = take_away(steps.as_slice());
-    let blocks = left_blocks(alloc, before, table, plan.runs.as_slice(), all)?;
+    let blocks = left_blocks(alloc, table, plan.runs.as_slice(), all)?;
     Ok(Staged {
         runs: plan.runs,
         batch,
@@ -129,12 +127,10 @@ pub(crate) fn stage(
     alloc: Global,
     log: &GateLog,
     late: &mut LateTable,
-    before: &[Block],
     effects: &[Effect],
 ) -> Result<Staged, CommitFault>
     requires records { IsTrue (list_all is_record effects.now) }
     requires room { IsTrue (can_place (blocks_in late.old) effects.now) }
-    requires behind { AreBehindLogs before.now }
     ensures staged { IfOk result (IsStaged (blocks_in late.old) effects.now) }
     ensures same { blocks_in late.new ≡ blocks_in late.old }
     ensures none { OnOk result (length late.new.steps.items ≤ late.new.taken) }
@@ -143,5 +139,5 @@ pub(crate) fn stage(
     ensures fault { IsErrOf result CommitFault.Fault → ⊥ }
 {
     late.catch_up()?;
-    stage_by(alloc, log, &late.table, before, effects)
+    stage_by(alloc, log, &late.table, effects)
 }

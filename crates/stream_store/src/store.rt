@@ -1,20 +1,21 @@
 //! The store of a place.
 
-ghost use Rattle.std.specs.Prelude.{◌≡◌, ◌↔◌, ◌+◌, ◌<◌, ◌≤◌, ◌^◌, Some, IfOk, IfErr, OnOk, IsErr, IsErrOf, IsTrue, length};
+ghost use Rattle.std.specs.Prelude.{◌≡◌, ◌↔◌, ◌+◌, ◌<◌, ◌≤◌, ◌^◌, [], false, Some, IfOk, IfErr, OnOk, IsErr, IsErrOf, IsTrue, length};
 ghost use Rattle.std.specs.List.{list_all};
 ghost use Rattle.js_base.specs.Causes.{HasCause};
+ghost use Rattle.vol_disk.specs.Does.{Rests};
 ghost use Rattle.effects.specs.declared.durable.Durable.{Durable};
 ghost use Rattle.op_records.specs.Allowed.{is_record};
 ghost use Rattle.stream_store.specs.Base.{IsBase};
-ghost use Rattle.stream_store.specs.Committing.{IsNextBatch, IsCommitted, CommitsOrNot, batch_length, length_with};
+ghost use Rattle.stream_store.specs.Committing.{IsNextBatch, IsCommitted, CommitsOrNot, EmptiesUnused, batch_length, length_with};
 ghost use Rattle.stream_store.specs.Holding.{Holds};
 ghost use Rattle.gate_log.specs.LogState.{with_batch};
-ghost use Rattle.block_table.specs.Blocks.{blocks};
+ghost use Rattle.block_table.specs.Blocks.{blocks, is_among};
 ghost use Rattle.durable_checks.specs.Storable.{IsFormed, IsOpenable, IsStorable};
 ghost use Rattle.log_records.specs.Unread.{stored_messages};
 ghost use Rattle.stream_store.specs.Opening.{IsFirstLog, IsNoneOpen, IsOpenFault, KeepsHeld, LeavesBegun, RestsBut};
 ghost use Rattle.stream_store.specs.Placing.{blocks_then, can_place, has_room, used_behind};
-ghost use Rattle.stream_store.specs.Staging.{DropsUnused};
+ghost use Rattle.stream_store.specs.Staging.{DropsUnused, HasDropped};
 
 use crate::fault::{CommitFault, OpenFault};
 use crate::late::LateTable;
@@ -24,6 +25,7 @@ use crate::room::room_behind;
 use crate::staging::stage;
 use crate::writing::write_staged;
 use block_table::{Block, BlockTable};
+use block_writing::drop_unused;
 use effects::{Durable, Effect};
 use gate_log::GateLog;
 use js_base::NoMemory;
@@ -51,7 +53,7 @@ impl Model for Store {
 
     ghost Value = { StoreState };
 
-    ghost view = { λ s. record { log = s.log; blocks = blocks_in s.late } };
+    ghost view = { λ s. record { log = s.log; blocks = blocks_in s.late; unused = s.unused.items } };
 
     ghost invariant = { λ s. (s.log.head ≡ Some s.generation) × AreBehindLogs s.unused.items };
 }
@@ -96,7 +98,7 @@ impl Store {
     /// The store of a log, whose messages lie as the table says.
     fn with_table(alloc: Global, log: GateLog, generation: u64, table: BlockTable) -> Store
         requires head { log.head ≡ Some generation }
-        ensures value { result ≡ record { log = log; blocks = table } }
+        ensures value { result ≡ record { log = log; blocks = table; unused = [] } }
     {
         Store {
             log,
@@ -132,7 +134,8 @@ impl Store {
 
     /// Puts records on the volume as the next batch, and the messages that they store into blocks before. They lead from the base to something that a volume
     /// may hold, and each message has a place. At `Ok` that is the base, and each crash leaves it; at any moment of the call a crash leaves the base from before
-    /// or it, and never a part. All memory is taken before the first write. Behind the commit, blocks that hold no message any more are cut to nothing.
+    /// or it, and never a part. All memory is taken before the first write. Behind the commit, blocks that hold no message any more are cut to nothing; if there
+    /// is no memory to tell them, the next commit does that.
     ///
     /// `Full` comes exactly if the log would be longer than 2^31 bytes. `Full` and `NoMemory` leave the volume and the store as they were. After `Fault` nothing
     /// is known of the store but its generation: open it again.
@@ -149,6 +152,7 @@ impl Store {
         ensures log { OnOk result (self.new.log ≡ with_batch self.old.log (batch_length effects.now)) }
         ensures blocks { OnOk result (self.new.blocks ≡ blocks_then self.old.blocks effects.now) }
         ensures fewer { OnOk result (length (blocks self.new.blocks) ≤ used_behind self.old.blocks effects.now) }
+        ensures emptied { V.told → OnOk result (EmptiesUnused self.old self.new effects.now (V.disk vol.old) (V.disk vol.new)) }
         ensures any_moment { V.told → CommitsOrNot self.old effects.now (V.disk vol.old) (V.disk vol.new) }
         ensures head { self.new.log.head ≡ self.old.log.head }
         ensures full { IsErrOf result CommitFault.Full → 2 ^ 31 < length_with self.old effects.now }
@@ -159,18 +163,21 @@ impl Store {
         ensures cause { HasCause (V.faults vol.old) (V.faults vol.new) (IsErrOf result CommitFault.Fault) }
         ensures later { (V.disk vol.old).moment ≤ (V.disk vol.new).moment }
     {
-        let unused = self.unused.as_slice();
-        let staged = stage(alloc, &self.log, &mut self.late, unused, effects)?;
+        let staged = stage(alloc, &self.log, &mut self.late, effects)?;
+        drop_unused(vol, &self.late.table, self.unused.as_slice())?;
         write_staged(vol, &mut self.log, &staged)?;
         self.late.wait(staged.steps);
         self.unused = staged.blocks;
-        self.drop_unused(vol)?;
+        self.drop_left(vol)?;
         Ok(())
     }
 
     /// Drops the blocks that were left without messages. If there is no memory to tell them, they are dropped behind the next commit.
-    fn drop_unused<V: Vol>(&mut self, vol: &mut V) -> Result<(), Failed>
-        ensures same { self.new ≡ self.old }
+    fn drop_left<V: Vol>(&mut self, vol: &mut V) -> Result<(), Failed>
+        ensures log { self.new.log ≡ self.old.log }
+        ensures blocks { self.new.blocks ≡ self.old.blocks }
+        ensures emptied { V.told → OnOk result (HasDropped self.old.blocks self.old.unused self.new.unused (V.disk vol.new)) }
+        ensures elsewhere { V.told → (file : _) → is_among self.old.unused file ≡ false → Rests file (V.disk vol.old) (V.disk vol.new) }
         ensures changes { V.told → DropsUnused self.old.blocks (V.disk vol.old) (V.disk vol.new) }
         ensures cause { HasCause (V.faults vol.old) (V.faults vol.new) (IsErr result) }
         ensures later { (V.disk vol.old).moment ≤ (V.disk vol.new).moment }
@@ -178,7 +185,7 @@ impl Store {
         let Ok(()) = self.late.catch_up() else {
             return Ok(());
         };
-        block_writing::drop_unused(vol, &self.late.table, self.unused.as_slice())?;
+        drop_unused(vol, &self.late.table, self.unused.as_slice())?;
         self.unused.clear();
         Ok(())
     }

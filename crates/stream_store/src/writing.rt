@@ -1,10 +1,12 @@
 //! Writing what a commit staged.
 
-ghost use Rattle.std.specs.Prelude.{◌≡◌, ◌≤◌, IsErr, OnOk, length};
+ghost use Rattle.std.specs.Prelude.{◌≡◌, ◌≤◌, ◌≢◌, false, IsErr, OnOk, length};
 ghost use Rattle.js_base.specs.Causes.{HasCause};
 ghost use Rattle.effects.specs.declared.durable.Durable.{Durable};
+ghost use Rattle.vol_disk.specs.Does.{Rests};
 ghost use Rattle.gate_log.specs.LogState.{with_batch};
 ghost use Rattle.block_table.specs.Blocks.{Blocks};
+ghost use Rattle.stream_store.specs.Staging.{is_written};
 ghost use Rattle.stream_store.specs.Writing.{IsReady, IsStagedOn, IsWritten, LeavesStaged};
 
 use crate::staging::Staged;
@@ -22,6 +24,7 @@ pub(crate) fn write_staged<V: Vol>(
     requires staged { V.told → (b : Blocks) × (base : Durable) × (next : Durable) × IsStagedOn log.old b base next staged.now (V.disk vol.old) }
     ensures any_moment { V.told → LeavesStaged log.old staged.now (V.disk vol.old) (V.disk vol.new) }
     ensures written { V.told → OnOk result (IsWritten log.old log.new staged.now (V.disk vol.old) (V.disk vol.new)) }
+    ensures elsewhere { V.told → (file : _) → file ≢ log.old.file → is_written staged.now.runs.items file ≡ false → Rests file (V.disk vol.old) (V.disk vol.new) }
     ensures log { OnOk result (log.new ≡ with_batch log.old (length staged.now.batch)) }
     ensures head { log.new.head ≡ log.old.head }
     ensures cause { HasCause (V.faults vol.old) (V.faults vol.new) (IsErr result) }
