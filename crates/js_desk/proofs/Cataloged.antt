@@ -14,13 +14,14 @@ use Rattle.js_model.specs.Cataloging.{HasPlace, MayChange, add_told, change_told
 use Rattle.js_model.specs.PlaceStates.{PlaceIn}
 use Rattle.desk_ground.specs.Grounds as phases
 use Rattle.desk_ground.specs.Grounds.{IsBetween, IsKnown, IsTold, Knows, MayStop}
-use Rattle.js_desk.specs.declared.turn.Turn.{Turn}
-use Rattle.js_desk.specs.declared.turn.Turn.TheVariants as turns
-use Rattle.js_desk.specs.Grounds.{IsGrounded, after_change, is_between, phase_of, told_incarnation}
+use Rattle.desk_places.specs.declared.turn.Turn.{Turn}
+use Rattle.desk_places.specs.declared.turn.Turn.TheVariants as turns
+use Rattle.desk_places.specs.Turns.{after_change, phase_of}
+use Rattle.js_desk.specs.Grounds.{IsGrounded, is_between, told_incarnation}
 use Rattle.js_desk.proofs.Added.{taken, taken_within, taken_known, refused_utf8, overlap_utf8}
 use Rattle.js_desk.proofs.Edits.{edited_there}
 use Rattle.js_desk.proofs.Found.{length-with_place}
-use Rattle.js_desk.proofs.Looked.{within_is}
+use Rattle.desk_places.proofs.Turns.{within_is}
 use Rattle.js_desk.proofs.Turns.{added_single, added_agreed, changed_single, changed_agreed, kept_single, kept_agreed, freed_single, freed_agreed, stopped_single, stopped_agreed}
 
 between_is : (turn : Turn) (place : ℕ) → phase_of turn ≡ phases.Between place → turn ≡ turns.Between place

@@ -6,7 +6,7 @@ use Rattle.std.proofs.lemmas.Option.{slice_get_within}
 use Rattle.js_model.specs.declared.desk.PlaceAt.{PlaceAt}
 use Rattle.js_model.specs.Catalog.{Catalog, Place, Used, first_place, if_used, with_place}
 use Rattle.desk_ground.specs.Grounds.{Knows, IsKnown}
-use Rattle.js_desk.specs.declared.turn.Turn.TheVariants.{Outside}
+use Rattle.desk_places.specs.declared.turn.Turn.TheVariants.{Outside}
 use Rattle.js_desk.specs.Grounds.{AreSingle, HasOneList}
 
 -- the place that was found, counted from n on

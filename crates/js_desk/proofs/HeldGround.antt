@@ -27,10 +27,13 @@ use Rattle.desk_ground.specs.Grounds as phases
 use Rattle.desk_ground.specs.Grounds.{IsKnown, Knows, Phase}
 use Rattle.desk_ground.specs.Outcomes.{IsThere, MayHold, phase_after}
 use Rattle.desk_hold.specs.OnePlace.{HoldsOn, on}
-use Rattle.js_desk.specs.declared.turn.Turn.{Turn}
-use Rattle.js_desk.specs.declared.turn.Turn.TheVariants as turns
-use Rattle.js_desk.specs.Dropping.{is_drop}
-use Rattle.js_desk.specs.Grounds.{AreAgreed, AreSingle, IsGrounded, SoloMade, after_hold, is_held, phase_of, places_by, standing, told_incarnation}
+use Rattle.desk_places.specs.declared.turn.Turn.{Turn}
+use Rattle.desk_places.specs.declared.turn.Turn.TheVariants as turns
+use Rattle.desk_places.specs.Dropping.{is_drop}
+use Rattle.desk_places.specs.Held.{is_held}
+use Rattle.desk_places.specs.Places.{places_by}
+use Rattle.desk_places.specs.Turns.{after_hold, phase_of}
+use Rattle.js_desk.specs.Grounds.{AreAgreed, AreSingle, IsGrounded, SoloMade, standing, told_incarnation}
 use Rattle.desk_hold.proofs.Alone.{held_alone, held_entries, last_of, never, with_place}
 use Rattle.js_desk.proofs.HoldFacts.{Facts, hold_facts}
 use Rattle.js_desk.specs.Kept.{kept_set}
@@ -39,55 +42,12 @@ use Rattle.crash_laws.specs.Timed.{timed_at}
 use Rattle.js_desk.proofs.HeldTimes.{timed_elsewhere}
 use Rattle.js_desk.specs.Lasting.{PlacesOutlast}
 use Rattle.js_desk.proofs.Lasting.{outlast_set}
-use Rattle.js_desk.proofs.Looked.{within_is}
-use Rattle.js_desk.proofs.Sets.{get_other, get_set, length_set}
+use Rattle.desk_places.proofs.Turns.{drops_within, within_is, phase_held}
+use Rattle.desk_places.proofs.Sets.{get_other, get_set, length_set}
 
 -- a place that was taken out of the row stood there
 pub there_is : {P : Type 0} (seen : P → Seen) (row : List P) (at : PlaceAt) (old : P) → at.place < length (places_by seen row) → old ≡ get_or row at.place old → slice_get row at.place ≡ Some old
 there_is seen row at old within is = slice_get_read row (length row) at.place old refl (omega (arith, within, length-map row (λ p. (seen p).place))) is
-
--- ---- the turn
-
--- a stream is dropped within one
-pub drops_within : (what : What) (turn : Turn) → is_drop what ≡ true → MayHold what (phase_of turn) → turn ≡ turns.Within
-drops_within (whats.Drop reply) turn d may = within_is turn may
-drops_within (whats.Make reply config) turn d may = absurd (cc)
-drops_within (whats.Change reply config) turn d may = absurd (cc)
-drops_within (whats.Publish publish) turn d may = absurd (cc)
-drops_within (whats.Purge reply filter below keep) turn d may = absurd (cc)
-drops_within (whats.Delete reply seq) turn d may = absurd (cc)
-drops_within (whats.MakeConsumer reply name config update) turn d may = absurd (cc)
-drops_within (whats.DropConsumer reply name) turn d may = absurd (cc)
-drops_within (whats.Ack reply ack) turn d may = absurd (cc)
-drops_within (whats.Pull reply consumer ask) turn d may = absurd (cc)
-drops_within whats.Tick turn d may = absurd (cc)
-drops_within (whats.StreamInfo reply) turn d may = absurd (cc)
-drops_within (whats.MessageGet reply by) turn d may = absurd (cc)
-drops_within (whats.ConsumerInfo reply name) turn d may = absurd (cc)
-drops_within (whats.ConsumerNames reply offset) turn d may = absurd (cc)
-drops_within (whats.ConsumerList reply offset) turn d may = absurd (cc)
-
-pub phase_held : (what : What) (at : PlaceAt) (told : Became) (turn : Turn) → phase_of (after_hold turn (is_drop what && is_dropped told) at.place) ≡ phase_after what at told (phase_of turn)
-phase_held (whats.Drop reply) at told turn = by (is_dropped told)
-  where
-    by : (b : Bool) → phase_of (after_hold turn b at.place) ≡ (if b then phases.Owing at.place else phase_of turn)
-    by true = refl
-    by false = refl
-phase_held (whats.Make reply config) at told turn = refl
-phase_held (whats.Change reply config) at told turn = refl
-phase_held (whats.Publish publish) at told turn = refl
-phase_held (whats.Purge reply filter below keep) at told turn = refl
-phase_held (whats.Delete reply seq) at told turn = refl
-phase_held (whats.MakeConsumer reply name config update) at told turn = refl
-phase_held (whats.DropConsumer reply name) at told turn = refl
-phase_held (whats.Ack reply ack) at told turn = refl
-phase_held (whats.Pull reply consumer ask) at told turn = refl
-phase_held whats.Tick at told turn = refl
-phase_held (whats.StreamInfo reply) at told turn = refl
-phase_held (whats.MessageGet reply by) at told turn = refl
-phase_held (whats.ConsumerInfo reply name) at told turn = refl
-phase_held (whats.ConsumerNames reply offset) at told turn = refl
-phase_held (whats.ConsumerList reply offset) at told turn = refl
 
 -- ---- what holds of each place
 

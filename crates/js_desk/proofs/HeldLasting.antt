@@ -14,7 +14,7 @@ use Rattle.desk_hold.specs.Crashes.{IsEarlyIn}
 use Rattle.desk_hold.specs.OnePlace.{HoldsOn, on}
 use Rattle.desk_hold.proofs.Alone.{never}
 use Rattle.place_engine.specs.Stepping.{Image, IsKept, Seen}
-use Rattle.js_desk.proofs.Converted.{outlasts_so}
+use Rattle.desk_places.proofs.Converted.{outlasts_so}
 use Rattle.js_desk.proofs.HeldTimes.{timed_between, timed_fine, timed_here}
 
 module _ {P V : Type 0} (seen : P → Seen) (vol : P → V) (holds : Image → State → Type 0) (reads : V → Image → Type 0) (left : V → ℕ → Image → Type 0) (clock faults : V → ℕ) (base : Option ℕ → V → State → Type 0)

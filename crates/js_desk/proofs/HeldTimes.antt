@@ -23,7 +23,7 @@ use Rattle.crash_laws.proofs.Timed.{both_entries, entries_of, in_hold}
 use Rattle.desk_hold.specs.Crashes.{IsEarlyIn, made_by}
 use Rattle.desk_hold.specs.OnePlace.{OnPlace, PlaceStep}
 use Rattle.desk_hold.proofs.Alone.{never}
-use Rattle.js_desk.proofs.Converted.{AreFine}
+use Rattle.desk_places.proofs.Converted.{AreFine}
 
 -- ---- the holds of a place, and of another one
 

@@ -32,7 +32,7 @@ use Rattle.js_api.specs.Worlds.{IsHeld, Stops, is_broken}
 use Rattle.desk_answers.specs.Became.{is_dropped}
 use Rattle.desk_hold.specs.OnePlace.{OnPlace, PlaceStep}
 use Rattle.desk_hold.proofs.Alone.{never}
-use Rattle.js_desk.specs.Dropping.{is_drop}
+use Rattle.desk_places.specs.Dropping.{is_drop}
 use Rattle.js_desk.proofs.Incarnations.{event_keeps, drop_counts, drop_done, undropped_keeps, delivery_keeps}
 
 -- ---- the runs of a hold

@@ -32,7 +32,7 @@ use Rattle.js_model.specs.Retention.{kept}
 use Rattle.js_model.specs.Streams.{by_name}
 use Rattle.js_model.specs.Trim.{trim}
 use Rattle.js_model.specs.Verdict.{verdict}
-use Rattle.js_desk.specs.Dropping.{is_drop}
+use Rattle.desk_places.specs.Dropping.{is_drop}
 
 -- ---- one event
 

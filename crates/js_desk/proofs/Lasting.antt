@@ -11,7 +11,7 @@ use Rattle.crash_laws.specs.Timed.{timed_at}
 use Rattle.place_engine.specs.Stepping.{Image}
 use Rattle.js_desk.specs.Lasting.{PlaceOutlasts, PlacesOutlast}
 use Rattle.js_desk.specs.Outlasting.{outlast_stays}
-use Rattle.js_desk.proofs.Sets.{get_other, get_set}
+use Rattle.desk_places.proofs.Sets.{get_other, get_set}
 
 module _ {V : Type 0} (holds : Image → State → Type 0) (left : V → ℕ → Image → Type 0) (clock : V → ℕ) (base : Option ℕ → V → State → Type 0)
     (earlier : (v : V) (t u : ℕ) (image : Image) → t ≤ u → left v u image → left v t image) where

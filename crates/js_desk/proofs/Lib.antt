@@ -1,9 +1,6 @@
 pub mod Added
 pub mod Cataloged
-pub mod Converted
 pub mod Edits
-pub mod Failures
-pub mod Flushed
 pub mod Found
 pub mod HeldGround
 pub mod HeldLasting
@@ -14,10 +11,7 @@ pub mod Lasting
 pub mod Looked
 pub mod Lookups
 pub mod Opened
-pub mod Opening
 pub mod Routed
-pub mod Rows
 pub mod Sessions
-pub mod Sets
 pub mod Solos
 pub mod Turns

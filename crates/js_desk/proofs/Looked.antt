@@ -13,12 +13,14 @@ use Rattle.js_api.specs.Stages.{LooksUp}
 use Rattle.js_api.specs.Worlds.{place_or}
 use Rattle.desk_ground.specs.Grounds as phases
 use Rattle.desk_ground.specs.Grounds.{Phase}
-use Rattle.js_desk.specs.declared.turn.Turn.{Turn}
-use Rattle.js_desk.specs.declared.turn.Turn.TheVariants as turns
+use Rattle.desk_places.specs.declared.turn.Turn.{Turn}
+use Rattle.desk_places.specs.declared.turn.Turn.TheVariants as turns
 use Rattle.place_engine.specs.Stepping.{Image}
 use Rattle.js_desk.specs.Kept.{kept_none}
 use Rattle.js_desk.specs.Outlasting.{outlast_quiet}
-use Rattle.js_desk.specs.Grounds.{AreSingle, IsGrounded, SoloMade, phase_of, standing}
+use Rattle.desk_places.specs.Turns.{phase_of}
+use Rattle.desk_places.proofs.Turns.{outside_is, within_is}
+use Rattle.js_desk.specs.Grounds.{AreSingle, IsGrounded, SoloMade, standing}
 
 module _ {V : Type 0} (keeps : V → V → Type 0) (none : (v : V) → keeps v v) (holds : Image → State → Type 0) (left : V → ℕ → Image → Type 0) (clock : V → ℕ) (base : Option ℕ → V → State → Type 0) (earlier : (v : V) (t u : ℕ) (image : Image) → t ≤ u → left v u image → left v t image) (r : Router) (places : List PlaceIn) (vols : List V) (ticked : ℕ) (last : Option PlaceAt) where
   -- one call
@@ -32,19 +34,6 @@ pub looked_up : {V : Type 0} (keeps : V → V → Type 0) (none : (v : V) → ke
 looked_up keeps none holds left clock base earlier r c places vols ticked last turn call found h = record { entries = Looked false call (catalog.At found) ∷ []; are = refl; led = looked keeps none holds left clock base earlier r places vols ticked last c c turn turn false call (catalog.At found) h }
 
 -- ---- turns
-
--- the one that the caller is in, by its phase
-pub outside_is : (turn : Turn) → phase_of turn ≡ phases.Outside → turn ≡ turns.Outside
-outside_is turns.Outside e = refl
-outside_is turns.Within e = absurd (cc)
-outside_is (turns.Between place) e = absurd (cc)
-outside_is (turns.Owing place) e = absurd (cc)
-
-pub within_is : (turn : Turn) → phase_of turn ≡ phases.Within → turn ≡ turns.Within
-within_is turns.Within e = refl
-within_is turns.Outside e = absurd (cc)
-within_is (turns.Between place) e = absurd (cc)
-within_is (turns.Owing place) e = absurd (cc)
 
 pub outside_single : (turn : Turn) (c : Catalog) → phase_of turn ≡ phases.Outside → AreSingle turn c → AreSingle turns.Outside c
 outside_single turn c e h = subst (λ (t : Turn). AreSingle t c) (outside_is turn e) h

@@ -6,7 +6,7 @@ use Rattle.js_model.specs.declared.desk.PlaceAt.{PlaceAt}
 use Rattle.js_model.specs.Catalog as catalog
 use Rattle.js_model.specs.Catalog.{Catalog, Place, catalog_call, telling, first_place, or_else, used_above, is_used, if_used, takes_subject}
 use Rattle.desk_ground.specs.Grounds.{Knows}
-use Rattle.js_desk.specs.declared.turn.Turn.TheVariants.{Outside}
+use Rattle.desk_places.specs.declared.turn.Turn.TheVariants.{Outside}
 use Rattle.js_desk.specs.Grounds.{AreSingle}
 use Rattle.js_desk.proofs.Found.{found, found_within, found_known}
 

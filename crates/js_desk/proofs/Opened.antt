@@ -8,7 +8,7 @@ use Rattle.js_model.specs.Router.{empty_router}
 use Rattle.js_model.specs.Catalog.{Catalog, Place, catalog_of, kept_place, kept_stream}
 use Rattle.js_model.specs.PlaceStates.{PlaceIn}
 use Rattle.js_api.specs.Worlds.{kept_in, opening, stream_in}
-use Rattle.js_desk.specs.declared.turn.Turn.TheVariants.{Outside}
+use Rattle.desk_places.specs.declared.turn.Turn.TheVariants.{Outside}
 use Rattle.js_desk.specs.Grounds.{HasOneList, IsGrounded, standing}
 
 -- what the catalog has of a place

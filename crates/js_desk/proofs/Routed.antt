@@ -26,30 +26,12 @@ use Rattle.js_api.specs.Stages.{SendsOne}
 use Rattle.desk_ground.specs.Callers.{client_of}
 use Rattle.desk_ground.specs.declared.caller.Caller.{Caller}
 use Rattle.desk_ground.specs.Grounds.{Setting}
-use Rattle.js_desk.specs.declared.turn.Turn.{Turn}
-use Rattle.js_desk.specs.Faults.{desk_answer, desk_fault, sent}
+use Rattle.desk_places.specs.declared.turn.Turn.{Turn}
+use Rattle.desk_places.specs.Faults.{desk_answer, desk_fault, sent}
+use Rattle.desk_places.proofs.Refused.{open_refused, sub_refused}
 use Rattle.js_desk.specs.Kept.{kept_none}
 use Rattle.js_desk.specs.Grounds.{SoloMade, setting_of, standing}
-use Rattle.desk_hold.proofs.Refused.{open_kind, sub_kind, wants, never, publish_done, sending_done, unsub_done, collect_done}
-
--- ---- why a call is refused
-
-pub record IsRefused (call : routes.RouteCall) (fault : RouteFault) : Type 0 where
-  pub may : MaySay call (fault_told fault)
-  pub says : Says (fault_told fault) (Err (desk_fault fault))
-
-pub open_refused : (r new : routes.Router) (fault : RouteFault) → routes.IsRoute r routes.Open (fault_told fault) new → IsRefused routes.Open fault
-open_refused r new (refused.NoSession latest) h = absurd (open_kind r new (routes.NoSession latest) h)
-open_refused r new refused.TooManySubs h = absurd (open_kind r new routes.TooManySubs h)
-open_refused r new refused.NoMemory h = record { may = refl; says = refl }
-open_refused r new refused.Worn h = record { may = refl; says = refl }
-
-pub sub_refused : (r new : routes.Router) (n : ℕ) (pattern : Bytes) (queue : Option Bytes) (sid : Bytes) (fault : RouteFault) → routes.is_open r n ≡ true
-    → routes.IsRoute r (routes.Sub n pattern queue sid) (fault_told fault) new → IsRefused (routes.Sub n pattern queue sid) fault
-sub_refused r new n pattern queue sid (refused.NoSession latest) is_open h = absurd (sub_kind r new n pattern queue sid (routes.NoSession latest) is_open h)
-sub_refused r new n pattern queue sid refused.TooManySubs is_open h = record { may = refl; says = refl }
-sub_refused r new n pattern queue sid refused.NoMemory is_open h = record { may = refl; says = refl }
-sub_refused r new n pattern queue sid refused.Worn is_open h = absurd (sub_kind r new n pattern queue sid routes.Worn is_open h)
+use Rattle.desk_hold.proofs.Refused.{wants, never, publish_done, sending_done, unsub_done, collect_done}
 
 -- ---- the entry
 

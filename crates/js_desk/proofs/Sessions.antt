@@ -14,7 +14,7 @@ use Rattle.js_api.specs.Outputs.{outs_of}
 use Rattle.desk_hold.specs.OnePlace.{OnPlace, PlaceStep}
 use Rattle.desk_hold.specs.Ports.{AreHeard, AreSent}
 use Rattle.desk_hold.proofs.Alone.{never}
-use Rattle.js_desk.specs.declared.turn.Turn.{Turn}
+use Rattle.desk_places.specs.declared.turn.Turn.{Turn}
 use Rattle.js_desk.specs.Grounds.{setting_of, standing}
 use Rattle.js_desk.proofs.Routed.{opening_as}
 

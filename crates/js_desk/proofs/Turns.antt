@@ -6,8 +6,8 @@ use Rattle.js_base.specs.Bytes.{Bytes}
 use Rattle.js_model.specs.Catalog.{Catalog, Place, Used, edited, taken_by, on_used, changing, keeping, kept_list, freed, stopping}
 use Rattle.js_model.specs.Events.{kept_incarnation}
 use Rattle.js_model.specs.PlaceStates.{PlaceIn}
-use Rattle.js_desk.specs.declared.turn.Turn.{Turn}
-use Rattle.js_desk.specs.declared.turn.Turn.TheVariants as turns
+use Rattle.desk_places.specs.declared.turn.Turn.{Turn}
+use Rattle.desk_places.specs.declared.turn.Turn.TheVariants as turns
 use Rattle.js_desk.specs.Grounds.{AreSingle, AreAgreed, HasOneList, is_between, told_incarnation}
 use Rattle.js_desk.proofs.Edits.{edited_all}
 

@@ -1,40 +1,27 @@
 -- What contracts see of the ground of one caller, and what holds of it.
-use Rattle.std.specs.Prelude.{◌≡◌, ◌≤◌, ◌<◌, ◌+◌, ◌==◌, ℕ, Bool, true, false, List, map, length, Option, None, Some, IsNone, IfSome, Result, Ok, Err, slice_get, if◌then◌else◌}
+use Rattle.std.specs.Prelude.{◌≡◌, ◌≤◌, ◌<◌, ◌+◌, ◌==◌, ℕ, Bool, false, List, length, Option, None, Some, IsNone, IfSome, slice_get, if◌then◌else◌}
 use Rattle.std.specs.List.{AllZip}
 use Rattle.js_model.specs.declared.stream.State.{State}
 use Rattle.js_model.specs.declared.desk.PlaceAt.{PlaceAt}
-use Rattle.js_model.specs.declared.catalog_fault.CatalogFault.{CatalogFault}
 use Rattle.js_model.specs.Catalog.{Catalog, Used, Place}
 use Rattle.js_model.specs.Events.{kept_incarnation}
 use Rattle.js_model.specs.PlaceStates.{PlaceIn}
 use Rattle.js_model.specs.Router.{Router, is_open}
-use Rattle.place_engine.specs.Stepping.{Image, Seen}
-use Rattle.js_api.specs.declared.outcome.Became.{Became}
-use Rattle.js_api.specs.declared.outcome.Became.TheVariants.{Made, Unsaid, Ticked, Nothing, Broke, Stopped, Gone}
+use Rattle.place_engine.specs.Stepping.{Image}
 use Rattle.js_api.specs.Entries.{DeskEntry}
 use Rattle.js_api.specs.Leading.{Leads}
 use Rattle.js_api.specs.Worlds.{Scene, SoloStep}
 use Rattle.desk_ground.specs.Grounds.{Phase, Setting}
-use Rattle.desk_ground.specs.Grounds as phases
+use Rattle.desk_places.specs.declared.turn.Turn.{Turn}
+use Rattle.desk_places.specs.declared.turn.Turn.TheVariants as turns
+use Rattle.desk_places.specs.Turns.{phase_of}
 use Rattle.js_desk.specs.Lasting.{PlacesOutlast, Row}
-use Rattle.js_desk.specs.declared.turn.Turn.{Turn}
-use Rattle.js_desk.specs.declared.turn.Turn.TheVariants as turns
 
 -- what there is, the volumes of the places, and whether the caller is in a turn of the catalog
 pub record Standing (V : Type 0) : Type 0 where
   pub scene : Scene
   pub vols : List V
   pub phase : Phase
-
--- the places of a row, as their kind shows them
-abbrev pub places_by : {P : Type 0} → (P → Seen) → List P → List PlaceIn
-places_by seen row = map (λ p. (seen p).place) row
-
-abbrev pub phase_of : Turn → Phase
-phase_of turns.Outside = phases.Outside
-phase_of turns.Within = phases.Within
-phase_of (turns.Between place) = phases.Between place
-phase_of (turns.Owing place) = phases.Owing place
 
 abbrev pub standing : {V : Type 0} → Router → Catalog → List PlaceIn → List V → ℕ → Option PlaceAt → Turn → Standing V
 standing router catalog places vols ticked last turn = record {
@@ -102,24 +89,3 @@ pub record IsGrounded (catalog : Catalog) (places : List PlaceIn) (last : Option
   pub single : AreSingle turn catalog
   pub agreed : AreAgreed turn catalog places
   pub within : IfSome last (λ at. at.place < length places)
-
--- ---- the turn after a call
-
--- after the subjects of the stream of a place were changed, or were not
-abbrev pub after_change : Turn → Result (Unit {0}) CatalogFault → ℕ → Turn
-after_change turn (Ok done) place = turns.Between place
-after_change turn (Err fault) place = turn
-
--- the turn after a hold, by which a stream was dropped or not
-abbrev pub after_hold : Turn → Bool → ℕ → Turn
-after_hold turn dropped place = if dropped then turns.Owing place else turn
-
--- a step was made at the place, also if its volume failed in it
-abbrev pub is_held : Became → Bool
-is_held (Made reply) = true
-is_held (Unsaid refused) = true
-is_held Ticked = true
-is_held Nothing = false
-is_held (Broke stream full) = true
-is_held (Stopped stream) = false
-is_held Gone = false

@@ -1,7 +1,3 @@
-pub mod Cataloging
-pub mod Closing
-pub mod Dropping
-pub mod Faults
 pub mod Grounds
 pub mod Kept
 pub mod Lasting

@@ -7,20 +7,20 @@ ghost use Rattle.js_api.specs.Clients.{closed, new_client};
 ghost use Rattle.js_api.specs.Leading.{Makes, leads_more, leads_nothing};
 ghost use Rattle.js_api.specs.Making.{MakesStream};
 ghost use Rattle.js_api.specs.Worlds.{SoloStep};
-ghost use Rattle.js_desk.specs.Closing.{Closes};
-ghost use Rattle.js_desk.specs.Opening.{FailsToOpen, OpensDesk};
+ghost use Rattle.desk_places.specs.Closing.{Closes};
+ghost use Rattle.desk_places.specs.Opening.{FailsToOpen};
+ghost use Rattle.js_desk.specs.Opening.{OpensDesk};
 ghost use Rattle.js_desk.specs.Solo.{DeskMade, frames_left, row_in};
 ghost use Rattle.js_desk.specs.Outlasting.{outlast_more, outlast_none};
 ghost use Rattle.js_desk.specs.Kept.{kept_more, kept_none};
 
-use crate::cataloging::{Uncataloged, catalog_of};
-use crate::closing::close_places;
-use crate::faults::{Closed, HubFault};
 use crate::solo_ground::SoloGround;
-use crate::volumes::{give_back, open_places};
 use desk_calls::publish;
 use desk_ground::{Caller, Ground};
 use desk_messaging::{close, collect, options, settle, sub, tick, unsub};
+use desk_places::{
+    Closed, HubFault, Uncataloged, catalog_of, close_places, give_back, open_places,
+};
 use desk_streams::make_stream;
 use js_api::{Desk, DeskFault};
 use js_base::{ApiError, Moment, Name, Out};

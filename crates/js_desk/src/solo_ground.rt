@@ -1,27 +1,25 @@
 //! What the desk of one caller stands on: the router, the catalog and the places, which all are its own.
 
-ghost use Rattle.std.specs.Prelude.{◌≡◌, ◌≤◌, ◌&&◌, OnErr, None, Some, true, if◌then◌else◌, length, map};
+ghost use Rattle.std.specs.Prelude.{◌≡◌, ◌≤◌, OnErr, None, true, length, map};
 ghost use Rattle.js_api.specs.Leading.{leads_more, leads_nothing};
-ghost use Rattle.js_api.specs.Worlds.{SoloStep, kept_in, opening, place_or};
+ghost use Rattle.js_api.specs.Worlds.{SoloStep, kept_in, opening};
 ghost use Rattle.js_model.specs.Catalog.{Add, IsCatalogCall, catalog_of};
 ghost use Rattle.js_model.specs.Cataloging.{add_told};
 ghost use Rattle.js_model.specs.Routing.{waiting_for};
 ghost use Rattle.std.proofs.Common.{refl, ◌∙◌};
-ghost use Rattle.js_desk.specs.Dropping.{is_drop};
-ghost use Rattle.js_desk.specs.Grounds.{SoloMade, is_held, places_by, row_of, setting_of};
+ghost use Rattle.desk_places.specs.Places.{places_by};
+ghost use Rattle.js_desk.specs.Grounds.{SoloMade, row_of, setting_of};
 ghost use Rattle.js_desk.specs.Outlasting.{outlast_more, outlast_none};
 ghost use Rattle.js_desk.specs.Kept.{kept_more, kept_none};
 ghost use Rattle.desk_ground.specs.Grounds.{Outside};
-ghost use Rattle.desk_answers.specs.Became.{is_dropped};
 
-use crate::faults::{desk_answer, sent};
-use crate::turn::Turn;
 use catalog::Catalog;
 use desk_ground::{Caller, Ground};
 use desk_hold::hold_on;
-use js_api::{Became, DeskFault, Outcome};
+use desk_places::{Turn, desk_answer, is_drop, is_dropped, last_of, place_or, sent};
+use js_api::{DeskFault, Outcome};
 use js_base::{Blob, Moment, Name, Out};
-use js_model::{CatalogFault, Collected, LAST_PLACE, PlaceAt, Reply, What};
+use js_model::{CatalogFault, Collected, LAST_PLACE, PlaceAt, What};
 use place_engine::Place;
 use route_core::Router;
 use std::alloc::Global;
@@ -43,61 +41,14 @@ pub struct SoloGround<P: Place> {
 
 impl<P: Place> Model for SoloGround<P> {
     ghost use Rattle.std.specs.Prelude.{map};
-    ghost use Rattle.js_desk.specs.Grounds.{Standing, standing, places_by, IsGrounded};
+    ghost use Rattle.desk_places.specs.Places.{places_by};
+    ghost use Rattle.js_desk.specs.Grounds.{Standing, standing, IsGrounded};
 
     ghost Value = { Standing P.Vol };
 
     ghost view = { λ ground. standing ground.router ground.catalog (places_by P.seen ground.places.items) (map P.vol ground.places.items) ground.ticked ground.last ground.turn };
 
     ghost invariant = { λ ground. IsGrounded ground.catalog (places_by P.seen ground.places.items) ground.last ground.turn };
-}
-
-/// Whether a stream was dropped by what became so, if that was asked.
-pub fn is_dropped(asked: bool, became: &Became) -> bool
-    ensures value { result ≡ (asked && is_dropped became.now) }
-{
-    let done = match became {
-        Became::Made(reply) => matches!(reply, Reply::Done),
-        Became::Unsaid { refused } => !*refused,
-        Became::Ticked => false,
-        Became::Nothing => false,
-        Became::Broke { stream: _, full: _ } => false,
-        Became::Stopped { stream: _ } => false,
-        Became::Gone => false,
-    };
-    asked && done
-}
-
-/// Whether a stream is asked to be dropped.
-pub fn is_drop(what: &What) -> bool
-    ensures value { result ≡ is_drop what.now }
-{
-    matches!(what, What::Drop { .. })
-}
-
-/// The place of the last hold after one at a place that became so. One counts if a step was made there, also if the volume failed in it.
-pub fn last_of(became: &Became, at: PlaceAt, before: Option<PlaceAt>) -> Option<PlaceAt>
-    ensures value { result ≡ (if is_held became.now then Some at else before) }
-{
-    match became {
-        Became::Made(_) => Some(at),
-        Became::Unsaid { refused: _ } => Some(at),
-        Became::Ticked => Some(at),
-        Became::Broke { stream: _, full: _ } => Some(at),
-        Became::Nothing => before,
-        Became::Stopped { stream: _ } => before,
-        Became::Gone => before,
-    }
-}
-
-/// The place that was found, or the one before.
-pub fn place_or(before: u32, found: Option<PlaceAt>) -> u32
-    ensures value { result ≡ place_or before found }
-{
-    match found {
-        Some(at) => at.place,
-        None => before,
-    }
 }
 
 /// Takes a place of the catalog for a stream of this name, of which it keeps a copy. An `Err` takes none.

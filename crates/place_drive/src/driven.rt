@@ -9,7 +9,8 @@ ghost use Rattle.place_drive.specs.Asked.{IsAsked};
 use crate::asked::{info, stream_info};
 use js_base::{Blob, List, Moment, NoMemory, Out, Outs};
 use js_model::{Delivered, Event, Listening, Reply, What};
-use place_engine::{MemoryPlace, Place};
+use memory_place::MemoryPlace;
+use place_engine::Place;
 use std::alloc::Global;
 
 /// 2023-11-14T22:13:20Z.

@@ -12,6 +12,7 @@ use Rattle.js_model.specs.Events.{kept_incarnation}
 use Rattle.js_model.specs.Ready.{some_ready}
 use Rattle.effects.specs.Effects.{delivery_effects}
 use Rattle.effects.specs.declared.effect.Effect.{Effect}
+use Rattle.place_engine.specs.Following.{followed}
 use Rattle.place_engine.specs.Stepping.{Image, Seen, Elapses, IsPutOff, IsStopped, IsUndone, KeepsBase, LeavesVolume, MayKeepBase, MayPutOff, Passes, Rests}
 use Rattle.place_engine.specs.declared.faults.PlaceFault.{PlaceFault}
 use Rattle.place_engine.specs.declared.faults.PlaceFault.TheVariants.{NoMemory, StoreFault, Full, Stopped, Gone, Worn}
@@ -24,7 +25,7 @@ pub record Makes (now : ℕ) (listening : List Bytes) (delivery : Delivery) (out
 
 -- the records that are to be committed with a delivery: those that wait, and its own
 abbrev pub batch_with : ℕ → Delivery → Seen → Seen → List Effect
-batch_with now delivery old new = old.waiting ++ delivery_effects old.place.state now delivery new.place.state
+batch_with now delivery old new = followed old.waiting (delivery_effects old.place.state now delivery new.place.state)
 
 -- it is made, and its outputs are told. It may be committed, and the log had room for that
 pub record TellsDelivery (delivery : Delivery) (now : ℕ) (listening : List Bytes) (old new : Seen) (before after : List Out) : Type 0 where

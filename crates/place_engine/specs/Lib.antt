@@ -1,11 +1,9 @@
-pub mod Answers
-pub mod Held
 pub mod Shown
 pub mod Places
+pub mod Following
 pub mod Stepping
 pub mod Pushes
 pub mod Delivering
 pub mod InMemory
-pub mod Recording
 pub mod Flushing
 pub mod Opening

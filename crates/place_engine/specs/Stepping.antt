@@ -16,6 +16,7 @@ use Rattle.js_model.specs.PlaceStates.{PlaceIn}
 use Rattle.effects.specs.Effects.{event_effects}
 use Rattle.effects.specs.Laws.{Leads}
 use Rattle.effects.specs.declared.effect.Effect.{Effect}
+use Rattle.place_engine.specs.Following.{followed}
 use Rattle.place_engine.specs.declared.faults.PlaceFault.{PlaceFault}
 use Rattle.place_engine.specs.declared.faults.PlaceFault.TheVariants.{NoMemory, StoreFault, Full, Stopped, Gone, Worn}
 use Rattle.place_engine.specs.declared.faults.Left.TheVariants.{Nothing, Ticked, Unsaid}
@@ -76,7 +77,7 @@ pub record IsFlushed (new : Seen) : Type 0 where
 -- nothing is committed, and the records of what was made wait behind those from before
 pub record IsPutOff (made : List Effect) (old new : Seen) : Type 0 where
   pub base : KeepsBase old new
-  pub waiting : new.waiting ≡ old.waiting ++ made
+  pub waiting : new.waiting ≡ followed old.waiting made
 
 -- one of the two
 abbrev pub MayPutOff : List Effect → Seen → Seen → Type 0
@@ -88,7 +89,7 @@ effects_of event now old = event_effects old.place.state event.what now (old.roo
 
 -- the records that are to be committed with an event: those that wait, and its own
 abbrev pub batch_of : Event → ℕ → Seen → List Effect
-batch_of event now old = old.waiting ++ effects_of event now old
+batch_of event now old = followed old.waiting (effects_of event now old)
 
 -- ---- what became of the event
 

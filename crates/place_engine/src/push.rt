@@ -1,9 +1,5 @@
 //! A push consumer, as one sees it who asks whether somebody listens for it.
 
-ghost use Rattle.std.specs.Prelude.{◌≡◌};
-ghost use Rattle.place_engine.specs.Pushes.{push_of};
-
-use followed_stream::Follower;
 use js_base::Blob;
 use std::marker::Model;
 
@@ -24,22 +20,4 @@ impl<'a> Model for Push<'a> {
     ghost Value = { Pushing };
 
     ghost view = { λ push. record { name = push.name.now; subject = push.subject.now; group = option_copied push.group } };
-}
-
-impl<'a> Push<'a> {
-    /// What is seen of a consumer.
-    pub(crate) fn of(follower: &'a Follower) -> Push<'a>
-        ensures value { result ≡ push_of follower.now.consumer }
-    {
-        let config = follower.config();
-        Push {
-            name: follower.name(),
-            subject: &config.deliver_subject,
-            group: if config.deliver_group.is_empty() {
-                None
-            } else {
-                Some(&config.deliver_group)
-            },
-        }
-    }
 }

@@ -17,8 +17,8 @@ use Rattle.consumer_state.specs.contracts.consumer.Consumer as consumer
 use Rattle.followed_stream.specs.contracts.follower.Follower as follower
 use Rattle.followed_stream.specs.contracts.followed.FollowedStream as followed
 use Rattle.stream_state.specs.contracts.state.StreamState as state
-use Rattle.place_engine.specs.contracts.live_stream.LiveStream as live
-use Rattle.place_engine.specs.contracts.slot.Slot as slot
+use Rattle.memory_place.specs.contracts.live_stream.LiveStream as live
+use Rattle.memory_place.specs.contracts.slot.Slot as slot
 
 pub pending_send : IsSend pending.the_row
 pending_send = search (sendable, crosses, heap.send, knot.send-Tree) depth 20

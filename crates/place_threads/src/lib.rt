@@ -1,7 +1,7 @@
 //! That the stream of a place goes from thread to thread, as a server of many connections asks of it.
 #![tactic(auto)]
 
-use place_engine::Slot;
+use memory_place::Slot;
 
 /// What may go to another thread.
 fn goes<T: Send>(_value: &T) {}

@@ -16,10 +16,10 @@ use Rattle.crash_laws.specs.Laws.{LawMore, LawOpened}
 use Rattle.crash_laws.specs.Opened as opened_at
 use Rattle.crash_laws.specs.Outlasting.{Outlasts}
 use Rattle.crash_laws.specs.Timed.{Timed, timed_at}
-use Rattle.js_desk.specs.Closing as closing
-use Rattle.js_desk.specs.Closing.{End, first_failure}
-use Rattle.js_desk.specs.Grounds.{places_by}
-use Rattle.js_desk.specs.Opening as opening
+use Rattle.desk_places.specs.Closing as closing
+use Rattle.desk_places.specs.Closing.{End, first_failure}
+use Rattle.desk_places.specs.Places.{places_by}
+use Rattle.desk_places.specs.Opening as opening
 use Rattle.server.specs.Attending.{run_entries}
 use Rattle.run_laws.specs.Crashes.{LawRunOutlives}
 

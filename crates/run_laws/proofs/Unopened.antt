@@ -6,7 +6,7 @@ use Rattle.place_engine.specs.declared.faults.OpenFault.{OpenFault}
 use Rattle.place_engine.specs.Opening.{AllHold}
 use Rattle.place_engine.specs.Stepping.{Image, Seen}
 use Rattle.js_desk.specs.Kept.{kept_none}
-use Rattle.js_desk.specs.Opening as opening
+use Rattle.desk_places.specs.Opening as opening
 use Rattle.server.proofs.Rows.{unopened_row}
 use Rattle.run_laws.specs.Crashes as crashes
 use Rattle.run_laws.specs.Crashes.{LawUnopenedHolds}

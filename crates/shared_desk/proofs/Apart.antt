@@ -11,7 +11,7 @@ use Rattle.turn_lock.specs.Calls.{HasAll}
 use Rattle.turn_lock.specs.Seats.{LockView, SeatView}
 use Rattle.shared_desk.specs.Histories.{all_numbers}
 use Rattle.hub_fronts.specs.Fronts.{SharedScene}
-use Rattle.js_desk.specs.declared.faults.Closed.{Closed}
+use Rattle.desk_places.specs.declared.faults.Closed.{Closed}
 use Rattle.shared_desk.specs.Hubs.{HubView}
 use Rattle.shared_desk.specs.Joining.{HasAllSeats, TakesApart, TakesIn, UnlockRow, UnlocksEach, UnlocksOne}
 use Rattle.shared_desk.specs.Passes.{port_number, port_numbers}

@@ -7,10 +7,10 @@ use Rattle.js_api.specs.declared.outcome.Became.{Became}
 use Rattle.histories.specs.Entries.{Opening}
 use Rattle.turn_lock.specs.Seats.{LockView, SeatView}
 use Rattle.hub_place.specs.Holds.{SendsTo}
-use Rattle.js_desk.specs.declared.turn.Turn.{Turn}
-use Rattle.js_desk.specs.declared.turn.Turn.TheVariants as turns
-use Rattle.js_desk.specs.Grounds.{is_held}
-use Rattle.js_desk.proofs.Sets.{length_set}
+use Rattle.desk_places.specs.declared.turn.Turn.{Turn}
+use Rattle.desk_places.specs.declared.turn.Turn.TheVariants as turns
+use Rattle.desk_places.specs.Held.{is_held}
+use Rattle.desk_places.proofs.Sets.{length_set}
 use Rattle.shared_desk.specs.declared.side.Side.{Side}
 use Rattle.shared_desk.specs.declared.side.Side.TheVariants as sides
 use Rattle.shared_desk.specs.Grounds.{IsGrounded}

@@ -22,12 +22,13 @@ use Rattle.hub_fronts.specs.Making.{MakesOne, SeesMore, SharedMade}
 use Rattle.hub_fronts.specs.Stepping.{AtThePlace, HoldsThere, StirsThere, HaltsThere, MissesThere, Wears}
 use Rattle.hub_fronts.proofs.Seen.{made_one, one_seen, seen_first, sees_nothing}
 use Rattle.hub_place.specs.Holds.{HoldsBySeat, HoldsInTurn, SeatStep}
-use Rattle.js_desk.specs.declared.turn.Turn.{Turn}
-use Rattle.js_desk.specs.declared.turn.Turn.TheVariants as turns
-use Rattle.js_desk.specs.Dropping.{is_drop}
-use Rattle.js_desk.specs.Grounds.{after_hold, is_held, phase_of}
-use Rattle.js_desk.proofs.HeldGround.{drops_within, phase_held}
-use Rattle.js_desk.proofs.Sets.{get_set, set_twice}
+use Rattle.desk_places.specs.declared.turn.Turn.{Turn}
+use Rattle.desk_places.specs.declared.turn.Turn.TheVariants as turns
+use Rattle.desk_places.specs.Dropping.{is_drop}
+use Rattle.desk_places.specs.Held.{is_held}
+use Rattle.desk_places.specs.Turns.{after_hold, phase_of}
+use Rattle.desk_places.proofs.Turns.{drops_within, phase_held}
+use Rattle.desk_places.proofs.Sets.{get_set, set_twice}
 use Rattle.shared_desk.specs.declared.side.Side.{Side}
 use Rattle.shared_desk.specs.declared.side.Side.TheVariants as sides
 use Rattle.shared_desk.specs.Grounds.{HubMade, Standing, standing}

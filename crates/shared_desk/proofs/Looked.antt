@@ -20,7 +20,7 @@ use Rattle.hub_fronts.specs.Stepping.{CatalogTurn, looked_by}
 use Rattle.hub_fronts.specs.Turns.{HasSeen, Leaves}
 use Rattle.hub_fronts.proofs.Seen.{made_nothing, made_one, sees_nothing}
 use Rattle.hub_catalog.specs.Turns.{IsCalled, TurnView}
-use Rattle.js_desk.specs.declared.turn.Turn.{Turn}
+use Rattle.desk_places.specs.declared.turn.Turn.{Turn}
 use Rattle.shared_desk.specs.declared.side.Side.{Side}
 use Rattle.shared_desk.specs.declared.side.Side.TheVariants as sides
 use Rattle.shared_desk.specs.Grounds.{HubMade, IsLookedBy, IsUnlooked, Standing, standing}

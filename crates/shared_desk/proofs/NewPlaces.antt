@@ -10,7 +10,7 @@ use Rattle.turn_lock.specs.Calls.{number_of}
 use Rattle.turn_lock.specs.Seats.{SeatView}
 use Rattle.turn_lock.specs.Views.{first_of}
 use Rattle.hub_place.specs.Kinds.{IsHubPlace, IsNewPlace, IsNewPort, PlaceIs, opening_of}
-use Rattle.js_desk.specs.Opening.{OpensOn}
+use Rattle.desk_places.specs.Opening.{OpensOn}
 use Rattle.shared_desk.specs.Laying.{IsSameSeat}
 use Rattle.shared_desk.specs.Opening.{ComesBack, WasOpened}
 

@@ -18,13 +18,13 @@ use Rattle.turn_lock.specs.Seats.{LockView}
 use Rattle.hub_catalog.specs.Kinds.{places_of}
 use Rattle.hub_fronts.specs.Fronts.{SharedScene}
 use Rattle.hub_place.specs.Holds.{SendsTo}
-use Rattle.js_desk.specs.Cataloging.{IsUncataloged}
-use Rattle.js_desk.specs.Grounds.{places_by}
-use Rattle.js_desk.specs.Opening.{FailsToOpen, OpensOn}
-use Rattle.js_desk.specs.declared.cataloging.Uncataloged.{Uncataloged}
-use Rattle.js_desk.specs.declared.cataloging.Uncataloged.TheVariants as stops
-use Rattle.js_desk.specs.declared.faults.HubFault.{HubFault}
-use Rattle.js_desk.specs.declared.faults.HubFault.TheVariants as faults_of
+use Rattle.desk_places.specs.Cataloging.{IsUncataloged}
+use Rattle.desk_places.specs.Places.{places_by}
+use Rattle.desk_places.specs.Opening.{FailsToOpen, OpensOn}
+use Rattle.desk_places.specs.declared.cataloging.Uncataloged.{Uncataloged}
+use Rattle.desk_places.specs.declared.cataloging.Uncataloged.TheVariants as stops
+use Rattle.desk_places.specs.declared.faults.HubFault.{HubFault}
+use Rattle.desk_places.specs.declared.faults.HubFault.TheVariants as faults_of
 use Rattle.shared_desk.specs.Faults.{fault_of}
 use Rattle.shared_desk.specs.declared.finding.Tally.{Tally}
 use Rattle.shared_desk.specs.Finding.{messages_at, messages_found, messages_of, streams_at, streams_found, streams_of}

@@ -25,8 +25,8 @@ use Rattle.turn_lock.specs.Ruled.{last_ticket}
 use Rattle.turn_lock.specs.Seats.{SeatView}
 use Rattle.hub_fronts.proofs.Seen.{made_one, sees_nothing}
 use Rattle.hub_router.proofs.Sessions.{KeepsSessions, same_own, opened_own}
-use Rattle.js_desk.specs.Faults.{desk_answer, desk_fault, sent}
-use Rattle.js_desk.proofs.Routed.{open_refused, sub_refused}
+use Rattle.desk_places.specs.Faults.{desk_answer, desk_fault, sent}
+use Rattle.desk_places.proofs.Refused.{open_refused, sub_refused}
 use Rattle.shared_desk.specs.Grounds.{HubMade, IsRoutedBy, IsUnrouted, Standing, setting_of}
 
 -- ---- a call that was made

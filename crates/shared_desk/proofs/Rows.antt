@@ -4,7 +4,7 @@ use Rattle.std.specs.Prelude.{slice_get, slice_set}
 use Rattle.std.proofs.lemmas.List.{length-map}
 use Rattle.std.proofs.lemmas.Option.{slice_get_read}
 use Rattle.turn_lock.specs.Seats.{SeatView}
-use Rattle.js_desk.proofs.Sets.{map_set, set_twice}
+use Rattle.desk_places.proofs.Sets.{map_set, set_twice}
 use Rattle.shared_desk.specs.Seats.{AreThere, seats_in}
 
 some_is : {X : Type 0} (x y : X) → Some x ≡ Some y → x ≡ y

@@ -8,7 +8,7 @@ use Rattle.histories.specs.Entries.{Entry, Opening}
 use Rattle.turn_lock.specs.Calls.{HasMet, IsJoined, worn}
 use Rattle.turn_lock.specs.Seats.{LockView, SeatView}
 use Rattle.hub_fronts.specs.Turns.{HasSeen, Leaves, TakesTurn}
-use Rattle.js_desk.proofs.Sets.{length_set, set_same}
+use Rattle.desk_places.proofs.Sets.{length_set, set_same}
 use Rattle.shared_desk.proofs.Rows.{row_at, row_long}
 use Rattle.shared_desk.specs.Seats.{AllThree, AreThere, IsSeatOf, IsSeated, seats_in}
 

@@ -1,8 +1,8 @@
 -- Why a hub is not opened if it has no catalog.
-use Rattle.js_desk.specs.declared.cataloging.Uncataloged.{Uncataloged}
-use Rattle.js_desk.specs.declared.cataloging.Uncataloged.TheVariants as stops
-use Rattle.js_desk.specs.declared.faults.HubFault.{HubFault}
-use Rattle.js_desk.specs.declared.faults.HubFault.TheVariants as faults
+use Rattle.desk_places.specs.declared.cataloging.Uncataloged.{Uncataloged}
+use Rattle.desk_places.specs.declared.cataloging.Uncataloged.TheVariants as stops
+use Rattle.desk_places.specs.declared.faults.HubFault.{HubFault}
+use Rattle.desk_places.specs.declared.faults.HubFault.TheVariants as faults
 use Rattle.std.specs.Global.{Vec}
 
 abbrev pub fault_of : {V : Type 0} → Uncataloged → Vec V → HubFault V

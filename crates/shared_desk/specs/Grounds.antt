@@ -15,8 +15,8 @@ use Rattle.hub_fronts.specs.Fronts.{SharedScene}
 use Rattle.hub_fronts.specs.Making.{SharedMade}
 use Rattle.hub_fronts.specs.Stepping.{CatalogTurn}
 use Rattle.hub_router.specs.Calls.{IsCalled, is_own}
-use Rattle.js_desk.specs.declared.turn.Turn.{Turn}
-use Rattle.js_desk.specs.Grounds.{phase_of}
+use Rattle.desk_places.specs.declared.turn.Turn.{Turn}
+use Rattle.desk_places.specs.Turns.{phase_of}
 use Rattle.shared_desk.specs.declared.side.Side.{Side}
 use Rattle.shared_desk.specs.Hubs.{HubView, IsHub}
 use Rattle.shared_desk.specs.Passes.{scene_by}

@@ -9,8 +9,8 @@ use Rattle.turn_lock.specs.Seats.{LockView, SeatView}
 use Rattle.hub_fronts.specs.Fronts.{SharedScene}
 use Rattle.hub_place.specs.Kinds.{PlaceIs}
 use Rattle.hub_router.specs.Kinds.{RouterIs}
-use Rattle.js_desk.specs.Closing.{AreClosed}
-use Rattle.js_desk.specs.declared.faults.Closed.{Closed}
+use Rattle.desk_places.specs.Closing.{AreClosed}
+use Rattle.desk_places.specs.declared.faults.Closed.{Closed}
 use Rattle.shared_desk.specs.Hubs.{HubView}
 use Rattle.shared_desk.specs.Passes.{port_numbers}
 use Rattle.shared_desk.specs.Seats.{AllThree, AreOfHub}

@@ -12,10 +12,10 @@ use Rattle.histories.specs.Entries.{OfPlace, OfRouter, OfCatalog}
 use Rattle.turn_lock.specs.Seats.{LockView, SeatView}
 use Rattle.hub_fronts.specs.Fronts.{SharedScene}
 use Rattle.hub_place.specs.Kinds.{PlaceIs, opening_of}
-use Rattle.js_desk.specs.Grounds.{places_by}
-use Rattle.js_desk.specs.Opening.{FailsToOpen, OpensOn}
-use Rattle.js_desk.specs.declared.faults.HubFault.{HubFault}
-use Rattle.js_desk.specs.declared.faults.HubFault.TheVariants.{Open, Conflict, NoMemory}
+use Rattle.desk_places.specs.Places.{places_by}
+use Rattle.desk_places.specs.Opening.{FailsToOpen, OpensOn}
+use Rattle.desk_places.specs.declared.faults.HubFault.{HubFault}
+use Rattle.desk_places.specs.declared.faults.HubFault.TheVariants.{Open, Conflict, NoMemory}
 use Rattle.shared_desk.specs.Hubs.{HubView}
 use Rattle.shared_desk.specs.Passes.{AreAllPasses, IsNewPass}
 

@@ -3,8 +3,8 @@ use Rattle.std.specs.Prelude.{◌≡◌, []}
 use Rattle.js_model.specs.Catalog.{Catalog}
 use Rattle.turn_lock.specs.Seats.{LockView, SeatView}
 use Rattle.hub_catalog.specs.Lists.{AreSingle, AreSingleBut}
-use Rattle.js_desk.specs.declared.turn.Turn.{Turn}
-use Rattle.js_desk.specs.declared.turn.Turn.TheVariants as turns
+use Rattle.desk_places.specs.declared.turn.Turn.{Turn}
+use Rattle.desk_places.specs.declared.turn.Turn.TheVariants as turns
 use Rattle.shared_desk.specs.Seats.{IsSeatOf, nowhere}
 use Rattle.shared_desk.specs.declared.side.Side.{Side}
 use Rattle.shared_desk.specs.declared.side.Side.TheVariants.{Outside, Inside, Away}

@@ -15,6 +15,7 @@ use crate::pass::Pass;
 use crate::row::{put_at, take_at};
 use crate::side::Side;
 use desk_ground::{Caller, Ground};
+use desk_places::{Turn, desk_answer, is_drop, is_dropped, last_of, place_or, sent};
 use hub_catalog::{Look, OpenCatalog, look_up};
 use hub_place::{PlaceKind, hold_at};
 use hub_router::{
@@ -23,7 +24,6 @@ use hub_router::{
 };
 use js_api::{DeskFault, Outcome};
 use js_base::{Blob, Moment, Name, Out};
-use js_desk::{Turn, desk_answer, is_drop, is_dropped, last_of, place_or, sent};
 use js_model::{CatalogFault, Collected, PlaceAt, What};
 use place_engine::Place;
 use std::alloc::Global;

@@ -1,5 +1,5 @@
 -- What holds of a place once an event was answered and its records wait.
-use Rattle.std.proofs.Common.{◌≡◌, ◌<◌, ◌^◌, ℕ, Bool, List, ◌++◌, Option, None, Result, Err, sym, ap, subst, ◌∙◌}
+use Rattle.std.proofs.Common.{◌≡◌, ◌<◌, ◌^◌, ℕ, Bool, List, Option, None, Result, Err, sym, ap, subst, ◌∙◌}
 use Rattle.std.specs.Prelude.{IfErr, IfOk, IsTrue}
 use Rattle.js_base.specs.declared.out.Out.{Out}
 use Rattle.js_model.specs.declared.event.Event.{Event}
@@ -10,8 +10,9 @@ use Rattle.js_model.specs.Proper.{is_proper}
 use Rattle.effects.specs.declared.effect.Effect.{Effect}
 use Rattle.vol_disk.specs.Disk.{Disk}
 use Rattle.stream_store.specs.StoreState.{StoreState}
-use Rattle.place_engine.specs.Answers.{LeftBy, PlaceAnswersIn}
-use Rattle.place_engine.specs.Recording.{TellsEventIn}
+use Rattle.place_engine.specs.Following.{followed}
+use Rattle.memory_place.specs.Answers.{LeftBy, PlaceAnswersIn}
+use Rattle.memory_place.specs.Recording.{TellsEventIn}
 use Rattle.place_engine.specs.declared.faults.Left.{Left}
 use Rattle.volume_place.specs.Rooms.{HasBlocks, IsCounted, MayStore, room_for, room_in, stored_by}
 use Rattle.volume_place.specs.Sound.{IsSoundPlace}
@@ -25,9 +26,9 @@ Holds told disk store waiting stored stopped state = IsSoundPlace told disk stor
 module _ (told : Type 0) (disk : Disk) (store : StoreState) (waiting : List Effect) (stored : ℕ) (stopped : Option ℕ) (going : stopped ≡ None) (state : State)
     (h : Holds told disk store waiting stored stopped state) (asked : StoreState) (same : asked ≡ store) (given : List Effect) (are : given ≡ waiting) where
   -- it was not told
-  pub untold : (made : List Effect) → given ++ made ≡ waiting → Holds told disk asked (given ++ made) stored stopped state
+  pub untold : (made : List Effect) → followed given made ≡ waiting → Holds told disk asked (followed given made) stored stopped state
   untold made none =
-      subst (λ (s : StoreState). Holds told disk s (given ++ made) stored stopped state) (sym same)
+      subst (λ (s : StoreState). Holds told disk s (followed given made) stored stopped state) (sym same)
       (subst (λ (l : List Effect). Holds told disk store l stored stopped state) (sym none) h)
 
   module _ (e : Event) (room : Bool) (told_room : room ≡ room_for store.blocks given e.what) where
@@ -40,12 +41,12 @@ module _ (told : Type 0) (disk : Disk) (store : StoreState) (waiting : List Effe
 
     pub answered_sound : (result : Result Reply Left) (new : State) (now : ℕ) (before after : List Out) (effects : List Effect) (count : ℕ) → e.incarnation ≡ kept_incarnation state → IsTrue (is_proper e)
         → now < 2 ^ 62 → IfOk result (λ reply. PlaceAnswersIn room state e.what now reply before after new) → IfErr result (λ left. LeftBy left state now before after new)
-        → TellsEventIn room result state e.what now effects → IsCounted stored (stored_by effects) count → Holds told disk asked (given ++ effects) count stopped new
+        → TellsEventIn room result state e.what now effects → IsCounted stored (stored_by effects) count → Holds told disk asked (followed given effects) count stopped new
     answered_sound result new now before after effects count kept proper moment answers leaves tells counted =
-        subst (λ (s : StoreState). Holds told disk s (given ++ effects) count stopped new) (sym same)
-        (subst (λ (l : List Effect). Holds told disk store (l ++ effects) count stopped new) (sym are) (
+        subst (λ (s : StoreState). Holds told disk s (followed given effects) count stopped new) (sym same)
+        (subst (λ (l : List Effect). Holds told disk store (followed l effects) count stopped new) (sym are) (
           grown_answer told disk store waiting stopped going state h.0 result new e now room before after effects kept proper moment answers leaves tells,
-          may_store store.blocks (waiting ++ effects) count stopped going
+          may_store store.blocks (followed waiting effects) count stopped going
               (grown_blocks store.blocks waiting effects stored count blocks (told_grows store.blocks waiting stored result state e.what now room effects for_waiting blocks tells) counted),
         ))
       where

@@ -36,7 +36,8 @@ use Rattle.effects.proofs.Leading.{law_events}
 use Rattle.effects.proofs.Unwritten.{law_no_records}
 use Rattle.restore_laws.proofs.Holding.{opened}
 use Rattle.place_engine.specs.Places.{ids_in}
-use Rattle.volume_place.specs.Tail.{is_moment, is_now}
+use Rattle.volume_place.specs.Tail.{is_moment}
+use Rattle.volume_place.proofs.Following.{now_in}
 use Rattle.volume_place.proofs.Growing.{many, step_of}
 
 -- ---- states of which the same outlives a crash
@@ -223,21 +224,6 @@ rests_only (Live s) new e now room kept proper moment is h b same =
     only_moment s e now room
     ((law_no_records many (Live t) new e now (answered (Live t) e now room).reply (answered (Live t) e now room).outs again (sound_at s (max s.moment now) h) (bounded_at s now moment b)).1
     (same_then s new (max s.moment now) at same))
-
-now_in : (effect : Effect) → is_now effect ≡ true → (moment : ℕ) × (effect ≡ effects.Now moment)
-now_in (effects.MakeStream incarnation made config) is = absurd (true≢false (sym is))
-now_in (effects.ChangeStream config) is = absurd (true≢false (sym is))
-now_in effects.DropStream is = absurd (true≢false (sym is))
-now_in (effects.PutHere seq at id subject headers payload) is = absurd (true≢false (sym is))
-now_in (effects.Skip seq at id) is = absurd (true≢false (sym is))
-now_in (effects.Remove low high) is = absurd (true≢false (sym is))
-now_in (effects.MakeConsumer name made config cursor picks) is = absurd (true≢false (sym is))
-now_in (effects.DropConsumer name) is = absurd (true≢false (sym is))
-now_in (effects.Deliver name seq count due dseq) is = absurd (true≢false (sym is))
-now_in (effects.Acked name low high) is = absurd (true≢false (sym is))
-now_in (effects.Due name seq due) is = absurd (true≢false (sym is))
-now_in (effects.GivenUp name moment) is = absurd (true≢false (sym is))
-now_in (effects.Now moment) is = (moment, refl)
 
 -- there is no other record, and there are no fewer ids: nothing but the moment changes
 told_only : (old new : State) (l : List Effect) → nat_lt (length (ids_in new)) (length (ids_in old)) ≡ false → Leads old l new → (l ≡ [] → lasting old ≡ lasting new) → is_moment l ≡ true

@@ -1,5 +1,5 @@
 -- What a delivery of a place on a volume comes to.
-use Rattle.std.proofs.Common.{◌≡◌, ◌⊎◌, inl, inr, ℕ, true, false, List, ◌++◌, length, take, Some, None, Result, Ok, Err, refl, sym, ap, subst, ◌∙◌, arith}
+use Rattle.std.proofs.Common.{◌≡◌, ◌⊎◌, inl, inr, ℕ, true, false, List, length, take, Some, None, Result, Ok, Err, refl, sym, ap, subst, ◌∙◌, arith}
 use Rattle.std.proofs.Math.Seq.{take-append_seam}
 use Rattle.std.proofs.lemmas.Bool.{true≢false}
 use Rattle.std.proofs.lemmas.List.{append-nil}
@@ -11,9 +11,10 @@ use Rattle.js_model.specs.Deliver.{IsDelivered}
 use Rattle.effects.specs.Effects.{delivery_effects}
 use Rattle.effects.specs.declared.effect.Effect.{Effect}
 use Rattle.vol_disk.specs.Disk.{Disk}
-use Rattle.place_engine.specs.Answers.{DeliversNone, DeliversSome, LeftBy}
+use Rattle.memory_place.specs.Answers.{DeliversNone, DeliversSome, LeftBy}
 use Rattle.place_engine.specs.Delivering.{Delivers, EndsDelivery, TellsDelivery, tick_at}
-use Rattle.place_engine.specs.Recording.{TellsLeft}
+use Rattle.place_engine.specs.Following.{followed}
+use Rattle.memory_place.specs.Recording.{TellsLeft}
 use Rattle.place_engine.specs.Stepping.{Elapses}
 use Rattle.place_engine.specs.declared.faults.Left.{Left}
 use Rattle.place_engine.specs.declared.faults.Left.TheVariants.{Nothing, Ticked, Unsaid}
@@ -38,12 +39,12 @@ module _ {V : Type 0} (told : Type 0) (disk : V → Disk) (faults : V → ℕ) (
 
   module _ (going : a.stopped ≡ None) where
     starved : (left : Left) (state : State) (waiting effects : List Effect) (stored : ℕ) (now : ℕ) (listening : List Bytes) (before after : List Out) → LeftBy left a.state now before after state
-        → TellsLeft left a.state now effects → waiting ≡ a.waiting ++ effects → stored ≡ a.stored
+        → TellsLeft left a.state now effects → waiting ≡ followed a.waiting effects → stored ≡ a.stored
         → EndsDelivery (Err (NoMemory left)) now listening (seen_of told disk faults a) (seen_of told disk faults (record a { state = state; waiting = waiting; stored = stored })) before after
     starved Nothing state waiting effects stored now listening before after leaves tells waits counts =
-        undone told disk faults a going state waiting stored before after leaves.0 (waits ∙ ap (λ (l : List Effect). a.waiting ++ l) tells ∙ append-nil a.waiting) counts leaves.1
+        undone told disk faults a going state waiting stored before after leaves.0 (waits ∙ ap (followed a.waiting) tells ∙ append-nil a.waiting) counts leaves.1
     starved Ticked state waiting effects stored now listening before after leaves tells waits counts =
-        passes told disk faults a going state waiting stored (tick_at a.state) now before after refl leaves (waits ∙ ap (λ (l : List Effect). a.waiting ++ l) tells)
+        passes told disk faults a going state waiting stored (tick_at a.state) now before after refl leaves (waits ∙ ap (followed a.waiting) tells)
     starved (Unsaid refused) state waiting effects stored now listening before after leaves tells waits counts = absurd leaves
 
     pub delivery_starves : (left : Left) (m : Contents V) (now : ℕ) (listening : List Bytes) (before after : List Out) → KeepsStore a m → LeftBy left a.state now before after m.state
@@ -70,7 +71,7 @@ module _ {V : Type 0} (told : Type 0) (disk : V → Disk) (faults : V → ℕ) (
               stored = records.counted;
               stopped = refl;
               base = λ b on. on;
-              waiting = records.waiting ∙ ap (λ (l : List Effect). a.waiting ++ l) records.told ∙ append-nil a.waiting;
+              waiting = records.waiting ∙ ap (followed a.waiting) records.told ∙ append-nil a.waiting;
               outs = none.outs_same;
             };
             volume = refl;
@@ -81,7 +82,7 @@ module _ {V : Type 0} (told : Type 0) (disk : V → Disk) (faults : V → ℕ) (
 
     -- some delivery is made in memory, and waits
     module _ (state : State) (waiting : List Effect) (stored : ℕ) (counted : stored ≡ a.stored) (delivery : Delivery) (now : ℕ) (listening : List Bytes) (before middle : List Out)
-        (delivers : DeliversSome a.state now listening delivery before middle state) (waits : waiting ≡ a.waiting ++ delivery_effects a.state now delivery state) where
+        (delivers : DeliversSome a.state now listening delivery before middle state) (waits : waiting ≡ followed a.waiting (delivery_effects a.state now delivery state)) where
       abbrev Made : Contents V
       Made = record a { state = state; waiting = waiting; stored = stored }
 
@@ -92,8 +93,8 @@ module _ {V : Type 0} (told : Type 0) (disk : V → Disk) (faults : V → ℕ) (
       delivered_as : (new : State) → new ≡ state → IsDelivered a.state now listening delivery delivers.sent new
       delivered_as new same = subst (λ (s : State). IsDelivered a.state now listening delivery delivers.sent s) (sym same) delivers.delivered
 
-      waits_as : (new : State) → new ≡ state → waiting ≡ a.waiting ++ delivery_effects a.state now delivery new
-      waits_as new same = subst (λ (s : State). waiting ≡ a.waiting ++ delivery_effects a.state now delivery s) (sym same) waits
+      waits_as : (new : State) → new ≡ state → waiting ≡ followed a.waiting (delivery_effects a.state now delivery new)
+      waits_as new same = subst (λ (s : State). waiting ≡ followed a.waiting (delivery_effects a.state now delivery s)) (sym same) waits
 
       -- it is told, and committed or held back
       tells : (n : Contents V) (after : List Out) → after ≡ middle → GoesOn (Some false) (seen_of told disk faults Made) (seen_of told disk faults n)
@@ -119,7 +120,7 @@ module _ {V : Type 0} (told : Type 0) (disk : V → Disk) (faults : V → ℕ) (
       shares : (n : Contents V) → GoesOn (Some false) (seen_of told disk faults Made) (seen_of told disk faults n) → SharesDelivery delivery now (seen_of told disk faults a) (seen_of told disk faults n)
       shares n (inl all) = inl (record { cause = because all.cause; flushed = all.all.flushed })
         where
-          because : (false ≡ true) ⊎ (is_small waiting ≡ false) → ⊥ ⊎ (is_small (a.waiting ++ delivery_effects a.state now delivery n.state) ≡ false)
+          because : (false ≡ true) ⊎ (is_small waiting ≡ false) → ⊥ ⊎ (is_small (followed a.waiting (delivery_effects a.state now delivery n.state)) ≡ false)
           because (inl never) = absurd (true≢false (sym never))
           because (inr big) = inr (ap is_small (sym (waits_as n.state all.all.keeps.state)) ∙ big)
       shares n (inr held) = inr (record {
@@ -201,7 +202,7 @@ module _ {V : Type 0} (told : Type 0) (disk : V → Disk) (faults : V → ℕ) (
     delivers_made m n delivery now listening before middle after count result rests delivers records counts confirms time =
         let so_many = subst (λ (k : ℕ). Confirms (Some false) false k result (seen_of told disk faults m) (seen_of told disk faults n) middle after) counts confirms in
         let from = subst (λ (p : Contents V). Confirms (Some false) false (length before) result (seen_of told disk faults p) (seen_of told disk faults n) middle after) rests so_many in
-        let waits = records.waiting ∙ ap (λ (l : List Effect). a.waiting ++ l) records.told in
+        let waits = records.waiting ∙ ap (followed a.waiting) records.told in
         delivers_as m.state m.waiting m.stored records.counted delivery now listening before middle delivers waits result n after from
         (subst (λ (p : Contents V). Elapses holds (seen_of told disk faults p) (seen_of told disk faults n)) rests time)
 
@@ -210,6 +211,6 @@ module _ {V : Type 0} (told : Type 0) (disk : V → Disk) (faults : V → ℕ) (
         → Confirms (Some false) false count (Ok tt) (seen_of told disk faults m) (seen_of told disk faults n) middle after
         → SharesDelivery delivery now (seen_of told disk faults a) (seen_of told disk faults n)
     delivery_shares m n delivery now listening before middle after count rests delivers records confirms =
-        let waits = records.waiting ∙ ap (λ (l : List Effect). a.waiting ++ l) records.told in
+        let waits = records.waiting ∙ ap (followed a.waiting) records.told in
         shares m.state m.waiting m.stored records.counted delivery now listening before middle delivers waits n
         (subst (λ (p : Contents V). GoesOn (Some false) (seen_of told disk faults p) (seen_of told disk faults n)) rests confirms.0)

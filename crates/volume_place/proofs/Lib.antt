@@ -1,6 +1,8 @@
 mod Bases
 mod Kept
 mod Moved
+mod Following
+mod Apart
 mod Growing
 mod Changing
 mod Measuring

@@ -1,8 +1,8 @@
 -- How long the records that wait are, each of which is measured once.
-use Rattle.std.proofs.Common.{◌≡◌, ◌≢◌, ℕ, ◌+◌, ◌≤◌, ◌<◌, ◌^◌, Bool, true, false, ◌&&◌, List, [], ◌∷◌, ◌++◌, length, map, get_or, take, drop, refl, sym, ap, subst, ◌∙◌, arith}
-use Rattle.std.specs.Prelude.{IsTrue, nat_lt}
+use Rattle.std.proofs.Common.{◌≡◌, ◌≢◌, inl, inr, ℕ, ◌+◌, ◌≤◌, ◌<◌, ◌^◌, Bool, true, false, ◌&&◌, List, [], ◌∷◌, ◌++◌, length, map, get_or, take, drop, refl, sym, ap, subst, ◌∙◌, arith, append_assoc}
+use Rattle.std.specs.Prelude.{IsTrue, nat_le, nat_lt}
 use Rattle.std.specs.List.{flat_map, list_all}
-use Rattle.std.proofs.lemmas.Bool.{and_parts, le-ltb, lt-ltb}
+use Rattle.std.proofs.lemmas.Bool.{and_parts, le-ltb, leb-false, leb-true, lt-ltb, true≢false}
 use Rattle.std.proofs.lemmas.List.{length-append, map-append, take-append-drop, take-append-le, take_all, take_more}
 use Rattle.std.proofs.lemmas.List.Concat.{flat_map-append}
 use Rattle.std.proofs.lemmas.List.Folds.{list_all-append}
@@ -12,11 +12,13 @@ use Rattle.effects.specs.declared.effect.Effect.TheVariants.{MakeStream, ChangeS
 use Rattle.op_records.specs.Allowed.{is_record}
 use Rattle.op_records.specs.Spelling.{long, spelled, spelled_record, spelled_spot, text}
 use Rattle.op_records.specs.declared.record.Record.{Record}
+use Rattle.place_engine.specs.Following.{begins_with_moment, followed, left_before}
 use Rattle.stream_store.proofs.Records.{record_there}
 use Rattle.stream_store.specs.Committing.{batch_length, no_spot, recorded_at}
 use Rattle.volume_place.specs.Measured.{AddUp, HaveLengths, IsLong, IsMeasured}
 use Rattle.volume_place.specs.Tail.{is_small}
 use Rattle.volume_place.specs.declared.lengths.Lengths.{Lengths}
+use Rattle.volume_place.proofs.Following.{Leaves, leaves, now_in}
 
 -- ---- one behind the other
 
@@ -55,6 +57,58 @@ measured_more records more measured lengths h = record {
       omega (arith, within, both);
   first = subst (λ (l : List Effect). HaveLengths l lengths) (sym (take-append-le measured records more h.within)) h.first;
 }
+
+-- each moment is as long as another one
+moment_lengths : (first second : ℕ) (lengths : Lengths) → HaveLengths (Now first ∷ []) lengths → HaveLengths (Now second ∷ []) lengths
+unfolding spelled spelled_record
+moment_lengths first second lengths h = record { waiting = h.waiting; logged = h.logged }
+
+last_lengths : (front : List Effect) (first second : ℕ) (lengths : Lengths) → HaveLengths (front ++ Now first ∷ []) lengths → HaveLengths (front ++ Now second ∷ []) lengths
+last_lengths front first second lengths h =
+    let one : HaveLengths (Now first ∷ []) (record { waiting = length (flat_map spelled (Now first ∷ [])); logged = batch_length (Now first ∷ []) }) = record { waiting = refl; logged = refl } in
+    let other = moment_lengths first second (record { waiting = length (flat_map spelled (Now first ∷ [])); logged = batch_length (Now first ∷ []) }) one in
+    record {
+      waiting = omega (arith, h.waiting, other.waiting, waiting_both front (Now first ∷ []), waiting_both front (Now second ∷ []));
+      logged = omega (arith, h.logged, other.logged, logged_both front (Now first ∷ []), logged_both front (Now second ∷ []));
+    }
+
+-- so it may stand for it
+measured_last : (front : List Effect) (first second measured : ℕ) (lengths : Lengths) → IsMeasured (front ++ Now first ∷ []) measured lengths → IsMeasured (front ++ Now second ∷ []) measured lengths
+measured_last front first second measured lengths h = record { within = within; first = go (nat_le measured (length front)) refl }
+  where
+    within : measured ≤ length (front ++ Now second ∷ [])
+    within =
+        let so_many : measured ≤ length (front ++ Now first ∷ []) = h.within in
+        omega (arith, so_many, length-append front (Now first ∷ []), length-append front (Now second ∷ []))
+
+    go : (b : Bool) → nat_le measured (length front) ≡ b → HaveLengths (take measured (front ++ Now second ∷ [])) lengths
+    go true e =
+        let few : measured ≤ length front = leb-true measured (length front) e in
+        subst (λ (l : List Effect). HaveLengths l lengths) (take-append-le measured front (Now first ∷ []) few ∙ sym (take-append-le measured front (Now second ∷ []) few)) h.first
+    go false e =
+        let many : length front < measured = leb-false measured (length front) e in
+        let all : take measured (front ++ Now first ∷ []) ≡ front ++ Now first ∷ [] =
+        take_all measured (front ++ Now first ∷ []) (omega (arith, many, length-append front (Now first ∷ []))) in
+        let all_then : take measured (front ++ Now second ∷ []) ≡ front ++ Now second ∷ [] =
+        take_all measured (front ++ Now second ∷ []) (omega (arith, many, length-append front (Now second ∷ []))) in
+        subst (λ (l : List Effect). HaveLengths l lengths) (sym all_then)
+        (last_lengths front first second lengths (subst (λ (l : List Effect). HaveLengths l lengths) all h.first))
+
+-- a moment that gives way to another one changes nothing
+pub measured_followed : (tail more : List Effect) (measured : ℕ) (lengths : Lengths) → IsMeasured tail measured lengths → IsMeasured (followed tail more) measured lengths
+measured_followed tail more measured lengths h = go (leaves more tail)
+  where
+    begins : (front more : List Effect) (first : ℕ) → begins_with_moment more ≡ true → IsMeasured (front ++ Now first ∷ []) measured lengths → IsMeasured (front ++ more) measured lengths
+    begins front [] first is m = absurd (true≢false (sym is))
+    begins front (effect ∷ rest) first is m =
+        let now = now_in effect is in
+        subst (λ (e : Effect). IsMeasured (front ++ e ∷ rest) measured lengths) (sym now.1)
+        (subst (λ (l : List Effect). IsMeasured l measured lengths) (append_assoc front (Now now.0 ∷ []) rest)
+        (measured_more (front ++ Now now.0 ∷ []) rest measured lengths (measured_last front first now.0 measured lengths m)))
+
+    go : Leaves more tail → IsMeasured (left_before more tail ++ more) measured lengths
+    go (inl same) = subst (λ (l : List Effect). IsMeasured (l ++ more) measured lengths) (sym same) (measured_more tail more measured lengths h)
+    go (inr ends) = begins (left_before more tail) more ends.0 ends.2 (subst (λ (l : List Effect). IsMeasured l measured lengths) ends.1 h)
 
 pub measured_sum : (records : List Effect) (measured : ℕ) (lengths more sum : Lengths) → IsMeasured records measured lengths → HaveLengths (drop measured records) more
     → AddUp lengths more sum → HaveLengths records sum

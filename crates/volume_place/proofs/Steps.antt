@@ -18,8 +18,9 @@ use Rattle.model_laws.specs.Sound.{IsSound}
 use Rattle.effects.specs.Effects.{event_effects}
 use Rattle.effects.specs.declared.effect.Effect.{Effect}
 use Rattle.vol_disk.specs.Disk.{Disk}
-use Rattle.place_engine.specs.Answers.{LeftBy}
-use Rattle.place_engine.specs.Recording.{TellsLeft}
+use Rattle.place_engine.specs.Following.{followed}
+use Rattle.memory_place.specs.Answers.{LeftBy}
+use Rattle.memory_place.specs.Recording.{TellsLeft}
 use Rattle.place_engine.specs.Stepping.{Elapses, Ends, IsUndone, Passes, Rests, Steps, Tells}
 use Rattle.place_engine.specs.declared.faults.Left.{Left}
 use Rattle.place_engine.specs.declared.faults.Left.TheVariants.{Nothing, Ticked, Unsaid}
@@ -90,7 +91,7 @@ module _ {V : Type 0} (told : Type 0) (disk : V → Disk) (faults : V → ℕ) w
     tick_room (Some count) = refl
 
     pub passes : (state : State) (waiting : List Effect) (stored : ℕ) (e : Event) (now : ℕ) (before after : List Out) → e.incarnation ≡ kept_incarnation a.state
-        → LeftBy Ticked a.state now before after state → waiting ≡ a.waiting ++ event_effects a.state Tick now true
+        → LeftBy Ticked a.state now before after state → waiting ≡ followed a.waiting (event_effects a.state Tick now true)
         → Passes e now (seen_of told disk faults a) (seen_of told disk faults (record a { state = state; waiting = waiting; stored = stored })) before after
     passes state waiting stored e now before after kept ticks waits =
         let given = ticks e.incarnation in
@@ -100,16 +101,16 @@ module _ {V : Type 0} (told : Type 0) (disk : V → Disk) (faults : V → ℕ) w
           does = record { going = going; kept = kept; state = given.state_is ∙ ap (λ (r : Bool). (answered a.state tick now r).state) room };
           goes = going;
           outs = given.outs_are ∙ ap (λ (r : Bool). before ++ (answered a.state tick now r).outs) room;
-          may = inr (record { base = λ b on. on; waiting = waits ∙ ap (λ (r : Bool). a.waiting ++ event_effects a.state Tick now r) room });
+          may = inr (record { base = λ b on. on; waiting = waits ∙ ap (λ (r : Bool). followed a.waiting (event_effects a.state Tick now r)) room });
         }
 
     starved : (left : Left) (state : State) (waiting effects : List Effect) (stored : ℕ) (e : Event) (now : ℕ) (before after : List Out) → e.incarnation ≡ kept_incarnation a.state
-        → LeftBy left a.state now before after state → TellsLeft left a.state now effects → waiting ≡ a.waiting ++ effects → stored ≡ a.stored
+        → LeftBy left a.state now before after state → TellsLeft left a.state now effects → waiting ≡ followed a.waiting effects → stored ≡ a.stored
         → Ends (Err (NoMemory left)) e now (seen_of told disk faults a) (seen_of told disk faults (record a { state = state; waiting = waiting; stored = stored })) before after
     starved Nothing state waiting effects stored e now before after kept leaves tells waits counts =
-        undone state waiting stored before after leaves.0 (waits ∙ ap (λ (l : List Effect). a.waiting ++ l) tells ∙ append-nil a.waiting) counts leaves.1
+        undone state waiting stored before after leaves.0 (waits ∙ ap (followed a.waiting) tells ∙ append-nil a.waiting) counts leaves.1
     starved Ticked state waiting effects stored e now before after kept leaves tells waits counts =
-        passes state waiting stored e now before after kept leaves (waits ∙ ap (λ (l : List Effect). a.waiting ++ l) tells)
+        passes state waiting stored e now before after kept leaves (waits ∙ ap (followed a.waiting) tells)
     starved (Unsaid refused) state waiting effects stored e now before after kept leaves tells waits counts = absurd leaves
 
     pub starves : (left : Left) (m : Contents V) (e : Event) (now : ℕ) (before after : List Out) → e.incarnation ≡ kept_incarnation a.state → KeepsStore a m
@@ -128,7 +129,7 @@ module _ {V : Type 0} (told : Type 0) (disk : V → Disk) (faults : V → ℕ) w
 
     -- it is made in memory, and waits
     module _ (state : State) (waiting : List Effect) (stored : ℕ) (e : Event) (now : ℕ) (reply : Reply) (before middle : List Out) (kept : e.incarnation ≡ kept_incarnation a.state)
-        (answers : Answers e.what now reply before middle a (record a { state = state; waiting = waiting; stored = stored })) (waits : waiting ≡ a.waiting ++ event_effects a.state e.what now (has_block_for a e.what)) where
+        (answers : Answers e.what now reply before middle a (record a { state = state; waiting = waiting; stored = stored })) (waits : waiting ≡ followed a.waiting (event_effects a.state e.what now (has_block_for a e.what))) where
       abbrev Made : Contents V
       Made = record a { state = state; waiting = waiting; stored = stored }
 
@@ -183,7 +184,7 @@ module _ {V : Type 0} (told : Type 0) (disk : V → Disk) (faults : V → ℕ) w
       shares None decides n on = absurd on
       shares (Some f) decides n (inl all) = inl (record { cause = because all.cause; flushed = all.all.flushed })
         where
-          because : (f ≡ true) ⊎ (is_small waiting ≡ false) → IsFirmStep a.state e.what reply n.state ⊎ (is_small (a.waiting ++ event_effects a.state e.what now Room) ≡ false)
+          because : (f ≡ true) ⊎ (is_small waiting ≡ false) → IsFirmStep a.state e.what reply n.state ⊎ (is_small (followed a.waiting (event_effects a.state e.what now Room)) ≡ false)
           because (inl is) = inl (subst (λ (s : State). IsFirmStep a.state e.what reply s) (sym all.all.keeps.state) (decides.0 is))
           because (inr big) = inr (ap is_small (sym waits) ∙ big)
       shares (Some f) decides n (inr held) = inr (record {
@@ -266,8 +267,8 @@ module _ {V : Type 0} (told : Type 0) (disk : V → Disk) (faults : V → ℕ) w
             }
 
     -- what waits then, and how many messages count
-    waits_by : (m : Contents V) (e : Event) (now : ℕ) (reply : Reply) → RecordsEvent (Ok reply) e.what now a m → m.waiting ≡ a.waiting ++ event_effects a.state e.what now (has_block_for a e.what)
-    waits_by m e now reply records = records.waiting ∙ ap (λ (l : List Effect). a.waiting ++ l) records.told
+    waits_by : (m : Contents V) (e : Event) (now : ℕ) (reply : Reply) → RecordsEvent (Ok reply) e.what now a m → m.waiting ≡ followed a.waiting (event_effects a.state e.what now (has_block_for a e.what))
+    waits_by m e now reply records = records.waiting ∙ ap (followed a.waiting) records.told
 
     most_by : (m : Contents V) (e : Event) (now : ℕ) (reply : Reply) → RecordsEvent (Ok reply) e.what now a m → m.stored ≤ a.stored + stored_by (event_effects a.state e.what now (has_block_for a e.what))
     most_by m e now reply records = subst (λ (l : List Effect). m.stored ≤ a.stored + stored_by l) records.told records.counted.most

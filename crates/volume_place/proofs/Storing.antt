@@ -1,6 +1,6 @@
 -- What waits keeps its places in blocks as events and deliveries are made, and a message that is stored counts.
 use Rattle.std.proofs.Common.{◌≡◌, ◌≢◌, ◌≤◌, ◌<◌, ◌⊎◌, inl, inr, ℕ, ◌+◌, ◌-◌, ◌^◌, ◌==◌, ◌||◌, min, Bool, true, false, cond, not, List, [], ◌∷◌, ◌++◌, length, map, Option, None, Some, Result, Ok, Err, refl, sym, ap, subst, ◌∙◌, arith, append_assoc}
-use Rattle.std.specs.Prelude.{filter}
+use Rattle.std.specs.Prelude.{filter, is_some}
 use Rattle.std.specs.Option.{option_to_list}
 use Rattle.std.proofs.lemmas.Bool.{and_parts, eqb-true, lt-ltb, ltb-true, true≢false}
 use Rattle.std.proofs.lemmas.List.{append-nil}
@@ -33,18 +33,20 @@ use Rattle.op_records.specs.Allowed.{is_put}
 use Rattle.op_records.specs.Blocks.{spelled_message}
 use Rattle.op_records.proofs.BlockSizes.{spelled_len}
 use Rattle.block_table.specs.Blocks.{Blocks}
-use Rattle.block_writing.specs.Planning.{message_by}
+use Rattle.block_writing.specs.Planning.{Planned, begun, message_by, planned, then_planned}
 use Rattle.stream_store.specs.Laws.{keeps_placing}
 use Rattle.stream_store.specs.Placing.{can_place, has_room, used_behind}
 use Rattle.stream_store.proofs.Counting.{law_counting}
 use Rattle.stream_store.proofs.Rooms.{law_placing}
-use Rattle.place_engine.specs.Recording.{TellsEventIn, TellsLeft, TellsSent}
+use Rattle.place_engine.specs.Following.{followed, left_before}
+use Rattle.memory_place.specs.Recording.{TellsEventIn, TellsLeft, TellsSent}
 use Rattle.place_engine.specs.declared.faults.Left.{Left}
 use Rattle.place_engine.specs.declared.faults.Left.TheVariants.{Nothing, Ticked, Unsaid}
 use Rattle.place_records.specs.declared.made.Made.{Made}
 use Rattle.place_records.specs.declared.made.TimeRecords.{TimeRecords}
 use Rattle.place_records.specs.Records.{effects_in, gives_up, own_in, seen_in, time_in}
 use Rattle.volume_place.specs.Rooms.{HasBlocks, IsCounted, MayStore, block_length, room_for, room_in, stored_by}
+use Rattle.volume_place.proofs.Following.{Leaves, leaves}
 use Rattle.volume_place.proofs.Plain.{Plain, Still, Stores, plain_both, plain_delivery, plain_of, plain_or_stores, plain_settle, plain_tick, plain_time, put_of, still_ranges, still_time, storing}
 
 -- ---- how many messages records store
@@ -76,7 +78,7 @@ one_stored a p now s =
 
 -- ---- places
 
--- the records behind those that wait have their places, and use so many files more
+-- the records behind others have their places, and use so many files more
 pub record Grows (b : Blocks) (waiting effects : List Effect) : Type 0 where
   pub placed : can_place b (waiting ++ effects) ≡ true
   pub used : used_behind b (waiting ++ effects) ≤ used_behind b waiting + stored_by effects
@@ -103,6 +105,42 @@ module _ (b : Blocks) where
   plain_grows es xs plain can =
       let h = plain_places es xs plain can in
       record { placed = h.0; used = omega (arith, h.1) }
+
+  -- there was a place for what was planned so far
+  there : (xs : List Effect) (o : Option Planned) → is_some (planned b xs o) ≡ true → is_some o ≡ true
+  there [] o h = h
+  there (x ∷ xs) o h = go o (there xs (then_planned b o x) h)
+    where
+      go : (p : Option Planned) → is_some (then_planned b p x) ≡ true → is_some p ≡ true
+      go None k = k
+      go (Some made) k = refl
+
+  planned_before : (xs ys : List Effect) (o : Option Planned) → is_some (planned b (xs ++ ys) o) ≡ true → is_some (planned b xs o) ≡ true
+  planned_before [] ys o h = there ys o h
+  planned_before (x ∷ xs) ys o h = planned_before xs ys (then_planned b o x) h
+
+  module _ (tail more : List Effect) where
+    -- a moment that gives way had no place
+    can_left : can_place b tail ≡ true → can_place b (left_before more tail) ≡ true
+    can_left can = go (leaves more tail)
+      where
+        go : Leaves more tail → can_place b (left_before more tail) ≡ true
+        go (inl same) = ap (can_place b) same ∙ can
+        go (inr ends) = planned_before (left_before more tail) (effects.Now ends.0 ∷ []) (Some (begun b)) (ap (can_place b) (sym ends.1) ∙ can)
+
+    used_left : used_behind b (left_before more tail) ≡ used_behind b tail
+    used_left = go (leaves more tail)
+      where
+        go : Leaves more tail → used_behind b (left_before more tail) ≡ used_behind b tail
+        go (inl same) = ap (used_behind b) same
+        go (inr ends) = sym (ap (used_behind b) ends.1 ∙ law_counting.change b (left_before more tail) (effects.Now ends.0) refl)
+
+    room_left : (len : ℕ) → has_room b (left_before more tail) len ≡ has_room b tail len
+    room_left len = go (leaves more tail)
+      where
+        go : Leaves more tail → has_room b (left_before more tail) len ≡ has_room b tail len
+        go (inl same) = ap (λ (l : List Effect). has_room b l len) same
+        go (inr ends) = sym (ap (λ (l : List Effect). has_room b l len) ends.1 ∙ law_placing.keeps b (left_before more tail) (effects.Now ends.0) len refl)
 
   -- records that do not change where the next message goes
   still_room : (es xs : List Effect) (len : ℕ) → Still xs → has_room b (es ++ xs) len ≡ has_room b es len
@@ -157,13 +195,14 @@ uncounted stored es plain = let none = none_stored es plain in record { none = �
 few_before : (old made new : ℕ) → is_few new ≡ true → old + made ≤ new → is_few old ≡ true
 few_before old made new few le = let below : new < 65533 = ltb-true new 65533 few in lt-ltb old 65533 (omega (arith, below, le))
 
-pub grown_blocks : (b : Blocks) (es effects : List Effect) (stored count : ℕ) → HasBlocks b es stored → Grows b es effects → IsCounted stored (stored_by effects) count → HasBlocks b (es ++ effects) count
+pub grown_blocks : (b : Blocks) (es effects : List Effect) (stored count : ℕ) → HasBlocks b es stored → Grows b (left_before effects es) effects → IsCounted stored (stored_by effects) count
+    → HasBlocks b (followed es effects) count
 grown_blocks b es effects stored count h grows counted = record {
   placed = grows.placed;
   few = λ is.
       let all = counted.all is in
       let before = h.few (few_before stored (stored_by effects) count is all) in
-      omega (arith, all, before, grows.used);
+      omega (arith, all, before, grows.used, used_left b es effects);
 }
 
 -- a call that finds no memory stores nothing
@@ -228,20 +267,41 @@ module _ (b : Blocks) (waiting : List Effect) (stored : ℕ) where
 
   -- ---- what was made
 
+  room_for_left : (more : List Effect) (what : What) → room_for b (left_before more waiting) what ≡ room_for b waiting what
+  room_for_left more (whats.Publish p) = room_left b waiting more (block_length p)
+  room_for_left more (whats.Make reply config) = refl
+  room_for_left more (whats.Change reply config) = refl
+  room_for_left more (whats.Drop reply) = refl
+  room_for_left more (whats.Purge reply pattern below keep) = refl
+  room_for_left more (whats.Delete reply n) = refl
+  room_for_left more (whats.MakeConsumer reply name config update) = refl
+  room_for_left more (whats.DropConsumer reply name) = refl
+  room_for_left more (whats.Ack reply ack) = refl
+  room_for_left more (whats.Pull reply name ask) = refl
+  room_for_left more whats.Tick = refl
+  room_for_left more (whats.StreamInfo reply) = refl
+  room_for_left more (whats.MessageGet reply by) = refl
+  room_for_left more (whats.ConsumerInfo reply name) = refl
+  room_for_left more (whats.ConsumerNames reply offset) = refl
+  room_for_left more (whats.ConsumerList reply offset) = refl
+
   pub told_grows : (result : Result Reply Left) (old : State) (what : What) (now : ℕ) (room : Bool) (es : List Effect) → room ≡ room_for b waiting what → HasBlocks b waiting stored
-      → TellsEventIn room result old what now es → Grows b waiting es
-  told_grows (Ok reply) old what now room es is h tells = subst (Grows b waiting) (sym tells) (event_grows b waiting old what now room is h.placed)
-  told_grows (Err left) old what now room es is h tells = plain_grows b waiting es (left_plain left old now es tells) h.placed
+      → TellsEventIn room result old what now es → Grows b (left_before es waiting) es
+  told_grows (Ok reply) old what now room es is h tells =
+      let made = event_effects old what now room in
+      subst (λ (l : List Effect). Grows b (left_before l waiting) l) (sym tells)
+      (event_grows b (left_before made waiting) old what now room (is ∙ sym (room_for_left made what)) (can_left b waiting made h.placed))
+  told_grows (Err left) old what now room es is h tells = plain_grows b (left_before es waiting) es (left_plain left old now es tells) (can_left b waiting es h.placed)
 
   pub sent_plain : (result : Result (Option Delivery) Left) (old : State) (now : ℕ) (new : State) (es : List Effect) → TellsSent result old now new es → Plain es
   sent_plain (Ok (Some d)) old now new es tells = subst Plain (sym tells) (plain_delivery old now d new)
   sent_plain (Ok None) old now new es tells = subst Plain (sym tells) refl
   sent_plain (Err left) old now new es tells = left_plain left old now es tells
 
-  pub sent_blocks : (result : Result (Option Delivery) Left) (old : State) (now : ℕ) (new : State) (es : List Effect) → HasBlocks b waiting stored → TellsSent result old now new es → HasBlocks b (waiting ++ es) stored
+  pub sent_blocks : (result : Result (Option Delivery) Left) (old : State) (now : ℕ) (new : State) (es : List Effect) → HasBlocks b waiting stored → TellsSent result old now new es → HasBlocks b (followed waiting es) stored
   sent_blocks result old now new es h tells =
       let plain = sent_plain result old now new es tells in
-      grown_blocks b waiting es stored stored h (plain_grows b waiting es plain h.placed) (uncounted stored es plain)
+      grown_blocks b waiting es stored stored h (plain_grows b (left_before es waiting) es plain (can_left b waiting es h.placed)) (uncounted stored es plain)
 
 -- ---- the messages that a state has, and the one before has not
 

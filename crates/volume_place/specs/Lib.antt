@@ -6,6 +6,7 @@ pub mod Rooms
 pub mod Seeing
 pub mod Sound
 pub mod Tail
+pub mod Moments
 pub mod Measured
 pub mod Bringing
 pub mod Making

@@ -1,12 +1,13 @@
 -- What an event or a delivery makes of a place before any of it is brought to the volume.
-use Rattle.std.specs.Prelude.{◌≡◌, ℕ, Bool, List, ◌++◌, Option, Result}
+use Rattle.std.specs.Prelude.{◌≡◌, ℕ, Bool, List, Option, Result}
 use Rattle.js_base.specs.declared.out.Out.{Out}
 use Rattle.js_model.specs.declared.entry.Delivery.{Delivery}
 use Rattle.js_model.specs.declared.event.What.{What}
 use Rattle.js_model.specs.declared.reply.Reply.{Reply}
 use Rattle.effects.specs.declared.effect.Effect.{Effect}
-use Rattle.place_engine.specs.Answers.{PlaceAnswersIn}
-use Rattle.place_engine.specs.Recording.{TellsEventIn, TellsSent}
+use Rattle.place_engine.specs.Following.{followed}
+use Rattle.memory_place.specs.Answers.{PlaceAnswersIn}
+use Rattle.memory_place.specs.Recording.{TellsEventIn, TellsSent}
 use Rattle.place_engine.specs.declared.faults.Left.{Left}
 use Rattle.volume_place.specs.Contents.{Contents}
 use Rattle.volume_place.specs.Rooms.{IsCounted, room_in, stored_by}
@@ -27,12 +28,12 @@ Answers what now reply outs_old outs_new old new = PlaceAnswersIn (has_block_for
 pub record RecordsEvent {V : Type 0} (result : Result Reply Left) (what : What) (now : ℕ) (old new : Contents V) : Type 0 where
   pub effects : List Effect
   pub told : TellsEventIn (has_block_for old what) result old.state what now effects
-  pub waiting : new.waiting ≡ old.waiting ++ effects
+  pub waiting : new.waiting ≡ followed old.waiting effects
   pub counted : IsCounted old.stored (stored_by effects) new.stored
 
 -- and so do those of a delivery, which stores none
 pub record RecordsDelivery {V : Type 0} (result : Result (Option Delivery) Left) (now : ℕ) (old new : Contents V) : Type 0 where
   pub effects : List Effect
   pub told : TellsSent result old.state now new.state effects
-  pub waiting : new.waiting ≡ old.waiting ++ effects
+  pub waiting : new.waiting ≡ followed old.waiting effects
   pub counted : new.stored ≡ old.stored

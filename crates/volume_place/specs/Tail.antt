@@ -1,6 +1,6 @@
 -- What of a place waits for a commit, by a rule of this server's own: what was made and is not firm waits, as long as all that waits is little; a firm step
 -- is committed before it is answered, and all that waits with it.
-use Rattle.std.specs.Prelude.{◌≡◌, ◌⊎◌, ◌^◌, ℕ, nat_lt, Bool, true, false, ◌&&◌, List, [], ◌∷◌, ◌++◌, length}
+use Rattle.std.specs.Prelude.{◌≡◌, ◌⊎◌, ◌^◌, ℕ, nat_lt, Bool, true, false, ◌&&◌, List, [], ◌∷◌, length}
 use Rattle.std.specs.List.{flat_map}
 use Rattle.js_model.specs.declared.event.Event.{Event}
 use Rattle.js_model.specs.declared.reply.Reply.{Reply}
@@ -8,9 +8,9 @@ use Rattle.js_model.specs.declared.entry.Delivery.{Delivery}
 use Rattle.js_model.specs.Firm.{IsFirmStep}
 use Rattle.effects.specs.Effects.{delivery_effects}
 use Rattle.effects.specs.declared.effect.Effect.{Effect}
-use Rattle.effects.specs.declared.effect.Effect.TheVariants as effects
 use Rattle.op_records.specs.Spelling.{spelled}
 use Rattle.stream_store.specs.StoreState.{StoreState}
+use Rattle.place_engine.specs.Following.{followed, is_now}
 use Rattle.place_engine.specs.Stepping.{IsFlushed, IsPutOff, LeavesVolume, Seen, effects_of}
 use Rattle.volume_place.specs.Seeing.{IsFull}
 
@@ -31,13 +31,13 @@ MustNotWait store effects = (is_small effects ≡ false) ⊎ IsFull store effect
 
 -- it is committed with all that waited, since it is firm, or since all this is not little
 pub record IsCommittedWith (firm : Type 0) (made : List Effect) (old new : Seen) : Type 0 where
-  pub cause : firm ⊎ (is_small (old.waiting ++ made) ≡ false)
+  pub cause : firm ⊎ (is_small (followed old.waiting made) ≡ false)
   pub flushed : IsFlushed new
 
 -- it waits behind what waited, and the volume is not called
 pub record IsHeldBack (firm : Type 0) (made : List Effect) (old new : Seen) : Type 0 where
   pub unconfirmed : ¬ firm
-  pub small : is_small (old.waiting ++ made) ≡ true
+  pub small : is_small (followed old.waiting made) ≡ true
   pub put_off : IsPutOff made old new
   pub volume : LeavesVolume old new
 
@@ -54,20 +54,10 @@ SharesDelivery delivery now old new = SharesCommit ⊥ (delivery_effects old.pla
 
 -- ---- records that tell of nothing but time
 
-abbrev pub is_now : Effect → Bool
-is_now (effects.MakeStream incarnation made config) = false
-is_now (effects.ChangeStream config) = false
-is_now effects.DropStream = false
-is_now (effects.PutHere seq at id subject headers payload) = false
-is_now (effects.Skip seq at id) = false
-is_now (effects.Remove low high) = false
-is_now (effects.MakeConsumer name made config cursor picks) = false
-is_now (effects.DropConsumer name) = false
-is_now (effects.Deliver name seq count due dseq) = false
-is_now (effects.Acked name low high) = false
-is_now (effects.Due name seq due) = false
-is_now (effects.GivenUp name moment) = false
-is_now (effects.Now moment) = true
+abbrev pub ends_with_moment : List Effect → Bool
+ends_with_moment [] = false
+ends_with_moment (effect ∷ []) = is_now effect
+ends_with_moment (effect ∷ next ∷ more) = ends_with_moment (next ∷ more)
 
 -- there is none, or one that tells the moment
 abbrev pub is_moment : List Effect → Bool

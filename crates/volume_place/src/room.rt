@@ -5,9 +5,9 @@ ghost use Rattle.std.specs.List.{list_all};
 ghost use Rattle.js_model.specs.declared.event.Publish.{Publish};
 ghost use Rattle.js_model.specs.Proper.{is_proper_publish, is_proper_what};
 ghost use Rattle.op_records.specs.Allowed.{is_put, is_record};
-ghost use Rattle.place_engine.specs.Answers.{LeftBy, PlaceAnswersIn};
+ghost use Rattle.memory_place.specs.Answers.{LeftBy, PlaceAnswersIn};
 ghost use Rattle.place_engine.specs.Places.{IsTold};
-ghost use Rattle.place_engine.specs.Recording.{TellsEventIn};
+ghost use Rattle.memory_place.specs.Recording.{TellsEventIn};
 ghost use Rattle.place_engine.specs.Shown.{IsShown};
 ghost use Rattle.place_records.specs.Records.{effects_in};
 ghost use Rattle.volume_place.specs.Rooms.{HasBlocks, IsCounted, block_length, room_for, stored_by};
@@ -15,7 +15,8 @@ ghost use Rattle.volume_place.specs.Rooms.{HasBlocks, IsCounted, block_length, r
 use effects::Effect;
 use js_base::{Moment, NoMemory, Outs};
 use js_model::{Publish, Reply, What};
-use place_engine::{Left, Slot};
+use memory_place::Slot;
+use place_engine::Left;
 use place_records::Made;
 use stream_store::{Store, message_len};
 

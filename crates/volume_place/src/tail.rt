@@ -1,12 +1,13 @@
 //! What of a place waits for a commit.
 
-ghost use Rattle.std.specs.Prelude.{◌≡◌, ◌++◌, [], true, false, not, IfOk, MatchOption, OnErr, OnOk, IsTrue};
+ghost use Rattle.std.specs.Prelude.{◌≡◌, ◌<◌, ◌+◌, ◌++◌, [], true, false, not, take, drop, vec_len, IfOk, MatchOption, OnErr, OnOk, IsTrue};
 ghost use Rattle.std.specs.List.{list_all};
 ghost use Rattle.effects.specs.declared.effect.Effect.{Effect};
 ghost use Rattle.op_records.specs.Allowed.{is_record};
+ghost use Rattle.place_engine.specs.Following.{begins_with_moment, followed, is_now};
 ghost use Rattle.place_records.specs.Records.{effects_in};
 ghost use Rattle.stream_store.specs.Committing.{batch_length};
-ghost use Rattle.volume_place.specs.Tail.{is_moment, is_small};
+ghost use Rattle.volume_place.specs.Tail.{ends_with_moment, is_moment, is_small};
 
 use crate::lengths::{Lengths, lengths_of};
 use effects::Effect;
@@ -62,17 +63,24 @@ impl Tail {
         self.records.as_slice()
     }
 
-    /// Moves the records of what was made behind the others, and tells whether they are more than a moment. An `Err` leaves all as it was.
+    /// Moves the records of what was made behind the others, of which a moment at their end gives way to one with which those begin, and tells whether they are
+    /// more than a moment. An `Err` leaves all as it was.
     pub(crate) fn take(&mut self, made: &mut Made) -> Result<bool, NoMemory>
-        ensures ok { OnOk result (self.new ≡ self.old ++ effects_in made.old) }
+        ensures ok { OnOk result (self.new ≡ followed self.old (effects_in made.old)) }
         ensures none { OnOk result (effects_in made.new ≡ []) }
         ensures more { IfOk result (λ more. more ≡ not (is_moment (effects_in made.old))) }
         ensures err { OnErr result (self.new ≡ self.old) }
         ensures made_left { OnErr result (made.new ≡ made.old) }
     {
-        let before = self.records.len();
+        let count = self.records.len();
         made.give_to(&mut self.records)?;
-        Ok(!is_moment(self.records.as_slice().split_at(before).1))
+        let (waiting, behind) = self.records.as_slice().split_at(count);
+        let more = !is_moment(behind);
+        if begins_with_moment(behind) && ends_with_moment(waiting) {
+            // one moment is as long as another, so that what was measured stays
+            drop_record(&mut self.records, count - 1);
+        }
+        Ok(more)
     }
 
     /// In how many bytes a log has the records, if they are so few and so short that they may wait.
@@ -106,6 +114,40 @@ impl Tail {
         self.measured = 0;
         self.lengths = Lengths::none();
     }
+}
+
+/// Drops the record at an index.
+fn drop_record(records: &mut Vec<Effect>, index: usize)
+    requires within { index < vec_len records.old }
+    ensures items { records.new.items ≡ take index records.old.items ++ drop (index + 1) records.old.items }
+{
+    records.remove(index);
+}
+
+/// Whether the first record tells a moment.
+fn begins_with_moment(records: &[Effect]) -> bool
+    ensures value { result ≡ begins_with_moment records.now }
+{
+    match records.first() {
+        Some(effect) => is_now(effect),
+        None => false,
+    }
+}
+
+/// Whether the last one does.
+fn ends_with_moment(records: &[Effect]) -> bool
+    ensures value { result ≡ ends_with_moment records.now }
+{
+    match records.last() {
+        Some(effect) => is_now(effect),
+        None => false,
+    }
+}
+
+fn is_now(effect: &Effect) -> bool
+    ensures value { result ≡ is_now effect.now }
+{
+    matches!(effect, Effect::Now { .. })
 }
 
 /// Whether there is no record, or one that tells the moment.

@@ -5,7 +5,7 @@ ghost use Rattle.js_base.specs.Causes.{Rose};
 ghost use Rattle.js_model.specs.Events.{kept_incarnation};
 ghost use Rattle.js_model.specs.Firm.{IsFirmStep};
 ghost use Rattle.js_model.specs.Proper.{is_proper};
-ghost use Rattle.place_engine.specs.Answers.{LeftBy, MayDeliver};
+ghost use Rattle.memory_place.specs.Answers.{LeftBy, MayDeliver};
 ghost use Rattle.place_engine.specs.Delivering.{Delivers};
 ghost use Rattle.place_engine.specs.Flushing.{Flushes};
 ghost use Rattle.place_engine.specs.Opening.{IsOpened, IsUnopened};
@@ -25,7 +25,8 @@ use crate::room::{answer_in, count_with, has_room};
 use crate::tail::Tail;
 use js_base::{Blob, Moment, NoMemory, Outs};
 use js_model::{Delivery, Event, Listening, Reply};
-use place_engine::{Left, OpenFault, Place, PlaceFault, Push, Slot};
+use memory_place::Slot;
+use place_engine::{Left, OpenFault, Place, PlaceFault, Push};
 use place_records::Made;
 use std::alloc::Global;
 use std::marker::Model;
@@ -51,7 +52,7 @@ pub struct VolumePlace<V: Vol> {
 }
 
 impl<V: Vol> Model for VolumePlace<V> {
-    ghost use Rattle.std.specs.Prelude.{◌++◌};
+    ghost use Rattle.place_engine.specs.Following.{followed};
     ghost use Rattle.place_records.specs.Records.{effects_in};
     ghost use Rattle.volume_place.specs.Contents.{Contents};
     ghost use Rattle.volume_place.specs.Rooms.{MayStore};
@@ -63,14 +64,14 @@ impl<V: Vol> Model for VolumePlace<V> {
       state = place.slot;
       store = place.store;
       vol = place.vol;
-      waiting = place.tail ++ effects_in place.made;
+      waiting = followed place.tail (effects_in place.made);
       stored = place.stored;
       stopped = place.stopped;
     } };
 
     ghost invariant = { λ place.
-        IsSoundPlace V.told (V.disk place.vol) place.store (place.tail ++ effects_in place.made) place.stopped place.slot
-        × MayStore place.stopped place.store.blocks (place.tail ++ effects_in place.made) place.stored };
+        IsSoundPlace V.told (V.disk place.vol) place.store (followed place.tail (effects_in place.made)) place.stopped place.slot
+        × MayStore place.stopped place.store.blocks (followed place.tail (effects_in place.made)) place.stored };
 }
 
 /// Why a store was not opened, as a place tells it.

@@ -55,6 +55,18 @@ fn ticked(alloc: Global, count: u64) -> Result<MemVol, Fail> {
     Ok(kept.into_vol())
 }
 
+/// The volume of a place in whose stream a message was published so often, without a reply, and for which time passed twice behind each. By each of these
+/// rounds two records wait: a message and a moment.
+fn published_in_time(alloc: Global, count: u64) -> Result<MemVol, Fail> {
+    let mut kept = made(alloc)?;
+    for _ in 0..count {
+        kept.act(Deed::Publish)?;
+        kept.tick()?;
+        kept.tick()?;
+    }
+    Ok(kept.into_vol())
+}
+
 #[test]
 fn unconfirmed_publishes_share_a_commit(rt: HostRuntime) -> Result<(), Fail> {
     let alloc = rt.alloc();
@@ -82,11 +94,20 @@ fn unconfirmed_publish_waits_for_a_flush(rt: HostRuntime) -> Result<(), Fail> {
 }
 
 #[test]
-fn ticks_share_a_commit(rt: HostRuntime) -> Result<(), Fail> {
+fn ticks_write_nothing(rt: HostRuntime) -> Result<(), Fail> {
     let alloc = rt.alloc();
-    let none = syncs(&ticked(alloc, 0)?);
-    assert_eq!(&rt; syncs(&ticked(alloc, 1023)?), none);
-    assert_eq!(&rt; syncs(&ticked(alloc, 1024)?), none.saturating_add(SYNCS));
-    assert_eq!(&rt; syncs(&ticked(alloc, 2047)?), none.saturating_add(SYNCS));
+    let none = ticked(alloc, 0)?.calls().len();
+    assert_eq!(&rt; ticked(alloc, 3000)?.calls().len(), none);
+    Ok(())
+}
+
+#[test]
+fn moment_replaces_no_other_record(rt: HostRuntime) -> Result<(), Fail> {
+    let alloc = rt.alloc();
+    let none = syncs(&published_in_time(alloc, 0)?);
+    assert_eq!(&rt; syncs(&published_in_time(alloc, 511)?), none);
+    let all = published_in_time(alloc, 512)?;
+    assert_eq!(&rt; syncs(&all), none.saturating_add(SYNCS));
+    assert_eq!(&rt; reopened(alloc, &all, 0)?.messages(), Some(512));
     Ok(())
 }

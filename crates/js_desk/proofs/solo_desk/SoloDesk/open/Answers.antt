@@ -1,6 +1,6 @@
 use Rattle.std.proofs.Common.{◌≡◌, length, ap, arith}
 use Rattle.std.proofs.lemmas.Slice.Zip.{AllZip-long}
-use Rattle.js_desk.specs.Opening.{OpensOn}
+use Rattle.desk_places.specs.Opening.{OpensOn}
 use Rattle.js_desk.proofs.solo_desk.SoloDesk.open.Goals as goal
 
 pub catalog_of-requires : goal.catalog_of-requires

@@ -1,6 +1,6 @@
 use Rattle.std.proofs.Common.{map, ◌≤◌, subst, sym, ℕ}
 use Rattle.std.proofs.lemmas.List.{length-map}
-use Rattle.js_desk.specs.Grounds.{places_by}
+use Rattle.desk_places.specs.Places.{places_by}
 use Rattle.js_desk.proofs.Opened.{opened_grounded, opened_scene}
 use Rattle.js_desk.proofs.solo_ground.SoloGround.of.Goals as goal
 

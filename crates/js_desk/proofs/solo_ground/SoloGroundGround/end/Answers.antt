@@ -1,5 +1,5 @@
 use Rattle.std.proofs.Common.{map, refl}
-use Rattle.js_desk.specs.Grounds.{places_by}
+use Rattle.desk_places.specs.Places.{places_by}
 use Rattle.js_desk.specs.Kept.{kept_none}
 use Rattle.js_desk.specs.Outlasting.{outlast_none}
 use Rattle.js_desk.proofs.Looked.{ended_grounded}

@@ -2,11 +2,11 @@ use Rattle.std.proofs.Common.{◌≡◌, List, length, map, Some, ap, ◌∙◌}
 use Rattle.std.specs.Prelude.{slice_get, slice_set}
 use Rattle.js_model.specs.PlaceStates.{PlaceIn}
 use Rattle.desk_hold.specs.OnePlace.{on}
-use Rattle.js_desk.specs.Grounds.{places_by}
+use Rattle.desk_places.specs.Places.{places_by}
 use Rattle.js_desk.proofs.HeldGround.{facts_of, held_after, made_of, phase_after_held, there_held, there_is}
 use Rattle.js_desk.proofs.HeldLasting.{held_outlasts}
 use Rattle.js_desk.proofs.Sessions.{held_setting, hold_keeps}
-use Rattle.js_desk.proofs.Sets.{length_set, map_get, map_set}
+use Rattle.desk_places.proofs.Sets.{length_set, map_get, map_set}
 use Rattle.js_desk.proofs.solo_ground.SoloGroundGround.hold.Goals as goal
 
 pub invariant_of-self : goal.invariant_of-self

@@ -1,5 +1,5 @@
 use Rattle.std.proofs.Common.{map}
-use Rattle.js_desk.specs.Grounds.{places_by}
+use Rattle.desk_places.specs.Places.{places_by}
 use Rattle.js_desk.proofs.Routed.{opened_opens, opened_so}
 use Rattle.js_desk.proofs.solo_ground.SoloGroundGround.open.Goals as goal
 

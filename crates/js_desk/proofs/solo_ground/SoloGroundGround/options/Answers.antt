@@ -2,7 +2,7 @@ use Rattle.std.proofs.Common.{Ok, refl}
 use Rattle.js_model.specs.Router as routes
 use Rattle.js_api.specs.Answering.{Done}
 use Rattle.std.proofs.Common.{map}
-use Rattle.js_desk.specs.Grounds.{places_by}
+use Rattle.desk_places.specs.Places.{places_by}
 use Rattle.js_desk.proofs.Routed.{routes_so, same_setting}
 use Rattle.js_desk.proofs.solo_ground.SoloGroundGround.options.Goals as goal
 

@@ -1,5 +1,5 @@
 use Rattle.std.proofs.Common.{map}
-use Rattle.js_desk.specs.Grounds.{places_by}
+use Rattle.desk_places.specs.Places.{places_by}
 use Rattle.js_desk.proofs.Routed.{published_so, same_setting}
 use Rattle.js_desk.proofs.solo_ground.SoloGroundGround.publish.Goals as goal
 

@@ -1,6 +1,6 @@
 use Rattle.std.proofs.Common.{inl, true}
 use Rattle.js_model.specs.Catalog as catalog
-use Rattle.js_desk.specs.declared.turn.Turn.TheVariants as turns
+use Rattle.desk_places.specs.declared.turn.Turn.TheVariants as turns
 use Rattle.js_desk.proofs.Cataloged.{stopped_grounded}
 use Rattle.js_desk.proofs.Looked.{looked}
 use Rattle.js_desk.proofs.solo_ground.SoloGroundGround.stop.Goals as goal

@@ -1,5 +1,5 @@
 use Rattle.js_model.specs.Catalog as catalog
-use Rattle.js_desk.specs.declared.turn.Turn.TheVariants as turns
+use Rattle.desk_places.specs.declared.turn.Turn.TheVariants as turns
 use Rattle.shared_desk.proofs.Looked.{begun_made, unbegun_made}
 use Rattle.shared_desk.proofs.ground.HubGroundGround.begin.Goals as goal
 

@@ -1,4 +1,4 @@
-use Rattle.js_desk.specs.declared.turn.Turn.TheVariants as turns
+use Rattle.desk_places.specs.declared.turn.Turn.TheVariants as turns
 use Rattle.shared_desk.proofs.Looked.{ended_made}
 use Rattle.shared_desk.proofs.ground.HubGroundGround.end.Goals as goal
 

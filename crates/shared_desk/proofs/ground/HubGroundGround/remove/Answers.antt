@@ -1,4 +1,4 @@
-use Rattle.js_desk.specs.declared.turn.Turn.TheVariants as turns
+use Rattle.desk_places.specs.declared.turn.Turn.TheVariants as turns
 use Rattle.js_model.specs.Catalog as catalog
 use Rattle.shared_desk.proofs.Looked.{called_made}
 use Rattle.shared_desk.proofs.ground.HubGroundGround.remove.Goals as goal

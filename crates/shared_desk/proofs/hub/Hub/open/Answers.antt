@@ -1,8 +1,8 @@
 use Rattle.std.proofs.Common.{◌≡◌, length, map, ap, sym, subst, ◌∙◌, arith}
 use Rattle.std.proofs.lemmas.Slice.Zip.{AllZip-long}
 use Rattle.js_api.specs.Worlds.{kept_in}
-use Rattle.js_desk.specs.Grounds.{places_by}
-use Rattle.js_desk.specs.Opening.{OpensOn}
+use Rattle.desk_places.specs.Places.{places_by}
+use Rattle.desk_places.specs.Opening.{OpensOn}
 use Rattle.shared_desk.proofs.NewPlaces.{was_opened}
 use Rattle.shared_desk.proofs.Opened.{equipped, opens_hub, uncataloged, unlocked, unopened}
 use Rattle.shared_desk.proofs.hub.Hub.open.Goals as goal

@@ -1,9 +1,10 @@
-use Rattle.std.proofs.Common.{◌≡◌, ◌<◌, ◌^◌, ◌++◌, ◌||◌, ℕ, Bool, true, false, List, Option, None, Some, Ok, Err, length, nat_lt, sym, ap, subst, ◌∙◌, arith}
+use Rattle.std.proofs.Common.{◌≡◌, ◌<◌, ◌^◌, ◌||◌, ℕ, Bool, true, false, List, Option, None, Some, Ok, Err, length, nat_lt, sym, ap, subst, ◌∙◌, arith}
 use Rattle.std.specs.Prelude.{Decides, IfSome}
 use Rattle.std.proofs.lemmas.Bool.{and_parts}
 use Rattle.std.proofs.lemmas.Result.{err_from_is_err_and}
 use Rattle.effects.specs.declared.effect.Effect.{Effect}
 use Rattle.js_model.specs.Firm.{IsFirmStep}
+use Rattle.place_engine.specs.Following.{followed}
 use Rattle.place_engine.specs.Places.{ids_in}
 use Rattle.place_records.specs.Records.{effects_in}
 use Rattle.volume_place.specs.Rooms.{room_for}
@@ -24,7 +25,7 @@ invariant_of-self-in_err-reply g c =
     let V = g.V.Vol in
     let i = c.self.inside in
     let e = c.args.event.now in
-    let before = i.tail ++ effects_in i.made in
+    let before = followed i.tail (effects_in i.made) in
     let made = effects_in c.answer_in.new.made in
     let room = c.in-Ok-has_room.room in
     let left = c.in_err-reply.field-0.0 in
@@ -43,7 +44,7 @@ returns-in_err-reply-clause-err_recorded g c =
     let V = g.V.Vol in
     let i = c.self.inside in
     let e = c.args.event.now in
-    let before = i.tail ++ effects_in i.made in
+    let before = followed i.tail (effects_in i.made) in
     let made = effects_in c.answer_in.new.made in
     let room = c.in-Ok-has_room.room in
     let left = c.in_err-reply.field-0.0 in
@@ -57,7 +58,7 @@ returns-in_err-reply-clause-err_recorded g c =
     (record {
       effects = made;
       told = c.in_err-reply.ensures.recorded;
-      waiting = ap (λ (l : List Effect). l ++ made) c.in-Ok.ensures.ok;
+      waiting = ap (λ (l : List Effect). followed l made) c.in-Ok.ensures.ok;
       counted = counted;
     }))
 
@@ -66,7 +67,7 @@ invariant_of-self-2 g c =
     let V = g.V.Vol in
     let i = c.self.inside in
     let e = c.args.event.now in
-    let before = i.tail ++ effects_in i.made in
+    let before = followed i.tail (effects_in i.made) in
     let made = effects_in c.answer_in.new.made in
     let room = c.in-Ok-has_room.room in
     let going = rw (← c.self.view_is) at c.requires.going in

@@ -1,5 +1,6 @@
-use Rattle.std.proofs.Common.{◌≢◌, ◌++◌, List, [], length, Some, Err, ap, refl, sym, ◌∙◌, rules}
+use Rattle.std.proofs.Common.{◌≢◌, List, [], length, Some, Err, ap, refl, sym, ◌∙◌, rules}
 use Rattle.effects.specs.declared.effect.Effect.{Effect}
+use Rattle.place_engine.specs.Following.{followed}
 use Rattle.place_records.specs.Records.{effects_in}
 use Rattle.stream_store.specs.declared.fault.CommitFault.{CommitFault}
 use Rattle.volume_place.specs.declared.volume_place.VolumePlace.TheView.{view}
@@ -44,8 +45,8 @@ invariant_of-self g c =
     let x = view _ V c.self.inside in
     let going = rw (← c.self.view_is) at c.requires.going in
     let same = unmoved c.take.new.self c.self.inside.tail c.take.new.made c.self.inside.made c.in_default.ensures.err c.in_default.ensures.made_left in (
-      unbrought_sound V.told V.disk V.faults g.met.V.Vol.clocked x going c.self.invariant.0 x.store x.vol (c.take.new.self ++ effects_in c.take.new.made) refl refl same,
-      unbrought_blocks x.store x.store x.waiting (c.take.new.self ++ effects_in c.take.new.made) x.stored x.stopped refl same c.self.invariant.1,
+      unbrought_sound V.told V.disk V.faults g.met.V.Vol.clocked x going c.self.invariant.0 x.store x.vol (followed c.take.new.self (effects_in c.take.new.made)) refl refl same,
+      unbrought_blocks x.store x.store x.waiting (followed c.take.new.self (effects_in c.take.new.made)) x.stored x.stopped refl same c.self.invariant.1,
     )
 
 pub returns-in_default-clause-brings : goal.returns-in_default-clause-brings
@@ -55,7 +56,7 @@ returns-in_default-clause-brings g c =
     let going = rw (← c.self.view_is) at c.requires.going in
     let same = unmoved c.take.new.self c.self.inside.tail c.take.new.made c.self.inside.made c.in_default.ensures.err c.in_default.ensures.made_left in
     rw (← c.self.view_is)
-    (unbrought V.told V.disk V.faults g.met.V.Vol.clocked x going c.self.invariant.0 x.store x.vol (c.take.new.self ++ effects_in c.take.new.made) refl refl same)
+    (unbrought V.told V.disk V.faults g.met.V.Vol.clocked x going c.self.invariant.0 x.store x.vol (followed c.take.new.self (effects_in c.take.new.made)) refl refl same)
 
 pub returns-in_default-clause-time : goal.returns-in_default-clause-time
 returns-in_default-clause-time g c =
@@ -63,7 +64,7 @@ returns-in_default-clause-time g c =
     let x = view _ V c.self.inside in
     let going = rw (← c.self.view_is) at c.requires.going in
     rw (← c.self.view_is)
-    (stands_still V.told V.disk V.faults g.met.V.Vol.clocked x going c.self.invariant.0 (c.take.new.self ++ effects_in c.take.new.made))
+    (stands_still V.told V.disk V.faults g.met.V.Vol.clocked x going c.self.invariant.0 (followed c.take.new.self (effects_in c.take.new.made)))
 
 pub invariant_of-self-then-is_empty : goal.invariant_of-self-then-is_empty
 invariant_of-self-then-is_empty g c =
@@ -71,8 +72,8 @@ invariant_of-self-then-is_empty g c =
     let x = view _ V c.self.inside in
     let going = rw (← c.self.view_is) at c.requires.going in
     let same = joined c.take.new.self c.take.new.made x.waiting c.in-Ok.ensures.ok c.in-Ok.ensures.none in (
-      unbrought_sound V.told V.disk V.faults g.met.V.Vol.clocked x going c.self.invariant.0 x.store x.vol (c.take.new.self ++ effects_in c.take.new.made) refl refl same,
-      unbrought_blocks x.store x.store x.waiting (c.take.new.self ++ effects_in c.take.new.made) x.stored x.stopped refl same c.self.invariant.1,
+      unbrought_sound V.told V.disk V.faults g.met.V.Vol.clocked x going c.self.invariant.0 x.store x.vol (followed c.take.new.self (effects_in c.take.new.made)) refl refl same,
+      unbrought_blocks x.store x.store x.waiting (followed c.take.new.self (effects_in c.take.new.made)) x.stored x.stopped refl same c.self.invariant.1,
     )
 
 pub returns-then-is_empty-clause-brings : goal.returns-then-is_empty-clause-brings
@@ -84,7 +85,7 @@ returns-then-is_empty-clause-brings g c =
     let none = nothing_in (length c.records-records.result.now) given (ap (λ (l : List Effect). length l) c.records-records.ensures.value) c.if-is_empty.ensures in
     let same = joined c.take.new.self c.take.new.made x.waiting c.in-Ok.ensures.ok c.in-Ok.ensures.none in
     rw (← c.self.view_is)
-    (brings_none V.told V.disk V.faults g.met.V.Vol.clocked x going c.self.invariant.0 (c.take.new.self ++ effects_in c.take.new.made)
+    (brings_none V.told V.disk V.faults g.met.V.Vol.clocked x going c.self.invariant.0 (followed c.take.new.self (effects_in c.take.new.made))
     (sym c.in-Ok.ensures.ok ∙ none) (joined given c.take.new.made [] none c.in-Ok.ensures.none))
 
 pub returns-then-is_empty-clause-time : goal.returns-then-is_empty-clause-time
@@ -93,7 +94,7 @@ returns-then-is_empty-clause-time g c =
     let x = view _ V c.self.inside in
     let going = rw (← c.self.view_is) at c.requires.going in
     rw (← c.self.view_is)
-    (stands_still V.told V.disk V.faults g.met.V.Vol.clocked x going c.self.invariant.0 (c.take.new.self ++ effects_in c.take.new.made))
+    (stands_still V.told V.disk V.faults g.met.V.Vol.clocked x going c.self.invariant.0 (followed c.take.new.self (effects_in c.take.new.made)))
 
 pub commit-requires-clause-records : goal.commit-requires-clause-records
 commit-requires-clause-records g c =
@@ -127,8 +128,8 @@ invariant_of-self-in-Ok-commit g c =
     let are = c.records-records.ensures.value ∙ c.in-Ok.ensures.ok in
     let nothing = joined c.clear.new.self c.take.new.made [] c.clear.ensures.none c.in-Ok.ensures.none in (
       brought_sound V.told V.disk V.faults g.met.V.Vol.clocked x going c.self.invariant.0 c.records-records.result.now are c.commit.new.vol c.commit.new.self
-          c.in-Ok-commit.ensures.committed (c.clear.new.self ++ effects_in c.take.new.made) nothing,
-      brought_blocks x.store.blocks c.commit.new.self c.records-records.result.now (c.clear.new.self ++ effects_in c.take.new.made) x.waiting x.stored x.stopped going c.self.invariant.1 are
+          c.in-Ok-commit.ensures.committed (followed c.clear.new.self (effects_in c.take.new.made)) nothing,
+      brought_blocks x.store.blocks c.commit.new.self c.records-records.result.now (followed c.clear.new.self (effects_in c.take.new.made)) x.waiting x.stored x.stopped going c.self.invariant.1 are
           nothing c.in-Ok-commit.ensures.fewer,
     )
 
@@ -141,7 +142,7 @@ returns-in-Ok-commit-clause-brings g c =
     let nothing = joined c.clear.new.self c.take.new.made [] c.clear.ensures.none c.in-Ok.ensures.none in
     rw (← c.self.view_is)
     (brings V.told V.disk V.faults g.met.V.Vol.clocked x going c.self.invariant.0 c.records-records.result.now are c.commit.new.vol c.commit.new.self
-    c.in-Ok-commit.ensures.committed (c.clear.new.self ++ effects_in c.take.new.made) nothing c.in-Ok-commit.ensures.fits_in)
+    c.in-Ok-commit.ensures.committed (followed c.clear.new.self (effects_in c.take.new.made)) nothing c.in-Ok-commit.ensures.fits_in)
 
 pub returns-in-Ok-commit-clause-time : goal.returns-in-Ok-commit-clause-time
 returns-in-Ok-commit-clause-time g c =
@@ -163,8 +164,8 @@ invariant_of-self-in-Err-NoMemory g c =
     let same = joined c.take.new.self c.take.new.made x.waiting c.in-Ok.ensures.ok c.in-Ok.ensures.none in
     let kept = c.in-Err-NoMemory.ensures.no_memory (ap (λ (f : CommitFault). Err f) c.in-Err-NoMemory.field-0-is) in (
       unbrought_sound V.told V.disk V.faults g.met.V.Vol.clocked x going c.self.invariant.0 c.commit.new.self c.commit.new.vol
-          (c.take.new.self ++ effects_in c.take.new.made) kept.1 kept.0 same,
-      unbrought_blocks x.store c.commit.new.self x.waiting (c.take.new.self ++ effects_in c.take.new.made) x.stored x.stopped kept.1 same c.self.invariant.1,
+          (followed c.take.new.self (effects_in c.take.new.made)) kept.1 kept.0 same,
+      unbrought_blocks x.store c.commit.new.self x.waiting (followed c.take.new.self (effects_in c.take.new.made)) x.stored x.stopped kept.1 same c.self.invariant.1,
     )
 
 pub returns-in-Err-NoMemory-clause-brings : goal.returns-in-Err-NoMemory-clause-brings
@@ -176,7 +177,7 @@ returns-in-Err-NoMemory-clause-brings g c =
     let kept = c.in-Err-NoMemory.ensures.no_memory (ap (λ (f : CommitFault). Err f) c.in-Err-NoMemory.field-0-is) in
     rw (← c.self.view_is)
     (unbrought V.told V.disk V.faults g.met.V.Vol.clocked x going c.self.invariant.0 c.commit.new.self c.commit.new.vol
-    (c.take.new.self ++ effects_in c.take.new.made) kept.1 kept.0 same)
+    (followed c.take.new.self (effects_in c.take.new.made)) kept.1 kept.0 same)
 
 pub returns-in-Err-NoMemory-clause-time : goal.returns-in-Err-NoMemory-clause-time
 returns-in-Err-NoMemory-clause-time g c =
@@ -198,7 +199,7 @@ invariant_of-self-in-Err-Fault g c =
     let are = c.records-records.ensures.value ∙ c.in-Ok.ensures.ok in
     let same = joined c.take.new.self c.take.new.made x.waiting c.in-Ok.ensures.ok c.in-Ok.ensures.none in (
       stopped_sound V.told V.disk V.faults g.met.V.Vol.clocked x going c.self.invariant.0 c.records-records.result.now are c.commit.new.vol
-          c.commit.ensures.later c.commit.ensures.any_moment c.commit.new.self (c.take.new.self ++ effects_in c.take.new.made)
+          c.commit.ensures.later c.commit.ensures.any_moment c.commit.new.self (followed c.take.new.self (effects_in c.take.new.made))
           c.faults.result same,
       tt,
     )
@@ -211,7 +212,7 @@ returns-in-Err-Fault-clause-brings g c =
     let are = c.records-records.ensures.value ∙ c.in-Ok.ensures.ok in
     rw (← c.self.view_is)
     (fails V.told V.disk V.faults g.met.V.Vol.clocked x going c.self.invariant.0 c.records-records.result.now are c.commit.new.vol c.commit.ensures.later
-    c.commit.ensures.any_moment c.commit.new.self (c.take.new.self ++ effects_in c.take.new.made) c.faults.result
+    c.commit.ensures.any_moment c.commit.new.self (followed c.take.new.self (effects_in c.take.new.made)) c.faults.result
     c.faults.ensures.value (c.in-Err-Fault.ensures.cause.failed (ap (λ (f : CommitFault). Err f) c.in-Err-Fault.field-0-is))
     (c.in-Err-Fault.ensures.fault_fits (ap (λ (f : CommitFault). Err f) c.in-Err-Fault.field-0-is)))
 
@@ -235,7 +236,7 @@ invariant_of-self-in-Err-Full g c =
     let are = c.records-records.ensures.value ∙ c.in-Ok.ensures.ok in
     let same = joined c.take.new.self c.take.new.made x.waiting c.in-Ok.ensures.ok c.in-Ok.ensures.none in (
       stopped_sound V.told V.disk V.faults g.met.V.Vol.clocked x going c.self.invariant.0 c.records-records.result.now are c.commit.new.vol
-          c.commit.ensures.later c.commit.ensures.any_moment c.commit.new.self (c.take.new.self ++ effects_in c.take.new.made)
+          c.commit.ensures.later c.commit.ensures.any_moment c.commit.new.self (followed c.take.new.self (effects_in c.take.new.made))
           c.faults-in-Err-Full.result same,
       tt,
     )
@@ -250,7 +251,7 @@ returns-in-Err-Full-clause-brings g c =
     let kept = c.in-Err-Full.ensures.full_leaves (ap (λ (f : CommitFault). Err f) c.in-Err-Full.field-0-is) in
     rw (← c.self.view_is)
     (fills V.told V.disk V.faults g.met.V.Vol.clocked x going c.self.invariant.0 c.records-records.result.now are c.commit.new.self c.commit.new.vol
-    (c.take.new.self ++ effects_in c.take.new.made) c.faults-in-Err-Full.result c.faults-in-Err-Full.ensures.value
+    (followed c.take.new.self (effects_in c.take.new.made)) c.faults-in-Err-Full.result c.faults-in-Err-Full.ensures.value
     kept.1 kept.0 some
     (c.in-Err-Full.ensures.full (ap (λ (f : CommitFault). Err f) c.in-Err-Full.field-0-is)))
 

@@ -1,9 +1,11 @@
-use Rattle.std.proofs.Common.{◌≡◌, List, [], ◌++◌, ap, ◌∙◌}
+use Rattle.std.proofs.Common.{◌≡◌, List, [], ap, ◌∙◌}
+use Rattle.effects.specs.declared.effect.Effect.{Effect}
+use Rattle.place_engine.specs.Following.{followed}
 use Rattle.volume_place.proofs.Opened.{opened_blocks, opened_of, opened_sound, restored_of, unopened}
 use Rattle.volume_place.proofs.volume_place.VolumePlacePlace.open.Goals as goal
 
-none_waits : {A : Type 0} (waiting made : List A) → waiting ≡ [] → made ≡ [] → waiting ++ made ≡ []
-none_waits {A} waiting made none_before none_made = ap (λ (before : List A). before ++ made) none_before ∙ none_made
+none_waits : (waiting made : List Effect) → waiting ≡ [] → made ≡ [] → followed waiting made ≡ []
+none_waits waiting made none_before none_made = ap (λ (before : List Effect). followed before made) none_before ∙ ap (followed []) none_made
 
 pub returns-in-Err-clause-unopened : goal.returns-in-Err-clause-unopened
 returns-in-Err-clause-unopened g c = unopened g.V.Vol.told g.V.Vol.disk g.V.Vol.faults g.met.V.Vol.clocked c.args.volume c.open.new.vol c.open.ensures.any_moment

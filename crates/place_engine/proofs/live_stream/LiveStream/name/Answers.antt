@@ -1,5 +1,0 @@
-use Rattle.place_engine.proofs.Shown.{name_shown}
-use Rattle.place_engine.proofs.live_stream.LiveStream.name.Goals as goal
-
-pub returns-clause-utf8 : goal.returns-clause-utf8
-returns-clause-utf8 c = rw c.config.ensures.value (name_shown c.self.inside.state c.holds.ensures.config)

@@ -1,8 +1,0 @@
-use Rattle.place_engine.proofs.Shown.{few_pushes}
-use Rattle.place_engine.proofs.live_stream.LiveStream.push.Goals as goal
-
-pub returns-in_err-follower-clause-few : goal.returns-in_err-follower-clause-few
-returns-in_err-follower-clause-few c = rw (← c.self.view_is) (few_pushes c.self.inside.state c.holds.ensures.proper)
-
-pub returns-clause-few : goal.returns-clause-few
-returns-clause-few c = rw (← c.self.view_is) (few_pushes c.self.inside.state c.holds.ensures.proper)

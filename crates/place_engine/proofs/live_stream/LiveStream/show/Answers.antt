@@ -1,5 +1,0 @@
-use Rattle.place_engine.proofs.Answering.{shows}
-use Rattle.place_engine.proofs.live_stream.LiveStream.show.Goals as goal
-
-pub returns-clause-acts : goal.returns-clause-acts
-returns-clause-acts c = shows c.args.self.now c.release.new.self _ (record { value = c.release.ensures.value; again = c.release.ensures.again }) c.in_ok-info.ensures.value

@@ -1,4 +1,0 @@
-use Rattle.place_engine.proofs.slot.Slot.answer_other.Goals as goal
-
-pub returns-in-Nothing-clause-answers : goal.returns-in-Nothing-clause-answers
-returns-in-Nothing-clause-answers c = rw (← c.self.view_is) (c.answer_vacant.ensures.answers c.args.outs.now)
