@@ -16,5 +16,6 @@ pub mod PlainBodies
 pub mod PlainConsumers
 pub mod Refused
 pub mod Answered
+pub mod Unnamed
 mod RowsOfRequests
 mod RowsOfConsumers

@@ -109,7 +109,7 @@ unfolding update_in
 update_plain fields refusal e =
     one_of (text_in (codes "action") fields) _ refusal e (text_plain _ fields refusal refl) (λ action made. update_by_plain action refusal made)
 
-settings_plain : (name : Bytes) (fields : Members) (refusal : ApiError) → settings_in name fields ≡ Err refusal → Plain refusal
+pub settings_plain : (name : Bytes) (fields : Members) (refusal : ApiError) → settings_in name fields ≡ Err refusal → Plain refusal
 unfolding settings_in
 settings_plain name fields refusal e =
     one_of (update_in fields) _ refusal e (update_plain fields refusal)

@@ -20,10 +20,11 @@ use Rattle.api_requests.specs.Calls.{general_call, stream_call}
 use Rattle.api_requests.specs.ConsumerCalls.{Tokens, consumer_call}
 use Rattle.api_requests.specs.Bodies.{object_in, fields_of, token_name, listing_of, setup_of, page_of}
 use Rattle.api_requests.specs.Messages.{purge_in, message_in, sequence_in}
+use Rattle.api_requests.specs.Consumers.{settings_in}
 use Rattle.api_requests.specs.Requests.{general_request, stream_request, consumer_request, or_on_consumer, or_on_stream, request_of}
-use Rattle.api_requests.proofs.Plain.{is_ascii, Plain, first_by, one_of}
+use Rattle.api_requests.proofs.Plain.{is_ascii, Plain, told, first_by, one_of}
 use Rattle.api_requests.proofs.PlainBodies.{object_plain, fields_plain, name_plain, listing_plain, page_plain}
-use Rattle.api_requests.proofs.PlainConsumers.{consumer_plain}
+use Rattle.api_requests.proofs.PlainConsumers.{settings_plain, consumer_plain}
 use Rattle.api_requests.proofs.PlainMessages.{purge_plain, message_plain, sequence_plain}
 
 small : (byte : ℕ) → nat_lt byte 128 ≡ true → byte < 128
@@ -105,6 +106,10 @@ on_stream_plain stream.MsgDelete token body refusal e =
     (λ name read. one_of (sequence_in fields) _ refusal read (sequence_plain fields refusal) (λ seq made. absurd (cc))))
 on_stream_plain stream.ConsumerNames token body refusal e = one_of (page_of token body) _ refusal e (page_plain token body refusal) (λ page made. absurd (cc))
 on_stream_plain stream.ConsumerList token body refusal e = one_of (page_of token body) _ refusal e (page_plain token body refusal) (λ page made. absurd (cc))
+on_stream_plain stream.ConsumerCreate token body refusal e =
+    one_of (object_in body) _ refusal e (object_plain body refusal)
+    (λ fields named. one_of (token_name token) _ refusal named (name_plain token refusal)
+    (λ name read. one_of (settings_in [] fields) _ refusal read (settings_plain [] fields refusal) (λ settings made. told _ refusal made (record { ascii = refl }))))
 
 some_is : {X : Type 0} (x y : X) → Some x ≡ Some y → x ≡ y
 some_is x y e = cc

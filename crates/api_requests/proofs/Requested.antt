@@ -1,5 +1,5 @@
 -- What is read of calls is valid.
-use Rattle.std.proofs.Common.{◌≡◌, Option, Some, None, Result, Ok, subst}
+use Rattle.std.proofs.Common.{◌≡◌, [], Option, Some, None, Result, Ok, subst}
 use Rattle.js_base.specs.Bytes.{Bytes}
 use Rattle.js_base.specs.declared.out.ApiError.{ApiError}
 use Rattle.api_requests.specs.declared.call.GeneralCall.{GeneralCall}
@@ -14,7 +14,7 @@ use Rattle.ack_parse.specs.Asks.{ask_of}
 use Rattle.api_requests.specs.Calls.{general_call, stream_call}
 use Rattle.api_requests.specs.ConsumerCalls.{Tokens, consumer_call}
 use Rattle.api_requests.specs.Bodies.{object_in, fields_of, token_name, listing_of, setup_of, page_of}
-use Rattle.api_requests.specs.Consumers.{names_of, creation_of}
+use Rattle.api_requests.specs.Consumers.{names_of, settings_in, creation_of}
 use Rattle.api_requests.specs.Messages.{purge_in, message_in, sequence_in}
 use Rattle.api_requests.specs.Requests.{general_request, stream_request, consumer_request, or_on_consumer, or_on_stream, request_of}
 use Rattle.api_requests.specs.Read.{IsRead}
@@ -68,6 +68,10 @@ on_stream_read stream.ConsumerNames token body request e =
 on_stream_read stream.ConsumerList token body request e =
     after _ (page_of token body) _ request e
     (λ page is made. let page_of_it = page_is token body page is in as_read (requests.ConsumerList page.0 page.1) request made (page_of_it.name, page_of_it.number))
+on_stream_read stream.ConsumerCreate token body request e =
+    after _ (object_in body) _ request e
+    (λ fields _ named. after _ (token_name token) _ request named
+    (λ name _ read. after _ (settings_in [] fields) _ request read (λ settings _ made. absurd (cc))))
 
 on_consumer_read : (call : ConsumerCall) (tokens : Tokens) (body : Bytes) (request : ApiRequest) → consumer_request call tokens body ≡ Ok request → IsRead request
 unfolding consumer_request

@@ -117,6 +117,32 @@ create_other_name : create (codes "{\"config\":{\"durable_name\":\"V\"},\"stream
 unfolding request_of consumer_request tokens_behind token_name names_of object_in creation_of settings_in update_in config_in checked reading standing table read_config flag_in number_in any_text_in time_in part_in is_numeral is_given text_in given_text_in object_of serde_json_on_literals is_utf8 chars encode
 create_other_name = refl
 
+-- ---- making one that the subject does not name
+
+abbrev create_unnamed : Bytes → Option (Result ApiRequest ApiError)
+create_unnamed body = request_of (codes "$JS.API.CONSUMER.CREATE.S") body
+
+unnamed_nothing : create_unnamed [] ≡ Some (Err invalid_json)
+unfolding request_of stream_request token_name object_in settings_in update_in config_in checked reading standing table flag_in number_in any_text_in time_in part_in is_numeral is_given text_in given_text_in object_of serde_json_on_literals is_utf8 chars encode
+unnamed_nothing = refl
+
+unnamed_no_stream : request_of (codes "$JS.API.CONSUMER.CREATE.*") (codes "{\"action\":\"none\"}") ≡ Some (Err (invalid_value (codes "name")))
+unfolding request_of stream_request token_name object_in settings_in update_in config_in checked reading standing table flag_in number_in any_text_in time_in part_in is_numeral is_given text_in given_text_in object_of serde_json_on_literals is_utf8 chars encode
+unnamed_no_stream = refl
+
+unnamed_left_out : create_unnamed (codes "{\"config\":{\"headers_only\":true}}") ≡ Some (Err (not_supported (codes "headers_only")))
+unfolding request_of stream_request token_name object_in settings_in update_in config_in checked reading standing table flag_in number_in any_text_in time_in part_in is_numeral is_given text_in given_text_in object_of serde_json_on_literals is_utf8 chars encode
+unnamed_left_out = refl
+
+unnamed_usual : create_unnamed (codes "{\"config\":{\"deliver_subject\":\"d\"},\"stream_name\":\"S\"}") ≡ Some (Err durable_name_required)
+unfolding request_of stream_request token_name object_in settings_in update_in config_in checked reading standing table flag_in number_in any_text_in time_in part_in is_numeral is_given text_in given_text_in object_of serde_json_on_literals is_utf8 chars encode
+unnamed_usual = refl
+
+-- each durable name is another one, also the stream's
+unnamed_durable : create_unnamed (codes "{\"config\":{\"durable_name\":\"S\"}}") ≡ Some (Err name_mismatch)
+unfolding request_of stream_request token_name object_in settings_in update_in config_in checked reading standing table flag_in number_in any_text_in time_in part_in is_numeral is_given text_in given_text_in object_of serde_json_on_literals is_utf8 chars encode
+unnamed_durable = refl
+
 -- ---- a consumer that is there
 
 -- the body is not looked at
@@ -157,9 +183,9 @@ next_wrong = refl
 
 -- ---- what is no call
 
-one_token : request_of (codes "$JS.API.CONSUMER.CREATE.S") [] ≡ None
+durable_one_token : request_of (codes "$JS.API.CONSUMER.DURABLE.CREATE.S") [] ≡ None
 unfolding request_of tokens_behind
-one_token = refl
+durable_one_token = refl
 
 durable_filter : request_of (codes "$JS.API.CONSUMER.DURABLE.CREATE.S.W.a") [] ≡ None
 unfolding request_of tokens_behind

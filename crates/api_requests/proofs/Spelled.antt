@@ -113,7 +113,8 @@ read_call subject token call is =
     (λ others. one_of_both (message_call subject) (consumers_call subject) (call, token) others
     (λ message. called_or stream.Purge call subject token _ _ refl message
     (λ get. called_or stream.MsgGet call subject token _ _ refl get (last_call stream.MsgDelete call subject token)))
-    (λ consumers. called_or stream.ConsumerNames call subject token _ _ refl consumers (last_call stream.ConsumerList call subject token)))
+    (λ consumers. called_or stream.ConsumerNames call subject token _ _ refl consumers
+    (λ list. called_or stream.ConsumerList call subject token _ _ refl list (last_call stream.ConsumerCreate call subject token))))
 
 -- one of the calls in its place
 tagged : StreamCall → Option Bytes → Option (StreamCall × Bytes)
@@ -128,6 +129,9 @@ behind_update subject = option_or (called stream.Info subject) (called stream.De
 
 abbrev behind_purge : Bytes → Option (StreamCall × Bytes)
 behind_purge subject = option_or (called stream.MsgGet subject) (called stream.MsgDelete subject)
+
+abbrev behind_names : Bytes → Option (StreamCall × Bytes)
+behind_names subject = option_or (called stream.ConsumerList subject) (called stream.ConsumerCreate subject)
 
 again : (call : StreamCall) (token : Bytes) → has token 46 ≡ false → stream_call (stream_words call ++ token) ≡ Some (call, token)
 unfolding tagged
@@ -154,8 +158,11 @@ again stream.MsgDelete token one =
     ap (λ (o : Option Bytes). option_or (tagged stream.MsgDelete o) (consumers_call subject)) (behind_again (stream_words stream.MsgDelete) token one)
 again stream.ConsumerNames token one =
     let subject = stream_words stream.ConsumerNames ++ token in
-    ap (λ (o : Option Bytes). option_or (tagged stream.ConsumerNames o) (called stream.ConsumerList subject)) (behind_again (stream_words stream.ConsumerNames) token one)
-again stream.ConsumerList token one = ap (λ (o : Option Bytes). tagged stream.ConsumerList o) (behind_again (stream_words stream.ConsumerList) token one)
+    ap (λ (o : Option Bytes). option_or (tagged stream.ConsumerNames o) (behind_names subject)) (behind_again (stream_words stream.ConsumerNames) token one)
+again stream.ConsumerList token one =
+    let subject = stream_words stream.ConsumerList ++ token in
+    ap (λ (o : Option Bytes). option_or (tagged stream.ConsumerList o) (called stream.ConsumerCreate subject)) (behind_again (stream_words stream.ConsumerList) token one)
+again stream.ConsumerCreate token one = ap (λ (o : Option Bytes). tagged stream.ConsumerCreate o) (behind_again (stream_words stream.ConsumerCreate) token one)
 
 pub on_stream_spelled : LawOnStream
 on_stream_spelled subject token call = (

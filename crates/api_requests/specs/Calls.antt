@@ -42,9 +42,12 @@ message_call subject =
     (option_or (called stream.MsgGet subject)
     (called stream.MsgDelete subject))
 
--- a list of the consumers of a stream
+-- a list of the consumers of a stream, or a creation that names none
 abbrev pub consumers_call : Bytes → Option (StreamCall × Bytes)
-consumers_call subject = option_or (called stream.ConsumerNames subject) (called stream.ConsumerList subject)
+consumers_call subject =
+    option_or (called stream.ConsumerNames subject)
+    (option_or (called stream.ConsumerList subject)
+    (called stream.ConsumerCreate subject))
 
 -- a call on one stream
 abbrev pub stream_call : Bytes → Option (StreamCall × Bytes)

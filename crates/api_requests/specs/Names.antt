@@ -28,8 +28,9 @@ api_on_stream stream.MsgGet = calls.StreamMsgGet
 api_on_stream stream.MsgDelete = calls.StreamMsgDelete
 api_on_stream stream.ConsumerNames = calls.ConsumerNames
 api_on_stream stream.ConsumerList = calls.ConsumerList
+api_on_stream stream.ConsumerCreate = calls.ConsumerCreate
 
--- both creations have the same answer; a question for messages has none
+-- all creations have the same answer; a question for messages has none
 abbrev pub api_on_consumer : ConsumerCall → Option ApiCall
 api_on_consumer consumer.Create = Some calls.ConsumerCreate
 api_on_consumer consumer.DurableCreate = Some calls.ConsumerCreate

@@ -1,6 +1,6 @@
 -- What a call of the API asks for, by its subject and its body, after the JetStream API reference. The refusals come in this order: the body is no
 -- JSON object, a name in the subject is none, then each field in the order of its key, then what a configuration lacks, and then another name or filter.
-use Rattle.std.specs.Prelude.{Option, Some, None, option_map, Result, Ok}
+use Rattle.std.specs.Prelude.{[], Option, Some, None, option_map, Result, Ok, Err}
 use Rattle.js_base.specs.Bytes.{Bytes}
 use Rattle.js_base.specs.declared.out.ApiError.{ApiError}
 use Rattle.api_requests.specs.declared.call.GeneralCall.{GeneralCall}
@@ -12,12 +12,13 @@ use Rattle.api_requests.specs.declared.consumer_call.ConsumerCall.TheVariants as
 use Rattle.api_requests.specs.declared.request.ApiRequest.{ApiRequest}
 use Rattle.api_requests.specs.declared.request.ApiRequest.TheVariants as requests
 use Rattle.ack_parse.specs.Asks.{ask_of}
+use Rattle.js_model.specs.Refusals.{name_mismatch}
 use Rattle.api_requests.specs.Calls.{general_call, stream_call}
 use Rattle.api_requests.specs.ConsumerCalls.{Tokens, consumer_call}
 use Rattle.api_requests.specs.Steps.{◌>>=◌}
 use Rattle.api_requests.specs.Bodies.{object_in, fields_of, token_name, listing_of, setup_of, page_of}
 use Rattle.api_requests.specs.Messages.{purge_in, message_in, sequence_in}
-use Rattle.api_requests.specs.Consumers.{names_of, creation_of}
+use Rattle.api_requests.specs.Consumers.{names_of, settings_in, creation_of}
 
 -- the body of a question for the account is not looked at
 unfoldable pub general_request : GeneralCall → Bytes → Result ApiRequest ApiError
@@ -30,7 +31,8 @@ general_request general.StreamList body = do
   Ok (requests.StreamList listing.0 listing.1)
 
 -- The body of a creation or a change is the configuration, also an empty one; that of a question is an object without fields of its own; and that of a
--- deletion is not looked at. A purge may have an empty body, and the calls on one message, which need a field, may not.
+-- deletion is not looked at. A purge may have an empty body, and the calls on one message, which need a field, may not. A creation that names no
+-- consumer makes none: its body is read as that of a consumer with the empty name, which no durable name is.
 unfoldable pub stream_request : StreamCall → Bytes → Bytes → Result ApiRequest ApiError
 stream_request stream.Create token body = do
   setup ← setup_of token body
@@ -66,6 +68,11 @@ stream_request stream.ConsumerNames token body = do
 stream_request stream.ConsumerList token body = do
   page ← page_of token body
   Ok (requests.ConsumerList page.0 page.1)
+stream_request stream.ConsumerCreate token body = do
+  fields ← object_in body
+  _ ← token_name token
+  _ ← settings_in [] fields
+  Err name_mismatch
 
 -- The bodies of a question for a consumer and of its deletion are not looked at. A question for messages is never refused: its tokens may be no names,
 -- and its body of no form.

@@ -25,6 +25,7 @@ stream_words stream.MsgGet = codes "$JS.API.STREAM.MSG.GET."
 stream_words stream.MsgDelete = codes "$JS.API.STREAM.MSG.DELETE."
 stream_words stream.ConsumerNames = codes "$JS.API.CONSUMER.NAMES."
 stream_words stream.ConsumerList = codes "$JS.API.CONSUMER.LIST."
+stream_words stream.ConsumerCreate = codes "$JS.API.CONSUMER.CREATE."
 
 -- what stands before the tokens of a stream and of its consumer
 abbrev pub consumer_words : ConsumerCall → Bytes

@@ -27,6 +27,8 @@ pub(crate) enum StreamCall {
     MsgDelete,
     ConsumerNames,
     ConsumerList,
+    /// A creation of a consumer that has no name in the subject.
+    ConsumerCreate,
 }
 
 impl GeneralCall {
@@ -68,6 +70,7 @@ impl StreamCall {
             StreamCall::MsgDelete => b"$JS.API.STREAM.MSG.DELETE.",
             StreamCall::ConsumerNames => b"$JS.API.CONSUMER.NAMES.",
             StreamCall::ConsumerList => b"$JS.API.CONSUMER.LIST.",
+            StreamCall::ConsumerCreate => b"$JS.API.CONSUMER.CREATE.",
         }
     }
 
@@ -85,6 +88,7 @@ impl StreamCall {
             StreamCall::MsgDelete => ApiCall::StreamMsgDelete,
             StreamCall::ConsumerNames => ApiCall::ConsumerNames,
             StreamCall::ConsumerList => ApiCall::ConsumerList,
+            StreamCall::ConsumerCreate => ApiCall::ConsumerCreate,
         }
     }
 }
@@ -148,11 +152,13 @@ fn message_call(subject: &[u8]) -> Option<(StreamCall, &[u8])>
         .or(called(StreamCall::MsgDelete, subject))
 }
 
-/// The list of a stream's consumers that the subject is, and its token.
+/// The list of a stream's consumers, or the creation that names none, that the subject is, and its token.
 fn consumers_call(subject: &[u8]) -> Option<(StreamCall, &[u8])>
     ensures value { option_map (λ x. (x.0, x.1.now)) result ≡ consumers_call subject.now }
 {
-    called(StreamCall::ConsumerNames, subject).or(called(StreamCall::ConsumerList, subject))
+    called(StreamCall::ConsumerNames, subject)
+        .or(called(StreamCall::ConsumerList, subject))
+        .or(called(StreamCall::ConsumerCreate, subject))
 }
 
 /// The call on one stream that the subject is, and the token that stands in it for the stream.

@@ -6,8 +6,9 @@ ghost use Rattle.js_json.specs.Members.{members};
 ghost use Rattle.consumer_config.specs.Reading.{reading};
 ghost use Rattle.api_requests.specs.Answers.{Reads};
 ghost use Rattle.api_requests.specs.Consumers.{names_of, update_by, update_in, config_told, checked, config_in, settings_in, agrees, agreeing, creation_of};
-ghost use Rattle.api_requests.specs.Requests.{consumer_request};
+ghost use Rattle.api_requests.specs.Requests.{consumer_request, stream_request};
 ghost use Rattle.api_requests.specs.Seen.{seen, tokens_seen};
+ghost use Rattle.api_requests.specs.declared.call.StreamCall.TheVariants as stream;
 ghost use Rattle.api_requests.specs.declared.consumer_call.ConsumerCall.TheVariants as calls;
 ghost use Rattle.api_requests.specs.declared.request.ApiRequest.TheVariants as requests;
 
@@ -192,6 +193,21 @@ fn creation_of(alloc: Global, tokens: &ConsumerTokens, body: &[u8]) -> Result<Cr
         config: settings.config,
         update: settings.update,
     })
+}
+
+/// A creation that names no consumer, which is refused. A durable name is not the subject's, whatever name it is compared with: here the stream's.
+#[tactic(auto, unfolding(crate::specs::Requests::stream_request))]
+pub(crate) fn refuse_unnamed(
+    alloc: Global,
+    token: &[u8],
+    body: &[u8],
+) -> Result<ApiRequest, ApiFault>
+    ensures reading { Reads result (stream_request stream.ConsumerCreate token.now body.now) }
+{
+    let fields = object_in(alloc, body)?;
+    let stream = token_name(alloc, token)?;
+    settings_in(alloc, &stream, &fields)?;
+    Err(ApiFault::Refused(name_mismatch(alloc)?))
 }
 
 /// A question for messages.

@@ -8,7 +8,7 @@ ghost use Rattle.api_requests.specs.declared.call.StreamCall.TheVariants as stre
 
 use crate::call::{GeneralCall, StreamCall, general_call, stream_call};
 use crate::consumer_call::consumer_call;
-use crate::consumers::read_on_consumer;
+use crate::consumers::{read_on_consumer, refuse_unnamed};
 use crate::fault::ApiFault;
 use crate::listing::{fields_of, listing_of, object_in, page_of, setup_of, token_name};
 use crate::messages::{Purge, message_in, purge_in, sequence_in};
@@ -110,20 +110,22 @@ fn read_on_stream(
             let (stream, offset) = page_of(alloc, token, body)?;
             Ok(ApiRequest::ConsumerList { stream, offset })
         }
+        StreamCall::ConsumerCreate => refuse_unnamed(alloc, token, body),
     }
 }
 
 /// The call that a subject and a body are, and `None` exactly if the subject is not a call. The subjects are `$JS.API.` and one of `INFO`,
 /// `STREAM.NAMES`, `STREAM.LIST`; with the name of a stream behind, one of `STREAM.CREATE`, `STREAM.UPDATE`, `STREAM.INFO`, `STREAM.DELETE`,
-/// `STREAM.PURGE`, `STREAM.MSG.GET`, `STREAM.MSG.DELETE`, `CONSUMER.NAMES` and `CONSUMER.LIST`; and with the names of a stream and a consumer behind,
-/// one of `CONSUMER.CREATE`, which may have a filter behind them, `CONSUMER.DURABLE.CREATE`, `CONSUMER.INFO`, `CONSUMER.DELETE` and
+/// `STREAM.PURGE`, `STREAM.MSG.GET`, `STREAM.MSG.DELETE`, `CONSUMER.NAMES`, `CONSUMER.LIST` and `CONSUMER.CREATE`; and with the names of a stream and a
+/// consumer behind, one of `CONSUMER.CREATE`, which may have a filter behind them, `CONSUMER.DURABLE.CREATE`, `CONSUMER.INFO`, `CONSUMER.DELETE` and
 /// `CONSUMER.MSG.NEXT`.
 ///
 /// If several things are wrong, the first of these is the refusal: 10025, the body is not a JSON object; 20001 of `name`, a token is no name; 20001 of a
 /// field, or 20002 if the server leaves it out, in the order of the keys, those of a consumer's configuration at `config`; 20003 and 20005, a consumer
 /// lacks where it starts, or a durable name; 20022, another name in the body than in the subject, or another filter. An empty body is an object without
-/// fields, but for `STREAM.MSG.GET`, `STREAM.MSG.DELETE` and the two that make a consumer, which need a field; the bodies of `INFO`, `STREAM.DELETE`,
-/// `CONSUMER.INFO` and `CONSUMER.DELETE` are not looked at. `CONSUMER.MSG.NEXT` is never refused. `NoMemory` may come for each call.
+/// fields, but for `STREAM.MSG.GET`, `STREAM.MSG.DELETE` and those that make a consumer, which need a field; the bodies of `INFO`, `STREAM.DELETE`,
+/// `CONSUMER.INFO` and `CONSUMER.DELETE` are not looked at. `CONSUMER.MSG.NEXT` is never refused, and `CONSUMER.CREATE` without a consumer always, by 20005 or
+/// 20022 at last. `NoMemory` may come for each call.
 ///
 /// In a purge a `seq` or `keep` of 0 counts as absent, and both of them are 20001 of `keep`. A message is asked for by just one of `seq`, which may
 /// be 0, and `last_by_subj`, or else 20001 of `seq`; it is deleted by `seq`. An empty `filter`, `subject`, `last_by_subj` or `action` counts as absent,

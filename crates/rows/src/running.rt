@@ -6,7 +6,7 @@ use crate::outcome::Outcome;
 use crate::row::{DoorScript, LinkScript, Row, Turn, begin};
 use js_base::{Blob, List, Moment, NoMemory};
 use link_edge::{Knock, MemClock, MemDoor, MemLink, MemSink, OpenGate, Said, Unnoticed};
-use place_engine::MemoryPlace;
+use memory_place::MemoryPlace;
 use server::{Finish, run};
 use std::alloc::Global;
 use std::sync::Wait;

@@ -19,7 +19,7 @@ use Rattle.session.specs.Manners.{peer_of}
 use Rattle.session.specs.Calling.{Called}
 use Rattle.session.specs.Leading.{Cuts, IsAdded}
 use Rattle.session.specs.Stopping.{Asked, Unasked, Declined, EndsInCall, cause_of, end_after}
-use Rattle.session.specs.Peer.{Request, Calls, IsWrong, IsRefused, called_bytes, is_reply, message as message_of, connecting, op_request, peer_after_op, publishing, subscribing}
+use Rattle.session.specs.Peer.{Request, Calls, IsWrong, IsUnpublishable, IsRefused, Peer, called_bytes, error_line, is_reply, message as message_of, connecting, op_request, peer_after_op, publishing, subscribing}
 use Rattle.session.specs.Talk.{IsAnswered, all_called_bytes, op_answer}
 use Rattle.session.proofs.Led.{one_led}
 use Rattle.session.specs.Asking.{IsUnchecked, ReadsConnect, said_for, IsAsked, Asks}
@@ -35,10 +35,13 @@ use Rattle.session.specs.declared.stop.Stop.TheVariants as stops
 -- ---- what is asked
 
 pub publishing_right : (now : ℕ) (message : Out) → (is_publish_text message.to && is_reply message.reply) ≡ true → publishing now message ≡ Calls (Publish message now)
-publishing_right now message h = ap (λ (b : Bool). cond b (Calls (Publish message now)) (IsWrong (codes "Invalid Publish Subject"))) h
+publishing_right now message h = ap (λ (b : Bool). cond b (Calls (Publish message now)) IsUnpublishable) h
 
 pub subscribing_right : (subject : Bytes) (queue : Option Bytes) (sid : Bytes) → is_pattern_text subject ≡ true → subscribing subject queue sid ≡ Calls (Sub subject queue sid)
 subscribing_right subject queue sid h = ap (λ (b : Bool). cond b (Calls (Sub subject queue sid)) (IsWrong (codes "Invalid Subject"))) h
+
+pub subscribing_wrong : (subject : Bytes) (queue : Option Bytes) (sid : Bytes) → is_pattern_text subject ≡ false → subscribing subject queue sid ≡ IsWrong (codes "Invalid Subject")
+subscribing_wrong subject queue sid h = ap (λ (b : Bool). cond b (Calls (Sub subject queue sid)) (IsWrong (codes "Invalid Subject"))) h
 
 reply_right : (reply : Option Bytes) → is_reply reply ≡ true → IfSome reply (λ text. IsTrue (is_subject_text text))
 reply_right None h = tt
@@ -77,11 +80,17 @@ module _ {D : Type 0} (made : D → List DeskEntry → D → Type 0) (client : C
   asked_as old new request call answer verbose a b e ok m w =
       subst (λ (r : Request). IsAsked made client r (all_called_bytes verbose) old new a b) (sym e) (asked_call old new call answer verbose a b ok m w)
 
-  pub asked_one : (old new : D) (request : Request) (call : DeskCall) (answer : Result DeskAnswer DeskFault) (verbose : Bool) (a b : Bytes) → request ≡ Calls call
+  pub asked_one : (old new : D) (request : Request) (call : DeskCall) (answer : Result DeskAnswer DeskFault) (verbose pedantic : Bool) (a b : Bytes) → request ≡ Calls call
       → IsAnswered call answer → Makes made (Does client call answer) old new → b ≡ a ++ called_bytes verbose answer
-      → IsAsked made client request (said_for verbose request) old new a b
-  asked_one old new request call answer verbose a b e ok m w =
-      subst (λ (r : Request). IsAsked made client r (said_for verbose r) old new a b) (sym e) (asked_call old new call answer verbose a b ok m w)
+      → IsAsked made client request (said_for verbose pedantic request) old new a b
+  asked_one old new request call answer verbose pedantic a b e ok m w =
+      subst (λ (r : Request). IsAsked made client r (said_for verbose pedantic r) old new a b) (sym e) (asked_call old new call answer verbose a b ok m w)
+
+  -- no call, and its error line
+  pub told_wrong : (old : D) (request : Request) (text : Bytes) (verbose pedantic : Bool) (a b : Bytes) → request ≡ IsWrong text → made old [] old → b ≡ a ++ error_line text
+      → IsAsked made client request (said_for verbose pedantic request) old old a b
+  told_wrong old request text verbose pedantic a b e h w =
+      subst (λ (r : Request). IsAsked made client r (said_for verbose pedantic r) old old a b) (sym e) (record { calls = []; asked = refl; led = h; written = w })
 
   -- ---- the session ends there
 
@@ -144,42 +153,42 @@ module _ {D : Type 0} (made : D → List DeskEntry → D → Type 0) (client : C
 -- ---- a publish
 
 -- what is said for it depends on no operation
-publishing_said : (now : ℕ) (message : Out) (verbose : Bool) (op : Op) → op_answer verbose (publishing now message) op ≡ said_for verbose (publishing now message)
-publishing_said now message verbose op = go (is_publish_text message.to && is_reply message.reply)
+publishing_said : (now : ℕ) (message : Out) (peer : Peer) (op : Op) → op_answer peer (publishing now message) op ≡ said_for peer.verbose peer.pedantic (publishing now message)
+publishing_said now message peer op = go (is_publish_text message.to && is_reply message.reply)
   where
-    go : (b : Bool) → op_answer verbose (cond b (Calls (Publish message now)) (IsWrong (codes "Invalid Publish Subject"))) op
-        ≡ said_for verbose (cond b (Calls (Publish message now)) (IsWrong (codes "Invalid Publish Subject")))
+    go : (b : Bool) → op_answer peer (cond b (Calls (Publish message now)) IsUnpublishable) op
+        ≡ said_for peer.verbose peer.pedantic (cond b (Calls (Publish message now)) IsUnpublishable)
     go true = refl
     go false = refl
 
 module _ {D : Type 0} (made : D → List DeskEntry → D → Type 0) (client : Client) where
   -- the message is that of an operation
-  by_message : (now : ℕ) (op : Op) (verbose : Bool) (old new : D) (a b : Bytes) (result : Result (Unit {0}) Stop) (message : Out)
-      → Asks made client (publishing now message) (said_for verbose (publishing now message)) old new a b result
-      → Asks made client (publishing now message) (op_answer verbose (publishing now message) op) old new a b result
-  by_message now op verbose old new a b result message h =
-      subst (λ (said : List Called → Bytes). Asks made client (publishing now message) said old new a b result) (sym (publishing_said now message verbose op)) h
+  by_message : (now : ℕ) (op : Op) (peer : Peer) (old new : D) (a b : Bytes) (result : Result (Unit {0}) Stop) (message : Out)
+      → Asks made client (publishing now message) (said_for peer.verbose peer.pedantic (publishing now message)) old new a b result
+      → Asks made client (publishing now message) (op_answer peer (publishing now message) op) old new a b result
+  by_message now op peer old new a b result message h =
+      subst (λ (said : List Called → Bytes). Asks made client (publishing now message) said old new a b result) (sym (publishing_said now message peer op)) h
 
   pub asks_pub : (manners : Manners) (now : ℕ) (op : Op) (subject : Bytes) (reply : Option Bytes) (payload : Bytes) (old new : D) (a b : Bytes) (result : Result (Unit {0}) Stop)
       (message : Out) → op ≡ Pub subject reply payload → message ≡ message_of subject reply [] payload
-      → Asks made client (publishing now message) (said_for manners.verbose (publishing now message)) old new a b result
-      → Asks made client (op_request now op) (op_answer (peer_after_op (peer_of client manners) op).verbose (op_request now op) op) old new a b result
+      → Asks made client (publishing now message) (said_for manners.verbose manners.pedantic (publishing now message)) old new a b result
+      → Asks made client (op_request now op) (op_answer (peer_after_op (peer_of client manners) op) (op_request now op) op) old new a b result
   asks_pub manners now op subject reply payload old new a b result message e f h =
-      let own = by_message now (Pub subject reply payload) manners.verbose old new a b result (message_of subject reply [] payload)
-      (subst (λ (m : Out). Asks made client (publishing now m) (said_for manners.verbose (publishing now m)) old new a b result) f h) in
-      subst (λ (o : Op). Asks made client (op_request now o) (op_answer (peer_after_op (peer_of client manners) o).verbose (op_request now o) o) old new a b result) (sym e) own
+      let own = by_message now (Pub subject reply payload) (peer_of client manners) old new a b result (message_of subject reply [] payload)
+      (subst (λ (m : Out). Asks made client (publishing now m) (said_for manners.verbose manners.pedantic (publishing now m)) old new a b result) f h) in
+      subst (λ (o : Op). Asks made client (op_request now o) (op_answer (peer_after_op (peer_of client manners) o) (op_request now o) o) old new a b result) (sym e) own
 
   pub asks_hpub : (manners : Manners) (now : ℕ) (op : Op) (subject : Bytes) (reply : Option Bytes) (headers payload : Bytes) (old new : D) (a b : Bytes)
       (result : Result (Unit {0}) Stop) (message : Out) → op ≡ HPub subject reply headers payload → is_block headers ≡ true → message ≡ message_of subject reply headers payload
-      → Asks made client (publishing now message) (said_for manners.verbose (publishing now message)) old new a b result
-      → Asks made client (op_request now op) (op_answer (peer_after_op (peer_of client manners) op).verbose (op_request now op) op) old new a b result
+      → Asks made client (publishing now message) (said_for manners.verbose manners.pedantic (publishing now message)) old new a b result
+      → Asks made client (op_request now op) (op_answer (peer_after_op (peer_of client manners) op) (op_request now op) op) old new a b result
   asks_hpub manners now op subject reply headers payload old new a b result message e block f h =
       let asked : Request = publishing now (message_of subject reply headers payload) in
-      let own = by_message now (HPub subject reply headers payload) manners.verbose old new a b result (message_of subject reply headers payload)
-      (subst (λ (m : Out). Asks made client (publishing now m) (said_for manners.verbose (publishing now m)) old new a b result) f h) in
+      let own = by_message now (HPub subject reply headers payload) (peer_of client manners) old new a b result (message_of subject reply headers payload)
+      (subst (λ (m : Out). Asks made client (publishing now m) (said_for manners.verbose manners.pedantic (publishing now m)) old new a b result) f h) in
       let is : op_request now (HPub subject reply headers payload) ≡ asked = ap (λ (b : Bool). cond b asked (IsRefused BadHeaders)) block in
-      subst (λ (o : Op). Asks made client (op_request now o) (op_answer (peer_after_op (peer_of client manners) o).verbose (op_request now o) o) old new a b result) (sym e)
-      (subst (λ (r : Request). Asks made client r (op_answer manners.verbose r (HPub subject reply headers payload)) old new a b result) (sym is) own)
+      subst (λ (o : Op). Asks made client (op_request now o) (op_answer (peer_after_op (peer_of client manners) o) (op_request now o) o) old new a b result) (sym e)
+      (subst (λ (r : Request). Asks made client r (op_answer (peer_of client manners) r (HPub subject reply headers payload)) old new a b result) (sym is) own)
 
 -- a client that an operation leaves as it was
 pub stays : (result : Result (Unit {0}) Stop) (old new : Client) (manners : Manners) (op other : Op) → op ≡ other → peer_after_op (peer_of old manners) other ≡ peer_of old manners → new ≡ old

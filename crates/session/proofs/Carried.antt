@@ -25,7 +25,7 @@ use Rattle.session.specs.declared.stop.Stop.{Stop}
 
 -- what is said for the operation itself
 abbrev said_by : Peer → ℕ → Act → List Called → Bytes
-said_by peer now act = direct_answer (peer_after peer act).verbose (request now act) act
+said_by peer now act = direct_answer (peer_after peer act) (request now act) act
 
 -- the direct answer, and then what was gathered
 both_written : (a b c said more : Bytes) → b ≡ a ++ said → c ≡ b ++ more → c ≡ a ++ (said ++ more)

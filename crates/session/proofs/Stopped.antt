@@ -15,7 +15,7 @@ use Rattle.js_api.specs.Entries.{DeskEntry}
 use Rattle.js_api.specs.Answering.{DeskAnswer, Opened, Done, Took, Settled, Gave, Slow, Publish, Sub as Subscribe}
 use Rattle.session.specs.Calling.{Called}
 use Rattle.session.specs.Connecting.{connect_options}
-use Rattle.session.specs.Peer.{Act, Hears as Hearing, Ticks, Peer, Request, Calls, CallsNothing, IsWrong, IsRefused as Refuses, op_request, request, connecting, publishing, message, is_reply}
+use Rattle.session.specs.Peer.{Act, Hears as Hearing, Ticks, Peer, Request, Calls, CallsNothing, IsWrong, IsUnpublishable, IsRefused as Refuses, op_request, request, connecting, publishing, message, is_reply}
 use Rattle.session.specs.Stopping.{IsOwnEnd, Declined, Unasked, Asked, end_after}
 use Rattle.session.specs.Talk.{IsStopped, InCall, InGathering}
 use Rattle.session.specs.Carrying.{Carries}
@@ -48,6 +48,7 @@ AreOwn (Refuses refusal) = IsStopEnd (ends.Refused refusal)
 AreOwn (Calls call) = Unit {0}
 AreOwn CallsNothing = Unit {0}
 AreOwn (IsWrong text) = Unit {0}
+AreOwn IsUnpublishable = Unit {0}
 
 own_connecting : (options : Option ConnectOptions) → AreOwn (connecting options)
 own_connecting None = tt
@@ -55,7 +56,7 @@ own_connecting (Some options) = tt
 
 own_publishing : (now : ℕ) (out : Out) → AreOwn (publishing now out)
 own_publishing now out =
-    elim (is_publish_text out.to && is_reply out.reply) as (λ b. AreOwn (cond b (Calls (Publish out now)) (IsWrong (codes "Invalid Publish Subject")))) [ true ↦ tt | false ↦ tt ]
+    elim (is_publish_text out.to && is_reply out.reply) as (λ b. AreOwn (cond b (Calls (Publish out now)) IsUnpublishable)) [ true ↦ tt | false ↦ tt ]
 
 own_request : (now : ℕ) (op : Op) → AreOwn (op_request now op)
 own_request now (Connect text) = own_connecting (connect_options text)

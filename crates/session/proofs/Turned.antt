@@ -189,14 +189,14 @@ quiet_stage old client pings came = record {
   held = old.held;
   taken = old.taken;
   quiets = old.quiets + 1;
-  peer = record { client = client; verbose = old.peer.verbose; pings = pings };
+  peer = record { client = client; verbose = old.peer.verbose; pedantic = old.peer.pedantic; pings = pings };
   came = Some came;
 }
 
 module _ {D : Type 0} (made : D → List DeskEntry → D → Type 0) (now : ℕ) (old : Stage) (d d1 : D) (g0 g1 g2 : Option Bytes) where
   -- the client was kept, and the tick was carried out
   pub rested : (client : Client) (pings : List ℕ) (came : ℕ) → client ≡ old.peer.client → came ≡ unwrap_or old.came now → IsKept came now old.peer.pings pings g0 g1
-      → IsTicked made (record { client = old.peer.client; verbose = old.peer.verbose; pings = pings }) now d d1 [] g1 g2
+      → IsTicked made (record { client = old.peer.client; verbose = old.peer.verbose; pedantic = old.peer.pedantic; pings = pings }) now d d1 [] g1 g2
       → IsRested made now old (quiet_stage old client pings came) d d1 g0 g2
   rested client pings came same e k t =
       let k1 = subst (λ (n : ℕ). IsKept n now old.peer.pings pings g0 g1) e k in
@@ -204,7 +204,7 @@ module _ {D : Type 0} (made : D → List DeskEntry → D → Type 0) (now : ℕ)
       let due = is_due old now in
       let after = ap (λ (c : Client). quiet_stage old c pings came) same ∙ ap (λ (ps : List ℕ). quiet_stage old old.peer.client ps came) k1.pings
       ∙ ap (λ (n : ℕ). quiet_stage old old.peer.client (pinged due old.peer.pings now) n) e in
-      let t1 = subst (λ (ps : List ℕ). IsTicked made (record { client = old.peer.client; verbose = old.peer.verbose; pings = ps }) now d d1 [] g1 g2) k1.pings t in
+      let t1 = subst (λ (ps : List ℕ). IsTicked made (record { client = old.peer.client; verbose = old.peer.verbose; pedantic = old.peer.pedantic; pings = ps }) now d d1 [] g1 g2) k1.pings t in
       let heard = heard_bytes peer now (t1.spoken ∷ []) in
       record {
         spoken = t1.spoken ∷ [];
@@ -216,7 +216,7 @@ module _ {D : Type 0} (made : D → List DeskEntry → D → Type 0) (now : ℕ)
 
   -- the client was kept, and the session ended within the tick or behind it
   pub unticked : (pings : List ℕ) (came : ℕ) (ended : Ended) → came ≡ unwrap_or old.came now → IsKept came now old.peer.pings pings g0 g1
-      → IsTickCut ended made (record { client = old.peer.client; verbose = old.peer.verbose; pings = pings }) now d d1 [] g1 g2
+      → IsTickCut ended made (record { client = old.peer.client; verbose = old.peer.verbose; pedantic = old.peer.pedantic; pings = pings }) now d d1 [] g1 g2
       → IsUnticked ended made now old d d1 g0 g2
   unticked pings came ended e k t =
       let k1 = subst (λ (n : ℕ). IsKept n now old.peer.pings pings g0 g1) e k in
@@ -224,7 +224,7 @@ module _ {D : Type 0} (made : D → List DeskEntry → D → Type 0) (now : ℕ)
         alive = k1.alive;
         mid = g1;
         pinged = k1.given;
-        cut = subst (λ (ps : List ℕ). IsTickCut ended made (record { client = old.peer.client; verbose = old.peer.verbose; pings = ps }) now d d1 [] g1 g2) k1.pings t;
+        cut = subst (λ (ps : List ℕ). IsTickCut ended made (record { client = old.peer.client; verbose = old.peer.verbose; pedantic = old.peer.pedantic; pings = ps }) now d d1 [] g1 g2) k1.pings t;
       }
 
 -- the session ended before the tick

@@ -7,7 +7,7 @@ use Rattle.js_json.specs.declared.fault.JsonFault.TheVariants as json
 use Rattle.js_api.specs.Entries.{DeskEntry}
 use Rattle.js_api.specs.Clients.{Client}
 use Rattle.js_api.specs.Publishing.{is_headers}
-use Rattle.session.specs.Peer.{Request, Calls, CallsNothing, IsWrong, IsRefused as Refuses, error_line}
+use Rattle.session.specs.Peer.{Request, Calls, CallsNothing, IsWrong, IsUnpublishable, IsRefused as Refuses, error_line, unpublishable_bytes}
 use Rattle.session.specs.Calling.{Called, entries_of_calls}
 use Rattle.session.specs.Leading.{Cuts}
 use Rattle.session.specs.Stopping.{EndsInCall, cause_of}
@@ -38,11 +38,12 @@ pub record IsUnchecked (message : Out) : Type 0 where
   pub small : length message.headers + length message.payload ≤ 1048576
 
 -- what is said for a request that asks something of the desk
-abbrev pub said_for : Bool → Request → List Called → Bytes
-said_for verbose (Calls call) calls = all_called_bytes verbose calls
-said_for verbose CallsNothing calls = []
-said_for verbose (IsWrong text) calls = error_line text
-said_for verbose (Refuses refusal) calls = []
+abbrev pub said_for : (verbose pedantic : Bool) → Request → List Called → Bytes
+said_for verbose pedantic (Calls call) calls = all_called_bytes verbose calls
+said_for verbose pedantic CallsNothing calls = []
+said_for verbose pedantic (IsWrong text) calls = error_line text
+said_for verbose pedantic IsUnpublishable calls = unpublishable_bytes verbose pedantic
+said_for verbose pedantic (Refuses refusal) calls = []
 
 -- the one call of the request, or none, was made, and what is said for it was added
 pub record IsAsked {D : Type 0} (made : D → List DeskEntry → D → Type 0) (client : Client) (request : Request) (said : List Called → Bytes) (old new : D) (out_old out_new : Bytes) : Type 0 where

@@ -17,15 +17,17 @@ use Rattle.session.specs.declared.connect.ConnectOptions.{ConnectOptions}
 use Rattle.session.specs.declared.ending.Refusal.{Refusal}
 use Rattle.session.specs.declared.ending.Refusal.TheVariants.{BadConnect, BadHeaders}
 
--- the client as the desk has it, whether its operations are answered by `+OK`, and the moments of the PINGs that it has not answered
+-- the client as the desk has it, whether its operations are answered by `+OK`, whether a wrong subject of a publish is told, and the moments of the
+-- PINGs that it has not answered
 pub record Peer : Type 0 where
   pub client : clients.Client
   pub verbose : Bool
+  pub pedantic : Bool
   pub pings : List ℕ
 
--- before the first CONNECT each operation is answered
+-- before the first CONNECT each operation is answered, and each wrong subject told
 abbrev pub new_peer : ℕ → Peer
-new_peer session = record { client = clients.new_client session; verbose = true; pings = [] }
+new_peer session = record { client = clients.new_client session; verbose = true; pedantic = true; pings = [] }
 
 -- ---- what an operation and a tick ask
 
@@ -34,11 +36,12 @@ pub data Act : Type 0 where
   Hears : Op → Act
   Ticks : Act
 
--- a call of the desk, or none; an error line that leaves the connection open; or the end of the session
+-- a call of the desk, or none; an error line that leaves the connection open; a publish that goes to nobody; or the end of the session
 pub data Request : Type 0 where
   Calls : desk.DeskCall → Request
   CallsNothing : Request
   IsWrong : (text : Bytes) → Request
+  IsUnpublishable : Request
   IsRefused : Refusal → Request
 
 abbrev pub connecting : Option ConnectOptions → Request
@@ -54,8 +57,7 @@ abbrev pub message : Bytes → Option Bytes → Bytes → Bytes → Out
 message subject reply headers payload = record { to = subject; subject = subject; reply = reply; headers = headers; payload = payload }
 
 abbrev pub publishing : ℕ → Out → Request
-publishing now out =
-    if is_publish_text out.to && is_reply out.reply then Calls (desk.Publish out now) else IsWrong (codes "Invalid Publish Subject")
+publishing now out = if is_publish_text out.to && is_reply out.reply then Calls (desk.Publish out now) else IsUnpublishable
 
 abbrev pub subscribing : Bytes → Option Bytes → Bytes → Request
 subscribing subject queue sid = if is_pattern_text subject then Calls (desk.Sub subject queue sid) else IsWrong (codes "Invalid Subject")
@@ -79,7 +81,11 @@ request now Ticks = Calls (desk.Tick now)
 abbrev pub connected : Peer → Option ConnectOptions → Peer
 connected peer None = peer
 connected peer (Some options) =
-    record peer { client = clients.with_options peer.client options.headers options.no_responders; verbose = options.verbose }
+    record peer {
+      client = clients.with_options peer.client options.headers options.no_responders;
+      verbose = options.verbose;
+      pedantic = options.pedantic;
+    }
 
 abbrev pub peer_after_op : Peer → Op → Peer
 peer_after_op peer (Connect text) = connected peer (connect_options text)
@@ -102,6 +108,12 @@ error_line text = frame (Error text)
 abbrev pub fine : Bool → Bytes
 fine true = frame Fine
 fine false = []
+
+-- A publish whose subjects are wrong: a pedantic client is told, and for any other one it is an operation like the rest. The answer is that of the
+-- NATS server.
+abbrev pub unpublishable_bytes : (verbose pedantic : Bool) → Bytes
+unpublishable_bytes verbose true = error_line (codes "Invalid Publish Subject")
+unpublishable_bytes verbose false = fine verbose
 
 -- a call of the desk that was answered, or a fault of it; the session ends by each other fault, and nothing is said for it
 abbrev pub called_bytes : Bool → Result desk.DeskAnswer DeskFault → Bytes

@@ -18,7 +18,7 @@ use Rattle.js_api.specs.declared.fault.DeskFault.TheVariants as faults
 use Rattle.js_api.specs.Entries.{DeskEntry}
 use Rattle.js_api.specs.Clients.{Client, new_client}
 use Rattle.js_api.specs.Answering.{DeskCall, Open, Options, Sub, Unsub, Publish, Tick, Settle, Collect, Close, DeskAnswer, Opened, Done, Took, Settled, Gave, Slow}
-use Rattle.session.specs.Peer.{Act, Hears as Hearing, Ticks, Peer, new_peer, peer_after, Request, Calls, CallsNothing, IsWrong, IsRefused as Refuses, request, error_line, called_bytes, uncalled_bytes}
+use Rattle.session.specs.Peer.{Act, Hears as Hearing, Ticks, Peer, new_peer, peer_after, Request, Calls, CallsNothing, IsWrong, IsUnpublishable, IsRefused as Refuses, request, error_line, unpublishable_bytes, called_bytes, uncalled_bytes}
 use Rattle.session.specs.Calling.{Called, IsMade, entries_of_calls}
 use Rattle.session.specs.Gathering.{AreGathered, IsGathering, collected}
 use Rattle.session.specs.Stopping.{EndsInCall, IsCutBy, end_of_fault, still_written}
@@ -85,22 +85,24 @@ abbrev pub AreAsked : Client → Request → List Called → Type 0
 AreAsked client (Calls call) calls = (called : Called) × (calls ≡ called ∷ []) × (called.call ≡ call) × IsAnswered call called.answer × IsMade client called
 AreAsked client CallsNothing calls = calls ≡ []
 AreAsked client (IsWrong text) calls = calls ≡ []
+AreAsked client IsUnpublishable calls = calls ≡ []
 AreAsked client (Refuses refusal) calls = ⊥
 
 abbrev pub all_called_bytes : Bool → List Called → Bytes
 all_called_bytes verbose calls = flat_map (λ called. called_bytes verbose called.answer) calls
 
 -- what is written for the operation itself: its error line, `PONG`, or `+OK`
-abbrev pub op_answer : Bool → Request → Op → List Called → Bytes
-op_answer verbose (Calls call) op calls = all_called_bytes verbose calls
-op_answer verbose CallsNothing op calls = uncalled_bytes op
-op_answer verbose (IsWrong text) op calls = error_line text
-op_answer verbose (Refuses refusal) op calls = []
+abbrev pub op_answer : Peer → Request → Op → List Called → Bytes
+op_answer peer (Calls call) op calls = all_called_bytes peer.verbose calls
+op_answer peer CallsNothing op calls = uncalled_bytes op
+op_answer peer (IsWrong text) op calls = error_line text
+op_answer peer IsUnpublishable op calls = unpublishable_bytes peer.verbose peer.pedantic
+op_answer peer (Refuses refusal) op calls = []
 
 -- nothing is written for a tick
-abbrev pub direct_answer : Bool → Request → Act → List Called → Bytes
-direct_answer verbose request (Hearing op) calls = op_answer verbose request op calls
-direct_answer verbose request Ticks calls = []
+abbrev pub direct_answer : Peer → Request → Act → List Called → Bytes
+direct_answer peer request (Hearing op) calls = op_answer peer request op calls
+direct_answer peer request Ticks calls = []
 
 -- ---- operations and ticks that were carried out
 
@@ -115,7 +117,7 @@ AreSpoken peer now (spoken ∷ more) = IsSpoken peer now spoken × AreSpoken (pe
 -- the bytes of an operation: its direct answer, and then what was gathered after it
 abbrev pub spoken_bytes : Peer → ℕ → Spoken → Bytes
 spoken_bytes peer now spoken =
-    direct_answer (peer_after peer spoken.act).verbose (request now spoken.act) spoken.act spoken.calls ++ collected spoken.gathered
+    direct_answer (peer_after peer spoken.act) (request now spoken.act) spoken.act spoken.calls ++ collected spoken.gathered
 
 -- the bytes of operations one after the other
 abbrev pub heard_bytes : Peer → ℕ → List Spoken → Bytes
@@ -216,7 +218,7 @@ pub data IsStopped (peer : Peer) (now : ℕ) (act : Act) (cause : Ended) (calls 
   InCall : EndsInCall peer.client (request now act) cause calls said → IsStopped peer now act cause calls said
   InGathering : (asked after : List Called) (more : Bytes) → calls ≡ asked ++ after → AreAsked peer.client (request now act) asked
       → IsCutBy (IsGathering (peer_after peer act).client now) (peer_after peer act).client cause after more
-      → said ≡ still_written cause (direct_answer (peer_after peer act).verbose (request now act) act asked ++ more)
+      → said ≡ still_written cause (direct_answer (peer_after peer act) (request now act) act asked ++ more)
       → IsStopped peer now act cause calls said
 
 -- the operations with which the bytes begin, and after all that are whole the tick
@@ -357,11 +359,11 @@ refusal_text refusals.BadConnect = Some (codes "Parser Error")
 refusal_text refusals.BadHeaders = Some (codes "Parser Error")
 refusal_text refusals.NumbersUsed = None
 
--- the text of the error line with which a session ends so
+-- the text of the error line with which a session ends so. A slow client gets none, as of the NATS server, and so connects again
 abbrev pub last_text : Ended → Option Bytes
 last_text ends.Closed = None
 last_text (ends.Refused refusal) = refusal_text refusal
-last_text (ends.Slow size) = Some (codes "Slow Consumer")
+last_text (ends.Slow size) = None
 last_text ends.Stale = Some (codes "Stale Connection")
 last_text ends.LinkFault = None
 last_text ends.InputLimit = None

@@ -5,7 +5,7 @@ ghost use Rattle.js_base.specs.Subjects.{is_publish_text};
 ghost use Rattle.js_api.specs.Answering.{Unsub};
 ghost use Rattle.session.specs.Connecting.{connect_options};
 ghost use Rattle.session.specs.Manners.{peer_of};
-ghost use Rattle.session.specs.Peer.{Calls, connected, connecting, fine, is_reply, message, op_request, peer_after_op, publishing, subscribing};
+ghost use Rattle.session.specs.Peer.{Calls, connected, connecting, fine, is_reply, message, op_request, peer_after_op, publishing, subscribing, unpublishable_bytes};
 ghost use Rattle.session.specs.Talk.{all_called_bytes, op_answer};
 ghost use Rattle.session.specs.Asking.{Asks, IsUnchecked, said_for};
 ghost use Rattle.session.specs.Carrying.{IsSpelled};
@@ -54,6 +54,7 @@ fn connect<D: Desk>(
     };
     desk.options(options.echo, options.headers, options.no_responders)?;
     manners.verbose = options.verbose;
+    manners.pedantic = options.pedantic;
     Ok(write_fine(options.verbose, into)?)
 }
 
@@ -92,27 +93,38 @@ fn is_publishable(message: &Out) -> bool
     is_publish_subject(message.to.as_slice()) && is_reply(&message.reply)
 }
 
-/// Publishes a message, if its subjects are right.
+/// Tells a pedantic client that it may not publish to a subject. For any other one the publish is an operation like the rest.
+fn write_unpublishable(alloc: Global, manners: Manners, into: &mut Vec<u8>) -> Result<(), NoMemory>
+    ensures ok { OnOk result (into.new.items ≡ into.old.items ++ unpublishable_bytes manners.verbose manners.pedantic) }
+{
+    if manners.pedantic {
+        write_error(alloc, b"Invalid Publish Subject", into)
+    } else {
+        write_fine(manners.verbose, into)
+    }
+}
+
+/// Publishes a message, if its subjects are right; else it goes to nobody.
 fn publish<D: Desk>(
     alloc: Global,
     desk: &mut D,
     message: &Out,
-    verbose: bool,
+    manners: Manners,
     now: Moment,
     into: &mut Vec<u8>,
 ) -> Result<(), Stop>
     requires message { IsUnchecked message.now }
     requires is_open { (D.client desk.old).is_open ≡ true }
-    ensures asks { Asks D.made (D.client desk.old) (publishing now message.now) (said_for verbose (publishing now message.now))
-        desk.old desk.new into.old.items into.new.items result }
+    ensures asks { Asks D.made (D.client desk.old) (publishing now message.now)
+        (said_for manners.verbose manners.pedantic (publishing now message.now)) desk.old desk.new into.old.items into.new.items result }
     ensures client { D.client desk.new ≡ D.client desk.old }
     ensures is_open { (D.client desk.new).is_open ≡ true }
 {
     if !is_publishable(message) {
-        return Ok(write_error(alloc, b"Invalid Publish Subject", into)?);
+        return Ok(write_unpublishable(alloc, manners, into)?);
     }
     desk.publish(message, now)?;
-    Ok(write_fine(verbose, into)?)
+    Ok(write_fine(manners.verbose, into)?)
 }
 
 /// The text that there may be.
@@ -132,12 +144,12 @@ fn subscribe<D: Desk>(
     subject: &Blob,
     queue: &Option<Blob>,
     sid: &Blob,
-    verbose: bool,
+    manners: Manners,
     into: &mut Vec<u8>,
 ) -> Result<(), Stop>
     requires is_open { (D.client desk.old).is_open ≡ true }
-    ensures asks { Asks D.made (D.client desk.old) (subscribing subject.now queue.now sid.now) (said_for verbose (subscribing subject.now queue.now sid.now))
-        desk.old desk.new into.old.items into.new.items result }
+    ensures asks { Asks D.made (D.client desk.old) (subscribing subject.now queue.now sid.now)
+        (said_for manners.verbose manners.pedantic (subscribing subject.now queue.now sid.now)) desk.old desk.new into.old.items into.new.items result }
     ensures client { D.client desk.new ≡ D.client desk.old }
     ensures is_open { (D.client desk.new).is_open ≡ true }
 {
@@ -145,7 +157,7 @@ fn subscribe<D: Desk>(
         return Ok(write_error(alloc, b"Invalid Subject", into)?);
     }
     match desk.sub(subject.as_slice(), text_of(queue), sid.as_slice()) {
-        Ok(()) => Ok(write_fine(verbose, into)?),
+        Ok(()) => Ok(write_fine(manners.verbose, into)?),
         Err(DeskFault::TooManySubs) => Ok(write_error(
             alloc,
             b"maximum subscriptions exceeded",
@@ -185,13 +197,12 @@ pub(crate) fn ask<D: Desk>(
     requires spelled { IsSpelled op }
     requires is_open { (D.client desk.old).is_open ≡ true }
     ensures asks { Asks D.made (D.client desk.old) (op_request now op)
-        (op_answer (peer_after_op (peer_of (D.client desk.old) manners.old) op).verbose (op_request now op) op)
+        (op_answer (peer_after_op (peer_of (D.client desk.old) manners.old) op) (op_request now op) op)
         desk.old desk.new into.old.items into.new.items result }
     ensures peer { OnOk result (peer_of (D.client desk.new) manners.new ≡ peer_after_op (peer_of (D.client desk.old) manners.old) op) }
     ensures session { (D.client desk.new).session ≡ (D.client desk.old).session }
     ensures is_open { (D.client desk.new).is_open ≡ true }
 {
-    let verbose = manners.verbose;
     match op {
         Op::Connect { text } => connect(alloc, desk, text.as_slice(), manners, into),
         Op::Pub {
@@ -200,7 +211,7 @@ pub(crate) fn ask<D: Desk>(
             payload,
         } => {
             let message = message_of(subject, reply, Blob::empty(), payload)?;
-            publish(alloc, desk, &message, verbose, now, into)
+            publish(alloc, desk, &message, *manners, now, into)
         }
         Op::HPub {
             subject,
@@ -212,14 +223,14 @@ pub(crate) fn ask<D: Desk>(
                 return Err(Stop::Refused(Refusal::BadHeaders));
             }
             let message = message_of(subject, reply, headers, payload)?;
-            publish(alloc, desk, &message, verbose, now, into)
+            publish(alloc, desk, &message, *manners, now, into)
         }
         Op::Sub {
             subject,
             queue,
             sid,
-        } => subscribe(alloc, desk, &subject, &queue, &sid, verbose, into),
-        Op::Unsub { sid, max } => unsubscribe(desk, sid.as_slice(), max, verbose, into),
+        } => subscribe(alloc, desk, &subject, &queue, &sid, *manners, into),
+        Op::Unsub { sid, max } => unsubscribe(desk, sid.as_slice(), max, manners.verbose, into),
         Op::Ping => Ok(write_frame(&Frame::Pong, into)?),
         Op::Pong => {
             manners.pings = Pings::Answered;

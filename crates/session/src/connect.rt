@@ -15,6 +15,8 @@ use std::alloc::Global;
 pub(crate) struct ConnectOptions {
     /// Whether its operations are answered by `+OK`.
     pub(crate) verbose: bool,
+    /// Whether it is told of a wrong subject of a publish.
+    pub(crate) pedantic: bool,
     /// Whether it hears its own messages.
     pub(crate) echo: bool,
     /// Whether it takes header blocks.
@@ -23,7 +25,7 @@ pub(crate) struct ConnectOptions {
     pub(crate) no_responders: bool,
 }
 
-/// The options that the text of a CONNECT asks for. It is refused exactly if it is no JSON object, or one of the four options is neither
+/// The options that the text of a CONNECT asks for. It is refused exactly if it is no JSON object, or one of the five options is neither
 /// true nor false; null counts as absent, and what else stands there may be anything.
 pub(crate) fn read_connect(alloc: Global, text: &[u8]) -> Result<ConnectOptions, Stop>
     ensures reads { ReadsConnect result (connect_options text.now) }
@@ -52,6 +54,7 @@ fn options_in(fields: &Fields) -> Option<ConnectOptions>
 {
     Some(ConnectOptions {
         verbose: flag_or(true, "verbose", fields)?,
+        pedantic: flag_or(true, "pedantic", fields)?,
         echo: flag_or(true, "echo", fields)?,
         headers: flag_or(false, "headers", fields)?,
         no_responders: flag_or(false, "no_responders", fields)?,

@@ -25,6 +25,8 @@ pub(crate) enum Pings {
 pub(crate) struct Manners {
     /// Whether operations are answered by `+OK`.
     pub(crate) verbose: bool,
+    /// Whether a wrong subject of a publish is told.
+    pub(crate) pedantic: bool,
     pub(crate) pings: Pings,
 }
 

@@ -24,8 +24,6 @@ const PARSER_ERROR: &[u8] = b"Parser Error";
 
 const PAYLOAD_TOO_BIG: &[u8] = b"Maximum Payload Violation";
 
-const SLOW_CONSUMER: &[u8] = b"Slow Consumer";
-
 const STALE_CONNECTION: &[u8] = b"Stale Connection";
 
 /// The text for a fault of the input.
@@ -58,9 +56,9 @@ fn last_text(cause: Ended) -> Option<&'static [u8]>
 {
     match cause {
         Ended::Refused(refusal) => refusal_text(refusal),
-        Ended::Slow(_) => Some(SLOW_CONSUMER),
         Ended::Stale => Some(STALE_CONNECTION),
-        Ended::Closed | Ended::LinkFault | Ended::InputLimit | Ended::NoMemory => None,
+        Ended::Closed | Ended::Slow(_) | Ended::LinkFault | Ended::InputLimit | Ended::NoMemory =>
+            None,
     }
 }
 

@@ -45,6 +45,7 @@ impl Course {
             decoder: Decoder::new(alloc),
             manners: Manners {
                 verbose: true,
+                pedantic: true,
                 pings: Pings::Answered,
             },
             taken: 0,

@@ -26,6 +26,7 @@ const ACCEPT_MILLISECONDS: u64 = 50;
 #[derive(Drop)]
 struct Listening {
     listener: TcpListener,
+    address: SocketAddr,
     poll: Poll,
     events: Events,
 }
@@ -34,11 +35,13 @@ impl Listening {
     /// Listens at an address.
     fn at<R: Net>(rt: &R, alloc: Global, address: SocketAddr) -> io::Result<Listening> {
         let mut listener = TcpListener::bind(rt, address)?;
+        let address = listener.local_addr()?;
         let poll = Poll::new(rt)?;
         poll.registry()
             .register(&mut listener, LISTENER, Interest::READABLE)?;
         Ok(Listening {
             listener,
+            address,
             poll,
             events: Events::with_capacity(alloc, EVENTS)?,
         })
@@ -68,8 +71,7 @@ impl Listening {
 pub struct TcpDoor<R: Net + Clock + Copy + Drop> {
     rt: R,
     alloc: Global,
-    /// `None` where it can't listen at its address.
-    listening: Option<Listening>,
+    listening: Listening,
     faults: u64,
 }
 
@@ -84,24 +86,21 @@ impl<R: Net + Clock + Copy + Drop> Model for TcpDoor<R> {
 impl<R: Net + Clock + Copy + Drop> TcpDoor<R> {
     ghost use Rattle.std.specs.Prelude.{IfOk};
 
-    /// A door at the address, of which port 0 stands for any that is free. If the address can't be bound, or memory runs out, each accept is `Failed`.
-    pub fn bind(rt: R, alloc: Global, address: SocketAddr) -> TcpDoor<R>
-        ensures unfailed { result ≡ 0 }
+    /// A door at the address, of which port 0 stands for any that is free, or the error if it can't be bound or memory runs out.
+    pub fn bind(rt: R, alloc: Global, address: SocketAddr) -> io::Result<TcpDoor<R>>
+        ensures unfailed { IfOk result (λ door. door ≡ 0) }
     {
-        TcpDoor {
+        Ok(TcpDoor {
             rt,
             alloc,
-            listening: Listening::at(&rt, alloc, address).ok(),
+            listening: Listening::at(&rt, alloc, address)?,
             faults: 0,
-        }
+        })
     }
 
-    /// The address at which it listens, with the port that it has, or `None` if it can't listen.
-    pub fn address(&self) -> Option<SocketAddr> {
-        match &self.listening {
-            Some(listening) => listening.listener.local_addr().ok(),
-            None => None,
-        }
+    /// The address at which it listens, with the port that it has.
+    pub fn address(&self) -> SocketAddr {
+        self.listening.address
     }
 
     /// How often it failed. The count stops at the greatest number of its type.
@@ -140,11 +139,7 @@ impl<R: Net + Clock + Copy + Drop> Door for TcpDoor<R> {
     /// Gives the next connection, or waits about 50 milliseconds for one. It is `Quiet` too where a connection broke before it was accepted, and where
     /// the system has no descriptor or no memory left for one: such a connection waits, or is closed.
     fn accept(&mut self) -> Accept<TcpLink<R>> {
-        let Some(listening) = &mut self.listening else {
-            self.faults = self.faults.saturating_add(1);
-            return Accept::Failed;
-        };
-        match listening.next() {
+        match self.listening.next() {
             Ok(stream) => match self.link_over(stream) {
                 Ok(link) => Accept::Got(link),
                 Err(error) if is_refused_memory(&error) => Accept::NoMemory,
@@ -153,7 +148,7 @@ impl<R: Net + Clock + Copy + Drop> Door for TcpDoor<R> {
             Err(error) => match AcceptFault::of(&error) {
                 AcceptFault::Passing => Accept::Quiet,
                 AcceptFault::Scarce => {
-                    listening.wait();
+                    self.listening.wait();
                     Accept::Quiet
                 }
                 AcceptFault::Lasting => {

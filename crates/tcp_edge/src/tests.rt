@@ -1,6 +1,6 @@
 use super::*;
 use link_edge::{Accept, Door, Give, Link, Take};
-use std::io::{self, Read, Write};
+use std::io::{self, ErrorKind, Read, Write};
 use std::net::{Ipv4Addr, SocketAddr, TcpStream};
 use std::sync::Arc;
 use std::sync::atomic::{AtomicBool, Ordering};
@@ -15,8 +15,8 @@ const PATIENCE: u32 = 400;
 const WAITS: u32 = 1_250;
 
 fn bound(rt: HostRuntime) -> Result<(TcpDoor<HostRuntime>, SocketAddr), Fail> {
-    let door = TcpDoor::bind(rt, rt.alloc(), SocketAddr::from((Ipv4Addr::LOCALHOST, 0)));
-    let address = door.address().ok_or("a free port is bound")?;
+    let door = TcpDoor::bind(rt, rt.alloc(), SocketAddr::from((Ipv4Addr::LOCALHOST, 0)))?;
+    let address = door.address();
     Ok((door, address))
 }
 
@@ -120,11 +120,9 @@ fn another_thread_ends_each_wait(rt: HostRuntime) -> Result<(), Fail> {
 }
 
 #[test]
-fn an_address_that_is_taken_fails_at_the_first_accept(rt: HostRuntime) -> Result<(), Fail> {
+fn an_address_that_is_taken_is_refused(rt: HostRuntime) -> Result<(), Fail> {
     let (_first, address) = bound(rt)?;
-    let mut second = TcpDoor::bind(rt, rt.alloc(), address);
-    assert!(rt; second.address().is_none());
-    assert!(rt; matches!(second.accept(), Accept::Failed));
-    assert_eq!(rt; second.faults(), 1);
+    let second = TcpDoor::bind(rt, rt.alloc(), address);
+    assert!(rt; second.is_err_and(|error| error.kind() == ErrorKind::AddrInUse));
     Ok(())
 }

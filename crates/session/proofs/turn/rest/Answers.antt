@@ -10,13 +10,13 @@ returns-in-Err-clause-rests g c =
 
 pub returns-in-Err-end_turn-clause-rests : goal.returns-in-Err-end_turn-clause-rests
 returns-in-Err-end_turn-clause-rests g c =
-    let manners : Manners = record { verbose = c.args.course.now.manners.verbose; pings = c.keep_alive.new.pings } in
+    let manners : Manners = record { verbose = c.args.course.now.manners.verbose; pedantic = c.args.course.now.manners.pedantic; pings = c.keep_alive.new.pings } in
     inr (unticked _ _ _ _ _ _ _ _ _ _ c.in-Err-end_turn.ended c.unwrap_or-came.ensures c.in-Ok.ensures.keeps
     (rw c.new-waiting.ensures.items at (c.in-Err-end_turn.ensures.ticks manners)))
 
 pub returns-clause-rests : goal.returns-clause-rests
 returns-clause-rests g c =
-    let manners : Manners = record { verbose = c.args.course.now.manners.verbose; pings = c.keep_alive.new.pings } in
+    let manners : Manners = record { verbose = c.args.course.now.manners.verbose; pedantic = c.args.course.now.manners.pedantic; pings = c.keep_alive.new.pings } in
     rested _ _ _ _ _ _ _ _ _ _ _ c.end_turn.ensures.client c.unwrap_or-came.ensures c.in-Ok.ensures.keeps
     (rw c.new-waiting.ensures.items at (c.in-Ok-end_turn.ensures.ticks manners))
 
