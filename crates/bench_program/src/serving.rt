@@ -7,7 +7,7 @@ use crate::cut_link::CutLink;
 use js_base::{Blob, Moment, Name, NoMemory};
 use js_desk::SoloDesk;
 use link_edge::Clock;
-use place_engine::MemoryPlace;
+use memory_place::MemoryPlace;
 use session::{Ended, Limits, serve_link};
 use std::alloc::Global;
 

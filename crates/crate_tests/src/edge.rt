@@ -88,43 +88,92 @@ fn sink_counts_its_faults(rt: HostRuntime) {
     assert_eq!(rt; sink.faults(), 1);
 }
 
-/// A system that tells 5 ns, fails, and then tells times past the last moment.
+/// A system whose clocks tell, in nanoseconds, what a test sets, or fail.
 #[derive(Drop)]
-struct Lost {
-    reads: Cell<u32>,
+struct Set {
+    wall: Cell<Option<u64>>,
+    passed: Cell<Option<u64>>,
 }
 
-impl rt::Clock for Lost {
-    fn monotonic(&self) -> io::Result<Duration> {
-        self.since_1970()
-    }
-
-    fn since_1970(&self) -> io::Result<Duration> {
-        let reads = self.reads.get();
-        self.reads.set(reads.saturating_add(1));
-        match reads {
-            0 => Ok(Duration::from_nanos(5)),
-            1 => Err(Error::from(ErrorKind::Unsupported)),
-            _ => Ok(Duration::from_nanos(1 << 62)),
+impl Set {
+    fn at(wall: Option<u64>, passed: Option<u64>) -> Set {
+        Set {
+            wall: Cell::new(wall),
+            passed: Cell::new(passed),
         }
     }
 }
 
+fn told(nanos: Option<u64>) -> io::Result<Duration> {
+    match nanos {
+        Some(nanos) => Ok(Duration::from_nanos(nanos)),
+        None => Err(Error::from(ErrorKind::Unsupported)),
+    }
+}
+
+impl rt::Clock for Set {
+    fn monotonic(&self) -> io::Result<Duration> {
+        told(self.passed.get())
+    }
+
+    fn since_1970(&self) -> io::Result<Duration> {
+        told(self.wall.get())
+    }
+}
+
+#[test]
+fn clock_goes_on_though_it_is_set_back(rt: HostRuntime) -> Result<(), Fail> {
+    let hour: u64 = 3_600_000_000_000;
+    let system = Set::at(Some(2 * hour), Some(7));
+    let mut clock = SystemClock::new(&system);
+    assert_eq!(rt; clock.now().as_nanos(), 2 * hour);
+    system.wall.set(Some(hour));
+    system.passed.set(Some(12));
+    assert_eq!(rt; clock.now().as_nanos(), 2 * hour + 5);
+    let mut twin = clock.twin()?;
+    system.wall.set(None);
+    system.passed.set(Some(17));
+    assert_eq!(rt; twin.now().as_nanos(), 2 * hour + 10);
+    assert_eq!(rt; clock.now().as_nanos(), 2 * hour + 10);
+    assert_eq!(rt; clock.faults(), 0);
+    Ok(())
+}
+
 #[test]
 fn clock_keeps_its_last_moment(rt: HostRuntime) -> Result<(), Fail> {
-    let lost = Lost {
-        reads: Cell::new(0),
-    };
-    let mut clock = SystemClock::new(&lost);
-    for _ in 0..3 {
-        assert_eq!(rt; clock.now().as_nanos(), 5);
-    }
+    let system = Set::at(Some(5), Some(0));
+    let mut clock = SystemClock::new(&system);
+    system.passed.set(None);
+    assert_eq!(rt; clock.now().as_nanos(), 0);
+    system.passed.set(Some(1));
+    assert_eq!(rt; clock.now().as_nanos(), 6);
+    system.passed.set(Some(1 << 62));
+    assert_eq!(rt; clock.now().as_nanos(), 6);
+    system.passed.set(Some(0));
+    assert_eq!(rt; clock.now().as_nanos(), 6);
     assert_eq!(rt; clock.faults(), 2);
     let mut twin = clock.twin()?;
-    assert_eq!(rt; twin.now().as_nanos(), 5);
+    assert_eq!(rt; twin.faults(), 0);
+    system.passed.set(None);
+    assert_eq!(rt; twin.now().as_nanos(), 6);
     assert_eq!(rt; twin.faults(), 1);
     let mut clock = SystemClock::new(rt.clone()?);
     assert!(rt; clock.now().as_nanos() > 1_700_000_000_000_000_000);
+    Ok(())
+}
+
+#[test]
+fn clock_begins_once_it_is_told(rt: HostRuntime) -> Result<(), Fail> {
+    let system = Set::at(None, Some(3));
+    let mut clock = SystemClock::new(&system);
+    assert_eq!(rt; clock.now().as_nanos(), 0);
+    assert_eq!(rt; clock.faults(), 1);
+    system.wall.set(Some(100));
+    system.passed.set(Some(8));
+    assert_eq!(rt; clock.now().as_nanos(), 100);
+    system.passed.set(Some(9));
+    assert_eq!(rt; clock.now().as_nanos(), 101);
+    assert_eq!(rt; clock.faults(), 1);
     Ok(())
 }
 

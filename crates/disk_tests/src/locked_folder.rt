@@ -2,13 +2,14 @@
 
 use folder_lock::{FolderLock, LockFault};
 use std::fs;
+use std::io::ErrorKind;
 use std::test::Fail;
 
 const FOLDER: &str = "folder_lock_test";
 
-/// Why the lock of the folder is not taken, or `None` if it is, and given up at once.
-fn refusal(rt: &HostRuntime) -> Option<LockFault> {
-    FolderLock::take(rt, FOLDER).err()
+/// Whether somebody has the lock of the folder. It is taken otherwise, and given up at once.
+fn is_in_use(rt: &HostRuntime) -> bool {
+    matches!(FolderLock::take(rt, FOLDER), Err(LockFault::InUse))
 }
 
 #[test]
@@ -16,14 +17,16 @@ fn folder_has_one_lock_until_it_is_given_up(rt: HostRuntime) -> Result<(), Fail>
     let _ = fs::remove_dir_all(&rt, FOLDER);
     for _ in 0..3 {
         let lock = FolderLock::take(&rt, FOLDER)?;
-        assert_eq!(rt; refusal(&rt), Some(LockFault::InUse));
+        assert!(rt; is_in_use(&rt));
         drop(lock);
-        assert_eq!(rt; refusal(&rt), None);
+        assert!(rt; !is_in_use(&rt));
     }
     fs::remove_dir_all(&rt, FOLDER)?;
-    assert_eq!(rt;
-        FolderLock::take(&rt, "no/folder").err(),
-        Some(LockFault::Failed)
+    assert!(rt;
+        matches!(
+        FolderLock::take(&rt, "no/folder"),
+        Err(LockFault::Failed(error)) if error.kind() == ErrorKind::NotFound
+    )
     );
     Ok(())
 }

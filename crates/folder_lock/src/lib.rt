@@ -5,12 +5,12 @@ use std::fs::{self, File, OpenOptions, TryLockError};
 use std::io::{self, ErrorKind};
 
 /// Why a folder was not locked.
-#[derive(Clone, Copy, Debug, PartialEq, Eq)]
+#[derive(Drop, Debug)]
 pub enum LockFault {
     /// Somebody has the lock.
     InUse,
     /// The folder or the file in it can't be made or opened, or the system has no lock for it.
-    Failed,
+    Failed(io::Error),
 }
 
 /// The lock of a folder. It is given up when it is dropped, and by the system when the process ends, however it ends.
@@ -42,13 +42,14 @@ impl FolderLock {
     /// Takes the lock of the folder `dir`, and does not wait for it. The folder is made if it is not there, but not what it lies in. The lock is on the
     /// file `lock` in it, and keeps out those alone that take it too.
     pub fn take(rt: &HostRuntime, dir: &str) -> Result<FolderLock, LockFault> {
-        let Ok(file) = lock_file(rt, dir) else {
-            return Err(LockFault::Failed);
+        let file = match lock_file(rt, dir) {
+            Ok(file) => file,
+            Err(error) => return Err(LockFault::Failed(error)),
         };
         match file.try_lock() {
             Ok(()) => Ok(FolderLock { file }),
             Err(TryLockError::WouldBlock) => Err(LockFault::InUse),
-            Err(TryLockError::Error(_)) => Err(LockFault::Failed),
+            Err(TryLockError::Error(error)) => Err(LockFault::Failed(error)),
         }
     }
 }

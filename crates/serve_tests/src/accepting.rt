@@ -92,7 +92,10 @@ fn words_of_no_form_are_refused(rt: HostRuntime) -> Result<(), Fail> {
     let line = "serve --dir d --workers 33";
     let door = door_of(alloc, &[PING])?;
     let ran = serve_by(&rt, alloc, line, door, empty_volumes(alloc, 3)?, &OpenGate)?;
-    assert!(rt; refuses(&ran, 2, b"words\n"));
+    assert_eq!(rt; ran.finish.status, 2);
+    assert!(rt;
+        ran.printed.starts_with(b"jsblock: --workers takes a number from 1 to 32, not 33\nusage: ")
+    );
     assert!(rt; ran.finish.door.answered().is_empty());
     assert_eq!(rt; ran.finish.vols.len(), 3);
     Ok(())

@@ -50,7 +50,7 @@ fn volume_that_fails_in_the_opening_is_told(rt: HostRuntime) -> Result<(), Fail>
         failing_from(alloc, &MemVol::new(alloc), 0)?,
     ]?;
     let ran = serve(&rt, alloc, &[PUBLISH], vols)?;
-    assert!(rt; refuses(&ran, 4, b"disk fault in place 1\n"));
+    assert!(rt; refuses(&ran, 4, b"disk fault in place-01\n"));
     assert_eq!(rt; ran.finish.vols.len(), 2);
     Ok(())
 }
@@ -87,9 +87,9 @@ fn run_over_bytes(
 fn bytes_that_no_server_wrote_are_told(rt: HostRuntime) -> Result<(), Fail> {
     let alloc = rt.alloc();
     let damaged = run_over_bytes(&rt, alloc, &[0; 18])?;
-    assert!(rt; refuses(&damaged, 5, b"damaged place 0 file 0 at 0\n"));
+    assert!(rt; refuses(&damaged, 5, b"damaged place-00/f00000 at 0\n"));
     let newer = run_over_bytes(&rt, alloc, b"JSLOG\0\0\x03\0\0\0\0\0\0\0\0\0\0")?;
-    assert!(rt; refuses(&newer, 5, b"unknown version 3 in place 0\n"));
+    assert!(rt; refuses(&newer, 5, b"unknown version 3 in place-00\n"));
     Ok(())
 }
 
@@ -102,7 +102,7 @@ fn streams_that_conflict_are_told(rt: HostRuntime) -> Result<(), Fail> {
         orders(&rt, alloc)?,
     ]?;
     let ran = serve(&rt, alloc, &[PUBLISH], vols)?;
-    assert!(rt; refuses(&ran, 5, b"places 0 and 2 conflict\n"));
+    assert!(rt; refuses(&ran, 5, b"place-00 and place-02 conflict\n"));
     assert_eq!(rt; ran.finish.vols.len(), 3);
     Ok(())
 }

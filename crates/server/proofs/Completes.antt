@@ -21,8 +21,8 @@ use Rattle.nats_frames.specs.Grammar.{Fronts}
 use Rattle.nats_frames.specs.Reading.{op_at}
 use Rattle.place_engine.specs.declared.faults.PlaceFault.{PlaceFault}
 use Rattle.js_desk.specs.Solo.{Solo}
-use Rattle.js_desk.specs.declared.faults.Closed.{Closed}
-use Rattle.js_desk.specs.declared.faults.HubFault.{HubFault}
+use Rattle.desk_places.specs.declared.faults.Closed.{Closed}
+use Rattle.desk_places.specs.declared.faults.HubFault.{HubFault}
 use Rattle.stream_config.specs.Defaults.{default_config}
 use Rattle.js_api.specs.declared.fault.DeskFault.{DeskFault}
 use Rattle.js_api.specs.declared.fault.DeskFault.TheVariants as faults
@@ -38,7 +38,7 @@ use Rattle.session.specs.Stopping as stopping
 use Rattle.session.specs.Gathering.{IsGathering}
 use Rattle.session.specs.Talk.{Journal, Last, Stage, start, Turn, Begins, IsTalk, IsCause, EndsAs, EndsStopped, acts_of, answers_of, entries_of, entries_of_turn, entries_of_last, last_answers, greeting}
 use Rattle.session.specs.Connecting.{connect_options}
-use Rattle.session.specs.Peer.{Act, Hears, Ticks, Calls, IsWrong, IsRefused, Peer, peer_after, request, op_request, connecting, publishing, is_reply, message}
+use Rattle.session.specs.Peer.{Act, Hears, Ticks, Calls, IsWrong, IsUnpublishable, IsRefused, Peer, peer_after, request, op_request, connecting, publishing, is_reply, message}
 use Rattle.session.specs.declared.ending.Ended.{Ended}
 use Rattle.session.specs.declared.ending.Ended.TheVariants as ends
 use Rattle.session.specs.declared.ending.Refusal.{Refusal}
@@ -116,9 +116,9 @@ options_open : (options : Option _) (call : desks.DeskCall) → connecting optio
 options_open None call e o = cc
 options_open (Some options) call e o = cc
 
-publishes_open : (b : Bool) (now : ℕ) (out : Out) (text : Bytes) (call : desks.DeskCall) → (if b then Calls (desks.Publish out now) else IsWrong text) ≡ Calls call → call ≡ desks.Open → ⊥
-publishes_open true now out text call e o = cc
-publishes_open false now out text call e o = cc
+publishes_open : (b : Bool) (now : ℕ) (out : Out) (call : desks.DeskCall) → (if b then Calls (desks.Publish out now) else IsUnpublishable) ≡ Calls call → call ≡ desks.Open → ⊥
+publishes_open true now out call e o = cc
+publishes_open false now out call e o = cc
 
 subscribes_open : (b : Bool) (subject : Bytes) (queue : Option Bytes) (sid text : Bytes) (call : desks.DeskCall) → (if b then Calls (desks.Sub subject queue sid) else IsWrong text) ≡ Calls call → call ≡ desks.Open → ⊥
 subscribes_open true subject queue sid text call e o = cc
@@ -126,11 +126,11 @@ subscribes_open false subject queue sid text call e o = cc
 
 asks_open : (now : ℕ) (act : Act) (call : desks.DeskCall) → request now act ≡ Calls call → call ≡ desks.Open → ⊥
 asks_open now (Hears (ops_.Connect text)) call e o = options_open (connect_options text) call e o
-asks_open now (Hears (ops_.Pub subject reply payload)) call e o = publishes_open (is_publish_text subject && is_reply reply) now (message subject reply [] payload) _ call e o
+asks_open now (Hears (ops_.Pub subject reply payload)) call e o = publishes_open (is_publish_text subject && is_reply reply) now (message subject reply [] payload) call e o
 asks_open now (Hears (ops_.HPub subject reply headers payload)) call e o = by (is_block headers) e
   where
     by : (b : Bool) → (if b then publishing now (message subject reply headers payload) else IsRefused refusals.BadHeaders) ≡ Calls call → ⊥
-    by true e = publishes_open (is_publish_text subject && is_reply reply) now (message subject reply headers payload) _ call e o
+    by true e = publishes_open (is_publish_text subject && is_reply reply) now (message subject reply headers payload) call e o
     by false e = cc
 asks_open now (Hears (ops_.Sub subject queue sid)) call e o = subscribes_open (is_pattern_text subject) subject queue sid _ call e o
 asks_open now (Hears (ops_.Unsub sid max)) call e o = cc

@@ -5,10 +5,10 @@ use Rattle.js_model.specs.declared.stream.State.{State}
 use Rattle.place_engine.specs.declared.faults.OpenFault.{OpenFault}
 use Rattle.place_engine.specs.declared.faults.PlaceFault.{PlaceFault}
 use Rattle.place_engine.specs.Stepping.{Image, Seen}
-use Rattle.js_desk.specs.Closing as closing
-use Rattle.js_desk.specs.Closing.{End}
+use Rattle.desk_places.specs.Closing as closing
+use Rattle.desk_places.specs.Closing.{End}
 use Rattle.js_desk.specs.Kept.{kept_more, kept_none}
-use Rattle.js_desk.specs.Opening as opening
+use Rattle.desk_places.specs.Opening as opening
 use Rattle.server.specs.Ending.{Starved, Unopened, Attended}
 use Rattle.server.specs.Keeping.{LawKept}
 use Rattle.server.proofs.Rows.{opened_row, unopened_row}

@@ -7,6 +7,8 @@ pub mod Ending
 pub mod Ended
 pub mod Printed
 pub mod Worded
+pub mod Mistaken
+pub mod Shown
 pub mod Whole
 pub mod Taken
 pub mod Untroubled

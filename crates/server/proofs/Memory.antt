@@ -9,13 +9,13 @@ use Rattle.place_engine.specs.declared.faults.PlaceFault.{PlaceFault}
 use Rattle.place_engine.specs.declared.faults.PlaceFault.TheVariants as faults
 use Rattle.place_engine.specs.Flushing.{EndsFlush}
 use Rattle.catalog.specs.Conflicts.{conflict_at, conflicts, kept_at}
-use Rattle.js_desk.specs.Closing as closing
-use Rattle.js_desk.specs.Closing.{End, first_failure}
-use Rattle.js_desk.specs.Grounds.{places_by}
-use Rattle.js_desk.specs.Opening as opening
+use Rattle.desk_places.specs.Closing as closing
+use Rattle.desk_places.specs.Closing.{End, first_failure}
+use Rattle.desk_places.specs.Places.{places_by}
+use Rattle.desk_places.specs.Opening as opening
 use Rattle.js_desk.specs.Solo.{Solo}
-use Rattle.js_desk.specs.declared.faults.Closed.{Closed}
-use Rattle.js_desk.specs.declared.faults.HubFault.TheVariants as hubs
+use Rattle.desk_places.specs.declared.faults.Closed.{Closed}
+use Rattle.desk_places.specs.declared.faults.HubFault.TheVariants as hubs
 use Rattle.js_api.specs.Worlds.{Scene, kept_in}
 use Rattle.server.specs.declared.words.NamedStream.{NamedStream}
 use Rattle.server.specs.Closing.{flush_status}

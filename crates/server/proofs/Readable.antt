@@ -9,9 +9,9 @@ use Rattle.place_engine.specs.declared.faults.OpenFault.{OpenFault}
 use Rattle.place_engine.specs.declared.faults.OpenFault.TheVariants as opening_faults
 use Rattle.place_engine.specs.Stepping.{Image, Seen}
 use Rattle.js_api.specs.Worlds.{kept_in}
-use Rattle.js_desk.specs.Grounds.{places_by}
-use Rattle.js_desk.specs.Opening as opening
-use Rattle.js_desk.specs.declared.faults.HubFault.TheVariants as hubs
+use Rattle.desk_places.specs.Places.{places_by}
+use Rattle.desk_places.specs.Opening as opening
+use Rattle.desk_places.specs.declared.faults.HubFault.TheVariants as hubs
 use Rattle.server.specs.Readable as readable
 use Rattle.server.specs.Readable.{kept_of}
 use Rattle.server.specs.Kinds.{Opens, Refuses, Made, Leaves}

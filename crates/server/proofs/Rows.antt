@@ -5,9 +5,9 @@ use Rattle.js_model.specs.declared.stream.State.{State}
 use Rattle.place_engine.specs.declared.faults.OpenFault.{OpenFault}
 use Rattle.place_engine.specs.Stepping.{Image, Seen}
 use Rattle.js_desk.specs.Kept.{kept_none}
-use Rattle.js_desk.specs.Opening as opening
-use Rattle.js_desk.specs.declared.faults.HubFault.{HubFault}
-use Rattle.js_desk.specs.declared.faults.HubFault.TheVariants as hubs
+use Rattle.desk_places.specs.Opening as opening
+use Rattle.desk_places.specs.declared.faults.HubFault.{HubFault}
+use Rattle.desk_places.specs.declared.faults.HubFault.TheVariants as hubs
 use Rattle.server.specs.Kinds.{Refuses}
 use Rattle.server.specs.Refusing.{vols_of}
 

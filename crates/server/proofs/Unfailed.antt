@@ -16,11 +16,11 @@ use Rattle.place_engine.specs.Stepping.{Image, Seen}
 use Rattle.js_api.specs.Entries.{DeskEntry, Routed, Looked, Turned, Resumed, Held, Stirred, Halted, Missed, Spent, Hold, entries_in}
 use Rattle.js_api.specs.Leading.{Leads}
 use Rattle.js_api.specs.Worlds.{Scene, SoloStep, Stops, IsHeld, IsStirred, is_broken}
-use Rattle.js_desk.specs.Closing as closing
-use Rattle.js_desk.specs.Closing.{End, first_failure}
-use Rattle.js_desk.specs.Grounds.{places_by}
+use Rattle.desk_places.specs.Closing as closing
+use Rattle.desk_places.specs.Closing.{End, first_failure}
+use Rattle.desk_places.specs.Places.{places_by}
 use Rattle.js_desk.specs.Kept.{kept_more, kept_none, kept_set}
-use Rattle.js_desk.specs.Opening as opening
+use Rattle.desk_places.specs.Opening as opening
 use Rattle.server.specs.Attending.{run_entries}
 use Rattle.server.specs.Closing.{flush_status}
 use Rattle.server.specs.Ending.{Starved, Unopened, Attended}

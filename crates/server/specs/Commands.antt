@@ -4,8 +4,8 @@ use Rattle.hub_fronts.specs.Fronts.{SharedScene}
 use Rattle.js_api.specs.Entries.{DeskEntry}
 use Rattle.link_edge.specs.Notices.{NoticeTold}
 use Rattle.js_desk.specs.Solo.{Solo}
-use Rattle.js_desk.specs.declared.faults.Closed.{Closed}
-use Rattle.js_desk.specs.declared.faults.HubFault.{HubFault}
+use Rattle.desk_places.specs.declared.faults.Closed.{Closed}
+use Rattle.desk_places.specs.declared.faults.HubFault.{HubFault}
 use Rattle.shared_desk.specs.Hubs.{HubView}
 use Rattle.server.specs.declared.words.Command.{Command}
 use Rattle.server.specs.declared.words.Command.TheVariants as commands

@@ -2,8 +2,8 @@
 use Rattle.std.specs.Prelude.{◌≡◌, ℕ, List, Option}
 use Rattle.js_api.specs.Entries.{DeskEntry}
 use Rattle.js_desk.specs.Solo.{Solo}
-use Rattle.js_desk.specs.declared.faults.Closed.{Closed}
-use Rattle.js_desk.specs.declared.faults.HubFault.{HubFault}
+use Rattle.desk_places.specs.declared.faults.Closed.{Closed}
+use Rattle.desk_places.specs.declared.faults.HubFault.{HubFault}
 use Rattle.server.specs.declared.serving.Outcome.{Outcome}
 use Rattle.server.specs.declared.words.NamedStream.{NamedStream}
 use Rattle.server.specs.Outside.{Outside, SinkTold, PrintsLine}

@@ -5,8 +5,8 @@ use Rattle.std.specs.Net.Text.{ip_text}
 use Rattle.hub_fronts.specs.Fronts.{SharedScene}
 use Rattle.link_edge.specs.Notices.{NoticeTold, noticed}
 use Rattle.link_edge.specs.declared.notice.Found.{Found}
-use Rattle.js_desk.specs.declared.faults.Closed.{Closed}
-use Rattle.js_desk.specs.declared.faults.HubFault.{HubFault}
+use Rattle.desk_places.specs.declared.faults.Closed.{Closed}
+use Rattle.desk_places.specs.declared.faults.HubFault.{HubFault}
 use Rattle.session.specs.declared.ending.Limits.{Limits}
 use Rattle.shared_desk.specs.Finding.{messages_found, streams_found}
 use Rattle.shared_desk.specs.Hubs.{HubView}

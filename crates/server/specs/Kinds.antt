@@ -4,11 +4,12 @@ use Rattle.js_model.specs.declared.stream.State.{State}
 use Rattle.place_engine.specs.declared.faults.OpenFault.{OpenFault}
 use Rattle.place_engine.specs.Stepping.{Image, Seen}
 use Rattle.js_api.specs.Entries.{DeskEntry}
-use Rattle.js_desk.specs.Closing.{Closes}
-use Rattle.js_desk.specs.Opening.{FailsToOpen, OpensDesk}
+use Rattle.desk_places.specs.Closing.{Closes}
+use Rattle.desk_places.specs.Opening.{FailsToOpen}
+use Rattle.js_desk.specs.Opening.{OpensDesk}
 use Rattle.js_desk.specs.Solo.{Solo, DeskMade}
-use Rattle.js_desk.specs.declared.faults.Closed.{Closed}
-use Rattle.js_desk.specs.declared.faults.HubFault.{HubFault}
+use Rattle.desk_places.specs.declared.faults.Closed.{Closed}
+use Rattle.desk_places.specs.declared.faults.HubFault.{HubFault}
 use Rattle.server.specs.declared.words.NamedStream.{NamedStream}
 use Rattle.server.specs.Ending.{IsStarved, IsUnopened, IsAttended, PipeEnds}
 use Rattle.server.specs.Outside.{Outside}

@@ -2,6 +2,7 @@ pub mod Settings
 pub mod Words
 pub mod Outside
 pub mod Lines
+pub mod WrongWords
 pub mod Accepting
 pub mod Preparing
 pub mod Running

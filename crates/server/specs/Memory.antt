@@ -1,11 +1,12 @@
 -- What holds of each run over places in memory.
 use Rattle.std.specs.Prelude.{◌≡◌, ℕ, List, length, Option, IsSome}
 use Rattle.js_api.specs.Entries.{DeskEntry}
-use Rattle.js_desk.specs.Closing.{Closes}
-use Rattle.js_desk.specs.Opening.{FailsToOpen, OpensDesk}
+use Rattle.desk_places.specs.Closing.{Closes}
+use Rattle.desk_places.specs.Opening.{FailsToOpen}
+use Rattle.js_desk.specs.Opening.{OpensDesk}
 use Rattle.js_desk.specs.Solo.{Solo, DeskMade}
-use Rattle.js_desk.specs.declared.faults.Closed.{Closed}
-use Rattle.js_desk.specs.declared.faults.HubFault.{HubFault}
+use Rattle.desk_places.specs.declared.faults.Closed.{Closed}
+use Rattle.desk_places.specs.declared.faults.HubFault.{HubFault}
 use Rattle.place_engine.specs.InMemory.{Contents, bases_on_nothing, counts_none, holds_nothing, leaves_nothing, opens_vacant, reads_nothing, refuses_in_memory, seen_of}
 use Rattle.place_engine.specs.Stepping.{Seen}
 use Rattle.server.specs.declared.words.NamedStream.{NamedStream}

@@ -3,8 +3,8 @@ use Rattle.std.specs.Prelude.{ℕ, List, Option, Some, None}
 use Rattle.js_base.specs.Bytes.{Bytes}
 use Rattle.place_engine.specs.declared.faults.OpenFault.{OpenFault}
 use Rattle.place_engine.specs.declared.faults.OpenFault.TheVariants as faults
-use Rattle.js_desk.specs.declared.faults.HubFault.{HubFault}
-use Rattle.js_desk.specs.declared.faults.HubFault.TheVariants as hubs
+use Rattle.desk_places.specs.declared.faults.HubFault.{HubFault}
+use Rattle.desk_places.specs.declared.faults.HubFault.TheVariants as hubs
 use Rattle.server.specs.Lines.{disk_fault_line, damaged_line, version_line, conflict_line}
 
 -- the status of a place that was not opened: its volume failed, holds what no server may have left, or memory ran out

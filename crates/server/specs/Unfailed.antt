@@ -7,8 +7,8 @@ use Rattle.js_model.specs.PlaceStates.{PlaceIn}
 use Rattle.place_engine.specs.Stepping.{Image}
 use Rattle.js_api.specs.Entries.{DeskEntry, Routed, Looked, Turned, Resumed, Held, Stirred, Halted, Missed, Spent}
 use Rattle.js_desk.specs.Solo.{Solo}
-use Rattle.js_desk.specs.declared.faults.Closed.{Closed}
-use Rattle.js_desk.specs.declared.faults.HubFault.{HubFault}
+use Rattle.desk_places.specs.declared.faults.Closed.{Closed}
+use Rattle.desk_places.specs.declared.faults.HubFault.{HubFault}
 use Rattle.server.specs.declared.words.NamedStream.{NamedStream}
 use Rattle.server.specs.Attending.{run_entries}
 use Rattle.server.specs.Ending.{PipeEnds, Starved, Unopened, Attended}

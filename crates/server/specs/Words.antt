@@ -14,7 +14,7 @@ use Rattle.server.specs.declared.words.NamedStream.{NamedStream}
 use Rattle.server.specs.declared.words.Command.{Command}
 use Rattle.server.specs.declared.words.Command.TheVariants.{Pipe, Serve}
 use Rattle.server.specs.declared.words.WordsFault.{WordsFault}
-use Rattle.server.specs.declared.words.WordsFault.TheVariants.{Words, NoMemory}
+use Rattle.server.specs.declared.words.WordsFault.TheVariants.{Wrong, NoMemory}
 
 abbrev pub texts : List (String Global) → List Bytes
 texts words = map string_bytes words
@@ -70,5 +70,5 @@ HasFewWorkers (Serve listening) = (1 ≤ listening.workers) × (listening.worker
 -- what was returned was read, and memory may run out for what is there alone
 abbrev pub Reads : {T : Type 0} → Result T WordsFault → Option T → Type 0
 Reads (Ok value) read = read ≡ Some value
-Reads (Err Words) read = read ≡ None
+Reads (Err (Wrong word)) read = read ≡ None
 Reads (Err NoMemory) read = IsSome read

@@ -5,6 +5,7 @@ ghost use Rattle.server.specs.Kinds.{Leaves, Made, Opens, Refuses};
 ghost use Rattle.server.specs.Laws.{LawComplete, LawWelcome};
 ghost use Rattle.server.specs.Memory.{LawMayOpen, LawPlaceless, LawUnchanged, LawUntroubled, LawWelcoming};
 ghost use Rattle.server.specs.Unfailed.{LawReadable, LawUnfailed};
+ghost use Rattle.server.specs.WrongWords.{LawTold};
 
 use place_engine::Place;
 
@@ -38,6 +39,11 @@ pub fn law_unfailed<P: Place>()
         (Made P.seen P.vol P.holds P.reads P.left P.clock P.faults P.base P.opens P.refuses P.keeps_vol)
         (Leaves P.seen P.vol P.holds P.reads P.left P.clock P.faults P.base P.opens P.refuses P.keeps_vol)
         P.faults }
+{}
+
+/// A mistake is told exactly of a command line that is no command.
+pub fn law_told()
+    ensures told { LawTold }
 {}
 
 /// Each volume comes back in its place, as the calls of its place may have left it.

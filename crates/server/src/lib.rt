@@ -5,6 +5,7 @@ mod closing;
 mod hub_serving;
 pub mod laws;
 mod listening;
+mod mistakes;
 mod preparing;
 mod printing;
 mod refusing;
@@ -14,5 +15,7 @@ mod settings;
 mod words;
 
 pub use listening::{AcceptLimit, Listening};
+pub use mistakes::{Mistake, USAGE, WrongWord};
 pub use running::{Finish, run};
+pub use settings::Verb;
 pub use words::{Command, FolderPath, NamedStream, WordsFault, read_words};

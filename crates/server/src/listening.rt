@@ -1,6 +1,6 @@
 //! Where `serve` keeps its streams, where it listens, and for how many.
 
-ghost use Rattle.std.specs.Prelude.{◌≡◌, ◌≤◌, true, IfOk, IfSome, option_map};
+ghost use Rattle.std.specs.Prelude.{◌≡◌, ◌≤◌, true, None, Some, IfOk, IfSome, MatchResult, option_map};
 ghost use Rattle.std.specs.Char.{is_ascii_digit};
 ghost use Rattle.std.specs.List.{list_all};
 ghost use Rattle.std.specs.Net.Addr.{ipv4_octets, ipv6_segments};
@@ -10,8 +10,10 @@ ghost use Rattle.server.specs.Addresses.{address_of};
 ghost use Rattle.server.specs.Listening.{is_number, number_of, listen_of, few_workers, workers_of, limit_of, accepts_of, listening_of};
 ghost use Rattle.server.specs.Settings.{settings_of};
 ghost use Rattle.server.specs.Words.{texts, Reads};
+ghost use Rattle.server.specs.WrongWords.{wrong_in, wrong_serving, wrong_text, Tells};
 ghost use Rattle.session.specs.Host.{is_plain};
 
+use crate::mistakes::{Mistake, WrongWord};
 use crate::settings::{ACCEPTS, DIR, LISTEN, WORKERS, value_of};
 use crate::words::{FolderPath, WordsFault};
 use js_base::{Blob, NoMemory};
@@ -163,14 +165,36 @@ fn accepts_of(text: Option<&str>) -> Option<AcceptLimit>
     }
 }
 
-/// What the settings of `serve` say.
-pub(crate) fn read_listening(alloc: Global, settings: &[String]) -> Result<Listening, WordsFault>
-    ensures { Reads result (listening_of (settings_of (texts settings.now))) }
+/// What is said by the text of an option, or the mistake in it.
+fn said<'a, T>(said: Option<T>, mistake: Mistake, text: Option<&'a str>) -> Result<T, WrongWord<'a>>
+    ensures said { MatchResult result (λ value. said ≡ Some value) (λ wrong. said ≡ None) }
+    ensures wrong { MatchResult result
+        (λ value. wrong_text mistake said (option_map (λ text. text.now) text.entry) ≡ None)
+        (λ wrong. wrong_text mistake said (option_map (λ text. text.now) text.entry) ≡ Some (wrong_in wrong)) }
 {
-    let dir = value_of(DIR, settings).ok_or(WordsFault::Words)?;
-    let listen = listen_of(value_of(LISTEN, settings)).ok_or(WordsFault::Words)?;
-    let workers = workers_of(value_of(WORKERS, settings)).ok_or(WordsFault::Words)?;
-    let accepts = accepts_of(value_of(ACCEPTS, settings)).ok_or(WordsFault::Words)?;
+    said.ok_or(WrongWord {
+        mistake,
+        word: text.unwrap_or(""),
+    })
+}
+
+/// What the settings of `serve` say.
+pub(crate) fn read_listening(
+    alloc: Global,
+    settings: &[String],
+) -> Result<Listening, WordsFault<'_>>
+    ensures command { Reads result (listening_of (settings_of (texts settings.now))) }
+    ensures wrong { Tells result (wrong_serving (settings_of (texts settings.now))) }
+{
+    let Some(dir) = value_of(DIR, settings) else {
+        return Err(WrongWord::lacking(Mistake::NoFolder).into());
+    };
+    let listen = value_of(LISTEN, settings);
+    let listen = said(listen_of(listen), Mistake::WrongAddress, listen)?;
+    let workers = value_of(WORKERS, settings);
+    let workers = said(workers_of(workers), Mistake::WrongWorkers, workers)?;
+    let accepts = value_of(ACCEPTS, settings);
+    let accepts = said(accepts_of(accepts), Mistake::WrongAccepts, accepts)?;
     Ok(Listening {
         dir: FolderPath::copied(alloc, dir)?,
         listen,

@@ -5,7 +5,7 @@ ghost use Rattle.server.specs.Outside.{PrintsLine};
 ghost use Rattle.server.specs.Refusing.{open_line, open_status, refused_line, refused_status, vols_of};
 
 use crate::printing::{print_conflict, print_damaged, print_disk_fault, print_version};
-use js_desk::HubFault;
+use desk_places::HubFault;
 use link_edge::Sink;
 use place_engine::OpenFault;
 

@@ -1,9 +1,10 @@
 //! The top call.
 
-ghost use Rattle.std.specs.Prelude.{◌≡◌, ◌≢◌, ◌≤◌, ◌↔◌, None, false, IfSome, IsTrue, vec_len};
+ghost use Rattle.std.specs.Prelude.{◌≡◌, ◌≢◌, ◌≤◌, ◌↔◌, None, Some, false, IfSome, IsTrue, vec_len};
 ghost use Rattle.js_api.specs.Worlds.{opening};
-ghost use Rattle.js_desk.specs.Closing.{Closes};
-ghost use Rattle.js_desk.specs.Opening.{FailsToOpen, OpensDesk};
+ghost use Rattle.desk_places.specs.Closing.{Closes};
+ghost use Rattle.desk_places.specs.Opening.{FailsToOpen};
+ghost use Rattle.js_desk.specs.Opening.{OpensDesk};
 ghost use Rattle.js_desk.specs.Solo.{DeskMade};
 ghost use Rattle.js_model.specs.Configs.{is_stream_subject};
 ghost use Rattle.server.specs.Attending.{IsAttendedOver};
@@ -11,18 +12,19 @@ ghost use Rattle.shared_desk.specs.Closing.{ClosesHub};
 ghost use Rattle.shared_desk.specs.Opening.{FailsToOpenHub, OpensHub};
 ghost use Rattle.server.specs.Commands.{CommandEnds};
 ghost use Rattle.server.specs.Ending.{PipeEnds};
-ghost use Rattle.server.specs.Lines.{words_line};
 ghost use Rattle.server.specs.Outside.{Prints};
 ghost use Rattle.server.specs.Words.{texts, command_of};
+ghost use Rattle.server.specs.WrongWords.{Wrong, wrong_line, wrong_of};
 
 use crate::closing::settle;
 use crate::hub_serving::serve_hub;
 use crate::preparing::prepare;
-use crate::printing::{print_number, print_words};
+use crate::printing::{print_number, print_wrong};
 use crate::refusing::refuse;
 use crate::serving::{Outcome, serve_first, status_of};
 use crate::words::{Command, NamedStream, WordsFault, read_words};
-use js_desk::{Closed, SoloDesk};
+use desk_places::Closed;
+use js_desk::SoloDesk;
 use link_edge::{Clock, Door, Gate, Notice, Sink};
 use place_engine::Place;
 use session::Ended;
@@ -150,12 +152,12 @@ where
     P::Vol: Sync,
     requires volumes { vec_len vols ≤ 32 }
 
-    // Status 2 comes exactly if the command line is none of the forms. It is refused in a line, the door and the volumes are not touched, the clock is not
-    // read, and the notice is told nothing.
+    // Status 2 comes exactly if the command line is no command. The first thing that is wrong of it is told, the door and the volumes are not touched, the
+    // clock is not read, and the notice is told nothing.
     ensures words { (result.status ≡ 2) ↔ (command_of (texts words.now) ≡ None) }
-    ensures refused { command_of (texts words.now) ≡ None → (result.door ≡ door) × (result.vols.items ≡ vols.items) × (C.to_come clock.new ≡ C.to_come clock.old)
+    ensures refused { command_of (texts words.now) ≡ None → (wrong : Wrong) × (wrong_of (texts words.now) ≡ Some wrong) × (result.door ≡ door) × (result.vols.items ≡ vols.items) × (C.to_come clock.new ≡ C.to_come clock.old)
         × (N.told notice.new ≡ N.told notice.old)
-        × Prints words_line (record { written = O.written out.old; faults = O.faults out.old }) (record { written = O.written out.new; faults = O.faults out.new }) }
+        × Prints (wrong_line wrong) (record { written = O.written out.old; faults = O.faults out.old }) (record { written = O.written out.new; faults = O.faults out.new }) }
 
     // Else the status tells why the run ended: why the volumes were not opened; or, for `pipe`, whether the stream was made, how the link ended that was
     // served over a desk with the stream, or why none came, and which place could not be brought to its volume as the desk was closed in the world that was
@@ -197,8 +199,8 @@ where
                 rt, alloc, &listening, door, vols, clock, gate, notice, out,
             )
         }
-        Err(WordsFault::Words) => {
-            print_words(out);
+        Err(WordsFault::Wrong(wrong)) => {
+            print_wrong(out, wrong);
             Finish {
                 status: 2,
                 door,

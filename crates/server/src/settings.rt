@@ -2,12 +2,15 @@
 
 ghost use Rattle.std.specs.Prelude.{◌≡◌, ◌<◌, true, false, [], ◌∷◌, MatchOption, IfSome, length, option_map};
 ghost use Rattle.js_base.specs.Bytes.{has};
-ghost use Rattle.server.specs.Settings.{halves_of, settings_of, value_of, verb_of, is_option, is_value, are_settings, dir_option, stream_option, subject_option, listen_option, workers_option, accepts_option};
+ghost use Rattle.server.specs.Settings.{halves_of, settings_of, value_of, verb_of, is_option, is_value, dir_option, stream_option, subject_option, listen_option, workers_option, accepts_option};
 ghost use Rattle.server.specs.Words.{texts};
+ghost use Rattle.server.specs.WrongWords.{mistake_of, wrong_in, wrong_setting};
+
+use crate::mistakes::{Mistake, WrongWord};
 
 /// The word that a command line begins with, which says what the program is asked to do.
 #[derive(Clone, Copy, Debug, PartialEq, Eq)]
-pub(crate) enum Verb {
+pub enum Verb {
     Pipe,
     Serve,
 }
@@ -110,19 +113,36 @@ fn is_value(text: &str) -> bool
     !text.is_empty() && !text.as_bytes().starts_with(b"-")
 }
 
-/// Whether the words are options of the command, each with a value, and none of them comes twice.
-pub(crate) fn are_settings(verb: Verb, words: &[String]) -> bool
-    ensures value { result ≡ are_settings verb (settings_of (texts words.now)) }
+impl Setting<'_> {
+    /// What is wrong of the setting of this command with these words behind it, if anything is.
+    fn mistake(self, verb: Verb, more: &[String]) -> Option<Mistake>
+        ensures value { result ≡ mistake_of verb (self.entry.option.now, self.entry.value.now) (settings_of (texts more.now)) }
+    {
+        if !verb.is_option(self.option) {
+            Some(Mistake::UnknownOption(verb))
+        } else if !is_value(self.value) {
+            Some(Mistake::NoValue)
+        } else if value_of(self.option, more).is_some() {
+            Some(Mistake::Twice)
+        } else {
+            None
+        }
+    }
+}
+
+/// The first of the words' settings that is none of the command, has no value, or comes again.
+pub(crate) fn wrong_setting(verb: Verb, words: &[String]) -> Option<WrongWord<'_>>
+    ensures value { option_map wrong_in result ≡ wrong_setting verb (settings_of (texts words.now)) }
 {
     let mut rest = words;
     while let Some((setting, more)) = cut_setting(rest) {
-        if !verb.is_option(setting.option)
-            || !is_value(setting.value)
-            || value_of(setting.option, more).is_some()
-        {
-            return false;
+        if let Some(mistake) = setting.mistake(verb, more) {
+            return Some(WrongWord {
+                mistake,
+                word: setting.option,
+            });
         }
         rest = more;
     }
-    true
+    None
 }

@@ -13,18 +13,29 @@ const VERSION: &str = "0.1.0";
 #[derive(Clone, Copy, Debug, PartialEq, Eq)]
 pub(crate) enum Request {
     Help,
+    /// The help of `pipe`.
+    PipeHelp,
+    /// The help of `serve`.
+    ServeHelp,
     Version,
+}
+
+/// Whether the word asks for help, behind a command too. No option is spelled so, and no value begins with a dash.
+fn asks_for_help(word: &str) -> bool {
+    matches!(word, "--help" | "-h")
 }
 
 impl Request {
     /// What the command line asks for, if it asks for a text.
     pub(crate) fn of(words: &[String]) -> Option<Request> {
-        let [word] = words else {
-            return None;
-        };
+        let (word, behind) = words.split_first()?;
+        let is_lone = behind.is_empty();
+        let is_helped = behind.iter().any(|word| asks_for_help(word.as_str()));
         match word.as_str() {
-            "--help" | "-h" | "help" => Some(Request::Help),
-            "--version" | "-V" => Some(Request::Version),
+            "--help" | "-h" | "help" if is_lone => Some(Request::Help),
+            "--version" | "-V" if is_lone => Some(Request::Version),
+            "pipe" if is_helped => Some(Request::PipeHelp),
+            "serve" if is_helped => Some(Request::ServeHelp),
             _ => None,
         }
     }
@@ -33,6 +44,8 @@ impl Request {
     pub(crate) fn text(self, alloc: Global) -> Result<String, AllocError> {
         match self {
             Request::Help => help(alloc),
+            Request::PipeHelp => pipe(alloc)?.render_help(),
+            Request::ServeHelp => serve(alloc)?.render_help(),
             Request::Version => program(alloc)?.render_version(),
         }
     }
@@ -100,7 +113,7 @@ fn serve(alloc: Global) -> Result<Command<'static>, AllocError> {
         .arg(accepts)
 }
 
-/// A command of this name, which has no help of its own.
+/// A command of this name. The option `--help` is not listed with the others.
 fn command(alloc: Global, name: &'static str) -> Command<'static> {
     Command::new(alloc, name).disable_help_flag(true)
 }

@@ -7,15 +7,15 @@ mod telling;
 ghost use Rattle.std.specs.Prelude.{◌≤◌, ◌≡◌, IfOk, vec_len};
 
 use crate::help::Request;
-use crate::telling::{ListenLine, tell_end};
-use folder_lock::{FolderLock, LockFault};
+use crate::telling::{ListenLine, tell_end, tell_lock_fault, tell_no_text, tell_unbound};
+use folder_lock::FolderLock;
 use link_edge::{Door, Notice, OpenGate, PipeDoor, SystemClock, Unnoticed, WriterSink};
-use place_engine::{MemoryPlace, Place};
-use server::{Command, Finish, FolderPath, WordsFault, read_words, run};
+use memory_place::MemoryPlace;
+use place_engine::Place;
+use server::{Command, Finish, FolderPath, Listening, WordsFault, read_words, run};
 use std::alloc::AllocError;
 use std::env;
 use std::io::{self, ErrorKind, Write};
-use std::net::SocketAddr;
 use std::process::ExitCode;
 use std::sync::Wait;
 use std::thread::Threads;
@@ -29,25 +29,25 @@ const VOLUMES: u32 = 32;
 /// The status if standard output fails while a text that was asked for is printed.
 const UNWRITTEN: u8 = 9;
 
+/// The status if a word of the command line is no text.
+const NO_TEXT: u8 = 2;
+
+/// The status if the address can't be listened at.
+const UNBOUND: u8 = 8;
+
 /// The status if the folder can't be had.
 const UNLOCKED: u8 = 75;
 
 /// The status if memory runs out.
 const STARVED: u8 = 7;
 
-/// The command line after the program's name. If a part of it is not UTF-8 it is empty, which is none of the forms either.
+/// The command line after the program's name. If a part of it is not UTF-8 the error is `InvalidData`.
 fn words_of(rt: &HostRuntime) -> io::Result<Vec<String>> {
     let mut words = Vec::new(rt.alloc());
-    match env::args(rt) {
-        Ok(args) => {
-            for word in args.skip(1) {
-                words.push(word)?;
-            }
-            Ok(words)
-        }
-        Err(error) if error.kind() == ErrorKind::InvalidData => Ok(words),
-        Err(error) => Err(error),
+    for word in env::args(rt)?.skip(1) {
+        words.push(word)?;
     }
+    Ok(words)
 }
 
 /// Prints the text to standard output, and returns the status.
@@ -58,17 +58,6 @@ fn print(rt: &HostRuntime, text: &[u8]) -> u8 {
     } else {
         UNWRITTEN
     }
-}
-
-/// Prints the line to standard error, and returns the status for a folder that can't be had.
-fn refuse_folder(rt: &HostRuntime, fault: LockFault) -> u8 {
-    let line = match fault {
-        LockFault::InUse => b"folder in use\n".as_slice(),
-        LockFault::Failed => b"folder cannot be locked\n".as_slice(),
-    };
-    let mut errors = rt.stderr();
-    let _ = errors.write_all(line);
-    UNLOCKED
 }
 
 /// A volume for each place, in the folder `dir`.
@@ -127,28 +116,36 @@ where
     serve_door::<P, _, _, T>(rt, threads, words, door, vols, &mut Unnoticed)
 }
 
-/// Serves the links that come to a door at this address over the folder, which nobody else writes meanwhile, and returns the status.
-fn serve_address<R: Door + Send + Drop, T: Threads + Wait + Sync>(
+/// Serves the links that come to an address over a folder, which nobody else writes meanwhile, and returns the status. The folder is not touched unless the
+/// address can be listened at.
+fn serve_address<T: Threads + Wait + Sync>(
     rt: &HostRuntime,
     threads: &T,
     words: &[String],
-    dir: &str,
-    address: Option<SocketAddr>,
-    door: R,
-) -> Result<u8, AllocError>
-where
-    R::Link: Rings + Send,
-{
+    listening: &Listening,
+) -> Result<u8, AllocError> {
+    let door = match TcpDoor::bind(*rt, rt.alloc(), listening.listen) {
+        Ok(door) => door,
+        Err(error) => {
+            tell_unbound(rt, listening.listen, &error);
+            return Ok(UNBOUND);
+        }
+    };
+    let dir = listening.dir.as_str();
     let _lock = match FolderLock::take(rt, dir) {
         Ok(lock) => lock,
-        Err(fault) => return Ok(refuse_folder(rt, fault)),
+        Err(fault) => {
+            tell_lock_fault(rt, dir, &fault);
+            return Ok(UNLOCKED);
+        }
     };
     let vols = folder_volumes(rt, dir)?;
+    let address = door.address();
     let mut line = ListenLine { rt, address, dir };
-    let status = serve_door::<VolumePlace<DirVol>, R, _, T>(
+    let status = serve_door::<VolumePlace<DirVol>, _, _, T>(
         rt, threads, words, door, vols, &mut line,
     );
-    tell_end(rt, status);
+    tell_end(rt, dir, status);
     Ok(status)
 }
 
@@ -161,7 +158,10 @@ fn serve_folder<T: Threads + Wait + Sync>(
 ) -> Result<u8, AllocError> {
     let _lock = match FolderLock::take(rt, dir) {
         Ok(lock) => lock,
-        Err(fault) => return Ok(refuse_folder(rt, fault)),
+        Err(fault) => {
+            tell_lock_fault(rt, dir, &fault);
+            return Ok(UNLOCKED);
+        }
     };
     let vols = folder_volumes(rt, dir)?;
     Ok(serve_pipe::<VolumePlace<DirVol>, T>(rt, threads, words, vols))
@@ -205,8 +205,13 @@ fn answer(rt: &HostRuntime, request: Request) -> u8 {
 
 /// Does what the command line asks for, and returns the status.
 fn main(rt: HostRuntime) -> ExitCode {
-    let Ok(words) = words_of(&rt) else {
-        return ExitCode::from(STARVED);
+    let words = match words_of(&rt) {
+        Ok(words) => words,
+        Err(error) if error.kind() == ErrorKind::InvalidData => {
+            tell_no_text(&rt);
+            return ExitCode::from(NO_TEXT);
+        }
+        Err(_) => return ExitCode::from(STARVED),
     };
     if let Some(request) = Request::of(&words) {
         return ExitCode::from(answer(&rt, request));
@@ -218,12 +223,8 @@ fn main(rt: HostRuntime) -> ExitCode {
                 stream: _stream,
             },
         ) => serve_input(&rt, &rt, &words, dir),
-        Ok(Command::Serve(listening)) => {
-            let door = TcpDoor::bind(rt, rt.alloc(), listening.listen);
-            let address = door.address();
-            serve_address(&rt, &rt, &words, listening.dir.as_str(), address, door)
-        }
-        Err(WordsFault::Words) => Ok(refuse_words(&rt, &rt, &words)),
+        Ok(Command::Serve(listening)) => serve_address(&rt, &rt, &words, &listening),
+        Err(WordsFault::Wrong(_)) => Ok(refuse_words(&rt, &rt, &words)),
         Err(WordsFault::NoMemory) => Err(AllocError),
     };
     ExitCode::from(ended.unwrap_or(STARVED))

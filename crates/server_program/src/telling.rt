@@ -1,17 +1,20 @@
-//! What a person sees of a server that listens, on standard error: where, what it found, and why it ended. What can't be printed is not seen.
+//! What a person sees on standard error: why the program did not start; and of a server that listens where, what it found, and why it ended. What can't be
+//! printed is not seen.
 
 ghost use Rattle.std.specs.Prelude.{None};
 
+use folder_lock::LockFault;
 use link_edge::{Found, Notice};
-use std::io::Write;
+use server::USAGE;
+use std::io;
 use std::net::SocketAddr;
 
-/// The line that tells where a server listens and what it found there. It is printed once the streams are opened, unless the address could not be had.
+/// The line that tells where a server listens and what it found there. It is printed once the streams are opened.
 #[derive(Drop)]
 pub struct ListenLine<'a> {
     pub rt: &'a HostRuntime,
-    /// Where it listens, if it does.
-    pub address: Option<SocketAddr>,
+    /// Where it listens.
+    pub address: SocketAddr,
     /// The folder of the streams.
     pub dir: &'a str,
 }
@@ -20,8 +23,9 @@ impl Notice for ListenLine<'_> {
     ghost told = { λ _. None };
 
     fn opened(&mut self, found: Found) {
-        if let Some(address) = self.address {
-            tell_found(self.rt, address, self.dir, found);
+        tell_found(self.rt, self.address, self.dir, found);
+        if !self.address.ip().to_canonical().is_loopback() {
+            tell_open(self.rt, self.address);
         }
     }
 }
@@ -36,6 +40,13 @@ fn tell_found(rt: &HostRuntime, address: SocketAddr, dir: &str, found: Found) {
     );
 }
 
+/// Prints what it means to listen at an address that other machines reach.
+fn tell_open(rt: &HostRuntime, address: SocketAddr) {
+    let _ = eprintln!(rt;
+        "jsblock: whoever reaches {address} may read, change and delete everything; there are no users, and nothing is encrypted"
+    );
+}
+
 /// By what the word for so many things ends.
 fn plural(count: u64) -> &'static str {
     if count == 1 { "" } else { "s" }
@@ -44,18 +55,37 @@ fn plural(count: u64) -> &'static str {
 /// Why a server that listened ended, by its status.
 fn reason_of(status: u8) -> &'static str {
     match status {
-        0 => "jsblock ended: no more connections were to be accepted\n",
-        4 => "jsblock ended: a volume failed\n",
-        5 => "jsblock ended: the folder holds what no server may have left\n",
-        7 => "jsblock ended: out of memory\n",
-        8 => "jsblock ended: it could not listen there, or accept no more connections\n",
-        10 => "jsblock ended: the numbers of turns, sessions or generations are used up\n",
-        _ => "jsblock ended\n",
+        0 => "no more connections were to be accepted",
+        4 => "the disk failed",
+        5 => "the folder holds what no server may have left",
+        7 => "out of memory",
+        8 => "it could accept no more connections",
+        10 => "the numbers of turns, sessions or generations are used up",
+        _ => "its status tells why",
     }
 }
 
-/// Prints why it ended.
-pub fn tell_end(rt: &HostRuntime, status: u8) {
-    let mut errors = rt.stderr();
-    let _ = errors.write_all(reason_of(status).as_bytes());
+/// Prints why a server over this folder ended.
+pub fn tell_end(rt: &HostRuntime, dir: &str, status: u8) {
+    let _ = eprintln!(rt; "jsblock ended over {dir}: {}", reason_of(status));
+}
+
+/// Prints why the folder can't be had.
+pub fn tell_lock_fault(rt: &HostRuntime, dir: &str, fault: &LockFault) {
+    let _ = match fault {
+        LockFault::InUse => {
+            eprintln!(rt; "jsblock: cannot use the folder {dir}: another process uses it")
+        }
+        LockFault::Failed(error) => eprintln!(rt; "jsblock: cannot use the folder {dir}: {error}"),
+    };
+}
+
+/// Prints why the address can't be listened at.
+pub fn tell_unbound(rt: &HostRuntime, address: SocketAddr, error: &io::Error) {
+    let _ = eprintln!(rt; "jsblock: cannot listen at {address}: {error}");
+}
+
+/// Prints that a word is no text, and how the program is called.
+pub fn tell_no_text(rt: &HostRuntime) {
+    let _ = eprintln!(rt; "jsblock: a word of the command line is not UTF-8\n{USAGE}");
 }

@@ -2,7 +2,7 @@
 
 use js_base::{List, Moment};
 use link_edge::{MemClock, MemSink, OpenGate, PipeDoor, Unnoticed};
-use place_engine::MemoryPlace;
+use memory_place::MemoryPlace;
 use server::{Finish, run};
 use std::io::{self, Read, Write};
 use std::test::Fail;

@@ -2,7 +2,7 @@
 
 use js_base::{List, Moment};
 use link_edge::{Accept, Door, Give, Link, MemClock, MemSink, OpenGate, Take, Unnoticed};
-use place_engine::MemoryPlace;
+use memory_place::MemoryPlace;
 use server::{Finish, run};
 use std::alloc::Global;
 use std::sync::Wait;

@@ -62,19 +62,19 @@ fn bytes_that_no_server_wrote_are_told(rt: HostRuntime) -> Result<(), Fail> {
     for (bytes, line) in [
         (
             [0; 18].as_slice(),
-            b"damaged place 0 file 0 at 0\n".as_slice(),
+            b"damaged place-00/f00000 at 0\n".as_slice(),
         ),
         (
             b"JSLOG\0\0\x03\0\0\0\0\0\0\0\0\0\0".as_slice(),
-            b"unknown version 3 in place 0\n".as_slice(),
+            b"unknown version 3 in place-00\n".as_slice(),
         ),
         (
             b"JSLOG\0\0\x01\x40\0\0\0\0\0\0\0\0\0".as_slice(),
-            b"damaged place 0 file 0 at 8\n".as_slice(),
+            b"damaged place-00/f00000 at 8\n".as_slice(),
         ),
         (
             b"JSLOG\0\0\x01\0\0\0\0\0\0\0\x01\x01\0\0\0\x01\xff\0".as_slice(),
-            b"damaged place 0 file 0 at 21\n".as_slice(),
+            b"damaged place-00/f00000 at 21\n".as_slice(),
         ),
     ] {
         assert!(rt; refuses(&run_over_bytes(&rt, rt.alloc(), bytes)?, 5, line));
@@ -99,7 +99,10 @@ fn streams_that_conflict_are_told(rt: HostRuntime) -> Result<(), Fail> {
             with_stream(&rt, alloc, name, subject, b"")?,
         ]?;
         let ran = serve(&rt, alloc, vols, b"")?;
-        assert!(rt; refuses(&ran, 5, b"places 0 and 2 conflict\n"), "{name}");
+        assert!(rt;
+            refuses(&ran, 5, b"place-00 and place-02 conflict\n"),
+            "{name}"
+        );
     }
     Ok(())
 }
@@ -109,7 +112,7 @@ fn volume_that_fails_is_told(rt: HostRuntime) -> Result<(), Fail> {
     let alloc = rt.alloc();
     let fails = MemVol::failing(alloc, List::new(alloc), Some(0));
     let ran = serve(&rt, alloc, vec![in alloc; MemVol::new(alloc), fails]?, b"")?;
-    assert!(rt; refuses(&ran, 4, b"disk fault in place 1\n"));
+    assert!(rt; refuses(&ran, 4, b"disk fault in place-01\n"));
     Ok(())
 }
 

@@ -14,8 +14,11 @@ use std::marker::Model;
 ///
 /// Nobody else may write the folder. A `write_at` past the end fills what is between with zeros; a `read_at` past
 /// the end and a `cut` to more than the length fail. After a `sync` that failed each later one fails.
+///
+/// The first call that fails is told by a line on standard error, with the file and the system's reason.
 #[derive(Drop)]
 pub struct DirVol {
+    rt: HostRuntime,
     folder: Option<Folder>,
     faults: u64,
 }
@@ -38,28 +41,57 @@ fn opened(folder: &mut Option<Folder>) -> io::Result<&mut Folder> {
 
 impl DirVol {
     /// The volume of a place in the folder `dir`. Both folders are made if they are not there, but not what `dir`
-    /// lies in. If a folder can't be made or opened, each call on the volume fails.
+    /// lies in. If a folder can't be made or opened, that is told on standard error, and each call on the volume fails.
     pub fn open(rt: &HostRuntime, dir: &str, place: u32) -> DirVol
         ensures unfailed { result ≡ 0 }
     {
+        let folder = match Folder::open(rt, dir, place) {
+            Ok(folder) => Some(folder),
+            Err(error) => {
+                tell_unopened(rt, dir, place, &error);
+                None
+            }
+        };
         DirVol {
-            folder: Folder::open(rt, dir, place).ok(),
+            rt: *rt,
+            folder,
             faults: 0,
         }
     }
 
-    /// The answer of a call, which is counted if it failed.
-    fn counted<T: Drop>(&mut self, answer: io::Result<T>) -> Result<T, Failed>
+    /// The answer of a call on a file, which is counted if it failed. The first that failed is told.
+    fn counted<T: Drop>(
+        &mut self,
+        deed: &str,
+        file: u32,
+        answer: io::Result<T>,
+    ) -> Result<T, Failed>
         ensures cause { HasCause self.old self.new (IsErr result) }
     {
         match answer {
             Ok(value) => Ok(value),
-            Err(_) => {
+            Err(error) => {
+                if self.faults == 0 {
+                    self.tell(deed, file, &error);
+                }
                 self.faults = self.faults.saturating_add(1);
                 Err(Failed)
             }
         }
     }
+
+    /// Tells on standard error that a call on a file failed. Of a folder that could not be opened that is told already.
+    fn tell(&self, deed: &str, file: u32, error: &io::Error) {
+        if let Some(folder) = &self.folder {
+            let path = folder.path();
+            let _ = eprintln!(self.rt; "jsblock: {path}/f{file:05}: {deed} failed: {error}");
+        }
+    }
+}
+
+/// Tells on standard error that the folder of a place can't be made or opened.
+fn tell_unopened(rt: &HostRuntime, dir: &str, place: u32, error: &io::Error) {
+    let _ = eprintln!(rt; "jsblock: {dir}/place-{place:02}: it cannot be opened: {error}");
 }
 
 impl Vol for DirVol {
@@ -77,27 +109,27 @@ impl Vol for DirVol {
 
     fn len(&mut self, file: u32) -> Result<u64, Failed> {
         let len = opened(&mut self.folder).and_then(|folder| folder.len(file));
-        self.counted(len)
+        self.counted("len", file, len)
     }
 
     fn read_at(&mut self, file: u32, at: u64, into: &mut [u8]) -> Result<(), Failed> {
         let read = opened(&mut self.folder).and_then(|folder| folder.read_at(file, at, into));
-        self.counted(read)
+        self.counted("read", file, read)
     }
 
     fn write_at(&mut self, file: u32, at: u64, bytes: &[u8]) -> Result<(), Failed> {
         let written = opened(&mut self.folder).and_then(|folder| folder.write_at(file, at, bytes));
-        self.counted(written)
+        self.counted("write", file, written)
     }
 
     fn cut(&mut self, file: u32, to: u64) -> Result<(), Failed> {
         let cut = opened(&mut self.folder).and_then(|folder| folder.cut(file, to));
-        self.counted(cut)
+        self.counted("cut", file, cut)
     }
 
     fn sync(&mut self, file: u32) -> Result<(), Failed> {
         let synced = opened(&mut self.folder).and_then(|folder| folder.sync(file));
-        self.counted(synced)
+        self.counted("sync", file, synced)
     }
 
     fn faults(&self) -> u64 {

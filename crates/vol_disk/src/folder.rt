@@ -56,6 +56,11 @@ impl Folder {
         })
     }
 
+    /// The path of the place's folder.
+    pub fn path(&self) -> &str {
+        self.path.as_str()
+    }
+
     /// The file's length, which is 0 if it is not there.
     pub fn len(&mut self, number: u32) -> io::Result<u64> {
         match self.find(number)? {

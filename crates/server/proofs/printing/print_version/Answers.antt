@@ -2,4 +2,4 @@ use Rattle.std.proofs.Common.{sym}
 use Rattle.server.proofs.printing.print_version.Goals as goal
 
 pub returns : goal.returns
-returns g c = record { printed = rw (sym c.from.ensures) c.print_line.ensures.printed }
+returns g c = record { printed = rw (sym c.place_zeros.ensures.value, sym c.from.ensures) c.print_line.ensures.printed }
