@@ -1,0 +1,10 @@
+pub mod Lists
+pub mod Agreeing
+pub mod Passing
+pub mod Readiness
+pub mod Idle
+pub mod Settling
+pub mod Firing
+pub mod Resting
+pub mod RowsOfTimers
+pub mod Served
