@@ -5,3 +5,4 @@ pub mod Kept
 pub mod Sent
 pub mod GivenUp
 pub mod Least
+pub mod Timing

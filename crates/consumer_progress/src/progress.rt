@@ -1,11 +1,13 @@
 //! The progress of a consumer.
 
-ghost use Rattle.std.specs.Prelude.{◌≡◌, ℕ, ◌+◌, ◌-◌, ◌<◌, ◌^◌, ◌==◌, [], None, false, true, filter, find, length, nat_le, nat_lt, IfOk, OnOk, OnErr};
+ghost use Rattle.std.specs.Prelude.{◌≡◌, ℕ, ◌+◌, ◌-◌, ◌<◌, ◌^◌, ◌==◌, [], None, false, true, filter, find, length, map, nat_le, nat_lt, IfOk, IfSome, OnOk, OnErr};
 ghost use Rattle.std.specs.List.{list_any};
 ghost use Rattle.std.specs.Option.{option_map};
 ghost use Rattle.js_base.specs.Bytes.{has, last_of};
 ghost use Rattle.js_model.specs.Counts.{least};
 ghost use Rattle.js_model.specs.Lists.{Between};
+ghost use Rattle.timers.specs.Bounds.{IsTimerBound};
+ghost use Rattle.timers.specs.Timers.{later};
 ghost use Rattle.consumer_progress.specs.Progresses.{first_of, progress_of, is_held, seqs_of, IsProgress};
 ghost use Rattle.consumer_progress.specs.Sending.{after_sent, count_in};
 ghost use Rattle.consumer_progress.specs.Ending.{changes_due, ended, is_delivered, least_delivered, with_due, without, EndsOneUpTo};
@@ -195,6 +197,23 @@ impl ConsumerProgress {
         ensures progress { IsProgress self.now }
     {
         self.pending.due(now)
+    }
+
+    /// A moment after this one, before which no delivery that waits becomes due but those that are due by then; `None` only if all are due. If `look_ahead`
+    /// was called for this moment, it looks at no delivery; else it costs what that does.
+    pub fn next_timer(&self, now: Moment) -> Option<Moment>
+        ensures bound { IsTimerBound (later now (map (λ e. e.due) self.now.pending)) result }
+        ensures after { IfSome result (λ next. now < next) }
+    {
+        self.pending.next_after(now)
+    }
+
+    /// Sees to it that `next_timer` looks at no delivery, for this moment and those before the next one at which a delivery becomes due. It takes no memory,
+    /// and its cost grows with the number of stretches of deliveries that are due and of deliveries that are not.
+    pub fn look_ahead(&mut self, now: Moment)
+        ensures same { self.new ≡ self.old }
+    {
+        self.pending.look_ahead(now);
     }
 
     /// Notes that the sequence was delivered: it is no pick any more and lies below the cursor. It waits until the moment, if there is one. An `Err`

@@ -10,3 +10,4 @@ pub mod Currents
 pub mod Unreads
 pub mod KeptSent
 pub mod Configs
+pub mod Timing

@@ -1,5 +1,5 @@
 -- Ids found by their texts in a list, and which of them still count.
-use Rattle.std.proofs.Common.{◌≡◌, ℕ, ◌+◌, Bool, true, false, cond, List, [], ◌∷◌, Option, Some, None, get_or, length, refl, sym, ap, ◌∙◌, arith}
+use Rattle.std.proofs.Common.{◌≡◌, ℕ, ◌+◌, ◌≤◌, Bool, true, false, cond, List, [], ◌∷◌, Option, Some, None, get_or, length, refl, sym, ap, ◌∙◌, arith}
 use Rattle.std.specs.Prelude.{All, filter, nat_lt, option_map}
 use Rattle.std.specs.List.{last_or}
 use Rattle.std.specs.List.Sorted.{IsNonDecreasingBy}
@@ -32,6 +32,13 @@ all_remembered w now i is counts up =
     let below = ltb-true now (plus i.at w.window) counts in
     passing_all (is_counted w now) w.ids (All-from_get_or (λ j. is_counted w now j ≡ true) w.ids i
     (λ k within. lt-ltb now (plus (get_or w.ids k i).at w.window) (omega (arith, below, first, up 0 k i (omega arith) within))))
+
+-- none leaves before the oldest
+pub oldest_first : (w : Window) (i : Id) → i ≡ get_or w.ids 0 i → IsNonDecreasingBy (λ j. j.at) w.ids
+    → All (λ j. plus i.at w.window ≤ plus j.at w.window) w.ids
+oldest_first w i is up =
+    let first : i.at ≡ (get_or w.ids 0 i).at = ap (λ (j : Id). j.at) is in
+    All-from_get_or (λ j. plus i.at w.window ≤ plus j.at w.window) w.ids i (λ k within. omega (arith, first, up 0 k i (omega arith) within))
 
 -- ---- the last one
 

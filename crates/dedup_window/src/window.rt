@@ -1,6 +1,6 @@
 //! A duplicate window.
 
-ghost use Rattle.std.specs.Prelude.{◌≡◌, ◌<◌, ◌≤◌, ◌↔◌, ◌^◌, [], ◌∷◌, ◌++◌, length, drop, option_map, option_to_list, nat_lt, None, OnOk, OnErr};
+ghost use Rattle.std.specs.Prelude.{◌≡◌, ◌<◌, ◌≤◌, ◌↔◌, ◌^◌, [], ◌∷◌, ◌++◌, length, drop, option_map, option_to_list, nat_lt, slice_get, All, IfSome, None, OnOk, OnErr};
 ghost use Rattle.std.specs.Bool.{OnTrue, OnFalse};
 ghost use Rattle.std.specs.List.{last_or};
 ghost use Rattle.std.specs.Option.{option_copied};
@@ -100,6 +100,15 @@ impl DedupWindow {
     {
         let last = self.ids.back()?;
         Some(&last.id)
+    }
+
+    /// The moment from which on the oldest id does not count any more. Before it all count; it is `None` exactly if there is no id.
+    pub fn next_timer(&self) -> Option<Moment>
+        ensures value { result ≡ option_map (λ i. plus i.at self.now.window) (slice_get self.now.ids 0) }
+        ensures first { IfSome result (λ first. All (λ i. first ≤ plus i.at self.now.window) self.now.ids) }
+    {
+        let oldest = self.ids.front()?;
+        Some(oldest.at.plus(self.window))
     }
 
     /// Adds an id whose text no other has, at a moment no earlier than any of theirs. It is `Full` exactly with 2^20 ids, and else `NoMemory` if an

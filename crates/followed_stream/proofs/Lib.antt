@@ -19,3 +19,4 @@ pub mod Readying
 pub mod Getting
 pub mod Restored
 pub mod Searching
+pub mod NextTimers

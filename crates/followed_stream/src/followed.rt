@@ -10,13 +10,15 @@ ghost use Rattle.js_model.specs.Consumers.{empty_stream};
 ghost use Rattle.js_model.specs.Events.{message_at, with_message};
 ghost use Rattle.js_model.specs.Proper.{is_proper_publish};
 ghost use Rattle.js_model.specs.Verdict.{known};
+ghost use Rattle.timers.specs.Bounds.{IsTimerBound};
+ghost use Rattle.timers.specs.Timers.{stream_timers};
 ghost use Rattle.followed_stream.specs.Attended.{stored_of, without_seq, IsAttended};
 ghost use Rattle.followed_stream.specs.Delivering.{AreCurrentAt};
 ghost use Rattle.followed_stream.specs.Followers.{IsCounted};
 ghost use Rattle.followed_stream.specs.Needing.{NeedSame};
 ghost use Rattle.followed_stream.specs.Spans.{spans};
 
-use crate::follower::{Follower, advance_all, gain_all, lose_all};
+use crate::follower::{Follower, advance_all, gain_all, lose_all, next_of_all};
 use crate::span::Span;
 use js_base::{Moment, NoMemory};
 use js_model::{Publish, StreamConfig};
@@ -24,6 +26,7 @@ use std::alloc::Global;
 use std::marker::Model;
 use stored_stream::StoredStream;
 use stream_view::{Counts, Head, View};
+use timer_bounds::earlier;
 
 /// A stream with its consumers, whose limits may be passed.
 #[derive(Drop)]
@@ -133,6 +136,15 @@ impl FollowedStream {
         ensures sound { IsAttended self.new }
     {
         advance_all(self.followers.as_mut_slice(), now)
+    }
+
+    /// A moment before which time alone changes nothing of the stream but its moment, apart from what it changes at once; `None` only if it never will. It
+    /// looks at one message, at one id, and at each consumer once.
+    pub fn next_timer(&self) -> Option<Moment>
+        ensures bound { IsTimerBound (stream_timers self.now) result }
+    {
+        let followers = next_of_all(self.followers.as_slice(), self.stored.moment());
+        earlier(self.stored.next_timer(), followers)
     }
 
     /// Replaces the configuration. Messages and ids stay.

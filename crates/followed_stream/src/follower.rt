@@ -1,11 +1,13 @@
 //! Consumers as their stream keeps them.
 
 ghost use Rattle.std.specs.Prelude.{◌≡◌, ◌+◌, ◌^◌, ◌<◌, ◌≤◌, false, All, length, map};
-ghost use Rattle.std.specs.List.{position, prefix_len};
+ghost use Rattle.std.specs.List.{flat_map, position, prefix_len};
 ghost use Rattle.js_model.specs.declared.stream.Message.{Message};
 ghost use Rattle.js_model.specs.Consumers.{is_before};
 ghost use Rattle.js_model.specs.Retention.{needs};
 ghost use Rattle.model_laws.specs.Sound.{AreOrdered};
+ghost use Rattle.timers.specs.Bounds.{IsTimerBound};
+ghost use Rattle.timers.specs.Timers.{consumer_timers, later};
 ghost use Rattle.followed_stream.specs.Delivering.{IsCurrentAt};
 ghost use Rattle.followed_stream.specs.Followers.{gaining, is_named, losing, standing};
 ghost use Rattle.followed_stream.specs.Needing.{NeedSame};
@@ -18,6 +20,7 @@ use consumer_state::Consumer;
 use js_base::{Blob, Moment};
 use js_model::ConsumerConfig;
 use std::marker::Model;
+use timer_bounds::earlier;
 
 /// A consumer, and how many messages of its stream are still to be delivered to it.
 #[derive(Drop)]
@@ -91,6 +94,17 @@ impl Follower {
         }
         self.consumer.forget(seq);
     }
+}
+
+/// A moment before which time alone brings nothing to any of them, apart from what comes by `now`; `None` only if it never brings more.
+pub(crate) fn next_of_all(followers: &[Follower], now: Moment) -> Option<Moment>
+    ensures bound { IsTimerBound (later now (flat_map consumer_timers (map (λ f. f.consumer) followers.now))) result }
+{
+    let mut next = None;
+    for follower in followers {
+        next = earlier(next, follower.consumer.next_timer(now));
+    }
+    next
 }
 
 /// Lets time pass for all up to a moment. Gives a span outside which they need the messages that they needed before. It takes no memory.

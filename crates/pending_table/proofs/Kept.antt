@@ -33,7 +33,7 @@ later_apart p ps n same h = greater_apart n ps (all_map (λ q. p.seq < q.seq) (�
 
 -- ---- an entry comes
 
-all_put : (P : Pending → Type 0) (new : Pending) (ps : List Pending) → P new → AllByRecursion P ps → AllByRecursion P (with_pending ps new)
+pub all_put : (P : Pending → Type 0) (new : Pending) (ps : List Pending) → P new → AllByRecursion P ps → AllByRecursion P (with_pending ps new)
 all_put P new [] h all = (h, tt)
 all_put P new (p ∷ ps) h all = go (nat_lt p.seq new.seq) (p.seq == new.seq) (all_put P new ps h all.1)
   where
@@ -76,6 +76,14 @@ all_replaced n new (p ∷ ps) h = (go (p.seq == new.seq) refl, all_replaced n ne
     go true e = let same : p.seq ≡ new.seq = eqb-true p.seq new.seq e in let less : n < p.seq = h.0 in omega (arith, same, less)
     go false e = h.0
 
+pub all_changed : (P : Pending → Type 0) (new : Pending) (ps : List Pending) → P new → AllByRecursion P ps → AllByRecursion P (map (replaced new) ps)
+all_changed P new [] h all = tt
+all_changed P new (p ∷ ps) h all = (go (p.seq == new.seq), all_changed P new ps h all.1)
+  where
+    go : (b : Bool) → P (cond b new p)
+    go true = h
+    go false = all.0
+
 pub ascending_replaced : (new : Pending) (ps : List Pending) → IsAscending ps → IsAscending (map (replaced new) ps)
 ascending_replaced new [] h = tt
 ascending_replaced new (p ∷ ps) h = (go (p.seq == new.seq) refl, ascending_replaced new ps h.1)
@@ -99,7 +107,7 @@ sum_replaced f new old (p ∷ ps) h found = go (sum_replaced f new old ps h.1) (
 
 -- ---- an entry goes
 
-all_filter : (P : Pending → Type 0) (test : Pending → Bool) (ps : List Pending) → AllByRecursion P ps → AllByRecursion P (filter test ps)
+pub all_filter : (P : Pending → Type 0) (test : Pending → Bool) (ps : List Pending) → AllByRecursion P ps → AllByRecursion P (filter test ps)
 all_filter P test [] h = tt
 all_filter P test (p ∷ ps) h = go (test p) (all_filter P test ps h.1)
   where

@@ -23,8 +23,10 @@ abbrev pub with_found : List Pending → Option Pending → List Pending
 with_found ps None = ps
 with_found ps (Some p) = with_pending ps p
 
--- the entry is not due before the bound, its count is at most the greatest, and if it is the greatest, the entry is not due before that one's bound
+-- the entry is due no earlier than the least bound and no later than the greatest, its count is at most the greatest, and if it is the greatest, the entry
+-- is due no earlier than that one's bound
 pub record IsWithin (b : Bounds) (p : Pending) : Type 0 where
   pub due : b.due ≤ p.due
+  pub latest : p.due ≤ b.latest
   pub count : p.count ≤ b.count
   pub spent : p.count ≡ b.count → b.spent ≤ p.due

@@ -1,7 +1,7 @@
 //! What holds of all entries below a fork, so that a search can pass over them.
 
-ghost use Rattle.std.specs.Prelude.{◌≡◌, false, min};
-ghost use Rattle.std.specs.Bool.{OnFalse};
+ghost use Rattle.std.specs.Prelude.{◌≡◌, ◌≤◌, ◌<◌, false, max, min};
+ghost use Rattle.std.specs.Bool.{OnFalse, OnTrue};
 ghost use Rattle.js_model.specs.declared.consumer.Pending.{Pending};
 ghost use Rattle.pending_table.specs.Asked.{is_spent, passes, IsWithin};
 
@@ -9,10 +9,11 @@ use crate::asked::Asked;
 use js_base::Moment;
 use js_model::Pending;
 
-/// The least due moment and the greatest count of some entries, and the least due moment of those with that count.
+/// The least and the greatest due moment and the greatest count of some entries, and the least due moment of those with that count.
 #[derive(Clone, Copy)]
 pub(crate) struct Bounds {
     pub(crate) due: Moment,
+    pub(crate) latest: Moment,
     pub(crate) count: u64,
     pub(crate) spent: Moment,
 }
@@ -24,6 +25,7 @@ impl Bounds {
     {
         Bounds {
             due: entry.due,
+            latest: entry.due,
             count: entry.count,
             spent: entry.due,
         }
@@ -35,14 +37,24 @@ impl Bounds {
         ensures others { (p : Pending) → IsWithin other p → IsWithin result p }
     {
         let due = earlier(self.due, other.due);
+        let latest = later(self.latest, other.latest);
         if self.count < other.count {
-            Bounds { due, ..other }
+            Bounds {
+                due,
+                latest,
+                ..other
+            }
         } else if other.count < self.count {
-            Bounds { due, ..self }
+            Bounds {
+                due,
+                latest,
+                ..self
+            }
         } else {
             let spent = earlier(self.spent, other.spent);
             Bounds {
                 due,
+                latest,
                 count: self.count,
                 spent,
             }
@@ -57,6 +69,20 @@ impl Bounds {
             Asked::Due(now) => self.due.as_nanos() <= now.as_nanos(),
             Asked::Spent(now, max) => self.may_have_spent(*now, *max),
         }
+    }
+
+    /// Whether an entry may be within these bounds that is due after the moment.
+    pub(crate) fn may_have_after(&self, now: Moment) -> bool
+        ensures none { OnFalse result ((p : Pending) → IsWithin self.now p → p.due ≤ now) }
+    {
+        now.as_nanos() < self.latest.as_nanos()
+    }
+
+    /// Whether all entries within these bounds are due after the moment.
+    pub(crate) fn are_after(&self, now: Moment) -> bool
+        ensures before { OnTrue result (now < self.now.due) }
+    {
+        now.as_nanos() < self.due.as_nanos()
     }
 
     /// Whether an entry with this count that is due may be within these bounds.
@@ -79,5 +105,16 @@ fn earlier(one: Moment, other: Moment) -> Moment
         one
     } else {
         other
+    }
+}
+
+/// The later of two moments.
+fn later(one: Moment, other: Moment) -> Moment
+    ensures value { result ≡ max one other }
+{
+    if one.as_nanos() < other.as_nanos() {
+        other
+    } else {
+        one
     }
 }

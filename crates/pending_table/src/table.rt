@@ -1,16 +1,18 @@
 //! The table of the deliveries that wait.
 
 ghost use Rattle.std.specs.Prelude.{◌≡◌, ◌==◌, ◌+◌, ◌^◌, ◌<◌, ◌&&◌, [], None, filter, find, length, map, nat_le, nat_lt, not, if◌then◌else◌, IfSome, OnOk, OnErr};
-ghost use Rattle.std.specs.List.{count_by, list_any};
+ghost use Rattle.std.specs.List.{count_by, list_any, AllByRecursion};
 ghost use Rattle.std.specs.Option.{option_map};
 ghost use Rattle.js_model.specs.Acknowledge.{moved};
 ghost use Rattle.js_model.specs.Deliver.{with_pending, without_first};
 ghost use Rattle.js_model.specs.Lists.{Apart};
 ghost use Rattle.pending_table.specs.Asked.{is_due, is_spent, with_found};
+ghost use Rattle.pending_table.specs.Quiet.{IsQuiet};
 ghost use Rattle.pending_table.specs.Table.{is_again};
 ghost use Rattle.pending_table.specs.Trees.{entry_of, IsLeaf};
 
 use crate::asked::Asked;
+use crate::outlook::Outlook;
 use crate::tree::{Fork, Tree};
 use js_base::{Moment, NoMemory};
 use js_model::Pending;
@@ -25,6 +27,8 @@ pub struct PendingTable {
     len: u64,
     /// How many were delivered more than once.
     again: u64,
+    /// When the next one becomes due. What is taken out need not change it.
+    outlook: Outlook,
 }
 
 impl Model for PendingTable {
@@ -37,7 +41,7 @@ impl Model for PendingTable {
 
     ghost view = { λ table. entries table.tree };
 
-    ghost invariant = { λ table. IsTable table.tree table.len table.again };
+    ghost invariant = { λ table. IsTable table.tree table.len table.again table.outlook };
 }
 
 impl PendingTable {
@@ -50,6 +54,7 @@ impl PendingTable {
             tree: Tree::Empty,
             len: 0,
             again: 0,
+            outlook: Outlook::empty(),
         }
     }
 
@@ -101,6 +106,7 @@ impl PendingTable {
         match self.tree.get(seq) {
             Some(old) => {
                 self.again = self.again - again_of(old.count) + again_of(count);
+                self.outlook = self.outlook.and(due);
                 self.tree.replace(entry);
             }
             None => {
@@ -128,6 +134,7 @@ impl PendingTable {
     {
         self.len += 1;
         self.again += again_of(leaf.count());
+        self.outlook = self.outlook.and(leaf.due());
         self.tree.insert(leaf);
     }
 
@@ -178,6 +185,7 @@ impl PendingTable {
         let Some(entry) = self.tree.get(seq) else {
             return false;
         };
+        self.outlook = self.outlook.and(due);
         self.tree.replace(Pending { due, ..entry });
         true
     }
@@ -187,6 +195,30 @@ impl PendingTable {
         ensures value { result ≡ option_map (λ p. p.seq) (find (is_due now) self.now) }
     {
         self.tree.first(&Asked::Due(now))
+    }
+
+    /// A moment after this one, before which no entry becomes due that is not due by then; `None` only if all are due. If `look_ahead` was called for this
+    /// moment, or for an earlier one after which none became due, it looks at no entry; else it costs what `look_ahead` does.
+    pub fn next_after(&self, now: Moment) -> Option<Moment>
+        ensures quiet { AllByRecursion (IsQuiet now result) self.now }
+        ensures after { IfSome result (λ next. now < next) }
+    {
+        if self.outlook.covers(now) {
+            self.outlook.next
+        } else {
+            self.tree.next_after(now)
+        }
+    }
+
+    /// Sees to it that `next_after` looks at no entry, for this moment and those before the next one at which an entry becomes due. It takes no memory. It
+    /// passes over stretches of entries that are all due by the moment, or all due after it, and its cost grows with the number of the others.
+    pub fn look_ahead(&mut self, now: Moment)
+        ensures same { self.new ≡ self.old }
+    {
+        if !self.outlook.covers(now) {
+            let next = self.tree.next_after(now);
+            self.outlook = Outlook { since: now, next };
+        }
     }
 
     /// Whether an entry is due at the moment and has this count. It costs what `take_spent` does.

@@ -1,19 +1,21 @@
 //! The search tree of the entries: an AVL tree, of which each fork knows what holds of all its entries.
 
-ghost use Rattle.std.specs.Prelude.{◌≡◌, ◌≤◌, [], ◌∷◌, ◌++◌, ◌==◌, None, IfOk, IfSome, filter, find, map, nat_le, not, if◌then◌else◌};
+ghost use Rattle.std.specs.Prelude.{◌≡◌, ◌≤◌, ◌<◌, [], ◌∷◌, ◌++◌, ◌==◌, None, IfOk, IfSome, filter, find, map, nat_le, not, if◌then◌else◌};
 ghost use Rattle.std.specs.List.{AllByRecursion};
 ghost use Rattle.std.specs.Option.{option_map, option_to_list};
 ghost use Rattle.js_model.specs.Deliver.{with_pending};
 ghost use Rattle.js_model.specs.declared.consumer.Pending.{Pending};
 ghost use Rattle.pending_table.specs.Asked.{passes, IsWithin};
+ghost use Rattle.pending_table.specs.Quiet.{IsQuiet};
 ghost use Rattle.pending_table.specs.Trees.{entries, entry_of, listed, AreSidesBounded, AreTopsBounded, IsBounded, IsBoundedFork, IsLeaf, IsOrdered, Lacks};
 
 use crate::asked::Asked;
 use crate::bounds::Bounds;
-use js_base::NoMemory;
+use js_base::{Moment, NoMemory};
 use js_model::Pending;
 use std::alloc::Global;
 use std::mem;
+use timer_bounds::earlier;
 
 /// The entries in the order of their sequences.
 #[cycle(tree)]
@@ -87,6 +89,25 @@ impl Tree {
             return Some(fork.entry.seq);
         }
         fork.right.first(asked)
+    }
+
+    /// A moment after this one, before which no entry becomes due that is not due by then; `None` if all are due.
+    pub(crate) fn next_after(&self, now: Moment) -> Option<Moment>
+        requires bounded { IsBounded self.now }
+        ensures quiet { AllByRecursion (IsQuiet now result) (entries self.now) }
+        ensures after { IfSome result (λ next. now < next) }
+    {
+        let Tree::Fork(fork) = self else {
+            return None;
+        };
+        if !fork.bounds.may_have_after(now) {
+            return None;
+        }
+        if fork.bounds.are_after(now) {
+            return Some(fork.bounds.due);
+        }
+        let sides = earlier(fork.left.next_after(now), fork.right.next_after(now));
+        earlier(due_after(&fork.entry, now), sides)
     }
 
     /// Puts a leaf at its place. It takes no memory.
@@ -235,6 +256,13 @@ impl Fork {
         self.entry.count
     }
 
+    /// When the message of the entry is due again.
+    pub(crate) fn due(&self) -> Moment
+        ensures value { result ≡ self.now.entry.due }
+    {
+        self.entry.due
+    }
+
     /// Sets the bounds and the height anew.
     fn update(&mut self)
         requires sides { AreSidesBounded self.old }
@@ -249,6 +277,18 @@ impl Fork {
             .height()
             .max(self.right.height())
             .saturating_add(1);
+    }
+}
+
+/// When the entry is due, if it is not due by the moment.
+fn due_after(entry: &Pending, now: Moment) -> Option<Moment>
+    ensures quiet { IsQuiet now result entry.now }
+    ensures after { IfSome result (λ next. now < next) }
+{
+    if now.as_nanos() < entry.due.as_nanos() {
+        Some(entry.due)
+    } else {
+        None
     }
 }
 

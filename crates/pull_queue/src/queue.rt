@@ -7,6 +7,7 @@ ghost use Rattle.js_model.specs.Advance.{is_over};
 ghost use Rattle.js_model.specs.Deliver.{fits, front_served, served, without_first};
 ghost use Rattle.pull_queue.specs.Passing.{passing_outs, passed};
 ghost use Rattle.pull_queue.specs.Fronts.{front_of, after_front};
+ghost use Rattle.pull_queue.specs.Quiet.{IsQuietUntil};
 
 use crate::fault::PullFault;
 use crate::front::Front;
@@ -204,6 +205,13 @@ impl PullQueue {
         if let Some(pull) = self.pulls.pop_front() {
             self.no_waits = self.no_waits.saturating_sub(no_waits_of(&pull));
         }
+    }
+
+    /// A moment before which no pull ends and no heartbeat comes; `None` only if none ever does. It looks at no pull.
+    pub fn next_timer(&self) -> Option<Moment>
+        ensures quiet { IsQuietUntil result self.now.pulls }
+    {
+        self.next
     }
 
     /// Adds what the pulls are sent by a moment: the timeouts of those that end, then the heartbeats of the others, both in the order of their asking.

@@ -13,3 +13,4 @@ pub mod Counted
 pub mod Merged
 pub mod Latest
 pub mod Refilling
+pub mod Ages

@@ -1,16 +1,19 @@
 //! Messages that are too old.
 
-ghost use Rattle.std.specs.Prelude.{◌≡◌, None, Some, nat_lt, option_map, if◌then◌else◌, IfNone, IfSome, IsSome};
+ghost use Rattle.std.specs.Prelude.{◌≡◌, None, Some, nat_lt, option_map, if◌then◌else◌, ◌++◌, IfNone, IfSome, IsSome};
 ghost use Rattle.js_base.specs.Moments.{plus};
 ghost use Rattle.js_model.specs.Advance.{young};
 ghost use Rattle.js_model.specs.Counts.{first_message};
 ghost use Rattle.js_model.specs.Events.{message_at};
+ghost use Rattle.timers.specs.Bounds.{IsTimerBound};
+ghost use Rattle.timers.specs.Timers.{age_timers, id_timers};
 ghost use Rattle.stored_stream.specs.Stored.{IsSound, without};
 
 use crate::stored::StoredStream;
 use js_base::Moment;
 use js_model::Message;
 use stream_view::View;
+use timer_bounds::earlier;
 
 /// The sequence of the first message, if by a moment it is too old, by JetStream's `max_age`. If it is not, no message is.
 pub fn first_old(stream: &StoredStream, now: Moment) -> Option<u64>
@@ -27,6 +30,28 @@ pub fn first_old(stream: &StoredStream, now: Moment) -> Option<u64>
     match stream.first() {
         Some(first) => if_old(first, max_age, now),
         None => None,
+    }
+}
+
+impl StoredStream {
+    /// A moment before which no message is too old, by `max_age`, and no id leaves the duplicate window; `None` only if neither ever comes. It looks at one
+    /// message and one id.
+    pub fn next_timer(&self) -> Option<Moment>
+        ensures bound { IsTimerBound (age_timers self.now ++ id_timers self.now) result }
+    {
+        earlier(self.next_age(), self.ids.next_timer())
+    }
+
+    /// The moment at which the first message is too old.
+    fn next_age(&self) -> Option<Moment>
+        ensures bound { IsTimerBound (age_timers self.now) result }
+    {
+        let max_age = self.config.max_age;
+        if max_age == 0 {
+            return None;
+        }
+        let first = self.first()?;
+        Some(first.at.plus(max_age))
     }
 }
 

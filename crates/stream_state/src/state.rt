@@ -13,6 +13,8 @@ ghost use Rattle.js_model.specs.Proper.{is_proper_publish};
 ghost use Rattle.js_model.specs.Retention.{kept};
 ghost use Rattle.js_model.specs.Trim.{trim};
 ghost use Rattle.js_model.specs.Verdict.{last_on, verdict};
+ghost use Rattle.timers.specs.Bounds.{IsTimerBound};
+ghost use Rattle.timers.specs.Timers.{stream_timers};
 ghost use Rattle.stream_view.specs.Order.{IsInOrder};
 ghost use Rattle.followed_stream.specs.Attended.{AreNamedApart};
 ghost use Rattle.followed_stream.specs.Delivering.{AreCurrent};
@@ -267,6 +269,14 @@ impl StreamState {
         let loose = self.stream.advance_consumers(now);
         self.loose = self.loose.join(loose);
         names
+    }
+
+    /// A moment before which time alone changes nothing of the stream but its moment, apart from what it changes at once; `None` only if it never will. It
+    /// looks at one message, at one id, and at each consumer once.
+    pub fn next_timer(&self) -> Option<Moment>
+        ensures bound { IsTimerBound (stream_timers self.now) result }
+    {
+        self.stream.next_timer()
     }
 
     /// Lets the messages go that the retention does not keep, by JetStream's retention policies. What its consumers need is looked up for the messages

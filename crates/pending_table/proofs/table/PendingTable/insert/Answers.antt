@@ -1,4 +1,5 @@
-use Rattle.std.proofs.Common.{◌+◌, ◌<◌, ◌^◌, length}
+use Rattle.std.proofs.Common.{◌+◌, ◌<◌, ◌^◌, ap, length, sym, ◌∙◌}
+use Rattle.pending_table.specs.declared.tree.Fork.{Fork}
 use Rattle.pending_table.specs.Trees.{entries}
 use Rattle.pending_table.proofs.Around.{ordered, lacks}
 use Rattle.pending_table.proofs.Tables.{put_table}
@@ -14,5 +15,6 @@ pub invariant_of-self : goal.invariant_of-self
 invariant_of-self c =
     let i = c.self.inside in
     let room : length (entries i.tree) + 1 < 2 ^ 32 = rw c.self.view_is c.requires.room in
+    let here = c.and-self-inside.ensures.here c.args.leaf.value.entry (sym (c.due.ensures.value ∙ ap (λ (f : Fork). f.entry.due) c.deref-2.ensures)) in
     rw (c.again_of.ensures.value, c.count.ensures.value, c.deref.ensures)
-    (put_table i.tree c.insert.new.self i.len i.again c.self.invariant c.insert.ensures.bounded c.args.leaf.value.entry (rw c.self.view_is c.requires.absent) room c.insert.ensures.entries)
+    (put_table i.tree c.insert.new.self i.len i.again i.outlook c.and-self-inside.result c.self.invariant c.insert.ensures.bounded c.and-self-inside.ensures.others c.args.leaf.value.entry here (rw c.self.view_is c.requires.absent) room c.insert.ensures.entries)

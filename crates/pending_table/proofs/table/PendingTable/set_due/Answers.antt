@@ -1,4 +1,5 @@
 use Rattle.std.proofs.Common.{◌==◌, refl, sym, ◌∙◌}
+use Rattle.js_model.specs.declared.consumer.Pending.{Pending}
 use Rattle.pending_table.specs.Trees.{entries}
 use Rattle.pending_table.proofs.Around.{ordered}
 use Rattle.pending_table.proofs.Changed.{any_found, any_none, none_found, nothing_moved, moved_replaced}
@@ -23,8 +24,9 @@ pub invariant_of-self : goal.invariant_of-self
 invariant_of-self c =
     let i = c.self.inside in
     let e = c.in-Some.entry in
+    let changed : Pending = record e { due = c.args.due } in
     let found = own c.args.seq (entries i.tree) e (sym c.get.ensures.value ∙ c.in-Some.is) in
-    replaced_table i.tree c.replace.new.self i.len i.again c.self.invariant c.replace.ensures.bounded (record e { due = c.args.due }) e found c.replace.ensures.entries i.again refl
+    replaced_table i.tree c.replace.new.self i.len i.again i.outlook c.and-self-inside.result c.self.invariant c.replace.ensures.bounded c.and-self-inside.ensures.others changed e (c.and-self-inside.ensures.here changed refl) found c.replace.ensures.entries i.again refl
 
 pub returns-clause-is : goal.returns-clause-is
 returns-clause-is c = rw (← c.self.view_is) (sym (any_found (λ p. p.seq == c.args.seq) (entries c.self.inside.tree) c.in-Some.entry (sym c.get.ensures.value ∙ c.in-Some.is)))

@@ -19,7 +19,7 @@ returns-in_err-entry-clause-left c =
 pub overflow_sub-self-2 : goal.overflow_sub-self-2
 overflow_sub-self-2 c =
     let i = c.self.inside in
-    rw c.again_of.ensures.value (weight_within i.tree i.len i.again c.self.invariant c.args.seq c.in_ok-entry.entry (sym c.get.ensures.value ∙ c.in_ok-entry.was))
+    rw c.again_of.ensures.value (weight_within i.tree i.len i.again i.outlook c.self.invariant c.args.seq c.in_ok-entry.entry (sym c.get.ensures.value ∙ c.in_ok-entry.was))
 
 pub take-requires-clause-ordered : goal.take-requires-clause-ordered
 take-requires-clause-ordered c = ordered c.self.inside.tree c.self.invariant.ascending
@@ -29,9 +29,9 @@ invariant_of-self c =
     let i = c.self.inside in
     let e = c.in_ok-entry.entry in
     let found = sym c.get.ensures.value ∙ c.in_ok-entry.was in
-    let within : weight e ≤ i.again = weight_within i.tree i.len i.again c.self.invariant c.args.seq e found in
-    let some : 1 ≤ i.len = some_there i.tree i.len i.again c.self.invariant c.args.seq e found in
+    let within : weight e ≤ i.again = weight_within i.tree i.len i.again i.outlook c.self.invariant c.args.seq e found in
+    let some : 1 ≤ i.len = some_there i.tree i.len i.again i.outlook c.self.invariant c.args.seq e found in
     let weight_is : c.again_of.result ≡ weight e = c.again_of.ensures.value in
     let lens : i.len - 1 + 1 ≡ i.len = omega (arith, some) in
     let agains : i.again - c.again_of.result + weight e ≡ i.again = omega (arith, within, weight_is) in
-    removed_table i.tree c.take.new.self i.len i.again c.self.invariant c.take.ensures.bounded c.args.seq e found c.take.ensures.left _ _ lens agains
+    removed_table i.tree c.take.new.self i.len i.again i.outlook i.outlook c.self.invariant c.take.ensures.bounded (λ p h. h) c.args.seq e found c.take.ensures.left _ _ lens agains
