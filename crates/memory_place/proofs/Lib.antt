@@ -13,3 +13,4 @@ pub mod RecordedConsumers
 pub mod RecordedTime
 pub mod RecordedPlaces
 pub mod Restorable
+pub mod Timing

@@ -21,6 +21,8 @@ ghost use Rattle.memory_place.specs.Answers.{reply_without_room, Acts, MayDelive
 ghost use Rattle.memory_place.specs.Recording.{own_then, TellsSent};
 ghost use Rattle.place_records.specs.Records.{effects_in, own_in, time_in, IsFresh, IsFreshOwn, IsFreshTime};
 ghost use Rattle.stream_state.specs.Removing.{HasRoom, HasRoomForOne};
+ghost use Rattle.timers.specs.Bounds.{IsTimerBound};
+ghost use Rattle.timers.specs.Timers.{stream_timers};
 
 use crate::pushes::push_consumer;
 use js_base::{Blob, Moment, NoMemory, Outs};
@@ -116,6 +118,13 @@ impl LiveStream {
         ensures value { result ≡ list_any (is_ready (advance self.now now) listening.now) (advance self.now now).consumers }
     {
         self.state.next_ready(now, listening).is_some()
+    }
+
+    /// A moment before which time alone changes nothing but the stream's own moment. `None` if it never changes more.
+    pub fn next_timer(&self) -> Option<Moment>
+        ensures bound { IsTimerBound (stream_timers self.now) result }
+    {
+        self.state.next_timer()
     }
 
     /// Forgets the records, and takes memory for those of the messages that an event or a delivery may let go.

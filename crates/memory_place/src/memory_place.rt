@@ -108,6 +108,10 @@ impl<V> Place for MemoryPlace<V> {
         self.slot.ready(now, listening)
     }
 
+    fn next_timer(&self) -> Option<Moment> {
+        self.slot.next_timer()
+    }
+
     /// An `Err` is `Gone` or `NoMemory`, and the latter leaves `Left::Nothing`, or `Left::Ticked` if there is a stream and no tick was asked for.
     fn step(&mut self, event: &Event, now: Moment, outs: &mut Outs) -> Result<Reply, PlaceFault>
         requires told { IsTold event.now.what }

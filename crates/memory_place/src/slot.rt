@@ -18,6 +18,8 @@ ghost use Rattle.place_engine.specs.Shown.{IsShown};
 ghost use Rattle.memory_place.specs.Answers.{outs_by, reply_without_room, AnswersThen, LeftBy, MayDeliver, PlaceAnswers, PlaceAnswersIn};
 ghost use Rattle.memory_place.specs.Recording.{asking_effects, passing_effects, HasMadeRoom, HasOwnRoom, HasTimeRoom, TellsEvent, TellsEventIn, TellsSent};
 ghost use Rattle.place_records.specs.Records.{effects_in, own_in, time_in, IsFresh, IsFreshOwn, IsFreshTime};
+ghost use Rattle.timers.specs.Bounds.{IsTimerBound};
+ghost use Rattle.timers.specs.Timers.{timers};
 
 use crate::live_stream::LiveStream;
 use effects::Effect;
@@ -144,6 +146,16 @@ impl Slot {
         match &self.held {
             Held::Nothing(_) => false,
             Held::Stream(stream) => stream.ready(now, listening),
+        }
+    }
+
+    /// A moment before which time alone changes nothing but the stream's own moment. `None` if it never changes more, as where there is no stream.
+    pub fn next_timer(&self) -> Option<Moment>
+        ensures bound { IsTimerBound (timers self.now) result }
+    {
+        match &self.held {
+            Held::Nothing(_) => None,
+            Held::Stream(stream) => stream.next_timer(),
         }
     }
 

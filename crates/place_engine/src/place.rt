@@ -16,6 +16,8 @@ ghost use Rattle.place_engine.specs.Places.{IsTold, messages_in, name_in, subjec
 ghost use Rattle.place_engine.specs.Pushes.{push_of, pushes_in};
 ghost use Rattle.place_engine.specs.Shown.{IsShown};
 ghost use Rattle.place_engine.specs.Stepping.{Image, IsKept, Seen, Steps};
+ghost use Rattle.timers.specs.Bounds.{IsTimerBound};
+ghost use Rattle.timers.specs.Timers.{timers};
 
 use crate::faults::{OpenFault, PlaceFault};
 use crate::push::Push;
@@ -103,6 +105,12 @@ pub trait Place {
     /// nothing.
     fn ready(&self, now: Moment, listening: &Listening) -> bool
         ensures value { result ≡ some_ready (seen self.now).place.state now listening.now };
+
+    /// A moment before which no timer fires, of those that fire later than the place's own moment: until then no pull ends, no heartbeat comes, no delivery is
+    /// due again or given up, no message is too old, and no message id is forgotten. `None` comes only if there are no such timers. So if all that is due has
+    /// been done, as a tick leaves a place, time alone changes until then nothing of what it holds but its own moment.
+    fn next_timer(&self) -> Option<Moment>
+        ensures bound { IsTimerBound (timers (seen self.now).place.state) result };
 
     /// Makes an event at a moment, answers it, and adds what it sends to the outputs. What each fault leaves of the place and of the outputs is
     /// said at [`PlaceFault`]; if a place is stopped, the event's incarnation is not looked at.

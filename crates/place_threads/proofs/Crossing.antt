@@ -72,5 +72,23 @@ slot_sync = search (sendable, crosses, live_sync) depth 20
 
 -- ---- a place is its stream, its volume, and what is beside them
 
-pub ruleset place_crosses =
-    (sendable, crosses, heap.send, heap.sync, slot_send, slot_sync, made.the_send, made.the_sync, made.the_field_send, made.the_field_sync, store.the_send, store.the_sync, effect.the_send, effect.the_sync, effect.the_field_send, effect.the_field_sync)
+pub ruleset place_crosses = (
+  sendable,
+  crosses,
+  heap.send,
+  heap.sync,
+  slot_send,
+  slot_sync,
+  made.the_send,
+  made.the_sync,
+  made.the_field_send,
+  made.the_field_sync,
+  store.the_send,
+  store.the_sync,
+  effect.the_send,
+  effect.the_sync,
+  effect.the_field_send,
+  effect.the_field_sync,
+  moment.the_send,
+  moment.the_sync,
+)

@@ -60,7 +60,7 @@ fn reason_of(status: u8) -> &'static str {
         5 => "the folder holds what no server may have left",
         7 => "out of memory",
         8 => "it could accept no more connections",
-        10 => "the numbers of turns, sessions or generations are used up",
+        10 => "the numbers of turns or of sessions are used up",
         _ => "its status tells why",
     }
 }

@@ -50,6 +50,7 @@ use Rattle.log_records.proofs.Reaching.{add_push}
 use Rattle.log_records.proofs.Unreading.{law_unread}
 use Rattle.stream_store.specs.Holding.{Holds, last_in, last_of, logged}
 use Rattle.stream_store.specs.Base.{IsBaseOf}
+use Rattle.stream_store.specs.Clearing.{AreUsedLeft, IsUsed}
 use Rattle.stream_store.specs.Committing.{IsNextBatch}
 use Rattle.stream_store.specs.Logs.{is_first}
 use Rattle.stream_store.specs.Staging.{AreBehindLogs, DropsUnused}
@@ -390,6 +391,75 @@ module _ (log : LogState) (b : Blocks) (base next : Durable) (effects : List Eff
             (gives_more batches records (logged base b) (logged next after) some gives (adds records are few))
             (record { table = here.state.table; stand = firm_blocks after late firm_late; storable = w.next_is.storable; stored = stored_late; openable = w.next_is.openable })
 
+-- a file in which no block is begins with nothing
+starts_none : (b : Blocks) (image seen : Files) (file : ℕ) → has_block b file ≡ false → StartsWith (image file) (front_in b seen file)
+starts_none b image seen file none = subst (λ (n : ℕ). StartsWith (image file) (take n (seen file))) (sym (end_free b file none)) refl
+
+-- ---- while no log and no block is touched
+
+module _ (log : LogState) (b : Blocks) (d : Durable) (old new : Disk) (k : IsBaseOf log b d old) where
+  starts : (image : Files) → ((file : ℕ) → has_block b file ≡ true → StartsWith (image file) (front_in b old.seen file)) → (file : ℕ) → StartsWith (image file) (front_in b old.seen file)
+  starts image used file = go (has_block b file) refl
+    where
+      go : (t : Bool) → has_block b file ≡ t → StartsWith (image file) (front_in b old.seen file)
+      go true e = used file e
+      go false e = starts_none b image old.seen file e
+
+  pub spared_leaves : LeavesOnly old new (AreUsedLeft b old) → LeavesOnly old new (λ image. Holds image d)
+  spared_leaves leaves = widened old new (λ image. Holds image d) (AreUsedLeft b old) leaves (λ image h.
+      let used = λ (file : ℕ) (has : has_block b file ≡ true). (k.stand.stand file).left (image file) (h file (inr has)) in (
+        b,
+        holds_by old.seen image b d k.table (k.durable_zero (image 0) (h 0 (inl (omega arith)))) (k.durable_one (image 1) (h 1 (inl (omega arith))))
+            (same_fronts b old image k.table k.stand (starts image used)) k.holds,
+      ))
+
+  module _ (spared : (file : ℕ) → IsUsed b file → Rests file old new) where
+    rests_log : (file : ℕ) → file < 2 → Rests file old new
+    rests_log file low = spared file (inl low)
+
+    rests_block : (file : ℕ) → has_block b file ≡ true → Rests file old new
+    rests_block file has = spared file (inr has)
+
+    stand_new : BlocksStand b new
+    stand_new = record { long = long; stand = stand }
+      where
+        long : (file : ℕ) → end_in b file ≤ length (new.seen file)
+        long file = go (has_block b file) refl
+          where
+            go : (t : Bool) → has_block b file ≡ t → end_in b file ≤ length (new.seen file)
+            go true e = subst (λ (l : Bytes). end_in b file ≤ length l) (sym (rests_block file e).seen) (k.stand.long file)
+            go false e = omega (arith, end_free b file e)
+
+        stand : (file : ℕ) → Stands new file (front_in b new.seen file)
+        stand file = go (has_block b file) refl
+          where
+            go : (t : Bool) → has_block b file ≡ t → Stands new file (front_in b new.seen file)
+            go true e =
+                subst (λ (l : Bytes). Stands new file (take (end_in b file) l)) (sym (rests_block file e).seen)
+                (stands_at_rest file old new (front_in b old.seen file) (rests_block file e) (k.stand.stand file))
+            go false e = record { read = starts_none b new.seen new.seen file e; left = λ bytes is. starts_none b (λ f. bytes) new.seen file e }
+
+    pub base_spared : IsBaseOf log b d new
+    base_spared =
+        let zero = rests_log 0 (omega arith) in
+        let one = rests_log 1 (omega arith) in
+        let durable_zero = durable_by 0 old new zero k.durable_zero in
+        let durable_one = durable_by 1 old new one k.durable_one in
+        let used = λ (file : ℕ) (has : has_block b file ≡ true). subst (λ (l : Bytes). StartsWith l (front_in b old.seen file)) (sym (rests_block file has).seen) (k.stand.stand file).read in
+        let holds = holds_by old.seen new.seen b d k.table zero.seen one.seen (same_fronts b old new.seen k.table k.stand (starts new.seen used)) k.holds in
+        record {
+          settled = (k.settled.0, settled_by log k.settled.0 old new (rests_log log.file (log_low log b d old k)) k.settled.1);
+          begun = k.begun;
+          current = λ zero_log one_log logs. k.current zero_log one_log (has_logs_by new.seen old.seen zero_log one_log (sym zero.seen) (sym one.seen) logs);
+          durable_zero = durable_zero;
+          durable_one = durable_one;
+          table = k.table;
+          stand = stand_new;
+          storable = k.storable;
+          holds = holds;
+          images = all_hold new b d durable_zero durable_one k.table stand_new holds;
+        }
+
 -- ---- while unused blocks are dropped
 
 pub drops_nothing : (b : Blocks) (disk : Disk) → IsClocked disk → DropsUnused b disk disk
@@ -402,85 +472,25 @@ drops_nothing b disk clocked = record {
   };
 }
 
--- no log is among them
-log_used : (b : Blocks) (ks : List Block) (file : ℕ) → AreBehindLogs ks → file < 2 → is_unused b ks file ≡ false
-log_used b ks file behind low = ap (λ (t : Bool). t && not (has_block b file)) (none ks behind)
+-- no log and no block is among them
+kept_used : (b : Blocks) (ks : List Block) (file : ℕ) → AreBehindLogs ks → IsUsed b file → is_unused b ks file ≡ false
+kept_used b ks file behind (inl low) = ap (λ (t : Bool). t && not (has_block b file)) (none ks behind)
   where
     none : (ks : List Block) → AreBehindLogs ks → is_among ks file ≡ false
     none [] h = refl
     none (k ∷ ks) h =
         let high = All-head (λ (k : Block). 2 ≤ k.file) k ks h in
         ap (λ (t : Bool). t || is_among ks file) (ne_eqb k.file file (λ is. omega (arith, high, is, low))) ∙ none ks (All-tail (λ (k : Block). 2 ≤ k.file) k ks h)
-
-block_used : (b : Blocks) (ks : List Block) (file : ℕ) → has_block b file ≡ true → is_unused b ks file ≡ false
-block_used b ks file has = go (is_among ks file)
+kept_used b ks file behind (inr has) = go (is_among ks file)
   where
     go : (t : Bool) → (t && not (has_block b file)) ≡ false
     go true = ap not has
     go false = refl
 
--- a file in which no block is begins with nothing
-starts_none : (b : Blocks) (image seen : Files) (file : ℕ) → has_block b file ≡ false → StartsWith (image file) (front_in b seen file)
-starts_none b image seen file none = subst (λ (n : ℕ). StartsWith (image file) (take n (seen file))) (sym (end_free b file none)) refl
-
 module _ (log : LogState) (b : Blocks) (d : Durable) (old new : Disk) (ks : List Block) (k : IsBaseOf log b d old) (behind : AreBehindLogs ks) (changes : ChangesUnused b ks old new) where
-  starts : (image : Files) → ((file : ℕ) → has_block b file ≡ true → StartsWith (image file) (front_in b old.seen file)) → (file : ℕ) → StartsWith (image file) (front_in b old.seen file)
-  starts image used file = go (has_block b file) refl
-    where
-      go : (t : Bool) → has_block b file ≡ t → StartsWith (image file) (front_in b old.seen file)
-      go true e = used file e
-      go false e = starts_none b image old.seen file e
-
   pub dropping_leaves : LeavesOnly old new (λ image. Holds image d)
-  dropping_leaves = widened old new (λ image. Holds image d) (AreUsedKept b ks old) changes.any_moment (λ image h.
-      let used = λ (file : ℕ) (has : has_block b file ≡ true). (k.stand.stand file).left (image file) (h file (block_used b ks file has)) in (
-        b,
-        holds_by old.seen image b d k.table (k.durable_zero (image 0) (h 0 (log_used b ks 0 behind (omega arith)))) (k.durable_one (image 1) (h 1 (log_used b ks 1 behind (omega arith))))
-            (same_fronts b old image k.table k.stand (starts image used)) k.holds,
-      ))
-
-  rests_log : (file : ℕ) → file < 2 → Rests file old new
-  rests_log file low = changes.elsewhere file (log_used b ks file behind low)
-
-  rests_block : (file : ℕ) → has_block b file ≡ true → Rests file old new
-  rests_block file has = changes.elsewhere file (block_used b ks file has)
-
-  stand_new : BlocksStand b new
-  stand_new = record { long = long; stand = stand }
-    where
-      long : (file : ℕ) → end_in b file ≤ length (new.seen file)
-      long file = go (has_block b file) refl
-        where
-          go : (t : Bool) → has_block b file ≡ t → end_in b file ≤ length (new.seen file)
-          go true e = subst (λ (l : Bytes). end_in b file ≤ length l) (sym (rests_block file e).seen) (k.stand.long file)
-          go false e = omega (arith, end_free b file e)
-
-      stand : (file : ℕ) → Stands new file (front_in b new.seen file)
-      stand file = go (has_block b file) refl
-        where
-          go : (t : Bool) → has_block b file ≡ t → Stands new file (front_in b new.seen file)
-          go true e =
-              subst (λ (l : Bytes). Stands new file (take (end_in b file) l)) (sym (rests_block file e).seen)
-              (stands_at_rest file old new (front_in b old.seen file) (rests_block file e) (k.stand.stand file))
-          go false e = record { read = starts_none b new.seen new.seen file e; left = λ bytes is. starts_none b (λ f. bytes) new.seen file e }
+  dropping_leaves =
+      spared_leaves log b d old new k (widened old new (AreUsedLeft b old) (AreUsedKept b ks old) changes.any_moment (λ image h file is. h file (kept_used b ks file behind is)))
 
   pub base_dropped : IsBaseOf log b d new
-  base_dropped =
-      let zero = rests_log 0 (omega arith) in
-      let one = rests_log 1 (omega arith) in
-      let durable_zero = durable_by 0 old new zero k.durable_zero in
-      let durable_one = durable_by 1 old new one k.durable_one in
-      let used = λ (file : ℕ) (has : has_block b file ≡ true). subst (λ (l : Bytes). StartsWith l (front_in b old.seen file)) (sym (rests_block file has).seen) (k.stand.stand file).read in
-      let holds = holds_by old.seen new.seen b d k.table zero.seen one.seen (same_fronts b old new.seen k.table k.stand (starts new.seen used)) k.holds in
-      record {
-        settled = (k.settled.0, settled_by log k.settled.0 old new (rests_log log.file (log_low log b d old k)) k.settled.1);
-        begun = k.begun;
-        current = λ zero_log one_log logs. k.current zero_log one_log (has_logs_by new.seen old.seen zero_log one_log (sym zero.seen) (sym one.seen) logs);
-        durable_zero = durable_zero;
-        durable_one = durable_one;
-        table = k.table;
-        stand = stand_new;
-        storable = k.storable;
-        holds = holds;
-        images = all_hold new b d durable_zero durable_one k.table stand_new holds;
-      }
+  base_dropped = base_spared log b d old new k (λ file is. changes.elsewhere file (kept_used b ks file behind is))

@@ -28,7 +28,6 @@ use Rattle.block_writing.proofs.Runs.{planned_none}
 use Rattle.log_records.specs.Unread.{stored_messages}
 use Rattle.stream_store.specs.Committing.{batch_length, no_spot, recorded_at}
 use Rattle.stream_store.specs.Holding.{last_of}
-use Rattle.stream_store.specs.declared.steps.Step.TheVariants as step
 
 -- ---- what a change makes of messages
 

@@ -16,5 +16,6 @@ pub mod Counting
 pub mod Committing
 pub mod Committed
 pub mod Unused
+pub mod Cleared
 pub mod Finding
 pub mod Beginning

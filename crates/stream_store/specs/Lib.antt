@@ -8,6 +8,7 @@ pub mod Placing
 pub mod Staging
 pub mod Reading
 pub mod Opening
+pub mod Clearing
 pub mod Finding
 pub mod Beginning
 pub mod Base

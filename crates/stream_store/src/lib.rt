@@ -2,6 +2,7 @@
 //! volume whole or not at all.
 #![tactic(auto)]
 
+mod clearing;
 mod fault;
 mod late;
 pub mod laws;

@@ -7,6 +7,8 @@ ghost use Rattle.vol_disk.specs.Does.{Rests};
 ghost use Rattle.effects.specs.declared.durable.Durable.{Durable};
 ghost use Rattle.op_records.specs.Allowed.{is_record};
 ghost use Rattle.stream_store.specs.Base.{IsBase};
+ghost use Rattle.stream_store.specs.Beginning.{IsOutsideFault};
+ghost use Rattle.stream_store.specs.Clearing.{AreCleared, KeepsBase, SparesUsed};
 ghost use Rattle.stream_store.specs.Committing.{IsNextBatch, IsCommitted, CommitsOrNot, EmptiesUnused, batch_length, length_with};
 ghost use Rattle.stream_store.specs.Holding.{Holds};
 ghost use Rattle.gate_log.specs.LogState.{with_batch};
@@ -17,6 +19,7 @@ ghost use Rattle.stream_store.specs.Opening.{IsFirstLog, IsNoneOpen, IsOpenFault
 ghost use Rattle.stream_store.specs.Placing.{blocks_then, can_place, has_room, used_behind};
 ghost use Rattle.stream_store.specs.Staging.{DropsUnused, HasDropped};
 
+use crate::clearing::clear_files;
 use crate::fault::{CommitFault, OpenFault};
 use crate::late::LateTable;
 use crate::logs::{FIRST_GENERATION, begin_log, open_current};
@@ -93,6 +96,24 @@ impl Store {
                 Ok((begun, found.durable))
             }
         }
+    }
+
+    /// Cuts each file to nothing that could be a block, is none and has bytes, and syncs it: a crash may leave messages whose batch was not written, and blocks that
+    /// hold no message any more. No log is touched, and no block. It asks for the length of each file that could be a block and is none, up to the last with bytes.
+    ///
+    /// `Fault` and `NoMemory` leave some of these files as they were. The store stays, whatever the answer, and so does the base.
+    pub fn clear<V: Vol>(&mut self, vol: &mut V) -> Result<(), OpenFault>
+        ensures same { self.new ≡ self.old }
+        ensures cleared { V.told → OnOk result (AreCleared self.old.blocks (V.disk vol.old) (V.disk vol.new)) }
+        ensures spares { V.told → SparesUsed self.old.blocks (V.disk vol.old) (V.disk vol.new) }
+        ensures keeps { V.told → (base : Durable) → IsBase self.old base (V.disk vol.old) → KeepsBase self.old base (V.disk vol.old) (V.disk vol.new) }
+        ensures only { IfErr result IsOutsideFault }
+        ensures cause { HasCause (V.faults vol.old) (V.faults vol.new) (IsErrOf result OpenFault.Fault) }
+        ensures later { (V.disk vol.old).moment ≤ (V.disk vol.new).moment }
+    {
+        self.late.catch_up()?;
+        clear_files(vol, &self.late.table)?;
+        Ok(())
     }
 
     /// The store of a log, whose messages lie as the table says.

@@ -13,7 +13,7 @@ use Rattle.vol_disk.specs.Sound.{sound_after}
 use Rattle.vol_disk.specs.Calls.{CanDo, step_of, after, after_write, after_cut}
 use Rattle.vol_disk.specs.declared.span.Span.{Span}
 use Rattle.vol_disk.specs.declared.call.Deed.{Deed}
-use Rattle.vol_disk.specs.declared.call.Deed.TheVariants.{Len, Read, Write, Cut, Sync}
+use Rattle.vol_disk.specs.declared.call.Deed.TheVariants.{Len, Read, Write, Cut, Sync, End}
 use Rattle.vol_disk.proofs.Overlays.{mend, length-mend, take-mend, drop-mend, mend_in, mend_out, written_out, length-written, uncut, length-uncut, take-uncut, uncut_at}
 
 -- a place outside of a range
@@ -154,6 +154,7 @@ follows_after (Cut to) true s can sound = λ c left. cut_from s to c sound (by_c
 follows_after (Cut to) false s can sound = λ c left. cut_from s to c sound (by_cut s to c can sound left)
 follows_after Sync true s can sound = λ c left. (s.bytes, left_as_read s sound, record { same = only_at_rest s.bytes c left })
 follows_after Sync false s can sound = λ c left. (c, left, record { same = refl })
+follows_after End is_done s can sound = λ c left. (c, left, record { same = refl })
 
 -- each step may leave all as it is
 pub step_same : (deed : Deed) (bytes : List ℕ) → step_of deed bytes bytes
@@ -162,6 +163,7 @@ step_same (Read at count) bytes = record { same = refl }
 step_same (Write at w) bytes = record { before = refl; after = refl; no_shorter = omega arith; no_longer = omega arith }
 step_same (Cut to) bytes = record { front = refl; no_longer = omega arith }
 step_same Sync bytes = record { same = refl }
+step_same End bytes = record { same = refl }
 
 -- ---- how a file is reached
 
@@ -204,6 +206,7 @@ reached_after (Cut to) false s can was =
     (λ k low none. (none, refl)) was
 reached_after Sync true s can was = reached_rest s.bytes
 reached_after Sync false s can was = was
+reached_after End is_done s can was = was
 
 -- what is fitted to a file is as it was wanted, where a crash may leave that
 pub fits : (s : FileState) (wanted left : List ℕ) (len : ℕ) → len ≡ min (max (length wanted) s.least) s.greatest → length left ≡ len →

@@ -20,7 +20,7 @@ use Rattle.vol_disk.specs.MemDisk.{AreLeft, disk_after}
 use Rattle.vol_disk.specs.Held.{state_in, IsReplayed, IsPicked, ArePicked}
 use Rattle.vol_disk.specs.declared.call.Call.{Call}
 use Rattle.vol_disk.specs.declared.call.Deed.{Deed}
-use Rattle.vol_disk.specs.declared.call.Deed.TheVariants.{Len, Read, Write, Cut, Sync}
+use Rattle.vol_disk.specs.declared.call.Deed.TheVariants.{Len, Read, Write, Cut, Sync, End}
 use Rattle.vol_disk.proofs.Leaving.{follows_after}
 
 -- one call more
@@ -109,6 +109,7 @@ empty_after (Cut zero) false can none = refl
 empty_after (Cut (suc to)) is_done can none = absurd (omega (arith, can))
 empty_after Sync true can none = refl
 empty_after Sync false can none = refl
+empty_after End is_done can none = refl
 
 -- ---- what is found by number
 

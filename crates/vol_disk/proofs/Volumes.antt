@@ -1,5 +1,6 @@
 -- What a call on a volume in memory does to its disk.
 use Rattle.std.proofs.Common.{◌≡◌, inl, inr, ℕ, Bool, true, false, List, [], Result, Ok, Err, OnOk, OnErr, length, take, refl, sym, ◌∙◌, ap, subst}
+use Rattle.vol_disk.specs.Disk.{AreBelow}
 use Rattle.vol_disk.specs.Images.{IsImage, IsDurable, IsAllDurable}
 use Rattle.vol_disk.specs.Steps.{written, Torn, CutTo}
 use Rattle.vol_disk.specs.Does.{Does}
@@ -11,9 +12,12 @@ use Rattle.vol_disk.specs.MemDisk.{AreLeft, disk_after}
 use Rattle.vol_disk.specs.MemVol.{VolState, disk_of, file_of, IsDone, IsFailed, IsCall}
 use Rattle.vol_disk.specs.declared.call.Call.{Call}
 use Rattle.vol_disk.specs.declared.call.Deed.{Deed}
-use Rattle.vol_disk.specs.declared.call.Deed.TheVariants.{Len, Read, Write, Cut, Sync}
+use Rattle.vol_disk.specs.declared.call.Deed.TheVariants.{Len, Read, Write, Cut, Sync, End}
 use Rattle.vol_disk.proofs.Leaving.{only_at_rest, step_same}
 use Rattle.vol_disk.proofs.Replays.{state_here, does_call, does_nothing}
+use Rattle.vol_disk.specs.Laws.{clocked}
+use Rattle.vol_disk.specs.Moments.{Quiet}
+use Rattle.vol_disk.proofs.Moments.{quiet, quiet_on}
 
 -- the call as it is recorded
 abbrev call_of : ℕ → Deed → Bool → Call
@@ -31,6 +35,7 @@ unseen (Read at count) s = refl
 unseen (Write at bytes) s = refl
 unseen (Cut to) s = refl
 unseen Sync s = refl
+unseen End s = refl
 
 pub bytes_failed : (old new : VolState) (file : ℕ) (deed : Deed) → IsFailed old new file deed →
     (file_of new file).bytes ≡ (file_of old file).bytes
@@ -95,6 +100,18 @@ does_of old new (Err failed) file deed (inl h) can =
     subst (λ (v : VolState). Does file (step_of deed) (disk_of old) (disk_of v)) (sym h.1) (does_call old.start old.calls (call_of file deed false) can)
 does_of old new (Err failed) file deed (inr h) can =
     subst (λ (v : VolState). Does file (step_of deed) (disk_of old) (disk_of v)) (sym h) (does_nothing (disk_of old) file (step_of deed) (step_same deed))
+
+-- a look at all files writes nothing
+pub kept_end : {T E : Type 0} (old new : VolState) (result : Result T E) → IsCall old new result 0 End → Quiet (disk_of old) (disk_of new)
+kept_end {T} {E} old new result h =
+    quiet_on (disk_of old) (disk_of old) (disk_of new) 0 (quiet (disk_of old) (clocked old.start old.calls)) (does_of old new result 0 End h tt) (same result h)
+  where
+    same : (answer : Result T E) → IsCall old new answer 0 End → (file_of new 0).bytes ≡ (file_of old 0).bytes
+    same (Ok value) h = ap (λ (s : FileState). s.bytes) (file_done old new 0 End h)
+    same (Err failed) h = bytes_failed old new 0 End h
+
+pub below_kept : (old new : VolState) (end : ℕ) → Quiet (disk_of old) (disk_of new) → AreBelow end (disk_of new).seen → AreBelow end (disk_of old).seen
+below_kept old new end still below file behind = sym (still.seen file) ∙ below file behind
 
 -- files at rest that hold what a crash may leave are an image
 pub image_of : (old : VolState) (start : List (ℕ × List ℕ)) (calls : List Call) → AreLeft old.start old.calls (bytes_in start) → calls ≡ [] →

@@ -3,7 +3,7 @@ use Rattle.std.specs.Prelude.{ℕ, ◌+◌, ◌≤◌, max, min, Bool, true, fal
 use Rattle.vol_disk.specs.Steps.{written, Torn, CutTo, Kept}
 use Rattle.vol_disk.specs.FileState.{FileState, at_rest}
 use Rattle.vol_disk.specs.declared.call.Deed.{Deed}
-use Rattle.vol_disk.specs.declared.call.Deed.TheVariants.{Len, Read, Write, Cut, Sync}
+use Rattle.vol_disk.specs.declared.call.Deed.TheVariants.{Len, Read, Write, Cut, Sync, End}
 
 -- what a call needs of its file
 abbrev pub CanDo : Deed → FileState → Type 0
@@ -12,6 +12,7 @@ CanDo (Read at count) s = at + count ≤ length s.bytes
 CanDo (Write at bytes) s = at ≤ length s.bytes
 CanDo (Cut to) s = to ≤ length s.bytes
 CanDo Sync s = Unit {0}
+CanDo End s = Unit {0}
 
 -- what it makes of the bytes that a crash leaves
 abbrev pub step_of : Deed → List ℕ → List ℕ → Type 0
@@ -20,6 +21,7 @@ step_of (Read at count) = Kept
 step_of (Write at bytes) = Torn at (length bytes)
 step_of (Cut to) = CutTo to
 step_of Sync = Kept
+step_of End = Kept
 
 -- the file with one length more among those that it had since the last sync
 abbrev pub with_length : ℕ → FileState → FileState
@@ -50,3 +52,4 @@ after (Cut to) true s = with_bytes (take to s.bytes) (after_cut to s)
 after (Cut to) false s = after_cut to s
 after Sync true s = at_rest s.bytes
 after Sync false s = s
+after End done s = s

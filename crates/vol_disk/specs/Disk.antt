@@ -1,9 +1,13 @@
 -- What a volume tells of its disk: numbered files, each of them bytes.
-use Rattle.std.specs.Prelude.{ℕ, List}
+use Rattle.std.specs.Prelude.{◌≡◌, ℕ, ◌≤◌, List, []}
 
 -- the bytes of each file, by its number
 abbrev pub Files : Type 0
 Files = ℕ → List ℕ
+
+-- each file with bytes has a number below this one
+abbrev pub AreBelow : ℕ → Files → Type 0
+AreBelow end files = (file : ℕ) → end ≤ file → files file ≡ []
 
 pub record Disk : Type 1 where
   -- what a read gives

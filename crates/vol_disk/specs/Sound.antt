@@ -7,7 +7,7 @@ use Rattle.vol_disk.specs.Calls.{with_length, after}
 use Rattle.vol_disk.specs.Replay.{after_call, after_calls, state_of, bytes_in}
 use Rattle.vol_disk.specs.declared.call.Call.{Call}
 use Rattle.vol_disk.specs.declared.call.Deed.{Deed}
-use Rattle.vol_disk.specs.declared.call.Deed.TheVariants.{Len, Read, Write, Cut, Sync}
+use Rattle.vol_disk.specs.declared.call.Deed.TheVariants.{Len, Read, Write, Cut, Sync, End}
 
 sound_at_rest : (bytes : List ℕ) → IsSound (at_rest bytes)
 sound_at_rest bytes = record { no_shorter = le_refl (length bytes); no_longer = le_refl (length bytes) }
@@ -34,6 +34,7 @@ sound_after (Cut to) true s sound = record {
 sound_after (Cut to) false s sound = sound_longer (length (take to s.bytes)) s sound
 sound_after Sync true s sound = sound_at_rest s.bytes
 sound_after Sync false s sound = sound
+sound_after End is_done s sound = sound
 
 sound_call : (call : Call) (file : ℕ) (s : FileState) → IsSound s → IsSound (after_call call file s)
 sound_call call file s sound = go (call.file == file)

@@ -15,6 +15,8 @@ pub enum Deed {
     Cut { to: u64 },
     /// Brings what was written to the disk.
     Sync,
+    /// Asks for a number behind every file with bytes. The call stands under the file 0.
+    End,
 }
 
 /// A call on a file, and whether it was done or failed. Whatever else it answered, a length or bytes, follows

@@ -15,7 +15,7 @@ use std::marker::Model;
 /// Nobody else may write the folder. A `write_at` past the end fills what is between with zeros; a `read_at` past
 /// the end and a `cut` to more than the length fail. After a `sync` that failed each later one fails.
 ///
-/// The first call that fails is told by a line on standard error, with the file and the system's reason.
+/// The first call that fails is told by a line on standard error, with the file and the system's reason; and so is a stream that is stopped, with its name.
 #[derive(Drop)]
 pub struct DirVol {
     rt: HostRuntime,
@@ -59,11 +59,11 @@ impl DirVol {
         }
     }
 
-    /// The answer of a call on a file, which is counted if it failed. The first that failed is told.
+    /// The answer of a call on a file, or on all of them, which is counted if it failed. The first that failed is told.
     fn counted<T: Drop>(
         &mut self,
         deed: &str,
-        file: u32,
+        file: Option<u32>,
         answer: io::Result<T>,
     ) -> Result<T, Failed>
         ensures cause { HasCause self.old self.new (IsErr result) }
@@ -80,11 +80,16 @@ impl DirVol {
         }
     }
 
-    /// Tells on standard error that a call on a file failed. Of a folder that could not be opened that is told already.
-    fn tell(&self, deed: &str, file: u32, error: &io::Error) {
+    /// Tells on standard error that a call on a file failed, or on all of them. Of a folder that could not be opened that is told already.
+    fn tell(&self, deed: &str, file: Option<u32>, error: &io::Error) {
         if let Some(folder) = &self.folder {
             let path = folder.path();
-            let _ = eprintln!(self.rt; "jsblock: {path}/f{file:05}: {deed} failed: {error}");
+            let _ = match file {
+                Some(file) => {
+                    eprintln!(self.rt; "jsblock: {path}/f{file:05}: {deed} failed: {error}")
+                }
+                None => eprintln!(self.rt; "jsblock: {path}: {deed} failed: {error}"),
+            };
         }
     }
 }
@@ -109,27 +114,47 @@ impl Vol for DirVol {
 
     fn len(&mut self, file: u32) -> Result<u64, Failed> {
         let len = opened(&mut self.folder).and_then(|folder| folder.len(file));
-        self.counted("len", file, len)
+        self.counted("len", Some(file), len)
     }
 
     fn read_at(&mut self, file: u32, at: u64, into: &mut [u8]) -> Result<(), Failed> {
         let read = opened(&mut self.folder).and_then(|folder| folder.read_at(file, at, into));
-        self.counted("read", file, read)
+        self.counted("read", Some(file), read)
     }
 
     fn write_at(&mut self, file: u32, at: u64, bytes: &[u8]) -> Result<(), Failed> {
         let written = opened(&mut self.folder).and_then(|folder| folder.write_at(file, at, bytes));
-        self.counted("write", file, written)
+        self.counted("write", Some(file), written)
     }
 
     fn cut(&mut self, file: u32, to: u64) -> Result<(), Failed> {
         let cut = opened(&mut self.folder).and_then(|folder| folder.cut(file, to));
-        self.counted("cut", file, cut)
+        self.counted("cut", Some(file), cut)
     }
 
     fn sync(&mut self, file: u32) -> Result<(), Failed> {
         let synced = opened(&mut self.folder).and_then(|folder| folder.sync(file));
-        self.counted("sync", file, synced)
+        self.counted("sync", Some(file), synced)
+    }
+
+    fn files_end(&mut self) -> Result<u64, Failed> {
+        let end = opened(&mut self.folder).and_then(|folder| folder.end());
+        self.counted("list", None, end)
+    }
+
+    fn tell_stopped(&self, stream: &[u8], full: bool) {
+        if let Some(folder) = &self.folder {
+            let path = folder.path();
+            let name = str::from_utf8(stream).unwrap_or("?");
+            let why = if full {
+                "its log is full"
+            } else {
+                "its disk failed"
+            };
+            let _ = eprintln!(self.rt;
+                "jsblock: the stream {name} in {path} is stopped until the next start: {why}"
+            );
+        }
     }
 
     fn faults(&self) -> u64 {

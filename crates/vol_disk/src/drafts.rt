@@ -94,7 +94,7 @@ fn draft_call(
             }
             Ok(())
         }
-        Deed::Len | Deed::Read { at: _, count: _ } | Deed::Sync => Ok(()),
+        Deed::Len | Deed::Read { at: _, count: _ } | Deed::Sync | Deed::End => Ok(()),
     }
 }
 

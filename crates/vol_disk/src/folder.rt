@@ -24,6 +24,11 @@ pub struct Folder {
     is_lost: bool,
 }
 
+/// The number of a file with this name, if it is the name of a numbered file.
+fn number_of(name: &str) -> Option<u32> {
+    name.strip_prefix('f')?.parse().ok()
+}
+
 /// Makes the folder if it is not there, and brings its name to the disk.
 fn make_folder(rt: &HostRuntime, path: &str) -> io::Result<()> {
     match fs::create_dir(rt, path) {
@@ -67,6 +72,17 @@ impl Folder {
             Some(file) => Ok(file.metadata()?.len()),
             None => Ok(0),
         }
+    }
+
+    /// A number behind that of every file that is there.
+    pub fn end(&self) -> io::Result<u64> {
+        let mut end = 0;
+        for entry in fs::read_dir(&self.rt, self.path.as_str())? {
+            if let Some(number) = number_of(entry?.file_name()) {
+                end = end.max(u64::from(number) + 1);
+            }
+        }
+        Ok(end)
     }
 
     /// Reads a range of the file.

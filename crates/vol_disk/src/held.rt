@@ -3,6 +3,7 @@
 ghost use Rattle.std.specs.Prelude.{◌≡◌, ◌<◌, [], ◌∷◌, ◌++◌, ℕ, false, None, Some, length, unwrap_or, IfOk, OnOk, OnErr, vec_len, vec_capacity};
 ghost use Rattle.std.specs.BTreeMap.{get, is_at};
 ghost use Rattle.std.specs.Ordering.{nat_cmp};
+ghost use Rattle.vol_disk.specs.Disk.{AreBelow};
 ghost use Rattle.vol_disk.specs.FileState.{at_rest};
 ghost use Rattle.vol_disk.specs.Replay.{bytes_in, after_call};
 ghost use Rattle.vol_disk.specs.MemDisk.{AreLeft};
@@ -69,7 +70,8 @@ fn apply_first(
 {
     match &call.deed {
         Deed::Write { at: _, bytes: _ } => write_first(alloc, files, call),
-        Deed::Len | Deed::Read { at: _, count: _ } | Deed::Cut { to: _ } | Deed::Sync => Ok(()),
+        Deed::Len | Deed::Read { at: _, count: _ } | Deed::Cut { to: _ } | Deed::Sync | Deed::End =>
+            Ok(()),
     }
 }
 
@@ -180,6 +182,16 @@ impl Held {
         match self.files.get(&file) {
             Some(held) => held.bytes(),
             None => &[],
+        }
+    }
+
+    /// A number behind that of every file that is held.
+    pub fn end(&self) -> u64
+        ensures value { AreBelow result (λ file. (held_file self.now file).bytes) }
+    {
+        match self.files.last_key_value() {
+            Some((last, _)) => u64::from(*last) + 1,
+            None => 0,
         }
     }
 

@@ -4,6 +4,8 @@ ghost use Rattle.std.specs.Prelude.{◌≡◌, ◌+◌, ◌≤◌, ℕ, length, 
 ghost use Rattle.vol_disk.specs.Images.{IsDurable};
 ghost use Rattle.vol_disk.specs.Steps.{written, Torn, CutTo, Kept};
 ghost use Rattle.vol_disk.specs.Does.{Does};
+ghost use Rattle.vol_disk.specs.Disk.{AreBelow};
+ghost use Rattle.vol_disk.specs.Moments.{Quiet};
 ghost use Rattle.js_base.specs.Causes.{HasCause};
 ghost use Rattle.vol_disk.specs.declared.call.Deed.{Deed};
 
@@ -140,6 +142,19 @@ impl Vol for HoldVol {
         }
         self.vol.sync(file)
     }
+
+    fn files_end(&mut self) -> Result<u64, Failed>
+        ensures call { IsCall self.old self.new result 0 Deed.End }
+        ensures value { IfOk result (λ end. AreBelow end (disk_of self.old).seen) }
+        ensures quiet { Quiet (disk_of self.old) (disk_of self.new) }
+        ensures cause { HasCause self.old.faults self.new.faults (IsErr result) }
+        ensures later { (disk_of self.old).moment ≤ (disk_of self.new).moment }
+    {
+        self.vol.files_end()
+    }
+
+    /// It tells nobody.
+    fn tell_stopped(&self, _stream: &[u8], _full: bool) {}
 
     fn faults(&self) -> u64 {
         self.vol.faults()

@@ -250,7 +250,7 @@ impl MemFile {
         ensures err { OnErr result (self.new ≡ self.old) }
     {
         match deed {
-            Deed::Len => Ok(()),
+            Deed::Len | Deed::End => Ok(()),
             Deed::Read { at: _, count: _ } => Ok(()),
             Deed::Write { at, bytes } => self.write(*at, bytes.as_slice(), is_done),
             Deed::Cut { to } => {

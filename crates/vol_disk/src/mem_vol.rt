@@ -4,6 +4,8 @@ ghost use Rattle.std.specs.Prelude.{◌≡◌, ◌+◌, ◌≤◌, [], ℕ, None
 ghost use Rattle.vol_disk.specs.Images.{IsImage, IsDurable, IsAllDurable};
 ghost use Rattle.vol_disk.specs.Steps.{written, Torn, CutTo, Kept};
 ghost use Rattle.vol_disk.specs.Does.{Does};
+ghost use Rattle.vol_disk.specs.Disk.{AreBelow};
+ghost use Rattle.vol_disk.specs.Moments.{Quiet};
 ghost use Rattle.vol_disk.specs.Calls.{CanDo};
 ghost use Rattle.js_base.specs.Causes.{HasCause};
 ghost use Rattle.vol_disk.specs.MemVol.{is_past};
@@ -290,6 +292,22 @@ impl Vol for MemVol {
     {
         self.call(file, Deed::Sync)
     }
+
+    fn files_end(&mut self) -> Result<u64, Failed>
+        ensures call { IsCall self.old self.new result 0 Deed.End }
+        ensures value { IfOk result (λ end. AreBelow end (disk_of self.old).seen) }
+        ensures quiet { Quiet (disk_of self.old) (disk_of self.new) }
+        ensures cause { HasCause self.old.faults self.new.faults (IsErr result) }
+        ensures later { (disk_of self.old).moment ≤ (disk_of self.new).moment }
+    {
+        match self.call(0, Deed::End) {
+            Ok(()) => Ok(self.held.end()),
+            Err(failed) => Err(failed),
+        }
+    }
+
+    /// It tells nobody.
+    fn tell_stopped(&self, _stream: &[u8], _full: bool) {}
 
     fn faults(&self) -> u64 {
         self.faults

@@ -1,11 +1,12 @@
 //! Volumes of numbered files.
 
 ghost use Rattle.std.specs.Prelude.{◌≡◌, ℕ, ◌+◌, ◌≤◌, length, take, drop, OnOk, OnErr, IfOk, IsErr};
-ghost use Rattle.vol_disk.specs.Disk.{Disk};
+ghost use Rattle.vol_disk.specs.Disk.{AreBelow, Disk};
 ghost use Rattle.vol_disk.specs.Images.{IsDurable, IsHonest};
 ghost use Rattle.vol_disk.specs.Steps.{written, Torn, CutTo, Kept};
 ghost use Rattle.vol_disk.specs.Does.{Does};
 ghost use Rattle.vol_disk.specs.Clock.{IsClocked};
+ghost use Rattle.vol_disk.specs.Moments.{Quiet};
 ghost use Rattle.js_base.specs.Causes.{HasCause};
 
 use crate::failed::Failed;
@@ -72,6 +73,17 @@ pub trait Vol {
         ensures does { told → Does file Kept (disk self.old) (disk self.new) }
         ensures cause { HasCause (faults self.old) (faults self.new) (IsErr result) }
         ensures later { (disk self.old).moment ≤ (disk self.new).moment };
+
+    /// A number behind that of every file with bytes, at most 2^32. Files before it may be empty.
+    fn files_end(&mut self) -> Result<u64, Failed>
+        ensures value { told → IfOk result (λ end. AreBelow end (disk self.old).seen) }
+        ensures quiet { told → Quiet (disk self.old) (disk self.new) }
+        ensures cause { HasCause (faults self.old) (faults self.new) (IsErr result) }
+        ensures later { (disk self.old).moment ≤ (disk self.new).moment };
+
+    /// Tells whoever runs the server that the stream of this name, which the volume keeps, is stopped: since its log is full, or else since the volume
+    /// failed. It changes nothing.
+    fn tell_stopped(&self, stream: &[u8], full: bool);
 
     /// How often it failed. The count stops at the greatest number of its type.
     fn faults(&self) -> u64

@@ -79,7 +79,7 @@ module _ {V : Type 0} (told : Type 0) (disk : V → Disk) (faults : V → ℕ) (
 
   -- memory ran out
   pub unbrought : (store : StoreState) (vol : V) (waiting : List Effect) → store ≡ x.store → vol ≡ x.vol → waiting ≡ x.waiting
-      → Unflushed (seen_of told disk faults x) (seen_of told disk faults (record { state = x.state; store = store; vol = vol; waiting = waiting; stored = x.stored; stopped = x.stopped }))
+      → Unflushed (seen_of told disk faults x) (seen_of told disk faults (record { state = x.state; store = store; vol = vol; waiting = waiting; since = x.since; stored = x.stored; stopped = x.stopped }))
   unbrought store vol waiting same_store same waits = record {
     going = going;
     rests = record {
@@ -90,7 +90,7 @@ module _ {V : Type 0} (told : Type 0) (disk : V → Disk) (faults : V → ℕ) (
       waiting = waits;
       outs = refl;
     };
-    volume = leaves (record { state = x.state; store = store; vol = vol; waiting = waiting; stored = x.stored; stopped = x.stopped }) same same_store;
+    volume = leaves (record { state = x.state; store = store; vol = vol; waiting = waiting; since = x.since; stored = x.stored; stopped = x.stopped }) same same_store;
   }
 
   pub unbrought_sound : (store : StoreState) (vol : V) (waiting : List Effect) → store ≡ x.store → vol ≡ x.vol → waiting ≡ x.waiting
@@ -188,7 +188,7 @@ module _ {V : Type 0} (told : Type 0) (disk : V → Disk) (faults : V → ℕ) (
           go t (inr next) = inr (only_held on.image b (lasting x.state) on.held next)
 
       pub fails : (store : StoreState) (waiting : List Effect) (count : ℕ) → count ≡ faults vol → Rose (faults x.vol) (faults vol) → length_with x.store effects ≤ 2 ^ 31
-          → FailsFlush (seen_of told disk faults x) (seen_of told disk faults (record { state = x.state; store = store; vol = vol; waiting = waiting; stored = x.stored; stopped = Some count }))
+          → FailsFlush (seen_of told disk faults x) (seen_of told disk faults (record { state = x.state; store = store; vol = vol; waiting = waiting; since = x.since; stored = x.stored; stopped = Some count }))
       fails store waiting count is rose short = record {
         keeps = record { going = going; state = refl; stored = refl };
         stops = ap (λ (n : ℕ). Some n) is;
@@ -199,13 +199,13 @@ module _ {V : Type 0} (told : Type 0) (disk : V → Disk) (faults : V → ℕ) (
 
     -- the log is too full for it
     pub fills : (store : StoreState) (vol : V) (waiting : List Effect) (count : ℕ) → count ≡ faults vol → store ≡ x.store → vol ≡ x.vol → x.waiting ≢ [] → 2 ^ 31 < length_with x.store effects
-        → FillsFlush (seen_of told disk faults x) (seen_of told disk faults (record { state = x.state; store = store; vol = vol; waiting = waiting; stored = x.stored; stopped = Some count }))
+        → FillsFlush (seen_of told disk faults x) (seen_of told disk faults (record { state = x.state; store = store; vol = vol; waiting = waiting; since = x.since; stored = x.stored; stopped = Some count }))
     fills store vol waiting count is same_store same some long = record {
       keeps = record { going = going; state = refl; stored = refl };
       stops = ap (λ (n : ℕ). Some n) is;
       cause = (some, subst (λ (l : List Effect). 2 ^ 31 < length_with x.store l) are long);
       base = λ b on. keeps b (subst (λ (v : V). IsLeftNow told disk v b) same on);
-      volume = leaves (record { state = x.state; store = store; vol = vol; waiting = waiting; stored = x.stored; stopped = Some count }) same same_store;
+      volume = leaves (record { state = x.state; store = store; vol = vol; waiting = waiting; since = x.since; stored = x.stored; stopped = Some count }) same same_store;
     }
       where
         keeps : (b : State) → IsLeftNow told disk x.vol b → base told disk x.stopped x.vol b
@@ -227,7 +227,7 @@ module _ {V : Type 0} (told : Type 0) (disk : V → Disk) (faults : V → ℕ) (
           }
 
       pub brings : (waiting : List Effect) → waiting ≡ [] → length_with x.store effects ≤ 2 ^ 31
-          → Flushed (seen_of told disk faults x) (seen_of told disk faults (record { state = x.state; store = store; vol = vol; waiting = waiting; stored = x.stored; stopped = x.stopped }))
+          → Flushed (seen_of told disk faults x) (seen_of told disk faults (record { state = x.state; store = store; vol = vol; waiting = waiting; since = x.since; stored = x.stored; stopped = x.stopped }))
       brings waiting none short = record {
         keeps = record { going = going; state = refl; stored = refl };
         goes = going;

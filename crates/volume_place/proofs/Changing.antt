@@ -36,7 +36,7 @@ use Rattle.effects.proofs.Leading.{law_events}
 use Rattle.effects.proofs.Unwritten.{law_no_records}
 use Rattle.restore_laws.proofs.Holding.{opened}
 use Rattle.place_engine.specs.Places.{ids_in}
-use Rattle.volume_place.specs.Tail.{is_moment}
+use Rattle.volume_place.specs.Since.{is_moment}
 use Rattle.volume_place.proofs.Following.{now_in}
 use Rattle.volume_place.proofs.Growing.{many, step_of}
 

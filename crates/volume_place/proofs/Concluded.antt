@@ -25,20 +25,20 @@ module _ {V : Type 0} (told : Type 0) (disk : V → Disk) (faults : V → ℕ) (
 
   -- all that waits may wait on
   pub waits_on : a.stopped ≡ None → MayWait a.store a.waiting → GoesOn (Some false) (seen_of told disk faults a) (seen_of told disk faults a)
-  waits_on going may = inr (record { unconfirmed = refl; small = may.small; fits = may.fits; rests = unchanged going })
+  waits_on going may = inr (record { patient = refl; small = may.small; fits = may.fits; rests = unchanged going })
 
   -- it had to be committed
-  pub concluded : (firm : Bool) (n : Contents V) (result : Result (Unit {0}) CommitFault) → (firm ≡ true) ⊎ MustNotWait a.store a.waiting
-      → Brings result (seen_of told disk faults a) (seen_of told disk faults n) → Concludes (Some firm) result (seen_of told disk faults a) (seen_of told disk faults n)
-  concluded firm n (Ok done) cause brings = inl (record { cause = go cause; all = brings })
+  pub concluded : (urgent : Bool) (n : Contents V) (result : Result (Unit {0}) CommitFault) → (urgent ≡ true) ⊎ MustNotWait a.store a.waiting
+      → Brings result (seen_of told disk faults a) (seen_of told disk faults n) → Concludes (Some urgent) result (seen_of told disk faults a) (seen_of told disk faults n)
+  concluded urgent n (Ok done) cause brings = inl (record { cause = go cause; all = brings })
     where
-      go : (firm ≡ true) ⊎ MustNotWait a.store a.waiting → (firm ≡ true) ⊎ (is_small a.waiting ≡ false)
+      go : (urgent ≡ true) ⊎ MustNotWait a.store a.waiting → (urgent ≡ true) ⊎ (is_small a.waiting ≡ false)
       go (inl is) = inl is
       go (inr (inl large)) = inr large
       go (inr (inr full)) = absurd (brings.fits full)
-  concluded firm n (Err NoMemory) cause brings = brings
-  concluded firm n (Err Fault) cause brings = brings
-  concluded firm n (Err Full) cause brings = brings
+  concluded urgent n (Err NoMemory) cause brings = brings
+  concluded urgent n (Err Fault) cause brings = brings
+  concluded urgent n (Err Full) cause brings = brings
 
 -- ---- whether it may wait
 

@@ -124,7 +124,7 @@ module _ {V : Type 0} (told : Type 0) (disk : V → Disk) (faults : V → ℕ) (
           because (inl never) = absurd (true≢false (sym never))
           because (inr big) = inr (ap is_small (sym (waits_as n.state all.all.keeps.state)) ∙ big)
       shares n (inr held) = inr (record {
-        unconfirmed = λ never. never;
+        patient = λ never. never;
         small = ap is_small (sym (waits_as n.state held.rests.rests.state)) ∙ held.small;
         put_off = record { base = held.rests.rests.base; waiting = held.rests.rests.waiting ∙ waits_as n.state held.rests.rests.state };
         volume = record { volume = held.rests.volume.volume; images = held.rests.volume.images };

@@ -15,3 +15,7 @@ mod Empty
 mod Plain
 mod Storing
 mod Answering
+mod Dated
+mod Urgent
+mod MadeMoments
+mod Timing

@@ -8,14 +8,19 @@ use Rattle.restore_laws.specs.Restored.{IsRestored}
 use Rattle.restore_laws.proofs.Holding.{held_opened, restored}
 use Rattle.durable_checks.specs.Storable.{IsFormed, IsOpenable, IsStorable}
 use Rattle.vol_disk.specs.Clock.{IsClocked}
-use Rattle.vol_disk.specs.Disk.{Disk}
+use Rattle.vol_disk.specs.Disk.{Disk, Files}
 use Rattle.stream_store.specs.Base.{IsBase}
+use Rattle.stream_store.specs.Beginning.{IsOutsideFault}
+use Rattle.stream_store.specs.Clearing.{KeepsBase}
+use Rattle.stream_store.specs.declared.fault.OpenFault.{OpenFault as StoreFault}
+use Rattle.stream_store.specs.declared.fault.OpenFault.TheVariants as of_store
+use Rattle.place_engine.specs.declared.faults.OpenFault.{OpenFault}
 use Rattle.stream_store.specs.Holding.{Holds}
 use Rattle.stream_store.specs.Opening.{KeepsHeld as KeepsImages}
 use Rattle.stream_store.specs.StoreState.{StoreState}
 use Rattle.place_engine.specs.Opening.{IsOpened, IsUnopened, KeepsHeld}
 use Rattle.volume_place.specs.Images.{clock, holds, left, reads}
-use Rattle.volume_place.specs.Opening.{opens}
+use Rattle.volume_place.specs.Opening.{IsRefusal, fault_of, opens}
 use Rattle.volume_place.specs.Seeing.{seen_of}
 use Rattle.volume_place.specs.Sound.{IsBacked, IsSoundPlace}
 use Rattle.volume_place.proofs.Bases.{flushed_base, left_now}
@@ -23,9 +28,26 @@ use Rattle.js_model.specs.Runs.{messages_of}
 use Rattle.block_table.specs.Blocks.{Blocks, blocks}
 use Rattle.log_records.specs.Unread.{stored_messages}
 use Rattle.stream_store.specs.Placing.{can_place, used_behind}
+use Rattle.stream_store.proofs.Cleared.{held_cleared}
 use Rattle.stream_store.proofs.Counting.{law_counting}
 use Rattle.stream_store.proofs.Rooms.{law_placing}
 use Rattle.volume_place.specs.Rooms.{MayStore}
+
+-- a clearing fails by the volume, or for want of memory
+pub outside_refused : (image : Files) (fault : StoreFault) (given : OpenFault) → given ≡ fault_of fault → IsOutsideFault fault → IsRefusal image given
+outside_refused image of_store.Fault given is outside = subst (IsRefusal image) (sym is) tt
+outside_refused image (of_store.Damaged file at) given is outside = absurd outside
+outside_refused image (of_store.UnknownVersion version) given is outside = absurd outside
+outside_refused image of_store.NoMemory given is outside = subst (IsRefusal image) (sym is) tt
+
+-- files that are no blocks are cleared behind the opening of a store
+module _ {V : Type 0} (told : Type 0) (disk : V → Disk) (old mid vol : V) (opened store : StoreState) (d : Durable) (same : store ≡ opened) (found : told → Holds (disk old).seen d)
+    (is_base : told → IsBase opened d (disk mid)) (keeps : told → (base : Durable) → IsBase opened base (disk mid) → KeepsBase opened base (disk mid) (disk vol)) where
+  pub images_cleared : (told → KeepsImages (disk old) (disk mid)) → told → KeepsImages (disk old) (disk vol)
+  images_cleared any t = held_cleared opened d (disk old) (disk mid) (disk vol) (found t) (any t) (keeps t d (is_base t))
+
+  pub base_cleared : told → IsBase store d (disk vol)
+  base_cleared t = subst (λ (s : StoreState). IsBase s d (disk vol)) (sym same) (keeps t d (is_base t)).is_base
 
 module _ {V : Type 0} (told : Type 0) (disk : V → Disk) (faults : V → ℕ) (clocked : (vol : V) → IsClocked (disk vol)) (old vol : V)
     (any : told → KeepsImages (disk old) (disk vol)) where
@@ -88,7 +110,7 @@ module _ {V : Type 0} (told : Type 0) (disk : V → Disk) (faults : V → ℕ) (
       opening t = (subst (λ (e : Durable). Holds (disk old).seen e) (sym held_here) (found t), kept.lasting)
 
       pub opened_of : (stored : ℕ) → stored ≡ length (messages_of state) → IsOpened holds (reads told disk) (left told disk) (clock disk) (opens told disk) old
-          (seen_of told disk faults (record { state = state; store = store; vol = vol; waiting = waiting; stored = stored; stopped = None }))
+          (seen_of told disk faults (record { state = state; store = store; vol = vol; waiting = waiting; since = None; stored = stored; stopped = None }))
       opened_of stored counted = record {
         going = refl;
         state = opening;

@@ -32,6 +32,7 @@ use Rattle.volume_place.specs.Images.{Keeps, holds}
 use Rattle.volume_place.specs.Making.{Answers, KeepsStore, RecordsEvent, has_block_for}
 use Rattle.volume_place.specs.Rooms.{room_in, stored_by}
 use Rattle.volume_place.specs.Seeing.{seen_of}
+use Rattle.volume_place.specs.Since.{IsOverdue}
 use Rattle.volume_place.specs.Tail.{SharesStep, is_small}
 use Rattle.volume_place.proofs.Storing.{left_plain, none_stored, stored_new}
 
@@ -148,14 +149,17 @@ module _ {V : Type 0} (told : Type 0) (disk : V → Disk) (faults : V → ℕ) w
       cut_back : (after : List Out) → after ≡ take (length before) middle → after ≡ before
       cut_back after is = is ∙ ap (take (length before)) given_outs ∙ take-append_seam before (answered a.state e now Room).outs
 
-      never_firm : (f : Bool) → Decides f (IsFirmStep a.state e.what reply state) → (new : State) → new ≡ state → f ≡ false → ¬ IsFirmStep a.state e.what reply new
-      never_firm f decides new same unconfirmed is = true≢false (sym (decides.1 (subst (λ (s : State). IsFirmStep a.state e.what reply s) same is)) ∙ unconfirmed)
+      abbrev Urgent : State → Type 0
+      Urgent new = IsFirmStep a.state e.what reply new ⊎ IsOverdue a.since e.what now
+
+      never_urgent : (u : Bool) → Decides u (Urgent state) → (new : State) → new ≡ state → u ≡ false → ¬ Urgent new
+      never_urgent u decides new same patient is = true≢false (sym (decides.1 (subst Urgent same is)) ∙ patient)
 
       -- it is told, and committed or held back
-      tells : (o : Option Bool) → IfSome o (λ f. Decides f (IsFirmStep a.state e.what reply state)) → (n : Contents V) (after : List Out) → after ≡ middle
+      tells : (o : Option Bool) → IfSome o (λ u. Decides u (Urgent state)) → (n : Contents V) (after : List Out) → after ≡ middle
           → GoesOn o (seen_of told disk faults Made) (seen_of told disk faults n) → Tells reply e now (seen_of told disk faults a) (seen_of told disk faults n) before after
       tells None decides n after same on = absurd on
-      tells (Some f) decides n after same (inl all) = record {
+      tells (Some u) decides n after same (inl all) = record {
         does = record { going = going; kept = kept; state = all.all.keeps.state ∙ given_state };
         goes = all.all.goes;
         reply_is = given_reply;
@@ -166,35 +170,35 @@ module _ {V : Type 0} (told : Type 0) (disk : V → Disk) (faults : V → ℕ) w
           may = inl all.all.flushed;
         };
       }
-      tells (Some f) decides n after same (inr held) = record {
+      tells (Some u) decides n after same (inr held) = record {
         does = record { going = going; kept = kept; state = held.rests.rests.state ∙ given_state };
         goes = held.rests.rests.stopped ∙ going;
         reply_is = given_reply;
         outs = same ∙ given_outs;
         commits = record {
           fits = λ full. held.fits (subst (seen_of told disk faults a).is_full (sym waits) full);
-          firm = λ is. absurd (never_firm f decides n.state held.rests.rests.state held.unconfirmed is);
+          firm = λ is. absurd (never_urgent u decides n.state held.rests.rests.state held.patient (inl is));
           may = inr (record { base = held.rests.rests.base; waiting = held.rests.rests.waiting ∙ waits });
         };
       }
 
-      -- just if it is firm, or if what waits is not little
-      shares : (o : Option Bool) → IfSome o (λ f. Decides f (IsFirmStep a.state e.what reply state)) → (n : Contents V)
-          → GoesOn o (seen_of told disk faults Made) (seen_of told disk faults n) → SharesStep reply e now (seen_of told disk faults a) (seen_of told disk faults n)
+      -- just if it is urgent, or if what waits is not little
+      shares : (o : Option Bool) → IfSome o (λ u. Decides u (Urgent state)) → (n : Contents V)
+          → GoesOn o (seen_of told disk faults Made) (seen_of told disk faults n) → SharesStep a.since reply e now (seen_of told disk faults a) (seen_of told disk faults n)
       shares None decides n on = absurd on
-      shares (Some f) decides n (inl all) = inl (record { cause = because all.cause; flushed = all.all.flushed })
+      shares (Some u) decides n (inl all) = inl (record { cause = because all.cause; flushed = all.all.flushed })
         where
-          because : (f ≡ true) ⊎ (is_small waiting ≡ false) → IsFirmStep a.state e.what reply n.state ⊎ (is_small (followed a.waiting (event_effects a.state e.what now Room)) ≡ false)
-          because (inl is) = inl (subst (λ (s : State). IsFirmStep a.state e.what reply s) (sym all.all.keeps.state) (decides.0 is))
+          because : (u ≡ true) ⊎ (is_small waiting ≡ false) → Urgent n.state ⊎ (is_small (followed a.waiting (event_effects a.state e.what now Room)) ≡ false)
+          because (inl is) = inl (subst Urgent (sym all.all.keeps.state) (decides.0 is))
           because (inr big) = inr (ap is_small (sym waits) ∙ big)
-      shares (Some f) decides n (inr held) = inr (record {
-        unconfirmed = never_firm f decides n.state held.rests.rests.state held.unconfirmed;
+      shares (Some u) decides n (inr held) = inr (record {
+        patient = never_urgent u decides n.state held.rests.rests.state held.patient;
         small = ap is_small (sym waits) ∙ held.small;
         put_off = record { base = held.rests.rests.base; waiting = held.rests.rests.waiting ∙ waits };
         volume = record { volume = held.rests.volume.volume; images = held.rests.volume.images };
       })
 
-      ends_as : (o : Option Bool) → IfSome o (λ f. Decides f (IsFirmStep a.state e.what reply state)) → (result : Result (Unit {0}) PlaceFault) (n : Contents V) (after : List Out)
+      ends_as : (o : Option Bool) → IfSome o (λ u. Decides u (Urgent state)) → (result : Result (Unit {0}) PlaceFault) (n : Contents V) (after : List Out)
           → Confirms o (is_refused reply) (length before) result (seen_of told disk faults Made) (seen_of told disk faults n) middle after
           → Ends (told_as reply result) e now (seen_of told disk faults a) (seen_of told disk faults n) before after
       ends_as o decides (Ok done) n after h = tells o decides n after h.1 h.0
@@ -233,9 +237,9 @@ module _ {V : Type 0} (told : Type 0) (disk : V → Disk) (faults : V → ℕ) w
       kept_state : (o : Option Bool) (result : Result (Unit {0}) PlaceFault) (n : Contents V) (after : List Out)
           → Confirms o (is_refused reply) (length before) result (seen_of told disk faults Made) (seen_of told disk faults n) middle after → (n.state ≡ state) × (n.stored ≡ stored)
       kept_state None (Ok done) n after h = absurd h.0
-      kept_state (Some f) (Ok done) n after h = go h.0
+      kept_state (Some u) (Ok done) n after h = go h.0
         where
-          go : GoesOn (Some f) (seen_of told disk faults Made) (seen_of told disk faults n) → (n.state ≡ state) × (n.stored ≡ stored)
+          go : GoesOn (Some u) (seen_of told disk faults Made) (seen_of told disk faults n) → (n.state ≡ state) × (n.stored ≡ stored)
           go (inl all) = (all.all.keeps.state, all.all.keeps.stored)
           go (inr held) = (held.rests.rests.state, held.rests.rests.stored)
       kept_state o (Err (NoMemory (Unsaid refused))) n after h = (h.0.rests.state, h.0.rests.stored)
@@ -254,7 +258,7 @@ module _ {V : Type 0} (told : Type 0) (disk : V → Disk) (faults : V → ℕ) w
             subst (λ (s : State). stored_by (event_effects a.state e.what now Room) ≤ length (new_messages a.state s)) (sym (same ∙ given_state)) (stored_new a.state e now Room sound) in
             omega (arith, same_stored, most, some)
 
-        steps_as : (o : Option Bool) → IfSome o (λ f. Decides f (IsFirmStep a.state e.what reply state)) → (result : Result (Unit {0}) PlaceFault) (n : Contents V) (after : List Out)
+        steps_as : (o : Option Bool) → IfSome o (λ u. Decides u (Urgent state)) → (result : Result (Unit {0}) PlaceFault) (n : Contents V) (after : List Out)
             → Confirms o (is_refused reply) (length before) result (seen_of told disk faults Made) (seen_of told disk faults n) middle after
             → Elapses holds (seen_of told disk faults Made) (seen_of told disk faults n)
             → Steps holds (told_as reply result) e now (seen_of told disk faults a) (seen_of told disk faults n) before after
@@ -275,7 +279,7 @@ module _ {V : Type 0} (told : Type 0) (disk : V → Disk) (faults : V → ℕ) w
 
     pub steps_made : (m n : Contents V) (e : Event) (now : ℕ) (reply : Reply) (before middle after : List Out) (o : Option Bool) (refused : Bool) (count : ℕ) (result : Result (Unit {0}) PlaceFault)
         → IsSound a.state → e.incarnation ≡ kept_incarnation a.state → KeepsStore a m → Answers e.what now reply before middle a m → RecordsEvent (Ok reply) e.what now a m
-        → IfSome o (λ f. Decides f (IsFirmStep a.state e.what reply m.state)) → refused ≡ is_refused reply → count ≡ length before
+        → IfSome o (λ u. Decides u (IsFirmStep a.state e.what reply m.state ⊎ IsOverdue a.since e.what now)) → refused ≡ is_refused reply → count ≡ length before
         → Confirms o refused count result (seen_of told disk faults m) (seen_of told disk faults n) middle after → Elapses holds (seen_of told disk faults m) (seen_of told disk faults n)
         → Steps holds (told_as reply result) e now (seen_of told disk faults a) (seen_of told disk faults n) before after
     steps_made m n e now reply before middle after o refused count result sound kept rests answers records decides refuses counts confirms time =
@@ -287,8 +291,8 @@ module _ {V : Type 0} (told : Type 0) (disk : V → Disk) (faults : V → ℕ) w
 
     pub shares_made : (m n : Contents V) (e : Event) (now : ℕ) (reply : Reply) (before middle after : List Out) (o : Option Bool) (refused : Bool) (count : ℕ)
         → e.incarnation ≡ kept_incarnation a.state → KeepsStore a m → Answers e.what now reply before middle a m → RecordsEvent (Ok reply) e.what now a m
-        → IfSome o (λ f. Decides f (IsFirmStep a.state e.what reply m.state)) → Confirms o refused count (Ok tt) (seen_of told disk faults m) (seen_of told disk faults n) middle after
-        → SharesStep reply e now (seen_of told disk faults a) (seen_of told disk faults n)
+        → IfSome o (λ u. Decides u (IsFirmStep a.state e.what reply m.state ⊎ IsOverdue a.since e.what now)) → Confirms o refused count (Ok tt) (seen_of told disk faults m) (seen_of told disk faults n) middle after
+        → SharesStep a.since reply e now (seen_of told disk faults a) (seen_of told disk faults n)
     shares_made m n e now reply before middle after o refused count kept rests answers records decides confirms =
         shares m.state m.waiting m.stored e now reply before middle kept answers (waits_by m e now reply records) o decides n
         (subst (λ (p : Contents V). GoesOn o (seen_of told disk faults p) (seen_of told disk faults n)) rests confirms.0)

@@ -16,39 +16,39 @@ Brings (Err commit.NoMemory) old new = Unflushed old new
 Brings (Err commit.Fault) old new = FailsFlush old new
 Brings (Err commit.Full) old new = FillsFlush old new
 
--- ---- once something was made, which waits as the last and is firm or not
+-- ---- once something was made, which waits as the last and is urgent or not
 
 -- all that waits is committed, since it has to be
-pub record CommitsAll (firm : Bool) (old new : Seen) : Type 0 where
-  pub cause : (firm ≡ true) ⊎ (is_small old.waiting ≡ false)
+pub record CommitsAll (urgent : Bool) (old new : Seen) : Type 0 where
+  pub cause : (urgent ≡ true) ⊎ (is_small old.waiting ≡ false)
   pub all : Flushed old new
 
 -- nothing is, and the log has room for it
-pub record HoldsBack (firm : Bool) (old new : Seen) : Type 0 where
-  pub unconfirmed : firm ≡ false
+pub record HoldsBack (urgent : Bool) (old new : Seen) : Type 0 where
+  pub patient : urgent ≡ false
   pub small : is_small old.waiting ≡ true
   pub fits : ¬ old.is_full old.waiting
   pub rests : Unflushed old new
 
--- it goes on only if it is known whether that is firm
+-- it goes on only if it is known whether that is urgent
 abbrev pub GoesOn : Option Bool → Seen → Seen → Type 0
 GoesOn None old new = ⊥
-GoesOn (Some firm) old new = CommitsAll firm old new ⊎ HoldsBack firm old new
+GoesOn (Some urgent) old new = CommitsAll urgent old new ⊎ HoldsBack urgent old new
 
 abbrev pub Concludes : Option Bool → Result (Unit {0}) CommitFault → Seen → Seen → Type 0
-Concludes firm (Ok done) old new = GoesOn firm old new
-Concludes firm (Err commit.NoMemory) old new = Unflushed old new
-Concludes firm (Err commit.Fault) old new = FailsFlush old new
-Concludes firm (Err commit.Full) old new = FillsFlush old new
+Concludes urgent (Ok done) old new = GoesOn urgent old new
+Concludes urgent (Err commit.NoMemory) old new = Unflushed old new
+Concludes urgent (Err commit.Fault) old new = FailsFlush old new
+Concludes urgent (Err commit.Full) old new = FillsFlush old new
 
 -- What was made has this for a refusal or not; before it there were so many outputs. They stay, unless the place is stopped.
 abbrev pub Confirms : Option Bool → Bool → ℕ → Result (Unit {0}) PlaceFault → Seen → Seen → List Out → List Out → Type 0
-Confirms firm refused count (Ok done) old new before after = GoesOn firm old new × (after ≡ before)
-Confirms firm refused count (Err (NoMemory (Unsaid told))) old new before after = Unflushed old new × (told ≡ refused) × (after ≡ before)
-Confirms firm refused count (Err StoreFault) old new before after = FailsFlush old new × (after ≡ take count before)
-Confirms firm refused count (Err Full) old new before after = FillsFlush old new × (after ≡ take count before)
-Confirms firm refused count (Err (NoMemory Nothing)) old new before after = ⊥
-Confirms firm refused count (Err (NoMemory Ticked)) old new before after = ⊥
-Confirms firm refused count (Err (Stopped kept)) old new before after = ⊥
-Confirms firm refused count (Err (Gone kept)) old new before after = ⊥
-Confirms firm refused count (Err (Worn told)) old new before after = ⊥
+Confirms urgent refused count (Ok done) old new before after = GoesOn urgent old new × (after ≡ before)
+Confirms urgent refused count (Err (NoMemory (Unsaid told))) old new before after = Unflushed old new × (told ≡ refused) × (after ≡ before)
+Confirms urgent refused count (Err StoreFault) old new before after = FailsFlush old new × (after ≡ take count before)
+Confirms urgent refused count (Err Full) old new before after = FillsFlush old new × (after ≡ take count before)
+Confirms urgent refused count (Err (NoMemory Nothing)) old new before after = ⊥
+Confirms urgent refused count (Err (NoMemory Ticked)) old new before after = ⊥
+Confirms urgent refused count (Err (Stopped kept)) old new before after = ⊥
+Confirms urgent refused count (Err (Gone kept)) old new before after = ⊥
+Confirms urgent refused count (Err (Worn told)) old new before after = ⊥

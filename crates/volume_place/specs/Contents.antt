@@ -12,6 +12,8 @@ pub record Contents (V : Type 0) : Type 0 where
   pub vol : V
   -- the records of what was made since the last commit
   pub waiting : List Effect
+  -- the moment at which the first of them was made that tells of more than time, if there is one
+  pub since : Option ℕ
   -- how many messages stood there when it was opened, or were stored since
   pub stored : ℕ
   -- the volume's count of faults as it stopped the place, if it did

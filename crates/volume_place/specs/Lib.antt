@@ -6,6 +6,7 @@ pub mod Rooms
 pub mod Seeing
 pub mod Sound
 pub mod Tail
+pub mod Since
 pub mod Moments
 pub mod Measured
 pub mod Bringing

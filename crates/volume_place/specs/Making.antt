@@ -12,9 +12,9 @@ use Rattle.place_engine.specs.declared.faults.Left.{Left}
 use Rattle.volume_place.specs.Contents.{Contents}
 use Rattle.volume_place.specs.Rooms.{IsCounted, room_in, stored_by}
 
--- all but what stands, what waits and how many messages count is as it was
+-- all but what stands, what waits since when, and how many messages count is as it was
 abbrev pub KeepsStore : {V : Type 0} → Contents V → Contents V → Type 0
-KeepsStore old new = new ≡ record old { state = new.state; waiting = new.waiting; stored = new.stored }
+KeepsStore old new = new ≡ record old { state = new.state; waiting = new.waiting; since = new.since; stored = new.stored }
 
 -- whether the place has a block for what is asked of it
 abbrev pub has_block_for : {V : Type 0} → Contents V → What → Bool

@@ -5,6 +5,7 @@ mod firm;
 mod lengths;
 mod outputs;
 mod room;
+mod since;
 mod tail;
 mod volume_place;
 

@@ -7,7 +7,8 @@ ghost use Rattle.op_records.specs.Allowed.{is_record};
 ghost use Rattle.place_engine.specs.Following.{begins_with_moment, followed, is_now};
 ghost use Rattle.place_records.specs.Records.{effects_in};
 ghost use Rattle.stream_store.specs.Committing.{batch_length};
-ghost use Rattle.volume_place.specs.Tail.{ends_with_moment, is_moment, is_small};
+ghost use Rattle.volume_place.specs.Since.{is_moment};
+ghost use Rattle.volume_place.specs.Tail.{ends_with_moment, is_small};
 
 use crate::lengths::{Lengths, lengths_of};
 use effects::Effect;
@@ -144,7 +145,8 @@ fn ends_with_moment(records: &[Effect]) -> bool
     }
 }
 
-fn is_now(effect: &Effect) -> bool
+/// Whether the record tells a moment, and nothing else.
+pub(crate) fn is_now(effect: &Effect) -> bool
     ensures value { result ≡ is_now effect.now }
 {
     matches!(effect, Effect::Now { .. })

@@ -12,16 +12,21 @@ ghost use Rattle.place_engine.specs.Opening.{IsOpened, IsUnopened};
 ghost use Rattle.place_engine.specs.Places.{IsTold};
 ghost use Rattle.place_engine.specs.Shown.{IsShown};
 ghost use Rattle.place_engine.specs.Stepping.{Elapses, IsKept, Steps};
+ghost use Rattle.timers.specs.Bounds.{IsTimerBound};
+ghost use Rattle.timers.specs.Timers.{timers};
+ghost use Rattle.stream_store.specs.Clearing.{AreCleared};
 ghost use Rattle.volume_place.specs.Bringing.{Brings, Concludes, Confirms};
 ghost use Rattle.volume_place.specs.Images.{Keeps, base, clock, holds, left, reads};
 ghost use Rattle.volume_place.specs.Making.{Answers, KeepsStore, RecordsDelivery, RecordsEvent};
 ghost use Rattle.volume_place.specs.Opening.{fault_of, opens, refuses};
 ghost use Rattle.volume_place.specs.Seeing.{seen_of};
+ghost use Rattle.volume_place.specs.Since.{KeepsTail, since_by, tail_timers};
 ghost use Rattle.volume_place.specs.Tail.{MayWait, MustNotWait, SharesDelivery, SharesStep};
 
 use crate::firm::{Answered, is_firm};
 use crate::outputs::{cut_to, is_refused};
 use crate::room::{answer_in, count_with, has_room};
+use crate::since::{due, is_overdue, is_urgent, since_with};
 use crate::tail::Tail;
 use js_base::{Blob, Moment, NoMemory, Outs};
 use js_model::{Delivery, Event, Listening, Reply};
@@ -31,10 +36,11 @@ use place_records::Made;
 use std::alloc::Global;
 use std::marker::Model;
 use stream_store::{CommitFault, Store};
+use timer_bounds::earlier;
 use vol_disk::Vol;
 
 /// A place whose stream is kept on a volume. A step that is firm is committed before it is answered, together with all that waits. What any other step and a
-/// delivery change waits, until there are 1,024 records or 1 MiB of them. In memory it keeps the stream, and the records that wait.
+/// delivery change waits, until there are 1,024 records or 1 MiB of them, or until a tick a second after the first of it was made. In memory it keeps the stream, and the records that wait.
 #[derive(Drop)]
 pub struct VolumePlace<V: Vol> {
     alloc: Global,
@@ -45,6 +51,8 @@ pub struct VolumePlace<V: Vol> {
     tail: Tail,
     /// The records of the last event or delivery that are not there yet, which wait behind those.
     made: Made,
+    /// The moment at which the first of all these records was made that tells of more than time.
+    since: Option<Moment>,
     /// How many messages stood there when the place was opened, or were stored since.
     stored: u64,
     /// The volume's count of faults as it stopped the place, if it did.
@@ -56,6 +64,7 @@ impl<V: Vol> Model for VolumePlace<V> {
     ghost use Rattle.place_records.specs.Records.{effects_in};
     ghost use Rattle.volume_place.specs.Contents.{Contents};
     ghost use Rattle.volume_place.specs.Rooms.{MayStore};
+    ghost use Rattle.volume_place.specs.Since.{IsDated};
     ghost use Rattle.volume_place.specs.Sound.{IsSoundPlace};
 
     ghost Value = { Contents V };
@@ -65,13 +74,15 @@ impl<V: Vol> Model for VolumePlace<V> {
       store = place.store;
       vol = place.vol;
       waiting = followed place.tail (effects_in place.made);
+      since = place.since;
       stored = place.stored;
       stopped = place.stopped;
     } };
 
     ghost invariant = { λ place.
         IsSoundPlace V.told (V.disk place.vol) place.store (followed place.tail (effects_in place.made)) place.stopped place.slot
-        × MayStore place.stopped place.store.blocks (followed place.tail (effects_in place.made)) place.stored };
+        × MayStore place.stopped place.store.blocks (followed place.tail (effects_in place.made)) place.stored
+        × IsDated (followed place.tail (effects_in place.made)) place.since };
 }
 
 /// Why a store was not opened, as a place tells it.
@@ -85,6 +96,13 @@ fn fault_of(fault: stream_store::OpenFault) -> OpenFault
             OpenFault::UnknownVersion(u64::from(version))
         }
         stream_store::OpenFault::NoMemory => OpenFault::NoMemory,
+    }
+}
+
+/// Tells whoever runs the server that the stream is stopped, if there is one.
+fn tell_stopped<V: Vol>(slot: &Slot, vol: &V, full: bool) {
+    if let Some(name) = slot.name() {
+        vol.tell_stopped(name.as_slice(), full);
     }
 }
 
@@ -102,6 +120,7 @@ impl<V: Vol> VolumePlace<V> {
         ensures err { IfErr result (λ left. LeftBy left self.old.state now outs.old outs.new self.new.state) }
         ensures recorded { IfOk result (λ said. RecordsEvent (Ok said.reply) event.now.what now self.old self.new) }
         ensures err_recorded { IfErr result (λ left. RecordsEvent (Err left) event.now.what now self.old self.new) }
+        ensures since { self.new.since ≡ since_by now self.old.since self.new.waiting }
         ensures rests { KeepsStore self.old self.new }
     {
         // that the moment is below 2^62 is what the proof takes from this call
@@ -114,7 +133,9 @@ impl<V: Vol> VolumePlace<V> {
         let Ok(room) = has_room(&mut self.store, waiting, self.stored, &event.what) else {
             return Err(Left::Nothing);
         };
-        let reply = answer_in(&mut self.slot, room, &event.what, now, outs, &mut self.made)?;
+        let said = answer_in(&mut self.slot, room, &event.what, now, outs, &mut self.made);
+        self.since = since_with(self.since, &self.made, now);
+        let reply = said?;
         self.stored = count_with(self.stored, &self.made);
         let firm = match self.tail.take(&mut self.made) {
             Ok(more) => {
@@ -136,6 +157,7 @@ impl<V: Vol> VolumePlace<V> {
         requires going { self.old.stopped ≡ None }
         ensures delivers { MayDeliver result self.old.state now listening.now outs.old outs.new self.new.state }
         ensures recorded { RecordsDelivery result now self.old self.new }
+        ensures since { self.new.since ≡ since_by now self.old.since self.new.waiting }
         ensures rests { KeepsStore self.old self.new }
     {
         let _ = now.as_nanos();
@@ -144,7 +166,9 @@ impl<V: Vol> VolumePlace<V> {
         let Ok(_) = self.tail.take(&mut self.made) else {
             return Err(Left::Nothing);
         };
-        self.slot.deliver_one(now, listening, outs, &mut self.made)
+        let sent = self.slot.deliver_one(now, listening, outs, &mut self.made);
+        self.since = since_with(self.since, &self.made, now);
+        sent
     }
 
     /// Commits all that waits, if anything does. A fault, or a log that is full, stops the place. `NoMemory` leaves all as it was.
@@ -152,6 +176,7 @@ impl<V: Vol> VolumePlace<V> {
     fn bring(&mut self) -> Result<(), CommitFault>
         requires going { self.old.stopped ≡ None }
         ensures brings { Brings result (seen_of V.told V.disk V.faults self.old) (seen_of V.told V.disk V.faults self.new) }
+        ensures tail { KeepsTail self.old self.new }
         ensures time { Elapses holds (seen_of V.told V.disk V.faults self.old) (seen_of V.told V.disk V.faults self.new) }
     {
         let Ok(_) = self.tail.take(&mut self.made) else {
@@ -164,6 +189,7 @@ impl<V: Vol> VolumePlace<V> {
         match self.store.commit(self.alloc, &mut self.vol, records) {
             Ok(()) => {
                 self.tail.clear();
+                self.since = None;
                 Ok(())
             }
             Err(CommitFault::NoMemory) => Err(CommitFault::NoMemory),
@@ -190,17 +216,18 @@ impl<V: Vol> VolumePlace<V> {
         Ok(self.tail.records().is_empty() || self.store.fits(bytes))
     }
 
-    /// Commits all that waits once something was made that is firm, or if it may not wait on. Without memory to tell whether that is firm it is `NoMemory`,
+    /// Commits all that waits once something was made that is urgent, or if it may not wait on. If it is not known whether that is urgent, it is `NoMemory`,
     /// which leaves all as it was.
-    fn conclude(&mut self, firm: Option<bool>) -> Result<(), CommitFault>
+    fn conclude(&mut self, urgent: Option<bool>) -> Result<(), CommitFault>
         requires going { self.old.stopped ≡ None }
-        ensures concludes { Concludes firm result (seen_of V.told V.disk V.faults self.old) (seen_of V.told V.disk V.faults self.new) }
+        ensures concludes { Concludes urgent result (seen_of V.told V.disk V.faults self.old) (seen_of V.told V.disk V.faults self.new) }
+        ensures tail { KeepsTail self.old self.new }
         ensures time { Elapses holds (seen_of V.told V.disk V.faults self.old) (seen_of V.told V.disk V.faults self.new) }
     {
-        let Some(firm) = firm else {
+        let Some(urgent) = urgent else {
             return Err(CommitFault::NoMemory);
         };
-        if !firm && self.may_wait()? {
+        if !urgent && self.may_wait()? {
             return Ok(());
         }
         self.bring()
@@ -209,24 +236,27 @@ impl<V: Vol> VolumePlace<V> {
     /// The same, of something that was refused or not; before it there were so many outputs, to which they are cut back if the place is stopped.
     fn confirm(
         &mut self,
-        firm: Option<bool>,
+        urgent: Option<bool>,
         refused: bool,
         count: usize,
         outs: &mut Outs,
     ) -> Result<(), PlaceFault>
         requires going { self.old.stopped ≡ None }
-        ensures confirms { Confirms firm refused count result (seen_of V.told V.disk V.faults self.old) (seen_of V.told V.disk V.faults self.new) outs.old outs.new }
+        ensures confirms { Confirms urgent refused count result (seen_of V.told V.disk V.faults self.old) (seen_of V.told V.disk V.faults self.new) outs.old outs.new }
+        ensures tail { KeepsTail self.old self.new }
         ensures time { Elapses holds (seen_of V.told V.disk V.faults self.old) (seen_of V.told V.disk V.faults self.new) }
     {
-        match self.conclude(firm) {
+        match self.conclude(urgent) {
             Ok(()) => Ok(()),
             Err(CommitFault::NoMemory) => Err(PlaceFault::NoMemory(Left::Unsaid { refused })),
             Err(CommitFault::Fault) => {
                 cut_to(self.alloc, count, outs);
+                tell_stopped(&self.slot, &self.vol, false);
                 Err(PlaceFault::StoreFault)
             }
             Err(CommitFault::Full) => {
                 cut_to(self.alloc, count, outs);
+                tell_stopped(&self.slot, &self.vol, true);
                 Err(PlaceFault::Full)
             }
         }
@@ -261,13 +291,26 @@ impl<V: Vol> Place for VolumePlace<V> {
 
     ghost refuses = { refuses V.told V.disk };
 
-    /// What the volume holds is read, and a stream restored to it. If the volume never had a place, a log is begun on it that says so.
-    fn open(alloc: Global, volume: V) -> Result<VolumePlace<V>, (OpenFault, V)> {
+    /// What the volume holds is read, and a stream restored to it. If the volume never had a place, a log is begun on it that says so. Files that are no blocks, and
+    /// in which a crash left bytes, are cut to nothing.
+    fn open(alloc: Global, volume: V) -> Result<VolumePlace<V>, (OpenFault, V)>
+        ensures opened { IfOk result (λ place. IsOpened holds (reads V.told V.disk) (left V.told V.disk) (clock V.disk) (opens V.told V.disk) volume (seen_of V.told V.disk V.faults place)) }
+        ensures vol { IfOk result (λ place. Keeps V.disk V.faults volume place.vol) }
+        ensures refused { IfErr result (λ stop. refuses V.told V.disk volume stop.0) }
+        ensures cause { IfErr result (λ stop. stop.0 ≡ OpenFault.Fault → Rose (V.faults volume) (V.faults stop.1)) }
+        ensures unopened { IfErr result (λ stop. IsUnopened holds (reads V.told V.disk) (left V.told V.disk) (clock V.disk) (opens V.told V.disk) volume stop.1) }
+        ensures given_back { IfErr result (λ stop. Keeps V.disk V.faults volume stop.1) }
+        ensures cleared { V.told → IfOk result (λ place. AreCleared place.store.blocks (V.disk volume) (V.disk place.vol)) }
+    {
         let mut vol = volume;
-        let (store, durable) = match Store::open(alloc, &mut vol) {
+        let (mut store, durable) = match Store::open(alloc, &mut vol) {
             Ok(opened) => opened,
             Err(fault) => return Err((fault_of(fault), vol)),
         };
+        match store.clear(&mut vol) {
+            Ok(()) => {}
+            Err(fault) => return Err((fault_of(fault), vol)),
+        }
         let Ok(slot) = Slot::restore(alloc, durable) else {
             return Err((OpenFault::NoMemory, vol));
         };
@@ -279,6 +322,7 @@ impl<V: Vol> Place for VolumePlace<V> {
             vol,
             tail: Tail::new(alloc),
             made: Made::new(alloc),
+            since: None,
             stored,
             stopped: None,
         })
@@ -312,14 +356,23 @@ impl<V: Vol> Place for VolumePlace<V> {
         self.slot.ready(now, listening)
     }
 
-    /// It is committed with all that waits if it is firm, or if that may not wait on.
+    /// It is not later than the moment from which on a tick commits what waits, if something does.
+    fn next_timer(&self) -> Option<Moment>
+        ensures bound { IsTimerBound (timers self.now.state) result }
+        ensures tail { IsTimerBound (tail_timers self.now.since) result }
+    {
+        earlier(self.slot.next_timer(), due(self.since))
+    }
+
+    /// It is committed with all that waits if it is firm, if it is a tick a second or more after the first of that was made, or if that may not wait on.
     fn step(&mut self, event: &Event, now: Moment, outs: &mut Outs) -> Result<Reply, PlaceFault>
         requires told { IsTold event.now.what }
         requires proper { IsTrue (is_proper event.now) }
         ensures steps { Steps holds result event.now now (seen_of V.told V.disk V.faults self.old) (seen_of V.told V.disk V.faults self.new) outs.old outs.new }
         ensures shown { IfOk result IsShown }
         ensures vol { Keeps V.disk V.faults self.old.vol self.new.vol }
-        ensures shares { IfOk result (λ reply. SharesStep reply event.now now (seen_of V.told V.disk V.faults self.old) (seen_of V.told V.disk V.faults self.new)) }
+        ensures shares { IfOk result (λ reply. SharesStep self.old.since reply event.now now (seen_of V.told V.disk V.faults self.old) (seen_of V.told V.disk V.faults self.new)) }
+        ensures since { self.new.since ≡ since_by now self.old.since self.new.waiting }
     {
         if let Some(count) = self.stopped {
             return Err(PlaceFault::Stopped(count));
@@ -329,9 +382,11 @@ impl<V: Vol> Place for VolumePlace<V> {
             return Err(PlaceFault::Gone(kept));
         }
         let count = outs.len();
+        let overdue = is_overdue(self.since, &event.what, now);
         match self.answer(event, now, outs) {
             Ok(said) => {
-                self.confirm(said.firm, is_refused(&said.reply), count, outs)?;
+                let urgent = is_urgent(said.firm, overdue);
+                self.confirm(urgent, is_refused(&said.reply), count, outs)?;
                 Ok(said.reply)
             }
             Err(left) => Err(PlaceFault::NoMemory(left)),
@@ -348,6 +403,7 @@ impl<V: Vol> Place for VolumePlace<V> {
         ensures delivers { Delivers holds result now listening.now (seen_of V.told V.disk V.faults self.old) (seen_of V.told V.disk V.faults self.new) outs.old outs.new }
         ensures vol { Keeps V.disk V.faults self.old.vol self.new.vol }
         ensures shares { IfOk result (λ made. IfSome made (λ delivery. SharesDelivery delivery now (seen_of V.told V.disk V.faults self.old) (seen_of V.told V.disk V.faults self.new))) }
+        ensures since { self.new.since ≡ since_by now self.old.since self.new.waiting }
     {
         if let Some(count) = self.stopped {
             return Err(PlaceFault::Stopped(count));
@@ -363,15 +419,25 @@ impl<V: Vol> Place for VolumePlace<V> {
         }
     }
 
-    fn flush(&mut self) -> Result<(), PlaceFault> {
+    fn flush(&mut self) -> Result<(), PlaceFault>
+        ensures flushes { Flushes holds result (seen_of V.told V.disk V.faults self.old) (seen_of V.told V.disk V.faults self.new) }
+        ensures vol { Keeps V.disk V.faults self.old.vol self.new.vol }
+        ensures tail { KeepsTail self.old self.new }
+    {
         if let Some(count) = self.stopped {
             return Err(PlaceFault::Stopped(count));
         }
         match self.bring() {
             Ok(()) => Ok(()),
             Err(CommitFault::NoMemory) => Err(PlaceFault::NoMemory(Left::Nothing)),
-            Err(CommitFault::Fault) => Err(PlaceFault::StoreFault),
-            Err(CommitFault::Full) => Err(PlaceFault::Full),
+            Err(CommitFault::Fault) => {
+                tell_stopped(&self.slot, &self.vol, false);
+                Err(PlaceFault::StoreFault)
+            }
+            Err(CommitFault::Full) => {
+                tell_stopped(&self.slot, &self.vol, true);
+                Err(PlaceFault::Full)
+            }
         }
     }
 
@@ -388,6 +454,7 @@ impl<V: Vol> Place for VolumePlace<V> {
             vol,
             tail: _,
             made: _,
+            since: _,
             stored: _,
             stopped: _,
         } = self;

@@ -1,4 +1,4 @@
-//! A place on a volume in memory that is asked one thing after the other, at one moment.
+//! A place on a volume in memory that is asked one thing after the other, at one moment unless it is told that time passes.
 
 ghost use Rattle.std.specs.Prelude.{IsTrue};
 ghost use Rattle.js_model.specs.Proper.{is_proper};
@@ -159,9 +159,9 @@ impl Kept {
         Ok(())
     }
 
-    /// Lets a nanosecond pass for it.
-    pub fn tick(&mut self) -> Result<(), PlaceFault> {
-        self.now = self.now.plus(1);
+    /// Lets so many nanoseconds pass for it.
+    pub fn tick(&mut self, nanos: u64) -> Result<(), PlaceFault> {
+        self.now = self.now.plus(nanos);
         self.ask(tick())?;
         Ok(())
     }

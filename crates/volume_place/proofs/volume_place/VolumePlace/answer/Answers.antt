@@ -10,15 +10,16 @@ use Rattle.place_records.specs.Records.{effects_in}
 use Rattle.volume_place.specs.Rooms.{room_for}
 use Rattle.volume_place.proofs.Answering.{answered_sound, left_counted}
 use Rattle.volume_place.proofs.Changing.{told_changes}
-use Rattle.volume_place.proofs.Moved.{taken}
+use Rattle.volume_place.proofs.Dated.{dated_as, dated_with, since_kept}
+use Rattle.volume_place.proofs.Moved.{joined, taken, unmoved}
 use Rattle.volume_place.proofs.volume_place.VolumePlace.answer.Goals as goal
 use Rattle.volume_place.proofs.volume_place.VolumePlace.answer.Goals.{in-Ok-take, then-more, else-more, in-Err}
 
 pub has_room-requires-clause-proper : goal.has_room-requires-clause-proper
 has_room-requires-clause-proper g c = (and_parts _ _ c.requires.proper).1
 
-pub answer_in-requires-clause-proper : goal.answer_in-requires-clause-proper
-answer_in-requires-clause-proper g c = (and_parts _ _ c.requires.proper).1
+pub answer_in-said-requires-clause-proper : goal.answer_in-said-requires-clause-proper
+answer_in-said-requires-clause-proper g c = (and_parts _ _ c.requires.proper).1
 
 pub invariant_of-self-in_err-reply : goal.invariant_of-self-in_err-reply
 invariant_of-self-in_err-reply g c =
@@ -26,18 +27,20 @@ invariant_of-self-in_err-reply g c =
     let i = c.self.inside in
     let e = c.args.event.now in
     let before = followed i.tail (effects_in i.made) in
-    let made = effects_in c.answer_in.new.made in
+    let made = effects_in c.answer_in-said.new.made in
     let room = c.in-Ok-has_room.room in
     let left = c.in_err-reply.field-0.0 in
     let going = rw (← c.self.view_is) at c.requires.going in
     let kept = rw (← c.self.view_is) at c.requires.kept in
     let moment : c.args.now < 2 ^ 62 = omega arith in
     let told_room = c.in-Ok-has_room.ensures.value ∙ ap (λ (l : List Effect). room_for i.store.blocks l e.what) c.records-waiting.ensures.value in
-    answered_sound V.told (V.disk i.vol) i.store before i.stored i.stopped going i.slot c.self.invariant c.has_room.new.store c.has_room.ensures.same c.take.new.self c.in-Ok.ensures.ok
-    e room told_room (Err left) c.answer_in.new.slot c.args.now c.args.outs.now c.answer_in.new.outs made i.stored kept c.requires.proper moment tt c.in_err-reply.ensures.err
+    let p =
+    answered_sound V.told (V.disk i.vol) i.store before i.stored i.stopped going i.slot (c.self.invariant.0, c.self.invariant.1) c.has_room.new.store c.has_room.ensures.same c.take.new.self c.in-Ok.ensures.ok
+    e room told_room (Err left) c.answer_in-said.new.slot c.args.now c.args.outs.now c.answer_in-said.new.outs made i.stored kept c.requires.proper moment tt c.in_err-reply.ensures.err
     c.in_err-reply.ensures.recorded
-    (left_counted V.told (V.disk i.vol) i.store before i.stored i.stopped going i.slot c.self.invariant c.has_room.new.store c.has_room.ensures.same c.take.new.self c.in-Ok.ensures.ok
-    e room told_room left c.args.now made c.in_err-reply.ensures.recorded)
+    (left_counted V.told (V.disk i.vol) i.store before i.stored i.stopped going i.slot (c.self.invariant.0, c.self.invariant.1) c.has_room.new.store c.has_room.ensures.same c.take.new.self c.in-Ok.ensures.ok
+    e room told_room left c.args.now made c.in_err-reply.ensures.recorded) in
+    (p.0, p.1, dated_with c.args.now i.since c.since_with-self-inside.result (followed c.take.new.self made) (c.since_with-self-inside.ensures.value c.take.new.self (dated_as c.take.new.self before i.since c.in-Ok.ensures.ok c.self.invariant.2)))
 
 pub returns-in_err-reply-clause-err_recorded : goal.returns-in_err-reply-clause-err_recorded
 returns-in_err-reply-clause-err_recorded g c =
@@ -45,12 +48,12 @@ returns-in_err-reply-clause-err_recorded g c =
     let i = c.self.inside in
     let e = c.args.event.now in
     let before = followed i.tail (effects_in i.made) in
-    let made = effects_in c.answer_in.new.made in
+    let made = effects_in c.answer_in-said.new.made in
     let room = c.in-Ok-has_room.room in
     let left = c.in_err-reply.field-0.0 in
     let going = rw (← c.self.view_is) at c.requires.going in
     let told_room = c.in-Ok-has_room.ensures.value ∙ ap (λ (l : List Effect). room_for i.store.blocks l e.what) c.records-waiting.ensures.value in
-    let counted = left_counted V.told (V.disk i.vol) i.store before i.stored i.stopped going i.slot c.self.invariant c.has_room.new.store c.has_room.ensures.same c.take.new.self c.in-Ok.ensures.ok
+    let counted = left_counted V.told (V.disk i.vol) i.store before i.stored i.stopped going i.slot (c.self.invariant.0, c.self.invariant.1) c.has_room.new.store c.has_room.ensures.same c.take.new.self c.in-Ok.ensures.ok
     e room told_room left c.args.now made c.in_err-reply.ensures.recorded in
     let p = err_from_is_err_and c.from_residual.result c.from_residual.ensures.1 in
     rw (p.1, p.2)
@@ -68,17 +71,19 @@ invariant_of-self-2 g c =
     let i = c.self.inside in
     let e = c.args.event.now in
     let before = followed i.tail (effects_in i.made) in
-    let made = effects_in c.answer_in.new.made in
+    let made = effects_in c.answer_in-said.new.made in
     let room = c.in-Ok-has_room.room in
     let going = rw (← c.self.view_is) at c.requires.going in
     let kept = rw (← c.self.view_is) at c.requires.kept in
     let moment : c.args.now < 2 ^ 62 = omega arith in
     let told_room = c.in-Ok-has_room.ensures.value ∙ ap (λ (l : List Effect). room_for i.store.blocks l e.what) c.records-waiting.ensures.value in
-    let moved = taken c.take-2.result c.take-2.new.self c.take.new.self c.take-2.new.made c.answer_in.new.made c.take-2.ensures.ok c.take-2.ensures.none c.take-2.ensures.err c.take-2.ensures.made_left in
+    let moved = taken c.take-2.result c.take-2.new.self c.take.new.self c.take-2.new.made c.answer_in-said.new.made c.take-2.ensures.ok c.take-2.ensures.none c.take-2.ensures.err c.take-2.ensures.made_left in
+    let p =
+    answered_sound V.told (V.disk i.vol) i.store before i.stored i.stopped going i.slot (c.self.invariant.0, c.self.invariant.1) c.has_room.new.store c.has_room.ensures.same c.take.new.self c.in-Ok.ensures.ok
+    e room told_room (Ok c.in_ok-reply.reply) c.answer_in-said.new.slot c.args.now c.args.outs.now c.answer_in-said.new.outs made c.count_with-self-inside.result kept c.requires.proper moment
+    c.in_ok-reply.ensures.answers tt c.in_ok-reply.ensures.recorded c.count_with-self-inside.ensures.value in
     rw moved
-    (answered_sound V.told (V.disk i.vol) i.store before i.stored i.stopped going i.slot c.self.invariant c.has_room.new.store c.has_room.ensures.same c.take.new.self c.in-Ok.ensures.ok
-    e room told_room (Ok c.in_ok-reply.reply) c.answer_in.new.slot c.args.now c.args.outs.now c.answer_in.new.outs made c.count_with-self-inside.result kept c.requires.proper moment
-    c.in_ok-reply.ensures.answers tt c.in_ok-reply.ensures.recorded c.count_with-self-inside.ensures.value)
+    (p.0, p.1, dated_with c.args.now i.since c.since_with-self-inside.result (followed c.take.new.self made) (c.since_with-self-inside.ensures.value c.take.new.self (dated_as c.take.new.self before i.since c.in-Ok.ensures.ok c.self.invariant.2)))
 
 pub returns-clause-firm : goal.returns-clause-firm
 returns-clause-firm g c = elim c.match-take-2.branch [
@@ -88,7 +93,7 @@ returns-clause-firm g c = elim c.match-take-2.branch [
       let i = c.self.inside in
       let kept = rw (← c.self.view_is) at c.requires.kept in
       let moment : c.args.now < 2 ^ 62 = omega arith in
-      let fewer = nat_lt (length (ids_in c.answer_in.new.slot)) (length (ids_in i.slot)) in
+      let fewer = nat_lt (length (ids_in c.answer_in-said.new.slot)) (length (ids_in i.slot)) in
       let changes : w.if-more.changes ≡ (w.in-Ok-take.more || fewer) = elim w.if-more.branch [
         | then-more b ↦
             let changes_is = b.changes-is in
@@ -103,18 +108,47 @@ returns-clause-firm g c = elim c.match-take-2.branch [
             let less : w.if-more.changes ≡ nat_lt b.id_count.result c.id_count-ids.result = cc in
             less
             ∙ ap (λ (n : ℕ). nat_lt n c.id_count-ids.result) b.id_count.ensures.value
-            ∙ ap (λ (n : ℕ). nat_lt (length (ids_in c.answer_in.new.slot)) n) c.id_count-ids.ensures.value
+            ∙ ap (λ (n : ℕ). nat_lt (length (ids_in c.answer_in-said.new.slot)) n) c.id_count-ids.ensures.value
             ∙ sym (ap (λ (d : Bool). d || fewer) no_more)
       ] in
-      let decides = told_changes i.slot c.answer_in.new.slot c.args.event.now c.args.now c.in-Ok-has_room.room kept c.requires.proper moment
+      let decides = told_changes i.slot c.answer_in-said.new.slot c.args.event.now c.args.now c.in-Ok-has_room.room kept c.requires.proper moment
       (c.in_ok-reply.ensures.answers c.args.event.now.incarnation).state_is
-      c.self.invariant.0.sound c.self.invariant.0.bounded (effects_in c.answer_in.new.made) c.in_ok-reply.ensures.recorded w.in-Ok-take.more w.if-more.changes w.in-Ok-take.ensures.more changes in
+      c.self.invariant.0.sound c.self.invariant.0.bounded (effects_in c.answer_in-said.new.made) c.in_ok-reply.ensures.recorded w.in-Ok-take.more w.if-more.changes w.in-Ok-take.ensures.more changes in
       rw (← c.self.view_is)
-      (subst (λ (o : Option Bool). IfSome o (λ f. Decides f (IsFirmStep i.slot c.args.event.now.what c.in_ok-reply.reply c.answer_in.new.slot))) (sym told)
-      (w.is_firm.ensures.value i.slot c.answer_in.new.slot decides))
+      (subst (λ (o : Option Bool). IfSome o (λ f. Decides f (IsFirmStep i.slot c.args.event.now.what c.in_ok-reply.reply c.answer_in-said.new.slot))) (sym told)
+      (w.is_firm.ensures.value i.slot c.answer_in-said.new.slot decides))
   | in-Err w ↦
       let firm_is = w.firm-is in
       let none : c.match-take-2.firm ≡ None = cc in
       rw (← c.self.view_is)
-      (subst (λ (o : Option Bool). IfSome o (λ f. Decides f (IsFirmStep c.self.inside.slot c.args.event.now.what c.in_ok-reply.reply c.answer_in.new.slot))) (sym none) tt)
+      (subst (λ (o : Option Bool). IfSome o (λ f. Decides f (IsFirmStep c.self.inside.slot c.args.event.now.what c.in_ok-reply.reply c.answer_in-said.new.slot))) (sym none) tt)
 ]
+
+pub returns-in_default-clause-since : goal.returns-in_default-clause-since
+returns-in_default-clause-since g c =
+    let i = c.self.inside in
+    let before = followed i.tail (effects_in i.made) in
+    let same = unmoved c.take.new.self i.tail c.take.new.made i.made c.in_default.ensures.err c.in_default.ensures.made_left in
+    rw (← c.self.view_is)
+    (since_kept c.args.now i.since (followed c.take.new.self (effects_in c.take.new.made)) (dated_as (followed c.take.new.self (effects_in c.take.new.made)) before i.since same c.self.invariant.2))
+
+pub returns-in_default-has_room-clause-since : goal.returns-in_default-has_room-clause-since
+returns-in_default-has_room-clause-since g c =
+    let i = c.self.inside in
+    let before = followed i.tail (effects_in i.made) in
+    let same = joined c.take.new.self c.take.new.made before c.in-Ok.ensures.ok c.in-Ok.ensures.none in
+    rw (← c.self.view_is)
+    (since_kept c.args.now i.since (followed c.take.new.self (effects_in c.take.new.made)) (dated_as (followed c.take.new.self (effects_in c.take.new.made)) before i.since same c.self.invariant.2))
+
+pub returns-in_err-reply-clause-since : goal.returns-in_err-reply-clause-since
+returns-in_err-reply-clause-since g c =
+    let i = c.self.inside in
+    let before = followed i.tail (effects_in i.made) in
+    rw (← c.self.view_is) (c.since_with-self-inside.ensures.value c.take.new.self (dated_as c.take.new.self before i.since c.in-Ok.ensures.ok c.self.invariant.2))
+
+pub returns-clause-since : goal.returns-clause-since
+returns-clause-since g c =
+    let i = c.self.inside in
+    let before = followed i.tail (effects_in i.made) in
+    let moved = taken c.take-2.result c.take-2.new.self c.take.new.self c.take-2.new.made c.answer_in-said.new.made c.take-2.ensures.ok c.take-2.ensures.none c.take-2.ensures.err c.take-2.ensures.made_left in
+    rw (moved, ← c.self.view_is) (c.since_with-self-inside.ensures.value c.take.new.self (dated_as c.take.new.self before i.since c.in-Ok.ensures.ok c.self.invariant.2))

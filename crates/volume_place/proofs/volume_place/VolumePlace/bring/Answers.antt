@@ -1,10 +1,11 @@
-use Rattle.std.proofs.Common.{◌≢◌, List, [], length, Some, Err, ap, refl, sym, ◌∙◌, rules}
+use Rattle.std.proofs.Common.{◌≢◌, inl, inr, List, [], length, None, Some, Err, ap, refl, sym, ◌∙◌, rules}
 use Rattle.effects.specs.declared.effect.Effect.{Effect}
 use Rattle.place_engine.specs.Following.{followed}
 use Rattle.place_records.specs.Records.{effects_in}
 use Rattle.stream_store.specs.declared.fault.CommitFault.{CommitFault}
 use Rattle.volume_place.specs.declared.volume_place.VolumePlace.TheView.{view}
 use Rattle.volume_place.proofs.Brought.{brings_none, brought_blocks, places_of, unbrought, unbrought_blocks, unbrought_sound, stands_still, fits, records_of, brings, brought_sound, fails, fills, stopped_sound, time_goes_on}
+use Rattle.volume_place.proofs.Dated.{dated_as}
 use Rattle.volume_place.proofs.Empty.{nothing_in, something_in}
 use Rattle.volume_place.proofs.Moved.{joined, unmoved}
 use Rattle.volume_place.proofs.volume_place.VolumePlace.bring.Goals as goal
@@ -47,6 +48,7 @@ invariant_of-self g c =
     let same = unmoved c.take.new.self c.self.inside.tail c.take.new.made c.self.inside.made c.in_default.ensures.err c.in_default.ensures.made_left in (
       unbrought_sound V.told V.disk V.faults g.met.V.Vol.clocked x going c.self.invariant.0 x.store x.vol (followed c.take.new.self (effects_in c.take.new.made)) refl refl same,
       unbrought_blocks x.store x.store x.waiting (followed c.take.new.self (effects_in c.take.new.made)) x.stored x.stopped refl same c.self.invariant.1,
+      dated_as (followed c.take.new.self (effects_in c.take.new.made)) x.waiting x.since same c.self.invariant.2,
     )
 
 pub returns-in_default-clause-brings : goal.returns-in_default-clause-brings
@@ -57,6 +59,12 @@ returns-in_default-clause-brings g c =
     let same = unmoved c.take.new.self c.self.inside.tail c.take.new.made c.self.inside.made c.in_default.ensures.err c.in_default.ensures.made_left in
     rw (← c.self.view_is)
     (unbrought V.told V.disk V.faults g.met.V.Vol.clocked x going c.self.invariant.0 x.store x.vol (followed c.take.new.self (effects_in c.take.new.made)) refl refl same)
+
+pub returns-in_default-clause-tail : goal.returns-in_default-clause-tail
+returns-in_default-clause-tail g c =
+    let x = view _ g.V.Vol c.self.inside in
+    let same = unmoved c.take.new.self c.self.inside.tail c.take.new.made c.self.inside.made c.in_default.ensures.err c.in_default.ensures.made_left in
+    rw (← c.self.view_is) (inr (same, refl))
 
 pub returns-in_default-clause-time : goal.returns-in_default-clause-time
 returns-in_default-clause-time g c =
@@ -74,6 +82,7 @@ invariant_of-self-then-is_empty g c =
     let same = joined c.take.new.self c.take.new.made x.waiting c.in-Ok.ensures.ok c.in-Ok.ensures.none in (
       unbrought_sound V.told V.disk V.faults g.met.V.Vol.clocked x going c.self.invariant.0 x.store x.vol (followed c.take.new.self (effects_in c.take.new.made)) refl refl same,
       unbrought_blocks x.store x.store x.waiting (followed c.take.new.self (effects_in c.take.new.made)) x.stored x.stopped refl same c.self.invariant.1,
+      dated_as (followed c.take.new.self (effects_in c.take.new.made)) x.waiting x.since same c.self.invariant.2,
     )
 
 pub returns-then-is_empty-clause-brings : goal.returns-then-is_empty-clause-brings
@@ -87,6 +96,12 @@ returns-then-is_empty-clause-brings g c =
     rw (← c.self.view_is)
     (brings_none V.told V.disk V.faults g.met.V.Vol.clocked x going c.self.invariant.0 (followed c.take.new.self (effects_in c.take.new.made))
     (sym c.in-Ok.ensures.ok ∙ none) (joined given c.take.new.made [] none c.in-Ok.ensures.none))
+
+pub returns-then-is_empty-clause-tail : goal.returns-then-is_empty-clause-tail
+returns-then-is_empty-clause-tail g c =
+    let x = view _ g.V.Vol c.self.inside in
+    let same = joined c.take.new.self c.take.new.made x.waiting c.in-Ok.ensures.ok c.in-Ok.ensures.none in
+    rw (← c.self.view_is) (inr (same, refl))
 
 pub returns-then-is_empty-clause-time : goal.returns-then-is_empty-clause-time
 returns-then-is_empty-clause-time g c =
@@ -131,6 +146,7 @@ invariant_of-self-in-Ok-commit g c =
           c.in-Ok-commit.ensures.committed (followed c.clear.new.self (effects_in c.take.new.made)) nothing,
       brought_blocks x.store.blocks c.commit.new.self c.records-records.result.now (followed c.clear.new.self (effects_in c.take.new.made)) x.waiting x.stored x.stopped going c.self.invariant.1 are
           nothing c.in-Ok-commit.ensures.fewer,
+      dated_as (followed c.clear.new.self (effects_in c.take.new.made)) [] None nothing refl,
     )
 
 pub returns-in-Ok-commit-clause-brings : goal.returns-in-Ok-commit-clause-brings
@@ -144,6 +160,12 @@ returns-in-Ok-commit-clause-brings g c =
     (brings V.told V.disk V.faults g.met.V.Vol.clocked x going c.self.invariant.0 c.records-records.result.now are c.commit.new.vol c.commit.new.self
     c.in-Ok-commit.ensures.committed (followed c.clear.new.self (effects_in c.take.new.made)) nothing c.in-Ok-commit.ensures.fits_in)
 
+pub returns-in-Ok-commit-clause-tail : goal.returns-in-Ok-commit-clause-tail
+returns-in-Ok-commit-clause-tail g c =
+    let x = view _ g.V.Vol c.self.inside in
+    let same = joined c.clear.new.self c.take.new.made [] c.clear.ensures.none c.in-Ok.ensures.none in
+    rw (← c.self.view_is) (inl (same, refl))
+
 pub returns-in-Ok-commit-clause-time : goal.returns-in-Ok-commit-clause-time
 returns-in-Ok-commit-clause-time g c =
     let V = g.V.Vol in
@@ -153,7 +175,7 @@ returns-in-Ok-commit-clause-time g c =
     rw (← c.self.view_is)
     (time_goes_on V.told V.disk V.faults g.met.V.Vol.clocked x going c.self.invariant.0 c.records-records.result.now are c.commit.new.vol
     c.commit.ensures.later c.commit.ensures.any_moment
-    (view _ V (record c.self.inside { store = c.commit.new.self; vol = c.commit.new.vol; tail = c.clear.new.self; made = c.take.new.made }))
+    (view _ V (record c.self.inside { store = c.commit.new.self; vol = c.commit.new.vol; tail = c.clear.new.self; made = c.take.new.made; since = None }))
     refl refl c.commit.ensures.head c.commit.ensures.cause.later)
 
 pub invariant_of-self-in-Err-NoMemory : goal.invariant_of-self-in-Err-NoMemory
@@ -166,6 +188,7 @@ invariant_of-self-in-Err-NoMemory g c =
       unbrought_sound V.told V.disk V.faults g.met.V.Vol.clocked x going c.self.invariant.0 c.commit.new.self c.commit.new.vol
           (followed c.take.new.self (effects_in c.take.new.made)) kept.1 kept.0 same,
       unbrought_blocks x.store c.commit.new.self x.waiting (followed c.take.new.self (effects_in c.take.new.made)) x.stored x.stopped kept.1 same c.self.invariant.1,
+      dated_as (followed c.take.new.self (effects_in c.take.new.made)) x.waiting x.since same c.self.invariant.2,
     )
 
 pub returns-in-Err-NoMemory-clause-brings : goal.returns-in-Err-NoMemory-clause-brings
@@ -178,6 +201,12 @@ returns-in-Err-NoMemory-clause-brings g c =
     rw (← c.self.view_is)
     (unbrought V.told V.disk V.faults g.met.V.Vol.clocked x going c.self.invariant.0 c.commit.new.self c.commit.new.vol
     (followed c.take.new.self (effects_in c.take.new.made)) kept.1 kept.0 same)
+
+pub returns-in-Err-NoMemory-clause-tail : goal.returns-in-Err-NoMemory-clause-tail
+returns-in-Err-NoMemory-clause-tail g c =
+    let x = view _ g.V.Vol c.self.inside in
+    let same = joined c.take.new.self c.take.new.made x.waiting c.in-Ok.ensures.ok c.in-Ok.ensures.none in
+    rw (← c.self.view_is) (inr (same, refl))
 
 pub returns-in-Err-NoMemory-clause-time : goal.returns-in-Err-NoMemory-clause-time
 returns-in-Err-NoMemory-clause-time g c =
@@ -202,6 +231,7 @@ invariant_of-self-in-Err-Fault g c =
           c.commit.ensures.later c.commit.ensures.any_moment c.commit.new.self (followed c.take.new.self (effects_in c.take.new.made))
           c.faults.result same,
       tt,
+      dated_as (followed c.take.new.self (effects_in c.take.new.made)) x.waiting x.since same c.self.invariant.2,
     )
 
 pub returns-in-Err-Fault-clause-brings : goal.returns-in-Err-Fault-clause-brings
@@ -215,6 +245,12 @@ returns-in-Err-Fault-clause-brings g c =
     c.commit.ensures.any_moment c.commit.new.self (followed c.take.new.self (effects_in c.take.new.made)) c.faults.result
     c.faults.ensures.value (c.in-Err-Fault.ensures.cause.failed (ap (λ (f : CommitFault). Err f) c.in-Err-Fault.field-0-is))
     (c.in-Err-Fault.ensures.fault_fits (ap (λ (f : CommitFault). Err f) c.in-Err-Fault.field-0-is)))
+
+pub returns-in-Err-Fault-clause-tail : goal.returns-in-Err-Fault-clause-tail
+returns-in-Err-Fault-clause-tail g c =
+    let x = view _ g.V.Vol c.self.inside in
+    let same = joined c.take.new.self c.take.new.made x.waiting c.in-Ok.ensures.ok c.in-Ok.ensures.none in
+    rw (← c.self.view_is) (inr (same, refl))
 
 pub returns-in-Err-Fault-clause-time : goal.returns-in-Err-Fault-clause-time
 returns-in-Err-Fault-clause-time g c =
@@ -239,6 +275,7 @@ invariant_of-self-in-Err-Full g c =
           c.commit.ensures.later c.commit.ensures.any_moment c.commit.new.self (followed c.take.new.self (effects_in c.take.new.made))
           c.faults-in-Err-Full.result same,
       tt,
+      dated_as (followed c.take.new.self (effects_in c.take.new.made)) x.waiting x.since same c.self.invariant.2,
     )
 
 pub returns-in-Err-Full-clause-brings : goal.returns-in-Err-Full-clause-brings
@@ -254,6 +291,12 @@ returns-in-Err-Full-clause-brings g c =
     (followed c.take.new.self (effects_in c.take.new.made)) c.faults-in-Err-Full.result c.faults-in-Err-Full.ensures.value
     kept.1 kept.0 some
     (c.in-Err-Full.ensures.full (ap (λ (f : CommitFault). Err f) c.in-Err-Full.field-0-is)))
+
+pub returns-in-Err-Full-clause-tail : goal.returns-in-Err-Full-clause-tail
+returns-in-Err-Full-clause-tail g c =
+    let x = view _ g.V.Vol c.self.inside in
+    let same = joined c.take.new.self c.take.new.made x.waiting c.in-Ok.ensures.ok c.in-Ok.ensures.none in
+    rw (← c.self.view_is) (inr (same, refl))
 
 pub returns-in-Err-Full-clause-time : goal.returns-in-Err-Full-clause-time
 returns-in-Err-Full-clause-time g c =
