@@ -30,6 +30,7 @@ fn limits(alloc: Global) -> Result<Limits, NoMemory>
         quiet: 1,
         host: Blob::of(alloc, b"pipe")?,
         port: 0,
+        ticks: true,
     })
 }
 

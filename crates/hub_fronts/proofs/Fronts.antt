@@ -170,7 +170,7 @@ step_grown old new (Routed call told) step =
 step_grown old new (Looked joined call told) step =
     catalog_alone (Looked joined call told ∷ []) old.fronts new.fronts step.0.1 (catalog_grown joined call told old.fronts.catalog new.fronts.catalog step.0.0) refl (λ place. refl)
 step_grown old new (Turned after found) step =
-    catalog_alone (Turned after found ∷ []) old.fronts new.fronts step.1.1 (catalog_grown false (NextUsed after) (At found) old.fronts.catalog new.fronts.catalog step.1.0) refl (λ place. refl)
+    catalog_alone (Turned after found ∷ []) old.fronts new.fronts step.0.1 (catalog_grown false (NextUsed after) (At found) old.fronts.catalog new.fronts.catalog step.0.0) refl (λ place. refl)
 step_grown old new (Resumed last) step =
     let same : new.fronts ≡ old.fronts = ap (λ (s : SharedScene). s.fronts) step.1 in
     record {

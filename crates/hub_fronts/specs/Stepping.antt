@@ -108,7 +108,7 @@ abbrev pub SharedStep : SharedScene → DeskEntry → SharedScene → Type 0
 SharedStep old (Routed call told) new = AtTheRouter (RouterTurn call told) old.fronts new.fronts × (new.cursor ≡ old.cursor)
 SharedStep old (Looked joined call told) new = AtTheCatalog (CatalogTurn joined call told) old.fronts new.fronts × (new.cursor ≡ old.cursor)
 SharedStep old (Turned after found) new =
-    (after ≡ old.cursor.ticked) × AtTheCatalog (CatalogTurn false (NextUsed after) (At found)) old.fronts new.fronts
+    AtTheCatalog (CatalogTurn false (NextUsed after) (At found)) old.fronts new.fronts
     × (new.cursor ≡ record old.cursor { ticked = place_or after found })
 SharedStep old (Resumed last) new = (last ≡ old.cursor.last) × (new ≡ old)
 SharedStep old (Held hold) new = AtThePlace hold.at.place (HoldsThere hold) old.fronts new.fronts × (new.cursor ≡ record old.cursor { last = Some hold.at })

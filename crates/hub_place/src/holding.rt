@@ -9,6 +9,7 @@ ghost use Rattle.place_engine.specs.Stepping.{IsKept};
 ghost use Rattle.hub_place.specs.Holds.{HoldsBySeat, IsMadeBy, SendsTo, unmade};
 
 use crate::kind::PlaceKind;
+use crate::next_timers::Timers;
 use crate::place::HubPlace;
 use crate::port::RouterPort;
 use desk_hold::hold_on;
@@ -47,13 +48,14 @@ impl<'a, P: Place> Fits<HoldMade<'a, P>, Past> for EntriesMade<P> {
 }
 
 /// Asks this of the stream of a place at a moment, in a turn of this seat, and sends all that this sends by the port of the place before the turn is left.
-/// Its entries are those of the desk that asks, and what they made at the place is left there with the seat's number. If all tickets of the place are
+/// Then it tells when a timer fires there next. Its entries are those of the desk that asks, and what they made at the place is left there with the seat's number. If all tickets of the place are
 /// drawn, nothing is made, and the fault tells the one that is never drawn, 2^62.
 pub fn hold_at<P: Place, W: Wait>(
     rt: &W,
     alloc: Global,
     place: &Turns<HubPlace<P>, PlaceKind<P>>,
     router: &Turns<Router, RouterKind>,
+    timers: &Timers,
     seat: Seat<PlaceKind<P>>,
     at: PlaceAt,
     what: What,
@@ -70,9 +72,11 @@ pub fn hold_at<P: Place, W: Wait>(
     match place.enter(rt, seat) {
         Ok(Held { value, seat }) => {
             let number = seat.number();
+            timers.begin(at.place);
             let (outcome, value, entries) = hold_by(
                 rt, alloc, router, value, &number, at, what, now,
             );
+            timers.end(at.place, &value.place);
             (outcome, place.leave(Held { value, seat }, entries))
         }
         Err((fault, seat)) => (unmade(ticket_of(fault)), seat),

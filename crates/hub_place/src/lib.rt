@@ -4,11 +4,13 @@
 mod holding;
 mod kind;
 mod laws;
+mod next_timers;
 mod place;
 mod port;
 
 pub use holding::hold_at;
 pub use kind::PlaceKind;
 pub use laws::law_value;
+pub use next_timers::Timers;
 pub use place::HubPlace;
 pub use port::RouterPort;

@@ -46,7 +46,7 @@ entries_in hold = hold.steps ++ hold.deliveries
 -- One entry of a desk:
 --   Routed: a call of the router by the caller itself;
 --   Looked: a call of the catalog. If it is joined, no other caller's entry stands between it and the caller's call of the catalog before it;
---   Turned: the look-up with which a tick begins, for the next used place after that of the caller's last tick;
+--   Turned: the look-up with which a tick begins, for the next used place after that of the caller's last tick, or, of one caller of many, after any place;
 --   Resumed: a call goes on at the place of the caller's last hold, if there was one;
 --   Held: a hold on a place;
 --   Stirred: the volume of a place was called, and no entry of its run was made. If it failed in that, the place is stopped;

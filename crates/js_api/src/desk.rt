@@ -63,7 +63,8 @@ pub trait Desk {
         ensures made { Makes made (Does (client self.old) (Publish message.now now) (took result)) self.old self.new }
         ensures client { client self.new ≡ client self.old };
 
-    /// Lets time pass at the next place with a stream, in cyclic order after the place of the last tick. If there is no stream, nothing is done.
+    /// Lets time pass at the next place with a stream, in cyclic order after the place of the last tick, or after another place if the desk was told one. If
+    /// there is no stream, nothing is done.
     fn tick(&mut self, now: Moment) -> Result<(), DeskFault>
         ensures made { Makes made (Does (client self.old) (Tick now) (done result)) self.old self.new }
         ensures client { client self.new ≡ client self.old };

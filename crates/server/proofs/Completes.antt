@@ -38,7 +38,7 @@ use Rattle.session.specs.Stopping as stopping
 use Rattle.session.specs.Gathering.{IsGathering}
 use Rattle.session.specs.Talk.{Journal, Last, Stage, start, Turn, Begins, IsTalk, IsCause, EndsAs, EndsStopped, acts_of, answers_of, entries_of, entries_of_turn, entries_of_last, last_answers, greeting}
 use Rattle.session.specs.Connecting.{connect_options}
-use Rattle.session.specs.Peer.{Act, Hears, Ticks, Calls, IsWrong, IsUnpublishable, IsRefused, Peer, peer_after, request, op_request, connecting, publishing, is_reply, message}
+use Rattle.session.specs.Peer.{Act, Hears, Ticks, Calls, CallsNothing, IsWrong, IsUnpublishable, IsRefused, Peer, peer_after, request, op_request, connecting, publishing, is_reply, message}
 use Rattle.session.specs.declared.ending.Ended.{Ended}
 use Rattle.session.specs.declared.ending.Ended.TheVariants as ends
 use Rattle.session.specs.declared.ending.Refusal.{Refusal}
@@ -124,23 +124,32 @@ subscribes_open : (b : Bool) (subject : Bytes) (queue : Option Bytes) (sid text 
 subscribes_open true subject queue sid text call e o = cc
 subscribes_open false subject queue sid text call e o = cc
 
-asks_open : (now : ℕ) (act : Act) (call : desks.DeskCall) → request now act ≡ Calls call → call ≡ desks.Open → ⊥
-asks_open now (Hears (ops_.Connect text)) call e o = options_open (connect_options text) call e o
-asks_open now (Hears (ops_.Pub subject reply payload)) call e o = publishes_open (is_publish_text subject && is_reply reply) now (message subject reply [] payload) call e o
-asks_open now (Hears (ops_.HPub subject reply headers payload)) call e o = by (is_block headers) e
+ticks_open : (b : Bool) (now : ℕ) (call : desks.DeskCall) → (if b then Calls (desks.Tick now) else CallsNothing) ≡ Calls call → call ≡ desks.Open → ⊥
+ticks_open true now call e o = cc
+ticks_open false now call e o = cc
+
+asks_open : (peer : Peer) (now : ℕ) (act : Act) (call : desks.DeskCall) → request peer now act ≡ Calls call → call ≡ desks.Open → ⊥
+asks_open peer now (Hears (ops_.Connect text)) call e o = options_open (connect_options text) call e o
+asks_open peer now (Hears (ops_.Pub subject reply payload)) call e o = publishes_open (is_publish_text subject && is_reply reply) now (message subject reply [] payload) call e o
+asks_open peer now (Hears (ops_.HPub subject reply headers payload)) call e o = by (is_block headers) e
   where
     by : (b : Bool) → (if b then publishing now (message subject reply headers payload) else IsRefused refusals.BadHeaders) ≡ Calls call → ⊥
     by true e = publishes_open (is_publish_text subject && is_reply reply) now (message subject reply headers payload) call e o
     by false e = cc
-asks_open now (Hears (ops_.Sub subject queue sid)) call e o = subscribes_open (is_pattern_text subject) subject queue sid _ call e o
-asks_open now (Hears (ops_.Unsub sid max)) call e o = cc
-asks_open now (Hears ops_.Ping) call e o = cc
-asks_open now (Hears ops_.Pong) call e o = cc
-asks_open now Ticks call e o = cc
+asks_open peer now (Hears (ops_.Sub subject queue sid)) call e o = subscribes_open (is_pattern_text subject) subject queue sid _ call e o
+asks_open peer now (Hears (ops_.Unsub sid max)) call e o = cc
+asks_open peer now (Hears ops_.Ping) call e o = cc
+asks_open peer now (Hears ops_.Pong) call e o = cc
+asks_open peer now Ticks call e o = ticks_open peer.ticks now call e o
 
 gathers_open : (client : Client) (now : ℕ) (before : List Called) (call : desks.DeskCall) → IsGathering client now before call → call ≡ desks.Open → ⊥
 gathers_open client now before call (inl h) o = let e = h.1.1 in cc
 gathers_open client now before call (inr h) o = let e = h.1 in cc
+
+-- no tick is refused
+ticks_refused : (b : Bool) (now : ℕ) (refusal : Refusal) → (if b then Calls (desks.Tick now) else CallsNothing) ≡ IsRefused refusal → ⊥
+ticks_refused true now refusal e = cc
+ticks_refused false now refusal e = cc
 
 -- in a turn in which nothing came no operation is heard
 none_heard : (acts : List Act) (op : Op) → (acts ++ Hears op ∷ [] ≡ []) ⊎ (acts ++ Hears op ∷ [] ≡ Ticks ∷ []) → ⊥
@@ -158,9 +167,9 @@ data Ending (ops : List Op) (journal : Journal) (cause : Ended) (last_said : Byt
 
 module _ (input : Bytes) (ops : List Op) (valid : IsValid input ops) (session : ℕ) (scene new : Scene) (journal : Journal) (faults : ℕ)
     (calm : IsCalmSession input scene journal faults) (led : Leads SoloStep scene (entries_of journal) new) (untroubled : AreUntroubled new.world)
-    (stage : Stage) (said : Bytes) (turns : talk.AreTurns pipe_limits (start session) journal.turns stage said) where
-  all : Taken (start session) journal.turns stage
-  all = taken pipe_limits (start session) stage journal.turns said turns none_partial
+    (stage : Stage) (said : Bytes) (turns : talk.AreTurns pipe_limits (start pipe_limits session) journal.turns stage said) where
+  all : Taken (start pipe_limits session) journal.turns stage
+  all = taken pipe_limits (start pipe_limits session) stage journal.turns said turns none_partial
 
   -- the bytes of the whole turns
   abbrev bytes : Bytes
@@ -233,10 +242,10 @@ module _ (input : Bytes) (ops : List Op) (valid : IsValid input ops) (session : 
   declined_in turn op calls rest spent refusal last_is asked answers.Ended e b = absurd b
   declined_in turn op calls rest spent refusal last_is asked answers.Failed e b = absurd b
 
-  declined : (turn : Turn) (act : Act) (calls : List Called) (rest : Bytes) (spent : ℕ) (refusal : Refusal) → journal.last ≡ talk.Within turn (act ∷ []) calls
-      → request turn.moment act ≡ IsRefused refusal → Begins pipe_limits stage turn (acts_of turn.spoken ++ act ∷ []) rest spent turn.answer → ⊥
-  declined turn (Hears op) calls rest spent refusal last_is asked b = declined_in turn op calls rest spent refusal last_is asked turn.answer refl b
-  declined turn Ticks calls rest spent refusal last_is asked b = cc
+  declined : (peer : Peer) (turn : Turn) (act : Act) (calls : List Called) (rest : Bytes) (spent : ℕ) (refusal : Refusal) → journal.last ≡ talk.Within turn (act ∷ []) calls
+      → request peer turn.moment act ≡ IsRefused refusal → Begins pipe_limits stage turn (acts_of turn.spoken ++ act ∷ []) rest spent turn.answer → ⊥
+  declined peer turn (Hears op) calls rest spent refusal last_is asked b = declined_in turn op calls rest spent refusal last_is asked turn.answer refl b
+  declined peer turn Ticks calls rest spent refusal last_is asked b = ticks_refused peer.ticks turn.moment refusal asked
 
   -- ---- no call of the desk ended it, but for want of memory
 
@@ -288,7 +297,7 @@ module _ (input : Bytes) (ops : List Op) (valid : IsValid input ops) (session : 
       → talk.IsStopped peer h.turn.moment h.act (ends.Slow size) h.calls said → ⊥
   stopped_slow size last_said h peer said (talk.InCall own) = in_own own.0
     where
-      in_own : stopping.IsOwnEnd peer.client (request h.turn.moment h.act) (ends.Slow size) h.calls → ⊥
+      in_own : stopping.IsOwnEnd peer.client (request peer h.turn.moment h.act) (ends.Slow size) h.calls → ⊥
       in_own (stopping.Declined refusal r c n) = cc
       in_own (stopping.Unasked c n) = cc
       in_own (stopping.Asked called r l n) = slow_call peer.client size h.turn h.act h.calls [] called h.last_is n l
@@ -302,11 +311,11 @@ module _ (input : Bytes) (ops : List Op) (valid : IsValid input ops) (session : 
       → talk.IsStopped peer h.turn.moment h.act (ends.Refused refusal) h.calls said → ⊥
   stopped_refused refusal last_said h peer said (talk.InCall own) = in_own own.0
     where
-      in_own : stopping.IsOwnEnd peer.client (request h.turn.moment h.act) (ends.Refused refusal) h.calls → ⊥
-      in_own (stopping.Declined other r c n) = declined h.turn h.act h.calls h.rest h.taken other h.last_is r h.within.begins
+      in_own : stopping.IsOwnEnd peer.client (request peer h.turn.moment h.act) (ends.Refused refusal) h.calls → ⊥
+      in_own (stopping.Declined other r c n) = declined peer h.turn h.act h.calls h.rest h.taken other h.last_is r h.within.begins
       in_own (stopping.Unasked c n) = cc
       in_own (stopping.Asked called r l n) =
-          refused_call refusal peer.client h.turn h.act h.calls [] called h.last_is n (λ e. asks_open h.turn.moment h.act called.call r e) l
+          refused_call refusal peer.client h.turn h.act h.calls [] called h.last_is n (λ e. asks_open peer h.turn.moment h.act called.call r e) l
   stopped_refused refusal last_said h peer said (talk.InGathering asked after more are a cut s) =
       refused_call refusal (peer_after peer h.act).client h.turn h.act h.calls (asked ++ cut.before) cut.last h.last_is (behind asked after cut.before cut.last h.calls are cut.calls_are)
       (gathers_open (peer_after peer h.act).client h.turn.moment cut.before cut.last.call cut.comes) cut.is_last
@@ -328,7 +337,7 @@ module _ (input : Bytes) (ops : List Op) (valid : IsValid input ops) (session : 
       let none = leaves_none stage.held k.later all.idle (subst (λ (b : Bytes). Fronts b k.later []) (append-nil stage.held) k.fronts) in
       sym (k.ops_are ∙ ap (λ (xs : List Op). ops_in journal.turns ++ xs) none ∙ append-nil (ops_in journal.turns))
 
-  ending : (cause : Ended) (last_said : Bytes) → IsCause pipe_limits (start session) stage (greeting pipe_limits session) cause journal.last last_said → Ending ops journal cause last_said
+  ending : (cause : Ended) (last_said : Bytes) → IsCause pipe_limits (start pipe_limits session) stage (greeting pipe_limits session) cause journal.last last_said → Ending ops journal cause last_said
   ending ends.Closed last_said h = Done refl (all_done h.1.last_is) h.1.last_is h.1.said_is
   ending (ends.Refused (refusals.Frame fault)) last_said h = absurd (not_faulty fault last_said h)
   ending (ends.Refused refusals.BadConnect) last_said h = absurd (not_refused refusals.BadConnect last_said h)

@@ -1,5 +1,5 @@
 -- How a run of `serve` ends, and why.
-use Rattle.std.specs.Prelude.{◌≡◌, ◌-◌, ◌^◌, ℕ, Bool, false, true, List, Option, None, Some}
+use Rattle.std.specs.Prelude.{◌+◌, ◌≡◌, ◌-◌, ◌^◌, ℕ, Bool, false, true, List, Option, None, Some}
 use Rattle.std.specs.Net.Socket.{socket_ip, socket_port}
 use Rattle.std.specs.Net.Text.{ip_text}
 use Rattle.hub_fronts.specs.Fronts.{SharedScene}
@@ -24,9 +24,11 @@ use Rattle.server.specs.Closing.{closing_line, closing_status}
 use Rattle.server.specs.Outside.{DoorTold, Outside, PrintsLine}
 use Rattle.server.specs.Refusing.{refused_line, refused_status, vols_of}
 
--- a session may take nearly any number of bytes, and a million takes in a row that are quiet; it tells the address that is listened at
+-- A session may take nearly any number of bytes, and a million takes in a row that are quiet. It tells the address that is listened at, and does not let
+-- time pass itself.
 abbrev pub serve_limits : Listening → Limits
-serve_limits listening = record { input = 2 ^ 62 - 1; quiet = 1000000; host = ip_text (socket_ip listening.listen); port = socket_port listening.listen }
+serve_limits listening =
+    record { input = 2 ^ 62 - 1; quiet = 1000000; host = ip_text (socket_ip listening.listen); port = socket_port listening.listen; ticks = false }
 
 abbrev pub most_of : AcceptLimit → Option ℕ
 most_of limits.Unlimited = None
@@ -60,7 +62,7 @@ found_in hub = record { streams = streams_found hub.places; messages = messages_
 abbrev pub links_told : DoorTold → doors.DoorTold
 links_told door = record { answered = door.answered; gave = door.gave; back = door.back; faults = door.faults }
 
--- Of places of one kind: how a hub is opened on volumes for so many workers, why none is, and what is left of it as all its passes are taken in.
+-- Of places of one kind: how a hub is opened on volumes for so many callers, why none is, and what is left of it as all its passes are taken in.
 module _ {V : Type 0} (Opens : List V → ℕ → HubView → List SharedScene → Type 0) (Refuses : List V → HubFault V → Type 0) (Closes : HubView → List SharedScene → Closed V → Type 0) where
   -- memory ran out before the volumes were touched
   pub record IsHubStarved (status : ℕ) (vols_old vols_new : List V) (old new : Outside) (told_old told_new : Option NoticeTold) : Type 0 where
@@ -80,15 +82,15 @@ module _ {V : Type 0} (Opens : List V → ℕ → HubView → List SharedScene �
     pub door : new.door ≡ old.door
     pub untold : told_new ≡ told_old
 
-  -- A hub was opened on the volumes, and the notice was told once what stood there. The links that came were served by as many workers as were asked for, and
-  -- the hub was closed with the passes as these left them. The line for a place whose store failed in the closing was printed, and the volumes came back.
+  -- A hub was opened on the volumes, and the notice was told once what stood there. The links that came were served by as many workers as were asked for,
+  -- while one caller more let time pass, and the hub was closed with the passes as these left them. The line for a place whose store failed in the closing was printed, and the volumes came back.
   pub record IsHubServed (listening : Listening) (status : ℕ) (vols_old vols_new : List V) (old new : Outside) (told_old told_new : Option NoticeTold) : Type 0 where
     pub hub : HubView
     pub passes : List SharedScene
     pub after : List SharedScene
     pub came : Came
     pub closed : Closed V
-    pub opens : Opens vols_old listening.workers hub passes
+    pub opens : Opens vols_old (listening.workers + 1) hub passes
     pub told : told_new ≡ noticed told_old (found_in hub)
     pub serves : Serves (serve_limits listening) (most_of listening.accepts) hub passes after (links_told old.door) (links_told new.door) came
     pub closes : Closes hub after closed

@@ -85,7 +85,7 @@ IsWelcome opened (Some stream) = (error : ApiError) (clock_old clock_new : Optio
 
 -- if the link was quiet last, the client was not stale
 abbrev pub IsAlive : Journal → Type 0
-IsAlive journal = (session moment : ℕ) (stage : Stage) (said : Bytes) → AreTurns pipe_limits (start session) journal.turns stage said
+IsAlive journal = (session moment : ℕ) (stage : Stage) (said : Bytes) → AreTurns pipe_limits (start pipe_limits session) journal.turns stage said
     → journal.last ≡ AtQuiet moment → is_stale stage.peer.pings moment ≡ false
 
 abbrev pub IsQueue : Waiting → Type 0
@@ -150,7 +150,7 @@ pub record IsAnswered (ops : List Op) (journal : Journal) (bytes : Bytes) : Type
   pub session : ℕ
   pub stage : Stage
   pub said : Bytes
-  pub turns : AreTurns pipe_limits (start session) journal.turns stage said
+  pub turns : AreTurns pipe_limits (start pipe_limits session) journal.turns stage said
   pub all : ops_of (acts_of (flat_map turn_spoken journal.turns)) ≡ ops
   pub unbroken : AreUnbroken (entries_of journal)
   pub written : bytes ≡ greeting pipe_limits session ++ said

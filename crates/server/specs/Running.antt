@@ -25,9 +25,9 @@ use Rattle.server.specs.Lines.{number_line}
 use Rattle.server.specs.Accepting.{IsAccepted, IsQuiet, NoneStarves, OneStarves}
 use Rattle.server.specs.Preparing.{Prepares}
 
--- a gigabyte of input, and a million takes in a row that are quiet
+-- a gigabyte of input, and a million takes in a row that are quiet; and the session lets time pass itself, behind each turn
 abbrev pub pipe_limits : Limits
-pipe_limits = record { input = 1073741824; quiet = 1000000; host = codes "pipe"; port = 0 }
+pipe_limits = record { input = 1073741824; quiet = 1000000; host = codes "pipe"; port = 0; ticks = true }
 
 abbrev pub status_of : Ended → ℕ
 status_of ends.Closed = 0

@@ -26,7 +26,7 @@ use workers::{Came, Service, Stop, serve_all};
 /// How many bytes a session over TCP takes at most.
 const MOST_INPUT: u64 = (1 << 62) - 1;
 
-/// The limits of a session.
+/// The limits of a session. It does not let time pass itself.
 fn serve_limits(alloc: Global, listening: &Listening) -> Result<Limits, NoMemory>
     ensures limits { IfOk result (λ limits. limits ≡ serve_limits listening.now) }
     ensures plain { IfOk result (λ limits. is_plain limits.host ≡ true) }
@@ -36,6 +36,7 @@ fn serve_limits(alloc: Global, listening: &Listening) -> Result<Limits, NoMemory
         quiet: QUIET,
         host: listening.host(alloc)?,
         port: listening.port(),
+        ticks: false,
     })
 }
 
@@ -95,7 +96,7 @@ fn found_in<P: Place>(hub: &Hub<P>) -> Found
     }
 }
 
-/// Opens a hub on the volumes, tells the notice what stood there, serves the links that come by as many workers as are asked for, until the door is closed or has failed or as many links were
+/// Opens a hub on the volumes, tells the notice what stood there, serves the links that come by as many workers as are asked for, while one more lets time pass, until the door is closed or has failed or as many links were
 /// accepted as are to be, and closes the hub.
 pub(crate) fn serve_hub<
     P: Place + Send + Sync,
@@ -147,7 +148,7 @@ where
             vols,
         };
     };
-    match Hub::<P>::open(alloc, vols, listening.workers) {
+    match Hub::<P>::open(alloc, vols, listening.workers + 1) {
         Ok((hub, passes)) => {
             notice.opened(found_in(&hub));
             let accepts = listening.accepts.most();

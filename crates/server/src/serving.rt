@@ -40,7 +40,7 @@ impl Outcome {
     }
 }
 
-/// The limits of a session over a pipe.
+/// The limits of a session over a pipe. It lets time pass itself.
 fn pipe_limits(alloc: Global) -> Result<Limits, NoMemory>
     ensures limits { IfOk result (λ limits. limits ≡ pipe_limits) }
 {
@@ -49,6 +49,7 @@ fn pipe_limits(alloc: Global) -> Result<Limits, NoMemory>
         quiet: QUIET,
         host: Blob::of(alloc, b"pipe")?,
         port: 0,
+        ticks: true,
     })
 }
 

@@ -76,14 +76,14 @@ turns_push limits a b c (turn1 ∷ turns) turn said first h k = (
 pub record Conversing {D : Type 0} (made : D → List DeskEntry → D → Type 0) (limits : Limits) (session : ℕ) (d0 d : D) (a0 a : Option (List Answer)) (g0 g : Option Bytes) (c0 c : Option (List ℕ)) (stage : Stage) : Type 0 where
   pub turns : List Turn
   pub said : Bytes
-  pub are_turns : AreTurns limits (start session) turns stage said
+  pub are_turns : AreTurns limits (start limits session) turns stage said
   pub answered : a ≡ grown a0 (map answer turns)
   pub moments : ReadsMoments c0 (map moment turns) c
   pub led : made d0 (flat_map entries_of_turn turns) d
   pub given : g ≡ grown g0 (greeting limits session ++ said)
 
 pub conversing_first : {D : Type 0} (made : D → List DeskEntry → D → Type 0) (limits : Limits) (session : ℕ) (d : D) (a0 a : Option (List Answer)) (g0 g : Option Bytes) (c : Option (List ℕ)) (stage : Stage)
-    → made d [] d → stage ≡ start session → a ≡ a0 → g ≡ grown g0 (greeting limits session) → Conversing made limits session d d a0 a g0 g c c stage
+    → made d [] d → stage ≡ start limits session → a ≡ a0 → g ≡ grown g0 (greeting limits session) → Conversing made limits session d d a0 a g0 g c c stage
 conversing_first made limits session d a0 a g0 g c stage h e same given = record {
   turns = [];
   said = [];
@@ -102,7 +102,7 @@ module _ {D : Type 0} (made : D → List DeskEntry → D → Type 0) (more_led :
   conversing_more d0 d d1 a0 a a1 g0 g g1 c0 c c1 stage next f f1 h k = record {
     turns = h.turns ++ one k.turn;
     said = h.said ++ k.said;
-    are_turns = turns_push limits (start session) stage next h.turns k.turn h.said k.said h.are_turns k.whole;
+    are_turns = turns_push limits (start limits session) stage next h.turns k.turn h.said k.said h.are_turns k.whole;
     answered = grown_on a0 a a1 (map answer h.turns) (k.turn.answer ∷ []) h.answered k.answered ∙ ap (grown a0) (sym (answers-push h.turns k.turn));
     moments = subst (λ (ms : List ℕ). ReadsMoments c0 ms c1) (sym (moments-push h.turns k.turn)) (reads_push c0 c c1 (map moment h.turns) k.turn.moment h.moments k.moment);
     led = subst (λ (es : List DeskEntry). made d0 es d1) (sym (entries-push h.turns k.turn))
@@ -167,12 +167,12 @@ converses_ungreeted {D = D} made limits session fault ended d a0 a g0 g c f0 f h
     cut : IsCutOff k.0 (greeting limits session ++ [])
     cut = subst (IsCutOff k.0) (sym (append-nil (greeting limits session))) k.1
 
-    ungreeted : (x : Ended) → (HasNoFailings f0 → FailsBy x f0 f) → Ends limits (start session) (start session) (greeting limits session) Greeting x k.0
+    ungreeted : (x : Ended) → (HasNoFailings f0 → FailsBy x f0 f) → Ends limits (start limits session) (start limits session) (greeting limits session) Greeting x k.0
         → Converses made limits session d d a0 a g0 g c c f0 f x
     ungreeted x failings ends = record {
       turns = [];
       last = Greeting;
-      stage = start session;
+      stage = start limits session;
       said = [];
       more = k.0;
       are_turns = (refl, refl);

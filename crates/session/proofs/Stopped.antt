@@ -12,7 +12,7 @@ use Rattle.nats_frames.specs.Decoding.{Held, total, IsFront, IsRefused}
 use Rattle.js_api.specs.declared.fault.DeskFault.{DeskFault}
 use Rattle.js_api.specs.declared.fault.DeskFault.TheVariants as faults
 use Rattle.js_api.specs.Entries.{DeskEntry}
-use Rattle.js_api.specs.Answering.{DeskAnswer, Opened, Done, Took, Settled, Gave, Slow, Publish, Sub as Subscribe}
+use Rattle.js_api.specs.Answering.{DeskAnswer, Opened, Done, Took, Settled, Gave, Slow, Publish, Tick, Sub as Subscribe}
 use Rattle.session.specs.Calling.{Called}
 use Rattle.session.specs.Connecting.{connect_options}
 use Rattle.session.specs.Peer.{Act, Hears as Hearing, Ticks, Peer, Request, Calls, CallsNothing, IsWrong, IsUnpublishable, IsRefused as Refuses, op_request, request, connecting, publishing, message, is_reply}
@@ -70,9 +70,9 @@ own_request now (Unsub sid max) = tt
 own_request now Ping = tt
 own_request now Pong = tt
 
-own_act : (now : ℕ) (act : Act) → AreOwn (request now act)
-own_act now (Hearing op) = own_request now op
-own_act now Ticks = tt
+own_act : (peer : Peer) (now : ℕ) (act : Act) → AreOwn (request peer now act)
+own_act peer now (Hearing op) = own_request now op
+own_act peer now Ticks = elim peer.ticks as (λ b. AreOwn (cond b (Calls (Tick now)) CallsNothing)) [ true ↦ tt | false ↦ tt ]
 
 fault_ends : (fault : DeskFault) → IsStopEnd (end_after (Err fault))
 fault_ends faults.NoMemory = tt
@@ -92,8 +92,8 @@ answer_ends (Err fault) = fault_ends fault
 last_ends : (cause : Ended) (answer : Result DeskAnswer DeskFault) → cause ≡ end_after answer → IsStopEnd cause
 last_ends cause answer e = subst IsStopEnd (sym e) (answer_ends answer)
 
-own_ends : (peer : Peer) (now : ℕ) (act : Act) (cause : Ended) (calls : List Called) → IsOwnEnd peer.client (request now act) cause calls → IsStopEnd cause
-own_ends peer now act cause calls (Declined refusal r e c) = subst IsStopEnd (sym e) (subst AreOwn r (own_act now act))
+own_ends : (peer : Peer) (now : ℕ) (act : Act) (cause : Ended) (calls : List Called) → IsOwnEnd peer.client (request peer now act) cause calls → IsStopEnd cause
+own_ends peer now act cause calls (Declined refusal r e c) = subst IsStopEnd (sym e) (subst AreOwn r (own_act peer now act))
 own_ends peer now act cause calls (Unasked e c) = subst IsStopEnd (sym e) tt
 own_ends peer now act cause calls (Asked called r l c) = last_ends cause called.answer l.cause_is
 

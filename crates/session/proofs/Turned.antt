@@ -55,7 +55,7 @@ module _ (limits : Limits) (session : ℕ) (old : Stage) (turn : Turn) where
   no_more said e = ap (λ (bytes : Bytes). heard_in old turn ++ bytes) e ∙ append-nil (heard_in old turn)
 
   abbrev IsEnd : Ended → List Act → List Called → Bytes → Type 0
-  IsEnd cause begun calls said = IsCause limits (start session) old (greeting limits session) cause (Within turn begun calls) (heard_in old turn ++ said)
+  IsEnd cause begun calls said = IsCause limits (start limits session) old (greeting limits session) cause (Within turn begun calls) (heard_in old turn ++ said)
 
   -- within an operation or the tick
   stopped_cause : (cause : Ended) (begun : List Act) (calls : List Called) (said : Bytes) → IsStopEnd cause
@@ -189,14 +189,14 @@ quiet_stage old client pings came = record {
   held = old.held;
   taken = old.taken;
   quiets = old.quiets + 1;
-  peer = record { client = client; verbose = old.peer.verbose; pedantic = old.peer.pedantic; pings = pings };
+  peer = record { client = client; verbose = old.peer.verbose; pedantic = old.peer.pedantic; pings = pings; ticks = old.peer.ticks };
   came = Some came;
 }
 
 module _ {D : Type 0} (made : D → List DeskEntry → D → Type 0) (now : ℕ) (old : Stage) (d d1 : D) (g0 g1 g2 : Option Bytes) where
   -- the client was kept, and the tick was carried out
   pub rested : (client : Client) (pings : List ℕ) (came : ℕ) → client ≡ old.peer.client → came ≡ unwrap_or old.came now → IsKept came now old.peer.pings pings g0 g1
-      → IsTicked made (record { client = old.peer.client; verbose = old.peer.verbose; pedantic = old.peer.pedantic; pings = pings }) now d d1 [] g1 g2
+      → IsTicked made (record { client = old.peer.client; verbose = old.peer.verbose; pedantic = old.peer.pedantic; pings = pings; ticks = old.peer.ticks }) now d d1 [] g1 g2
       → IsRested made now old (quiet_stage old client pings came) d d1 g0 g2
   rested client pings came same e k t =
       let k1 = subst (λ (n : ℕ). IsKept n now old.peer.pings pings g0 g1) e k in
@@ -204,7 +204,7 @@ module _ {D : Type 0} (made : D → List DeskEntry → D → Type 0) (now : ℕ)
       let due = is_due old now in
       let after = ap (λ (c : Client). quiet_stage old c pings came) same ∙ ap (λ (ps : List ℕ). quiet_stage old old.peer.client ps came) k1.pings
       ∙ ap (λ (n : ℕ). quiet_stage old old.peer.client (pinged due old.peer.pings now) n) e in
-      let t1 = subst (λ (ps : List ℕ). IsTicked made (record { client = old.peer.client; verbose = old.peer.verbose; pedantic = old.peer.pedantic; pings = ps }) now d d1 [] g1 g2) k1.pings t in
+      let t1 = subst (λ (ps : List ℕ). IsTicked made (record { client = old.peer.client; verbose = old.peer.verbose; pedantic = old.peer.pedantic; pings = ps; ticks = old.peer.ticks }) now d d1 [] g1 g2) k1.pings t in
       let heard = heard_bytes peer now (t1.spoken ∷ []) in
       record {
         spoken = t1.spoken ∷ [];
@@ -216,7 +216,7 @@ module _ {D : Type 0} (made : D → List DeskEntry → D → Type 0) (now : ℕ)
 
   -- the client was kept, and the session ended within the tick or behind it
   pub unticked : (pings : List ℕ) (came : ℕ) (ended : Ended) → came ≡ unwrap_or old.came now → IsKept came now old.peer.pings pings g0 g1
-      → IsTickCut ended made (record { client = old.peer.client; verbose = old.peer.verbose; pedantic = old.peer.pedantic; pings = pings }) now d d1 [] g1 g2
+      → IsTickCut ended made (record { client = old.peer.client; verbose = old.peer.verbose; pedantic = old.peer.pedantic; pings = pings; ticks = old.peer.ticks }) now d d1 [] g1 g2
       → IsUnticked ended made now old d d1 g0 g2
   unticked pings came ended e k t =
       let k1 = subst (λ (n : ℕ). IsKept n now old.peer.pings pings g0 g1) e k in
@@ -224,7 +224,7 @@ module _ {D : Type 0} (made : D → List DeskEntry → D → Type 0) (now : ℕ)
         alive = k1.alive;
         mid = g1;
         pinged = k1.given;
-        cut = subst (λ (ps : List ℕ). IsTickCut ended made (record { client = old.peer.client; verbose = old.peer.verbose; pedantic = old.peer.pedantic; pings = ps }) now d d1 [] g1 g2) k1.pings t;
+        cut = subst (λ (ps : List ℕ). IsTickCut ended made (record { client = old.peer.client; verbose = old.peer.verbose; pedantic = old.peer.pedantic; pings = ps; ticks = old.peer.ticks }) now d d1 [] g1 g2) k1.pings t;
       }
 
 -- the session ended before the tick
@@ -284,7 +284,7 @@ module _ {D : Type 0} (made : D → List DeskEntry → D → Type 0) (limits : L
         failings = fails;
       }
 
-  waiting_end : (ended : Ended) (more : Bytes) → (HasNoFailings f0 → FailsBy ended f0 f1) → made d [] d1 → Ends limits (start session) old (greeting limits session) (Waiting now) ended more → g2 ≡ grown g1 more
+  waiting_end : (ended : Ended) (more : Bytes) → (HasNoFailings f0 → FailsBy ended f0 f1) → made d [] d1 → Ends limits (start limits session) old (greeting limits session) (Waiting now) ended more → g2 ≡ grown g1 more
       → IsLastTurn made limits session ended old d d1 a0 a2 g0 g2 c0 c1 f0 f1
   waiting_end ended more fails h e k = record {
     last = Waiting now;
@@ -320,10 +320,10 @@ module _ {D : Type 0} (made : D → List DeskEntry → D → Type 0) (limits : L
       cut : IsCutOff k.given.0 (frame Ping ++ [])
       cut = subst (IsCutOff k.given.0) (sym (append-nil (frame Ping))) k.given.1
 
-      failed : Ends limits (start session) old (greeting limits session) (Waiting now) ends.LinkFault k.given.0
+      failed : Ends limits (start limits session) old (greeting limits session) (Waiting now) ends.LinkFault k.given.0
       failed = record { cause = ends.LinkFault; said = frame Ping; is_cause = inr (inr (inr (pinging ended k))); ends_as = inl (refl, cut) }
 
-      starved : Ends limits (start session) old (greeting limits session) (Waiting now) ends.NoMemory k.given.0
+      starved : Ends limits (start limits session) old (greeting limits session) (Waiting now) ends.NoMemory k.given.0
       starved = record {
         cause = ends.NoMemory;
         said = frame Ping;
@@ -331,8 +331,8 @@ module _ {D : Type 0} (made : D → List DeskEntry → D → Type 0) (limits : L
         ends_as = inl (refl, front_of k.given.0 (frame Ping ++ []) cut);
       }
 
-      ending : (x : Ended) → ended ≡ x → Ends limits (start session) old (greeting limits session) (Waiting now) x k.given.0 → IsLastTurn made limits session ended old d d1 a0 a2 g0 g2 c0 c1 f0 f1
-      ending x f w = waiting_end ended k.given.0 fails h (subst (λ (y : Ended). Ends limits (start session) old (greeting limits session) (Waiting now) y k.given.0) (sym f) w) k.given.2
+      ending : (x : Ended) → ended ≡ x → Ends limits (start limits session) old (greeting limits session) (Waiting now) x k.given.0 → IsLastTurn made limits session ended old d d1 a0 a2 g0 g2 c0 c1 f0 f1
+      ending x f w = waiting_end ended k.given.0 fails h (subst (λ (y : Ended). Ends limits (start limits session) old (greeting limits session) (Waiting now) y k.given.0) (sym f) w) k.given.2
 
       go : IsUnwritten ended → IsLastTurn made limits session ended old d d1 a0 a2 g0 g2 c0 c1 f0 f1
       go (inl f) = ending ends.LinkFault f failed
@@ -358,7 +358,7 @@ module _ {D : Type 0} (made : D → List DeskEntry → D → Type 0) (limits : L
 
 module _ {D : Type 0} (made : D → List DeskEntry → D → Type 0) (limits : Limits) (session : ℕ) (old : Stage) (d : D) (a0 a1 : Option (List Answer)) (g0 g1 : Option Bytes) (c : Option (List ℕ))
     (f0 f1 : Option Failings) (nothing_led : made d [] d) (kept : g1 ≡ g0) where
-  told_end : (ended : Ended) (answer : Answer) → (HasNoFailings f0 → f1 ≡ f0) → a1 ≡ grown a0 (answer ∷ []) → Ends limits (start session) old (greeting limits session) (Told answer) ended []
+  told_end : (ended : Ended) (answer : Answer) → (HasNoFailings f0 → f1 ≡ f0) → a1 ≡ grown a0 (answer ∷ []) → Ends limits (start limits session) old (greeting limits session) (Told answer) ended []
       → IsLastTurn made limits session ended old d d a0 a1 g0 g1 c c f0 f1
   told_end ended answer none said e = record {
     last = Told answer;

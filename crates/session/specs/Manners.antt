@@ -13,4 +13,4 @@ moments (One first) = first ∷ []
 moments (Two first second) = first ∷ second ∷ []
 
 abbrev pub peer_of : Client → Manners → Peer
-peer_of client manners = record { client = client; verbose = manners.verbose; pedantic = manners.pedantic; pings = moments manners.pings }
+peer_of client manners = record { client = client; verbose = manners.verbose; pedantic = manners.pedantic; pings = moments manners.pings; ticks = manners.ticks }

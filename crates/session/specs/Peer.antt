@@ -17,21 +17,22 @@ use Rattle.session.specs.declared.connect.ConnectOptions.{ConnectOptions}
 use Rattle.session.specs.declared.ending.Refusal.{Refusal}
 use Rattle.session.specs.declared.ending.Refusal.TheVariants.{BadConnect, BadHeaders}
 
--- the client as the desk has it, whether its operations are answered by `+OK`, whether a wrong subject of a publish is told, and the moments of the
--- PINGs that it has not answered
+-- the client as the desk has it, whether its operations are answered by `+OK`, whether a wrong subject of a publish is told, the moments of the PINGs
+-- that it has not answered, and whether its session lets time pass behind each turn
 pub record Peer : Type 0 where
   pub client : clients.Client
   pub verbose : Bool
   pub pedantic : Bool
   pub pings : List ℕ
+  pub ticks : Bool
 
 -- before the first CONNECT each operation is answered, and each wrong subject told
-abbrev pub new_peer : ℕ → Peer
-new_peer session = record { client = clients.new_client session; verbose = true; pedantic = true; pings = [] }
+abbrev pub new_peer : Bool → ℕ → Peer
+new_peer ticks session = record { client = clients.new_client session; verbose = true; pedantic = true; pings = []; ticks = ticks }
 
 -- ---- what an operation and a tick ask
 
--- what a session carries out in its turn: operations, and then one tick
+-- what a session carries out in its turn: operations, and then one tick, which ends the turn
 pub data Act : Type 0 where
   Hears : Op → Act
   Ticks : Act
@@ -72,9 +73,10 @@ op_request now (Unsub sid max) = Calls (desk.Unsub sid max)
 op_request now Ping = CallsNothing
 op_request now Pong = CallsNothing
 
-abbrev pub request : ℕ → Act → Request
-request now (Hears op) = op_request now op
-request now Ticks = Calls (desk.Tick now)
+-- At a tick, time passes at the desk's next place. A session that does not let it pass itself asks nothing there: somebody else does so for all sessions.
+abbrev pub request : Peer → ℕ → Act → Request
+request peer now (Hears op) = op_request now op
+request peer now Ticks = if peer.ticks then Calls (desk.Tick now) else CallsNothing
 
 -- ---- the client after an operation
 

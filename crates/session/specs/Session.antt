@@ -20,8 +20,8 @@ pub record Converses {D : Type 0} (made : D → List DeskEntry → D → Type 0)
   pub stage : Stage
   pub said : Bytes
   pub more : Bytes
-  pub are_turns : AreTurns limits (start session) turns stage said
-  pub ends : Ends limits (start session) stage (greeting limits session) last ended more
+  pub are_turns : AreTurns limits (start limits session) turns stage said
+  pub ends : Ends limits (start limits session) stage (greeting limits session) last ended more
   pub answered : answered_new ≡ grown answered_old (map (λ (turn : Turn). turn.answer) turns ++ last_answers last)
   pub moments : ReadsMoments clock_old (map (λ (turn : Turn). turn.moment) turns ++ last_moments last) clock_new
   pub led : made desk_old (flat_map entries_of_turn turns ++ entries_of_last last) desk_new

@@ -107,7 +107,7 @@ direct_answer peer request Ticks calls = []
 -- ---- operations and ticks that were carried out
 
 pub record IsSpoken (peer : Peer) (now : ℕ) (spoken : Spoken) : Type 0 where
-  pub asked : AreAsked peer.client (request now spoken.act) spoken.calls
+  pub asked : AreAsked peer.client (request peer now spoken.act) spoken.calls
   pub gathered : AreGathered (peer_after peer spoken.act).client now spoken.gathered
 
 abbrev pub AreSpoken : Peer → ℕ → List Spoken → Type 0
@@ -117,7 +117,7 @@ AreSpoken peer now (spoken ∷ more) = IsSpoken peer now spoken × AreSpoken (pe
 -- the bytes of an operation: its direct answer, and then what was gathered after it
 abbrev pub spoken_bytes : Peer → ℕ → Spoken → Bytes
 spoken_bytes peer now spoken =
-    direct_answer (peer_after peer spoken.act) (request now spoken.act) spoken.act spoken.calls ++ collected spoken.gathered
+    direct_answer (peer_after peer spoken.act) (request peer now spoken.act) spoken.act spoken.calls ++ collected spoken.gathered
 
 -- the bytes of operations one after the other
 abbrev pub heard_bytes : Peer → ℕ → List Spoken → Bytes
@@ -145,8 +145,8 @@ pub record Stage : Type 0 where
   pub peer : Peer
   pub came : Option ℕ
 
-abbrev pub start : ℕ → Stage
-start session = record { held = []; taken = 0; quiets = 0; peer = new_peer session; came = None }
+abbrev pub start : Limits → ℕ → Stage
+start limits session = record { held = []; taken = 0; quiets = 0; peer = new_peer limits.ticks session; came = None }
 
 -- a piece was taken, the operations that are whole by then were carried out, and then the tick
 pub record Hears (old : Stage) (moment : ℕ) (spoken : List Spoken) (bytes : Bytes) (new : Stage) (said : Bytes) : Type 0 where
@@ -215,10 +215,10 @@ AreTurns limits old (turn ∷ more) new said =
 -- The session ends within an operation or a tick by this cause: in its own call or before that, or as what waits after it is gathered. These
 -- are its calls, and this is what is still written of what was said for it.
 pub data IsStopped (peer : Peer) (now : ℕ) (act : Act) (cause : Ended) (calls : List Called) (said : Bytes) : Type 0 where
-  InCall : EndsInCall peer.client (request now act) cause calls said → IsStopped peer now act cause calls said
-  InGathering : (asked after : List Called) (more : Bytes) → calls ≡ asked ++ after → AreAsked peer.client (request now act) asked
+  InCall : EndsInCall peer.client (request peer now act) cause calls said → IsStopped peer now act cause calls said
+  InGathering : (asked after : List Called) (more : Bytes) → calls ≡ asked ++ after → AreAsked peer.client (request peer now act) asked
       → IsCutBy (IsGathering (peer_after peer act).client now) (peer_after peer act).client cause after more
-      → said ≡ still_written cause (direct_answer (peer_after peer act) (request now act) act asked ++ more)
+      → said ≡ still_written cause (direct_answer (peer_after peer act) (request peer now act) act asked ++ more)
       → IsStopped peer now act cause calls said
 
 -- the operations with which the bytes begin, and after all that are whole the tick
@@ -502,8 +502,8 @@ pub record IsTalk (limits : Limits) (session : ℕ) (journal : Journal) (bytes :
   pub stage : Stage
   pub said : Bytes
   pub more : Bytes
-  pub turns : AreTurns limits (start session) journal.turns stage said
-  pub ends : Ends limits (start session) stage (greeting limits session) journal.last ended more
+  pub turns : AreTurns limits (start limits session) journal.turns stage said
+  pub ends : Ends limits (start limits session) stage (greeting limits session) journal.last ended more
   pub closed : IsClosedBy (new_client session) journal.closed
   pub written : bytes ≡ before_last (greeting limits session) journal.last said ++ more
 

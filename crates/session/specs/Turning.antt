@@ -112,7 +112,7 @@ pub record IsLastTurn {D : Type 0} (made : D → List DeskEntry → D → Type 0
   pub last : Last
   pub more : Bytes
   pub greeted : IsGreeted last
-  pub ends : Ends limits (start session) stage (greeting limits session) last ended more
+  pub ends : Ends limits (start limits session) stage (greeting limits session) last ended more
   pub answered : answered_new ≡ grown answered_old (last_answers last)
   pub moments : ReadsMoments clock_old (last_moments last) clock_new
   pub led : made desk_old (entries_of_last last) desk_new

@@ -79,7 +79,7 @@ fn carry_all<D: Desk, L: Link>(
             Err(fault) => return Err(Ended::from(fault)),
         }
     }
-    end_turn(alloc, desk, link, now, &mut out)
+    end_turn(alloc, desk, link, *manners, now, &mut out)
 }
 
 /// Hears a piece: carries out the operations that are whole by then, and then the tick, and gives the bytes of all of them.

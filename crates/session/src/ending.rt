@@ -14,6 +14,8 @@ pub struct Limits {
     /// The server's address, a text that needs no escape in JSON.
     pub host: Blob,
     pub port: u16,
+    /// Whether the session lets time pass behind each turn. It does not where somebody else lets time pass for all sessions.
+    pub ticks: bool,
 }
 
 /// Why a session was refused.

@@ -1,4 +1,4 @@
-//! How a session speaks with its client, and how it keeps the connection alive.
+//! How a session speaks with its client and keeps the connection alive, and whether it lets time pass.
 
 ghost use Rattle.std.specs.Prelude.{◌≡◌, ◌<◌, [], ◌∷◌, ◌++◌, length};
 ghost use Rattle.session.specs.Keeping.{has_passed, is_ping_due, is_stale};
@@ -20,7 +20,7 @@ pub(crate) enum Pings {
     Two(Moment, Moment),
 }
 
-/// How the session speaks with its client.
+/// How the session speaks with its client, and whether it lets time pass.
 #[derive(Clone, Copy)]
 pub(crate) struct Manners {
     /// Whether operations are answered by `+OK`.
@@ -28,6 +28,8 @@ pub(crate) struct Manners {
     /// Whether a wrong subject of a publish is told.
     pub(crate) pedantic: bool,
     pub(crate) pings: Pings,
+    /// Whether the session lets time pass behind each turn. It is so from its start to its end.
+    pub(crate) ticks: bool,
 }
 
 /// Whether so many nanoseconds passed from the one moment to the other. If the moment so much later is past the last one, this is the last one.

@@ -38,15 +38,20 @@ pub(crate) fn carry<D: Desk>(
     }
 }
 
-/// Carries a tick out: lets time pass at the next place, and adds the bytes of what waits for the session after it.
-pub(crate) fn carry_tick<D: Desk>(desk: &mut D, now: Moment, into: &mut Vec<u8>) -> Result<(), Stop>
+/// Carries a tick out: lets time pass at the next place, unless somebody else does, and adds the bytes of what waits for the session after it.
+pub(crate) fn carry_tick<D: Desk>(
+    desk: &mut D,
+    manners: Manners,
+    now: Moment,
+    into: &mut Vec<u8>,
+) -> Result<(), Stop>
     requires is_open { (D.client desk.old).is_open ≡ true }
-    ensures carries { (manners : _) → Carries D.made (peer_of (D.client desk.old) manners) now Ticks desk.old desk.new into.old.items into.new.items result }
+    ensures carries { Carries D.made (peer_of (D.client desk.old) manners) now Ticks desk.old desk.new into.old.items into.new.items result }
     ensures client { D.client desk.new ≡ D.client desk.old }
     ensures is_open { (D.client desk.new).is_open ≡ true }
 {
-    match desk.tick(now) {
-        Ok(()) => gather(desk, now, into),
-        Err(fault) => Err(Stop::from(fault)),
+    if manners.ticks {
+        desk.tick(now)?;
     }
+    gather(desk, now, into)
 }

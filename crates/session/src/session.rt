@@ -81,7 +81,7 @@ fn converse<D: Desk, L: Link, C: Clock>(
         Ok(()) => {}
         Err(fault) => return Ended::from(fault),
     }
-    let mut course = Course::new(alloc);
+    let mut course = Course::new(alloc, limits);
     while course.taken < limits.input && course.quiets < limits.quiet {
         match take_turn(alloc, desk, link, clock, limits, &mut course, &mut room) {
             Ok(()) => {}

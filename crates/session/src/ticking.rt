@@ -9,6 +9,7 @@ ghost use Rattle.session.specs.Ticking.{EndsTurn};
 
 use crate::ending::Ended;
 use crate::giving::give_all;
+use crate::manners::Manners;
 use crate::operation::carry_tick;
 use crate::parting::part_at;
 use js_api::Desk;
@@ -21,11 +22,12 @@ pub(crate) fn end_turn<D: Desk, L: Link>(
     alloc: Global,
     desk: &mut D,
     link: &mut L,
+    manners: Manners,
     now: Moment,
     waiting: &mut Vec<u8>,
 ) -> Result<(), Ended>
     requires is_open { (D.client desk.old).is_open ≡ true }
-    ensures ticks { (manners : _) → EndsTurn result D.made (peer_of (D.client desk.old) manners) now desk.old desk.new
+    ensures ticks { EndsTurn result D.made (peer_of (D.client desk.old) manners) now desk.old desk.new
         waiting.old.items (L.given link.old) (L.given link.new) }
     ensures client { D.client desk.new ≡ D.client desk.old }
     ensures is_open { (D.client desk.new).is_open ≡ true }
@@ -33,7 +35,7 @@ pub(crate) fn end_turn<D: Desk, L: Link>(
     ensures failings { HasNoFailings (L.failings link.old) → FailsIn result (L.failings link.old) (L.failings link.new) }
     ensures cause { HasCause (L.faults link.old) (L.faults link.new) (result ≡ Err Ended.LinkFault) }
 {
-    match carry_tick(desk, now, waiting) {
+    match carry_tick(desk, manners, now, waiting) {
         Ok(()) => {}
         Err(stop) => return Err(part_at(alloc, link, stop, waiting)),
     }

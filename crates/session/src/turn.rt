@@ -37,8 +37,8 @@ pub(crate) struct Course {
 
 impl Course {
     /// Before the first turn.
-    pub(crate) fn new(alloc: Global) -> Course
-        ensures start { (session : _) → stage_of (new_client session) result ≡ start session }
+    pub(crate) fn new(alloc: Global, limits: &Limits) -> Course
+        ensures start { (session : _) → stage_of (new_client session) result ≡ start limits.now session }
         ensures fed { total result.decoder ≡ result.taken }
     {
         Course {
@@ -47,6 +47,7 @@ impl Course {
                 verbose: true,
                 pedantic: true,
                 pings: Pings::Answered,
+                ticks: limits.ticks,
             },
             taken: 0,
             quiets: 0,
@@ -122,7 +123,7 @@ fn rest<D: Desk, L: Link>(
         Err(ended) => return Err(ended),
     }
     let mut waiting = Vec::new(alloc);
-    match end_turn(alloc, desk, link, now, &mut waiting) {
+    match end_turn(alloc, desk, link, course.manners, now, &mut waiting) {
         Ok(()) => {}
         Err(ended) => return Err(ended),
     }

@@ -101,10 +101,9 @@ unturned_exit fault (Err e) old new handed h = unturned e old new (subst (λ (f 
 abbrev pub ticked_at : SharedScene → ℕ → SharedScene
 ticked_at scene ticked = record scene { cursor = record scene.cursor { ticked = ticked } }
 
-pub turned : (found : Option PlaceAt) (old mid new : Standing) → IsLookedBy false (catalog.NextUsed old.scene.cursor.ticked) (catalog.At found) old mid
-    → new.scene ≡ ticked_at mid.scene (place_or old.scene.cursor.ticked found) → new.hub ≡ mid.hub → Makes HubMade (Turns (Ok found)) old new
-turned found old mid new h scene hub =
-    let after : ℕ = old.scene.cursor.ticked in
+pub turned : (after : ℕ) (found : Option PlaceAt) (old mid new : Standing) → IsLookedBy false (catalog.NextUsed after) (catalog.At found) old mid
+    → new.scene ≡ ticked_at mid.scene (place_or after found) → new.hub ≡ mid.hub → Makes HubMade (Turns (Ok found)) old new
+turned after found old mid new h scene hub =
     let fronts : new.scene.fronts ≡ mid.scene.fronts = ap (λ (s : SharedScene). s.fronts) scene in
     let seat : new.scene.fronts.catalog ≡ mid.scene.fronts.catalog = ap (λ (f : Fronts). f.catalog) fronts in
     let old_fronts : mid.scene.fronts ≡ record old.scene.fronts { catalog = mid.scene.fronts.catalog } = ap (λ (s : Standing). s.scene.fronts) h.same in
@@ -117,7 +116,6 @@ turned found old mid new h scene hub =
               mid = old.scene;
               sees = sees_nothing old.scene;
               step = (
-                refl,
                 (
                   subst (λ (s : SeatView). CatalogTurn false (catalog.NextUsed after) (catalog.At found) old.scene.fronts.catalog s) (sym seat) h.turn,
                   fronts ∙ (old_fronts ∙ ap (λ (s : SeatView). record old.scene.fronts { catalog = s }) (sym seat)),
@@ -129,13 +127,12 @@ turned found old mid new h scene hub =
       );
     }
 
-pub ticked_made : (found : Option PlaceAt) (old mid : Standing) (before : ℕ) (hub : HubView) (router : Option SeatView) (side : Side) (row : List (Option SeatView)) (ticked after : ℕ) (last : Option PlaceAt) (turn : Turn)
-    → before ≡ old.scene.cursor.ticked → IsLookedBy false (catalog.NextUsed before) (catalog.At found) old mid → standing hub router side row ticked last turn ≡ mid → after ≡ place_or ticked found
-    → Makes HubMade (Turns (Ok found)) old (standing hub router side row after last turn)
-ticked_made found old mid before hub router side row ticked after last turn before_is h mid_is after_is =
-    let same : ticked ≡ old.scene.cursor.ticked = ap (λ (s : Standing). s.scene.cursor.ticked) mid_is ∙ ap (λ (s : Standing). s.scene.cursor.ticked) h.same in
-    turned found old mid (standing hub router side row after last turn) (subst (λ (n : ℕ). IsLookedBy false (catalog.NextUsed n) (catalog.At found) old mid) before_is h)
-    (ap (λ (s : Standing). ticked_at s.scene after) mid_is ∙ ap (λ (n : ℕ). ticked_at mid.scene n) (after_is ∙ ap (λ (n : ℕ). place_or n found) same))
+pub ticked_made : (after : ℕ) (found : Option PlaceAt) (old mid : Standing) (hub : HubView) (router : Option SeatView) (side : Side) (row : List (Option SeatView)) (before ticked : ℕ) (last : Option PlaceAt) (turn : Turn)
+    → IsLookedBy false (catalog.NextUsed after) (catalog.At found) old mid → standing hub router side row before last turn ≡ mid → ticked ≡ place_or after found
+    → Makes HubMade (Turns (Ok found)) old (standing hub router side row ticked last turn)
+ticked_made after found old mid hub router side row before ticked last turn h mid_is ticked_is =
+    turned after found old mid (standing hub router side row ticked last turn) h
+    (ap (λ (s : Standing). ticked_at s.scene ticked) mid_is ∙ ap (λ (n : ℕ). ticked_at mid.scene n) ticked_is)
     (ap (λ (s : Standing). s.hub) mid_is)
 
 pub resumed : (old : Standing) → Makes HubMade (Resumes (Ok old.scene.cursor.last)) old old

@@ -106,7 +106,7 @@ spent number a b h = by h.at
 one : (a b : SharedScene) (entry : DeskEntry) → SharedStep a entry b → KeepsNumbers a b
 one a b (Routed call told) h = at_router (RouterTurn call told) a b h.0 (λ x y so. turn_same IsRouterHistory _ x y so)
 one a b (Looked joined call told) h = at_catalog (CatalogTurn joined call told) a b h.0 (λ x y so. catalog_same joined call told x y so)
-one a b (Turned after found) h = at_catalog (CatalogTurn false (NextUsed after) (At found)) a b h.1 (λ x y so. turn_same IsCatalogHistory _ x y so)
+one a b (Turned after found) h = at_catalog (CatalogTurn false (NextUsed after) (At found)) a b h.0 (λ x y so. turn_same IsCatalogHistory _ x y so)
 one a b (Resumed last) h = subst (KeepsNumbers a) (sym h.1) (keeps_none a)
 one a b (Held hold) h = at_place (HoldsThere hold) hold.at.place a b h.0 (λ x y so. left_same IsPlaceHistory _ x y so.leaves.leaves)
 one a b (Stirred at before after failed) h = at_place (StirsThere before after failed) at.place a b h.0 (λ x y so. left_same IsPlaceHistory _ x y so.leaves.leaves)

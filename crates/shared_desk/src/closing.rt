@@ -120,6 +120,7 @@ impl<P: Place> Hub<P> {
         let Hub {
             alloc: _,
             roused: _,
+            timers: _,
             router,
             catalog,
             places,

@@ -18,7 +18,7 @@ pub(crate) struct Dealt<S, K: Standing<S>> {
 impl<S, K: Standing<S>> Dealt<S, K> {
     /// A lock round the value. An `Err` gives the value back: there is no memory.
     pub(crate) fn new(alloc: Global, value: S, seats: u32) -> Result<Dealt<S, K>, S>
-        requires seats { (0 < seats) × (seats ≤ 64) }
+        requires seats { (0 < seats) × (seats ≤ 65) }
         requires stands { K.stands (K.opens value) [] value }
         ensures dealt { IfOk result (λ d. IsDealt (K.opens value) seats d.lock d.seats.items) }
         ensures err { IfErr result (λ x. x ≡ value) }

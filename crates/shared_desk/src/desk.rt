@@ -15,7 +15,7 @@ use desk_ground::{Caller, Ground};
 use desk_messaging::{close, collect, options, settle, sub, tick, unsub};
 use js_api::{Desk, DeskFault};
 use js_base::{Moment, Out};
-use js_model::{Collected, Taken};
+use js_model::{Collected, LAST_PLACE, Taken};
 use place_engine::Place;
 use std::marker::Model;
 use std::sync::Wait;
@@ -64,6 +64,16 @@ impl<'a, P: Place, W: Wait> HubDesk<'a, P, W> {
     {
         let HubDesk { ground, caller: _ } = self;
         ground.into_pass()
+    }
+}
+
+impl<'a, P: Place, W: Wait> HubDesk<'a, P, W> {
+    /// The next tick goes to this place, if there is a stream, and else to the next one behind it.
+    pub fn aim(&mut self, place: u32)
+        ensures same { self.new ≡ self.old }
+    {
+        let behind = if place == 0 { LAST_PLACE } else { place - 1 };
+        self.ground.tick_behind(behind);
     }
 }
 

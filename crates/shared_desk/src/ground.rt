@@ -41,6 +41,8 @@ pub struct HubGround<'a, P: Place, W: Wait> {
     places: Vec<Option<Seat<PlaceKind<P>>>>,
     /// The place of the last tick.
     ticked: u32,
+    /// The place behind which the next tick looks for one, if not behind that of the last.
+    behind: Option<u32>,
     /// The place of the last hold, with the incarnation that was asked for there.
     last: Option<PlaceAt>,
     turn: Turn,
@@ -80,6 +82,7 @@ impl<'a, P: Place, W: Wait> HubGround<'a, P, W> {
             catalog: Side::Outside(seat),
             places,
             ticked,
+            behind: None,
             last,
             turn: Turn::Outside,
         }
@@ -98,6 +101,7 @@ impl<'a, P: Place, W: Wait> HubGround<'a, P, W> {
             catalog,
             places,
             ticked,
+            behind: _,
             last,
             turn: _,
         } = self;
@@ -111,6 +115,13 @@ impl<'a, P: Place, W: Wait> HubGround<'a, P, W> {
             ticked,
             last,
         }
+    }
+
+    /// The next tick looks behind this place for one.
+    pub fn tick_behind(&mut self, place: u32)
+        ensures same { self.new ≡ self.old }
+    {
+        self.behind = Some(place);
     }
 
     /// Makes a call of the router in a turn of the caller's seat. An `Err` makes none, since all tickets of the router are drawn.
@@ -234,8 +245,9 @@ impl<'a, P: Place, W: Wait> Ground for HubGround<'a, P, W> {
     }
 
     fn turn(&mut self) -> Result<Option<PlaceAt>, DeskFault> {
-        let found = self.look(Look::NextUsed(self.ticked))?;
-        self.ticked = place_or(self.ticked, found);
+        let after = self.behind.take().unwrap_or(self.ticked);
+        let found = self.look(Look::NextUsed(after))?;
+        self.ticked = place_or(after, found);
         Ok(found)
     }
 
@@ -314,6 +326,7 @@ impl<'a, P: Place, W: Wait> Ground for HubGround<'a, P, W> {
             self.hub.alloc(),
             self.hub.place(at.place),
             self.hub.router(),
+            self.hub.timers(),
             seat,
             at,
             what,

@@ -1,14 +1,15 @@
 //! What many callers share.
 
-ghost use Rattle.std.specs.Prelude.{◌≡◌, ◌<◌, Some, length, slice_get};
+ghost use Rattle.std.specs.Prelude.{◌≡◌, ◌≤◌, ◌<◌, Some, length, slice_get};
 ghost use Rattle.shared_desk.specs.Finding.{messages_found, streams_found};
 ghost use Rattle.shared_desk.specs.Hubs.{IsHub};
 
 use crate::finding::Tally;
 use catalog::Catalog;
 use hub_catalog::CatalogKind;
-use hub_place::{HubPlace, PlaceKind};
+use hub_place::{HubPlace, PlaceKind, Timers};
 use hub_router::RouterKind;
+use js_base::Moment;
 use place_engine::Place;
 use route_core::{Roused, Router};
 use std::alloc::Global;
@@ -21,6 +22,8 @@ pub struct Hub<P: Place> {
     pub(crate) alloc: Global,
     /// The sessions that the router handed messages.
     pub(crate) roused: Arc<Roused>,
+    /// When timers fire at the places.
+    pub(crate) timers: Timers,
     pub(crate) router: Turns<Router, RouterKind>,
     pub(crate) catalog: Turns<Catalog, CatalogKind>,
     pub(crate) places: Vec<Turns<HubPlace<P>, PlaceKind<P>>>,
@@ -70,6 +73,25 @@ impl<P: Place> Hub<P> {
     /// among them.
     pub fn take_roused(&self) -> u64 {
         self.roused.take()
+    }
+
+    /// How many places there are.
+    pub fn places(&self) -> u32
+        ensures value { result ≡ length self.now.places }
+        ensures few { result ≤ 32 }
+    {
+        self.law_hub();
+        self.places.len() as u32
+    }
+
+    /// Whether a timer has fired at a place by a moment: something is due there that time alone brings. It waits for nobody. No clause says that it is so.
+    pub fn is_due(&self, place: u32, now: Moment) -> bool {
+        self.timers.has_fired(place, now)
+    }
+
+    /// When timers fire at the places.
+    pub(crate) fn timers(&self) -> &Timers {
+        &self.timers
     }
 
     /// The allocator of which the calls of its desks take their memory.

@@ -1,4 +1,4 @@
-//! The opening of a hub: a place on each volume, a lock round each and round the router and the catalog, and a pass for each worker.
+//! The opening of a hub: a place on each volume, a lock round each and round the router and the catalog, and a pass for each caller.
 
 ghost use Rattle.std.specs.Prelude.{◌≡◌, ◌≤◌, ◌<◌, ◌+◌, List, [], None, IfErr, IfOk, IfSome, OnOk, length, map, vec_capacity, vec_len};
 ghost use Rattle.std.specs.List.{AllByRecursion, AllZip};
@@ -19,7 +19,7 @@ use crate::pass::Pass;
 use catalog::Catalog;
 use desk_places::{HubFault, Uncataloged, catalog_of, give_back, open_places};
 use hub_catalog::{CatalogKind, law_opening};
-use hub_place::{HubPlace, PlaceKind};
+use hub_place::{HubPlace, PlaceKind, Timers};
 use hub_router::RouterKind;
 use js_base::NoMemory;
 use js_model::LAST_PLACE;
@@ -35,13 +35,13 @@ type Row<P> = Vec<Option<Seat<PlaceKind<P>>>>;
 /// A place behind turns.
 type LockedPlace<P> = Turns<HubPlace<P>, PlaceKind<P>>;
 
-/// A row without seats for each worker, with room for one at each place. `None` is want of memory.
-fn rows_for<P: Place>(alloc: Global, places: usize, workers: u32) -> Option<Vec<Row<P>>>
-    ensures rows { IfSome result (λ rows. map (λ row. row.items) rows.items ≡ rows_of [] workers) }
+/// A row without seats for each caller, with room for one at each place. `None` is want of memory.
+fn rows_for<P: Place>(alloc: Global, places: usize, callers: u32) -> Option<Vec<Row<P>>>
+    ensures rows { IfSome result (λ rows. map (λ row. row.items) rows.items ≡ rows_of [] callers) }
     ensures room { IfSome result (λ rows. AllByRecursion (λ row. places ≤ vec_capacity row) rows.items) }
 {
-    let mut rows = Vec::with_capacity(alloc, workers as usize).ok()?;
-    for _ in 0..workers {
+    let mut rows = Vec::with_capacity(alloc, callers as usize).ok()?;
+    for _ in 0..callers {
         let Ok(row) = Vec::with_capacity(alloc, places) else {
             return None;
         };
@@ -55,16 +55,16 @@ fn lock_place<P: Place>(
     alloc: Global,
     place: P,
     port: Seat<RouterKind>,
-    workers: u32,
+    callers: u32,
 ) -> Result<Dealt<HubPlace<P>, PlaceKind<P>>, (P, Seat<RouterKind>)>
     requires opened { WasOpened P.seen P.vol P.holds P.reads P.left P.clock P.faults P.base P.opens P.refuses P.keeps_vol place }
     requires new { IsNewPort port }
-    requires workers { (0 < workers) × (workers ≤ 32) }
-    ensures dealt { IfOk result (λ d. IsDealt (opening_of (P.seen place).place port) workers d.lock d.seats.items) }
+    requires callers { (0 < callers) × (callers ≤ 33) }
+    ensures dealt { IfOk result (λ d. IsDealt (opening_of (P.seen place).place port) callers d.lock d.seats.items) }
     ensures err { IfErr result (λ e. (e.0 ≡ place) × (e.1 ≡ port)) }
 {
     place.law_kept();
-    match Dealt::new(alloc, HubPlace::of(place, port), workers) {
+    match Dealt::new(alloc, HubPlace::of(place, port), callers) {
         Ok(dealt) => Ok(dealt),
         Err(value) => Err(value.into_parts()),
     }
@@ -93,21 +93,21 @@ fn lock_places<P: Place>(
     alloc: Global,
     places: &mut Vec<P>,
     ports: &mut Vec<Seat<RouterKind>>,
-    workers: u32,
+    callers: u32,
     locks: &mut Vec<LockedPlace<P>>,
     rows: &mut Vec<Row<P>>,
 ) -> Result<(), NoMemory>
     requires opened { AllByRecursion (WasOpened P.seen P.vol P.holds P.reads P.left P.clock P.faults P.base P.opens P.refuses P.keeps_vol) places.old.items }
     requires new { AllByRecursion IsNewPort ports.old.items }
     requires enough { length places.old.items ≤ length ports.old.items }
-    requires workers { (0 < workers) × (workers ≤ 32) }
+    requires callers { (0 < callers) × (callers ≤ 33) }
     requires none { locks.old.items ≡ [] }
     requires room { length places.old.items ≤ vec_capacity locks.old }
-    requires rows { map (λ row. row.items) rows.old.items ≡ rows_of [] workers }
+    requires rows { map (λ row. row.items) rows.old.items ≡ rows_of [] callers }
     requires rooms { AllByRecursion (λ row. length places.old.items ≤ vec_capacity row) rows.old.items }
-    ensures locked { OnOk result (LocksAll P.seen workers places.old.items ports.old.items ports.new.items locks.new.items) }
+    ensures locked { OnOk result (LocksAll P.seen callers places.old.items ports.old.items ports.new.items locks.new.items) }
     ensures emptied { OnOk result (places.new.items ≡ []) }
-    ensures dealt { OnOk result (map (λ row. row.items) rows.new.items ≡ rows_of locks.new.items workers) }
+    ensures dealt { OnOk result (map (λ row. row.items) rows.new.items ≡ rows_of locks.new.items callers) }
     ensures back { IfErr result (λ _. AllZip (ComesBack P.seen P.vol P.holds P.reads P.left P.clock P.faults P.base P.opens P.refuses P.keeps_vol) places.old.items places.new.items) }
     ensures ports { IfErr result (λ _. AllZip IsSameSeat ports.old.items ports.new.items) }
     ensures none { IfErr result (λ _. locks.new.items ≡ []) }
@@ -117,8 +117,8 @@ fn lock_places<P: Place>(
     if places.is_empty() {
         return Ok(());
     }
-    match lock_place(alloc, places.take_last(), ports.take_last(), workers) {
-        Ok(dealt) => match lock_places(alloc, places, ports, workers, locks, rows) {
+    match lock_place(alloc, places.take_last(), ports.take_last(), callers) {
+        Ok(dealt) => match lock_places(alloc, places, ports, callers, locks, rows) {
             Ok(()) => {
                 let Dealt { lock, mut seats } = dealt;
                 locks.push_reserved(lock);
@@ -175,20 +175,20 @@ fn lock_both(
     alloc: Global,
     roused: Arc<Roused>,
     catalog: Catalog,
-    workers: u32,
+    callers: u32,
     places: u32,
 ) -> Option<(Dealt<Router, RouterKind>, Dealt<Catalog, CatalogKind>)>
     requires catalog { (kept : List KeptPlace) × (catalog ≡ catalog_of kept) }
-    requires workers { (0 < workers) × (workers ≤ 32) }
+    requires callers { (0 < callers) × (callers ≤ 33) }
     requires few { places ≤ 32 }
-    ensures router { IfSome result (λ d. IsDealt OfRouter (workers + places) d.0.lock d.0.seats.items) }
-    ensures catalog { IfSome result (λ d. IsDealt (OfCatalog catalog) workers d.1.lock d.1.seats.items) }
+    ensures router { IfSome result (λ d. IsDealt OfRouter (callers + places) d.0.lock d.0.seats.items) }
+    ensures catalog { IfSome result (λ d. IsDealt (OfCatalog catalog) callers d.1.lock d.1.seats.items) }
 {
     law_opening();
-    let Ok(router) = Dealt::new(alloc, Router::rousing(alloc, roused), workers + places) else {
+    let Ok(router) = Dealt::new(alloc, Router::rousing(alloc, roused), callers + places) else {
         return None;
     };
-    match Dealt::new(alloc, catalog, workers) {
+    match Dealt::new(alloc, catalog, callers) {
         Ok(catalog) => Some((router, catalog)),
         Err(_) => {
             router.undo();
@@ -200,6 +200,7 @@ fn lock_both(
 /// The locks of a hub, and its passes.
 struct Laid<P: Place> {
     roused: Arc<Roused>,
+    timers: Timers,
     router: Turns<Router, RouterKind>,
     catalog: Turns<Catalog, CatalogKind>,
     places: Vec<LockedPlace<P>>,
@@ -211,28 +212,29 @@ fn lay<P: Place>(
     alloc: Global,
     catalog: Catalog,
     places: &mut Vec<P>,
-    workers: u32,
+    callers: u32,
 ) -> Option<Laid<P>>
     requires catalog { (kept : List KeptPlace) × (catalog ≡ catalog_of kept) }
     requires opened { AllByRecursion (WasOpened P.seen P.vol P.holds P.reads P.left P.clock P.faults P.base P.opens P.refuses P.keeps_vol) places.old.items }
     requires few { length places.old.items ≤ 32 }
-    requires workers { (0 < workers) × (workers ≤ 32) }
-    ensures laid { IfSome result (λ l. IsLaid P.seen catalog workers places.old.items (record { router = l.router; catalog = l.catalog; places = l.places.items }) l.passes.items) }
+    requires callers { (0 < callers) × (callers ≤ 33) }
+    ensures laid { IfSome result (λ l. IsLaid P.seen catalog callers places.old.items (record { router = l.router; catalog = l.catalog; places = l.places.items }) l.passes.items) }
     ensures emptied { IfSome result (λ _. places.new.items ≡ []) }
     ensures back { result ≡ None → AllZip (ComesBack P.seen P.vol P.holds P.reads P.left P.clock P.faults P.base P.opens P.refuses P.keeps_vol) places.old.items places.new.items }
     ensures room { vec_capacity places.new ≡ vec_capacity places.old }
 {
     let count = places.len();
+    let timers = Timers::of(alloc, places.as_slice())?;
     let roused = Arc::new(alloc, Roused::new()).ok()?;
     let noted = Arc::try_clone(&roused).ok()?;
-    let mut rows = rows_for(alloc, count, workers)?;
-    let Ok(mut passes) = Vec::with_capacity(alloc, workers as usize) else {
+    let mut rows = rows_for(alloc, count, callers)?;
+    let Ok(mut passes) = Vec::with_capacity(alloc, callers as usize) else {
         return None;
     };
     let Ok(mut locks) = Vec::with_capacity(alloc, count) else {
         return None;
     };
-    let Some((mut router, catalog)) = lock_both(alloc, noted, catalog, workers, count as u32) else {
+    let Some((mut router, catalog)) = lock_both(alloc, noted, catalog, callers, count as u32) else {
         locks.destroy_empty();
         return None;
     };
@@ -240,7 +242,7 @@ fn lay<P: Place>(
         alloc,
         places,
         &mut router.seats,
-        workers,
+        callers,
         &mut locks,
         &mut rows,
     ) {
@@ -256,6 +258,7 @@ fn lay<P: Place>(
             deal_passes(rows, routers, catalogs, &mut passes);
             Some(Laid {
                 roused,
+                timers,
                 router,
                 catalog,
                 places: locks,
@@ -272,16 +275,16 @@ fn lay<P: Place>(
 }
 
 impl<P: Place> Hub<P> {
-    /// Opens a place on each volume, at most 32, in their order, and gives out a pass for each of 1 to 32 workers. No session was opened. An `Err` gives
+    /// Opens a place on each volume, at most 32, in their order, and gives out a pass for each of 1 to 33 callers. No session was opened. An `Err` gives
     /// the volumes back, each as its place left it: of the places that were opened by then, nothing is left but their volumes.
     pub fn open(
         alloc: Global,
         vols: Vec<P::Vol>,
-        workers: u32,
+        callers: u32,
     ) -> Result<(Hub<P>, Vec<Pass<P>>), HubFault<P::Vol>>
         requires few { length vols.items ≤ 32 }
-        requires workers { (0 < workers) × (workers ≤ 32) }
-        ensures opened { IfOk result (λ r. OpensHub P.seen P.vol P.holds P.reads P.left P.clock P.faults P.base P.opens P.refuses P.keeps_vol vols.items workers r.0 r.1.items) }
+        requires callers { (0 < callers) × (callers ≤ 33) }
+        ensures opened { IfOk result (λ r. OpensHub P.seen P.vol P.holds P.reads P.left P.clock P.faults P.base P.opens P.refuses P.keeps_vol vols.items callers r.0 r.1.items) }
         ensures err { IfErr result (FailsToOpenHub P.seen P.vol P.holds P.reads P.left P.clock P.faults P.base P.opens P.refuses P.keeps_vol vols.items) }
     {
         let (places, vols) = open_places(alloc, vols)?;
@@ -295,10 +298,11 @@ impl<P: Place> Hub<P> {
             }
         };
         let opened = Tally::of(places.as_slice());
-        match lay(alloc, catalog, &mut places, workers) {
+        match lay(alloc, catalog, &mut places, callers) {
             Some(laid) => {
                 let Laid {
                     roused,
+                    timers,
                     router,
                     catalog,
                     places: locks,
@@ -307,6 +311,7 @@ impl<P: Place> Hub<P> {
                 let hub = Hub {
                     alloc,
                     roused,
+                    timers,
                     router,
                     catalog,
                     places: locks,

@@ -115,7 +115,7 @@ impl<S, P: Standing<S>> Turns<S, P> {
         value: S,
         seats: u32,
     ) -> Result<(Turns<S, P>, Vec<Seat<P>>), (TurnFault, S)>
-        requires seats { (0 < seats) × (seats ≤ 64) }
+        requires seats { (0 < seats) × (seats ≤ 65) }
         requires stands { P.stands (P.opens value) [] value }
         ensures lock { IfOk result (λ t. (t.0.opening ≡ P.opens value) × (t.0.seats ≡ seats)) }
         ensures seats { IfOk result (λ t. t.1.items ≡ new_seats t.0.lock (P.opens value) seats) }

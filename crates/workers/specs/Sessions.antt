@@ -12,7 +12,7 @@ use Rattle.session.specs.declared.ending.Ended.TheVariants as ends
 use Rattle.session.specs.declared.ending.Refusal.TheVariants as refusals
 
 abbrev pub no_limits : Limits
-no_limits = record { input = 0; quiet = 0; host = []; port = 0 }
+no_limits = record { input = 0; quiet = 0; host = []; port = 0; ticks = false }
 
 -- The link with this report was given the bytes of a talk over just what it answered. The talk ended so. One give failed at most, or one call of the
 -- link found no memory at most; then the talk ended so, and no call of the link came after that one.

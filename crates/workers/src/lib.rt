@@ -7,6 +7,7 @@ mod doorway;
 mod lobby;
 mod ringing_desk;
 mod serving;
+mod ticking;
 mod worker;
 
 pub use beginning::Beginning;

@@ -10,8 +10,10 @@ use crate::board::Board;
 use crate::doorway::{Arrival, Doorway};
 use link_edge::Door;
 use session::Ended;
+use std::sync::atomic::{AtomicU64, Ordering};
 use std::sync::ledger::Share;
 use std::sync::{Mutex, Wait};
+use std::time::Duration;
 
 /// The door behind a lock, and the bells of the links that are being served.
 pub(crate) struct Lobby<'a, R: Door, B: Beginning> {
@@ -19,6 +21,8 @@ pub(crate) struct Lobby<'a, R: Door, B: Beginning> {
     entrance: Mutex<()>,
     doorway: Mutex<Doorway<R, B>>,
     board: &'a Board,
+    /// 1 once no more links come.
+    over: AtomicU64,
 }
 
 impl<'a, R: Door, B: Beginning> Lobby<'a, R, B> {
@@ -28,6 +32,7 @@ impl<'a, R: Door, B: Beginning> Lobby<'a, R, B> {
             entrance: Mutex::new(()),
             doorway: Mutex::new(doorway),
             board,
+            over: AtomicU64::new(0),
         }
     }
 
@@ -44,7 +49,27 @@ impl<'a, R: Door, B: Beginning> Lobby<'a, R, B> {
         ensures parts { mine.new.parts ≡ mine.old.parts }
     {
         let _turn = self.entrance.lock(rt);
-        self.doorway.lock(rt).accept(mine)
+        let arrival = self.doorway.lock(rt).accept(mine);
+        if matches!(&arrival, Arrival::Over) {
+            self.end();
+        }
+        arrival
+    }
+
+    /// No more links come. Whoever rests is woken.
+    fn end(&self) {
+        self.over.store(1, Ordering::SeqCst);
+        self.over.wake_all();
+    }
+
+    /// Whether no more links come, as far as a worker has seen. It waits for nobody.
+    pub(crate) fn is_over(&self) -> bool {
+        self.over.load(Ordering::SeqCst) != 0
+    }
+
+    /// Waits for a while, or until no more links come.
+    pub(crate) fn rest<W: Wait>(&self, rt: &W, span: Duration) {
+        self.over.park_timeout(rt, 0, span);
     }
 
     /// Takes back a link that was served.
@@ -69,6 +94,7 @@ impl<'a, R: Door, B: Beginning> Lobby<'a, R, B> {
             entrance: _,
             doorway,
             board: _,
+            over: _,
         } = self;
         doorway.into_inner()
     }

@@ -70,6 +70,13 @@ impl<'a, P: Place, W: Wait> RingingDesk<'a, P, W> {
         desk.into_pass()
     }
 
+    /// The next tick goes to this place, if there is a stream, and else to the next one behind it.
+    pub(crate) fn aim(&mut self, place: u32)
+        ensures same { self.new ≡ self.old }
+    {
+        self.desk.aim(place);
+    }
+
     /// Rings for those who were handed messages, but not for its own session, which looks for itself.
     fn ring(&self) {
         self.board

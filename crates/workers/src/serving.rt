@@ -11,7 +11,7 @@ use crate::beginning::Beginning;
 use crate::board::Board;
 use crate::doorway::{Doorway, Stop};
 use crate::lobby::Lobby;
-use crate::worker::{Worker, Workplace};
+use crate::worker::{Duty, Worker, Workplace};
 use link_edge::{Clock, Door, Gate};
 use place_engine::Place;
 use session::Limits;
@@ -69,7 +69,7 @@ impl<P: Place, C: Clock + Drop, B: Beginning> Rooms<P, C, B> {
     }
 }
 
-/// Gives each clock and each pass to a worker, the last ones first.
+/// Gives each clock and each pass to a worker, the last ones first. The first that is hired, with the last pass, lets time pass; the others serve links.
 fn hire<P: Place, C: Clock, B: Beginning>(
     passes: &mut Vec<Pass<P>>,
     clocks: Vec<C>,
@@ -88,13 +88,18 @@ fn hire<P: Place, C: Clock, B: Beginning>(
     while let Some(clock) = clocks.pop() {
         let pass = passes.take_last();
         let number = u32::try_from(passes.len()).unwrap_or(u32::MAX);
+        let duty = if workers.is_empty() {
+            Duty::Timers
+        } else {
+            Duty::Links
+        };
         workers.push_reserved(Worker {
             number,
+            duty,
             pass: Some(pass),
             clock,
             share: all.split_off(1, 0),
             passed: 0,
-            ticks: true,
             worn: false,
             starved: false,
         });
@@ -262,9 +267,10 @@ where
     }
 }
 
-/// Serves the links that the door gives out, `accepts` of them at most if that is some number, by a worker for each pass of the hub, in threads of their
-/// own, each with a twin of the clock. It ends once the door is closed or has failed, or as many links were accepted, and all that were accepted are
-/// given back. A worker for whom no link comes lets time pass at one place after the other. It passes the gate before and after each link.
+/// Serves the links that the door gives out, `accepts` of them at most if that is some number, by a worker for each pass of the hub but the last, in threads
+/// of their own, each with a twin of the clock. It ends once the door is closed or has failed, or as many links were accepted, and all that were accepted
+/// are given back. A worker passes the gate before and after each link. One more thread, with the last pass, lets time pass at each place where a timer
+/// fires, at the latest some 20 milliseconds after that, unless it waits for its turn at another place.
 pub fn serve_all<
     P: Place + Send + Sync,
     R: Door + Send,
@@ -286,7 +292,7 @@ where
     R::Link: Rings + Send,
     P::Vol: Sync,
     requires own { AllByRecursion (IsPassOf hub.now) passes.items }
-    requires some { 0 < length passes.items }
+    requires some { 1 < length passes.items }
     requires input { limits.now.input < 2 ^ 62 }
     requires host { is_plain limits.now.host ≡ true }
     ensures serves { Serves limits.now accepts hub.now passes.items result.passes.items

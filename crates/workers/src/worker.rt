@@ -10,7 +10,6 @@ use crate::beginning::Beginning;
 use crate::doorway::{Arrival, is_starved, is_worn};
 use crate::lobby::Lobby;
 use crate::ringing_desk::RingingDesk;
-use js_api::{Desk, DeskFault};
 use link_edge::{Clock, Door, Gate, Link};
 use place_engine::Place;
 use session::{Ended, Limits, serve_link};
@@ -30,17 +29,25 @@ pub(crate) struct Workplace<'a, P: Place, G: Gate, W: Wait> {
     pub(crate) limits: &'a Limits,
 }
 
-/// A worker that serves one link at a time.
+/// What a worker does.
+#[derive(Clone, Copy)]
+pub(crate) enum Duty {
+    /// It serves links, one at a time.
+    Links,
+    /// It lets time pass where timers fire.
+    Timers,
+}
+
+/// A worker in a thread of its own.
 pub(crate) struct Worker<P: Place, C: Clock, B: Beginning> {
     pub(crate) number: u32,
+    pub(crate) duty: Duty,
     /// It is away while a call is made with it.
     pub(crate) pass: Option<Pass<P>>,
     pub(crate) clock: C,
     pub(crate) share: Share<B>,
     /// How many times it passed the gate, twice for each link.
     pub(crate) passed: u64,
-    /// Whether it still lets time pass while no link comes: it does not if the numbers were used up by that.
-    pub(crate) ticks: bool,
     /// Whether a session ended for want of numbers.
     pub(crate) worn: bool,
     /// Whether a tick or a session found no memory.
@@ -54,8 +61,29 @@ fn bell_of<L: Rings>(link: &L) -> Option<Arc<Bell>> {
 }
 
 impl<P: Place, C: Clock, B: Beginning> Worker<P, C, B> {
-    /// Serves link after link until no more come.
+    /// Does its duty until no more links come.
     pub(crate) fn work<R: Door, G: Gate, W: Wait>(
+        &mut self,
+        place: &Workplace<'_, P, G, W>,
+        lobby: &Lobby<'_, R, B>,
+    )
+    where
+        R::Link: Rings,
+        requires idle { IsIdle place.now.hub.now self.old.pass self.old.share.parts self.old.share.amount }
+        requires limits { place.now.limits.now ≡ B.limits }
+        requires input { place.now.limits.now.input < 2 ^ 62 }
+        requires host { is_plain place.now.limits.now.host ≡ true }
+        ensures idle { IsIdle place.now.hub.now self.new.pass self.new.share.parts self.new.share.amount }
+        ensures worked { Worked B.limits self.old.pass self.new.pass self.old.worn self.new.worn }
+    {
+        match self.duty {
+            Duty::Links => self.serve_links(place, lobby),
+            Duty::Timers => self.keep_time(place, lobby),
+        }
+    }
+
+    /// Serves link after link until no more come.
+    fn serve_links<R: Door, G: Gate, W: Wait>(
         &mut self,
         place: &Workplace<'_, P, G, W>,
         lobby: &Lobby<'_, R, B>,
@@ -76,7 +104,7 @@ impl<P: Place, C: Clock, B: Beginning> Worker<P, C, B> {
         }
     }
 
-    /// Serves the next link. While none comes, it lets time pass. It answers whether more may come.
+    /// Serves the next link, if one comes. It answers whether more may come.
     fn round<R: Door, G: Gate, W: Wait>(
         &mut self,
         place: &Workplace<'_, P, G, W>,
@@ -96,10 +124,7 @@ impl<P: Place, C: Clock, B: Beginning> Worker<P, C, B> {
                 self.serve(place, lobby, link);
                 true
             }
-            Arrival::Nobody => {
-                self.tick(place, lobby);
-                true
-            }
+            Arrival::Nobody => true,
             Arrival::Starved => {
                 self.starved = true;
                 true
@@ -161,46 +186,6 @@ impl<P: Place, C: Clock, B: Beginning> Worker<P, C, B> {
         self.worn |= is_worn(ended);
         self.starved |= is_starved(ended);
     }
-
-    /// Lets time pass at one place.
-    fn tick<R: Door, G: Gate, W: Wait>(
-        &mut self,
-        place: &Workplace<'_, P, G, W>,
-        lobby: &Lobby<'_, R, B>,
-    )
-        requires idle { IsIdle place.now.hub.now self.old.pass self.old.share.parts self.old.share.amount }
-        ensures idle { IsIdle place.now.hub.now self.new.pass self.new.share.parts self.new.share.amount }
-        ensures worked { Worked B.limits self.old.pass self.new.pass self.old.worn self.new.worn }
-    {
-        if !self.ticks {
-            return;
-        }
-        let Some(pass) = self.pass.take() else {
-            unreachable!()
-        };
-        let mut desk = RingingDesk::new(
-            place.rt,
-            place.hub,
-            pass,
-            lobby.board(),
-            self.number,
-            None,
-        );
-        let ticked = desk.tick(self.clock.now());
-        self.pass = Some(desk.into_pass());
-        self.note_tick(ticked);
-    }
-
-    /// Notes how a tick ended.
-    fn note_tick(&mut self, ticked: Result<(), DeskFault>)
-        ensures kept { (self.new.pass ≡ self.old.pass) × (self.new.share ≡ self.old.share) × (self.new.worn ≡ self.old.worn) }
-    {
-        match ticked {
-            Err(DeskFault::Worn(_)) => self.ticks = false,
-            Err(DeskFault::NoMemory) => self.starved = true,
-            _ => {}
-        }
-    }
 }
 
 impl<P: Place, C: Clock + Drop, B: Beginning> Worker<P, C, B> {
@@ -213,11 +198,11 @@ impl<P: Place, C: Clock + Drop, B: Beginning> Worker<P, C, B> {
     {
         let Worker {
             number: _,
+            duty: _,
             pass,
             clock: _,
             share,
             passed: _,
-            ticks: _,
             worn,
             starved,
         } = self;

@@ -49,7 +49,7 @@ returns-clause-hears g c =
     let idle = rw c.in-Ok-false.field-0-test at c.in-Ok-false.ensures.carries in
     let same = answering_idle _ _ _ _ _ _ _ _ _ _ _ _ _ _ _ i.answering idle in
     hears_ticked _ g.met.D.Desk.made_more _ _ c.end_turn.result _ _ _ _ _ _ _ _ _ _ _ _ same (c.carry_next.ensures.total ∙ i.fed) (ap (λ (h : Held). op_at h.bytes) idle.held ∙ idle.partial)
-    (c.end_turn.ensures.ticks c.carry_next.new.manners) (ap (λ (client : Client). peer_of client c.carry_next.new.manners) c.end_turn.ensures.client)
+    c.end_turn.ensures.ticks (ap (λ (client : Client). peer_of client c.carry_next.new.manners) c.end_turn.ensures.client)
 
 pub returns-clause-session : goal.returns-clause-session
 returns-clause-session g c = ap (λ (client : Client). client.session) c.end_turn.ensures.client ∙ c.carry_next.ensures.session ∙ c.loop-stop.invariant.session

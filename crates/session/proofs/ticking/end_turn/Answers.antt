@@ -4,15 +4,15 @@ use Rattle.session.proofs.Failed.{giving_fails}
 use Rattle.session.proofs.ticking.end_turn.Goals as goal
 
 pub returns-in-Err-clause-ticks : goal.returns-in-Err-clause-ticks
-returns-in-Err-clause-ticks g c = λ manners. tick_parted _ _ _ _ _ _ _ _ _ c.in-Err.stop _ (c.in-Err.ensures.carries manners) c.part_at.ensures.parts
+returns-in-Err-clause-ticks g c = tick_parted _ _ _ _ _ _ _ _ _ c.in-Err.stop _ c.in-Err.ensures.carries c.part_at.ensures.parts
 
 pub returns-in-Ok-give_all-clause-ticks : goal.returns-in-Ok-give_all-clause-ticks
 returns-in-Ok-give_all-clause-ticks g c =
-    λ manners. ticked_whole _ _ _ _ _ _ _ _ _ (c.in-Ok.ensures.carries manners) (rw c.as_slice.ensures.value at c.in-Ok-give_all.ensures.given)
+    ticked_whole _ _ _ _ _ _ _ _ _ c.in-Ok.ensures.carries (rw c.as_slice.ensures.value at c.in-Ok-give_all.ensures.given)
 
 pub returns-in-Err-give_all-clause-ticks : goal.returns-in-Err-give_all-clause-ticks
 returns-in-Err-give_all-clause-ticks g c =
-    λ manners. tick_given _ _ _ _ _ _ _ _ _ c.in-Err-give_all.fault _ (c.in-Ok.ensures.carries manners)
+    tick_given _ _ _ _ _ _ _ _ _ c.in-Err-give_all.fault _ c.in-Ok.ensures.carries
     (rw c.as_slice.ensures.value at c.in-Err-give_all.ensures.given) c.from.ensures
 
 pub returns-in-Err-give_all-clause-failings : goal.returns-in-Err-give_all-clause-failings

@@ -12,7 +12,7 @@ use Rattle.shared_desk.proofs.opening.+lock_places.Goals as goal
 
 pub returns-then-is_empty-clause-locked : goal.returns-then-is_empty-clause-locked
 returns-then-is_empty-clause-locked g t c =
-    locks_begun g.P.Place.seen c.args.workers c.args.places.now.items c.args.ports.now.items c.args.locks.now.items (emptied c.args.places.now.items _ c.is_empty.result c.args.places.now.ok.0 c.is_empty.ensures c.if-is_empty.true) c.requires.none
+    locks_begun g.P.Place.seen c.args.callers c.args.places.now.items c.args.ports.now.items c.args.locks.now.items (emptied c.args.places.now.items _ c.is_empty.result c.args.places.now.ok.0 c.is_empty.ensures c.if-is_empty.true) c.requires.none
 
 pub lock_place-requires-clause-opened : goal.lock_place-requires-clause-opened
 lock_place-requires-clause-opened g t c =
@@ -40,7 +40,7 @@ lock_places-requires g t c =
               (
                 omega (arith, fewer, ports, c.requires.enough),
                 (
-                  c.requires.workers,
+                  c.requires.callers,
                   (
                     c.requires.none,
                     (
@@ -61,17 +61,17 @@ lock_places-requires g t c =
 
 pub deal-requires-clause-as_many : goal.deal-requires-clause-as_many
 deal-requires-clause-as_many g t c =
-    dealt_long _ c.args.workers c.in-Ok.dealt.lock c.in-Ok.dealt.seats.items c.in-Ok.ensures.dealt ∙ sym (all_long c.lock_places.new.rows.items c.lock_places.new.locks.items c.args.workers c.in-Ok-lock_places.ensures.dealt)
+    dealt_long _ c.args.callers c.in-Ok.dealt.lock c.in-Ok.dealt.seats.items c.in-Ok.ensures.dealt ∙ sym (all_long c.lock_places.new.rows.items c.lock_places.new.locks.items c.args.callers c.in-Ok-lock_places.ensures.dealt)
 
 pub deal-requires-clause-room : goal.deal-requires-clause-room
 deal-requires-clause-room g t c =
     let fewer : length c.args.places.now.items ≡ length c.take_last.new.self.items + 1 = ap length c.take_last.ensures.items ∙ length-append c.take_last.new.self.items (c.take_last.result ∷ []) in
-    rooms_left c.args.rows.now.items c.lock_places.new.rows.items c.lock_places.new.locks.items (length c.args.places.now.items) c.args.workers
+    rooms_left c.args.rows.now.items c.lock_places.new.rows.items c.lock_places.new.locks.items (length c.args.places.now.items) c.args.callers
     (omega (arith, c.in-Ok-lock_places.ensures.locked.count, fewer))
     c.requires.rooms c.lock_places.ensures.rooms c.in-Ok-lock_places.ensures.dealt
 
 pub undo-requires : goal.undo-requires
-undo-requires g t c = record { all = dealt_all _ c.args.workers c.in-Ok.dealt.lock c.in-Ok.dealt.seats.items c.requires.workers.0 c.in-Ok.ensures.dealt }
+undo-requires g t c = record { all = dealt_all _ c.args.callers c.in-Ok.dealt.lock c.in-Ok.dealt.seats.items c.requires.callers.0 c.in-Ok.ensures.dealt }
 
 pub push_reserved-requires-in-Err-lock_places : goal.push_reserved-requires-in-Err-lock_places
 push_reserved-requires-in-Err-lock_places g t c =
@@ -86,13 +86,13 @@ push_reserved-requires-in-Err-lock_places-2 g t c =
 
 pub returns-in-Ok-lock_places-clause-locked : goal.returns-in-Ok-lock_places-clause-locked
 returns-in-Ok-lock_places-clause-locked g t c =
-    locks_on g.P.Place.seen c.args.workers c.args.places.now.items c.take_last.new.self.items c.take_last.result c.args.ports.now.items c.take_last-2.new.self.items c.lock_places.new.ports.items c.take_last-2.result
+    locks_on g.P.Place.seen c.args.callers c.args.places.now.items c.take_last.new.self.items c.take_last.result c.args.ports.now.items c.take_last-2.new.self.items c.lock_places.new.ports.items c.take_last-2.result
     c.push_reserved.new.self.items c.lock_places.new.locks.items c.in-Ok.dealt.lock c.in-Ok.dealt.seats.items c.take_last.ensures.items c.take_last-2.ensures.items c.push_reserved.ensures.items c.requires.new c.in-Ok.ensures.dealt
     c.in-Ok-lock_places.ensures.locked
 
 pub returns-in-Ok-lock_places-clause-dealt : goal.returns-in-Ok-lock_places-clause-dealt
 returns-in-Ok-lock_places-clause-dealt g t c =
-    put_dealt _ c.args.workers c.in-Ok.dealt.lock c.in-Ok.dealt.seats.items c.push_reserved.new.self.items c.lock_places.new.locks.items _ _ c.in-Ok.ensures.dealt c.push_reserved.ensures.items c.in-Ok-lock_places.ensures.dealt c.deal.ensures.dealt
+    put_dealt _ c.args.callers c.in-Ok.dealt.lock c.in-Ok.dealt.seats.items c.push_reserved.new.self.items c.lock_places.new.locks.items _ _ c.in-Ok.ensures.dealt c.push_reserved.ensures.items c.in-Ok-lock_places.ensures.dealt c.deal.ensures.dealt
 
 pub returns-in-Err-lock_places-clause-back : goal.returns-in-Err-lock_places-clause-back
 returns-in-Err-lock_places-clause-back g t c =
@@ -102,7 +102,7 @@ returns-in-Err-lock_places-clause-back g t c =
     (rw c.into_parts-place.ensures.place
     (back_again P.seen P.vol P.holds P.reads P.left P.clock P.faults P.base P.opens P.refuses P.keeps_vol c.take_last.result c.undo.result.place c.take_last-2.result c.undo.result.port
     (at_last IsNewPort c.args.ports.now.items c.take_last-2.new.self.items c.take_last-2.result c.take_last-2.ensures.items c.requires.new) c.in-Ok.dealt.lock.opening c.in-Ok.ensures.dealt.opens
-    (c.undo.ensures.unmade (dealt_unmade _ c.args.workers c.in-Ok.dealt.lock c.in-Ok.dealt.seats.items c.in-Ok.ensures.dealt))))
+    (c.undo.ensures.unmade (dealt_unmade _ c.args.callers c.in-Ok.dealt.lock c.in-Ok.dealt.seats.items c.in-Ok.ensures.dealt))))
 
 pub returns-in-Err-lock_places-clause-ports : goal.returns-in-Err-lock_places-clause-ports
 returns-in-Err-lock_places-clause-ports g t c =
@@ -112,7 +112,7 @@ returns-in-Err-lock_places-clause-ports g t c =
     (rw c.into_parts-place.ensures.port
     (same_again P.seen P.vol P.holds P.reads P.left P.clock P.faults P.base P.opens P.refuses P.keeps_vol c.take_last.result c.undo.result.place c.take_last-2.result c.undo.result.port
     (at_last IsNewPort c.args.ports.now.items c.take_last-2.new.self.items c.take_last-2.result c.take_last-2.ensures.items c.requires.new) c.in-Ok.dealt.lock.opening c.in-Ok.ensures.dealt.opens
-    (c.undo.ensures.unmade (dealt_unmade _ c.args.workers c.in-Ok.dealt.lock c.in-Ok.dealt.seats.items c.in-Ok.ensures.dealt))))
+    (c.undo.ensures.unmade (dealt_unmade _ c.args.callers c.in-Ok.dealt.lock c.in-Ok.dealt.seats.items c.in-Ok.ensures.dealt))))
 
 pub returns-in-Err-clause-back : goal.returns-in-Err-clause-back
 returns-in-Err-clause-back g t c =

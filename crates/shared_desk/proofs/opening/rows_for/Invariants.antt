@@ -10,5 +10,5 @@ invariant-loop g l = record {
   made : map (λ row. row.items) l.rows.items ≡ rows_of [] l.counter;
   room : AllByRecursion (λ row. l.places ≤ vec_capacity row) l.rows.items;
   count : vec_len l.rows ≡ l.counter;
-  fits : l.workers ≤ vec_capacity l.rows;
+  fits : l.callers ≤ vec_capacity l.rows;
 }

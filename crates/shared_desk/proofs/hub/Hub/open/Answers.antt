@@ -54,13 +54,13 @@ returns-in-None-clause-err g c =
 pub returns-in-Some-clause-opened : goal.returns-in-Some-clause-opened
 returns-in-Some-clause-opened g c =
     let P = g.P.Place in
-    opens_hub P.seen P.vol P.holds P.reads P.left P.clock P.faults P.base P.opens P.refuses P.keeps_vol c.args.vols.items c.in-Ok.catalog c.args.workers c.in_ok-places.places.items _ _ c.in_ok-places.ensures.opened
+    opens_hub P.seen P.vol P.holds P.reads P.left P.clock P.faults P.base P.opens P.refuses P.keeps_vol c.args.vols.items c.in-Ok.catalog c.args.callers c.in_ok-places.places.items _ _ c.in_ok-places.ensures.opened
     (rw c.as_slice.ensures.value at c.in-Ok.ensures.opened) c.in-Ok.ensures.apart c.in-Some.ensures.laid
 
 pub invariant_of-hub : goal.invariant_of-hub
 invariant_of-hub g c =
     let P = g.P.Place in
     let as_many : length c.in_ok-places.places.items ≡ length c.args.vols.items = AllZip-long (OpensOn P.seen P.vol P.holds P.reads P.left P.clock P.faults P.base P.opens P.refuses P.keeps_vol) c.args.vols.items c.in_ok-places.places.items c.in_ok-places.ensures.opened in
-    equipped P.seen c.in-Ok.catalog c.args.workers c.in_ok-places.places.items _ _ _ _ _ _ _ (rw c.as_slice.ensures.value at c.in-Ok.ensures.opened) (omega (arith, as_many, c.requires.few)) c.requires.workers.0 c.in-Some.ensures.laid
+    equipped P.seen c.in-Ok.catalog c.args.callers c.in_ok-places.places.items _ _ _ _ _ _ _ (rw c.as_slice.ensures.value at c.in-Ok.ensures.opened) (omega (arith, as_many, c.requires.few)) c.requires.callers.0 c.in-Some.ensures.laid
     c.in-Some.ensures.emptied (omega (arith, c.in_ok-places.places.ok.0, c.in_ok-places.places.ok.1, c.lay.ensures.room)) c.in_ok-places.ensures.emptied (omega (arith, c.in_ok-places.ensures.room)) (rw c.as_slice-2.ensures.value at c.of-opened.ensures.streams)
     (rw c.as_slice-2.ensures.value at c.of-opened.ensures.messages)

@@ -1,5 +1,5 @@
 use Rattle.workers.proofs.Deeds.{worked_more, worked_nothing}
-use Rattle.workers.proofs.worker.Worker.work.Goals as goal
+use Rattle.workers.proofs.worker.Worker.serve_links.Goals as goal
 
 pub loop-init : goal.loop-init
 loop-init g c = (c.requires.idle, worked_nothing g.B.Beginning.limits c.requires.idle.scene c.args.self.now.pass c.args.self.now.worn c.requires.idle.there)
