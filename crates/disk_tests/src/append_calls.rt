@@ -8,7 +8,8 @@ use vol_disk::{Call, Deed, MemVol};
 fn write_len(call: &Call) -> Option<usize> {
     match &call.deed {
         Deed::Write { at: _, bytes } => Some(bytes.len()),
-        Deed::Len | Deed::Read { at: _, count: _ } | Deed::Cut { to: _ } | Deed::Sync => None,
+        Deed::Len | Deed::Read { at: _, count: _ } | Deed::Cut { to: _ } | Deed::Sync | Deed::End =>
+            None,
     }
 }
 

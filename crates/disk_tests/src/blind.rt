@@ -134,6 +134,14 @@ impl Vol for Blind {
         self.counted(synced)
     }
 
+    fn files_end(&mut self) -> Result<u64, Failed> {
+        let end = self.vol.files_end();
+        self.counted(end)
+    }
+
+    /// It tells nobody.
+    fn tell_stopped(&self, _stream: &[u8], _full: bool) {}
+
     fn faults(&self) -> u64 {
         self.faults
     }

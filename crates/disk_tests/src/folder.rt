@@ -40,7 +40,8 @@ fn fails_past_the_end(vol: &mut DirVol) -> bool {
 fn fails_without_folder(vol: &mut DirVol) -> bool {
     let len = vol.len(0);
     let synced = vol.sync(0);
-    len.is_err() && synced.is_err() && vol.faults() == 2
+    let end = vol.files_end();
+    len.is_err() && synced.is_err() && end.is_err() && vol.faults() == 3
 }
 
 /// A volume over a folder keeps what was written, under the names that it states.
@@ -58,6 +59,7 @@ fn folder_keeps_what_was_written(rt: HostRuntime) -> Result<(), Fail> {
     ] {
         assert!(rt; holds(rt.alloc(), &mut vol, file, bytes)?);
     }
+    assert!(rt; vol.files_end()? == 40);
     assert!(rt; fails_past_the_end(&mut vol));
     assert!(rt; lies_in(&rt, "dir_vol_test/place-07/f00000", b"Jello")?);
     assert!(rt; fails_without_folder(&mut DirVol::open(&rt, "dir_vol_test/place-07/f00000", 7)));

@@ -22,6 +22,7 @@ fn letter(deed: &Deed) -> u8 {
         Deed::Write { at: _, bytes: _ } => b'w',
         Deed::Cut { to: _ } => b'c',
         Deed::Sync => b's',
+        Deed::End => b'e',
     }
 }
 
