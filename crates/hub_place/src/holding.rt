@@ -48,7 +48,7 @@ impl<'a, P: Place> Fits<HoldMade<'a, P>, Past> for EntriesMade<P> {
 }
 
 /// Asks this of the stream of a place at a moment, in a turn of this seat, and sends all that this sends by the port of the place before the turn is left.
-/// Then it tells when a timer fires there next. Its entries are those of the desk that asks, and what they made at the place is left there with the seat's number. If all tickets of the place are
+/// Then it tells when somebody has to let time pass there. Its entries are those of the desk that asks, and what they made at the place is left there with the seat's number. If all tickets of the place are
 /// drawn, nothing is made, and the fault tells the one that is never drawn, 2^62.
 pub fn hold_at<P: Place, W: Wait>(
     rt: &W,
@@ -76,7 +76,7 @@ pub fn hold_at<P: Place, W: Wait>(
             let (outcome, value, entries) = hold_by(
                 rt, alloc, router, value, &number, at, what, now,
             );
-            timers.end(at.place, &value.place);
+            timers.end(at.place, &value.place, &outcome);
             (outcome, place.leave(Held { value, seat }, entries))
         }
         Err((fault, seat)) => (unmade(ticket_of(fault)), seat),

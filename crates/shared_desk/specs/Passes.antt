@@ -80,7 +80,7 @@ pub record AreAllPasses (hub : HubView) (passes : List SharedScene) : Type 0 whe
   pub catalog : HasAll hub.catalog.seats (numbers_by catalog_numbers passes)
   pub places : (n : ℕ) (place : LockView) → slice_get hub.places n ≡ Some place → HasAll place.seats (numbers_by (place_numbers n) passes)
 
--- it has seen nothing, and its first tick goes to the first used place
+-- it has seen nothing and made no hold, and its last tick counts as one at the last place
 pub record IsNewPass (pass : SharedScene) : Type 0 where
   pub router : pass.fronts.router.front ≡ []
   pub catalog : pass.fronts.catalog.front ≡ []

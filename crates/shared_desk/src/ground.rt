@@ -196,12 +196,14 @@ impl<'a, P: Place, W: Wait> Ground for HubGround<'a, P, W> {
         queue: Option<&[u8]>,
         sid: &[u8],
     ) -> Result<(), DeskFault> {
-        desk_answer(self.route(&SubCall {
+        let answer = desk_answer(self.route(&SubCall {
             session,
             subject,
             queue,
             sid,
-        })?)
+        })?);
+        self.hub.timers().note_subscription();
+        answer
     }
 
     fn unsub(&mut self, session: u64, sid: &[u8], max: Option<u64>) -> Result<(), DeskFault> {

@@ -22,7 +22,7 @@ pub struct Hub<P: Place> {
     pub(crate) alloc: Global,
     /// The sessions that the router handed messages.
     pub(crate) roused: Arc<Roused>,
-    /// When timers fire at the places.
+    /// When somebody has to let time pass at the places.
     pub(crate) timers: Timers,
     pub(crate) router: Turns<Router, RouterKind>,
     pub(crate) catalog: Turns<Catalog, CatalogKind>,
@@ -84,12 +84,13 @@ impl<P: Place> Hub<P> {
         self.places.len() as u32
     }
 
-    /// Whether a timer has fired at a place by a moment: something is due there that time alone brings. It waits for nobody. No clause says that it is so.
+    /// Whether somebody has to let time pass at a place by a moment: something is due there that time alone brings, more can be delivered than the last hold
+    /// delivered, or somebody subscribed since it. It waits for nobody. No clause says that it is so.
     pub fn is_due(&self, place: u32, now: Moment) -> bool {
-        self.timers.has_fired(place, now)
+        self.timers.is_due(place, now)
     }
 
-    /// When timers fire at the places.
+    /// When somebody has to let time pass at the places.
     pub(crate) fn timers(&self) -> &Timers {
         &self.timers
     }

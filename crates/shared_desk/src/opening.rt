@@ -162,7 +162,7 @@ fn deal_passes<P: Place>(
             router: Some(routers.take_last()),
             catalog: Some(catalogs.take_last()),
             places: rows.take_last(),
-            // so that the first tick goes to the first used place
+            // a tick that is not aimed goes to the first used place
             ticked: LAST_PLACE,
             last: None,
         });

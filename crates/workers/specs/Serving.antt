@@ -37,7 +37,7 @@ HaveWorked limits [] (deeds ∷ more) news = ⊥
 HaveWorked limits (old ∷ olds) [] news = ⊥
 HaveWorked limits (old ∷ olds) (deeds ∷ more) [] = ⊥
 
--- Each worker served links, one after the other, until no more came: the door was closed or failed, or had given out as many as were to be accepted. If
+-- Each worker served links, one after the other, or let time pass, until no more links came: the door was closed or failed, or had given out as many as were to be accepted. If
 -- the door tells of its links, as many came back as it gave out, and each was served. A session ended for want of numbers just if that was noted: by
 -- the worker that served it, and at the door.
 pub record IsService (limits : Limits) (accepts : Option ℕ) (hub : HubView) (olds news : List SharedScene) (begun now : DoorTold) (stop : Stop) (worn starved : Bool) : Type 0 where

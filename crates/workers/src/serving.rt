@@ -270,7 +270,7 @@ where
 /// Serves the links that the door gives out, `accepts` of them at most if that is some number, by a worker for each pass of the hub but the last, in threads
 /// of their own, each with a twin of the clock. It ends once the door is closed or has failed, or as many links were accepted, and all that were accepted
 /// are given back. A worker passes the gate before and after each link. One more thread, with the last pass, lets time pass at each place where a timer
-/// fires, at the latest some 20 milliseconds after that, unless it waits for its turn at another place.
+/// fires, at the latest some 20 milliseconds after that, unless it waits for its turn at another place or at the catalog.
 pub fn serve_all<
     P: Place + Send + Sync,
     R: Door + Send,

@@ -1,4 +1,4 @@
-//! The worker that lets time pass: it waits for no link, and enters a place's turn only where a timer has fired.
+//! The worker that lets time pass: it waits for no link, and enters a place's turn only where it is due.
 
 ghost use Rattle.std.specs.Prelude.{◌≡◌, true};
 ghost use Rattle.workers.specs.Working.{IsIdle, Worked};
@@ -18,7 +18,7 @@ use std::time::Duration;
 const REST_MS: u64 = 20;
 
 impl<P: Place, C: Clock, B: Beginning> Worker<P, C, B> {
-    /// Lets time pass wherever a timer fires, until no more links come.
+    /// Lets time pass wherever it is due, until no more links come.
     pub(crate) fn keep_time<R: Door, G: Gate, W: Wait>(
         &mut self,
         place: &Workplace<'_, P, G, W>,
@@ -37,7 +37,7 @@ impl<P: Place, C: Clock, B: Beginning> Worker<P, C, B> {
         }
     }
 
-    /// Lets time pass at each place where a timer has fired.
+    /// Lets time pass at each place where it is due.
     fn tick_all<R: Door, G: Gate, W: Wait>(
         &mut self,
         place: &Workplace<'_, P, G, W>,

@@ -13,7 +13,7 @@ pub returns-in_err-route-clause-made : goal.returns-in_err-route-clause-made
 returns-in_err-route-clause-made g c = worn_exit _ c.from_residual.result c.args.self.now c.route.new.self c.from_residual.ensures.1 c.in_err-route.ensures.worn (λ (r : Result (Unit {0}) DeskFault). Routes (routes.Sub c.args.session c.args.subject.now (option_map (λ (text : Bor Bytes). text.now) c.args.queue) c.args.sid.now) (done r)) (inr (last_ticket, refl, refl))
 
 pub returns-clause-made : goal.returns-clause-made
-returns-clause-made g c = rw c.desk_answer.ensures.value (subscribed_so c.args.self.now c.route.new.self c.args.session c.args.subject.now (option_map (λ (text : Bor Bytes). text.now) c.args.queue) c.args.sid.now c.in_ok-route.field-0 c.in_ok-route.ensures.routed)
+returns-clause-made g c = rw c.desk_answer-answer.ensures.value (subscribed_so c.args.self.now c.route.new.self c.args.session c.args.subject.now (option_map (λ (text : Bor Bytes). text.now) c.args.queue) c.args.sid.now c.in_ok-route.field-0 c.in_ok-route.ensures.routed)
 
 pub returns-clause-setting : goal.returns-clause-setting
 returns-clause-setting g c = same_setting (routes.Sub c.args.session c.args.subject.now (option_map (λ (text : Bor Bytes). text.now) c.args.queue) c.args.sid.now) (done_told c.in_ok-route.field-0) c.args.self.now c.route.new.self c.in_ok-route.ensures.routed tt
