@@ -2,8 +2,8 @@
 //! and of a drop.
 
 use crate::store_calls::{
-    Counts, Ended, check_images, drop_stream, filled, message_count, opened, purge, with_messages,
-    with_two,
+    Counts, Ended, check_images, count_in_image, drop_stream, filled, message_count, opened, purge,
+    with_messages, with_two,
 };
 use disk_tests::Blind;
 use std::alloc::Global;
@@ -113,6 +113,51 @@ fn stop_at_each_call_of_a_purge(rt: HostRuntime) -> Result<(), Fail> {
     for stop in 0..8 {
         check_stopped_purge(&rt, rt.alloc(), stop)?;
     }
+    Ok(())
+}
+
+/// Purges a volume with eight messages of the seven in its first block, and stops at the call with this number.
+fn emptied(alloc: Global, vol: MemVol, stop: u64) -> Result<(Ended, MemVol), Fail> {
+    let (mut store, mut vol) = opened(alloc, vol, &[], Some(stop))?;
+    let ended = purge(alloc, &mut store, &mut vol, 8)?;
+    Ok((ended, vol.into_vol()))
+}
+
+/// Checks that a crash leaves eight messages or one of such a purge, and surely one if it was answered, where this image is picked.
+fn check_emptied(
+    rt: &impl Abort,
+    alloc: Global,
+    ended: Ended,
+    vol: &MemVol,
+    pick: u64,
+) -> Result<(), Fail> {
+    let found = count_in_image(alloc, vol, pick)?;
+    let is_old = found == Some(8) && ended == Ended::Failed;
+    assert!(rt; found == Some(1) || is_old, "{pick}");
+    Ok(())
+}
+
+/// Checks what crashes leave of it where it is stopped at the call with this number, and tells what it came to.
+fn check_stopped_emptying(
+    rt: &impl Abort,
+    alloc: Global,
+    start: &MemVol,
+    stop: u64,
+) -> Result<Ended, Fail> {
+    let (ended, vol) = emptied(alloc, start.image(1)?, stop)?;
+    check_emptied(rt, alloc, ended, &vol, 0)?;
+    check_emptied(rt, alloc, ended, &vol, stop)?;
+    Ok(ended)
+}
+
+#[test]
+fn stop_at_each_call_of_a_purge_that_empties_a_block(rt: HostRuntime) -> Result<(), Fail> {
+    let (_, vol) = filled_largely(rt.alloc(), LARGE)?;
+    let start = vol.into_vol();
+    for stop in 0..9 {
+        check_stopped_emptying(&rt, rt.alloc(), &start, stop)?;
+    }
+    assert!(&rt; check_stopped_emptying(&rt, rt.alloc(), &start, 9)? == Ended::Done);
     Ok(())
 }
 
