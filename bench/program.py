@@ -3,6 +3,7 @@ import os
 import subprocess
 import sys
 import tempfile
+from pathlib import Path
 
 TOP = os.path.dirname(os.path.dirname(os.path.realpath(__file__)))
 RUNS = 5
@@ -13,6 +14,12 @@ def built():
     subprocess.run([f"{TOP}/jsblock", "--version"], stdin=subprocess.DEVNULL, stdout=subprocess.DEVNULL, check=True)
     find = 'top=$1; source "$top/tools/kept.sh"; kept_program "$(sources_sum)"'
     return subprocess.run(["bash", "-c", find, "bash", TOP], stdout=subprocess.PIPE, check=True, text=True).stdout.strip()
+
+
+def used(process):
+    """The seconds of processor time that a process has taken so far."""
+    fields = Path(f"/proc/{process}/stat").read_text().rpartition(")")[2].split()
+    return (int(fields[11]) + int(fields[12])) / os.sysconf("SC_CLK_TCK")
 
 
 def run(program, words, script, wanted):
