@@ -1,9 +1,8 @@
-"""The program that `./jsblock` starts, run over a script: what several benches share."""
+"""The program that `./jsblock` starts, run over a script, and what a process has taken: what several benches share."""
 import os
 import subprocess
 import sys
 import tempfile
-from pathlib import Path
 
 TOP = os.path.dirname(os.path.dirname(os.path.realpath(__file__)))
 RUNS = 5
@@ -16,9 +15,10 @@ def built():
     return subprocess.run(["bash", "-c", find, "bash", TOP], stdout=subprocess.PIPE, check=True, text=True).stdout.strip()
 
 
-def used(process):
+def processor_seconds(process):
     """The seconds of processor time that a process has taken so far."""
-    fields = Path(f"/proc/{process}/stat").read_text().rpartition(")")[2].split()
+    with open(f"/proc/{process}/stat") as file:
+        fields = file.read().rpartition(")")[2].split()
     return (int(fields[11]) + int(fields[12])) / os.sysconf("SC_CLK_TCK")
 
 
