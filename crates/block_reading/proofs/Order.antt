@@ -5,12 +5,11 @@ use Rattle.js_base.specs.Bytes.{Bytes}
 use Rattle.js_base.specs.Numbers.{number_at}
 use Rattle.js_base.specs.Subjects.{is_subject_text}
 use Rattle.js_model.specs.Configs.{is_number}
-use Rattle.js_model.specs.declared.stream.Message.{Message}
-use Rattle.op_records.specs.Steps.{Reading, Reader, ◌>>=◌, done, place}
-use Rattle.op_records.specs.Fields.{only, word, number_told, number_field, part, piece, subject_field, is_small_header, fit, sized_part}
+use Rattle.op_records.specs.Steps.{Reading, Reader, ◌>>=◌, done, place, peek}
+use Rattle.op_records.specs.Fields.{only, word, number_told, number_field, part, piece, subject_field, is_small_header, fit, sized_part, end_of_checked, checked_end}
 use Rattle.op_records.specs.Blocks.{message_at, message_fields, content_field, message_with, up_to}
 use Rattle.op_records.specs.declared.fault.RecordFault.TheVariants.{Cut}
-use Rattle.op_records.proofs.Steps.{both, place_is, passed}
+use Rattle.op_records.proofs.Steps.{both, peeked_is, place_is, passed}
 
 -- what is read ends at its beginning or behind it
 abbrev GoesOn : {A : Type 0} → Reader A → Type 0
@@ -38,6 +37,9 @@ place_on bytes at a behind e = let ends = place_is at at a behind e in omega (ar
 
 only_on : {A : Type 0} (may : A → Bool) (begin : ℕ) (a : A) → GoesOn (only may begin a)
 only_on may begin a bytes at b behind e = let passes = passed may begin a bytes at b behind e in omega (arith, passes.place)
+
+peek_on : {A : Type 0} (read : Reader A) → GoesOn (peek read)
+peek_on read bytes at a behind e = let seen = peeked_is at (read bytes at) a behind e in omega (arith, seen.place)
 
 then_on : {A B : Type 0} (first : Reader A) (next : A → Reader B) → GoesOn first → ((a : A) → GoesOn (next a)) → GoesOn (first >>= next)
 then_on first next one more bytes at b behind e =
@@ -81,12 +83,18 @@ fields_on end =
     (λ subject. then_on (content_field end) (λ content. done (message_with seq at subject content)) (content_on end)
     (λ content. done_on (message_with seq at subject content)))))
 
+checked_on : GoesOn checked_end
+unfolding checked_end
+checked_on =
+    then_on place (λ begin. word w32 >>= λ size. word w32 >>= λ sum. peek (end_of_checked begin size sum)) place_on
+    (λ begin. then_on (word w32) (λ size. word w32 >>= λ sum. peek (end_of_checked begin size sum)) (word_on w32)
+    (λ size. then_on (word w32) (λ sum. peek (end_of_checked begin size sum)) (word_on w32)
+    (λ sum. peek_on (end_of_checked begin size sum))))
+
 up_to_on : {A : Type 0} (end : ℕ) (read : Reader A) → GoesOn read → GoesOn (up_to end read)
 up_to_on end read on bytes at a behind e = on (take end bytes) at a behind e
 
 pub message_on : GoesOn message_at
 unfolding message_at
 message_on =
-    then_on (word w32) (λ size. place >>= λ begin. up_to (begin + size) (message_fields (begin + size))) (word_on w32)
-    (λ size. then_on place (λ begin. up_to (begin + size) (message_fields (begin + size))) place_on
-    (λ begin. up_to_on (begin + size) (message_fields (begin + size)) (fields_on (begin + size))))
+    then_on checked_end (λ end. up_to end (message_fields end)) checked_on (λ end. up_to_on end (message_fields end) (fields_on end))

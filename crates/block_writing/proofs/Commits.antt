@@ -58,7 +58,7 @@ pub end_written : (b : Blocks) (k : Block) → IsTable b → b.writing ≡ Some 
 end_written b k table is =
     ap (λ (o : Option Block). end_of_found (find (λ (x : Block). x.file == k.file) (b.older ++ option_to_list o))) is
     ∙ ap end_of_found (find_last (λ (x : Block). x.file == k.file) b.older k
-    (apart_last b.older k (subst (λ (o : Option Block). ApartBlocks (b.older ++ option_to_list o)) is table.apart)) (eq-eqb k.file k.file refl))
+    (apart_last b.older k (subst (λ (o : Option Block). ApartBlocks (b.older ++ option_to_list o)) is table.blocks_are.apart)) (eq-eqb k.file k.file refl))
 
 -- and of a file that is no block
 pub end_free : (b : Blocks) (file : ℕ) → has_block b file ≡ false → end_in b file ≡ 0
@@ -128,7 +128,7 @@ module _ (old : Disk) (image : Files) (spot : Spot) (m : Message) (may : IsTrue 
   one_stands : (run : Run) → HasAt spot m run → AreBytes run.bytes → run.at ≤ length (old.seen run.file) → Starts old image run → StandsAt image spot m
   one_stands run has bytes within starts = record { few = few; reads = reads }
     where
-      size : 26 ≤ length (spelled_message m)
+      size : 30 ≤ length (spelled_message m)
       size = (spelled_size m may).least
 
       front : Bytes

@@ -220,7 +220,7 @@ writes_first b table = go b.writing refl
     go None is = tt
     go (Some k) is =
         (all_there (λ (x : Block). IsFile x.file) b.older k []
-        (subst (λ (o : Option Block). All (λ (x : Block). IsFile x.file) (b.older ++ option_to_list o)) is table.files)).high
+        (subst (λ (o : Option Block). All (λ (x : Block). IsFile x.file) (b.older ++ option_to_list o)) is table.blocks_are.files)).high
 
 -- each of the changes may be recorded
 pub allowed_there : (es : List Effect) (i : ℕ) (e : Effect) → IsTrue (list_all is_record es) → i < length es → e ≡ get_or es i e → IsTrue (is_record e)

@@ -424,7 +424,7 @@ file_of b table run placed = go (or_cases (goes_on (spot_of run) b.writing) (beg
     on None is h = absurd (true≢false (sym h))
     on (Some k) is h =
         let same = eqb-true run.file k.file (and_parts (run.file == k.file) (run.at == k.end) h).0 in
-        let low = (all_last (λ (x : Block). IsFile x.file) b.older k (subst (λ (o : Option Block). All (λ (x : Block). IsFile x.file) (b.older ++ option_to_list o)) is table.files)).low in
+        let low = (all_last (λ (x : Block). IsFile x.file) b.older k (subst (λ (o : Option Block). All (λ (x : Block). IsFile x.file) (b.older ++ option_to_list o)) is table.blocks_are.files)).low in
         omega (arith, same, low)
 
     go : (goes_on (spot_of run) b.writing ≡ true) ⊎ (begins (spot_of run) b ≡ true) → 2 ≤ run.file

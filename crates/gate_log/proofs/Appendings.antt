@@ -118,6 +118,6 @@ module _ (log : LogState) (records : Bytes) (old : Disk) (clocked : IsClocked ol
       let stage = stages batches settled in
       let there = at_head log.head (λ generation. (gate : ℕ) × Spells (mid.seen log.file) generation batches gate (behind_gate records ++ stage.tail)) g.0 g.1 stage.file in
       let is_log = written_gate (mid.seen log.file) g.0 batches there.0 (behind_gate records ++ stage.tail) there.1 records stage.tail (new.seen log.file) one refl (holds ∙ ap (λ (k : ℕ). written k (1 ∷ []) (mid.seen log.file)) settled.end) in
-      let end_is : log.end + 5 + length records ≡ end_of (batches ++ records ∷ []) = omega (arith, settled.end, end_of-push batches records) in
-      let now = settled_log (with_batch log (length records)) g.0 (batches ++ records ∷ []) new g.1 (first_more log.first_end log.end (log.end + 5 + length records) batches records settled.first_end settled.end end_is) end_is durable is_log in
+      let end_is : log.end + 9 + length records ≡ end_of (batches ++ records ∷ []) = omega (arith, settled.end, end_of-push batches records) in
+      let now = settled_log (with_batch log (length records)) g.0 (batches ++ records ∷ []) new g.1 (first_more log.first_end log.end (log.end + 9 + length records) batches records settled.first_end settled.end end_is) end_is durable is_log in
       subst (λ (l : LogState). IsSettled l (batches ++ records ∷ []) new) (sym after_is) now

@@ -1,10 +1,10 @@
 -- What a crash leaves of a log in each of the two writes of an append.
 use Rattle.std.proofs.Common.{◌≡◌, inl, inr, ℕ, ◌+◌, ◌<◌, ◌^◌, List, [], ◌∷◌, ◌++◌, length, drop, get_or, sym, ◌∙◌, ap, subst, arith, append_assoc, take-append-drop}
-use Rattle.std.specs.Int.{w32, to_be_bytes}
 use Rattle.std.proofs.lemmas.Bool.{cases_eq}
 use Rattle.std.proofs.lemmas.List.{drop_more}
 use Rattle.vol_disk.specs.Steps.{written, Torn}
 use Rattle.js_base.specs.Bytes.{Bytes}
+use Rattle.checksum.specs.Checked.{checked}
 use Rattle.gate_log.specs.Head.{head}
 use Rattle.gate_log.specs.Batches.{open_batches, end_of}
 use Rattle.gate_log.specs.LogFile.{Spells, IsLog}
@@ -16,7 +16,7 @@ use Rattle.gate_log.proofs.Spelling.{front, size, front_is, gate_is, rest_is, op
 opened : (bytes : Bytes) (g : ℕ) (batches : List Bytes) (records tail : Bytes) → length records < 2 ^ 32 → Spells bytes g batches 1 (behind_gate records ++ tail) →
     Spells bytes g (batches ++ records ∷ []) 0 tail
 opened bytes g batches records tail one s = record {
-  bytes_are = s.bytes_are ∙ ap (λ (l : Bytes). head g ++ l) (ap (λ (l : Bytes). open_batches batches ++ 1 ∷ l) (append_assoc (to_be_bytes w32 (length records)) (records ++ 0 ∷ []) tail ∙ ap (λ (l : Bytes). to_be_bytes w32 (length records) ++ l) (append_assoc records (0 ∷ []) tail)) ∙ sym (open_batches-push batches records (0 ∷ tail)));
+  bytes_are = s.bytes_are ∙ ap (λ (l : Bytes). head g ++ l) (ap (λ (l : Bytes). open_batches batches ++ 1 ∷ l) (append_assoc (checked records) (0 ∷ []) tail) ∙ sym (open_batches-push batches records (0 ∷ tail)));
   below = s.below;
   lengths = lengths-push batches records s.lengths one;
 }

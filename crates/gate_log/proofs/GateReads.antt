@@ -1,11 +1,13 @@
 -- What is read at a gate of a log.
 use Rattle.std.proofs.Common.{◌≡◌, ◌≢◌, ℕ, ◌+◌, ◌<◌, ◌≤◌, ◌^◌, List, [], ◌∷◌, ◌++◌, Option, None, Some, IfSome, length, take, drop, refl, sym, ◌∙◌, ap, subst, arith, append_assoc, length-append}
 use Rattle.std.specs.Int.{w32, to_be_bytes}
-use Rattle.std.proofs.lemmas.List.{take_at, drop_at, drop-drop, append-nil}
+use Rattle.std.proofs.lemmas.List.{take_at, drop-drop, append-nil}
 use Rattle.vol_disk.specs.Disk.{Disk}
 use Rattle.vol_disk.specs.Does.{Rests}
 use Rattle.vol_disk.specs.Moments.{Quiet}
 use Rattle.js_base.specs.Bytes.{Bytes}
+use Rattle.checksum.specs.Crc.{crc32c}
+use Rattle.checksum.proofs.Checking.{checked-append}
 use Rattle.gate_log.specs.Head.{head}
 use Rattle.gate_log.specs.Batches.{open_batch, open_batches, end_of, HaveLengths}
 use Rattle.gate_log.specs.LogFile.{Spells, IsLog, HasOpen}
@@ -40,17 +42,17 @@ next_gate log front rest at next records old new gate still found = (
   },
 )
 
--- a batch and its length stand behind this gate, and one gate more behind them
+-- a batch stands behind this gate, and one gate more behind it
 pub record IsThere (bytes : Bytes) (at : ℕ) (records : Bytes) : Type 0 where
   pub tail : Bytes
-  pub behind : drop (at + 1) bytes ≡ to_be_bytes w32 (length records) ++ (records ++ tail)
-  pub more : at + 5 + length records < length bytes
+  pub behind : drop (at + 1) bytes ≡ to_be_bytes w32 (length records) ++ (to_be_bytes w32 (crc32c records) ++ (records ++ tail))
+  pub more : at + 9 + length records < length bytes
   pub short : length records < 2 ^ 32
 
 there_in : (bytes : Bytes) (g : ℕ) (front : List Bytes) (records : Bytes) (more : List Bytes) → IsLog g (front ++ records ∷ more) bytes → IsThere bytes (end_of front) records
 there_in bytes g front records more log =
     let tail = open_batches more ++ log.gate ∷ log.rest in
-    let back : Bytes = to_be_bytes w32 (length records) ++ (records ++ tail) in
+    let back : Bytes = to_be_bytes w32 (length records) ++ (to_be_bytes w32 (crc32c records) ++ (records ++ tail)) in
     let spells : Spells bytes g front 1 back = record {
       bytes_are = log.spells.bytes_are ∙ ap (λ (l : Bytes). head g ++ (l ++ log.gate ∷ log.rest)) (open_batches-cut front records more) ∙ ap (λ (l : Bytes). head g ++ l) (regroup (open_batches front) records (open_batches more) (log.gate ∷ log.rest));
       below = log.spells.below;
@@ -59,7 +61,7 @@ there_in bytes g front records more log =
     record {
       tail = tail;
       behind = rest_is bytes g front 1 back spells;
-      more = omega (arith, size bytes g front 1 back spells, length-append (to_be_bytes w32 (length records)) (records ++ tail), length-append records tail, length-append (open_batches more) (log.gate ∷ log.rest), length-be4 (length records));
+      more = omega (arith, size bytes g front 1 back spells, length-append (to_be_bytes w32 (length records)) (to_be_bytes w32 (crc32c records) ++ (records ++ tail)), length-append (to_be_bytes w32 (crc32c records)) (records ++ tail), length-append records tail, length-append (open_batches more) (log.gate ∷ log.rest), length-be4 (length records), length-be4 (crc32c records));
       short = lengths-cut front records more log.spells.lengths;
     }
   where
@@ -67,8 +69,8 @@ there_in bytes g front records more log =
     lengths-front [] rest h = tt
     lengths-front (b ∷ front) rest h = (h.0, lengths-front front rest h.1)
 
-    regroup : (a b m r : Bytes) → (a ++ (open_batch b ++ m)) ++ r ≡ a ++ 1 ∷ (to_be_bytes w32 (length b) ++ (b ++ (m ++ r)))
-    regroup a b m r = append_assoc a (open_batch b ++ m) r ∙ ap (λ (l : Bytes). a ++ l) (append_assoc (open_batch b) m r ∙ append_assoc (1 ∷ to_be_bytes w32 (length b)) b (m ++ r))
+    regroup : (a b m r : Bytes) → (a ++ (open_batch b ++ m)) ++ r ≡ a ++ 1 ∷ (to_be_bytes w32 (length b) ++ (to_be_bytes w32 (crc32c b) ++ (b ++ (m ++ r))))
+    regroup a b m r = append_assoc a (open_batch b ++ m) r ∙ ap (λ (l : Bytes). a ++ l) (append_assoc (open_batch b) m r ∙ ap (λ (l : Bytes). 1 ∷ l) (checked-append b (m ++ r)))
 
 -- a log that has a batch
 some_log : (bytes : Bytes) (g : Option ℕ) (front : List Bytes) (records : Bytes) (more : List Bytes) → HasOpen bytes g (front ++ records ∷ more) → (h : ℕ) × IsLog h (front ++ records ∷ more) bytes
@@ -88,7 +90,7 @@ pub record IsAtGate (log : LogState) (front rest : List Bytes) (at : ℕ) (disk 
   pub others : List Bytes
   pub rest_is : rest ≡ records ∷ others
   pub there : IsThere (disk.seen log.file) at records
-  pub before_end : at + 5 + length records ≤ log.end
+  pub before_end : at + 9 + length records ≤ log.end
 
 pub at_gate : (log : LogState) (front rest : List Bytes) (at : ℕ) (disk : Disk) → IsGate log front rest at disk → at ≢ log.end → IsAtGate log front rest at disk
 at_gate log front [] at disk gate ne = absurd (ne (gate.here ∙ ap end_of (sym (append-nil front)) ∙ sym gate.settled.end))
@@ -105,19 +107,19 @@ at_gate log front (b ∷ more) at disk gate ne =
 -- the number that is read there is the length
 pub count_there : (bytes : Bytes) (at : ℕ) (records : Bytes) (count from : ℕ) → IsThere bytes at records → from ≡ at + 1 → count < 2 ^ 32 → drop from bytes ≡ to_be_bytes w32 count ++ drop (from + 4) bytes → count ≡ length records
 count_there bytes at records count from there is small e =
-    same_number count (length records) small there.short (front_of (to_be_bytes w32 count) (to_be_bytes w32 (length records)) (drop (from + 4) bytes) (records ++ there.tail) 4 (length-be4 count) (length-be4 (length records)) (sym e ∙ ap (λ (k : ℕ). drop k bytes) is ∙ there.behind))
+    same_number count (length records) small there.short (front_of (to_be_bytes w32 count) (to_be_bytes w32 (length records)) (drop (from + 4) bytes) (to_be_bytes w32 (crc32c records) ++ (records ++ there.tail)) 4 (length-be4 count) (length-be4 (length records)) (sym e ∙ ap (λ (k : ℕ). drop k bytes) is ∙ there.behind))
 
--- and the bytes behind it are the records
-pub records_there : (bytes : Bytes) (at : ℕ) (records read : Bytes) (count from : ℕ) → IsThere bytes at records → from ≡ at + 5 → count ≡ length records → read ≡ take count (drop from bytes) → read ≡ records
+-- and the bytes behind the checksum are the records
+pub records_there : (bytes : Bytes) (at : ℕ) (records read : Bytes) (count from : ℕ) → IsThere bytes at records → from ≡ at + 9 → count ≡ length records → read ≡ take count (drop from bytes) → read ≡ records
 records_there bytes at records read count from there is count_is e =
-    let back : drop from bytes ≡ records ++ there.tail = ap (λ (k : ℕ). drop k bytes) (is ∙ five) ∙ sym (drop-drop 4 (at + 1) bytes) ∙ ap (λ (l : Bytes). drop 4 l) there.behind ∙ drop_at (to_be_bytes w32 (length records)) (records ++ there.tail) 4 (length-be4 (length records)) in
+    let back : drop from bytes ≡ records ++ there.tail = ap (λ (k : ℕ). drop k bytes) (is ∙ nine) ∙ sym (drop-drop 8 (at + 1) bytes) ∙ ap (λ (l : Bytes). drop 8 l) there.behind in
     e ∙ ap (λ (n : ℕ). take n (drop from bytes)) count_is ∙ ap (λ (l : Bytes). take (length records) l) back ∙ take_at records there.tail (length records) refl
   where
-    five : at + 5 ≡ at + 1 + 4
-    five = omega arith
+    nine : at + 9 ≡ at + 1 + 8
+    nine = omega arith
 
 -- what is found is the first of the batches that are left
-pub first_found : (log : LogState) (front rest : List Bytes) (at : ℕ) (disk : Disk) (read : Bytes) (next : ℕ) → IsGate log front rest at disk → (gate : IsAtGate log front rest at disk) → read ≡ gate.records → next ≡ at + 5 + length gate.records →
+pub first_found : (log : LogState) (front rest : List Bytes) (at : ℕ) (disk : Disk) (read : Bytes) (next : ℕ) → IsGate log front rest at disk → (gate : IsAtGate log front rest at disk) → read ≡ gate.records → next ≡ at + 9 + length gate.records →
     IsFirstOf (Some (read, next)) front rest
 first_found log front rest at disk read next here gate is next_is = (
   gate.others,

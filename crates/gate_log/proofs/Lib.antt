@@ -1,6 +1,7 @@
 pub mod Spelling
 pub mod OneReading
 mod LetOn
+mod Pieces
 mod Walks
 mod Crash
 pub mod Openings
@@ -8,3 +9,4 @@ mod Emptying
 mod Appendings
 pub mod GateReads
 pub mod Heads
+pub mod Growing

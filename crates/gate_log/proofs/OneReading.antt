@@ -1,17 +1,20 @@
 -- A log file is read in one way.
 use Rattle.std.proofs.Common.{◌≡◌, ◌≢◌, ◌⊎◌, inl, inr, ℕ, ◌<◌, ◌≤◌, ◌^◌, List, [], ◌∷◌, ◌++◌, Option, Some, None, length, take, drop, get_or, refl, sym, ◌∙◌, ap, arith, append_assoc, length-append}
 use Rattle.std.specs.Int.{w16, w32, w64, to_be_bytes, from_be_bytes}
-use Rattle.std.proofs.lemmas.List.{take_at, drop_at}
+use Rattle.std.proofs.lemmas.List.{take_at, drop_at, drop-drop}
 use Rattle.std.proofs.lemmas.Nat.{from_be_bytes-to_be_bytes_4, from_be_bytes-to_be_bytes_8}
 use Rattle.js_base.specs.Bytes.{Bytes}
 use Rattle.js_base.specs.Numbers.{number_at}
-use Rattle.gate_log.specs.Head.{mark, version, head}
+use Rattle.checksum.specs.Crc.{crc32c}
+use Rattle.checksum.proofs.Registers.{crc32c_lt}
+use Rattle.checksum.proofs.Checking.{checked-append}
+use Rattle.gate_log.specs.Head.{mark, version, title, head}
 use Rattle.gate_log.specs.Batches.{open_batch, open_batches, end_of, HaveLengths}
 use Rattle.gate_log.specs.LogFile.{Spells, IsLog, HasOpen}
-use Rattle.gate_log.specs.Faults.{HasNoMark, HasUnknownVersion, HasBadGeneration, IsHeadDamagedAt, PassesEnd, HasCutBatch, IsDamagedAt, IsOfUnknownVersion}
+use Rattle.gate_log.specs.Faults.{HasNoMark, HasUnknownVersion, HasBadGeneration, HasBadChecksum, IsHeadDamagedAt, told_length, IsDamagedBatch, HasDamagedBatch, IsDamagedAt, IsOfUnknownVersion}
 use Rattle.gate_log.specs.Laws.{LawReading}
 use Rattle.gate_log.proofs.Spelling as spelling
-use Rattle.gate_log.proofs.Spelling.{length-be4, length-head, length-open_batch}
+use Rattle.gate_log.proofs.Spelling.{length-be4}
 use Rattle.gate_log.proofs.Heads.{number_here}
 
 pub same_number : (m n : ℕ) → m < 2 ^ 32 → n < 2 ^ 32 → to_be_bytes w32 m ≡ to_be_bytes w32 n → m ≡ n
@@ -23,18 +26,19 @@ front_of x y more others n one other e = sym (take_at x more n one) ∙ ap (λ (
 back_of : (x y more others : Bytes) (n : ℕ) → length x ≡ n → length y ≡ n → x ++ more ≡ y ++ others → more ≡ others
 back_of x y more others n one other e = sym (drop_at x more n one) ∙ ap (λ (l : Bytes). drop n l) e ∙ drop_at y others n other
 
--- behind its gate an open batch is its length, its records and more
-behind : (b more : Bytes) → drop 1 (open_batch b ++ more) ≡ to_be_bytes w32 (length b) ++ (b ++ more)
-behind b more = append_assoc (to_be_bytes w32 (length b)) b more
+-- behind its gate an open batch is its length, its checksum, its records and more
+behind : (b more : Bytes) → drop 1 (open_batch b ++ more) ≡ to_be_bytes w32 (length b) ++ (to_be_bytes w32 (crc32c b) ++ (b ++ more))
+behind b more = checked-append b more
 
 same_length : (b c more others : Bytes) → length b < 2 ^ 32 → length c < 2 ^ 32 → open_batch b ++ more ≡ open_batch c ++ others → length b ≡ length c
 same_length b c more others small less e =
     let tails = sym (behind b more) ∙ ap (λ (l : Bytes). drop 1 l) e ∙ behind c others in
-    same_number (length b) (length c) small less (front_of (to_be_bytes w32 (length b)) (to_be_bytes w32 (length c)) (b ++ more) (c ++ others) 4 (length-be4 (length b)) (length-be4 (length c)) tails)
+    same_number (length b) (length c) small less (front_of (to_be_bytes w32 (length b)) (to_be_bytes w32 (length c)) (to_be_bytes w32 (crc32c b) ++ (b ++ more)) (to_be_bytes w32 (crc32c c) ++ (c ++ others)) 4 (length-be4 (length b)) (length-be4 (length c)) tails)
 
 tails_same : (b c more others : Bytes) → open_batch b ++ more ≡ open_batch c ++ others → b ++ more ≡ c ++ others
 tails_same b c more others e =
-    back_of (to_be_bytes w32 (length b)) (to_be_bytes w32 (length c)) (b ++ more) (c ++ others) 4 (length-be4 (length b)) (length-be4 (length c)) (sym (behind b more) ∙ ap (λ (l : Bytes). drop 1 l) e ∙ behind c others)
+    back_of (to_be_bytes w32 (crc32c b)) (to_be_bytes w32 (crc32c c)) (b ++ more) (c ++ others) 4 (length-be4 (crc32c b)) (length-be4 (crc32c c))
+    (back_of (to_be_bytes w32 (length b)) (to_be_bytes w32 (length c)) (to_be_bytes w32 (crc32c b) ++ (b ++ more)) (to_be_bytes w32 (crc32c c) ++ (c ++ others)) 4 (length-be4 (length b)) (length-be4 (length c)) (sym (behind b more) ∙ ap (λ (l : Bytes). drop 1 l) e ∙ behind c others))
 
 same_batch : (b c more others : Bytes) → length b < 2 ^ 32 → length c < 2 ^ 32 → open_batch b ++ more ≡ open_batch c ++ others → b ≡ c
 same_batch b c more others small less e = front_of b c more others (length c) (same_length b c more others small less e) refl (tails_same b c more others e)
@@ -67,42 +71,60 @@ same_closed (b ∷ bs) (c ∷ cs) g h r s fit fits e shut closed =
     let more = same_closed bs cs g h r s fit.1 fits.1 next.1 shut closed in
     λ i. next.0 i ∷ more i
 
--- a batch with another gate behind it does not pass the end
-not_passes : (b x s : Bytes) → length b < 2 ^ 32 → 0 < length x → s ≡ to_be_bytes w32 (length b) ++ (b ++ x) → PassesEnd s → ⊥
-not_passes b x s small more is passes =
-    let count : from_be_bytes w32 (take 4 s) ≡ length b = ap (λ (l : Bytes). from_be_bytes w32 (take 4 l)) is ∙ ap (λ (l : Bytes). from_be_bytes w32 l) (take_at (to_be_bytes w32 (length b)) (b ++ x) 4 (length-be4 (length b))) ∙ from_be_bytes-to_be_bytes_4 (length b) small in
-    absurd (omega (arith, passes, count, ap length is, length-append (to_be_bytes w32 (length b)) (b ++ x), length-append b x, length-be4 (length b)))
+-- a batch with another gate behind it is not damaged
+module _ (b x s : Bytes) (small : length b < 2 ^ 32) (is : s ≡ to_be_bytes w32 (length b) ++ (to_be_bytes w32 (crc32c b) ++ (b ++ x))) where
+  count : told_length s ≡ length b
+  count =
+      ap (λ (l : Bytes). from_be_bytes w32 (take 4 l)) is ∙ ap (λ (l : Bytes). from_be_bytes w32 l) (take_at (to_be_bytes w32 (length b)) (to_be_bytes w32 (crc32c b) ++ (b ++ x)) 4 (length-be4 (length b))) ∙ from_be_bytes-to_be_bytes_4 (length b) small
 
--- the gate of a batch that is read does not begin one that passes the end
-no_cut : (b : Bytes) (bs : List Bytes) (g : ℕ) (r s : Bytes) → length b < 2 ^ 32 → open_batches (b ∷ bs) ++ g ∷ r ≡ 1 ∷ s → PassesEnd s → ⊥
-no_cut b bs g r s small e passes =
-    not_passes b (open_batches bs ++ g ∷ r) s small (omega (arith, length-append (open_batches bs) (g ∷ r))) (sym (ap (λ (l : Bytes). drop 1 l) e) ∙ ap (λ (l : Bytes). drop 1 l) (append_assoc (open_batch b) (open_batches bs) (g ∷ r)) ∙ behind b (open_batches bs ++ g ∷ r)) passes
+  behind_length : drop 4 s ≡ to_be_bytes w32 (crc32c b) ++ (b ++ x)
+  behind_length = ap (λ (l : Bytes). drop 4 l) is ∙ drop_at (to_be_bytes w32 (length b)) (to_be_bytes w32 (crc32c b) ++ (b ++ x)) 4 (length-be4 (length b))
 
-not_cut : (bs cs : List Bytes) (g : ℕ) (r s : Bytes) → HaveLengths bs → HaveLengths cs → open_batches bs ++ g ∷ r ≡ open_batches cs ++ 1 ∷ s → g ≢ 1 → PassesEnd s → ⊥
-not_cut [] [] g r s fit fits e shut passes = shut (first_byte _ _ e)
-not_cut [] (c ∷ cs) g r s fit fits e shut passes = shut (first_byte _ _ e)
-not_cut (b ∷ bs) [] g r s fit fits e shut passes = no_cut b bs g r s fit.0 e passes
-not_cut (b ∷ bs) (c ∷ cs) g r s fit fits e shut passes =
-    not_cut bs cs g r s fit.1 fits.1 (after_first b c bs cs (g ∷ r) (1 ∷ s) fit.0 fits.0 e).1 shut passes
+  behind_checksum : drop 8 s ≡ b ++ x
+  behind_checksum = sym (drop-drop 4 4 s) ∙ ap (λ (l : Bytes). drop 4 l) behind_length ∙ drop_at (to_be_bytes w32 (crc32c b)) (b ++ x) 4 (length-be4 (crc32c b))
 
-same_cut : (bs cs : List Bytes) (r s : Bytes) → HaveLengths bs → HaveLengths cs → open_batches bs ++ 1 ∷ r ≡ open_batches cs ++ 1 ∷ s → PassesEnd r → PassesEnd s → bs ≡ cs
-same_cut [] [] r s fit fits e passes passed = refl
-same_cut [] (c ∷ cs) r s fit fits e passes passed = absurd (no_cut c cs 1 s r fits.0 (sym e) passes)
-same_cut (b ∷ bs) [] r s fit fits e passes passed = absurd (no_cut b bs 1 r s fit.0 e passed)
-same_cut (b ∷ bs) (c ∷ cs) r s fit fits e passes passed =
+  records_are : take (told_length s) (drop 8 s) ≡ b
+  records_are = ap (λ (n : ℕ). take n (drop 8 s)) count ∙ ap (λ (l : Bytes). take (length b) l) behind_checksum ∙ take_at b x (length b) refl
+
+  checksum_is : take 4 (drop 4 s) ≡ to_be_bytes w32 (crc32c (take (told_length s) (drop 8 s)))
+  checksum_is =
+      ap (λ (l : Bytes). take 4 l) behind_length ∙ take_at (to_be_bytes w32 (crc32c b)) (b ++ x) 4 (length-be4 (crc32c b)) ∙ ap (λ (l : Bytes). to_be_bytes w32 (crc32c l)) (sym records_are)
+
+  not_damaged : 0 < length x → IsDamagedBatch s → ⊥
+  not_damaged more (inl passes) =
+      absurd (omega (arith, passes, count, ap length is, length-append (to_be_bytes w32 (length b)) (to_be_bytes w32 (crc32c b) ++ (b ++ x)), length-append (to_be_bytes w32 (crc32c b)) (b ++ x), length-append b x, length-be4 (length b), length-be4 (crc32c b)))
+  not_damaged more (inr differs) = differs checksum_is
+
+-- the gate of a batch that is read does not begin one that is damaged
+no_damage : (b : Bytes) (bs : List Bytes) (g : ℕ) (r s : Bytes) → length b < 2 ^ 32 → open_batches (b ∷ bs) ++ g ∷ r ≡ 1 ∷ s → IsDamagedBatch s → ⊥
+no_damage b bs g r s small e damaged =
+    not_damaged b (open_batches bs ++ g ∷ r) s small (sym (ap (λ (l : Bytes). drop 1 l) e) ∙ ap (λ (l : Bytes). drop 1 l) (append_assoc (open_batch b) (open_batches bs) (g ∷ r)) ∙ behind b (open_batches bs ++ g ∷ r)) (omega (arith, length-append (open_batches bs) (g ∷ r))) damaged
+
+no_damage_after : (bs cs : List Bytes) (g : ℕ) (r s : Bytes) → HaveLengths bs → HaveLengths cs → open_batches bs ++ g ∷ r ≡ open_batches cs ++ 1 ∷ s → g ≢ 1 → IsDamagedBatch s → ⊥
+no_damage_after [] [] g r s fit fits e shut damaged = shut (first_byte _ _ e)
+no_damage_after [] (c ∷ cs) g r s fit fits e shut damaged = shut (first_byte _ _ e)
+no_damage_after (b ∷ bs) [] g r s fit fits e shut damaged = no_damage b bs g r s fit.0 e damaged
+no_damage_after (b ∷ bs) (c ∷ cs) g r s fit fits e shut damaged =
+    no_damage_after bs cs g r s fit.1 fits.1 (after_first b c bs cs (g ∷ r) (1 ∷ s) fit.0 fits.0 e).1 shut damaged
+
+same_damaged : (bs cs : List Bytes) (r s : Bytes) → HaveLengths bs → HaveLengths cs → open_batches bs ++ 1 ∷ r ≡ open_batches cs ++ 1 ∷ s → IsDamagedBatch r → IsDamagedBatch s → bs ≡ cs
+same_damaged [] [] r s fit fits e one two = refl
+same_damaged [] (c ∷ cs) r s fit fits e one two = absurd (no_damage c cs 1 s r fits.0 (sym e) one)
+same_damaged (b ∷ bs) [] r s fit fits e one two = absurd (no_damage b bs 1 r s fit.0 e two)
+same_damaged (b ∷ bs) (c ∷ cs) r s fit fits e one two =
     let next = after_first b c bs cs (1 ∷ r) (1 ∷ s) fit.0 fits.0 e in
-    let more = same_cut bs cs r s fit.1 fits.1 next.1 passes passed in
+    let more = same_damaged bs cs r s fit.1 fits.1 next.1 one two in
     λ i. next.0 i ∷ more i
 
 -- ---- heads
 
 same_generation : (g h : ℕ) → g < 2 ^ 62 → h < 2 ^ 62 → head g ≡ head h → g ≡ h
 same_generation g h below less e =
-    let tails : to_be_bytes w64 g ≡ to_be_bytes w64 h = ap (λ (l : Bytes). drop 8 l) e in
+    let tails : to_be_bytes w64 g ≡ to_be_bytes w64 h = ap (λ (l : Bytes). take 8 (drop 8 l)) e in
     sym (from_be_bytes-to_be_bytes_8 g (omega (arith, below))) ∙ ap (λ (l : Bytes). from_be_bytes w64 l) tails ∙ from_be_bytes-to_be_bytes_8 h (omega (arith, less))
 
 module _ (bytes : Bytes) (generation : ℕ) (batches : List Bytes) (gate : ℕ) (rest : Bytes) (s : Spells bytes generation batches gate rest) where
-  long_head : 16 < length bytes
+  long_head : 20 < length bytes
   long_head = omega (arith, spelling.size bytes generation batches gate rest s)
 
   has_mark : take 6 bytes ≡ mark
@@ -130,6 +152,16 @@ module _ (bytes : Bytes) (generation : ℕ) (batches : List Bytes) (gate : ℕ) 
       some_same : {m k : ℕ} → Some m ≡ Some k → m ≡ k
       some_same e = cc
 
+  has_checksum : number_at w32 bytes 16 ≡ Some (crc32c (take 16 bytes))
+  has_checksum =
+      number_here w32 bytes 16 (omega (arith, long_head)) ∙ ap (λ (l : Bytes). Some (from_be_bytes w32 (take 4 (drop 16 l)))) s.bytes_are
+      ∙ ap (λ (n : ℕ). Some n) (from_be_bytes-to_be_bytes_4 (crc32c (title generation)) (crc32c_lt (title generation))) ∙ ap (λ (l : Bytes). Some (crc32c (take 16 l))) (sym s.bytes_are)
+
+  no_bad_head : (at : ℕ) → IsHeadDamagedAt bytes at → ⊥
+  no_bad_head at (inl bad) = no_bad_mark bad.1
+  no_bad_head at (inr (inl bad)) = no_bad_generation bad.1
+  no_bad_head at (inr (inr bad)) = bad.1.differs has_checksum
+
 -- two spellings begin with one head, and have the same behind it
 one_head : (bytes : Bytes) (g h : ℕ) (bs cs : List Bytes) (x y : ℕ) (r s : Bytes) → Spells bytes g bs x r → Spells bytes h cs y s → g ≡ h
 one_head bytes g h bs cs x y r s one other =
@@ -147,8 +179,8 @@ logs_list : (bytes : Bytes) (g h : ℕ) (bs cs : List Bytes) → IsLog g bs byte
 logs_list bytes g h bs cs one other =
     same_closed bs cs one.gate other.gate one.rest other.rest one.spells.lengths other.spells.lengths (one_tail bytes g h bs cs one.gate other.gate one.rest other.rest one.spells other.spells) one.closed other.closed
 
--- a file of 17 bytes or fewer has no open batch
-short_none : (bytes : Bytes) (g : ℕ) (b : Bytes) (bs : List Bytes) → length bytes ≤ 17 → IsLog g (b ∷ bs) bytes → ⊥
+-- a file of 21 bytes or fewer has no open batch
+short_none : (bytes : Bytes) (g : ℕ) (b : Bytes) (bs : List Bytes) → length bytes ≤ 21 → IsLog g (b ∷ bs) bytes → ⊥
 short_none bytes g b bs short log = absurd (omega (arith, short, spelling.size bytes g (b ∷ bs) log.gate log.rest log.spells, spelling.end_of-some b bs))
 
 -- none and some
@@ -186,18 +218,17 @@ one_list bytes (Some g) (Some h) (b ∷ bs) [] one other = absurd other
 one_list bytes (Some g) (Some h) (b ∷ bs) (c ∷ cs) one other = logs_list bytes g h (b ∷ bs) (c ∷ cs) one other
 
 -- a long file that is read is a log
-pub long_log : (bytes : Bytes) (g : Option ℕ) (bs : List Bytes) → 17 < length bytes → HasOpen bytes g bs → (generation : ℕ) × IsLog generation bs bytes
+pub long_log : (bytes : Bytes) (g : Option ℕ) (bs : List Bytes) → 21 < length bytes → HasOpen bytes g bs → (generation : ℕ) × IsLog generation bs bytes
 long_log bytes None [] long (inl short) = absurd (omega arith)
 long_log bytes None [] long (inr log) = log
 long_log bytes None (b ∷ bs) long open_ = absurd open_
 long_log bytes (Some g) [] long open_ = absurd open_
 long_log bytes (Some g) (b ∷ bs) long open_ = (g, open_)
 
-log_whole : (bytes : Bytes) (g : ℕ) (bs : List Bytes) (at : ℕ) → IsLog g bs bytes → IsHeadDamagedAt bytes at ⊎ HasCutBatch bytes at → ⊥
-log_whole bytes g bs at log (inl (inl bad)) = no_bad_mark bytes g bs log.gate log.rest log.spells bad.1
-log_whole bytes g bs at log (inl (inr bad)) = no_bad_generation bytes g bs log.gate log.rest log.spells bad.1
+log_whole : (bytes : Bytes) (g : ℕ) (bs : List Bytes) (at : ℕ) → IsLog g bs bytes → IsHeadDamagedAt bytes at ⊎ HasDamagedBatch bytes at → ⊥
+log_whole bytes g bs at log (inl bad) = no_bad_head bytes g bs log.gate log.rest log.spells at bad
 log_whole bytes g bs at log (inr cut) =
-    not_cut bs cut.batches log.gate log.rest cut.rest log.spells.lengths cut.spells.lengths (one_tail bytes g cut.generation bs cut.batches log.gate 1 log.rest cut.rest log.spells cut.spells) log.closed cut.passes
+    no_damage_after bs cut.batches log.gate log.rest cut.rest log.spells.lengths cut.spells.lengths (one_tail bytes g cut.generation bs cut.batches log.gate 1 log.rest cut.rest log.spells cut.spells) log.closed cut.damaged
 
 pub whole : (bytes : Bytes) (g : Option ℕ) (bs : List Bytes) (at : ℕ) → HasOpen bytes g bs → ¬ IsDamagedAt bytes at
 whole bytes g bs at open_ damaged =
@@ -209,28 +240,45 @@ known bytes g bs n open_ bad =
     let log = long_log bytes g bs bad.long open_ in
     no_bad_version bytes log.0 bs log.1.gate log.1.rest log.1.spells n bad.version
 
-damage_at : (bytes : Bytes) (at other : ℕ) → IsHeadDamagedAt bytes at ⊎ HasCutBatch bytes at →
-    IsHeadDamagedAt bytes other ⊎ HasCutBatch bytes other → at ≡ other
-damage_at bytes at other (inl (inl one)) (inl (inl two)) = one.0 ∙ sym two.0
-damage_at bytes at other (inl (inl one)) (inl (inr two)) = absurd (one.1 two.1.marked)
-damage_at bytes at other (inl (inl one)) (inr two) = absurd (no_bad_mark bytes two.generation two.batches 1 two.rest two.spells one.1)
-damage_at bytes at other (inl (inr one)) (inl (inl two)) = absurd (two.1 one.1.marked)
-damage_at bytes at other (inl (inr one)) (inl (inr two)) = one.0 ∙ sym two.0
-damage_at bytes at other (inl (inr one)) (inr two) = absurd (no_bad_generation bytes two.generation two.batches 1 two.rest two.spells one.1)
-damage_at bytes at other (inr one) (inl (inl two)) = absurd (no_bad_mark bytes one.generation one.batches 1 one.rest one.spells two.1)
-damage_at bytes at other (inr one) (inl (inr two)) = absurd (no_bad_generation bytes one.generation one.batches 1 one.rest one.spells two.1)
+-- a head that has two faults would have a generation that is too great and small enough
+small_and_great : (bytes : Bytes) → HasBadGeneration bytes → HasBadChecksum bytes → ⊥
+small_and_great bytes one two = absurd (omega (arith, one.too_great, two.below, some_same (sym one.is ∙ two.is)))
+  where
+    some_same : {m k : ℕ} → Some m ≡ Some k → m ≡ k
+    some_same e = cc
+
+head_at : (bytes : Bytes) (at other : ℕ) → IsHeadDamagedAt bytes at → IsHeadDamagedAt bytes other → at ≡ other
+head_at bytes at other (inl one) (inl two) = one.0 ∙ sym two.0
+head_at bytes at other (inl one) (inr (inl two)) = absurd (one.1 two.1.marked)
+head_at bytes at other (inl one) (inr (inr two)) = absurd (one.1 two.1.marked)
+head_at bytes at other (inr (inl one)) (inl two) = absurd (two.1 one.1.marked)
+head_at bytes at other (inr (inl one)) (inr (inl two)) = one.0 ∙ sym two.0
+head_at bytes at other (inr (inl one)) (inr (inr two)) = absurd (small_and_great bytes one.1 two.1)
+head_at bytes at other (inr (inr one)) (inl two) = absurd (two.1 one.1.marked)
+head_at bytes at other (inr (inr one)) (inr (inl two)) = absurd (small_and_great bytes two.1 one.1)
+head_at bytes at other (inr (inr one)) (inr (inr two)) = one.0 ∙ sym two.0
+
+damage_at : (bytes : Bytes) (at other : ℕ) → IsHeadDamagedAt bytes at ⊎ HasDamagedBatch bytes at →
+    IsHeadDamagedAt bytes other ⊎ HasDamagedBatch bytes other → at ≡ other
+damage_at bytes at other (inl one) (inl two) = head_at bytes at other one two
+damage_at bytes at other (inl one) (inr two) = absurd (no_bad_head bytes two.generation two.batches 1 two.rest two.spells at one)
+damage_at bytes at other (inr one) (inl two) = absurd (no_bad_head bytes one.generation one.batches 1 one.rest one.spells other two)
 damage_at bytes at other (inr one) (inr two) =
-    one.here ∙ ap end_of (same_cut one.batches two.batches one.rest two.rest one.spells.lengths two.spells.lengths (one_tail bytes one.generation two.generation one.batches two.batches 1 1 one.rest two.rest one.spells two.spells) one.passes two.passes) ∙ sym two.here
+    one.here ∙ ap end_of (same_damaged one.batches two.batches one.rest two.rest one.spells.lengths two.spells.lengths (one_tail bytes one.generation two.generation one.batches two.batches 1 1 one.rest two.rest one.spells two.spells) one.damaged two.damaged) ∙ sym two.here
 
 pub one_offset : (bytes : Bytes) (at other : ℕ) → IsDamagedAt bytes at → IsDamagedAt bytes other → at ≡ other
 one_offset bytes at other one two = damage_at bytes at other one.damage two.damage
 
-damage_known : (bytes : Bytes) (at n : ℕ) → IsHeadDamagedAt bytes at ⊎ HasCutBatch bytes at → HasUnknownVersion bytes n → ⊥
-damage_known bytes at n (inl (inl one)) bad = one.1 bad.marked
-damage_known bytes at n (inl (inr one)) bad = bad.unknown (some_same (sym bad.is ∙ one.1.known))
+other_version : (bytes : Bytes) (n : ℕ) → number_at w16 bytes 6 ≡ Some version → HasUnknownVersion bytes n → ⊥
+other_version bytes n known bad = bad.unknown (some_same (sym bad.is ∙ known))
   where
     some_same : {m k : ℕ} → Some m ≡ Some k → m ≡ k
     some_same e = cc
+
+damage_known : (bytes : Bytes) (at n : ℕ) → IsHeadDamagedAt bytes at ⊎ HasDamagedBatch bytes at → HasUnknownVersion bytes n → ⊥
+damage_known bytes at n (inl (inl one)) bad = one.1 bad.marked
+damage_known bytes at n (inl (inr (inl one))) bad = other_version bytes n one.1.known bad
+damage_known bytes at n (inl (inr (inr one))) bad = other_version bytes n one.1.known bad
 damage_known bytes at n (inr one) bad = no_bad_version bytes one.generation one.batches 1 one.rest one.spells n bad
 
 pub one_fault : (bytes : Bytes) (at n : ℕ) → IsDamagedAt bytes at → ¬ IsOfUnknownVersion bytes n

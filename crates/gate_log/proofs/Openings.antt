@@ -11,62 +11,62 @@ use Rattle.js_base.specs.Bytes.{Bytes}
 use Rattle.gate_log.specs.Head.{head}
 use Rattle.gate_log.specs.Batches.{open_batches, end_of}
 use Rattle.gate_log.specs.LogFile.{IsLog, HasOpen}
-use Rattle.gate_log.specs.Faults.{HasNoMark, HasUnknownVersion, HasBadGeneration, HasCutBatch}
+use Rattle.gate_log.specs.Faults.{HasNoMark, HasUnknownVersion, HasBadGeneration, HasBadChecksum, IsHeadDamagedAt, HasDamagedBatch}
 use Rattle.gate_log.specs.LogState.{LogState, generation_of, new_log}
 use Rattle.gate_log.specs.Settled.{IsSettled}
 use Rattle.gate_log.specs.Opening.{IsOpenFault, IsHeadRead, IsHeadFault, IsHeadFaultOf}
-use Rattle.gate_log.specs.Walking.{IsCutGate, IsWalked, AreEnds, IsWalkFault}
+use Rattle.gate_log.specs.Walking.{IsDamagedGate, IsWalked, AreEnds, IsWalkFault}
 use Rattle.gate_log.specs.declared.fault.LogFault.{LogFault}
 use Rattle.gate_log.specs.declared.fault.LogFault.TheVariants.{Fault, Full, NoMemory, Damaged, UnknownVersion}
 use Rattle.gate_log.proofs.Spelling.{spelled, end_of-some, length-head}
-use Rattle.gate_log.proofs.Heads.{no_mark, unknown_version, bad_generation}
+use Rattle.gate_log.proofs.Heads.{no_mark, unknown_version, bad_generation, bad_checksum}
 
 -- ---- faults
 
 -- the fault of a head is that of its file
-pub head_fault : (bytes front : Bytes) (cause : LogFault) → 17 < length bytes → front ≡ take 16 bytes → IsHeadFault front cause → IsHeadFaultOf bytes cause
+pub head_fault : (bytes front : Bytes) (cause : LogFault) → 21 < length bytes → front ≡ take 20 bytes → IsHeadFault front cause → IsHeadFaultOf bytes cause
 head_fault bytes front Fault long is h = absurd h
 head_fault bytes front Full long is h = h
 head_fault bytes front NoMemory long is h = h
 head_fault bytes front (Damaged at) long is (inl h) = inl (h.0, no_mark bytes (subst HasNoMark is h.1))
-head_fault bytes front (Damaged at) long is (inr h) = inr (h.0, bad_generation bytes (omega arith) (subst HasBadGeneration is h.1))
+head_fault bytes front (Damaged at) long is (inr (inl h)) = inr (inl (h.0, bad_generation bytes (omega arith) (subst HasBadGeneration is h.1)))
+head_fault bytes front (Damaged at) long is (inr (inr h)) = inr (inr (h.0, bad_checksum bytes (omega arith) (subst HasBadChecksum is h.1)))
 head_fault bytes front (UnknownVersion n) long is h = unknown_version bytes n (omega arith) (subst (λ (l : Bytes). HasUnknownVersion l n) is h)
 
-pub open_head_fault : (bytes mid : Bytes) (cause : LogFault) → mid ≡ bytes → 17 < length bytes → IsHeadFaultOf mid cause → IsOpenFault bytes cause
+pub open_head_fault : (bytes mid : Bytes) (cause : LogFault) → mid ≡ bytes → 21 < length bytes → IsHeadFaultOf mid cause → IsOpenFault bytes cause
 open_head_fault bytes mid Fault same long h = tt
 open_head_fault bytes mid Full same long h = h
 open_head_fault bytes mid NoMemory same long h = h
-open_head_fault bytes mid (Damaged at) same long (inl h) = record { long = long; damage = inl (inl (h.0, subst HasNoMark same h.1)) }
-open_head_fault bytes mid (Damaged at) same long (inr h) = record { long = long; damage = inl (inr (h.0, subst HasBadGeneration same h.1)) }
+open_head_fault bytes mid (Damaged at) same long h = record { long = long; damage = inl (subst (λ (l : Bytes). IsHeadDamagedAt l at) same h) }
 open_head_fault bytes mid (UnknownVersion n) same long h = record { long = long; version = subst (λ (l : Bytes). HasUnknownVersion l n) same h }
 
--- a gate that is cut after some batches
-cut_batch : (bytes : Bytes) (g at : ℕ) (batches : List Bytes) → IsHeadRead bytes g → IsWalked bytes batches at → IsCutGate bytes at → HasCutBatch bytes at
-cut_batch bytes g at batches read walked cut = record {
+-- a damaged batch after some others
+damaged_batch : (bytes : Bytes) (g at : ℕ) (batches : List Bytes) → IsHeadRead bytes g → IsWalked bytes batches at → IsDamagedGate bytes at → HasDamagedBatch bytes at
+damaged_batch bytes g at batches read walked bad = record {
   generation = g;
   batches = batches;
-  rest = cut.0;
-  spells = spelled bytes g batches 1 cut.0 read.0 read.1 walked.lengths (walked.bytes_are ∙ ap (λ (l : Bytes). open_batches batches ++ l) cut.1);
-  passes = cut.2;
+  rest = bad.0;
+  spells = spelled bytes g batches 1 bad.0 read.0 read.1 walked.lengths (walked.bytes_are ∙ ap (λ (l : Bytes). open_batches batches ++ l) bad.1);
+  damaged = bad.2;
   here = walked.here;
 }
 
-pub open_walk_fault : (bytes mid last : Bytes) (g : ℕ) (cause : LogFault) → mid ≡ bytes → last ≡ bytes → 17 < length bytes → IsHeadRead mid g → IsWalkFault last cause → IsOpenFault bytes cause
+pub open_walk_fault : (bytes mid last : Bytes) (g : ℕ) (cause : LogFault) → mid ≡ bytes → last ≡ bytes → 21 < length bytes → IsHeadRead mid g → IsWalkFault last cause → IsOpenFault bytes cause
 open_walk_fault bytes mid last g Fault same alike long read h = tt
 open_walk_fault bytes mid last g Full same alike long read h = h
 open_walk_fault bytes mid last g NoMemory same alike long read h = h
 open_walk_fault bytes mid last g (Damaged at) same alike long read h = record {
   long = long;
-  damage = inr (cut_batch bytes g at h.0 (subst (λ (l : Bytes). IsHeadRead l g) same read) (subst (λ (l : Bytes). IsWalked l h.0 at) alike h.1) (subst (λ (l : Bytes). IsCutGate l at) alike h.2));
+  damage = inr (damaged_batch bytes g at h.0 (subst (λ (l : Bytes). IsHeadRead l g) same read) (subst (λ (l : Bytes). IsWalked l h.0 at) alike h.1) (subst (λ (l : Bytes). IsDamagedGate l at) alike h.2));
 }
 open_walk_fault bytes mid last g (UnknownVersion n) same alike long read h = absurd h
 
 -- ---- logs
 
-no_generation : (log : LogState) → log.end ≡ 16 → generation_of log ≡ None
+no_generation : (log : LogState) → log.end ≡ 20 → generation_of log ≡ None
 no_generation log is = grind (arith, nat_tests)
 
-some_generation : (log : LogState) → 16 < log.end → generation_of log ≡ log.head
+some_generation : (log : LogState) → 20 < log.end → generation_of log ≡ log.head
 some_generation log lt = grind (arith, nat_tests)
 
 -- a log is read as it is known
@@ -106,22 +106,22 @@ known file first last h = record { file = file; head = h; first_end = first; end
 
 -- the log that is opened
 pub settled_walk : (file g first last : ℕ) (disk : Disk) (log : LogState) → IsHeadRead (disk.seen file) g → AreEnds (disk.seen file) first last → IsDurable disk file →
-    log ≡ record { file = file; head = if last == 16 then None else Some g; first_end = first; end = last } → (batches : List Bytes) × IsSettled log batches disk
-settled_walk file g first last disk log read ends durable is = subst (λ (l : LogState). (batches : List Bytes) × IsSettled l batches disk) (sym is) (ends.batches, here ends.batches ends.first ends.walked.here (walked_log (disk.seen file) g first last read ends) (cases_eq last 16))
+    log ≡ record { file = file; head = if last == 20 then None else Some g; first_end = first; end = last } → (batches : List Bytes) × IsSettled log batches disk
+settled_walk file g first last disk log read ends durable is = subst (λ (l : LogState). (batches : List Bytes) × IsSettled l batches disk) (sym is) (ends.batches, here ends.batches ends.first ends.walked.here (walked_log (disk.seen file) g first last read ends) (cases_eq last 20))
   where
-    none_at : last ≡ 16 → (if last == 16 then None else Some g) ≡ None
+    none_at : last ≡ 20 → (if last == 20 then None else Some g) ≡ None
     none_at none = grind (arith, nat_tests)
 
-    some_at : last ≢ 16 → (if last == 16 then None else Some g) ≡ Some g
+    some_at : last ≢ 20 → (if last == 20 then None else Some g) ≡ Some g
     some_at some = grind (arith, nat_tests)
 
-    here : (batches : List Bytes) → first ≡ end_of (take 1 batches) → last ≡ end_of batches → IsLog g batches (disk.seen file) → (last ≡ 16) ⊎ (last ≢ 16) → IsSettled (known file first last (if last == 16 then None else Some g)) batches disk
+    here : (batches : List Bytes) → first ≡ end_of (take 1 batches) → last ≡ end_of batches → IsLog g batches (disk.seen file) → (last ≡ 20) ⊎ (last ≢ 20) → IsSettled (known file first last (if last == 20 then None else Some g)) batches disk
     here batches one two log_is (inr some) = subst (λ (h : Option ℕ). IsSettled (known file first last h) batches disk) (sym (some_at some)) (settled_log (known file first last (Some g)) g batches disk refl one two durable log_is)
     here [] one two log_is (inl none) = subst (λ (h : Option ℕ). IsSettled (known file first last h) [] disk) (sym (none_at none)) (record { read = subst (λ (o : Option ℕ). HasOpen (disk.seen file) o []) (sym (no_generation (known file first last None) none)) (inr (g, log_is)); head = tt; first_end = one; end = two; durable = durable })
     here (b ∷ batches) one two log_is (inl none) = absurd (omega (arith, none, two, end_of-some b batches))
 
 -- a log that is written over a short file
-pub started_log : (g : ℕ) (bytes old new : Bytes) → g < 2 ^ 62 → bytes ≡ head g ++ 0 ∷ [] → length old ≤ 17 → new ≡ written 0 bytes old → IsLog g [] new
+pub started_log : (g : ℕ) (bytes old new : Bytes) → g < 2 ^ 62 → bytes ≡ head g ++ 0 ∷ [] → length old ≤ 21 → new ≡ written 0 bytes old → IsLog g [] new
 started_log g bytes old new below is short holds =
     let none : drop (0 + length bytes) old ≡ [] = drop_all (0 + length bytes) old (omega (arith, ap length is, length-append (head g) (0 ∷ []), length-head g)) in
     record {

@@ -3,6 +3,8 @@ use Rattle.std.proofs.Common.{◌≡◌, ℕ, ◌+◌, ◌<◌, ◌≤◌, ◌^�
 use Rattle.std.specs.Int.{w32, to_be_bytes}
 use Rattle.std.proofs.lemmas.List.{take_at, drop_at, append-nil}
 use Rattle.js_base.specs.Bytes.{Bytes}
+use Rattle.checksum.specs.Checked.{checked}
+use Rattle.checksum.proofs.Checking.{length-checked}
 use Rattle.gate_log.specs.Head.{head}
 use Rattle.gate_log.specs.Batches.{open_batch, open_batches, end_of, HaveLengths}
 use Rattle.gate_log.specs.LogFile.{Spells}
@@ -10,28 +12,28 @@ use Rattle.gate_log.specs.LogFile.{Spells}
 pub length-be4 : (n : ℕ) → length (to_be_bytes w32 n) ≡ 4
 length-be4 n = refl
 
-pub length-head : (generation : ℕ) → length (head generation) ≡ 16
+pub length-head : (generation : ℕ) → length (head generation) ≡ 20
 length-head generation = refl
 
-pub length-open_batch : (records : Bytes) → length (open_batch records) ≡ 5 + length records
-length-open_batch records = omega (arith, length-append (1 ∷ to_be_bytes w32 (length records)) records, length-be4 (length records))
+pub length-open_batch : (records : Bytes) → length (open_batch records) ≡ 9 + length records
+length-open_batch records = omega (arith, length-checked records)
 
 -- one batch more
 pub open_batches-push : (batches : List Bytes) (records rest : Bytes) →
-    open_batches (batches ++ records ∷ []) ++ rest ≡ open_batches batches ++ 1 ∷ (to_be_bytes w32 (length records) ++ (records ++ rest))
-open_batches-push [] records rest = simp append_assoc
+    open_batches (batches ++ records ∷ []) ++ rest ≡ open_batches batches ++ 1 ∷ (checked records ++ rest)
+open_batches-push [] records rest = ap (λ (l : Bytes). l ++ rest) (append-nil (open_batch records))
 open_batches-push (b ∷ batches) records rest =
-    append_assoc (open_batch b) (open_batches (batches ++ records ∷ [])) rest ∙ ap (λ (l : Bytes). open_batch b ++ l) (open_batches-push batches records rest) ∙ sym (append_assoc (open_batch b) (open_batches batches) (1 ∷ (to_be_bytes w32 (length records) ++ (records ++ rest))))
+    append_assoc (open_batch b) (open_batches (batches ++ records ∷ [])) rest ∙ ap (λ (l : Bytes). open_batch b ++ l) (open_batches-push batches records rest) ∙ sym (append_assoc (open_batch b) (open_batches batches) (1 ∷ (checked records ++ rest)))
 
 pub lengths-push : (batches : List Bytes) (records : Bytes) → HaveLengths batches → length records < 2 ^ 32 → HaveLengths (batches ++ records ∷ [])
 lengths-push [] records short one = (one, tt)
 lengths-push (b ∷ batches) records short one = (short.0, lengths-push batches records short.1 one)
 
-pub end_of-push : (batches : List Bytes) (records : Bytes) → end_of (batches ++ records ∷ []) ≡ end_of batches + 5 + length records
+pub end_of-push : (batches : List Bytes) (records : Bytes) → end_of (batches ++ records ∷ []) ≡ end_of batches + 9 + length records
 end_of-push batches records =
-    omega (arith, ap length (open_batches-push batches records []), ap length (append-nil (open_batches (batches ++ records ∷ []))), length-append (open_batches batches) (1 ∷ (to_be_bytes w32 (length records) ++ (records ++ []))), length-append (to_be_bytes w32 (length records)) (records ++ []), length-append records [], length-be4 (length records))
+    omega (arith, ap length (open_batches-push batches records []), ap length (append-nil (open_batches (batches ++ records ∷ []))), length-append (open_batches batches) (1 ∷ (checked records ++ [])), length-append (checked records) [], length-checked records)
 
-pub end_of-some : (records : Bytes) (batches : List Bytes) → 16 < end_of (records ∷ batches)
+pub end_of-some : (records : Bytes) (batches : List Bytes) → 20 < end_of (records ∷ batches)
 end_of-some records batches = omega (arith, length-append (open_batch records) (open_batches batches), length-open_batch records)
 
 pub end_of-front : (front rest : List Bytes) → end_of front ≤ end_of (front ++ rest)
@@ -40,7 +42,7 @@ end_of-front (b ∷ front) rest = omega (arith, end_of-front front rest, length-
 
 -- the gate after the first batch stays
 pub first-push : (batches : List Bytes) (records : Bytes) (first last next : ℕ) → first ≡ end_of (take 1 batches) → last ≡ end_of batches → next ≡ end_of (batches ++ records ∷ []) →
-    (last ≡ 16 → end_of (take 1 (batches ++ records ∷ [])) ≡ next) × (16 < last → end_of (take 1 (batches ++ records ∷ [])) ≡ first)
+    (last ≡ 20 → end_of (take 1 (batches ++ records ∷ [])) ≡ next) × (20 < last → end_of (take 1 (batches ++ records ∷ [])) ≡ first)
 first-push [] records first last next f l n = (λ z. sym n, λ lt. absurd (omega arith))
 first-push (b ∷ batches) records first last next f l n = (λ z. absurd (omega (arith, end_of-some b batches)), λ lt. sym f)
 
@@ -83,17 +85,17 @@ module _ (bytes : Bytes) (generation : ℕ) (batches : List Bytes) (gate : ℕ) 
   pub rest_is : drop (end_of batches + 1) bytes ≡ rest
   rest_is = ap (λ (l : Bytes). drop (end_of batches + 1) l) split_gate ∙ drop_at (front ++ gate ∷ []) rest (end_of batches + 1) length-gate
 
-  pub head_is : take 16 bytes ≡ head generation
-  head_is = ap (λ (l : Bytes). take 16 l) s.bytes_are ∙ take_at (head generation) (open_batches batches ++ gate ∷ rest) 16 (length-head generation)
+  pub head_is : take 20 bytes ≡ head generation
+  head_is = ap (λ (l : Bytes). take 20 l) s.bytes_are ∙ take_at (head generation) (open_batches batches ++ gate ∷ rest) 20 (length-head generation)
 
-  pub behind_head : drop 16 bytes ≡ open_batches batches ++ gate ∷ rest
-  behind_head = ap (λ (l : Bytes). drop 16 l) s.bytes_are ∙ drop_at (head generation) (open_batches batches ++ gate ∷ rest) 16 (length-head generation)
+  pub behind_head : drop 20 bytes ≡ open_batches batches ++ gate ∷ rest
+  behind_head = ap (λ (l : Bytes). drop 20 l) s.bytes_are ∙ drop_at (head generation) (open_batches batches ++ gate ∷ rest) 20 (length-head generation)
 
 -- a file by its head and what stands behind that
-pub spelled : (bytes : Bytes) (generation : ℕ) (batches : List Bytes) (gate : ℕ) (rest : Bytes) → take 16 bytes ≡ head generation → generation < 2 ^ 62 → HaveLengths batches →
-    drop 16 bytes ≡ open_batches batches ++ gate ∷ rest → Spells bytes generation batches gate rest
+pub spelled : (bytes : Bytes) (generation : ℕ) (batches : List Bytes) (gate : ℕ) (rest : Bytes) → take 20 bytes ≡ head generation → generation < 2 ^ 62 → HaveLengths batches →
+    drop 20 bytes ≡ open_batches batches ++ gate ∷ rest → Spells bytes generation batches gate rest
 spelled bytes generation batches gate rest h below lengths behind = record {
-  bytes_are = sym (take-append-drop 16 bytes) ∙ ap (λ (l : Bytes). l ++ drop 16 bytes) h ∙ ap (λ (l : Bytes). head generation ++ l) behind;
+  bytes_are = sym (take-append-drop 20 bytes) ∙ ap (λ (l : Bytes). l ++ drop 20 bytes) h ∙ ap (λ (l : Bytes). head generation ++ l) behind;
   below = below;
   lengths = lengths;
 }

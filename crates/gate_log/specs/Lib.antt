@@ -6,6 +6,7 @@ pub mod LogState
 pub mod Settled
 pub mod Opening
 pub mod Reading
+pub mod Growing
 pub mod Starting
 pub mod Staging
 pub mod Appending

@@ -17,9 +17,9 @@ pub record IsLog (generation : ℕ) (batches : List Bytes) (bytes : Bytes) : Typ
   pub spells : Spells bytes generation batches gate rest
   pub closed : gate ≢ 1
 
--- The open batches of a log file, with its generation if there is one. A file of 17 bytes or fewer holds nothing, whatever its bytes.
+-- The open batches of a log file, with its generation if there is one. A file of 21 bytes or fewer holds nothing, whatever its bytes.
 abbrev pub HasOpen : Bytes → Option ℕ → List Bytes → Type 0
-HasOpen bytes None [] = (length bytes ≤ 17) ⊎ ((generation : ℕ) × IsLog generation [] bytes)
+HasOpen bytes None [] = (length bytes ≤ 21) ⊎ ((generation : ℕ) × IsLog generation [] bytes)
 HasOpen bytes None (records ∷ batches) = ⊥
 HasOpen bytes (Some generation) [] = ⊥
 HasOpen bytes (Some generation) (records ∷ batches) = IsLog generation (records ∷ batches) bytes

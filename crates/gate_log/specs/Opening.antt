@@ -16,7 +16,7 @@ IsOpenFault bytes (UnknownVersion n) = IsOfUnknownVersion bytes n
 
 -- the file begins with the head of this generation
 abbrev pub IsHeadRead : Bytes → ℕ → Type 0
-IsHeadRead bytes generation = (take 16 bytes ≡ head generation) × (generation < 2 ^ 62)
+IsHeadRead bytes generation = (take 20 bytes ≡ head generation) × (generation < 2 ^ 62)
 
 -- the head has this fault
 abbrev pub IsHeadFault : Bytes → LogFault → Type 0

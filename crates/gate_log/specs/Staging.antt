@@ -1,20 +1,20 @@
 -- A batch that stands behind its closed gate.
 use Rattle.std.specs.Prelude.{◌≡◌, ◌<◌, ◌-◌, ◌^◌, ℕ, List, [], ◌∷◌, ◌++◌, length, take, drop, IfSome}
-use Rattle.std.specs.Int.{w32, to_be_bytes}
 use Rattle.vol_disk.specs.Disk.{Disk}
 use Rattle.vol_disk.specs.Images.{IsDurable}
 use Rattle.js_base.specs.Bytes.{Bytes}
+use Rattle.checksum.specs.Checked.{checked}
 use Rattle.gate_log.specs.LogFile.{Spells}
 use Rattle.gate_log.specs.LogState.{LogState}
 use Rattle.gate_log.specs.Settled.{IsSettled}
 
--- the length of the records, they, and a closed gate for the next batch
+-- the records behind their length and their checksum, and a closed gate for the next batch
 abbrev pub behind_gate : Bytes → Bytes
-behind_gate records = to_be_bytes w32 (length records) ++ (records ++ 0 ∷ [])
+behind_gate records = checked records ++ 0 ∷ []
 
 -- the records of what stands behind a gate
 abbrev pub records_in : Bytes → Bytes
-records_in staged = take (length staged - 5) (drop 4 staged)
+records_in staged = take (length staged - 9) (drop 8 staged)
 
 -- it is what stands behind a gate with them, which are not too long for their length to be told
 pub record IsStagedBatch (staged : Bytes) : Type 0 where

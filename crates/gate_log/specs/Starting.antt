@@ -1,4 +1,4 @@
--- What the start of a log leaves.
+-- What a log leaves as it is cleared, or as one is started in its file.
 use Rattle.std.specs.Prelude.{◌≡◌, ◌≢◌, ◌⊎◌, ℕ, ◌<◌, List, [], Option, None, length, take, slice_index}
 use Rattle.vol_disk.specs.Disk.{Disk}
 use Rattle.vol_disk.specs.Does.{Rests}
@@ -17,6 +17,6 @@ pub record Starts (file : ℕ) (old new : Disk) : Type 0 where
 
 -- the first gate is closed, and the head is as it was
 pub record IsShut (old new : Bytes) : Type 0 where
-  pub head : take 16 new ≡ take 16 old
-  pub closed : slice_index new 16 ≢ 1
-  pub long : 17 < length new
+  pub head : take 20 new ≡ take 20 old
+  pub closed : slice_index new 20 ≢ 1
+  pub long : 21 < length new

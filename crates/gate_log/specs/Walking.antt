@@ -2,7 +2,7 @@
 use Rattle.std.specs.Prelude.{◌≡◌, ◌≢◌, ℕ, ◌+◌, ◌<◌, ◌^◌, List, ◌∷◌, ◌++◌, length, take, drop, Option, Some, None}
 use Rattle.js_base.specs.Bytes.{Bytes}
 use Rattle.gate_log.specs.Batches.{open_batch, open_batches, end_of, HaveLengths}
-use Rattle.gate_log.specs.Faults.{PassesEnd}
+use Rattle.gate_log.specs.Faults.{IsDamagedBatch}
 use Rattle.gate_log.specs.declared.fault.LogFault.{LogFault}
 use Rattle.gate_log.specs.declared.fault.LogFault.TheVariants.{Fault, Full, NoMemory, Damaged, UnknownVersion}
 
@@ -10,15 +10,15 @@ use Rattle.gate_log.specs.declared.fault.LogFault.TheVariants.{Fault, Full, NoMe
 abbrev pub IsNextGate : Bytes → ℕ → Option ℕ → Type 0
 IsNextGate bytes at None = (gate : ℕ) × (rest : Bytes) × (drop at bytes ≡ gate ∷ rest) × (gate ≢ 1)
 IsNextGate bytes at (Some next) =
-    (records : Bytes) × (drop at bytes ≡ open_batch records ++ drop next bytes) × (next ≡ at + 5 + length records) × (next < length bytes) × (length records < 2 ^ 32)
+    (records : Bytes) × (drop at bytes ≡ open_batch records ++ drop next bytes) × (next ≡ at + 9 + length records) × (next < length bytes) × (length records < 2 ^ 32)
 
--- it opens a batch that passes the file's end
-abbrev pub IsCutGate : Bytes → ℕ → Type 0
-IsCutGate bytes at = (rest : Bytes) × (drop at bytes ≡ 1 ∷ rest) × PassesEnd rest
+-- it opens a batch that is damaged
+abbrev pub IsDamagedGate : Bytes → ℕ → Type 0
+IsDamagedGate bytes at = (rest : Bytes) × (drop at bytes ≡ 1 ∷ rest) × IsDamagedBatch rest
 
 -- these open batches lead from the first gate to this one
 pub record IsWalked (bytes : Bytes) (batches : List Bytes) (at : ℕ) : Type 0 where
-  pub bytes_are : drop 16 bytes ≡ open_batches batches ++ drop at bytes
+  pub bytes_are : drop 20 bytes ≡ open_batches batches ++ drop at bytes
   pub here : at ≡ end_of batches
   pub lengths : HaveLengths batches
 
@@ -34,7 +34,7 @@ abbrev pub IsGateFault : Bytes → ℕ → LogFault → Type 0
 IsGateFault bytes at Fault = Unit {0}
 IsGateFault bytes at Full = ⊥
 IsGateFault bytes at NoMemory = ⊥
-IsGateFault bytes at (Damaged place) = (place ≡ at) × IsCutGate bytes at
+IsGateFault bytes at (Damaged place) = (place ≡ at) × IsDamagedGate bytes at
 IsGateFault bytes at (UnknownVersion n) = ⊥
 
 -- at the first gate to which open batches lead and that opens none
@@ -42,5 +42,5 @@ abbrev pub IsWalkFault : Bytes → LogFault → Type 0
 IsWalkFault bytes Fault = Unit {0}
 IsWalkFault bytes Full = ⊥
 IsWalkFault bytes NoMemory = ⊥
-IsWalkFault bytes (Damaged at) = (batches : List Bytes) × IsWalked bytes batches at × IsCutGate bytes at
+IsWalkFault bytes (Damaged at) = (batches : List Bytes) × IsWalked bytes batches at × IsDamagedGate bytes at
 IsWalkFault bytes (UnknownVersion n) = ⊥

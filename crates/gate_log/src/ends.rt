@@ -3,7 +3,7 @@
 ghost use Rattle.std.specs.Prelude.{◌≡◌, ◌==◌, if◌then◌else◌};
 
 /// The offset of the first gate, which stands behind the head.
-pub const FIRST_GATE: u64 = 16;
+pub const FIRST_GATE: u64 = 20;
 
 /// The offsets of the gates after the first open batch and after the last one, the first gate's if none is open.
 #[derive(Clone, Copy, Debug)]
@@ -15,7 +15,7 @@ pub struct Ends {
 impl Ends {
     /// No batch is open.
     pub fn none() -> Ends
-        ensures value { result ≡ record { first = 16; last = 16 } }
+        ensures value { result ≡ record { first = 20; last = 20 } }
     {
         Ends {
             first: FIRST_GATE,
@@ -25,7 +25,7 @@ impl Ends {
 
     /// With one open batch more, after which the gate stands here.
     pub fn before(self, gate: u64) -> Ends
-        ensures value { result ≡ record { first = if self.last == 16 then gate else self.first; last = gate } }
+        ensures value { result ≡ record { first = if self.last == 20 then gate else self.first; last = gate } }
     {
         let first = if self.last == FIRST_GATE {
             gate

@@ -17,11 +17,11 @@ pub enum LogFault {
     Full,
     #[error("out of memory")]
     NoMemory,
-    /// The file does not begin as a log does, at 0; its generation is 2^62 or more, at 8; or the batch of an open gate passes the file's end,
-    /// at that gate.
+    /// The file does not begin as a log does, at 0; its generation is 2^62 or more, at 8; the checksum of its head is not that of the bytes
+    /// before, at 16; or the batch of an open gate passes the file's end, or its checksum is not that of its records, at that gate.
     #[error("damaged at {0}")]
     Damaged(u64),
-    /// The format has another version than 1.
+    /// The format has another version than 2.
     #[error("unknown version {0}")]
     UnknownVersion(u16),
 }

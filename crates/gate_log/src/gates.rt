@@ -9,10 +9,14 @@ ghost use Rattle.gate_log.specs.Walking.{IsNextGate, IsGateFault, AreEnds, IsWal
 
 use crate::ends::Ends;
 use crate::fault::LogFault;
+use crate::sums::checksum_at;
 use vol_disk::{Failed, Vol};
 
 /// A gate with this byte is open, and with any other one closed.
 pub const OPEN: u8 = 1;
+
+/// The bytes of a batch that are no records, and the gate behind it: its own gate, the length, the checksum, and the next gate.
+const AROUND_BATCH: u64 = 10;
 
 /// Reads a range of the file.
 pub fn read<V: Vol>(vol: &mut V, file: u32, at: u64, into: &mut [u8]) -> Result<(), Failed>
@@ -38,7 +42,7 @@ pub fn byte_at<V: Vol>(vol: &mut V, file: u32, at: u64) -> Result<u8, Failed>
     Ok(byte[0])
 }
 
-/// The number of a batch's length.
+/// The number of a batch's length or checksum.
 fn number_of(bytes: [u8; 4]) -> u32
     ensures { to_be_bytes w32 result ≡ bytes }
 {
@@ -84,20 +88,24 @@ fn next_gate<V: Vol>(vol: &mut V, file: u32, len: u64, at: u64) -> Result<Option
     if byte_at(vol, file, at)? != OPEN {
         return Ok(None);
     }
-    if len - at < 6 {
+    if len - at < AROUND_BATCH {
         return Err(LogFault::Damaged(at));
     }
     let count = number_at(vol, file, at + 1)? as u64;
-    if len - at - 6 < count {
+    if len - at - AROUND_BATCH < count {
         return Err(LogFault::Damaged(at));
     }
-    Ok(Some(at + 5 + count))
+    let told = number_at(vol, file, at + 5)?;
+    if checksum_at(vol, file, at + 9, count)? != told {
+        return Err(LogFault::Damaged(at));
+    }
+    Ok(Some(at + 9 + count))
 }
 
 /// The gates after the first open batch and after the last one of a file that is this long.
 pub fn walk<V: Vol>(vol: &mut V, file: u32, len: u64) -> Result<Ends, LogFault>
     requires len { V.told → len ≡ length ((V.disk vol.old).seen file) }
-    requires long { 16 < len }
+    requires long { 20 < len }
     ensures ends { V.told → IfOk result (λ ends. AreEnds ((V.disk vol.old).seen file) ends.first ends.last) }
     ensures fault { V.told → IfErr result (IsWalkFault ((V.disk vol.old).seen file)) }
     ensures quiet { V.told → Quiet (V.disk vol.old) (V.disk vol.new) }

@@ -5,15 +5,19 @@ ghost use Rattle.gate_log.specs.Head.{head};
 ghost use Rattle.gate_log.specs.Opening.{IsHeadFault};
 
 use crate::fault::LogFault;
-use js_base::{NoMemory, get_u16, get_u64, put_bytes, put_u16, put_u64};
+use checksum::crc32c;
+use js_base::{NoMemory, get_u16, get_u32, get_u64, put_bytes, put_u16, put_u32, put_u64};
 use std::alloc::Global;
 
 const MARK: &[u8; 6] = b"JSLOG\0";
 
-const VERSION: u16 = 1;
+const VERSION: u16 = 2;
+
+/// Where in a head its checksum begins, which is that of the bytes before.
+const CHECKSUM_AT: usize = 16;
 
 /// The generation of a log by its head, or the first fault of the head.
-pub fn read_head(bytes: &[u8; 16]) -> Result<u64, LogFault>
+pub fn read_head(bytes: &[u8; 20]) -> Result<u64, LogFault>
     ensures ok { IfOk result (λ generation. (bytes.now ≡ head generation) × (generation < 2 ^ 62)) }
     ensures err { IfErr result (IsHeadFault bytes.now) }
 {
@@ -28,6 +32,10 @@ pub fn read_head(bytes: &[u8; 16]) -> Result<u64, LogFault>
     if generation >= 1 << 62 {
         return Err(LogFault::Damaged(8));
     }
+    let sum = get_u32(bytes, CHECKSUM_AT).unwrap_or(0);
+    if sum != crc32c(&bytes[..CHECKSUM_AT]) {
+        return Err(LogFault::Damaged(16));
+    }
     Ok(generation)
 }
 
@@ -39,6 +47,8 @@ pub fn empty_log(alloc: Global, generation: u64) -> Result<Vec<u8>, NoMemory>
     put_bytes(&mut bytes, MARK)?;
     put_u16(&mut bytes, VERSION)?;
     put_u64(&mut bytes, generation)?;
+    let sum = crc32c(bytes.as_slice());
+    put_u32(&mut bytes, sum)?;
     put_bytes(&mut bytes, &[0])?;
     Ok(bytes)
 }

@@ -9,7 +9,9 @@ pub mod laws;
 mod log;
 mod staging;
 mod starting;
+mod sums;
 
 pub use fault::LogFault;
 pub use log::GateLog;
 pub use staging::Batch;
+pub use starting::clear_log;

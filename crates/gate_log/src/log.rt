@@ -1,6 +1,6 @@
 //! Logs of batches.
 
-ghost use Rattle.std.specs.Prelude.{◌≡◌, ◌↔◌, ◌+◌, ◌<◌, ◌≤◌, ◌^◌, ◌++◌, ◌∷◌, [], List, None, Some, OnOk, OnErr, IfOk, IfErr, IsErrOf, IsNone, IsSome, IsTrue, length, take, drop};
+ghost use Rattle.std.specs.Prelude.{◌≡◌, ◌↔◌, ◌+◌, ◌<◌, ◌≤◌, ◌^◌, ◌++◌, ◌∷◌, [], List, None, Some, OnOk, OnErr, IfOk, IfErr, IsErrOf, IsNone, IsSome, IsTrue, length, max, take, drop};
 ghost use Rattle.vol_disk.specs.Images.{IsDurable};
 ghost use Rattle.vol_disk.specs.Moments.{Quiet};
 ghost use Rattle.js_base.specs.Bytes.{Bytes};
@@ -10,6 +10,7 @@ ghost use Rattle.gate_log.specs.LogState.{generation_of, new_log, with_batch};
 ghost use Rattle.gate_log.specs.Settled.{IsSettled};
 ghost use Rattle.gate_log.specs.Opening.{IsOpenFault, IsHeadRead, IsHeadFaultOf, IsOutside};
 ghost use Rattle.gate_log.specs.Reading.{IsSomeGate, IsReadAt};
+ghost use Rattle.gate_log.specs.Growing.{GrowsTo};
 ghost use Rattle.gate_log.specs.Starting.{Starts};
 ghost use Rattle.gate_log.specs.Staging.{StagesTo};
 ghost use Rattle.gate_log.specs.Appending.{AppendsTo, IsAppended, IsAppendFault, IsBatchFault, IsVolumeFault};
@@ -19,7 +20,7 @@ use crate::fault::LogFault;
 use crate::gates::{OPEN, number_at, read, synced_len, walk};
 use crate::head::{empty_log, read_head};
 use crate::staging::{Batch, fits};
-use crate::starting::clear;
+use crate::starting::clear_log;
 use js_base::{Blob, NoMemory};
 use std::alloc::Global;
 use std::marker::Model;
@@ -47,14 +48,14 @@ impl Model for GateLog {
 
 /// The generation of a log file that is longer than its head.
 fn head_of<V: Vol>(vol: &mut V, file: u32) -> Result<u64, LogFault>
-    requires long { V.told → 17 < length ((V.disk vol.old).seen file) }
+    requires long { V.told → 21 < length ((V.disk vol.old).seen file) }
     ensures ok { V.told → IfOk result (IsHeadRead ((V.disk vol.old).seen file)) }
     ensures err { V.told → IfErr result (IsHeadFaultOf ((V.disk vol.old).seen file)) }
     ensures quiet { V.told → Quiet (V.disk vol.old) (V.disk vol.new) }
     ensures cause { HasCause (V.faults vol.old) (V.faults vol.new) (IsErrOf result LogFault.Fault) }
     ensures later { (V.disk vol.old).moment ≤ (V.disk vol.new).moment }
 {
-    let mut bytes = [0; 16];
+    let mut bytes = [0; 20];
     read(vol, file, 0, &mut bytes)?;
     read_head(&bytes)
 }
@@ -83,8 +84,8 @@ fn bytes_at<V: Vol>(
 }
 
 impl GateLog {
-    /// Reads where the batches of a log file end. The file is synced before, and nothing is written. It reads the gates and lengths of the
-    /// batches alone, takes no memory, and never answers `Full` or `NoMemory`.
+    /// Reads where the batches of a log file end. The file is synced before, and nothing is written. It reads the batches in small pieces to
+    /// compare their checksums, takes no memory, and never answers `Full` or `NoMemory`.
     pub fn open<V: Vol>(vol: &mut V, file: u32) -> Result<GateLog, LogFault>
         ensures file { IfOk result (λ log. log.file ≡ file) }
         // What is found is what the file holds, and a crash leaves just that.
@@ -134,15 +135,24 @@ impl GateLog {
         ensures log { IfOk result (λ log. log ≡ new_log file (Some generation)) }
         ensures settled { V.told → IfOk result (λ log. IsSettled log [] (V.disk vol.new)) }
         ensures any_moment { V.told → Starts file (V.disk vol.old) (V.disk vol.new) }
+        ensures grows { V.told → GrowsTo file 21 (V.disk vol.old) (V.disk vol.new) }
+        ensures size { V.told → OnOk result (length ((V.disk vol.new).seen file) ≤ 21) }
         ensures only { IfErr result IsOutside }
         ensures no_memory { IsErrOf result LogFault.NoMemory → vol.new ≡ vol.old }
         ensures cause { HasCause (V.faults vol.old) (V.faults vol.new) (IsErrOf result LogFault.Fault) }
         ensures later { (V.disk vol.old).moment ≤ (V.disk vol.new).moment }
     {
         let bytes = empty_log(alloc, generation)?;
-        clear(vol, file)?;
+        clear_log(vol, file)?;
         write_synced(vol, file, 0, bytes.as_slice())?;
         Ok(GateLog::without_batches(file, Some(generation)))
+    }
+
+    /// The number of its file.
+    pub fn file(&self) -> u32
+        ensures value { result ≡ self.now.file }
+    {
+        self.file
     }
 
     /// The generation, or `None` exactly if no batch is open.
@@ -156,14 +166,14 @@ impl GateLog {
         }
     }
 
-    /// The offset of the gate after the first open batch, 16 if none is open.
+    /// The offset of the gate after the first open batch, 20 if none is open.
     pub fn first_end(&self) -> u64
         ensures value { result ≡ self.now.first_end }
     {
         self.ends.first
     }
 
-    /// The offset of the gate after the last open batch, 16 if none is open.
+    /// The offset of the gate after the last open batch, 20 if none is open.
     pub fn end(&self) -> u64
         ensures value { result ≡ self.now.end }
     {
@@ -172,13 +182,13 @@ impl GateLog {
 
     /// Whether it has room for a batch of so many bytes more, for which `append` does not answer `Full`.
     pub fn fits(&self, count: usize) -> bool
-        ensures value { IsTrue result ↔ (self.now.end + 6 + count ≤ 2 ^ 31) }
+        ensures value { IsTrue result ↔ (self.now.end + 10 + count ≤ 2 ^ 31) }
     {
         fits(self.ends.last, count)
     }
 
     /// The records of the open batch whose gate is at the offset, and the offset of the next gate; `None` exactly if the offset is the end.
-    /// The offset is 16, or one that was answered so. It answers `Fault` or `NoMemory` alone.
+    /// The offset is 20, or one that was answered so. It answers `Fault` or `NoMemory` alone.
     pub fn batch<V: Vol>(
         &self,
         alloc: Global,
@@ -197,7 +207,7 @@ impl GateLog {
             return Ok(None);
         }
         let count = number_at(vol, self.file, at.saturating_add(1))?;
-        let from = at.saturating_add(5);
+        let from = at.saturating_add(9);
         let records = bytes_at(alloc, vol, self.file, from, count)?;
         Ok(Some((records, from.saturating_add(count as u64))))
     }
@@ -206,9 +216,11 @@ impl GateLog {
     fn stage<V: Vol>(&self, vol: &mut V, batch: &Batch) -> Result<(), LogFault>
         requires settled { V.told → (batches : List Bytes) × IsSettled self.now batches (V.disk vol.old) }
         requires head { IsSome self.now.head }
-        requires fits { self.now.end + 6 + length batch.now ≤ 2 ^ 31 }
+        requires fits { self.now.end + 10 + length batch.now ≤ 2 ^ 31 }
         ensures staged { V.told → OnOk result (StagesTo self.now batch.now (V.disk vol.old) (V.disk vol.new)) }
         ensures any_moment { V.told → AppendsTo self.now batch.now (V.disk vol.old) (V.disk vol.new) }
+        ensures grows { V.told → GrowsTo self.now.file (self.now.end + 10 + length batch.now) (V.disk vol.old) (V.disk vol.new) }
+        ensures size { V.told → OnOk result (length ((V.disk vol.new).seen self.now.file) ≤ max (self.now.end + 10 + length batch.now) (length ((V.disk vol.old).seen self.now.file))) }
         ensures only { IfErr result IsVolumeFault }
         ensures cause { HasCause (V.faults vol.old) (V.faults vol.new) (IsErrOf result LogFault.Fault) }
         ensures later { (V.disk vol.old).moment ≤ (V.disk vol.new).moment }
@@ -227,9 +239,10 @@ impl GateLog {
         requires head { IsSome self.old.head }
         ensures appended { V.told → OnOk result (IsAppended self.old self.new batch.now (V.disk vol.old) (V.disk vol.new)) }
         ensures any_moment { V.told → AppendsTo self.old batch.now (V.disk vol.old) (V.disk vol.new) }
+        ensures grows { V.told → GrowsTo self.old.file (self.old.end + 10 + length batch.now) (V.disk vol.old) (V.disk vol.new) }
         ensures log { OnOk result (self.new ≡ with_batch self.old (length batch.now)) }
         ensures err { OnErr result (self.new ≡ self.old) }
-        ensures full { IsErrOf result LogFault.Full ↔ (2 ^ 31 < self.old.end + 6 + length batch.now) }
+        ensures full { IsErrOf result LogFault.Full ↔ (2 ^ 31 < self.old.end + 10 + length batch.now) }
         ensures full_leaves { IsErrOf result LogFault.Full → vol.new ≡ vol.old }
         ensures only { IfErr result IsBatchFault }
         ensures cause { HasCause (V.faults vol.old) (V.faults vol.new) (IsErrOf result LogFault.Fault) }
@@ -241,7 +254,7 @@ impl GateLog {
         }
         self.stage(vol, batch)?;
         write_synced(vol, self.file, self.ends.last, &[OPEN])?;
-        self.ends = self.ends.before(self.ends.last + 5 + count as u64);
+        self.ends = self.ends.before(self.ends.last + 9 + count as u64);
         Ok(())
     }
 
@@ -257,9 +270,10 @@ impl GateLog {
         requires head { IsSome self.old.head }
         ensures appended { V.told → OnOk result (IsAppended self.old self.new bytes.now (V.disk vol.old) (V.disk vol.new)) }
         ensures any_moment { V.told → AppendsTo self.old bytes.now (V.disk vol.old) (V.disk vol.new) }
+        ensures grows { V.told → GrowsTo self.old.file (self.old.end + 10 + length bytes.now) (V.disk vol.old) (V.disk vol.new) }
         ensures log { OnOk result (self.new ≡ with_batch self.old (length bytes.now)) }
         ensures err { OnErr result (self.new ≡ self.old) }
-        ensures full { IsErrOf result LogFault.Full ↔ (2 ^ 31 < self.old.end + 6 + length bytes.now) }
+        ensures full { IsErrOf result LogFault.Full ↔ (2 ^ 31 < self.old.end + 10 + length bytes.now) }
         ensures full_leaves { IsErrOf result LogFault.Full → vol.new ≡ vol.old }
         ensures no_memory { IsErrOf result LogFault.NoMemory → vol.new ≡ vol.old }
         ensures only { IfErr result IsAppendFault }

@@ -1,9 +1,9 @@
 //! A batch behind its closed gate.
 
 ghost use Rattle.std.specs.Prelude.{◌≡◌, ◌↔◌, ◌+◌, ◌≤◌, ◌<◌, ◌^◌, ◌++◌, ◌∷◌, [], List, length, IfOk, IsTrue};
-ghost use Rattle.std.specs.Int.{w32, to_be_bytes};
 ghost use Rattle.gate_log.specs.Staging.{behind_gate as behind_gate_in};
 
+use checksum::crc32c;
 use js_base::{NoMemory, put_bytes, put_u32};
 use std::alloc::Global;
 use std::marker::Model;
@@ -11,24 +11,25 @@ use std::marker::Model;
 /// How long a log may be, with the closed gate at its end.
 const MAX_LEN: u64 = 1 << 31;
 
-/// The bytes behind a gate that are no records: their length, and the gate behind them.
-const AROUND_RECORDS: usize = 5;
+/// The bytes behind a gate that are no records: their length, their checksum, and the gate behind them.
+const AROUND_RECORDS: usize = 9;
 
 /// Whether a log that ends at this gate may have so many bytes of records more.
 pub fn fits(end: u64, count: usize) -> bool
-    ensures value { IsTrue result ↔ (end + 6 + count ≤ 2 ^ 31) }
+    ensures value { IsTrue result ↔ (end + 10 + count ≤ 2 ^ 31) }
 {
     let count = count as u64;
-    end <= MAX_LEN && count <= MAX_LEN && end + 6 + count <= MAX_LEN
+    end <= MAX_LEN && count <= MAX_LEN && end + 10 + count <= MAX_LEN
 }
 
-/// What is written behind the closed gate: the length of the records, they, and a closed gate for the next batch.
+/// What is written behind the closed gate: the records behind their length and their checksum, and a closed gate for the next batch.
 pub fn behind_gate(alloc: Global, records: &[u8]) -> Result<Vec<u8>, NoMemory>
     requires short { length records.now < 2 ^ 32 }
     ensures bytes { IfOk result (λ bytes. bytes.items ≡ behind_gate_in records.now) }
 {
     let mut bytes = Vec::new(alloc);
     put_u32(&mut bytes, records.len() as u32)?;
+    put_u32(&mut bytes, crc32c(records))?;
     put_bytes(&mut bytes, records)?;
     put_bytes(&mut bytes, &[0])?;
     Ok(bytes)

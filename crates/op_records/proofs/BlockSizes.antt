@@ -18,13 +18,13 @@ sizes m is =
     let subject = and_parts _ _ header.0 in
     record { subject = subject_size m.subject subject.1; content = le_is (length m.headers + length m.payload) 1048576 fits.1 }
 
-pub spelled_len : (m : Message) → length (spelled_message m) ≡ 26 + (length m.subject + length m.headers + length m.payload)
+pub spelled_len : (m : Message) → length (spelled_message m) ≡ 30 + (length m.subject + length m.headers + length m.payload)
 unfolding spelled_message
 spelled_len m = omega (arith, length-append m.subject (long m.headers ++ m.payload), length-append m.headers m.payload)
 
 pub record SpelledSize (m : Message) : Type 0 where
-  pub least : 26 ≤ length (spelled_message m)
-  pub most : length (spelled_message m) ≤ 1049626
+  pub least : 30 ≤ length (spelled_message m)
+  pub most : length (spelled_message m) ≤ 1049630
 
 pub spelled_size : (m : Message) → IsTrue (is_block_message m) → SpelledSize m
 spelled_size m is =

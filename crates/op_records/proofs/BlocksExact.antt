@@ -1,18 +1,19 @@
 -- Messages in a block are read exactly where they are spelled.
-use Rattle.std.proofs.Common.{◌≡◌, ℕ, ◌+◌, ◌-◌, ◌≤◌, ◌<◌, ◌^◌, true, ◌++◌, length, take, drop, Ok, IsTrue, refl, sym, ap, subst, ◌∙◌, append_assoc, append-nil, arith, length-take}
-use Rattle.std.specs.Int.{w32, to_be_bytes}
+use Rattle.std.proofs.Common.{◌≡◌, ℕ, ◌+◌, ◌-◌, ◌≤◌, true, ◌++◌, length, take, drop, Ok, IsTrue, refl, sym, ap, subst, ◌∙◌, append_assoc, append-nil, arith, length-take}
 use Rattle.std.proofs.lemmas.Bool.{and_parts, and_from}
 use Rattle.std.proofs.lemmas.List.{take-append-drop, drop-append-le, drop-take, drop_all}
+use Rattle.checksum.specs.Checked.{checked}
 use Rattle.js_base.specs.Bytes.{Bytes}
 use Rattle.js_model.specs.declared.stream.Message.{Message}
 use Rattle.op_records.specs.Allowed.{is_header, fits_block}
 use Rattle.op_records.specs.Blocks.{is_block_message, spelled_fields, spelled_message, up_to, content_field, message_with, message_fields, message_at}
-use Rattle.op_records.specs.Fields.{only, word, number_field, part, subject_field, is_small_header, fit, sized_part}
+use Rattle.op_records.specs.Fields.{only, number_field, part, subject_field, is_small_header, fit, sized_part, checked_end}
 use Rattle.op_records.specs.Spelling.{number, text, long}
 use Rattle.op_records.specs.Steps.{◌>>=◌, done, place}
-use Rattle.op_records.proofs.Exact.{Batch, wide32, bytes_of, word_took, word_again, le_is, is_le}
+use Rattle.op_records.proofs.ChecksumsExact.{checked_took, checked_again}
+use Rattle.op_records.proofs.Exact.{Batch, bytes_of, le_is, is_le}
 use Rattle.op_records.proofs.FieldsExact.{number_exact, subject_exact, part_took, part_again}
-use Rattle.op_records.proofs.Spans.{Spans, span_then, span_front, span_back, span_is}
+use Rattle.op_records.proofs.Spans.{Spans, span_then, span_front, span_back, span_is, span_same}
 use Rattle.op_records.proofs.Steps.{both, value_is, place_is, passed}
 use Rattle.op_records.proofs.TextsExact.{sized_took, sized_again}
 
@@ -150,26 +151,18 @@ pub record Stored (bytes : Bytes) (at : ℕ) (m : Message) (behind : ℕ) : Type
 pub message_took : (bytes : Bytes) (at : ℕ) (m : Message) (behind : ℕ) → Batch bytes → message_at bytes at ≡ Ok (m, behind) → Stored bytes at m behind
 unfolding message_at spelled_message
 message_took bytes at m behind b e =
-    let p = both bytes (λ (size : ℕ). place >>= λ begin. up_to (begin + size) (message_fields (begin + size))) (word w32 bytes at) m behind e in
-    let size = word_took w32 (2 ^ 32) wide32 bytes at p.value p.mid b.are_bytes p.first in
-    let end : ℕ = p.mid + p.value in
-    let f = fields_took end (take end bytes) p.mid m behind (batch_in bytes end b) (omega (arith, length-take end bytes)) p.second in
-    let there = span_in bytes end p.mid (spelled_fields m) behind f.there in
-    let len : p.value ≡ length (spelled_fields m) = omega (arith, f.there.ends, f.whole) in
-    let whole = span_then bytes at (to_be_bytes w32 p.value) p.mid (spelled_fields m) behind size.1 there in
-    record { allowed = f.allowed; there = subst (λ (k : ℕ). Spans bytes at (to_be_bytes w32 k ++ spelled_fields m) behind) len whole }
-
-read_up_to : (bytes : Bytes) (end at : ℕ) (m : Message) (behind : ℕ) → end ≡ behind → message_fields behind (take behind bytes) at ≡ Ok (m, behind) → up_to end (message_fields end) bytes at ≡ Ok (m, behind)
-read_up_to bytes end at m behind same e = ap (λ (k : ℕ). message_fields k (take k bytes) at) same ∙ e
+    let p = both bytes (λ (end : ℕ). up_to end (message_fields end)) (checked_end bytes at) m behind e in
+    let c = checked_took bytes at p.value p.mid b p.first in
+    let f = fields_took p.value (take p.value bytes) p.mid m behind (batch_in bytes p.value b) (omega (arith, length-take p.value bytes)) p.second in
+    let there = span_in bytes p.value p.mid (spelled_fields m) behind f.there in
+    let held = subst (λ (k : ℕ). Spans bytes p.mid c.text k) (sym f.whole) c.there in
+    let whole = subst (λ (k : ℕ). Spans bytes at (checked c.text) k) (sym f.whole) c.whole in
+    let same = span_same bytes p.mid c.text (spelled_fields m) behind held there in
+    record { allowed = f.allowed; there = subst (λ (t : Bytes). Spans bytes at (checked t) behind) same whole }
 
 pub message_again : (bytes : Bytes) (at : ℕ) (m : Message) (behind : ℕ) → Batch bytes → IsTrue (is_block_message m) → Spans bytes at (spelled_message m) behind → message_at bytes at ≡ Ok (m, behind)
 unfolding message_at spelled_message
 message_again bytes at m behind b is s =
-    let fields : Bytes = spelled_fields m in
-    let front = span_front bytes at (to_be_bytes w32 (length fields)) fields behind s in
-    let back = span_back bytes at (to_be_bytes w32 (length fields)) fields behind s in
-    let mid : ℕ = at + length (to_be_bytes w32 (length fields)) in
-    let short : length fields < 2 ^ 32 = omega (arith, b.short, back.ends, back.within) in
-    let size = word_again w32 (2 ^ 32) wide32 bytes at (length fields) mid short front in
-    let rest = fields_again (take behind bytes) mid m behind (batch_in bytes behind b) is (span_within bytes mid fields behind back) in
-    rw size (read_up_to bytes (mid + length fields) mid m behind (sym back.ends) rest)
+    let c = checked_again bytes at (spelled_fields m) behind b s in
+    let rest = fields_again (take behind bytes) (at + 8) m behind (batch_in bytes behind b) is (span_within bytes (at + 8) (spelled_fields m) behind c.there) in
+    rw c.first rest

@@ -1,10 +1,8 @@
 -- The fields of records are read exactly where they are spelled.
-use Rattle.std.proofs.Common.{◌≡◌, ℕ, zero, suc, ◌+◌, ◌≤◌, ◌<◌, ◌^◌, Bool, true, false, ◌&&◌, List, [], ◌∷◌, ◌++◌, length, take, drop, Option, Some, None, is_none, nat_lt, Result, Ok, Err, IsTrue, nat_le, refl, sym, ap, subst, ◌∙◌, if◌then◌else◌, arith, length-take, length-drop}
+use Rattle.std.proofs.Common.{◌≡◌, ℕ, ◌+◌, ◌≤◌, ◌<◌, ◌^◌, Bool, true, false, ◌&&◌, [], ◌∷◌, ◌++◌, length, take, drop, Option, Some, None, is_none, nat_lt, Result, Ok, Err, IsTrue, nat_le, refl, sym, ap, subst, ◌∙◌, if◌then◌else◌, arith, length-take, length-drop}
 use Rattle.std.specs.Int.{Width, w8, w16, w32, w64, to_be_bytes}
-use Rattle.std.specs.List.{flat_map, list_all}
 use Rattle.std.proofs.lemmas.Bool.{and_parts, and_from}
 use Rattle.std.proofs.lemmas.Bool.Decides.{nat_tests}
-use Rattle.std.proofs.lemmas.List.Concat.{flat_map-cons}
 use Rattle.js_base.specs.Bytes.{Bytes}
 use Rattle.js_base.specs.Names.{name_of, unless_bad, first_bad, is_name_byte}
 use Rattle.js_base.specs.declared.name.NameFault.{NameFault}
@@ -18,13 +16,14 @@ use Rattle.config_texts.specs.Reading.{allowed}
 use Rattle.config_texts.proofs.Entries.{allowed_back}
 use Rattle.config_texts.proofs.Names.{name_back, same_name}
 use Rattle.op_records.specs.Steps.{Reading, ◌>>=◌, continued, done}
-use Rattle.op_records.specs.Fields.{only, word, part, piece, some_or_bad, number_field, cursor_field, number_fields, numbers_field, name_field, text_field, subject_field, spot_field, in_order, range_field}
+use Rattle.op_records.specs.Fields.{only, word, part, piece, some_or_bad, number_field, cursor_field, numbers_field, name_field, text_field, subject_field, spot_field, in_order, range_field}
 use Rattle.op_records.specs.Allowed.{is_text, is_cursor, are_picks, is_range, is_spot}
 use Rattle.op_records.specs.Spelling.{number, short, text, numbers, spelled_spot}
 use Rattle.op_records.specs.declared.fault.RecordFault.TheVariants.{Cut}
-use Rattle.op_records.proofs.Spans.{Spans, span_none, span_of, span_then, span_front, span_back, span_is}
+use Rattle.op_records.proofs.Spans.{Spans, span_of, span_then, span_front, span_back, span_is}
 use Rattle.op_records.proofs.Steps.{both, value_is, place_is, passed, given}
 use Rattle.op_records.proofs.Exact.{Batch, Exact, IsWide, wide8, wide16, wide32, wide64, word_took, word_again, le_is, is_le, lt_is, is_lt}
+use Rattle.op_records.proofs.ListsExact.{list_exact}
 
 -- ---- numbers
 
@@ -53,58 +52,9 @@ cursor_exact = record {
   again = λ bytes at n behind b is s. checked_again is_cursor bytes at n behind (omega (arith, le_is n (2 ^ 62) is)) is s;
 }
 
-record Numbers (bytes : Bytes) (at count : ℕ) (ns : List ℕ) (behind : ℕ) : Type 0 where
-  many : length ns ≡ count
-  each : list_all is_number ns ≡ true
-  there : Spans bytes at (flat_map number ns) behind
-
-numbers_took : (count : ℕ) (bytes : Bytes) (at : ℕ) (ns : List ℕ) (behind : ℕ) → Batch bytes → at ≤ length bytes → number_fields count bytes at ≡ Ok (ns, behind) → Numbers bytes at count ns behind
-numbers_took zero bytes at ns behind b within e = by ns behind (value_is {A = List ℕ} [] at ns behind e) (place_is {A = List ℕ} [] at ns behind e)
-  where
-    by : (ns : List ℕ) (behind : ℕ) → [] ≡ ns → at ≡ behind → Numbers bytes at 0 ns behind
-    by ns behind none place = subst (λ (l : List ℕ). Numbers bytes at 0 l behind) none (subst (λ (k : ℕ). Numbers bytes at 0 [] k) place (record { many = refl; each = refl; there = span_none bytes at within }))
-numbers_took (suc count) bytes at ns behind b within e =
-    let p = both bytes (λ (n : ℕ). number_fields count >>= λ more. done (n ∷ more)) (number_field bytes at) ns behind e in
-    let q = both bytes (λ (more : List ℕ). done (p.value ∷ more)) (number_fields count bytes p.mid) ns behind p.second in
-    let first = number_exact.took bytes at p.value p.mid b p.first in
-    let more = numbers_took count bytes p.mid q.value q.mid b first.1.within q.first in
-    let there = span_then bytes at (number p.value) p.mid (flat_map number q.value) q.mid first.1 more.there in
-    let whole : Numbers bytes at (suc count) (p.value ∷ q.value) q.mid = record {
-      many = ap suc more.many;
-      each = and_from (is_number p.value) (list_all is_number q.value) first.0 more.each;
-      there = subst (λ (l : Bytes). Spans bytes at l q.mid) (sym (flat_map-cons number p.value q.value)) there;
-    } in
-    let same = value_is (p.value ∷ q.value) q.mid ns behind q.second in
-    let place = place_is (p.value ∷ q.value) q.mid ns behind q.second in
-    subst (λ (k : ℕ). Numbers bytes at (suc count) ns k) place (subst (λ (l : List ℕ). Numbers bytes at (suc count) l q.mid) same whole)
-
-numbers_again : (ns : List ℕ) (bytes : Bytes) (at behind : ℕ) → Batch bytes → list_all is_number ns ≡ true → Spans bytes at (flat_map number ns) behind → number_fields (length ns) bytes at ≡ Ok (ns, behind)
-numbers_again [] bytes at behind b each s = let place : at ≡ behind = omega (arith, s.ends) in rw place refl
-numbers_again (n ∷ ns) bytes at behind b each s =
-    let two : Spans bytes at (number n ++ flat_map number ns) behind = subst (λ (l : Bytes). Spans bytes at l behind) (flat_map-cons number n ns) s in
-    let parts = and_parts (is_number n) (list_all is_number ns) each in
-    let first = number_exact.again bytes at n (at + length (number n)) b parts.0 (span_front bytes at (number n) (flat_map number ns) behind two) in
-    let more = numbers_again ns bytes (at + length (number n)) behind b parts.1 (span_back bytes at (number n) (flat_map number ns) behind two) in
-    rw (first, more) refl
-
 pub numbers_exact : Exact numbers_field numbers (λ ns. IsTrue (are_picks ns))
 unfolding numbers_field
-numbers_exact = record {
-  took = λ bytes at ns behind b e.
-      let p = both bytes number_fields (word w32 bytes at) ns behind e in
-      let w = word_took w32 (2 ^ 32) wide32 bytes at p.value p.mid b.are_bytes p.first in
-      let all = numbers_took p.value bytes p.mid ns behind b w.1.within p.second in
-      let count : to_be_bytes w32 p.value ≡ to_be_bytes w32 (length ns) = ap (to_be_bytes w32) (sym all.many) in (
-        and_from _ _ (is_lt (length ns) (2 ^ 32) (omega (arith, w.0, all.many))) all.each,
-        subst (λ (l : Bytes). Spans bytes at (l ++ flat_map number ns) behind) count (span_then bytes at (to_be_bytes w32 p.value) p.mid (flat_map number ns) behind w.1 all.there),
-      );
-  again = λ bytes at ns behind b is s.
-      let parts = and_parts _ _ is in
-      let front = span_front bytes at (to_be_bytes w32 (length ns)) (flat_map number ns) behind s in
-      let back = span_back bytes at (to_be_bytes w32 (length ns)) (flat_map number ns) behind s in
-      let count = word_again w32 (2 ^ 32) wide32 bytes at (length ns) (at + length (to_be_bytes w32 (length ns))) (lt_is (length ns) (2 ^ 32) parts.0) front in
-      rw (count, numbers_again ns bytes (at + length (to_be_bytes w32 (length ns))) behind b parts.1 back) refl;
-}
+numbers_exact = list_exact number_field number is_number number_exact
 
 -- ---- bytes behind their length
 

@@ -1,8 +1,10 @@
 pub mod Spans
 pub mod Steps
 pub mod Exact
+pub mod ListsExact
 pub mod FieldsExact
 pub mod TextsExact
+pub mod ChecksumsExact
 pub mod KindsExact
 pub mod RecordsExact
 pub mod BlocksExact

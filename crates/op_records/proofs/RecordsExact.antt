@@ -7,33 +7,31 @@ use Rattle.std.proofs.lemmas.List.{drop_all, get_or_past}
 use Rattle.std.proofs.lemmas.Bool.Decides.{nat_tests}
 use Rattle.std.proofs.lemmas.List.Concat.{flat_map-cons}
 use Rattle.js_base.specs.Bytes.{Bytes}
-use Rattle.js_model.specs.Configs.{is_number}
 use Rattle.config_texts.specs.Texts.{stream_text, consumer_text}
 use Rattle.effects.specs.declared.effect.Effect.{Effect}
 use Rattle.effects.specs.declared.effect.Effect.TheVariants as effects
-use Rattle.op_records.specs.Steps.{Reading, Reader, continued, done}
-use Rattle.op_records.specs.Fields.{word, number_field}
+use Rattle.op_records.specs.Steps.{Reading, Reader, done}
+use Rattle.op_records.specs.Fields.{word}
 use Rattle.op_records.specs.Allowed.{is_record, may_stand}
-use Rattle.op_records.specs.Reading.{make_stream, change_stream, skip, remove, make_consumer, drop_consumer, deliver, acked, due, given_up, now, table, of_no_kind, fields_in, record_at, Stand, is_later_kind, misplaced, of_first_kind, at_end, vacant_record, vacant_field}
-use Rattle.op_records.specs.Spelling.{number, short, text, long, numbers, spelled_spot, spelled, spelled_record, spelled_vacant}
+use Rattle.op_records.specs.Reading.{make_stream, change_stream, skip, remove, make_consumer, drop_consumer, deliver, acked, due, given_up, now, table, is_first_kind, of_no_kind, fields_in, record_at, Stand, at_end}
+use Rattle.op_records.specs.Spelling.{number, short, text, long, numbers, spelled_spot, spelled, spelled_record}
 use Rattle.op_records.proofs.Spans.{Spans, span_none, span_then, span_front, span_back}
-use Rattle.op_records.specs.Laws.{IsBatch, LawRecords, LawVacant}
+use Rattle.op_records.specs.Laws.{IsBatch, LawRecords}
 use Rattle.op_records.specs.declared.fault.RecordFault.TheVariants.{BadKind, BadField}
 use Rattle.op_records.specs.declared.record.Record.{Record}
 use Rattle.op_records.specs.declared.record.Record.TheVariants as records
-use Rattle.op_records.proofs.Steps.{Both, both, value_is, place_is}
-use Rattle.op_records.proofs.Exact.{Batch, wide8, word_took, word_again, lt_is, is_lt}
-use Rattle.op_records.proofs.FieldsExact.{number_exact}
+use Rattle.op_records.proofs.Steps.{both, value_is, place_is}
+use Rattle.op_records.proofs.Exact.{Batch, wide8, word_took, word_again}
 use Rattle.op_records.proofs.KindsExact as kinds
 use Rattle.op_records.proofs.KindsExact.{Taken, Takes, taken_at}
 
 -- ---- one record
 
-same_kind : (kind k : ℕ) → (kind == k) ≡ true → k ≡ kind
+pub same_kind : (kind k : ℕ) → (kind == k) ≡ true → k ≡ kind
 same_kind kind k h = grind (arith, nat_tests)
 
 no_kind : (begin kind : ℕ) (bytes : Bytes) (at : ℕ) (r : Record) (behind : ℕ) → of_no_kind begin kind bytes at ≡ Ok (r, behind) → Taken bytes at kind r behind
-no_kind begin kind bytes at r behind eq = by (kind == 32) eq
+no_kind begin kind bytes at r behind eq = by (is_first_kind kind) eq
   where
     by : (is : Bool) → if◌then◌else◌ {A = Reading Record} is (Err (BadField begin)) (Err (BadKind begin)) ≡ Ok (r, behind) → Taken bytes at kind r behind
     by true eq = absurd (cc)
@@ -65,10 +63,10 @@ pub record Recorded (bytes : Bytes) (begin : ℕ) (r : Record) (behind : ℕ) : 
   pub allowed : IsTrue (may_stand r)
   pub there : Spans bytes begin (spelled_record r) behind
 
-byte_is : (n : ℕ) → n < 256 → to_be_bytes w8 n ≡ n ∷ []
+pub byte_is : (n : ℕ) → n < 256 → to_be_bytes w8 n ≡ n ∷ []
 byte_is n small = ap (λ (k : ℕ). k ∷ []) (omega arith)
 
-kind_again : (bytes : Bytes) (begin kind : ℕ) (fields : Bytes) (behind : ℕ) → kind < 256 → Spans bytes begin (kind ∷ fields) behind → word w8 bytes begin ≡ Ok (kind, begin + 1)
+pub kind_again : (bytes : Bytes) (begin kind : ℕ) (fields : Bytes) (behind : ℕ) → kind < 256 → Spans bytes begin (kind ∷ fields) behind → word w8 bytes begin ≡ Ok (kind, begin + 1)
 kind_again bytes begin kind fields behind small s =
     word_again w8 (2 ^ 8) wide8 bytes begin kind (begin + 1) small (subst (λ (l : Bytes). Spans bytes begin l (begin + 1)) (sym (byte_is kind small)) (span_front bytes begin (kind ∷ []) fields behind s))
 
@@ -171,55 +169,21 @@ records_again (r ∷ rs) bytes at end b is s =
       records_again rs bytes (at + length (spelled_record r)) end b parts.1 (span_back bytes at (spelled_record r) (flat_map spelled_record rs) end two),
     )
 
--- ---- where a log begins
+-- ---- at the end of the bytes
 
-record Vacant (bytes : Bytes) (n behind : ℕ) : Type 0 where
-  allowed : IsTrue (is_number n)
-  there : Spans bytes 0 (spelled_vacant n) behind
+pub record Ended {A : Type 0} (bytes : Bytes) (a : A) (at : ℕ) (b : A) : Type 0 where
+  pub value : a ≡ b
+  pub place : at ≡ length bytes
 
-vacant_took : (bytes : Bytes) (n behind : ℕ) → Batch bytes → vacant_record bytes 0 ≡ Ok (n, behind) → Vacant bytes n behind
-unfolding vacant_record spelled_vacant
-vacant_took bytes n behind b eq = by (p.value == 32) refl p.second
+pub ended : {A : Type 0} (bytes : Bytes) (a : A) (at : ℕ) (b : A) → at_end a bytes at ≡ Ok (b, length bytes) → Ended bytes a at b
+ended {A} bytes a at b e = by (at == length bytes) e
   where
-    p : Both bytes (of_first_kind 0) (word w8 bytes 0) n behind
-    p = both bytes (of_first_kind 0) (word w8 bytes 0) n behind eq
-
-    kind : (p.value < 2 ^ 8) × Spans bytes 0 (to_be_bytes w8 p.value) p.mid
-    kind = word_took w8 (2 ^ 8) wide8 bytes 0 p.value p.mid b.are_bytes p.first
-
-    first : 32 ≡ p.value → Spans bytes 0 (32 ∷ []) p.mid
-    first is = subst (λ (k : ℕ). Spans bytes 0 (k ∷ []) p.mid) (sym is) (subst (λ (l : Bytes). Spans bytes 0 l p.mid) (byte_is p.value kind.0) kind.1)
-
-    by : (is : Bool) → (p.value == 32) ≡ is → (if is then number_field else misplaced 0 p.value) bytes p.mid ≡ Ok (n, behind) → Vacant bytes n behind
-    by true is eq =
-        let q = number_exact.took bytes p.mid n behind b eq in
-        record { allowed = q.0; there = span_then bytes 0 (32 ∷ []) p.mid (number n) behind (first (same_kind p.value 32 is)) q.1 }
-    by false is eq = no (is_later_kind p.value) eq
-      where
-        no : (later : Bool) → if◌then◌else◌ {A = Reading ℕ} later (Err (BadField 0)) (Err (BadKind 0)) ≡ Ok (n, behind) → Vacant bytes n behind
-        no true eq = absurd (cc)
-        no false eq = absurd (cc)
-
-vacant_again : (bytes : Bytes) (n behind : ℕ) → Batch bytes → IsTrue (is_number n) → Spans bytes 0 (spelled_vacant n) behind → vacant_record bytes 0 ≡ Ok (n, behind)
-unfolding vacant_record spelled_vacant
-vacant_again bytes n behind b is s =
-    let kind = kind_again bytes 0 32 (number n) behind (omega arith) s in
-    let fields = number_exact.again bytes 1 n behind b is (span_back bytes 0 (32 ∷ []) (number n) behind s) in
-    rw (kind, fields) refl
-
-record Ended (bytes : Bytes) (a at n : ℕ) : Type 0 where
-  value : a ≡ n
-  place : at ≡ length bytes
-
-ended : (bytes : Bytes) (a at n : ℕ) → at_end a bytes at ≡ Ok (n, length bytes) → Ended bytes a at n
-ended bytes a at n e = by (at == length bytes) e
-  where
-    by : (is : Bool) → if◌then◌else◌ {A = Reading ℕ} is (Ok (a, at)) (Err (BadField at)) ≡ Ok (n, length bytes) → Ended bytes a at n
-    by true e = record { value = value_is a at n (length bytes) e; place = place_is a at n (length bytes) e }
+    by : (is : Bool) → if◌then◌else◌ {A = Reading A} is (Ok (a, at)) (Err (BadField at)) ≡ Ok (b, length bytes) → Ended bytes a at b
+    by true e = record { value = value_is a at b (length bytes) e; place = place_is a at b (length bytes) e }
     by false e = absurd (cc)
 
-at_its_end : (bytes : Bytes) (n : ℕ) → at_end n bytes (length bytes) ≡ Ok (n, length bytes)
-at_its_end bytes n = let same : (length bytes == length bytes) ≡ true = grind (arith, nat_tests) in rw same refl
+pub at_its_end : {A : Type 0} (bytes : Bytes) (a : A) → at_end a bytes (length bytes) ≡ Ok (a, length bytes)
+at_its_end bytes a = let same : (length bytes == length bytes) ≡ true = grind (arith, nat_tests) in rw same refl
 
 -- ---- the laws
 
@@ -234,7 +198,7 @@ batch_of bytes is = record { are_bytes = λ i. each bytes is.are_bytes i; short 
         by (inr past) = rw (get_or_past bytes i 0 past) (omega arith)
 
 -- all of the bytes
-whole_of : (bytes text : Bytes) → Spans bytes 0 text (length bytes) → bytes ≡ text
+pub whole_of : (bytes text : Bytes) → Spans bytes 0 text (length bytes) → bytes ≡ text
 whole_of bytes text s = s.parts ∙ ap (λ (l : Bytes). text ++ l) (drop_all (length bytes) bytes (omega arith)) ∙ append-nil text
 
 pub span_whole : (bytes text : Bytes) → bytes ≡ text → Spans bytes 0 text (length bytes)
@@ -250,17 +214,3 @@ law_records bytes rs is =
       λ stand. (let r = records_took rs bytes 0 (length bytes) b (omega arith) stand in record { allowed = r.allowed; bytes_are = whole_of bytes (flat_map spelled_record rs) r.there }),
       λ spells. records_again rs bytes 0 (length bytes) b spells.allowed (span_whole bytes (flat_map spelled_record rs) spells.bytes_are),
     )
-
-pub law_vacant : LawVacant
-unfolding vacant_field
-law_vacant bytes n is = (
-  λ read.
-      let p = both bytes at_end (vacant_record bytes 0) n (length bytes) read in
-      let q = ended bytes p.value p.mid n p.second in
-      let v = vacant_took bytes p.value p.mid (batch_of bytes is) p.first in
-      let there : Spans bytes 0 (spelled_vacant n) (length bytes) = subst (λ (k : ℕ). Spans bytes 0 (spelled_vacant n) k) q.place (subst (λ (k : ℕ). Spans bytes 0 (spelled_vacant k) p.mid) q.value v.there) in
-      record { allowed = subst (λ (k : ℕ). k < 2 ^ 62) q.value (lt_is p.value (2 ^ 62) v.allowed); bytes_are = whole_of bytes (spelled_vacant n) there },
-  λ spells.
-      let v = vacant_again bytes n (length bytes) (batch_of bytes is) (is_lt n (2 ^ 62) spells.allowed) (span_whole bytes (spelled_vacant n) spells.bytes_are) in
-      ap (continued bytes at_end) v ∙ at_its_end bytes n,
-)

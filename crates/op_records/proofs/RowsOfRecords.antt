@@ -6,7 +6,7 @@ use Rattle.js_base.specs.declared.spot.Spot.{Spot}
 use Rattle.op_records.specs.declared.record.Record.TheVariants.{Put, Change}
 use Rattle.op_records.specs.declared.fault.RecordFault.TheVariants.{Cut, BadKind, BadField}
 use Rattle.op_records.specs.Fields.{number_field, text_field, spot_field, range_field}
-use Rattle.op_records.specs.Reading.{record_at, remove, now, put, vacant_record, vacant_field}
+use Rattle.op_records.specs.Reading.{record_at, remove, now, put}
 use Rattle.op_records.specs.Spelling.{spelled, spelled_record, spelled_vacant}
 
 -- the number of one byte
@@ -83,24 +83,12 @@ misplaced_start : record_at (32 ∷ small 0) 0 ≡ Err (BadField 0)
 unfolding record_at
 misplaced_start = refl
 
+misplaced_live_start : record_at (33 ∷ small 0) 0 ≡ Err (BadField 0)
+unfolding record_at
+misplaced_live_start = refl
+
 -- ---- where a log begins
 
 vacant_spelled : spelled_vacant 0 ≡ 32 ∷ small 0
 unfolding spelled_vacant
 vacant_spelled = refl
-
-vacant_read : vacant_field (32 ∷ small 7) 0 ≡ Ok (7, 9)
-unfolding vacant_field vacant_record number_field
-vacant_read = refl
-
-misplaced_kind : vacant_field moment_bytes 0 ≡ Err (BadField 0)
-unfolding vacant_field vacant_record number_field
-misplaced_kind = refl
-
-no_message_first : vacant_field (4 ∷ []) 0 ≡ Err (BadKind 0)
-unfolding vacant_field vacant_record
-no_message_first = refl
-
-nothing_behind : vacant_field (32 ∷ (small 7 ++ 3 ∷ [])) 0 ≡ Err (BadField 9)
-unfolding vacant_field vacant_record number_field
-nothing_behind = refl

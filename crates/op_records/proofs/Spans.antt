@@ -49,3 +49,9 @@ span_back bytes at first second behind p = record {
 -- the bytes there are the text
 pub span_is : (bytes : Bytes) (at : ℕ) (text : Bytes) (behind : ℕ) → Spans bytes at text behind → take (length text) (drop at bytes) ≡ text
 span_is bytes at text behind p = ap (λ (l : Bytes). take (length text) l) p.parts ∙ take_at text (drop behind bytes) (length text) refl
+
+-- and no other text goes to the same end
+pub span_same : (bytes : Bytes) (at : ℕ) (text other : Bytes) (behind : ℕ) → Spans bytes at text behind → Spans bytes at other behind → text ≡ other
+span_same bytes at text other behind p q =
+    let long : length text ≡ length other = omega (arith, p.ends, q.ends) in
+    sym (span_is bytes at text behind p) ∙ ap (λ (k : ℕ). take k (drop at bytes)) long ∙ span_is bytes at other behind q

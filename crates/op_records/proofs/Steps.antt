@@ -1,7 +1,7 @@
 -- What is known of one reading after the other.
 use Rattle.std.proofs.Common.{◌≡◌, ℕ, Bool, true, false, Option, Some, None, Ok, Err, refl, sym, ap, ◌∙◌, if◌then◌else◌}
 use Rattle.js_base.specs.Bytes.{Bytes}
-use Rattle.op_records.specs.Steps.{Reading, Reader, continued, done}
+use Rattle.op_records.specs.Steps.{Reading, Reader, continued, done, peeked}
 use Rattle.op_records.specs.Fields.{only, some_or_bad}
 use Rattle.op_records.specs.Answers.{IsFaultOf}
 use Rattle.op_records.specs.declared.fault.RecordFault.{RecordFault}
@@ -37,6 +37,16 @@ value_is {A} a at b behind e = ap (λ (p : A × ℕ). p.0) (read_is (a, at) (b, 
 
 pub place_is : {A : Type 0} (a : A) (at : ℕ) (b : A) (behind : ℕ) → read (a, at) ≡ read (b, behind) → at ≡ behind
 place_is {A} a at b behind e = ap (λ (p : A × ℕ). p.1) (read_is (a, at) (b, behind) e)
+
+-- it was read ahead of where the next reading begins
+pub record Peeked {A : Type 0} (reading : Reading A) (at : ℕ) (a : A) (mid : ℕ) : Type 0 where
+  pub behind : ℕ
+  pub first : reading ≡ Ok (a, behind)
+  pub place : at ≡ mid
+
+pub peeked_is : {A : Type 0} (at : ℕ) (reading : Reading A) (a : A) (mid : ℕ) → peeked at reading ≡ Ok (a, mid) → Peeked reading at a mid
+peeked_is {A} at (Ok (b, behind)) a mid e = record { behind = behind; first = ap (λ (x : A). read (x, behind)) (value_is b at a mid e); place = place_is b at a mid e }
+peeked_is at (Err fault) a mid e = absurd (cc)
 
 -- the value may stand there
 pub record Passed {A : Type 0} (may : A → Bool) (a : A) (at : ℕ) (b : A) (behind : ℕ) : Type 0 where

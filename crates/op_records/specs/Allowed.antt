@@ -27,8 +27,12 @@ fits_block headers payload = nat_le (length headers + length payload) 1048576
 abbrev pub is_cursor : ℕ → Bool
 is_cursor n = nat_le n (2 ^ 62)
 
+-- a count of four bytes can tell how many there are, and each may stand there
+abbrev pub is_list : {A : Type 0} → (A → Bool) → List A → Bool
+is_list may xs = nat_lt (length xs) (2 ^ 32) && list_all may xs
+
 abbrev pub are_picks : List ℕ → Bool
-are_picks picks = nat_lt (length picks) (2 ^ 32) && list_all is_number picks
+are_picks picks = is_list is_number picks
 
 abbrev pub is_range : ℕ → ℕ → Bool
 is_range low high = is_number low && is_number high && nat_le low high

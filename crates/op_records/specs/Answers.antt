@@ -36,11 +36,6 @@ abbrev pub ReadsAt : {A : Type 0} → Result (A × ℕ) RecordFault → Reading 
 ReadsAt (Ok read) reading = reading ≡ Ok read
 ReadsAt (Err fault) reading = IsFaultOf reading fault
 
--- the incarnation with which a log begins
-abbrev pub ReadsVacant : Result ℕ RecordFault → Bytes → Reading ℕ → Type 0
-ReadsVacant (Ok incarnation) bytes reading = reading ≡ Ok (incarnation, length bytes)
-ReadsVacant (Err fault) bytes reading = IsFaultOf reading fault
-
 -- the first record that is wrong has this fault, or memory ran out
 abbrev pub IsWrongBy : Bytes → RecordFault → Type 0
 IsWrongBy bytes (Cut at) = IsWrong bytes (Cut at)

@@ -1,8 +1,8 @@
--- Messages as a block file has them, by a format of this server's own: the length of what follows, the sequence and the moment, the subject behind its
--- length, the header block behind its length, and then the payload, which goes on to the message's end. Messages stand one behind the other, in order of
--- their sequences.
-use Rattle.std.specs.Prelude.{◌≡◌, ℕ, ◌+◌, ◌-◌, Bool, ◌&&◌, List, [], ◌∷◌, ◌++◌, take, Ok}
-use Rattle.std.specs.Int.{w32}
+-- Messages as a block file has them, by a format of this server's own: the length of a message's fields and their checksum; then these fields, which are the
+-- sequence and the moment, the subject behind its length, the header block behind its length, and the payload, which goes on to the message's end. Messages
+-- stand one behind the other, in order of their sequences.
+use Rattle.std.specs.Prelude.{◌≡◌, ℕ, ◌-◌, Bool, ◌&&◌, List, [], ◌∷◌, ◌++◌, take, Ok}
+use Rattle.checksum.specs.Checked.{checked}
 use Rattle.js_base.specs.Bytes.{Bytes}
 use Rattle.js_base.specs.Subjects.{is_subject_text}
 use Rattle.js_model.specs.Configs.{is_number}
@@ -10,7 +10,7 @@ use Rattle.js_model.specs.Lists.{Ascends}
 use Rattle.js_model.specs.Streams.{seqs}
 use Rattle.js_model.specs.declared.stream.Message.{Message}
 use Rattle.op_records.specs.Allowed.{is_header, fits_block}
-use Rattle.op_records.specs.Fields.{only, word, number_field, part, subject_field, is_small_header, fit, sized_part}
+use Rattle.op_records.specs.Fields.{only, number_field, part, subject_field, is_small_header, fit, sized_part, checked_end}
 use Rattle.op_records.specs.Spelling.{number, text, long}
 use Rattle.op_records.specs.Steps.{Reader, ◌>>=◌, done, place}
 
@@ -22,12 +22,12 @@ is_block_message m = is_number m.seq && is_number m.at && is_subject_text m.subj
 
 -- ---- how they are spelled
 
--- what follows a message's length
+-- what follows a message's length and checksum
 abbrev pub spelled_fields : Message → Bytes
 spelled_fields m = number m.seq ++ (number m.at ++ (text m.subject ++ (long m.headers ++ m.payload)))
 
 unfoldable pub spelled_message : Message → Bytes
-spelled_message m = long (spelled_fields m)
+spelled_message m = checked (spelled_fields m)
 
 -- ---- how they are read
 
@@ -55,12 +55,11 @@ message_fields end = do
   content ← content_field end
   done (message_with seq at subject content)
 
--- a field that passes the message's end is cut, as one that passes the end of the bytes
+-- the fields are looked at only if their checksum is right; one that passes the message's end is cut
 unfoldable pub message_at : Reader Message
 message_at = do
-  size ← word w32
-  begin ← place
-  up_to (begin + size) (message_fields (begin + size))
+  end ← checked_end
+  up_to end (message_fields end)
 
 -- ---- one behind the other
 

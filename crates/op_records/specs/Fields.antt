@@ -1,7 +1,8 @@
 -- The fields of records as they are read. A field that does not end within the bytes is cut, and one that holds what it may not hold is bad; both are told
 -- with the place at which the field begins.
-use Rattle.std.specs.Prelude.{ℕ, zero, suc, ◌+◌, nat_le, Bool, ◌&&◌, List, [], ◌∷◌, take, drop, length, Option, Some, None, Ok, Err, if◌then◌else◌}
+use Rattle.std.specs.Prelude.{ℕ, zero, suc, ◌+◌, nat_le, ◌==◌, Bool, ◌&&◌, List, [], ◌∷◌, take, drop, length, Option, Some, None, Ok, Err, if◌then◌else◌}
 use Rattle.std.specs.Int.{Width, w8, w16, w32, w64, byte_len}
+use Rattle.checksum.specs.Crc.{crc32c}
 use Rattle.js_base.specs.Bytes.{Bytes}
 use Rattle.js_base.specs.Names.{name_of}
 use Rattle.js_base.specs.Numbers.{number_at}
@@ -11,7 +12,7 @@ use Rattle.js_model.specs.Configs.{is_number}
 use Rattle.js_model.specs.declared.stream_config.StreamConfig.{StreamConfig}
 use Rattle.js_model.specs.declared.consumer_config.ConsumerConfig.{ConsumerConfig}
 use Rattle.config_texts.specs.Reading.{allowed, stream_of, consumer_of}
-use Rattle.op_records.specs.Steps.{Reading, Reader, ◌>>=◌, done, place}
+use Rattle.op_records.specs.Steps.{Reading, Reader, ◌>>=◌, done, place, peek}
 use Rattle.op_records.specs.Allowed.{is_cursor, is_header}
 use Rattle.op_records.specs.declared.fault.RecordFault.TheVariants.{Cut, BadField}
 
@@ -43,19 +44,23 @@ cursor_field = do
   n ← word w64
   only is_cursor begin n
 
--- so many numbers
-abbrev pub number_fields : ℕ → Reader (List ℕ)
-number_fields zero = done []
-number_fields (suc count) = do
-  n ← number_field
-  more ← number_fields count
-  done (n ∷ more)
+-- ---- lists behind their count
 
--- numbers behind their count
-unfoldable pub numbers_field : Reader (List ℕ)
-numbers_field = do
+-- so many of them, one behind the other
+abbrev pub list_fields : {A : Type 0} → Reader A → ℕ → Reader (List A)
+list_fields field zero = done []
+list_fields field (suc count) = do
+  one ← field
+  more ← list_fields field count
+  done (one ∷ more)
+
+unfoldable pub list_field : {A : Type 0} → Reader A → Reader (List A)
+list_field field = do
   count ← word w32
-  number_fields count
+  list_fields field count
+
+unfoldable pub numbers_field : Reader (List ℕ)
+numbers_field = list_field number_field
 
 -- ---- bytes behind their length
 
@@ -102,6 +107,26 @@ consumer_field = do
   begin ← place
   text ← piece w32
   some_or_bad begin (consumer_of text)
+
+-- ---- bytes behind their length and their checksum
+
+abbrev pub has_checksum : ℕ → Bytes → Bool
+has_checksum sum bytes = crc32c bytes == sum
+
+-- the end of the next bytes, so many, which have this checksum
+abbrev pub end_of_checked : ℕ → ℕ → ℕ → Reader ℕ
+end_of_checked begin size sum = do
+  bytes ← part begin size
+  bytes ← only (has_checksum sum) begin bytes
+  place
+
+-- a length and a checksum, and the end of the bytes behind them, which have both; the next reading begins in front of these bytes
+unfoldable pub checked_end : Reader ℕ
+checked_end = do
+  begin ← place
+  size ← word w32
+  sum ← word w32
+  peek (end_of_checked begin size sum)
 
 -- ---- a message's header block and payload
 

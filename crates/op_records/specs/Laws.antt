@@ -1,10 +1,10 @@
 -- The laws of records: what a batch can have is read as records exactly if these may stand in a log and are spelled so.
-use Rattle.std.specs.Prelude.{◌≡◌, ◌<◌, ◌^◌, ◌↔◌, ℕ, length, IsTrue, List, All, Ok}
+use Rattle.std.specs.Prelude.{◌≡◌, ◌<◌, ◌^◌, ◌↔◌, length, IsTrue, List, All}
 use Rattle.std.specs.List.{flat_map, list_all}
 use Rattle.js_base.specs.Bytes.{Bytes}
 use Rattle.op_records.specs.Allowed.{may_stand}
-use Rattle.op_records.specs.Reading.{AreRecords, vacant_field}
-use Rattle.op_records.specs.Spelling.{spelled_record, spelled_vacant}
+use Rattle.op_records.specs.Reading.{AreRecords}
+use Rattle.op_records.specs.Spelling.{spelled_record}
 use Rattle.op_records.specs.declared.record.Record.{Record}
 
 -- what a batch can have: bytes, fewer than 2^32 of them
@@ -19,11 +19,3 @@ pub record Spells (bytes : Bytes) (records : List Record) : Type 0 where
 
 abbrev pub LawRecords : Type 0
 LawRecords = (bytes : Bytes) (records : List Record) → IsBatch bytes → AreRecords bytes records ↔ Spells bytes records
-
--- the incarnation is a number, and the bytes spell a vacant place of it
-pub record SpellsVacant (bytes : Bytes) (incarnation : ℕ) : Type 0 where
-  pub allowed : incarnation < 2 ^ 62
-  pub bytes_are : bytes ≡ spelled_vacant incarnation
-
-abbrev pub LawVacant : Type 0
-LawVacant = (bytes : Bytes) (incarnation : ℕ) → IsBatch bytes → (vacant_field bytes 0 ≡ Ok (incarnation, length bytes)) ↔ SpellsVacant bytes incarnation

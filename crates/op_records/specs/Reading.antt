@@ -1,5 +1,5 @@
 -- The records that bytes are, one behind the other, by a format of this server's own. Faults are told by places, which count from 0.
-use Rattle.std.specs.Prelude.{◌≡◌, ◌==◌, ◌<◌, ℕ, length, nat_le, Bool, not, ◌&&◌, List, [], ◌∷◌, Ok, Err, if◌then◌else◌}
+use Rattle.std.specs.Prelude.{◌≡◌, ◌==◌, ◌<◌, ℕ, length, nat_le, Bool, not, ◌&&◌, ◌||◌, List, [], ◌∷◌, Ok, Err, if◌then◌else◌}
 use Rattle.std.specs.Int.{w8}
 use Rattle.js_base.specs.Bytes.{Bytes, same}
 use Rattle.js_model.specs.declared.consumer_config.ConsumerConfig.{ConsumerConfig}
@@ -125,9 +125,13 @@ table =
     ∷ (14, put)
     ∷ []
 
+-- a kind with which a log begins
+abbrev pub is_first_kind : ℕ → Bool
+is_first_kind kind = (kind == 32) || (kind == 33)
+
 -- A kind that is none is told where it stands, and so is that of a log's first record, which is misplaced here.
 abbrev pub of_no_kind : ℕ → ℕ → Reader Record
-of_no_kind begin kind _ _ = if kind == 32 then Err (BadField begin) else Err (BadKind begin)
+of_no_kind begin kind _ _ = if is_first_kind kind then Err (BadField begin) else Err (BadKind begin)
 
 abbrev pub fields_in : List (ℕ × Reader Record) → ℕ → ℕ → Reader Record
 fields_in [] begin kind = of_no_kind begin kind
@@ -166,21 +170,6 @@ is_later_kind kind = nat_le 1 kind && nat_le kind 14 && not (kind == 4)
 abbrev pub misplaced : {A : Type 0} → ℕ → ℕ → Reader A
 misplaced begin kind _ _ = if is_later_kind kind then Err (BadField begin) else Err (BadKind begin)
 
-abbrev pub of_first_kind : ℕ → ℕ → Reader ℕ
-of_first_kind begin kind = if kind == 32 then number_field else misplaced begin kind
-
 -- nothing stands behind it
 abbrev pub at_end : {A : Type 0} → A → Reader A
 at_end a bytes at = if at == length bytes then Ok (a, at) else Err (BadField at)
-
-unfoldable pub vacant_record : Reader ℕ
-vacant_record = do
-  begin ← place
-  kind ← word w8
-  of_first_kind begin kind
-
--- the incarnation of the vacant place with which a log begins: its first batch is the one record of that
-unfoldable pub vacant_field : Reader ℕ
-vacant_field = do
-  incarnation ← vacant_record
-  at_end incarnation

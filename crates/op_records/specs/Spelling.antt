@@ -29,9 +29,12 @@ text bytes = to_be_bytes w16 (length bytes) ++ bytes
 abbrev pub long : Bytes → Bytes
 long bytes = to_be_bytes w32 (length bytes) ++ bytes
 
--- numbers behind their count
+-- a list behind its count
+abbrev pub spelled_list : {A : Type 0} → (A → Bytes) → List A → Bytes
+spelled_list text xs = to_be_bytes w32 (length xs) ++ flat_map text xs
+
 abbrev pub numbers : List ℕ → Bytes
-numbers ns = to_be_bytes w32 (length ns) ++ flat_map number ns
+numbers ns = spelled_list number ns
 
 -- where a message lies: its file, its offset there and its length
 abbrev pub spelled_spot : Spot → Bytes

@@ -25,3 +25,11 @@ done a bytes at = Ok (a, at)
 -- the place at which the next reading begins
 abbrev pub place : Reader ℕ
 place bytes at = Ok (at, at)
+
+abbrev pub peeked : {A : Type 0} → ℕ → Reading A → Reading A
+peeked at (Ok (a, behind)) = Ok (a, at)
+peeked at (Err fault) = Err fault
+
+-- what is read; the next reading begins where this one does
+abbrev pub peek : {A : Type 0} → Reader A → Reader A
+peek read bytes at = peeked at (read bytes at)

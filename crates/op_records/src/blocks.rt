@@ -6,17 +6,14 @@ ghost use Rattle.op_records.specs.BlockAnswers.{message_of, EndsAt};
 ghost use Rattle.op_records.specs.Blocks.{is_block_message, spelled_fields, spelled_message, content_field, message_fields, message_at};
 
 use crate::fault::RecordFault;
-use crate::puts::{put_long, put_text, put_two};
+use crate::puts::{put_checked, put_long, put_text, put_two};
 use crate::reader::{MOST_BYTES, Reader};
-use js_base::{Blob, Moment, NoMemory, put_bytes, put_u32};
+use js_base::{Blob, Moment, NoMemory, put_bytes};
 use js_model::Message;
 use std::alloc::Global;
 
-/// How many bytes a message takes besides those of its subject, header block and payload: its length, two numbers, and two lengths.
-const FIXED_BYTES: usize = 26;
-
-/// The bytes of a message's length, which does not count them.
-const LENGTH_BYTES: u32 = 4;
+/// How many bytes a message takes besides those of its subject, header block and payload: its length and checksum, two numbers, and two lengths.
+const FIXED_BYTES: usize = 30;
 
 /// A message whose texts lie in the bytes of a block.
 #[derive(Clone, Copy)]
@@ -28,19 +25,19 @@ struct Found<'a> {
     payload: &'a [u8],
 }
 
-/// How many bytes the message takes in a block, up to 1,049,626. It takes no memory.
+/// How many bytes the message takes in a block, up to 1,049,630. It takes no memory.
 #[tactic(auto, unfolding(crate::specs::Blocks::spelled_message))]
 pub fn message_len(message: &Message) -> u32
     requires message { IsTrue (is_block_message message.now) }
     ensures value { result ≡ length (spelled_message message.now) }
-    ensures least { 26 ≤ result }
-    ensures most { result ≤ 1049626 }
+    ensures least { 30 ≤ result }
+    ensures most { result ≤ 1049630 }
 {
     let texts = message.subject.len() + message.headers.len() + message.payload.len();
     (FIXED_BYTES + texts) as u32
 }
 
-/// Adds what follows a message's length.
+/// Adds what follows a message's length and checksum.
 fn put_fields(into: &mut Vec<u8>, message: &Message) -> Result<(), NoMemory>
     requires message { IsTrue (is_block_message message.now) }
     ensures ok { OnOk result (into.new.items ≡ into.old.items ++ spelled_fields message.now) }
@@ -58,9 +55,10 @@ pub fn write_message(alloc: Global, message: &Message, into: &mut Vec<u8>) -> Re
     ensures ok { OnOk result (into.new.items ≡ into.old.items ++ spelled_message message.now) }
     ensures err { OnErr result (into.new.items ≡ into.old.items) }
 {
+    let mut fields = Vec::new(alloc);
+    put_fields(&mut fields, message)?;
     let mut spelled = Vec::new(alloc);
-    put_u32(&mut spelled, message_len(message) - LENGTH_BYTES)?;
-    put_fields(&mut spelled, message)?;
+    put_checked(&mut spelled, fields.as_slice())?;
     put_bytes(into, spelled.as_slice())
 }
 
@@ -113,12 +111,10 @@ fn find(alloc: Global, bytes: &[u8], at: usize) -> Result<(Found<'_>, usize), Re
     ensures fault { IfErr result (IsFaultOf (message_at bytes.now at)) }
 {
     let mut reader = Reader { alloc, bytes, at };
-    let size = reader.word()?;
-    let end = reader.at + size as usize;
-    let held = end.min(bytes.len());
+    let end = reader.checked_end()?;
     let mut inner = Reader {
         alloc,
-        bytes: &bytes[..held],
+        bytes: &bytes[..end],
         at: reader.at,
     };
     match fields(&mut inner, end) {
@@ -142,8 +138,10 @@ fn copy(alloc: Global, found: &Found<'_>) -> Result<Message, NoMemory>
 
 /// The message that begins at a place of a block's bytes, and the place behind it.
 ///
-/// `Cut` tells the first field that passes the end of the message, as its length says, or that of the bytes, and `BadField` the first that holds what it may
-/// not hold: a number of 2^62 or more, no subject, a header block that is none, or one that is longer than 1,048,576 bytes together with the payload.
+/// If the bytes end before the message does, `Cut` tells its beginning, or that of its checksum if they end in there. If its fields have another checksum,
+/// `BadField` tells its beginning. Of fields with that checksum `Cut` tells the first that passes the end of the message, and `BadField` the first that holds
+/// what it may not hold: a number of 2^62 or more, no subject, a header block that is none, or one that is longer than 1,048,576 bytes together with the
+/// payload.
 pub fn read_message(alloc: Global, bytes: &[u8], at: usize) -> Result<(Message, usize), RecordFault>
     requires within { at ≤ length bytes.now }
     ensures reading { ReadsAt result (message_at bytes.now at) }

@@ -192,23 +192,7 @@ pub(crate) fn record(reader: &mut Reader<'_>) -> Result<Record, RecordFault>
         12 => Ok(Record::Change(given_up(reader)?)),
         13 => Ok(Record::Change(now(reader)?)),
         14 => put(reader),
-        32 => Err(RecordFault::BadField(begin)),
-        _ => Err(RecordFault::BadKind(begin)),
-    }
-}
-
-/// The incarnation of the vacant place with which a log begins.
-#[tactic(auto, unfolding(crate::specs::Reading::vacant_record))]
-pub(crate) fn vacant(reader: &mut Reader<'_>) -> Result<u64, RecordFault>
-    requires within { IsWithin reader.old }
-    ensures behind { IsBehind reader.old reader.new }
-    ensures reading { Reads result reader.new (kinds.vacant_record reader.old.bytes.now reader.old.at) }
-{
-    let begin = reader.at;
-    match reader.byte()? {
-        32 => reader.number(),
-        4 => Err(RecordFault::BadKind(begin)),
-        1..=14 => Err(RecordFault::BadField(begin)),
+        32 | 33 => Err(RecordFault::BadField(begin)),
         _ => Err(RecordFault::BadKind(begin)),
     }
 }

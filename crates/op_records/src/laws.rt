@@ -1,12 +1,11 @@
 //! The laws of records, and of messages in a block.
 
 ghost use Rattle.op_records.specs.BlockLaws.{LawMessage, LawMessages, LawOneSpelling};
-ghost use Rattle.op_records.specs.Laws.{LawRecords, LawVacant};
+ghost use Rattle.op_records.specs.Laws.{LawRecords};
 
-/// Bytes are read as records exactly if these may stand in a log and the bytes spell them, and so it is of the record with which a log begins.
+/// Bytes are read as records exactly if these may stand in a log and the bytes spell them.
 pub fn law_records()
     ensures records { LawRecords }
-    ensures vacant { LawVacant }
 {}
 
 /// Bytes are read as the messages of a block exactly if a block may have these and the bytes spell them, and no message's spelling is the beginning of

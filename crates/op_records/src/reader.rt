@@ -1,13 +1,14 @@
 //! The fields of records as they are read.
 
-ghost use Rattle.std.specs.Prelude.{◌≡◌, ◌+◌, IfOk, IfErr, Ok, Some};
+ghost use Rattle.std.specs.Prelude.{◌≡◌, ◌≤◌, ◌+◌, length, IfOk, IfErr, Ok, Some};
 ghost use Rattle.js_base.specs.Names.{name_of};
 ghost use Rattle.config_texts.specs.Reading.{allowed};
 ghost use Rattle.std.specs.Int.{w8, w16, w32, w64};
 ghost use Rattle.op_records.specs.Answers.{IsBehind, IsFaultOf, IsWithin, Reads};
-ghost use Rattle.op_records.specs.Fields.{word, number_field, cursor_field, numbers_field, part, piece, name_field, text_field, subject_field, stream_field, consumer_field, is_small_header, sized_part, spot_field, range_field};
+ghost use Rattle.op_records.specs.Fields.{word, number_field, cursor_field, numbers_field, part, piece, name_field, text_field, subject_field, stream_field, consumer_field, is_small_header, sized_part, spot_field, range_field, checked_end};
 
 use crate::fault::RecordFault;
+use checksum::crc32c;
 use config_texts::{read_consumer_text, read_stream_text};
 use js_base::{Blob, List, Moment, Name, NameFault, NoMemory, Spot, get_u16, get_u32, get_u64};
 use js_model::{ConsumerConfig, StreamConfig};
@@ -21,18 +22,21 @@ const NUMBERS_END: u64 = 1 << 62;
 /// The bytes of a message's header block and payload together.
 pub(crate) const MOST_BYTES: usize = 1_048_576;
 
-/// Bytes, and the place at which the next field begins.
+/// Bytes, and the place at which the next field begins, counted from 0. Each call reads the field there, and the reader stands behind it then. A field that
+/// does not end within the bytes is `Cut`, and one that holds what it may not hold is `BadField`; both tell the place at which the field begins.
 #[derive(Drop)]
-pub(crate) struct Reader<'a> {
-    pub(crate) alloc: Global,
-    pub(crate) bytes: &'a [u8],
-    pub(crate) at: usize,
+pub struct Reader<'a> {
+    /// What takes the memory for what is read.
+    pub alloc: Global,
+    pub bytes: &'a [u8],
+    /// At most the length of the bytes.
+    pub at: usize,
 }
 
 impl<'a> Reader<'a> {
     /// A number below 2^62.
     #[tactic(auto, unfolding(crate::specs::Fields::number_field))]
-    pub(crate) fn number(&mut self) -> Result<u64, RecordFault>
+    pub fn number(&mut self) -> Result<u64, RecordFault>
         requires within { IsWithin self.old }
         ensures behind { IsBehind self.old self.new }
         ensures reading { Reads result self.new (number_field self.old.bytes.now self.old.at) }
@@ -48,7 +52,7 @@ impl<'a> Reader<'a> {
 
     /// A moment.
     #[tactic(auto, unfolding(crate::specs::Fields::number_field))]
-    pub(crate) fn moment(&mut self) -> Result<Moment, RecordFault>
+    pub fn moment(&mut self) -> Result<Moment, RecordFault>
         requires within { IsWithin self.old }
         ensures behind { IsBehind self.old self.new }
         ensures reading { Reads result self.new (number_field self.old.bytes.now self.old.at) }
@@ -60,7 +64,7 @@ impl<'a> Reader<'a> {
 
     /// Where a consumer begins: up to 2^62.
     #[tactic(auto, unfolding(crate::specs::Fields::cursor_field))]
-    pub(crate) fn cursor(&mut self) -> Result<u64, RecordFault>
+    pub fn cursor(&mut self) -> Result<u64, RecordFault>
         requires within { IsWithin self.old }
         ensures behind { IsBehind self.old self.new }
         ensures reading { Reads result self.new (cursor_field self.old.bytes.now self.old.at) }
@@ -75,8 +79,8 @@ impl<'a> Reader<'a> {
     }
 
     /// Numbers behind their count.
-    #[tactic(auto, unfolding(crate::specs::Fields::numbers_field))]
-    pub(crate) fn numbers(&mut self) -> Result<List<u64>, RecordFault>
+    #[tactic(auto, unfolding(crate::specs::Fields::numbers_field, crate::specs::Fields::list_field))]
+    pub fn numbers(&mut self) -> Result<List<u64>, RecordFault>
         requires within { IsWithin self.old }
         ensures behind { IsBehind self.old self.new }
         ensures reading { Reads result self.new (numbers_field self.old.bytes.now self.old.at) }
@@ -102,7 +106,7 @@ impl<'a> Reader<'a> {
     }
 
     /// A number of four bytes.
-    pub(crate) fn word(&mut self) -> Result<u32, RecordFault>
+    pub fn word(&mut self) -> Result<u32, RecordFault>
         requires within { IsWithin self.old }
         ensures behind { IsBehind self.old self.new }
         ensures reading { Reads result self.new (word w32 self.old.bytes.now self.old.at) }
@@ -113,7 +117,7 @@ impl<'a> Reader<'a> {
     }
 
     /// A number of two bytes.
-    fn short_word(&mut self) -> Result<u16, RecordFault>
+    pub fn short_word(&mut self) -> Result<u16, RecordFault>
         requires within { IsWithin self.old }
         ensures behind { IsBehind self.old self.new }
         ensures reading { Reads result self.new (word w16 self.old.bytes.now self.old.at) }
@@ -124,7 +128,7 @@ impl<'a> Reader<'a> {
     }
 
     /// A byte.
-    pub(crate) fn byte(&mut self) -> Result<u8, RecordFault>
+    pub fn byte(&mut self) -> Result<u8, RecordFault>
         requires within { IsWithin self.old }
         ensures behind { IsBehind self.old self.new }
         ensures reading { Reads result self.new (word w8 self.old.bytes.now self.old.at) }
@@ -152,7 +156,7 @@ impl<'a> Reader<'a> {
 
     /// A name.
     #[tactic(auto, unfolding(crate::specs::Fields::name_field))]
-    pub(crate) fn name(&mut self) -> Result<Blob, RecordFault>
+    pub fn name(&mut self) -> Result<Blob, RecordFault>
         requires within { IsWithin self.old }
         ensures behind { IsBehind self.old self.new }
         ensures reading { Reads result self.new (name_field self.old.bytes.now self.old.at) }
@@ -189,7 +193,7 @@ impl<'a> Reader<'a> {
 
     /// Any text.
     #[tactic(auto, unfolding(crate::specs::Fields::text_field))]
-    pub(crate) fn text(&mut self) -> Result<Blob, RecordFault>
+    pub fn text(&mut self) -> Result<Blob, RecordFault>
         requires within { IsWithin self.old }
         ensures behind { IsBehind self.old self.new }
         ensures reading { Reads result self.new (text_field self.old.bytes.now self.old.at) }
@@ -216,7 +220,7 @@ impl<'a> Reader<'a> {
 
     /// A stream's configuration.
     #[tactic(auto, unfolding(crate::specs::Fields::stream_field))]
-    pub(crate) fn stream_config(&mut self) -> Result<StreamConfig, RecordFault>
+    pub fn stream_config(&mut self) -> Result<StreamConfig, RecordFault>
         requires within { IsWithin self.old }
         ensures behind { IsBehind self.old self.new }
         ensures reading { Reads result self.new (stream_field self.old.bytes.now self.old.at) }
@@ -228,7 +232,7 @@ impl<'a> Reader<'a> {
 
     /// A consumer's configuration.
     #[tactic(auto, unfolding(crate::specs::Fields::consumer_field))]
-    pub(crate) fn consumer_config(&mut self) -> Result<ConsumerConfig, RecordFault>
+    pub fn consumer_config(&mut self) -> Result<ConsumerConfig, RecordFault>
         requires within { IsWithin self.old }
         ensures behind { IsBehind self.old self.new }
         ensures reading { Reads result self.new (consumer_field self.old.bytes.now self.old.at) }
@@ -236,6 +240,30 @@ impl<'a> Reader<'a> {
         let begin = self.at;
         let text = self.long_bytes()?;
         read_consumer_text(self.alloc, text)?.ok_or(RecordFault::BadField(begin))
+    }
+
+    /// The end of bytes that stand behind their length and their checksum. The reader goes on in front of them. If they have another checksum, the place of
+    /// their length is told.
+    #[tactic(auto, unfolding(crate::specs::Fields::checked_end))]
+    pub(crate) fn checked_end(&mut self) -> Result<usize, RecordFault>
+        requires within { IsWithin self.old }
+        ensures behind { IsBehind self.old self.new }
+        ensures ahead { IfOk result (λ end. self.new.at ≤ end) }
+        ensures within { IfOk result (λ end. end ≤ length self.old.bytes.now) }
+        ensures reading { Reads result self.new (checked_end self.old.bytes.now self.old.at) }
+    {
+        let begin = self.at;
+        let size = self.word()?;
+        let sum = self.word()?;
+        let first = self.at;
+        let bytes = self.part(begin, size as usize)?;
+        let end = self.at;
+        self.at = first;
+        if crc32c(bytes) == sum {
+            Ok(end)
+        } else {
+            Err(RecordFault::BadField(begin))
+        }
     }
 
     /// A message's header block, and where it begins. Its length is a field of its own.
@@ -257,7 +285,7 @@ impl<'a> Reader<'a> {
 
     /// Where a message lies.
     #[tactic(auto, unfolding(crate::specs::Fields::spot_field))]
-    pub(crate) fn spot(&mut self) -> Result<Spot, RecordFault>
+    pub fn spot(&mut self) -> Result<Spot, RecordFault>
         requires within { IsWithin self.old }
         ensures behind { IsBehind self.old self.new }
         ensures reading { Reads result self.new (spot_field self.old.bytes.now self.old.at) }

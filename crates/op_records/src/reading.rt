@@ -1,11 +1,11 @@
 //! Records as they are read.
 
 ghost use Rattle.std.specs.Prelude.{◌≤◌, length};
-ghost use Rattle.op_records.specs.Answers.{ReadsAt, ReadsRecords, ReadsVacant};
-ghost use Rattle.op_records.specs.Reading.{record_at, vacant_field};
+ghost use Rattle.op_records.specs.Answers.{ReadsAt, ReadsRecords};
+ghost use Rattle.op_records.specs.Reading.{record_at};
 
 use crate::fault::RecordFault;
-use crate::kinds::{record, vacant};
+use crate::kinds::record;
 use crate::reader::Reader;
 use crate::record::Record;
 use js_base::List;
@@ -40,23 +40,4 @@ pub fn read_records(alloc: Global, bytes: &[u8]) -> Result<Vec<Record>, RecordFa
         records.push(found)?;
     }
     Ok(records.into_vec())
-}
-
-/// The incarnation of the vacant place with which a log begins: its first batch is the one record of that. `Cut` tells a field that does not end, `BadKind`
-/// a record of no kind, and `BadField` a record of another kind, a number of 2^62 or more, and what stands behind the record.
-#[tactic(auto, unfolding(crate::specs::Reading::vacant_field))]
-pub fn read_vacant(alloc: Global, bytes: &[u8]) -> Result<u64, RecordFault>
-    ensures reading { ReadsVacant result bytes.now (vacant_field bytes.now 0) }
-{
-    let mut reader = Reader {
-        alloc,
-        bytes,
-        at: 0,
-    };
-    let incarnation = vacant(&mut reader)?;
-    if reader.at == bytes.len() {
-        Ok(incarnation)
-    } else {
-        Err(RecordFault::BadField(reader.at))
-    }
 }

@@ -1,7 +1,7 @@
 -- How a run of calls goes on.
-use Rattle.std.proofs.Common.{◌≡◌, inl, inr, ⊎_elim, ℕ, List, refl, sym, ◌∙◌, subst, arith}
+use Rattle.std.proofs.Common.{◌≡◌, ◌≤◌, inl, inr, ⊎_elim, ℕ, List, [], refl, sym, ◌∙◌, subst, arith}
 use Rattle.std.proofs.lemmas.Bool.{cases_eq}
-use Rattle.vol_disk.specs.Disk.{Disk, Files}
+use Rattle.vol_disk.specs.Disk.{Disk, Files, IsLeftBelow}
 use Rattle.vol_disk.specs.Images.{IsImage, IsHonest, IsDurable, AreBytes}
 use Rattle.vol_disk.specs.Steps.{Torn, CutTo, Kept}
 use Rattle.vol_disk.specs.Does.{Elapses, Rests, Does}
@@ -133,3 +133,7 @@ quiet_then old mid new first second = record {
 
 pub quiet_durable : (old new : Disk) (file : ℕ) → Quiet old new → IsDurable old file → IsDurable new file
 quiet_durable old new file still durable = λ c left. durable c (still.leaves file c left) ∙ sym (still.seen file)
+
+-- a file of which a crash leaves nothing reads as empty, and did so before calls that wrote nothing
+pub empty_behind : (old new : Disk) (end file : ℕ) → IsHonest new → Quiet old new → IsLeftBelow end new → end ≤ file → old.seen file ≡ []
+empty_behind old new end file honest still left behind = sym (still.seen file) ∙ left file behind (new.seen file) (honest file)

@@ -1,10 +1,10 @@
 -- What a call on a volume in memory does to its disk.
-use Rattle.std.proofs.Common.{◌≡◌, inl, inr, ℕ, Bool, true, false, List, [], Result, Ok, Err, OnOk, OnErr, length, take, refl, sym, ◌∙◌, ap, subst}
-use Rattle.vol_disk.specs.Disk.{AreBelow}
+use Rattle.std.proofs.Common.{◌≡◌, ◌≤◌, inl, inr, ℕ, Bool, true, false, List, [], Result, Ok, Err, OnOk, OnErr, length, take, refl, sym, ◌∙◌, ap, subst}
+use Rattle.vol_disk.specs.Disk.{IsLeftBelow}
 use Rattle.vol_disk.specs.Images.{IsImage, IsDurable, IsAllDurable}
 use Rattle.vol_disk.specs.Steps.{written, Torn, CutTo}
 use Rattle.vol_disk.specs.Does.{Does}
-use Rattle.vol_disk.specs.FileState.{FileState}
+use Rattle.vol_disk.specs.FileState.{FileState, at_rest}
 use Rattle.vol_disk.specs.Left.{IsLeft}
 use Rattle.vol_disk.specs.Calls.{CanDo, step_of, after}
 use Rattle.vol_disk.specs.Replay.{bytes_in}
@@ -110,8 +110,9 @@ kept_end {T} {E} old new result h =
     same (Ok value) h = ap (λ (s : FileState). s.bytes) (file_done old new 0 End h)
     same (Err failed) h = bytes_failed old new 0 End h
 
-pub below_kept : (old new : VolState) (end : ℕ) → Quiet (disk_of old) (disk_of new) → AreBelow end (disk_of new).seen → AreBelow end (disk_of old).seen
-below_kept old new end still below file behind = sym (still.seen file) ∙ below file behind
+-- a crash leaves nothing of files at rest that have no bytes
+pub left_below : (v : VolState) (end : ℕ) → ((file : ℕ) → end ≤ file → file_of v file ≡ at_rest []) → IsLeftBelow end (disk_of v)
+left_below v end rest file behind bytes left = only_at_rest [] bytes (subst (λ (s : FileState). IsLeft s bytes) (rest file behind) left)
 
 -- files at rest that hold what a crash may leave are an image
 pub image_of : (old : VolState) (start : List (ℕ × List ℕ)) (calls : List Call) → AreLeft old.start old.calls (bytes_in start) → calls ≡ [] →

@@ -5,10 +5,6 @@ use Rattle.std.specs.Prelude.{◌≡◌, ℕ, ◌≤◌, List, []}
 abbrev pub Files : Type 0
 Files = ℕ → List ℕ
 
--- each file with bytes has a number below this one
-abbrev pub AreBelow : ℕ → Files → Type 0
-AreBelow end files = (file : ℕ) → end ≤ file → files file ≡ []
-
 pub record Disk : Type 1 where
   -- what a read gives
   pub seen : ℕ → List ℕ
@@ -18,3 +14,7 @@ pub record Disk : Type 1 where
   pub moment : ℕ
   -- the files that a crash at some moment since that one may have left
   pub may_leave : ℕ → (ℕ → List ℕ) → Type 0
+
+-- a crash now leaves bytes of none but files with a number below this one
+abbrev pub IsLeftBelow : ℕ → Disk → Type 0
+IsLeftBelow end disk = (file : ℕ) → end ≤ file → (bytes : List ℕ) → disk.leaves file bytes → bytes ≡ []

@@ -1,9 +1,8 @@
 //! The files of a volume in memory, and the calls on them.
 
-ghost use Rattle.std.specs.Prelude.{◌≡◌, ◌<◌, [], ◌∷◌, ◌++◌, ℕ, false, None, Some, length, unwrap_or, IfOk, OnOk, OnErr, vec_len, vec_capacity};
+ghost use Rattle.std.specs.Prelude.{◌≡◌, ◌<◌, ◌≤◌, [], ◌∷◌, ◌++◌, ℕ, false, None, Some, length, unwrap_or, IfOk, OnOk, OnErr, vec_len, vec_capacity};
 ghost use Rattle.std.specs.BTreeMap.{get, is_at};
 ghost use Rattle.std.specs.Ordering.{nat_cmp};
-ghost use Rattle.vol_disk.specs.Disk.{AreBelow};
 ghost use Rattle.vol_disk.specs.FileState.{at_rest};
 ghost use Rattle.vol_disk.specs.Replay.{bytes_in, after_call};
 ghost use Rattle.vol_disk.specs.MemDisk.{AreLeft};
@@ -187,7 +186,7 @@ impl Held {
 
     /// A number behind that of every file that is held.
     pub fn end(&self) -> u64
-        ensures value { AreBelow result (λ file. (held_file self.now file).bytes) }
+        ensures rest { (file : ℕ) → result ≤ file → held_file self.now file ≡ at_rest [] }
     {
         match self.files.last_key_value() {
             Some((last, _)) => u64::from(*last) + 1,

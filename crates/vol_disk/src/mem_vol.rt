@@ -4,7 +4,7 @@ ghost use Rattle.std.specs.Prelude.{◌≡◌, ◌+◌, ◌≤◌, [], ℕ, None
 ghost use Rattle.vol_disk.specs.Images.{IsImage, IsDurable, IsAllDurable};
 ghost use Rattle.vol_disk.specs.Steps.{written, Torn, CutTo, Kept};
 ghost use Rattle.vol_disk.specs.Does.{Does};
-ghost use Rattle.vol_disk.specs.Disk.{AreBelow};
+ghost use Rattle.vol_disk.specs.Disk.{IsLeftBelow};
 ghost use Rattle.vol_disk.specs.Moments.{Quiet};
 ghost use Rattle.vol_disk.specs.Calls.{CanDo};
 ghost use Rattle.js_base.specs.Causes.{HasCause};
@@ -295,7 +295,7 @@ impl Vol for MemVol {
 
     fn files_end(&mut self) -> Result<u64, Failed>
         ensures call { IsCall self.old self.new result 0 Deed.End }
-        ensures value { IfOk result (λ end. AreBelow end (disk_of self.old).seen) }
+        ensures left { IfOk result (λ end. IsLeftBelow end (disk_of self.new)) }
         ensures quiet { Quiet (disk_of self.old) (disk_of self.new) }
         ensures cause { HasCause self.old.faults self.new.faults (IsErr result) }
         ensures later { (disk_of self.old).moment ≤ (disk_of self.new).moment }

@@ -1,7 +1,7 @@
 //! Volumes of numbered files.
 
 ghost use Rattle.std.specs.Prelude.{◌≡◌, ℕ, ◌+◌, ◌≤◌, length, take, drop, OnOk, OnErr, IfOk, IsErr};
-ghost use Rattle.vol_disk.specs.Disk.{AreBelow, Disk};
+ghost use Rattle.vol_disk.specs.Disk.{Disk, IsLeftBelow};
 ghost use Rattle.vol_disk.specs.Images.{IsDurable, IsHonest};
 ghost use Rattle.vol_disk.specs.Steps.{written, Torn, CutTo, Kept};
 ghost use Rattle.vol_disk.specs.Does.{Does};
@@ -74,9 +74,9 @@ pub trait Vol {
         ensures cause { HasCause (faults self.old) (faults self.new) (IsErr result) }
         ensures later { (disk self.old).moment ≤ (disk self.new).moment };
 
-    /// A number behind that of every file with bytes, at most 2^32. Files before it may be empty.
+    /// A number behind that of every file that has bytes, or of which a crash may leave some, at most 2^32. Files before it may be empty.
     fn files_end(&mut self) -> Result<u64, Failed>
-        ensures value { told → IfOk result (λ end. AreBelow end (disk self.old).seen) }
+        ensures left { told → IfOk result (λ end. IsLeftBelow end (disk self.new)) }
         ensures quiet { told → Quiet (disk self.old) (disk self.new) }
         ensures cause { HasCause (faults self.old) (faults self.new) (IsErr result) }
         ensures later { (disk self.old).moment ≤ (disk self.new).moment };

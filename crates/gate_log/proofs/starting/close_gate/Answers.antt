@@ -1,15 +1,16 @@
-use Rattle.std.proofs.Common.{◌≡◌, ◌∷◌, [], subst}
+use Rattle.std.proofs.Common.{◌≡◌, ◌∷◌, [], length, ap, subst, arith}
 use Rattle.vol_disk.specs.Steps.{written, Torn}
 use Rattle.js_base.specs.Bytes.{Bytes}
 use Rattle.gate_log.proofs.LetOn.{at_ok}
 use Rattle.gate_log.proofs.Emptying.{torn_gate, written_gate, gate_of, shut_of, starts_quiet, starts_then}
+use Rattle.gate_log.proofs.Growing.{grows_quiet, grows_then, written_most}
 use Rattle.gate_log.proofs.starting.close_gate.Goals as goal
 
 pub returns-then-branch-eq-OPEN-clause-shut : goal.returns-then-branch-eq-OPEN-clause-shut
 returns-then-branch-eq-OPEN-clause-shut g c = λ told.
     let old = (g.V.Vol.disk c.args.vol.now).seen c.args.file in
     let same = (c.byte_at.ensures.quiet told).seen c.args.file in
-    at_ok c.write_synced.result (λ is. written_gate old ((g.V.Vol.disk c.write_synced.new.vol).seen c.args.file) (c.requires.long told) (subst (λ (l : Bytes). (g.V.Vol.disk c.write_synced.new.vol).seen c.args.file ≡ written 16 (0 ∷ []) l) same is)) (c.write_synced.ensures.seen told)
+    at_ok c.write_synced.result (λ is. written_gate old ((g.V.Vol.disk c.write_synced.new.vol).seen c.args.file) (c.requires.long told) (subst (λ (l : Bytes). (g.V.Vol.disk c.write_synced.new.vol).seen c.args.file ≡ written 20 (0 ∷ []) l) same is)) (c.write_synced.ensures.seen told)
 
 pub returns-then-branch-eq-OPEN-clause-any_moment : goal.returns-then-branch-eq-OPEN-clause-any_moment
 returns-then-branch-eq-OPEN-clause-any_moment g c = λ told.
@@ -17,9 +18,39 @@ returns-then-branch-eq-OPEN-clause-any_moment g c = λ told.
     let mid = g.V.Vol.disk c.byte_at.new.vol in
     let old = was.seen c.args.file in
     let same = (c.byte_at.ensures.quiet told).seen c.args.file in
-    starts_then c.args.file (Torn 16 1) was mid (g.V.Vol.disk c.write_synced.new.vol) (starts_quiet c.args.file was mid (c.requires.durable told) (c.byte_at.ensures.quiet told)) (c.write_synced.ensures.does told)
-    (λ bytes torn. shut_of old bytes (torn_gate old bytes (c.requires.long told) (gate_of old c.in_ok-byte_at.field-0 (c.in_ok-byte_at.ensures.value told) c.if-branch-eq-OPEN.true) (subst (λ (l : Bytes). Torn 16 1 l bytes) same torn)) (c.requires.long told))
+    starts_then c.args.file (Torn 20 1) was mid (g.V.Vol.disk c.write_synced.new.vol) (starts_quiet c.args.file was mid (c.requires.durable told) (c.byte_at.ensures.quiet told)) (c.write_synced.ensures.does told)
+    (λ bytes torn. shut_of old bytes (torn_gate old bytes (c.requires.long told) (gate_of old c.in_ok-byte_at.field-0 (c.in_ok-byte_at.ensures.value told) c.if-branch-eq-OPEN.true) (subst (λ (l : Bytes). Torn 20 1 l bytes) same torn)) (c.requires.long told))
 
 pub returns-else-branch-eq-OPEN-clause-any_moment : goal.returns-else-branch-eq-OPEN-clause-any_moment
 returns-else-branch-eq-OPEN-clause-any_moment g c = λ told.
     starts_quiet c.args.file (g.V.Vol.disk c.args.vol.now) (g.V.Vol.disk c.byte_at.new.vol) (c.requires.durable told) (c.byte_at.ensures.quiet told)
+
+-- ---- how long the file is
+
+pub returns-in_err-byte_at-clause-grows : goal.returns-in_err-byte_at-clause-grows
+returns-in_err-byte_at-clause-grows g c = λ told.
+    grows_quiet c.args.file 0 (g.V.Vol.disk c.args.vol.now) (g.V.Vol.disk c.byte_at.new.vol) (c.requires.durable told) (c.byte_at.ensures.quiet told)
+
+pub returns-then-branch-eq-OPEN-clause-grows : goal.returns-then-branch-eq-OPEN-clause-grows
+returns-then-branch-eq-OPEN-clause-grows g c = λ told.
+    let was = g.V.Vol.disk c.args.vol.now in
+    let mid = g.V.Vol.disk c.byte_at.new.vol in
+    let same = ap (λ (l : Bytes). length l) ((c.byte_at.ensures.quiet told).seen c.args.file) in
+    let long = c.requires.long told in
+    grows_then c.args.file 0 (Torn 20 1) was mid (g.V.Vol.disk c.write_synced.new.vol) (grows_quiet c.args.file 0 was mid (c.requires.durable told) (c.byte_at.ensures.quiet told)) (c.write_synced.ensures.does told)
+    (λ bytes torn. let most = torn.no_longer in omega (arith, most, same, long))
+
+pub returns-else-branch-eq-OPEN-clause-grows : goal.returns-else-branch-eq-OPEN-clause-grows
+returns-else-branch-eq-OPEN-clause-grows g c = λ told.
+    grows_quiet c.args.file 0 (g.V.Vol.disk c.args.vol.now) (g.V.Vol.disk c.byte_at.new.vol) (c.requires.durable told) (c.byte_at.ensures.quiet told)
+
+pub returns-then-branch-eq-OPEN-clause-size : goal.returns-then-branch-eq-OPEN-clause-size
+returns-then-branch-eq-OPEN-clause-size g c = λ told.
+    let mid = (g.V.Vol.disk c.byte_at.new.vol).seen c.args.file in
+    let new = (g.V.Vol.disk c.write_synced.new.vol).seen c.args.file in
+    let same = ap (λ (l : Bytes). length l) ((c.byte_at.ensures.quiet told).seen c.args.file) in
+    let long = c.requires.long told in
+    at_ok c.write_synced.result (λ is. let most = written_most 20 (0 ∷ []) mid new is in omega (arith, most, same, long)) (c.write_synced.ensures.seen told)
+
+pub returns-else-branch-eq-OPEN-clause-size : goal.returns-else-branch-eq-OPEN-clause-size
+returns-else-branch-eq-OPEN-clause-size g c = λ told. let same = ap (λ (l : Bytes). length l) ((c.byte_at.ensures.quiet told).seen c.args.file) in omega (arith, same)

@@ -1,5 +1,5 @@
-use Rattle.op_records.proofs.RecordsExact.{law_records, law_vacant}
+use Rattle.op_records.proofs.RecordsExact.{law_records}
 use Rattle.op_records.proofs.laws.law_records.Goals as goal
 
 pub returns : goal.returns
-returns c = record { records = law_records; vacant = law_vacant }
+returns c = record { records = law_records }

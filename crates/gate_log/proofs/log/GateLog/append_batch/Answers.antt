@@ -1,10 +1,12 @@
-use Rattle.std.proofs.Common.{◌≡◌, ◌∙◌, ℕ, ◌<◌, ◌≤◌, ◌^◌, [], ◌∷◌, length, sym, ap, subst, arith}
+use Rattle.std.proofs.Common.{◌≡◌, ◌∙◌, ℕ, ◌+◌, ◌<◌, ◌≤◌, ◌^◌, [], ◌∷◌, length, sym, ap, subst, arith}
 use Rattle.vol_disk.specs.Images.{IsDurable}
 use Rattle.vol_disk.specs.Steps.{written, Torn}
 use Rattle.vol_disk.specs.Synced.{DoesSynced}
 use Rattle.gate_log.specs.LogState.{LogState, with_batch}
 use Rattle.gate_log.specs.declared.ends.Ends.{Ends}
 use Rattle.gate_log.proofs.Appendings.{gate_inside, opening, done}
+use Rattle.vol_disk.proofs.Moments.{quiet}
+use Rattle.gate_log.proofs.Growing.{grows_quiet, grows_then}
 use Rattle.gate_log.proofs.log.GateLog.append_batch.Goals as goal
 
 pub write_synced-requires-clause-within : goal.write_synced-requires-clause-within
@@ -49,3 +51,31 @@ returns-clause-appended g c = λ told.
     done c.args.self.now c.args.batch.now old (g.met.V.Vol.clocked c.args.vol.now) mid new after short c.requires.head (c.in_ok-stage.ensures.staged told)
     (subst (λ (l : LogState). new.seen l.file ≡ written l.end (1 ∷ []) (mid.seen l.file)) c.self.view_is (c.in_ok-write_synced.ensures.seen told))
     (subst (λ (l : LogState). IsDurable new l.file) c.self.view_is (c.in_ok-write_synced.ensures.durable told)) is
+
+-- ---- how long the file is
+
+pub returns-then-not-fits-clause-grows : goal.returns-then-not-fits-clause-grows
+returns-then-not-fits-clause-grows g c = λ told.
+    let was = g.V.Vol.disk c.args.vol.now in
+    let log = c.args.self.now in
+    grows_quiet log.file (log.end + 10 + length c.args.batch.now) was was (c.requires.settled told).1.durable (quiet was (g.met.V.Vol.clocked c.args.vol.now))
+
+pub returns-in_err-write_synced-clause-grows : goal.returns-in_err-write_synced-clause-grows
+returns-in_err-write_synced-clause-grows g c = λ told.
+    let log = c.args.self.now in
+    let old = g.V.Vol.disk c.args.vol.now in
+    let mid = g.V.Vol.disk c.stage.new.vol in
+    let new = g.V.Vol.disk c.write_synced.new.vol in
+    let size = c.in_ok-stage.ensures.size told in
+    grows_then log.file (log.end + 10 + length c.args.batch.now) (Torn log.end 1) old mid new (c.stage.ensures.grows told) (subst (λ (l : LogState). DoesSynced l.file (Torn l.end 1) mid new) c.self.view_is (c.write_synced.ensures.does told))
+    (λ bytes torn. let most = torn.no_longer in omega (arith, most, size))
+
+pub returns-clause-grows : goal.returns-clause-grows
+returns-clause-grows g c = λ told.
+    let log = c.args.self.now in
+    let old = g.V.Vol.disk c.args.vol.now in
+    let mid = g.V.Vol.disk c.stage.new.vol in
+    let new = g.V.Vol.disk c.write_synced.new.vol in
+    let size = c.in_ok-stage.ensures.size told in
+    grows_then log.file (log.end + 10 + length c.args.batch.now) (Torn log.end 1) old mid new (c.stage.ensures.grows told) (subst (λ (l : LogState). DoesSynced l.file (Torn l.end 1) mid new) c.self.view_is (c.write_synced.ensures.does told))
+    (λ bytes torn. let most = torn.no_longer in omega (arith, most, size))

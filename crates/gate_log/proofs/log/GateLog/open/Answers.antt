@@ -13,5 +13,5 @@ returns-in_err-ends-clause-fault g c = λ told.
     handed_on (IsOpenFault bytes) c.in_err-ends.field-0.0 c.from_residual-in_err-ends.result c.from_residual-in_err-ends.ensures.1
     (open_walk_fault bytes ((g.V.Vol.disk c.synced_len.new.vol).seen c.args.file) ((g.V.Vol.disk c.head_of.new.vol).seen c.args.file) c.in_ok-generation.generation c.in_err-ends.field-0.0 first (second ∙ first) (long c.in_ok-len.len bytes (c.in_ok-len.ensures.value told) c.if-len.false) (c.in_ok-generation.ensures.ok told) (c.in_err-ends.ensures.fault told))
   where
-    long : (len : ℕ) (bytes : Bytes) → len ≡ length bytes → 17 < len → 17 < length bytes
+    long : (len : ℕ) (bytes : Bytes) → len ≡ length bytes → 21 < len → 21 < length bytes
     long len bytes is lt = omega arith

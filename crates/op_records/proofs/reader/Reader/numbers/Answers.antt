@@ -1,5 +1,5 @@
 use Rattle.std.proofs.Common.{◌∙◌, arith}
-use Rattle.op_records.specs.Fields.{number_fields}
+use Rattle.op_records.specs.Fields.{number_field, list_fields}
 use Rattle.op_records.proofs.Loops.{goes_on}
 use Rattle.op_records.proofs.reader.Reader.numbers.Goals as goal
 
@@ -11,5 +11,5 @@ loop-preserved c =
     let read = rw before.bytes at c.in_ok-number.ensures.reading in
     record {
       behind = record { bytes = more.bytes ∙ before.bytes; further = omega (arith, more.further, before.further); within = more.within };
-      so_far = rw c.in_ok-push.ensures.ok (goes_on bytes c.loop.numbers c.in_ok-count.count c.loop.counter c.loop.self.at c.in_ok-number.number c.number.new.self.at (number_fields c.in_ok-count.count bytes c.word.new.self.at) c.loop-test.true read c.loop.invariant.so_far);
+      so_far = rw c.in_ok-push.ensures.ok (goes_on number_field bytes c.loop.numbers c.in_ok-count.count c.loop.counter c.loop.self.at c.in_ok-number.number c.number.new.self.at (list_fields number_field c.in_ok-count.count bytes c.word.new.self.at) c.loop-test.true read c.loop.invariant.so_far);
     }

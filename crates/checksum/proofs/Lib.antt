@@ -1,0 +1,4 @@
+mod Linear
+pub mod Registers
+pub mod Checking
+mod Rows
