@@ -7,3 +7,4 @@ pub mod Ranges
 pub mod InUse
 pub mod Batches
 pub mod Rooms
+pub mod Restored

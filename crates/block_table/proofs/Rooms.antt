@@ -68,7 +68,7 @@ one b p len = go (stays len p.writing)
 
 -- ---- few blocks
 
-abbrev elsewhere : ℕ → Block → Bool
+abbrev pub elsewhere : ℕ → Block → Bool
 elsewhere file k = not (k.file == file)
 
 -- of blocks that are apart one is in the file at most
@@ -81,7 +81,7 @@ all_others file (k ∷ ks) absent = go (k.file == file) absent (all_others file 
     go true h rest = absurd (true≢false h)
     go false h rest = let r = rest h in omega (arith, r)
 
-but_one : (file : ℕ) (ks : List Block) → AreApart ks → length ks ≤ length (filter (elsewhere file) ks) + 1
+pub but_one : (file : ℕ) (ks : List Block) → AreApart ks → length ks ≤ length (filter (elsewhere file) ks) + 1
 but_one file [] h = omega arith
 but_one file (k ∷ ks) h = go (k.file == file) refl (but_one file ks h.1)
   where
@@ -122,7 +122,7 @@ no_more (p ∷ placed) ks apart used =
 
 held : (b : Blocks) → IsTable b → length (blocks b) ≤ length b.placed + 1
 held b h =
-    let older = no_more b.placed b.older (apart_first b.older (option_to_list b.writing) h.apart) h.held in
+    let older = no_more b.placed b.older (apart_first b.older (option_to_list b.writing) h.blocks_are.apart) h.held in
     let all = length-append b.older (option_to_list b.writing) in
     let most = at_most b.writing in
     omega (arith, older, all, most)

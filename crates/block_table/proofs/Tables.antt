@@ -17,7 +17,7 @@ use Rattle.block_table.specs.declared.placed.Placed.{Placed}
 use Rattle.block_table.specs.Blocks.{Blocks, no_blocks, blocks, has_block, is_among, is_used, used}
 use Rattle.block_table.specs.Counts.{UsesAsBefore}
 use Rattle.block_table.specs.Puts.{end_of, is_above, goes_on, begins, fits, left_by, with_placed, put_at, is_within, without, removed}
-use Rattle.block_table.specs.Tables.{AreApart, AreBlocksBelow, IsFile, IsTable, lies_in}
+use Rattle.block_table.specs.Tables.{AreApart, AreBlocks, AreBlocksBelow, IsFile, IsTable, lies_in}
 use Rattle.block_table.proofs.Lists.{kept_all, kept_pass, kept-append, each_passes}
 use Rattle.block_table.proofs.Apart.{apart_with, apart_kept, apart_first, apart_last, covers, lies_kept, lies_left, lies_right, lies_among}
 
@@ -45,7 +45,7 @@ below_more : (m n : ℕ) (ns : List ℕ) → AllByRecursion (λ k. nat_cmp m k �
 below_more m n [] h less = (sym (nat_cmp_is m n Less less), tt)
 below_more m n (k ∷ ns) h less = (h.0, below_more m n ns h.1 less)
 
-rising_more : (seq : ℕ) (spot : Spot) (ps : List Placed) → IsStrictlySortedBy nat_cmp (seqs ps) → is_above seq ps ≡ true → IsStrictlySortedBy nat_cmp (seqs (with_placed seq spot ps))
+pub rising_more : (seq : ℕ) (spot : Spot) (ps : List Placed) → IsStrictlySortedBy nat_cmp (seqs ps) → is_above seq ps ≡ true → IsStrictlySortedBy nat_cmp (seqs (with_placed seq spot ps))
 unfolding IsStrictlySortedBy
 rising_more seq spot [] h above = (tt, tt)
 rising_more seq spot (p ∷ ps) h above =
@@ -72,14 +72,21 @@ rising_kept t (p ∷ ps) h = go (t p) (rising_kept t ps h.1)
     go true rest = (below_kept p.seq t ps h.0, rest)
     go false rest = rest
 
+-- ---- what is true of a block
+
+abbrev InFile : Block → Type 0
+InFile k = IsFile k.file
+
+abbrev EndsLow : Block → Type 0
+EndsLow k = k.end < 2 ^ 32
+
 -- ---- no blocks
 
 pub table_none : IsTable no_blocks
 unfolding IsStrictlySortedBy
 table_none = record {
   rising = tt;
-  apart = tt;
-  files = All-nil (λ (k : Block). IsFile k.file);
+  blocks_are = record { apart = tt; files = All-nil InFile; ends = All-nil EndsLow };
   inside = All-nil (λ p. lies_in (blocks no_blocks) p.spot ≡ true);
   held = All-nil (λ k. is_used [] k.file ≡ true);
 }
@@ -98,22 +105,22 @@ lies_part t spot ks more kept h = go (lies_in ks spot) refl (sym (list_any-appen
     go true e l = lies_left spot (filter (λ k. t k.file) ks) more (lies_kept t spot ks kept e)
     go false e l = lies_right spot (filter (λ k. t k.file) ks) more l
 
--- ---- files
+-- ---- files, and how far they are written
 
-abbrev InFile : Block → Type 0
-InFile k = IsFile k.file
-
-files_kept : (t : Block → Bool) (ks more : List Block) → All InFile (ks ++ more) → All InFile (filter t ks ++ more)
-files_kept t [] more h = h
-files_kept t (k ∷ ks) more h = go (t k) (files_kept t ks more (All-tail InFile k (ks ++ more) h))
+each_kept : (P : Block → Type 0) (t : Block → Bool) (ks more : List Block) → All P (ks ++ more) → All P (filter t ks ++ more)
+each_kept P t [] more h = h
+each_kept P t (k ∷ ks) more h = go (t k) (each_kept P t ks more (All-tail P k (ks ++ more) h))
   where
-    go : (b : Bool) → All InFile (filter t ks ++ more) → All InFile (cond b (k ∷ filter t ks) (filter t ks) ++ more)
-    go true rest = All-cons InFile k (filter t ks ++ more) (All-head InFile k (ks ++ more) h) rest
+    go : (b : Bool) → All P (filter t ks ++ more) → All P (cond b (k ∷ filter t ks) (filter t ks) ++ more)
+    go true rest = All-cons P k (filter t ks ++ more) (All-head P k (ks ++ more) h) rest
     go false rest = rest
 
-files_first : (ks more : List Block) → All InFile (ks ++ more) → All InFile ks
-files_first [] more h = All-nil InFile
-files_first (k ∷ ks) more h = All-cons InFile k ks (All-head InFile k (ks ++ more) h) (files_first ks more (All-tail InFile k (ks ++ more) h))
+blocks_kept : (t : ℕ → Bool) (ks more : List Block) → AreBlocks (ks ++ more) → AreBlocks (filter (λ k. t k.file) ks ++ more)
+blocks_kept t ks more h = record { apart = apart_kept (λ k. t k.file) ks more h.apart; files = each_kept InFile (λ k. t k.file) ks more h.files; ends = each_kept EndsLow (λ k. t k.file) ks more h.ends }
+
+each_first : (P : Block → Type 0) (ks more : List Block) → All P (ks ++ more) → All P ks
+each_first P [] more h = All-nil P
+each_first P (k ∷ ks) more h = All-cons P k ks (All-head P k (ks ++ more) h) (each_first P ks more (All-tail P k (ks ++ more) h))
 
 files_last : (ks : List Block) (k : Block) → All InFile (ks ++ k ∷ []) → IsFile k.file
 files_last [] k h = All-head InFile k [] h
@@ -127,8 +134,7 @@ table_removed low high b h =
     let within : All (λ p. lies_in (blocks b) p.spot ≡ true) left = All-filter (λ p. not (is_within low high p.seq)) (λ p. lies_in (blocks b) p.spot ≡ true) b.placed h.inside in
     record {
       rising = rising_kept (λ p. not (is_within low high p.seq)) b.placed h.rising;
-      apart = apart_kept (λ k. is_used left k.file) b.older (option_to_list b.writing) h.apart;
-      files = files_kept (λ k. is_used left k.file) b.older (option_to_list b.writing) h.files;
+      blocks_are = blocks_kept (is_used left) b.older (option_to_list b.writing) h.blocks_are;
       inside = both (λ p. is_used left p.spot.file ≡ true) (λ p. lies_in (blocks b) p.spot ≡ true) (λ p. lies_in (blocks (removed low high b)) p.spot ≡ true) left
           (λ p. lies_part (is_used left) p.spot b.older (option_to_list b.writing)) (each_used left) within;
       held = kept_pass (λ k. is_used left k.file) b.older;
@@ -153,7 +159,7 @@ pub held_still : (b : Blocks) (left : List Placed) → IsTable b → UsesAsBefor
 held_still b left h same =
     kept_all (λ (k : Block). is_used left k.file) b.older
     (both (λ k. is_used b.placed k.file ≡ true) (λ k. is_among (option_to_list b.writing) k.file ≡ false) (λ k. is_used left k.file ≡ true) b.older
-    (λ k held other. same.at k.file other ∙ held) h.held (older_other b.older (option_to_list b.writing) h.apart))
+    (λ k held other. same.at k.file other ∙ held) h.held (older_other b.older (option_to_list b.writing) h.blocks_are.apart))
 
 -- ---- a message comes
 
@@ -191,15 +197,15 @@ module _ (seq : ℕ) (spot : Spot) (b : Blocks) (h : IsTable b) (f : fits seq sp
       on_absent (Some w) e apart = ap (is_among b.older) (on_file spot w e) ∙ apart_last b.older w apart
 
       go : (g : Bool) → goes_on spot b.writing ≡ g → (g || begins spot b) ≡ true → is_among (cond g b.older (blocks b)) spot.file ≡ false
-      go true e ok = on_absent b.writing e h.apart
+      go true e ok = on_absent b.writing e h.blocks_are.apart
       go false e ok = not-true (has_block b spot.file) (and_parts (spot.at == 0 && nat_le 2 spot.file && nat_le spot.file 65535) (not (has_block b spot.file)) ok).1
 
   left_apart : AreApart (left_by spot b)
   left_apart = go (goes_on spot b.writing)
     where
       go : (g : Bool) → AreApart (cond g b.older (blocks b))
-      go true = apart_first b.older (option_to_list b.writing) h.apart
-      go false = h.apart
+      go true = apart_first b.older (option_to_list b.writing) h.blocks_are.apart
+      go false = h.blocks_are.apart
 
   -- what lay in a block lies in those that are left, or in the one being written
   still_lies : (s : Spot) → lies_in (blocks b) s ≡ true → lies_in (left_by spot b ++ written spot ∷ []) s ≡ true
@@ -227,12 +233,12 @@ module _ (seq : ℕ) (spot : Spot) (b : Blocks) (h : IsTable b) (f : fits seq sp
       go true e = on_lies b.writing e l
       go false e = lies_left s (blocks b) (written spot ∷ []) l
 
-  left_files : All InFile (left_by spot b)
-  left_files = go (goes_on spot b.writing)
+  left_each : (P : Block → Type 0) → All P (blocks b) → All P (left_by spot b)
+  left_each P each = go (goes_on spot b.writing)
     where
-      go : (g : Bool) → All InFile (cond g b.older (blocks b))
-      go true = files_first b.older (option_to_list b.writing) h.files
-      go false = h.files
+      go : (g : Bool) → All P (cond g b.older (blocks b))
+      go true = each_first P b.older (option_to_list b.writing) each
+      go false = each
 
   -- the spot is in the file of a block
   pub put_file : IsFile spot.file
@@ -243,7 +249,7 @@ module _ (seq : ℕ) (spot : Spot) (b : Blocks) (h : IsTable b) (f : fits seq sp
       on_written (Some w) e files = subst IsFile (sym (on_file spot w e)) (files_last b.older w files)
 
       go : (g : Bool) → goes_on spot b.writing ≡ g → (g || begins spot b) ≡ true → IsFile spot.file
-      go true e ok = on_written b.writing e h.files
+      go true e ok = on_written b.writing e h.blocks_are.files
       go false e ok =
           let free = and_parts (spot.at == 0 && nat_le 2 spot.file && nat_le spot.file 65535) (not (has_block b spot.file)) ok in
           let high = and_parts (spot.at == 0 && nat_le 2 spot.file) (nat_le spot.file 65535) free.0 in
@@ -256,8 +262,11 @@ module _ (seq : ℕ) (spot : Spot) (b : Blocks) (h : IsTable b) (f : fits seq sp
       let c : Blocks = put_at seq spot b in
       record {
         rising = rising_more seq spot b.placed h.rising (fits_above seq spot b f);
-        files = files_kept (λ k. is_used more k.file) (left_by spot b) (written spot ∷ []) (All-push InFile (left_by spot b) (written spot) left_files put_file);
-        apart = apart_kept (λ k. is_used more k.file) (left_by spot b) (written spot ∷ []) (apart_with (left_by spot b) (written spot) left_apart left_absent);
+        blocks_are = blocks_kept (is_used more) (left_by spot b) (written spot ∷ []) (record {
+          apart = apart_with (left_by spot b) (written spot) left_apart left_absent;
+          files = All-push InFile (left_by spot b) (written spot) (left_each InFile h.blocks_are.files) put_file;
+          ends = All-push EndsLow (left_by spot b) (written spot) (left_each EndsLow h.blocks_are.ends) (fits_end seq spot b f);
+        });
         inside = All-push (λ p. lies_in (blocks c) p.spot ≡ true) b.placed (record { seq = seq; spot = spot })
             (both (λ p. is_used b.placed p.spot.file ≡ true) (λ p. lies_in (blocks b) p.spot ≡ true) (λ p. lies_in (blocks c) p.spot ≡ true) b.placed
             (λ p u l. lies_part (is_used more) p.spot (left_by spot b) (written spot ∷ []) (used_more seq spot b.placed p.spot.file u) (still_lies p.spot l))

@@ -6,8 +6,8 @@ use Rattle.js_base.specs.declared.spot.Spot.{Spot}
 use Rattle.block_table.specs.declared.block.Block.{Block}
 use Rattle.block_table.specs.declared.placed.Placed.{Placed}
 
--- the stored messages in the order of their sequences, the blocks that hold some of them and are not written any more, in the order in
--- which they were begun, and the block being written, if there is one
+-- the stored messages in the order of their sequences; the blocks that hold some of them and are not written any more, in any order; and
+-- the block being written, if there is one
 pub record Blocks : Type 0 where
   pub placed : List Placed
   pub older : List Block
@@ -17,7 +17,7 @@ pub record Blocks : Type 0 where
 abbrev pub no_blocks : Blocks
 no_blocks = record { placed = []; older = []; writing = None }
 
--- all blocks, in the order in which they were begun
+-- all blocks, the one being written last
 abbrev pub blocks : Blocks → List Block
 blocks b = b.older ++ option_to_list b.writing
 

@@ -5,3 +5,4 @@ pub mod Placings
 pub mod Rooms
 pub mod Batches
 pub mod Counts
+pub mod Restoring

@@ -1,10 +1,11 @@
 -- What is true of every table.
-use Rattle.std.specs.Prelude.{◌≡◌, ◌<◌, ◌≤◌, ℕ, Bool, true, false, ◌&&◌, ◌==◌, nat_le, List, [], ◌∷◌, All, map, ⊤}
+use Rattle.std.specs.Prelude.{◌≡◌, ◌<◌, ◌≤◌, ◌^◌, ℕ, Bool, true, false, ◌&&◌, ◌==◌, nat_le, List, [], ◌∷◌, All, map, ⊤}
 use Rattle.std.specs.List.{list_any}
 use Rattle.std.specs.List.Sorted.{IsStrictlySortedBy}
 use Rattle.std.specs.Ordering.{nat_cmp}
 use Rattle.js_base.specs.declared.spot.Spot.{Spot}
 use Rattle.block_table.specs.declared.block.Block.{Block}
+use Rattle.block_table.specs.declared.placed.Placed.{Placed}
 use Rattle.block_table.specs.Blocks.{Blocks, blocks, has_block, is_among, is_used}
 use Rattle.block_table.specs.Puts.{end_of}
 
@@ -22,12 +23,19 @@ pub record IsFile (file : ℕ) : Type 0 where
   pub low : 2 ≤ file
   pub high : file ≤ 65535
 
--- the sequences rise, no two blocks are in one file, each message lies in what is written of a block, and each block that is not being
--- written holds a message
+-- no two of the blocks are in one file, each is in a file that can be one, and how far it is written four bytes can tell
+pub record AreBlocks (ks : List Block) : Type 0 where
+  pub apart : AreApart ks
+  pub files : All (λ k. IsFile k.file) ks
+  pub ends : All (λ k. k.end < 2 ^ 32) ks
+
+abbrev pub AreRising : List Placed → Type 0
+AreRising placed = IsStrictlySortedBy nat_cmp (map (λ p. p.seq) placed)
+
+-- the sequences rise, each message lies in what is written of a block, and each block that is not being written holds a message
 pub record IsTable (b : Blocks) : Type 0 where
-  pub rising : IsStrictlySortedBy nat_cmp (map (λ p. p.seq) b.placed)
-  pub apart : AreApart (blocks b)
-  pub files : All (λ k. IsFile k.file) (blocks b)
+  pub rising : AreRising b.placed
+  pub blocks_are : AreBlocks (blocks b)
   pub inside : All (λ p. lies_in (blocks b) p.spot ≡ true) b.placed
   pub held : All (λ k. is_used b.placed k.file ≡ true) b.older
 

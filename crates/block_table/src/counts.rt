@@ -1,6 +1,6 @@
 //! How many messages lie in each file.
 
-ghost use Rattle.std.specs.Prelude.{◌≡◌, ◌+◌, ◌^◌, ◌<◌, ◌==◌, ◌&&◌, not, OnOk, OnErr};
+ghost use Rattle.std.specs.Prelude.{◌≡◌, ◌+◌, ◌^◌, ◌<◌, ◌==◌, ◌&&◌, not, IfOk, OnOk, OnErr};
 ghost use Rattle.block_table.specs.Counts.{count_in, one_at};
 
 use js_base::NoMemory;
@@ -59,6 +59,15 @@ impl FileCounts {
             *count -= 1;
         }
         false
+    }
+
+    /// The same counts again.
+    pub(crate) fn copied(&self) -> Result<FileCounts, NoMemory>
+        ensures same { IfOk result (λ copy. (file : _) → count_in copy file ≡ count_in self.now file) }
+    {
+        Ok(FileCounts {
+            counts: self.counts.clone()?,
+        })
     }
 
     /// Counts nothing any more. It takes no memory.

@@ -3,11 +3,13 @@
 
 mod block;
 mod counts;
+mod ends;
 mod fault;
 pub mod laws;
 mod messages;
 mod placed;
 mod placing;
+mod restoring;
 mod table;
 
 pub use block::Block;

@@ -1,10 +1,12 @@
 //! The stored messages of a table.
 
-ghost use Rattle.std.specs.Prelude.{◌≡◌, ◌==◌, [], not, nat_le, filter, find, option_map, true, OnOk, OnErr};
+ghost use Rattle.std.specs.Prelude.{◌≡◌, ◌==◌, [], None, not, nat_le, filter, find, option_map, true, IfOk, IfSome, OnOk, OnErr};
 ghost use Rattle.std.specs.Bool.{OnFalse};
+ghost use Rattle.std.specs.List.{list_all};
 ghost use Rattle.block_table.specs.Blocks.{is_used, spot_of};
 ghost use Rattle.block_table.specs.Counts.{UsesAsBefore};
 ghost use Rattle.block_table.specs.Puts.{is_above, is_within, with_placed, without};
+ghost use Rattle.block_table.specs.Tables.{AreRising};
 
 use crate::block::{Block, is_in};
 use crate::counts::FileCounts;
@@ -44,6 +46,28 @@ impl Messages {
         }
     }
 
+    /// These messages, or `None` exactly if their sequences do not rise.
+    pub(crate) fn of(alloc: Global, placed: &[Placed]) -> Result<Option<Messages>, NoMemory>
+        ensures some { IfOk result (λ found. IfSome found (λ messages. (messages ≡ placed.now) × AreRising placed.now)) }
+        ensures none { IfOk result (λ found. found ≡ None → ¬ AreRising placed.now) }
+    {
+        let mut messages = Messages::new(alloc);
+        for one in placed {
+            if !messages.is_above(one.seq) {
+                return Ok(None);
+            }
+            messages.push(one.seq, one.spot)?;
+        }
+        Ok(Some(messages))
+    }
+
+    /// Whether each of these blocks holds a message.
+    pub(crate) fn are_in_each(&self, blocks: &[Block]) -> bool
+        ensures value { result ≡ list_all (λ k. is_used self.now k.file) blocks.now }
+    {
+        blocks.iter().all(|block| self.is_used(block.file))
+    }
+
     /// Where the message lies, if it is stored.
     pub(crate) fn spot(&self, seq: u64) -> Option<Spot>
         ensures value { result ≡ spot_of self.now seq }
@@ -62,6 +86,13 @@ impl Messages {
             }),
             None => None,
         }
+    }
+
+    /// Whether no message has the sequence or a greater one.
+    pub(crate) fn is_above(&self, seq: u64) -> bool
+        ensures value { result ≡ is_above seq self.now }
+    {
+        self.at_or_after(seq).is_none()
     }
 
     /// Whether a message lies in the file.
@@ -125,6 +156,16 @@ impl Messages {
             Some(spot) => self.counts.take(spot.file, is_in(writing, spot.file)),
             None => false,
         }
+    }
+
+    /// The same messages again.
+    pub(crate) fn copied(&self) -> Result<Messages, NoMemory>
+        ensures same { IfOk result (λ copy. copy ≡ self.now) }
+    {
+        Ok(Messages {
+            spots: self.spots.clone()?,
+            counts: self.counts.copied()?,
+        })
     }
 
     /// Takes out all messages. It takes no memory.

@@ -1,6 +1,6 @@
 //! The block table.
 
-ghost use Rattle.std.specs.Prelude.{◌≡◌, ◌-◌, ◌^◌, ◌<◌, ◌≤◌, ◌↔◌, ◌++◌, true, false, Some, None, find, nat_le, IfSome, OnOk, OnErr, Err};
+ghost use Rattle.std.specs.Prelude.{◌≡◌, ◌-◌, ◌^◌, ◌<◌, ◌≤◌, ◌↔◌, ◌++◌, true, false, Some, None, find, nat_le, IfOk, IfSome, OnOk, OnErr, Err};
 ghost use Rattle.std.specs.Option.{option_to_list};
 ghost use Rattle.std.specs.Vec.{vec_len, vec_capacity};
 ghost use Rattle.block_table.specs.Blocks.{has_block, is_among, no_blocks, spot_of, used};
@@ -18,22 +18,22 @@ use std::alloc::Global;
 use std::marker::Model;
 
 /// The lowest file that can be a block. Those below it are logs.
-const FIRST_FILE: u32 = 2;
+pub(crate) const FIRST_FILE: u32 = 2;
 
 /// The number of files in a volume.
-const FILES: u32 = 65_536;
+pub(crate) const FILES: u32 = 65_536;
 
 /// Where the stored messages of a stream lie in the blocks of a volume, and how far each block is written. A block is a file that holds a stored
 /// message, or the one being written, which is the file of the message that was put last. A call costs the logarithm of how many messages and files
 /// there are; only `remove` may look at each block, and so does the first message that begins one after that.
 #[derive(Drop)]
 pub struct BlockTable {
-    messages: Messages,
-    /// The blocks but the one being written, in the order in which they were begun.
-    older: Vec<Block>,
-    writing: Option<Block>,
+    pub(crate) messages: Messages,
+    /// The blocks but the one being written, in any order.
+    pub(crate) older: Vec<Block>,
+    pub(crate) writing: Option<Block>,
     /// Each file from 2 to below this one is a block.
-    free: u32,
+    pub(crate) free: u32,
 }
 
 impl Model for BlockTable {
@@ -58,6 +58,19 @@ impl BlockTable {
             writing: None,
             free: FIRST_FILE,
         }
+    }
+
+    /// The same table again. The cost grows with the number of messages.
+    pub fn copied(&self, alloc: Global) -> Result<BlockTable, NoMemory>
+        ensures same { IfOk result (λ copy. copy ≡ self.now) }
+        ensures table { OnOk result (IsTable self.now) }
+    {
+        Ok(BlockTable {
+            messages: self.messages.copied()?,
+            older: Vec::from_slice(alloc, self.older.as_slice())?,
+            writing: self.writing,
+            free: self.free,
+        })
     }
 
     /// Stores a message at a spot, whose block is the one being written from then on. A block without messages that was being written is none any
@@ -149,7 +162,7 @@ impl BlockTable {
         self.messages.at_or_after(seq)
     }
 
-    /// The blocks but the one being written, in the order in which they were begun.
+    /// The blocks but the one being written. Their order means nothing: it is that in which they were begun, behind those with which the table was restored.
     pub fn older(&self) -> &[Block]
         ensures value { result.now ≡ self.now.older }
         ensures table { IsTable self.now }
@@ -231,7 +244,7 @@ impl BlockTable {
     fn is_above(&self, seq: u64) -> bool
         ensures { result ≡ is_above seq self.now.placed }
     {
-        self.messages.at_or_after(seq).is_none()
+        self.messages.is_above(seq)
     }
 
     /// Whether the spot begins where the block being written ends.

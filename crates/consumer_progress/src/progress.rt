@@ -28,11 +28,11 @@ const MOST_GIVEN_UP: u64 = 65_536;
 /// What of a consumer's deliveries lasts. The cost of a call grows with the logarithm of how many sequences there are, if no other is said.
 #[derive(Drop)]
 pub struct ConsumerProgress {
-    picks: PendingTable,
+    pub(crate) picks: PendingTable,
     cursor: u64,
     dseq: u64,
-    pending: PendingTable,
-    given_up: PendingTable,
+    pub(crate) pending: PendingTable,
+    pub(crate) given_up: PendingTable,
 }
 
 impl Model for ConsumerProgress {

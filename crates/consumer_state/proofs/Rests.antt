@@ -1,9 +1,8 @@
 -- What is left of an ascending list from a number on, step by step.
-use Rattle.std.proofs.Common.{◌≡◌, ℕ, ◌+◌, ◌<◌, ◌≤◌, Bool, true, false, ◌||◌, cond, List, [], ◌∷◌, ◌++◌, length, refl, sym, ap, ◌∙◌, subst, arith, append-nil}
+use Rattle.std.proofs.Common.{◌≡◌, ℕ, ◌+◌, ◌<◌, ◌≤◌, Bool, true, false, ◌||◌, cond, List, [], ◌∷◌, length, refl, sym, ap, ◌∙◌, subst, arith}
 use Rattle.std.specs.Prelude.{Some, None, filter, find, nat_le}
 use Rattle.std.specs.List.{list_any}
 use Rattle.std.proofs.lemmas.Bool.{le-leb, leb-true, lt-leb}
-use Rattle.std.proofs.lemmas.List.{append_assoc}
 use Rattle.js_model.specs.Lists.{Between}
 use Rattle.js_model.proofs.Members.{found_in, here, in_bounds}
 use Rattle.js_model.proofs.Named.{none_some, some_is}
@@ -116,28 +115,3 @@ module _ {X : Type 0} (f : X → ℕ) where
 
           step : length (filter t (rest from xs)) ≡ weight + length (filter t (rest (f first + 1) xs))
           step = ap (λ (r : List X). length (filter t r)) (rest_some from 0 high xs ascending first found) ∙ one (t first) ∙ ap (λ n. n + after) (sym e)
-
-  -- ---- all of them
-
-  -- these were gathered, and the rest is to be
-  pub record IsGathered (xs gathered : List X) (from : ℕ) : Type 0 where
-    pub all : gathered ++ rest from xs ≡ xs
-
-  module _ (high : ℕ) (xs : List X) (ascending : Between f 0 high xs) where
-    pub gather_starts : IsGathered xs [] 0
-    gather_starts = record { all = rest_all 0 0 high xs ascending (omega arith) }
-
-    module _ (gathered : List X) (from : ℕ) (walk : IsGathered xs gathered from) where
-      nothing_left : rest from xs ≡ [] → gathered ≡ xs
-      nothing_left e = sym (append-nil gathered) ∙ ap (λ (r : List X). gathered ++ r) (sym e) ∙ walk.all
-
-      pub gather_past : high ≤ from → gathered ≡ xs
-      gather_past l = nothing_left (rest_past from 0 high xs ascending l)
-
-      pub gather_none : find (λ x. nat_le from (f x)) xs ≡ None → gathered ≡ xs
-      gather_none e = nothing_left (rest_none from xs e)
-
-      pub gather_on : (first : X) → find (λ x. nat_le from (f x)) xs ≡ Some first → IsGathered xs (gathered ++ first ∷ []) (f first + 1)
-      gather_on first found = record {
-        all = append_assoc gathered (first ∷ []) (rest (f first + 1) xs) ∙ ap (λ (r : List X). gathered ++ r) (sym (rest_some from 0 high xs ascending first found)) ∙ walk.all;
-      }

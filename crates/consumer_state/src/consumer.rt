@@ -76,18 +76,7 @@ impl Consumer {
     pub fn picks(&self) -> Result<List<u64>, NoMemory>
         ensures value { IfOk result (λ picks. picks ≡ self.now.picks) }
     {
-        self.holds();
-        let cursor = self.progress.cursor();
-        let mut picks = List::new(self.alloc);
-        let mut from = 0;
-        while from < cursor {
-            let Some(pick) = self.progress.pick_from(from) else {
-                return Ok(picks);
-            };
-            picks.push(pick)?;
-            from = pick + 1;
-        }
-        Ok(picks)
+        self.progress.picks()
     }
 
     /// Whether its messages go to a subject of its own.

@@ -6,6 +6,7 @@ mod before;
 mod consumer;
 mod delivering;
 mod fault;
+mod lasting;
 mod laws;
 mod making;
 mod offering;

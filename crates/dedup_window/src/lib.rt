@@ -3,6 +3,7 @@
 
 mod fault;
 mod known;
+mod listing;
 mod window;
 
 pub use fault::WindowFault;

@@ -24,7 +24,7 @@ const MAX_IDS: usize = 1 << 20;
 pub struct DedupWindow {
     window: u64,
     /// In the order of their adding.
-    ids: VecDeque<Id>,
+    pub(crate) ids: VecDeque<Id>,
     /// The same, by their texts.
     known: KnownIds,
 }

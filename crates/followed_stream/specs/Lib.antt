@@ -9,3 +9,4 @@ pub mod Counting
 pub mod Handing
 pub mod Seen
 pub mod Restoring
+pub mod Lasting

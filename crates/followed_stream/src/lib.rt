@@ -8,6 +8,7 @@ mod ending;
 mod followed;
 mod follower;
 mod handing;
+mod lasting;
 mod later;
 mod passing;
 mod restoring;

@@ -6,3 +6,5 @@ mod Holders
 mod Changes
 mod Picking
 mod Makings
+pub mod Small
+mod Restored

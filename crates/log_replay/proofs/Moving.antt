@@ -1,11 +1,10 @@
 -- What is taken out of a structure, one by one.
-use Rattle.std.proofs.Common.{◌≡◌, ℕ, ◌+◌, ◌<◌, ◌≤◌, List, [], ◌∷◌, ◌++◌, length, drop, Option, Some, None, refl, sym, ap, ◌∙◌, append_assoc, append-nil, arith}
+use Rattle.std.proofs.Common.{◌≡◌, ℕ, ◌+◌, ◌<◌, List, [], ◌∷◌, ◌++◌, length, sym, ap, ◌∙◌, append_assoc, append-nil, arith}
 use Rattle.std.specs.Prelude.{All}
-use Rattle.std.specs.Option.{option_to_list}
-use Rattle.std.proofs.lemmas.List.Elements.{All-nil, All-cons, All-weaker}
+use Rattle.std.proofs.lemmas.List.Elements.{All-nil, All-cons}
 use Rattle.js_model.specs.declared.stream.Message.{Message}
 use Rattle.js_model.specs.Lists.{Between}
-use Rattle.js_model.proofs.Parts.{between_bounds, between_lower}
+use Rattle.js_model.proofs.Parts.{between_bounds}
 
 -- one more is listed, and one less left
 pub one_moved : {X : Type 0} (listed more left left' all : List X) (x : X) → listed ++ left ≡ all → left ≡ x ∷ left' → more ≡ listed ++ x ∷ [] → more ++ left' ≡ all
@@ -16,14 +15,6 @@ all_moved listed left all so_far none = sym (append-nil listed) ∙ ap (λ (xs :
 
 pub fewer_left : {X : Type 0} (left left' : List X) (x : X) → left ≡ x ∷ left' → length left' < length left
 fewer_left left left' x is = let same = ap length is in omega (arith, same)
-
--- where taking one away takes nothing, there is nothing
-pub none_left : {X : Type 0} (xs : List X) → xs ≡ drop 1 xs → xs ≡ []
-none_left [] e = refl
-none_left (x ∷ xs) e = let same = ap length e in absurd (omega (arith, same))
-
-pub tail_ascends : (end : ℕ) (m : Message) (ms : List Message) → Between (λ m. m.seq) 1 end (m ∷ ms) → Between (λ m. m.seq) 1 end ms
-tail_ascends end m ms h = between_lower (λ m. m.seq) 1 (m.seq + 1) end ms (omega arith) h.1
 
 -- all are below the end
 pub all_below : (low end : ℕ) (ms : List Message) → Between (λ m. m.seq) low end ms → All (λ m. m.seq < end) ms

@@ -12,7 +12,7 @@ ghost use Rattle.log_replay.specs.Made.{KeepsStorable};
 ghost use Rattle.log_replay.specs.Taken.{IsNewId, IsNextMessage, IsNextNumber};
 
 use crate::consumers::forget_all;
-use crate::listing::{consumers_of, ids_of, messages_of};
+use crate::listing::consumers_of;
 use crate::removing::remove_range;
 use dedup_window::{DedupWindow, WindowFault};
 use effects::Body;
@@ -92,11 +92,10 @@ impl ReplayedBody {
 
     /// The stream with its messages, ids and consumers in lists.
     pub(crate) fn into_body(self, alloc: Global) -> Result<Body, NoMemory>
-        requires ascend { (end : ℕ) × Between (λ m. m.seq) 1 end self.messages }
         ensures value { IfOk result (λ body. body ≡ self) }
     {
-        let messages = messages_of(alloc, self.messages)?;
-        let ids = ids_of(alloc, self.ids)?;
+        let messages = self.messages.to_list(alloc)?;
+        let ids = self.ids.to_list(alloc)?;
         let consumers = consumers_of(alloc, self.consumers)?;
         Ok(Body {
             made: self.made,

@@ -8,6 +8,7 @@ mod listing;
 mod records;
 mod removing;
 mod replay;
+mod restoring;
 mod starting;
 
 pub use replay::Replay;

@@ -1,41 +1,12 @@
-//! Lists of what stands in structures.
+//! A list of the consumers.
 
-ghost use Rattle.std.specs.Prelude.{◌≡◌, ℕ, [], ◌++◌, None, IfOk};
+ghost use Rattle.std.specs.Prelude.{◌≡◌, [], ◌++◌, None, IfOk};
 ghost use Rattle.std.specs.Option.{option_to_list};
-ghost use Rattle.js_model.specs.Lists.{Between};
 
-use crate::removing::take_first;
-use dedup_window::DedupWindow;
 use js_base::{List, NoMemory};
-use js_model::{Consumer, Id, Message};
-use message_store::MessageStore;
+use js_model::Consumer;
 use replayed_consumer::ReplayedConsumer;
 use std::alloc::Global;
-
-/// The messages in the order of their sequences.
-pub(crate) fn messages_of(alloc: Global, stored: MessageStore) -> Result<List<Message>, NoMemory>
-    requires ascend { (end : ℕ) × Between (λ m. m.seq) 1 end stored }
-    ensures value { IfOk result (λ messages. messages ≡ stored) }
-{
-    let mut left = stored;
-    let mut messages = List::new(alloc);
-    while let Some(message) = take_first(&mut left) {
-        messages.push(message)?;
-    }
-    Ok(messages)
-}
-
-/// The ids in the order of their adding.
-pub(crate) fn ids_of(alloc: Global, window: DedupWindow) -> Result<List<Id>, NoMemory>
-    ensures value { IfOk result (λ ids. ids ≡ window.ids) }
-{
-    let mut left = window;
-    let mut ids = List::new(alloc);
-    while let Some(id) = left.pop() {
-        ids.push(id)?;
-    }
-    Ok(ids)
-}
 
 /// Takes out the first consumer, if there is one. It takes no memory, and its cost grows with their number.
 fn take_first_consumer(consumers: &mut Vec<ReplayedConsumer>) -> Option<ReplayedConsumer>

@@ -1,11 +1,10 @@
 //! Messages that leave a store.
 
-ghost use Rattle.std.specs.Prelude.{◌≡◌, ℕ, [], ◌++◌, ◌==◌, None, filter, find, not};
-ghost use Rattle.std.specs.Option.{option_map, option_to_list};
+ghost use Rattle.std.specs.Prelude.{◌≡◌, ℕ, ◌==◌, filter, find, not};
+ghost use Rattle.std.specs.Option.{option_map};
 ghost use Rattle.effects.specs.Ranges.{is_within};
 ghost use Rattle.js_model.specs.Lists.{Between};
 
-use js_model::Message;
 use message_store::MessageStore;
 
 /// The least sequence of a range, both ends too, that is stored.
@@ -32,14 +31,4 @@ pub(crate) fn remove_range(messages: &mut MessageStore, low: u64, high: u64)
     while let Some(seq) = first_within(messages, low, high) {
         remove_one(messages, seq);
     }
-}
-
-/// Takes out the first message, if there is one. It takes no memory.
-pub(crate) fn take_first(messages: &mut MessageStore) -> Option<Message>
-    requires ascend { (end : ℕ) × Between (λ m. m.seq) 1 end messages.old }
-    ensures first { messages.old ≡ option_to_list result ++ messages.new }
-    ensures none { result ≡ None → messages.old ≡ [] }
-{
-    let seq = messages.first()?.seq;
-    messages.remove(seq)
 }

@@ -1,8 +1,7 @@
 //! What the records of a log have made so far.
 
-ghost use Rattle.std.specs.Prelude.{◌≡◌, ℕ, IfOk, IfSome, OnOk, Some};
+ghost use Rattle.std.specs.Prelude.{◌≡◌, IfOk, OnOk, Some};
 ghost use Rattle.std.specs.Bool.{OnTrue};
-ghost use Rattle.js_model.specs.Lists.{Between};
 ghost use Rattle.effects.specs.Folding.{fold, vacant};
 ghost use Rattle.durable_checks.specs.Storable.{IsStorable};
 ghost use Rattle.log_replay.specs.Given.{IsGiven};
@@ -18,8 +17,8 @@ use std::marker::Model;
 /// the number of consumers, of which a stream has at most 256.
 #[derive(Drop)]
 pub struct Replay {
-    incarnation: u64,
-    body: Option<ReplayedBody>,
+    pub(crate) incarnation: u64,
+    pub(crate) body: Option<ReplayedBody>,
 }
 
 impl Model for Replay {
@@ -45,7 +44,6 @@ fn makes_next(incarnation: u64, effect: &Effect) -> bool
 
 /// The stream in lists, if there is one.
 fn body_of(alloc: Global, replayed: Option<ReplayedBody>) -> Result<Option<Body>, NoMemory>
-    requires ascend { IfSome replayed (λ body. (end : ℕ) × Between (λ m. m.seq) 1 end body.messages) }
     ensures value { IfOk result (λ body. body ≡ replayed) }
 {
     match replayed {
@@ -67,7 +65,6 @@ impl Replay {
 
     /// All of it in lists. Its cost grows with how much there is.
     pub fn into_durable(self, alloc: Global) -> Result<Durable, NoMemory>
-        requires storable { IsStorable self }
         ensures value { IfOk result (λ durable. durable ≡ self) }
     {
         let incarnation = self.incarnation;

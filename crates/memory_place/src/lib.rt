@@ -2,6 +2,7 @@
 #![tactic(auto)]
 
 mod consumers;
+mod durable;
 mod informing;
 mod live_stream;
 mod memory_place;

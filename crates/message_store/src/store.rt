@@ -16,7 +16,7 @@ use std::marker::Model;
 /// Fewer than 2^32 messages in the order of their sequences. A call costs some steps in an ordered map, however many there are.
 #[derive(Drop)]
 pub struct MessageStore {
-    messages: BTreeMap<u64, Message>,
+    pub(crate) messages: BTreeMap<u64, Message>,
     /// Their sizes, together.
     bytes: u64,
 }

@@ -3,6 +3,7 @@
 
 mod asked;
 mod bounds;
+mod listing;
 mod outlook;
 mod table;
 mod tree;

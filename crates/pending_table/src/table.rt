@@ -22,8 +22,8 @@ use std::marker::Model;
 /// Fewer than 2^32 deliveries in the order of their sequences. The cost of a call grows with the logarithm of their number, if no other is said.
 #[derive(Drop)]
 pub struct PendingTable {
-    alloc: Global,
-    tree: Tree,
+    pub(crate) alloc: Global,
+    pub(crate) tree: Tree,
     len: u64,
     /// How many were delivered more than once.
     again: u64,

@@ -29,9 +29,9 @@ pub(crate) enum Tree {
 #[cycle(tree)]
 #[derive(Drop)]
 pub(crate) struct Fork {
-    left: Tree,
-    entry: Pending,
-    right: Tree,
+    pub(crate) left: Tree,
+    pub(crate) entry: Pending,
+    pub(crate) right: Tree,
     bounds: Bounds,
     height: u8,
 }

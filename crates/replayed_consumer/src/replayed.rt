@@ -13,10 +13,7 @@ ghost use Rattle.replayed_consumer.specs.Delivering.{has_room, CanDeliver};
 ghost use Rattle.replayed_consumer.specs.GivingUp.{with_greatest, without_spent};
 ghost use Rattle.replayed_consumer.specs.Storable.{Keeps, KeepsOutside, KeepsStart, KeepsWith};
 
-use crate::tables::{
-    drop_range, drop_seq, entries_in, has_seq, pop_first, put_waiting, seqs_in, table_of,
-    table_with,
-};
+use crate::tables::{drop_range, drop_seq, has_seq, pop_first, put_waiting, table_of, table_with};
 use js_base::{Blob, List, Moment, NoMemory};
 use js_model::{AckPolicy, Consumer, ConsumerConfig, Pending};
 use pending_table::PendingTable;
@@ -106,9 +103,9 @@ impl ReplayedConsumer {
     pub fn into_consumer(self, alloc: Global) -> Result<Consumer, NoMemory>
         ensures value { IfOk result (λ c. c ≡ self) }
     {
-        let picks = seqs_in(alloc, self.picks)?;
-        let pending = entries_in(alloc, self.pending)?;
-        let given_up = seqs_in(alloc, self.given_up)?;
+        let picks = self.picks.seqs()?;
+        let pending = self.pending.to_list()?;
+        let given_up = self.given_up.seqs()?;
         Ok(Consumer {
             name: self.name,
             made: self.made,

@@ -8,7 +8,7 @@ ghost use Rattle.js_model.specs.Lists.{Ascends};
 ghost use Rattle.effects.specs.Ranges.{is_within};
 ghost use Rattle.consumer_progress.specs.Progresses.{seqs_of};
 
-use js_base::{List, Moment, NoMemory};
+use js_base::{Moment, NoMemory};
 use js_model::Pending;
 use pending_table::PendingTable;
 use std::alloc::Global;
@@ -88,28 +88,4 @@ pub(crate) fn pop_first(table: &mut PendingTable) -> Option<Pending>
     let entry = table.at_or_after(0)?;
     table.ack(entry.seq);
     Some(entry)
-}
-
-/// The sequences of a table.
-pub(crate) fn seqs_in(alloc: Global, mut table: PendingTable) -> Result<List<u64>, NoMemory>
-    requires ascend { Ascends 0 (seqs_of table) }
-    ensures value { IfOk result (λ seqs. seqs ≡ seqs_of table) }
-{
-    let mut seqs = List::new(alloc);
-    while let Some(entry) = pop_first(&mut table) {
-        seqs.push(entry.seq)?;
-    }
-    Ok(seqs)
-}
-
-/// The entries of a table.
-pub(crate) fn entries_in(alloc: Global, mut table: PendingTable) -> Result<List<Pending>, NoMemory>
-    requires ascend { Ascends 0 (seqs_of table) }
-    ensures value { IfOk result (λ entries. entries ≡ table) }
-{
-    let mut entries = List::new(alloc);
-    while let Some(entry) = pop_first(&mut table) {
-        entries.push(entry)?;
-    }
-    Ok(entries)
 }

@@ -5,6 +5,7 @@ mod ageing;
 mod crowding;
 mod heads;
 mod indexed;
+mod lasting;
 mod later;
 mod purging;
 mod restoring;

@@ -4,6 +4,7 @@
 mod ageing;
 mod calls;
 mod giving_up;
+mod lasting;
 mod limits;
 mod listing;
 mod releasing;
