@@ -1,5 +1,5 @@
 -- What a volume holds keeps its form, whatever records are added.
-use Rattle.std.proofs.Common.{◌≡◌, ℕ, ◌+◌, ◌≤◌, ◌^◌, Bool, true, false, cond, ◌&&◌, not, List, [], ◌∷◌, length, map, Option, Some, None, IsTrue, refl, sym, subst, ◌∙◌, arith}
+use Rattle.std.proofs.Common.{◌≡◌, ℕ, ◌+◌, ◌^◌, Bool, true, false, cond, ◌&&◌, not, List, [], ◌∷◌, length, map, Option, Some, None, IsTrue, refl, sym, subst, ◌∙◌}
 use Rattle.std.specs.Prelude.{All, filter, nat_le, ◌==◌}
 use Rattle.std.specs.List.{list_any}
 use Rattle.std.proofs.lemmas.Bool.{and_parts, ltb-true, leb-true}
@@ -11,7 +11,7 @@ use Rattle.js_model.specs.declared.stream.Message.{Message}
 use Rattle.js_model.specs.declared.consumer.Pending.{Pending}
 use Rattle.js_model.specs.declared.consumer.Consumer.{Consumer}
 use Rattle.js_model.specs.Configs.{is_name, is_number, is_stream_config, is_consumer_config}
-use Rattle.js_model.specs.Streams.{by_name, in_place_of, size}
+use Rattle.js_model.specs.Streams.{by_name, in_place_of}
 use Rattle.js_model.specs.Consumers.{with_new}
 use Rattle.js_model.specs.Acknowledge.{without, with_due}
 use Rattle.js_model.proofs.Named.{in_place_of-names, some_is, none_some}
@@ -19,6 +19,7 @@ use Rattle.js_model.proofs.Members.{found_in, all_in}
 use Rattle.model_laws.specs.Sound.{AreOrdered}
 use Rattle.model_laws.specs.Bounds.{IsNumber, IsWritableMessage}
 use Rattle.log_replay.specs.Given as replay
+use Rattle.log_replay.proofs.Small.{is_small}
 use Rattle.model_laws.proofs.SoundParts.{ordered_map}
 use Rattle.model_laws.proofs.NameOrder.{ordered_filter, ordered_with_new, All-with_new}
 use Rattle.effects.specs.declared.durable.Body.{Body}
@@ -56,15 +57,6 @@ given (Now moment) h = tt
 
 number_of : (n : ℕ) → is_number n ≡ true → IsNumber n
 number_of n h = ltb-true n (2 ^ 62) h
-
--- a message is as small as a store wants it
-is_small : (m : Message) → IsWritableMessage m → size m ≤ 2 ^ 21
-is_small m h =
-    let spelled = (and_parts _ _ h.subject).0 in
-    let bytes = (and_parts _ _ (and_parts _ _ (and_parts _ _ spelled).0).0).0 in
-    let subject : length m.subject ≤ 1024 = leb-true (length m.subject) 1024 (and_parts _ _ bytes).1 in
-    let rest : length m.headers + length m.payload ≤ 1048576 = h.bytes in
-    omega (arith, subject, rest)
 
 record IsAllowedMessage (m : Message) : Type 0 where
   number : is_number m.seq ≡ true

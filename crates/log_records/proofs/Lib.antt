@@ -9,6 +9,9 @@ pub mod Taking
 pub mod Found
 pub mod Forming
 pub mod Keeping
+pub mod Begun
+pub mod Ordering
+pub mod Following
 pub mod Making
 pub mod Adding
 pub mod Reaching

@@ -1,13 +1,12 @@
 -- How a record is taken: what it makes, or which field does not fit.
-use Rattle.std.proofs.Common.{◌≡◌, ℕ, ◌<◌, ◌^◌, [], Option, Some, None, IsTrue, length, sym, ap, subst, ◌∙◌}
+use Rattle.std.proofs.Common.{◌≡◌, ℕ, ◌<◌, ◌^◌, Some, None, IsTrue, length, sym, ap, ◌∙◌}
 use Rattle.js_base.specs.Bytes.{Bytes}
 use Rattle.js_base.specs.declared.spot.Spot.{Spot}
 use Rattle.effects.specs.declared.durable.Durable.{Durable}
-use Rattle.effects.specs.declared.effect.Effect.TheVariants.{PutHere}
 use Rattle.effects.specs.Folding.{fold, vacant}
 use Rattle.block_table.specs.Blocks.{Blocks, no_blocks}
 use Rattle.block_table.specs.Puts.{put}
-use Rattle.op_records.specs.Allowed.{is_record, may_stand}
+use Rattle.op_records.specs.Allowed.{may_stand}
 use Rattle.op_records.specs.declared.record.Record.{Record}
 use Rattle.op_records.specs.declared.record.Record.TheVariants.{Put}
 use Rattle.record_fold.specs.Faults.{IsFoldFault}
@@ -22,7 +21,7 @@ use Rattle.log_records.specs.Reading.{IsTaken, IsTakeFault}
 use Rattle.log_records.specs.declared.held.Held.{Held}
 use Rattle.log_records.specs.declared.held.Held.TheVariants.{Replayed}
 use Rattle.log_records.specs.declared.made.Made.{Made}
-use Rattle.log_records.proofs.Keeping.{recorded, beginning_logged, stays_logged}
+use Rattle.log_records.proofs.Keeping.{beginning_logged, stays_logged}
 use Rattle.log_records.proofs.Logging.{IsFoldOf, fold_both, durable_unfit, blocks_unfit}
 
 -- ---- where a log begins
@@ -43,23 +42,11 @@ taken old r held table s is f replay = record {
   sound = record { logged = stays_logged (made_in old) r (held_in held) table s.logged is f; replay = replay; subject = s.subject };
 }
 
--- ---- a message, by its subject as it is held
-
-pub put_allowed : (seq at : ℕ) (id subject : Bytes) (spot : Spot) → subject ≡ unread_subject → IsTrue (may_stand (Put seq at id spot)) → IsTrue (is_record (PutHere seq at id subject [] []))
-put_allowed seq at id subject spot is allowed = subst (λ (s : Bytes). IsTrue (is_record (PutHere seq at id s [] []))) (sym is) (recorded (Put seq at id spot) allowed)
-
-pub put_folded : (old : Durable) (seq at : ℕ) (id subject : Bytes) (made : Option Durable) → subject ≡ unread_subject → fold old (PutHere seq at id subject [] []) ≡ made → fold old (PutHere seq at id unread_subject [] []) ≡ made
-put_folded old seq at id subject made is e = subst (λ (s : Bytes). fold old (PutHere seq at id s [] []) ≡ made) is e
-
 -- ---- one that does not
 
 pub durable_fault : (g : Logged) (r : Record) (fault : FoldFault) → IsFoldFault g.durable (effect_of r) fault → IsTakeFault g r fault
 durable_fault g r (Misfit at) h = let u = durable_unfit g r h.0 in (u.unfit, h.1 ∙ sym u.place)
 durable_fault g r Refused h = tt
-
-pub put_fault : (g : Logged) (seq at : ℕ) (id subject : Bytes) (spot : Spot) (fault : FoldFault) → subject ≡ unread_subject → IsFoldFault g.durable (PutHere seq at id subject [] []) fault → IsTakeFault g (Put seq at id spot) fault
-put_fault g seq at id subject spot fault is h =
-    durable_fault g (Put seq at id spot) fault (subst (λ (s : Bytes). IsFoldFault g.durable (PutHere seq at id s [] []) fault) is h)
 
 pub spot_fault : (g : Logged) (seq at : ℕ) (id : Bytes) (spot : Spot) (made : Durable) (field len : ℕ) (table : Blocks) → fold g.durable (effect_of (Put seq at id spot)) ≡ Some made → put seq spot g.blocks ≡ None
     → len ≡ length id → table ≡ g.blocks → field ≡ spot_misfit len spot table → IsTakeFault g (Put seq at id spot) (Misfit field)

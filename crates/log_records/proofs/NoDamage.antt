@@ -1,16 +1,16 @@
 -- Where batches give something, none of them is wrong.
-use Rattle.std.proofs.Common.{◌≡◌, ◌⊎◌, inl, inr, ℕ, suc, ◌<◌, List, [], ◌∷◌, ◌++◌, Some, None, Ok, length, refl, sym, ap, ◌∙◌, subst, arith}
+use Rattle.std.proofs.Common.{◌≡◌, inl, inr, ℕ, suc, ◌<◌, List, [], ◌∷◌, ◌++◌, Some, None, Ok, length, refl, sym, ap, ◌∙◌, subst, arith}
 use Rattle.std.specs.Prelude.{All}
 use Rattle.js_base.specs.Bytes.{Bytes}
 use Rattle.op_records.specs.declared.record.Record.{Record}
-use Rattle.op_records.specs.Reading.{Stand, record_at, vacant_field, vacant_record}
+use Rattle.op_records.specs.Reading.{Stand, record_at}
 use Rattle.op_records.proofs.Steps.{value_is, place_is}
 use Rattle.durable_checks.specs.Storable.{IsStorable}
 use Rattle.log_records.specs.Logged.{Logged, fold_record, fold_records}
 use Rattle.log_records.specs.Batches.{Adds, AddAll, Begins, Gives}
-use Rattle.log_records.specs.Damage.{IsFolded, IsMisread, IsMisfit, IsLast, HasBadRecord, IsEmptyFirst, IsWrongFirst, IsBadFirst, IsBadLater, HasBadBatch}
+use Rattle.log_records.specs.Damage.{IsFolded, IsMisread, IsMisfit, IsLast, HasBadRecord, IsNoFirst, IsBadFirst, IsBadLater, HasBadBatch}
 use Rattle.log_records.proofs.Logging.{records_append, no_records}
-use Rattle.log_records.proofs.OneReading.{none_at_end, begins_same, add_all_same}
+use Rattle.log_records.proofs.OneReading.{none_at_end, begins_same, begins_well, add_all_same}
 
 -- ---- records
 
@@ -126,12 +126,10 @@ module _ (batches : List Bytes) (d : Logged) (gives : Gives batches d) where
       go (b, other, adds) = subst (λ (x : Logged). AddAll x later d) (begins_same first b begun other begins) adds
 
   no_bad_first : (at : ℕ) → IsBadFirst batches at → ⊥
-  unfolding vacant_field vacant_record
   no_bad_first at f = go (subst (λ (l : List Bytes). Gives l d) f.batches_are gives) f.bad
     where
-      go : (b : Logged) × Begins f.first b × AddAll b f.later d → IsEmptyFirst f.first at ⊎ IsWrongFirst f.first at → ⊥
-      go (b, begins, adds) (inl e) = let reads = subst (λ (l : Bytes). vacant_field l 0 ≡ Ok (begins.incarnation, length l)) e.empty begins.reads in absurd (cc)
-      go (b, begins, adds) (inr w) = let reads = begins.reads in let wrong = w.wrong in absurd (cc)
+      go : (b : Logged) × Begins f.first b × AddAll b f.later d → IsNoFirst f.first at → ⊥
+      go (b, begins, adds) bad = begins_well f.first b at begins bad
 
   no_bad_later : (at : ℕ) → IsBadLater batches at → ⊥
   no_bad_later at l =

@@ -1,16 +1,17 @@
 -- The first fault of a log's batches is one, and so is its last record.
-use Rattle.std.proofs.Common.{◌≡◌, ◌⊎◌, inl, inr, ℕ, suc, List, [], ◌∷◌, ◌++◌, Ok, Err, length, refl, sym, ap, ◌∙◌, subst, arith}
+use Rattle.std.proofs.Common.{◌≡◌, inl, inr, ℕ, suc, List, [], ◌∷◌, ◌++◌, Ok, Err, length, refl, sym, ap, ◌∙◌, subst, arith}
 use Rattle.std.specs.Prelude.{All}
 use Rattle.js_base.specs.Bytes.{Bytes}
 use Rattle.op_records.specs.declared.record.Record.{Record}
-use Rattle.op_records.specs.Reading.{Stand, record_at, vacant_field, vacant_record}
+use Rattle.op_records.specs.Reading.{Stand, record_at}
 use Rattle.op_records.specs.declared.fault.RecordFault.{RecordFault}
+use Rattle.state_snapshot.specs.Reading.{snapshot_field}
 use Rattle.log_records.specs.Logged.{Logged}
 use Rattle.log_records.specs.Batches.{Adds, AddAll, Begins, Gives}
-use Rattle.log_records.specs.Damage.{IsAt, IsLast, HasBadRecord, offset, IsEmptyFirst, IsWrongFirst, IsBadFirst, IsBadLater, HasBadBatch}
+use Rattle.log_records.specs.Damage.{IsAt, IsLast, HasBadRecord, offset, IsNoFirst, IsUnfitSnapshot, IsBadFirst, IsBadLater, HasBadBatch}
 use Rattle.log_records.specs.Ends.{IsLastAt, IsLastBehind, IsLastIn}
 use Rattle.log_records.specs.Laws.{LawBatches}
-use Rattle.log_records.proofs.OneReading.{begins_same, adds_same, gives_same}
+use Rattle.log_records.proofs.OneReading.{begins_same, begins_well, no_snapshot, adds_same, gives_same}
 use Rattle.log_records.proofs.NoDamage.{no_record, no_bad_record, no_bad_batch}
 use Rattle.log_records.proofs.OneDamage.{same_place, one_bad_record, one_last}
 
@@ -90,16 +91,20 @@ both_end begun old new x y (b ∷ front) (c ∷ others) d f empty more place oth
 
 -- ---- two faults of one log
 
-begins_well : (first : Bytes) (begun : Logged) (at : ℕ) → Begins first begun → IsEmptyFirst first at ⊎ IsWrongFirst first at → ⊥
-unfolding vacant_field vacant_record
-begins_well first begun at b (inl e) = let reads = subst (λ (l : Bytes). vacant_field l 0 ≡ Ok (b.incarnation, length l)) e.empty b.reads in absurd (cc)
-begins_well first begun at b (inr w) = let reads = b.reads in let wrong = w.wrong in absurd (cc)
+-- an empty batch is no snapshot
+not_empty : (first : Bytes) → IsUnfitSnapshot first → first ≡ [] → ⊥
+not_empty first u e = no_snapshot u.snapshot (subst (λ (l : Bytes). snapshot_field l 0 ≡ Ok (u.snapshot, length l)) e u.reads)
 
-both_first : (first : Bytes) (at other : ℕ) → IsEmptyFirst first at ⊎ IsWrongFirst first at → IsEmptyFirst first other ⊎ IsWrongFirst first other → at ≡ other
+both_first : (first : Bytes) (at other : ℕ) → IsNoFirst first at → IsNoFirst first other → at ≡ other
 both_first first at other (inl e) (inl f) = e.here ∙ sym f.here
-both_first first at other (inl e) (inr w) = absurd (w.some e.empty)
-both_first first at other (inr w) (inl e) = absurd (w.some e.empty)
-both_first first at other (inr w) (inr v) =
+both_first first at other (inl e) (inr (inl w)) = absurd (w.some e.empty)
+both_first first at other (inl e) (inr (inr u)) = absurd (not_empty first u.unfit e.empty)
+both_first first at other (inr (inl w)) (inl e) = absurd (w.some e.empty)
+both_first first at other (inr (inr u)) (inl e) = absurd (not_empty first u.unfit e.empty)
+both_first first at other (inr (inl w)) (inr (inr u)) = let wrong = w.wrong in let reads = u.unfit.reads in absurd (cc)
+both_first first at other (inr (inr u)) (inr (inl w)) = let wrong = w.wrong in let reads = u.unfit.reads in absurd (cc)
+both_first first at other (inr (inr u)) (inr (inr v)) = u.here ∙ sym v.here
+both_first first at other (inr (inl w)) (inr (inl v)) =
     let same : Err w.fault ≡ Err v.fault = sym w.wrong ∙ v.wrong in
     let one : w.fault ≡ v.fault = cc in
     w.here ∙ ap (offset []) (same_place v.fault w.place v.place (subst (λ (f : RecordFault). IsAt f w.place) one w.told) v.told) ∙ sym v.here
@@ -122,12 +127,12 @@ later_later batches at other l m =
 first_first : (batches : List Bytes) (at other : ℕ) → IsBadFirst batches at → IsBadFirst batches other → at ≡ other
 first_first batches at other f g =
     let same : f.first ≡ g.first = first_of f.first g.first f.later g.later (sym f.batches_are ∙ g.batches_are) in
-    both_first g.first at other (subst (λ (b : Bytes). IsEmptyFirst b at ⊎ IsWrongFirst b at) same f.bad) g.bad
+    both_first g.first at other (subst (λ (b : Bytes). IsNoFirst b at) same f.bad) g.bad
 
 first_begins : (batches : List Bytes) (at : ℕ) (first : Bytes) (later : List Bytes) (begun : Logged) → IsBadFirst batches at → batches ≡ first ∷ later → Begins first begun → ⊥
 first_begins batches at first later begun f e b =
     let same : f.first ≡ first = first_of f.first first f.later later (sym f.batches_are ∙ e) in
-    begins_well first begun at b (subst (λ (l : Bytes). IsEmptyFirst l at ⊎ IsWrongFirst l at) same f.bad)
+    begins_well first begun at b (subst (λ (l : Bytes). IsNoFirst l at) same f.bad)
 
 pub one_bad_batch : (batches : List Bytes) (at other : ℕ) → HasBadBatch batches at → HasBadBatch batches other → at ≡ other
 one_bad_batch batches at other (inl f) (inl g) = first_first batches at other f g

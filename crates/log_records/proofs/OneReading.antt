@@ -1,5 +1,5 @@
 -- The batches of a log give one thing.
-use Rattle.std.proofs.Common.{◌≡◌, ℕ, List, [], ◌∷◌, Option, Some, None, Ok, Err, length, refl, sym, ap, ◌∙◌, subst, arith}
+use Rattle.std.proofs.Common.{◌≡◌, inl, inr, ℕ, List, [], ◌∷◌, Option, Some, None, Ok, Err, length, refl, sym, ap, ◌∙◌, subst, arith}
 use Rattle.std.specs.Int.{w8}
 use Rattle.std.proofs.lemmas.Bool.Decides.{nat_tests}
 use Rattle.js_base.specs.Bytes.{Bytes}
@@ -10,7 +10,11 @@ use Rattle.op_records.specs.Fields.{number_told}
 use Rattle.op_records.specs.Reading.{Stand, table, fields_in, record_at}
 use Rattle.op_records.specs.declared.fault.RecordFault.TheVariants.{Cut}
 use Rattle.op_records.proofs.Steps.{value_is, place_is}
-use Rattle.log_records.specs.Logged.{Logged, beginning, fold_records}
+use Rattle.state_snapshot.specs.Reading.{snapshot_field, snapshot_record}
+use Rattle.state_snapshot.specs.declared.snapshot.Snapshot.{Snapshot}
+use Rattle.log_records.specs.Logged.{Logged, fold_records}
+use Rattle.log_records.specs.Beginnings.{CanBegin, logged_in}
+use Rattle.log_records.specs.Damage.{IsNoFirst}
 use Rattle.log_records.specs.Batches.{Adds, AddAll, Begins, Gives}
 
 -- ---- records
@@ -36,8 +40,24 @@ stand_same bytes at (e ∷ es) (f ∷ fs) (b, reads, rest) (c, others, more) =
 
 pub begins_same : (bytes : Bytes) (d e : Logged) → Begins bytes d → Begins bytes e → d ≡ e
 begins_same bytes d e h k =
-    let number = value_is h.incarnation (length bytes) k.incarnation (length bytes) (sym h.reads ∙ k.reads) in
-    h.begun_is ∙ ap beginning number ∙ sym k.begun_is
+    let snapshot = value_is h.snapshot (length bytes) k.snapshot (length bytes) (sym h.reads ∙ k.reads) in
+    h.begun_is ∙ ap logged_in snapshot ∙ sym k.begun_is
+
+-- no snapshot has no bytes
+empty_snapshot : snapshot_field [] 0 ≡ Err (Cut 0)
+unfolding snapshot_field snapshot_record
+empty_snapshot = refl
+
+pub no_snapshot : (s : Snapshot) → snapshot_field [] 0 ≡ Ok (s, 0) → ⊥
+no_snapshot s reads = let none = empty_snapshot in cc
+
+-- where a first batch begins a log, nothing is wrong in it
+pub begins_well : (first : Bytes) (begun : Logged) (at : ℕ) → Begins first begun → IsNoFirst first at → ⊥
+begins_well first begun at b (inl e) = no_snapshot b.snapshot (subst (λ (l : Bytes). snapshot_field l 0 ≡ Ok (b.snapshot, length l)) e.empty b.reads)
+begins_well first begun at b (inr (inl w)) = let reads = b.reads in let wrong = w.wrong in absurd (cc)
+begins_well first begun at b (inr (inr u)) =
+    let same = value_is b.snapshot (length first) u.unfit.snapshot (length first) (sym b.reads ∙ u.unfit.reads) in
+    u.unfit.bad (subst CanBegin (b.begun_is ∙ ap logged_in same) b.can)
 
 pub adds_same : (old : Logged) (bytes : Bytes) (d e : Logged) → Adds old bytes d → Adds old bytes e → d ≡ e
 adds_same old bytes d e h k =

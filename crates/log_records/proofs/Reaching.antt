@@ -1,5 +1,5 @@
 -- How the batches of a log are read, from gate to gate.
-use Rattle.std.proofs.Common.{◌≡◌, ◌⊎◌, inl, inr, ℕ, ◌+◌, List, [], ◌∷◌, ◌++◌, Option, Some, None, Result, Err, refl, sym, ap, subst, ◌∙◌, append_assoc}
+use Rattle.std.proofs.Common.{◌≡◌, inl, inr, ℕ, ◌+◌, List, [], ◌∷◌, ◌++◌, Option, Some, None, Result, Err, refl, sym, ap, subst, ◌∙◌, append_assoc}
 use Rattle.std.specs.Prelude.{unwrap_or}
 use Rattle.std.proofs.lemmas.List.Elements.{All-nil, All-push}
 use Rattle.std.proofs.lemmas.List.{append-nil}
@@ -14,7 +14,7 @@ use Rattle.gate_log.proofs.GateReads.{settled_quiet, next_gate}
 use Rattle.gate_log.proofs.OneReading.{law}
 use Rattle.log_records.specs.Logged.{Logged, beginning}
 use Rattle.log_records.specs.Batches.{Adds, AddAll, Begins}
-use Rattle.log_records.specs.Damage.{IsLast, HasBadRecord, IsEmptyFirst, IsWrongFirst, HasBadBatch}
+use Rattle.log_records.specs.Damage.{IsLast, HasBadRecord, IsNoFirst, HasBadBatch}
 use Rattle.log_records.specs.Ends.{IsLastBehind, IsLastIn}
 use Rattle.log_records.specs.Holding.{given_in}
 use Rattle.log_records.specs.declared.log.LogRead.{LogRead}
@@ -32,19 +32,19 @@ settled_same log xs ys disk h k = law.one_list (disk.seen log.file) (generation_
 -- ---- the first batch
 
 -- no batch is open
-pub none_gives : (log : LogState) (disk : Disk) (r : LogRead) → IsReadAt log 16 disk None → given_in r ≡ beginning 0 → r.last ≡ 16 → GivesIn log disk r
+pub none_gives : (log : LogState) (disk : Disk) (r : LogRead) → IsReadAt log 20 disk None → given_in r ≡ beginning 0 → r.last ≡ 20 → GivesIn log disk r
 none_gives log disk r read given last batches settled =
     let none : batches ≡ [] = read [] batches (record { settled = settled; here = refl }) in
     subst (λ (l : List Bytes). IsLastIn l (given_in r) r.last) (sym none) (given, last)
 
-pub first_begun : (log : LogState) (first : Bytes) (gate : ℕ) (begun : Logged) (old new : Disk) (batches : List Bytes) → IsSettled log batches old → IsReadAt log 16 old (Some (first, gate)) → Quiet old new
+pub first_begun : (log : LogState) (first : Bytes) (gate : ℕ) (begun : Logged) (old new : Disk) (batches : List Bytes) → IsSettled log batches old → IsReadAt log 20 old (Some (first, gate)) → Quiet old new
     → Begins first begun → IsBegun log gate begun new
 first_begun log first gate begun old new batches settled read still begins =
-    let at : IsGate log [] batches 16 old = record { settled = settled; here = refl } in
-    let next = next_gate log [] batches 16 gate first old new at still (read [] batches at) in
+    let at : IsGate log [] batches 20 old = record { settled = settled; here = refl } in
+    let next = next_gate log [] batches 20 gate first old new at still (read [] batches at) in
     record { first = first; rest = next.0; begins = begins; gate_is = next.1 }
 
-pub first_fault : (log : LogState) (first : Bytes) (gate : ℕ) (disk : Disk) (at : ℕ) → IsReadAt log 16 disk (Some (first, gate)) → IsEmptyFirst first at ⊎ IsWrongFirst first at
+pub first_fault : (log : LogState) (first : Bytes) (gate : ℕ) (disk : Disk) (at : ℕ) → IsReadAt log 20 disk (Some (first, gate)) → IsNoFirst first at
     → (batches : List Bytes) → IsSettled log batches disk → HasBadBatch batches at
 first_fault log first gate disk at read bad batches settled =
     let found = read [] batches (record { settled = settled; here = refl }) in
@@ -59,7 +59,7 @@ pub record Reaches (log : LogState) (gate : ℕ) (d : Logged) (last : ℕ) (disk
   pub begins : Begins first begun
   pub read : IsReadTo log first begun gate d last disk
 
-pub reaches_first : (log : LogState) (gate : ℕ) (begun : Logged) (disk : Disk) → IsBegun log gate begun disk → Reaches log gate begun 16 disk
+pub reaches_first : (log : LogState) (gate : ℕ) (begun : Logged) (disk : Disk) → IsBegun log gate begun disk → Reaches log gate begun 29 disk
 reaches_first log gate begun disk b = record {
   first = b.first;
   begun = begun;
@@ -89,7 +89,7 @@ last_stays first begun front old new records last none same (inr h) = inr (recor
 })
 
 last_moves : (first : Bytes) (begun : Logged) (front : List Bytes) (old new : Logged) (records : Bytes) (gate place last : ℕ) → gate ≡ end_of (first ∷ front) → AddAll begun front old → IsLast old records place new
-    → last ≡ gate + 5 + place → IsLastBehind first begun (front ++ records ∷ []) new last
+    → last ≡ gate + 9 + place → IsLastBehind first begun (front ++ records ∷ []) new last
 last_moves first begun front old new records gate place last gate_is added is here = inr (record {
   before = front;
   bytes = records;
@@ -100,7 +100,7 @@ last_moves first begun front old new records gate place last gate_is added is he
   so_far = added;
   place = place;
   last = is;
-  here = here ∙ ap (λ (n : ℕ). n + 5 + place) gate_is;
+  here = here ∙ ap (λ (n : ℕ). n + 9 + place) gate_is;
 })
 
 last_then : (first : Bytes) (begun : Logged) (front : List Bytes) (old new : Logged) (records : Bytes) (gate last : ℕ) (more : Option ℕ) → gate ≡ end_of (first ∷ front) → AddAll begun front old
@@ -128,7 +128,7 @@ reaches_next log gate next d new last records more old disk r read still adds =
 
 -- a batch is wrong
 pub later_fault : (log : LogState) (gate next : ℕ) (d : Logged) (last : ℕ) (records : Bytes) (place at : ℕ) (disk : Disk) → Reaches log gate d last disk → IsReadAt log gate disk (Some (records, next)) → HasBadRecord d records place
-    → at ≡ gate + 5 + place → (batches : List Bytes) → IsSettled log batches disk → HasBadBatch batches at
+    → at ≡ gate + 9 + place → (batches : List Bytes) → IsSettled log batches disk → HasBadBatch batches at
 later_fault log gate next d last records place at disk r read bad here batches settled =
     let gate_is = r.read.gate_is in
     let found = read (r.first ∷ r.read.front) r.read.rest gate_is in
@@ -145,7 +145,7 @@ later_fault log gate next d last records place at disk r read bad here batches s
       so_far = r.read.added;
       place = place;
       bad = bad;
-      here = here ∙ ap (λ (n : ℕ). n + 5 + place) gate_is.here;
+      here = here ∙ ap (λ (n : ℕ). n + 9 + place) gate_is.here;
     })
 
 -- ---- the end
@@ -178,7 +178,7 @@ outside_fault log disk Fault h = tt
 outside_fault log disk (Damaged at) h = absurd h
 outside_fault log disk OutOfMemory h = tt
 
-pub first_read_fault : (log : LogState) (first : Bytes) (gate : ℕ) (disk : Disk) (fault : ReadFault) → IsReadAt log 16 disk (Some (first, gate)) → IsFirstFault first fault → IsReadFault log disk fault
+pub first_read_fault : (log : LogState) (first : Bytes) (gate : ℕ) (disk : Disk) (fault : ReadFault) → IsReadAt log 20 disk (Some (first, gate)) → IsFirstFault first fault → IsReadFault log disk fault
 first_read_fault log first gate disk Fault read h = absurd h
 first_read_fault log first gate disk (Damaged at) read h = first_fault log first gate disk at read h
 first_read_fault log first gate disk OutOfMemory read h = tt

@@ -1,5 +1,7 @@
 -- Worked rows of where a log's records are damaged.
 use Rattle.std.proofs.Common.{◌≡◌, inl, inr, ℕ, ◌+◌, [], ◌∷◌, refl}
+use Rattle.std.proofs.lemmas.List.Elements.{All-nil}
+use Rattle.js_base.specs.Bytes.{Bytes}
 use Rattle.js_model.proofs.Samples.{t0, orders}
 use Rattle.effects.specs.declared.effect.Effect.TheVariants.{MakeStream, Skip, Due, Now}
 use Rattle.effects.specs.Folding.{vacant, live, empty_body}
@@ -7,8 +9,9 @@ use Rattle.op_records.specs.declared.record.Record.{Record}
 use Rattle.op_records.specs.declared.record.Record.TheVariants.{Put}
 use Rattle.block_table.specs.Blocks.{no_blocks}
 use Rattle.op_records.specs.declared.fault.RecordFault.TheVariants.{BadKind}
-use Rattle.op_records.specs.Reading.{vacant_field, vacant_record}
+use Rattle.state_snapshot.specs.Reading.{snapshot_field, snapshot_record}
 use Rattle.log_records.specs.Damage.{IsBadFirst}
+use Rattle.log_records.specs.Ends.{IsLastBehind}
 use Rattle.log_records.specs.Logged.{Logged}
 use Rattle.log_records.specs.Misfits.{misfit_of}
 use Rattle.record_fold.specs.Misfits.{misfit}
@@ -16,12 +19,18 @@ use Rattle.record_fold.specs.Misfits.{misfit}
 -- ---- a first batch
 
 -- of the one byte 255
-no_start : IsBadFirst ((255 ∷ []) ∷ []) 21
-unfolding vacant_field vacant_record
-no_start = record { first = 255 ∷ []; later = []; batches_are = refl; bad = inr (record { some = λ is. absurd (cc); fault = BadKind 0; place = 0; wrong = refl; told = refl; here = refl }) }
+no_start : IsBadFirst ((255 ∷ []) ∷ []) 29
+unfolding snapshot_field snapshot_record
+no_start = record { first = 255 ∷ []; later = []; batches_are = refl; bad = inr (inl (record { some = λ is. absurd (cc); fault = BadKind 0; place = 0; wrong = refl; told = refl; here = refl })) }
 
-without_records : IsBadFirst ([] ∷ []) 16
+without_records : IsBadFirst ([] ∷ []) 20
 without_records = record { first = []; later = []; batches_are = refl; bad = inl (record { empty = refl; here = refl }) }
+
+-- ---- the last record
+
+-- a snapshot alone is told where it begins
+snapshot_alone : (first : Bytes) (begun : Logged) → IsLastBehind first begun [] begun 29
+snapshot_alone first begun = inl (record { are_empty = All-nil (λ (batch : Bytes). batch ≡ []); same = refl; here = refl })
 
 -- ---- the field of a record that does not fit
 

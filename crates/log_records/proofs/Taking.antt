@@ -5,18 +5,20 @@ use Rattle.std.proofs.lemmas.List.Elements.{All-from_get_or}
 use Rattle.js_base.specs.Bytes.{Bytes}
 use Rattle.effects.specs.declared.effect.Effect.{Effect}
 use Rattle.effects.specs.declared.effect.Effect.TheVariants.{MakeStream, ChangeStream, DropStream, PutHere, Skip, Remove, MakeConsumer, DropConsumer, Deliver, Acked, Due, GivenUp, Now}
-use Rattle.effects.specs.Folding.{vacant}
 use Rattle.op_records.specs.declared.record.Record.{Record}
 use Rattle.op_records.specs.declared.record.Record.TheVariants.{Put, Change}
 use Rattle.op_records.specs.Allowed.{may_stand}
 use Rattle.op_records.specs.Answers.{IsFaultOf}
-use Rattle.op_records.specs.Reading.{record_at, vacant_field}
+use Rattle.op_records.specs.Reading.{record_at}
 use Rattle.op_records.specs.Spelling.{spelled, spelled_record}
 use Rattle.op_records.specs.declared.fault.RecordFault.{RecordFault}
 use Rattle.op_records.specs.declared.fault.RecordFault.TheVariants.{Cut, BadKind, BadField, NoMemory as NoRoom}
 use Rattle.op_records.proofs.Exact.{AreBytes}
-use Rattle.op_records.proofs.RecordsExact.{record_took, law_vacant}
-use Rattle.durable_checks.specs.Storable.{IsStorable}
+use Rattle.op_records.proofs.RecordsExact.{record_took}
+use Rattle.state_snapshot.specs.Allowed.{is_snapshot}
+use Rattle.state_snapshot.specs.Reading.{snapshot_field}
+use Rattle.state_snapshot.specs.declared.snapshot.Snapshot.{Snapshot}
+use Rattle.state_snapshot.proofs.SnapshotsExact.{law_snapshot}
 use Rattle.log_records.specs.Logged.{Logged, fold_record}
 use Rattle.log_records.specs.Misfits.{misfit_of}
 use Rattle.log_records.specs.Reading.{IsBatch, IsNextFault, IsPlaced, IsStartFault, fault_of}
@@ -69,14 +71,13 @@ misfits old bytes here found behind field batch.NoMemory reads unfit is h = tt
 
 -- ---- where a log begins
 
-pub start_fault : (first : Bytes) (fault : RecordFault) → IsFaultOf (vacant_field first 0) fault → IsStartFault first (fault_of fault)
-start_fault first (Cut at) h = (Cut at, h, refl)
-start_fault first (BadKind at) h = (BadKind at, h, refl)
-start_fault first (BadField at) h = (BadField at, h, refl)
+pub start_fault : (first : Bytes) (fault : RecordFault) → IsFaultOf (snapshot_field first 0) fault → IsStartFault first (fault_of fault)
+start_fault first (Cut at) h = inl (Cut at, h, refl)
+start_fault first (BadKind at) h = inl (BadKind at, h, refl)
+start_fault first (BadField at) h = inl (BadField at, h, refl)
 start_fault first NoRoom h = tt
 
-pub vacant_stored : (bytes : Bytes) (incarnation : ℕ) → AreBytes bytes → IsBatch bytes → vacant_field bytes 0 ≡ Ok (incarnation, length bytes) → IsStorable (vacant incarnation)
-vacant_stored bytes incarnation are short reads =
+pub snapshot_allowed : (bytes : Bytes) (snapshot : Snapshot) → AreBytes bytes → IsBatch bytes → snapshot_field bytes 0 ≡ Ok (snapshot, length bytes) → IsTrue (is_snapshot snapshot)
+snapshot_allowed bytes snapshot are short reads =
     let all : All (λ byte. byte < 256) bytes = All-from_get_or (λ byte. byte < 256) bytes 0 (λ i within. are i) in
-    let number = ((law_vacant bytes incarnation (record { are_bytes = all; short = short })).0 reads).allowed in
-    record { stored = tt; bounded = number }
+    ((law_snapshot bytes snapshot (record { are_bytes = all; short = short })).0 reads).allowed

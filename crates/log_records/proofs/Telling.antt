@@ -1,12 +1,9 @@
 -- How what is known of the bytes of a batch is told of its log.
-use Rattle.std.proofs.Common.{◌≡◌, ◌≢◌, inr, ℕ, ◌==◌, true, false, [], ◌∷◌, Option, Some, None, Err, length, refl, sym, subst, arith}
+use Rattle.std.proofs.Common.{◌≡◌, ◌≢◌, inl, inr, ℕ, ◌+◌, ◌==◌, true, false, [], ◌∷◌, Option, Some, None, length, refl, sym, ap, subst, ◌∙◌, arith}
 use Rattle.std.proofs.lemmas.Bool.{eqb-true, true≢false}
 use Rattle.js_base.specs.Bytes.{Bytes}
-use Rattle.op_records.specs.Reading.{vacant_field}
-use Rattle.op_records.specs.declared.fault.RecordFault.{RecordFault}
 use Rattle.log_records.specs.Logged.{Logged}
-use Rattle.log_records.specs.Damage.{IsAt}
-use Rattle.log_records.specs.Reading.{IsStartFault, IsBatchFault, IsTold, IsFirstFault, IsLaterFault, IsAdded, IsAddedAt, IsLastFrom, IsOffsetOf}
+use Rattle.log_records.specs.Reading.{IsStartFault, IsWrongStart, IsBatchFault, IsTold, IsFirstFault, IsLaterFault, IsAdded, IsAddedAt, IsLastFrom, IsOffsetOf}
 use Rattle.log_records.specs.declared.batch.BatchFault.{BatchFault}
 use Rattle.log_records.specs.declared.fault.ReadFault.{ReadFault}
 use Rattle.log_records.specs.declared.fault.ReadFault.TheVariants.{Fault, Damaged, NoMemory as OutOfMemory}
@@ -18,12 +15,13 @@ no_bytes (b ∷ bytes) e = let none : length (b ∷ bytes) ≡ 0 = eqb-true (len
 pub some_bytes : (bytes : Bytes) → false ≡ (length bytes == 0) → bytes ≢ []
 some_bytes bytes e is = absurd (true≢false (sym (subst (λ (l : Bytes). false ≡ (length l == 0)) is e)))
 
-pub first_told : (first : Bytes) (fault : BatchFault) (read : ReadFault) → first ≢ [] → IsStartFault first fault → IsTold 16 fault read → IsFirstFault first read
+pub first_told : (first : Bytes) (fault : BatchFault) (read : ReadFault) → first ≢ [] → IsStartFault first fault → IsTold 20 fault read → IsFirstFault first read
 first_told first fault Fault some h t = absurd t
 first_told first fault (Damaged at) some h (place, is, here) = go (subst (IsStartFault first) is h)
   where
-    go : (f : RecordFault) × (vacant_field first 0 ≡ Err f) × IsAt f place → IsFirstFault first (Damaged at)
-    go (f, wrong, told) = inr (record { some = some; fault = f; place = place; wrong = wrong; told = told; here = here })
+    go : IsWrongStart first place → IsFirstFault first (Damaged at)
+    go (inl (f, wrong, told)) = inr (inl (record { some = some; fault = f; place = place; wrong = wrong; told = told; here = here }))
+    go (inr (unfit, begin)) = inr (inr (record { unfit = unfit; here = here ∙ ap (λ (n : ℕ). 20 + 9 + n) begin }))
 first_told first fault OutOfMemory some h t = tt
 
 pub later_told : (gate : ℕ) (old : Logged) (bytes : Bytes) (fault : BatchFault) (read : ReadFault) → IsBatchFault old bytes fault → IsTold gate fault read → IsLaterFault gate old bytes read

@@ -1,10 +1,14 @@
--- What the open batches of a log give, by a format of this server's own: the first one tells where a place began, and each later one what changed.
-use Rattle.std.specs.Prelude.{◌≡◌, ℕ, length, List, [], ◌∷◌, Some, Ok}
+-- What the open batches of a log give, by a format of this server's own: the first one tells what a place was when the log was begun, and each later one what
+-- changed.
+use Rattle.std.specs.Prelude.{◌≡◌, length, List, [], ◌∷◌, Some, Ok}
 use Rattle.js_base.specs.Bytes.{Bytes}
 use Rattle.op_records.specs.declared.record.Record.{Record}
-use Rattle.op_records.specs.Reading.{AreRecords, vacant_field}
+use Rattle.op_records.specs.Reading.{AreRecords}
+use Rattle.state_snapshot.specs.Reading.{snapshot_field}
+use Rattle.state_snapshot.specs.declared.snapshot.Snapshot.{Snapshot}
 use Rattle.durable_checks.specs.Storable.{IsStorable}
 use Rattle.log_records.specs.Logged.{Logged, beginning, fold_records}
+use Rattle.log_records.specs.Beginnings.{CanBegin, logged_in}
 
 -- the bytes of a batch are records that lead from the one to the other
 pub record Adds (old : Logged) (bytes : Bytes) (new : Logged) : Type 0 where
@@ -18,11 +22,12 @@ abbrev pub AddAll : Logged → List Bytes → Logged → Type 0
 AddAll old [] new = old ≡ new
 AddAll old (batch ∷ batches) new = (mid : Logged) × Adds old batch mid × AddAll mid batches new
 
--- the first batch is the record of a vacant place, and nothing else
+-- the first batch is one snapshot, with which a log can begin
 pub record Begins (bytes : Bytes) (begun : Logged) : Type 0 where
-  pub incarnation : ℕ
-  pub reads : vacant_field bytes 0 ≡ Ok (incarnation, length bytes)
-  pub begun_is : begun ≡ beginning incarnation
+  pub snapshot : Snapshot
+  pub reads : snapshot_field bytes 0 ≡ Ok (snapshot, length bytes)
+  pub begun_is : begun ≡ logged_in snapshot
+  pub can : CanBegin begun
 
 -- where no batch is open, the place is vacant and never had a stream
 abbrev pub Gives : List Bytes → Logged → Type 0

@@ -4,12 +4,15 @@ use Rattle.std.specs.Prelude.{◌≡◌, ◌≢◌, ◌⊎◌, ◌<◌, ◌+◌,
 use Rattle.js_base.specs.Bytes.{Bytes}
 use Rattle.gate_log.specs.Batches.{end_of}
 use Rattle.op_records.specs.declared.record.Record.{Record}
-use Rattle.op_records.specs.Reading.{Stand, record_at, vacant_field}
+use Rattle.op_records.specs.Reading.{Stand, record_at}
 use Rattle.op_records.specs.declared.fault.RecordFault.{RecordFault}
 use Rattle.op_records.specs.declared.fault.RecordFault.TheVariants.{Cut, BadKind, BadField, NoMemory as OutOfMemory}
 use Rattle.durable_checks.specs.Storable.{IsStorable}
+use Rattle.state_snapshot.specs.Reading.{snapshot_field}
+use Rattle.state_snapshot.specs.declared.snapshot.Snapshot.{Snapshot}
 use Rattle.log_records.specs.Logged.{Logged, fold_record, fold_records}
 use Rattle.log_records.specs.Misfits.{misfit_of}
+use Rattle.log_records.specs.Beginnings.{CanBegin, logged_in}
 use Rattle.log_records.specs.Batches.{AddAll, Begins}
 
 -- ---- in the bytes of one batch
@@ -68,27 +71,41 @@ HasBadRecord old bytes at = IsMisread old bytes at ⊎ (IsMisfit old bytes at �
 
 -- the offset in the file of what stands at a place of the batch after these
 abbrev pub offset : List Bytes → ℕ → ℕ
-offset front place = end_of front + 5 + place
+offset front place = end_of front + 9 + place
 
 -- a first batch without records, which is told at its gate
 pub record IsEmptyFirst (first : Bytes) (at : ℕ) : Type 0 where
   pub empty : first ≡ []
   pub here : at ≡ end_of []
 
--- a first batch that is no record with which a log begins
+-- a first batch that is no snapshot
 pub record IsWrongFirst (first : Bytes) (at : ℕ) : Type 0 where
   pub some : first ≢ []
   pub fault : RecordFault
   pub place : ℕ
-  pub wrong : vacant_field first 0 ≡ Err fault
+  pub wrong : snapshot_field first 0 ≡ Err fault
   pub told : IsAt fault place
   pub here : at ≡ offset [] place
+
+-- the bytes are a snapshot with which no log can begin
+pub record IsUnfitSnapshot (first : Bytes) : Type 0 where
+  pub snapshot : Snapshot
+  pub reads : snapshot_field first 0 ≡ Ok (snapshot, length first)
+  pub bad : ¬ CanBegin (logged_in snapshot)
+
+-- it is told where it begins
+pub record IsUnfitFirst (first : Bytes) (at : ℕ) : Type 0 where
+  pub unfit : IsUnfitSnapshot first
+  pub here : at ≡ offset [] 0
+
+abbrev pub IsNoFirst : Bytes → ℕ → Type 0
+IsNoFirst first at = IsEmptyFirst first at ⊎ (IsWrongFirst first at ⊎ IsUnfitFirst first at)
 
 pub record IsBadFirst (batches : List Bytes) (at : ℕ) : Type 0 where
   pub first : Bytes
   pub later : List Bytes
   pub batches_are : batches ≡ first ∷ later
-  pub bad : IsEmptyFirst first at ⊎ IsWrongFirst first at
+  pub bad : IsNoFirst first at
 
 -- a later batch has a record that is wrong
 pub record IsBadLater (batches : List Bytes) (at : ℕ) : Type 0 where

@@ -19,16 +19,16 @@ pub record IsLastAt (first : Bytes) (begun : Logged) (later : List Bytes) (given
   pub last : IsLast old bytes place given
   pub here : at ≡ offset (first ∷ before) place
 
--- none of them has a record, and the first gate is told
+-- none of them has a record, and the last one is the snapshot with which the log begins
 pub record IsLastOfNone (begun : Logged) (later : List Bytes) (given : Logged) (at : ℕ) : Type 0 where
   pub are_empty : All (λ batch. batch ≡ []) later
   pub same : given ≡ begun
-  pub here : at ≡ end_of []
+  pub here : at ≡ offset [] 0
 
 abbrev pub IsLastBehind : Bytes → Logged → List Bytes → Logged → ℕ → Type 0
 IsLastBehind first begun later given at = IsLastOfNone begun later given at ⊎ IsLastAt first begun later given at
 
--- the batches give it, and their last record stands there
+-- The batches give it, and their last record stands there. Where no batch is open, the first gate stands for it: the place is vacant, which can always be opened.
 abbrev pub IsLastIn : List Bytes → Logged → ℕ → Type 0
 IsLastIn [] given at = (given ≡ beginning 0) × (at ≡ end_of [])
 IsLastIn (first ∷ later) given at = (begun : Logged) × Begins first begun × AddAll begun later given × IsLastBehind first begun later given at

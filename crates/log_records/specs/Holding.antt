@@ -17,6 +17,14 @@ abbrev pub IsReplayStorable : Held → Type 0
 IsReplayStorable (Replayed replay) = IsStorable replay
 IsReplayStorable (Folded durable) = ⊤
 
+abbrev pub IsReplayed : Held → Type 0
+IsReplayed (Replayed replay) = ⊤
+IsReplayed (Folded durable) = ⊥
+
+pub record IsHeldOf (d : Durable) (held : Held) : Type 0 where
+  pub is : held_in held ≡ d
+  pub replay : IsReplayStorable held
+
 abbrev pub made_in : Made → Logged
 made_in made = record { durable = held_in made.held; blocks = made.table }
 
@@ -25,6 +33,11 @@ pub record IsSoundMade (made : Made) : Type 0 where
   pub logged : IsLogged (made_in made)
   pub replay : IsReplayStorable made.held
   pub subject : made.subject ≡ unread_subject
+
+-- it is this, and sound
+pub record IsMadeOf (g : Logged) (made : Made) : Type 0 where
+  pub is : made_in made ≡ g
+  pub sound : IsSoundMade made
 
 -- what was read of a log
 abbrev pub given_in : LogRead → Logged

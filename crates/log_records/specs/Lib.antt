@@ -1,6 +1,7 @@
 pub mod Unread
 pub mod Logged
 pub mod Misfits
+pub mod Beginnings
 pub mod Batches
 pub mod Damage
 pub mod Ends

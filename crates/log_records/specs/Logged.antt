@@ -1,7 +1,7 @@
 -- What the records of a log make: what outlives a crash of a place, with its messages unread, and the blocks in which these lie. By a format of this server's
 -- own.
-use Rattle.std.specs.Prelude.{◌≡◌, ℕ, List, [], ◌∷◌, map, Option, Some, None}
-use Rattle.js_model.specs.Streams.{seqs}
+use Rattle.std.specs.Prelude.{◌≡◌, ℕ, List, [], ◌∷◌, Option, Some, None, ⊤}
+use Rattle.effects.specs.declared.durable.Body.{Body}
 use Rattle.effects.specs.declared.durable.Durable.{Durable}
 use Rattle.effects.specs.declared.effect.Effect.{Effect}
 use Rattle.effects.specs.declared.effect.Effect.TheVariants.{MakeStream, ChangeStream, DropStream, PutHere, Skip, Remove, MakeConsumer, DropConsumer, Deliver, Acked, Due, GivenUp, Now}
@@ -11,7 +11,8 @@ use Rattle.op_records.specs.declared.record.Record.TheVariants.{Put, Change}
 use Rattle.block_table.specs.Blocks.{Blocks, no_blocks}
 use Rattle.block_table.specs.Puts.{put, removed}
 use Rattle.durable_checks.specs.Storable.{IsFormed}
-use Rattle.log_records.specs.Unread.{unread_subject, unread, stored_messages}
+use Rattle.state_snapshot.specs.Snapshots.{HasSpots}
+use Rattle.log_records.specs.Unread.{unread_subject, unread}
 
 pub record Logged : Type 0 where
   pub durable : Durable
@@ -72,8 +73,14 @@ fold_records (r ∷ rs) g = fold_records rs (then_record g r)
 
 -- ---- what holds behind each record
 
+-- a vacant place has no blocks
+abbrev pub HasBlocksOf : Option Body → Blocks → Type 0
+HasBlocksOf None b = b ≡ no_blocks
+HasBlocksOf (Some body) b = ⊤
+
 -- what outlives a crash is formed, its messages are unread, and the blocks have a spot for each of them
 pub record IsLogged (g : Logged) : Type 0 where
   pub formed : IsFormed g.durable
+  pub vacant : HasBlocksOf g.durable.body g.blocks
   pub messages : unread g.durable ≡ g.durable
-  pub placed : map (λ p. p.seq) g.blocks.placed ≡ seqs (stored_messages g.durable)
+  pub placed : HasSpots g.durable g.blocks

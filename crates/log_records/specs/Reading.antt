@@ -6,15 +6,16 @@ use Rattle.gate_log.specs.LogState.{LogState}
 use Rattle.gate_log.specs.Reading.{IsGate}
 use Rattle.gate_log.specs.Settled.{IsSettled}
 use Rattle.op_records.specs.declared.record.Record.{Record}
-use Rattle.op_records.specs.Reading.{AreRecords, record_at, vacant_field}
+use Rattle.op_records.specs.Reading.{AreRecords, record_at}
 use Rattle.op_records.specs.declared.fault.RecordFault.{RecordFault}
 use Rattle.op_records.specs.declared.fault.RecordFault.TheVariants.{Cut, BadKind, BadField, NoMemory as NoRoom}
+use Rattle.state_snapshot.specs.Reading.{snapshot_field}
 use Rattle.record_fold.specs.declared.fault.FoldFault.{FoldFault}
 use Rattle.record_fold.specs.declared.fault.FoldFault.TheVariants.{Misfit, NoMemory as Refused}
 use Rattle.log_records.specs.Logged.{Logged, fold_record, fold_records}
 use Rattle.log_records.specs.Misfits.{misfit_of}
 use Rattle.log_records.specs.Batches.{Adds, AddAll, Begins}
-use Rattle.log_records.specs.Damage.{IsAt, IsLast, HasBadRecord, IsEmptyFirst, IsWrongFirst, HasBadBatch}
+use Rattle.log_records.specs.Damage.{IsAt, IsLast, HasBadRecord, IsNoFirst, IsUnfitSnapshot, HasBadBatch}
 use Rattle.log_records.specs.Ends.{IsLastBehind, IsLastIn}
 use Rattle.log_records.specs.Holding.{made_in, IsSoundMade, given_in}
 use Rattle.log_records.specs.declared.made.Made.{Made}
@@ -71,9 +72,13 @@ IsPlaced at field batch.NoMemory = Unit {0}
 
 -- ---- one batch
 
+-- the first batch is no snapshot, or one with which no log can begin
+abbrev pub IsWrongStart : Bytes → ℕ → Type 0
+IsWrongStart first at = ((fault : RecordFault) × (snapshot_field first 0 ≡ Err fault) × IsAt fault at) ⊎ (IsUnfitSnapshot first × (at ≡ 0))
+
 -- the first batch of a log is none with which a log begins, or memory ran out
 abbrev pub IsStartFault : Bytes → BatchFault → Type 0
-IsStartFault first (batch.Wrong at) = (fault : RecordFault) × (vacant_field first 0 ≡ Err fault) × IsAt fault at
+IsStartFault first (batch.Wrong at) = IsWrongStart first at
 IsStartFault first batch.NoMemory = Unit {0}
 
 -- where the last record of the batch stands; it may have none
@@ -102,36 +107,36 @@ IsBatchFault old bytes batch.NoMemory = Unit {0}
 
 -- where a place among the records of the batch behind a gate stands; no file is so long that this is no number of 64 bits
 abbrev pub IsOffset : ℕ → ℕ → Option ℕ → Type 0
-IsOffset gate place (Some at) = at ≡ gate + 5 + place
+IsOffset gate place (Some at) = at ≡ gate + 9 + place
 IsOffset gate place None = Unit {0}
 
 -- where the last record of the batch behind a gate stands; it may have none
 abbrev pub IsOffsetOf : ℕ → Option ℕ → Option ℕ → Type 0
 IsOffsetOf gate None at = at ≡ None
-IsOffsetOf gate (Some place) at = at ≡ Some (gate + 5 + place)
+IsOffsetOf gate (Some place) at = at ≡ Some (gate + 9 + place)
 
 -- the fault of the batch behind a gate
 abbrev pub IsTold : ℕ → BatchFault → ReadFault → Type 0
 IsTold gate fault Fault = ⊥
-IsTold gate fault (Damaged at) = (place : ℕ) × (fault ≡ batch.Wrong place) × (at ≡ gate + 5 + place)
+IsTold gate fault (Damaged at) = (place : ℕ) × (fault ≡ batch.Wrong place) × (at ≡ gate + 9 + place)
 IsTold gate fault OutOfMemory = Unit {0}
 
 -- a first batch is none with which a log begins, or memory ran out
 abbrev pub IsFirstFault : Bytes → ReadFault → Type 0
 IsFirstFault first Fault = ⊥
-IsFirstFault first (Damaged at) = IsEmptyFirst first at ⊎ IsWrongFirst first at
+IsFirstFault first (Damaged at) = IsNoFirst first at
 IsFirstFault first OutOfMemory = Unit {0}
 
 -- a record of the batch behind a gate is wrong, or memory ran out
 abbrev pub IsLaterFault : ℕ → Logged → Bytes → ReadFault → Type 0
 IsLaterFault gate old bytes Fault = ⊥
-IsLaterFault gate old bytes (Damaged at) = (place : ℕ) × HasBadRecord old bytes place × (at ≡ gate + 5 + place)
+IsLaterFault gate old bytes (Damaged at) = (place : ℕ) × HasBadRecord old bytes place × (at ≡ gate + 9 + place)
 IsLaterFault gate old bytes OutOfMemory = Unit {0}
 
 -- the batch behind a gate leads from the one to the other, and its last record stands at this offset; it may have none
 abbrev pub IsLastFrom : ℕ → Logged → Bytes → Logged → Option ℕ → Type 0
 IsLastFrom gate old bytes new None = (bytes ≡ []) × (new ≡ old)
-IsLastFrom gate old bytes new (Some at) = (place : ℕ) × IsLast old bytes place new × (at ≡ gate + 5 + place)
+IsLastFrom gate old bytes new (Some at) = (place : ℕ) × IsLast old bytes place new × (at ≡ gate + 9 + place)
 
 pub record IsAddedAt (gate : ℕ) (old : Logged) (bytes : Bytes) (new : Logged) (last : Option ℕ) : Type 0 where
   pub adds : Adds old bytes new

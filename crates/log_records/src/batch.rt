@@ -6,10 +6,12 @@ ghost use Rattle.log_records.specs.Batches.{Begins};
 ghost use Rattle.log_records.specs.Holding.{IsSoundMade, made_in};
 ghost use Rattle.log_records.specs.Reading.{AreRead, IsAdded, IsBatch, IsBatchFault, IsNext, IsNextFault, IsPlaced, IsStartFault};
 
+use crate::beginning::made_of;
 use crate::made::Made;
 use js_base::NoMemory;
-use op_records::{RecordFault, read_record, read_vacant};
+use op_records::{RecordFault, read_record};
 use record_fold::FoldFault;
+use state_snapshot::read_snapshot;
 use std::alloc::Global;
 
 /// Why the records of a batch give nothing.
@@ -45,7 +47,7 @@ impl From<RecordFault> for BatchFault {
     }
 }
 
-/// What the first batch of a log tells: where its place began. It has records.
+/// What the first batch of a log tells: what its place was when the log was begun.
 pub(crate) fn begin(alloc: Global, records: &[u8]) -> Result<Made, BatchFault>
     requires batch { IsBatch records.now }
     ensures begun { IfOk result (λ made. Begins records.now (made_in made)) }
@@ -53,9 +55,12 @@ pub(crate) fn begin(alloc: Global, records: &[u8]) -> Result<Made, BatchFault>
     ensures storable { IfOk result (λ made. IsStorable (made_in made).durable) }
     ensures fault { IfErr result (IsStartFault records.now) }
 {
-    let incarnation = read_vacant(alloc, records)?;
-    let made = Made::beginning(alloc, incarnation)?;
-    Ok(made)
+    let snapshot = read_snapshot(alloc, records)?;
+    let found = made_of(alloc, snapshot)?;
+    match found {
+        Some(made) => Ok(made),
+        None => Err(BatchFault::Wrong(0)),
+    }
 }
 
 /// The fault of a record at a place of a batch, whose field so many bytes behind its kind does not fit. No slice is so long that its place is no number.

@@ -11,8 +11,9 @@ pub enum ReadFault {
     /// The volume failed, and its count of faults rose.
     #[error("the volume failed")]
     Fault,
-    /// The first fault of the records stands there: the first batch is no record of a vacant place (told at its gate if it has no records), or a record of a
-    /// later batch is none or does not fit. If what the records of a batch make is unsound or more than a volume may hold, the last of them is told.
+    /// The first fault of the records stands there: the first batch is no snapshot (told at its gate if it is empty), or a record of a later batch is none
+    /// or does not fit. If what the records of a batch make is unsound or more than a volume may hold, the last of them is told; and so is a snapshot, also
+    /// if its messages do not lie in its blocks, where it begins.
     #[error("damaged at {0}")]
     Damaged(u64),
     #[error("out of memory")]

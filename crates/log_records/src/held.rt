@@ -1,11 +1,12 @@
 //! What outlives a crash, as the records of a log have made it so far.
 
-ghost use Rattle.std.specs.Prelude.{◌≡◌, ◌↔◌, IfOk, IfErr, IsTrue, Some};
+ghost use Rattle.std.specs.Prelude.{◌≡◌, ◌↔◌, IfOk, IfErr, IfSome, IsTrue, Some};
 ghost use Rattle.effects.specs.Folding.{fold};
 ghost use Rattle.op_records.specs.Allowed.{is_record};
 ghost use Rattle.record_fold.specs.Faults.{IsFoldFault};
 ghost use Rattle.durable_checks.specs.Storable.{IsFormed, IsStorable};
-ghost use Rattle.log_records.specs.Holding.{held_in, IsReplayStorable};
+ghost use Rattle.log_replay.specs.Restoring.{AreIdsInTime};
+ghost use Rattle.log_records.specs.Holding.{held_in, IsHeldOf, IsReplayStorable, IsReplayed};
 
 use durable_checks::is_storable;
 use effects::{Durable, Effect};
@@ -55,6 +56,20 @@ fn replayed(alloc: Global, old: Replay, effect: Effect) -> Result<Held, FoldFaul
 }
 
 impl Held {
+    /// What outlived a crash, replayed from there on if a replay can go on with it.
+    pub(crate) fn of(alloc: Global, durable: Durable) -> Result<Held, NoMemory>
+        requires formed { IsFormed durable }
+        requires storable { IsStorable durable }
+        ensures value { IfOk result (IsHeldOf durable) }
+        ensures replayed { IfSome durable.body AreIdsInTime → IfOk result IsReplayed }
+    {
+        if Replay::goes_on(&durable) {
+            let replay = Replay::of(alloc, durable)?;
+            return Ok(Held::Replayed(replay));
+        }
+        Ok(Held::Folded(durable))
+    }
+
     /// With a record more. `Misfit` comes exactly if the record does not fit, and tells the field that is wrong.
     pub(crate) fn fold(self, alloc: Global, effect: Effect) -> Result<Held, FoldFault>
         requires formed { IsFormed (held_in self) }
@@ -84,7 +99,6 @@ impl Held {
 
     /// All of it in lists.
     pub(crate) fn into_durable(self, alloc: Global) -> Result<Durable, NoMemory>
-        requires sound { IsReplayStorable self }
         ensures value { IfOk result (λ durable. durable ≡ held_in self) }
     {
         match self {

@@ -1,6 +1,6 @@
 //! Laws of the definitions.
 
-ghost use Rattle.log_records.specs.Laws.{LawBatches, LawUnread};
+ghost use Rattle.log_records.specs.Laws.{LawBatches, LawBegins, LawUnread};
 
 /// The batches of a log give one thing, or one of them is the first that is wrong, at one place, and not both.
 pub fn law_batches()
@@ -11,4 +11,9 @@ pub fn law_batches()
 /// batch looks at none of these.
 pub fn law_unread()
     ensures { LawUnread }
+{}
+
+/// Records make of what a log has made what a log can make, and a snapshot of it begins another log.
+pub fn law_begins()
+    ensures { LawBegins }
 {}

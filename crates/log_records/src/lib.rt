@@ -1,7 +1,8 @@
-//! What the batches of a log give, read as records: where its place began, and each change since.
+//! What the batches of a log give, read as records: what its place was when the log was begun, and each change since.
 #![tactic(auto)]
 
 mod batch;
+mod beginning;
 mod fault;
 mod held;
 pub mod laws;

@@ -23,10 +23,10 @@ use std::alloc::Global;
 use vol_disk::Vol;
 
 /// The offset of the first gate of a log.
-const FIRST_GATE: u64 = 16;
+const FIRST_GATE: u64 = 20;
 
 /// How far behind its gate the records of a batch begin.
-const RECORDS: u64 = 5;
+const RECORDS: u64 = 9;
 
 /// The end of the lengths that a batch can have.
 const LENGTHS_END: usize = 1 << 32;
@@ -39,7 +39,8 @@ pub struct LogRead {
     pub durable: Durable,
     /// Where the messages lie.
     pub table: BlockTable,
-    /// The offset in the log's file of the last record of all batches. If none behind the first batch has one, it is that of the first gate.
+    /// The offset in the log's file of the last record of all batches, which is the snapshot of the first one if none stands behind it. Where no batch is open,
+    /// it is that of the first gate.
     pub last: u64,
 }
 
@@ -77,7 +78,7 @@ fn told(gate: u64, fault: BatchFault) -> ReadFault
     }
 }
 
-/// What the first batch of a log tells: where its place began.
+/// What the first batch of a log tells: what its place was when the log was begun.
 fn add_first(alloc: Global, records: &[u8]) -> Result<Made, ReadFault>
     requires batch { IsBatch records.now }
     ensures begun { IfOk result (λ made. Begins records.now (made_in made)) }
@@ -161,7 +162,7 @@ fn next_batch<V: Vol>(
     }
 }
 
-/// What the batches from a gate on give, behind a first one that tells where its place began.
+/// What the batches from a gate on give, behind a first one that tells what its place was when the log was begun.
 fn read_later<V: Vol>(
     alloc: Global,
     vol: &mut V,
@@ -182,7 +183,7 @@ fn read_later<V: Vol>(
     ensures later { (V.disk vol.old).moment ≤ (V.disk vol.new).moment }
 {
     let mut made = begun;
-    let mut last = FIRST_GATE;
+    let mut last = FIRST_GATE + RECORDS;
     let mut gate = first_end;
     while let Some((records, next)) = next_batch(alloc, vol, log, gate)? {
         let (added, later) = add_later(alloc, gate, records.as_slice(), made)?;
@@ -194,8 +195,8 @@ fn read_later<V: Vol>(
     Ok(read)
 }
 
-/// What the open batches of a log give, read as records: the first tells where its place began, and each later one what changed. Where none is open, the
-/// place is vacant and never had a stream. No block is looked at.
+/// What the open batches of a log give: the first is a snapshot of its place when the log was begun, and each later one tells what changed. Where none is
+/// open, the place is vacant and never had a stream. No block is looked at.
 pub fn read_log<V: Vol>(alloc: Global, vol: &mut V, log: &GateLog) -> Result<LogRead, ReadFault>
     requires settled { V.told → (batches : List Bytes) × IsSettled log.now batches (V.disk vol.old) }
     ensures gives { V.told → IfOk result (GivesIn log.now (V.disk vol.old)) }

@@ -22,7 +22,7 @@ use record_fold::FoldFault;
 use std::alloc::Global;
 
 /// The subject of a message whose block is not read yet.
-const UNREAD: &[u8] = b"-";
+pub(crate) const UNREAD: &[u8] = b"-";
 
 /// What the records of a log have made so far.
 #[derive(Drop)]
@@ -149,7 +149,6 @@ impl Made {
 
     /// What was read, if the last record stands at this offset.
     pub(crate) fn into_read(self, alloc: Global, last: u64) -> Result<LogRead, NoMemory>
-        requires sound { IsSoundMade self }
         ensures value { IfOk result (λ read. given_in read ≡ made_in self) }
         ensures last { IfOk result (λ read. read.last ≡ last) }
     {

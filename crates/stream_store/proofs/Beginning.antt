@@ -1,5 +1,5 @@
 -- The first log of a volume.
-use Rattle.std.proofs.Common.{◌≡◌, ◌⊎◌, inl, inr, ℕ, ◌<◌, ◌^◌, Bool, true, false, cond, List, [], ◌∷◌, Option, Some, None, IfSome, length, refl, sym, ap, subst, ◌∙◌, arith}
+use Rattle.std.proofs.Common.{◌≡◌, ◌⊎◌, inl, inr, ℕ, ◌<◌, ◌≤◌, ◌+◌, ◌^◌, max, Bool, true, false, cond, [], ◌∷◌, Option, Some, None, IfSome, length, refl, sym, ap, subst, ◌∙◌, arith}
 use Rattle.std.specs.Prelude.{IsSome, All, ◌==◌}
 use Rattle.js_model.proofs.Named.{none_some}
 use Rattle.vol_disk.specs.Clock.{IsClocked}
@@ -14,44 +14,39 @@ use Rattle.js_base.specs.Bytes.{Bytes}
 use Rattle.gate_log.specs.LogFile.{IsLog, HasOpen}
 use Rattle.gate_log.specs.LogState.{LogState, generation_of, new_log, with_batch}
 use Rattle.gate_log.specs.Settled.{IsSettled}
+use Rattle.gate_log.specs.Growing.{GrowsTo}
 use Rattle.gate_log.specs.Starting.{Starts, IsEmptied}
 use Rattle.gate_log.specs.Appending.{IsWithOrWithout, AppendsTo, IsAppended}
 use Rattle.effects.specs.declared.durable.Durable.{Durable}
 use Rattle.effects.specs.Folding.{vacant}
 use Rattle.op_records.specs.Spelling.{spelled_vacant}
-use Rattle.op_records.proofs.RecordsExact.{law_vacant}
-use Rattle.durable_checks.specs.Storable.{IsOpenable, IsStorable}
+use Rattle.op_records.specs.Laws.{IsBatch}
+use Rattle.state_snapshot.specs.Spelling.{spelled_snapshot}
 use Rattle.block_table.specs.Blocks.{no_blocks}
 use Rattle.block_table.proofs.Tables.{table_none}
-use Rattle.block_reading.specs.Standing.{AreStoredIn, IsWhole}
 use Rattle.log_records.specs.Batches.{Begins, Gives}
+use Rattle.log_records.specs.Laws.{snapshot_in}
 use Rattle.log_records.specs.Logged.{beginning}
-use Rattle.stream_store.specs.Logs.{LogIn, HasLog, HasLogs, is_first, current}
+use Rattle.log_records.proofs.Following.{law_begins}
+use Rattle.stream_store.specs.Logs.{LogIn, HasLog, HasLogs, is_first}
 use Rattle.stream_store.specs.Holding.{Holds, logged}
 use Rattle.stream_store.specs.Base.{IsBaseOf}
 use Rattle.stream_store.specs.Beginning.{IsUnbegun, HoldsNothing}
 use Rattle.stream_store.specs.Opening.{KeepsHeld, RestsBut}
 use Rattle.stream_store.proofs.Basing.{IsNow, IsStoredBase, base_of}
 use Rattle.stream_store.proofs.Blocks.{IsFirm, firm_blocks}
+use Rattle.stream_store.specs.Untouched.{IsUntouched}
 use Rattle.stream_store.proofs.OneReading.{holds_same}
+use Rattle.stream_store.proofs.Vacant.{first_within, holds_nothing, nothing_stored, others_empty, untouched_image, vacant_logged, vacant_opens, vacant_storable}
 
 -- ---- a vacant place
-
-pub vacant_opens : (i : ℕ) → IsOpenable (vacant i)
-vacant_opens i = record { matched = tt; restorable = tt }
-
--- without blocks nothing is stored
-nothing_stored : (image : Files) → AreStoredIn image no_blocks 0 []
-nothing_stored image = record { whole = All-nil (IsWhole image 0); found = tt }
-
-vacant_storable : IsStorable (vacant 0)
-vacant_storable = record { stored = tt; bounded = omega arith }
 
 vacant_base : (disk : Disk) → IsStoredBase no_blocks (vacant 0) disk
 vacant_base disk = record {
   table = table_none;
   stand = firm_blocks no_blocks disk (All-nil (IsFirm disk));
   storable = vacant_storable;
+  given = vacant_logged;
   stored = nothing_stored disk.seen;
   openable = vacant_opens 0;
 }
@@ -59,70 +54,76 @@ vacant_base disk = record {
 abbrev nothing_open : LogIn
 nothing_open = record { generation = None; batches = [] }
 
--- where neither log has an open batch, the place is vacant
-holds_nothing : (image : Files) (zero one : LogIn) → HasLogs image zero one → zero.generation ≡ None → one.generation ≡ None → Holds image (vacant 0)
-holds_nothing image zero one h none nothing = (
-  no_blocks,
-  record {
-    zero = zero;
-    one = one;
-    logs = h;
-    gives = subst (λ (l : LogIn). Gives l.batches (logged (vacant 0) no_blocks)) (sym first)
-        (subst (λ (bs : List Bytes). Gives bs (logged (vacant 0) no_blocks)) (sym (no_batches zero.generation zero.batches none h.in_zero)) refl);
-    stored = nothing_stored image;
-    openable = vacant_opens 0;
-  },
-)
-  where
-    first : current zero one ≡ zero
-    first = ap (λ (g : Option ℕ). cond (is_first zero.generation g) zero one) nothing ∙ ap (λ (g : Option ℕ). cond (is_first g None) zero one) none
+-- where neither log has an open batch, and nothing is there that a stream leaves, the place is vacant
+holds_none : (image : Files) (zero one : LogIn) → HasLogs image zero one → zero.generation ≡ None → one.generation ≡ None → IsUntouched image → Holds image (vacant 0)
+holds_none image zero one h none nothing untouched = holds_nothing image (record { zero = zero; one = one; logs = h; none_in_zero = none; none_in_one = nothing }) untouched
 
-    no_batches : (g : Option ℕ) (bs : List Bytes) → g ≡ None → HasOpen (image 0) g bs → bs ≡ []
-    no_batches None [] e k = refl
-    no_batches None (b ∷ bs) e k = absurd k
-    no_batches (Some g) bs e k = absurd (cc)
+-- both are left
+both_left : (old new : Disk) (P Q : Files → Type 0) → LeavesOnly old new P → LeavesOnly old new Q → LeavesOnly old new (λ image. P image × Q image)
+both_left old new P Q p q = record {
+  later = p.later;
+  each = λ image left. (p.each image left, q.each image left);
+  before = λ t image le left. go (p.before t image le left) (q.before t image le left);
+}
+  where
+    go : {A B C : Type 0} → A ⊎ B → A ⊎ C → A ⊎ (B × C)
+    go (inl a) q = inl a
+    go (inr b) (inl a) = inl a
+    go (inr b) (inr c) = inr (b, c)
 
 module _ (old : Disk) (u : IsUnbegun old) where
   pub unbegun_holds : Holds old.seen (vacant 0)
-  unbegun_holds = holds_nothing old.seen u.zero u.one u.logs u.none_in_zero u.none_in_one
+  unbegun_holds = holds_nothing old.seen u.none u.untouched
 
   one_stays : (image : Files) → Elsewhere 0 old image → image 1 ≡ old.seen 1
   one_stays image e = u.durable_one (image 1) (e 1 (λ is. absurd (omega arith)))
 
-  -- as the log is started
-  starting_holds : (image : Files) → (image 0 ≡ old.seen 0) ⊎ IsEmptied (old.seen 0) (image 0) → Elsewhere 0 old image → Holds image (vacant 0)
-  starting_holds image (inl same) e =
-      holds_nothing image u.zero u.one
-      (record { in_zero = subst (λ (l : Bytes). HasLog l u.zero) (sym same) u.logs.in_zero; in_one = subst (λ (l : Bytes). HasLog l u.one) (sym (one_stays image e)) u.logs.in_one })
-      u.none_in_zero u.none_in_one
-  starting_holds image (inr emptied) e =
-      holds_nothing image nothing_open u.one
-      (record { in_zero = emptied u.zero.generation u.zero.batches u.logs.in_zero; in_one = subst (λ (l : Bytes). HasLog l u.one) (sym (one_stays image e)) u.logs.in_one })
-      refl u.none_in_one
+  still_untouched : (image : Files) → length (image 0) ≤ 39 → Elsewhere 0 old image → IsUntouched image
+  still_untouched image short e = untouched_image old image u.gone (one_stays image e ∙ others_empty old.seen 1 u.untouched (omega arith) (omega arith)) short e
 
-  pub starting : (mid : Disk) → Starts 0 old mid → HoldsNothing old mid
-  starting mid s =
-      widened old mid (λ image. Holds image (vacant 0)) (λ image. ((image 0 ≡ old.seen 0) ⊎ IsEmptied (old.seen 0) (image 0)) × Elsewhere 0 old image) s.any_moment (λ image h. starting_holds image h.0 h.1)
+  -- as the log is started
+  starting_holds : (image : Files) → (image 0 ≡ old.seen 0) ⊎ IsEmptied (old.seen 0) (image 0) → length (image 0) ≤ 39 → Elsewhere 0 old image → Holds image (vacant 0)
+  starting_holds image (inl same) short e =
+      holds_none image u.none.zero u.none.one
+      (record { in_zero = subst (λ (l : Bytes). HasLog l u.none.zero) (sym same) u.none.logs.in_zero; in_one = subst (λ (l : Bytes). HasLog l u.none.one) (sym (one_stays image e)) u.none.logs.in_one })
+      u.none.none_in_zero u.none.none_in_one (still_untouched image short e)
+  starting_holds image (inr emptied) short e =
+      holds_none image nothing_open u.none.one
+      (record { in_zero = emptied u.none.zero.generation u.none.zero.batches u.none.logs.in_zero; in_one = subst (λ (l : Bytes). HasLog l u.none.one) (sym (one_stays image e)) u.none.logs.in_one })
+      refl u.none.none_in_one (still_untouched image short e)
+
+  pub starting : (mid : Disk) → Starts 0 old mid → GrowsTo 0 21 old mid → HoldsNothing old mid
+  starting mid s grows =
+      widened old mid (λ image. Holds image (vacant 0)) (λ image. (((image 0 ≡ old.seen 0) ⊎ IsEmptied (old.seen 0) (image 0)) × Elsewhere 0 old image) × (length (image 0) ≤ max 21 (length (old.seen 0))))
+      (both_left old mid (λ image. ((image 0 ≡ old.seen 0) ⊎ IsEmptied (old.seen 0) (image 0)) × Elsewhere 0 old image) (λ image. length (image 0) ≤ max 21 (length (old.seen 0))) s.any_moment grows)
+      (λ image h. let first = first_within old.seen u.untouched in let size = h.1 in starting_holds image h.0.0 (omega (arith, first, size)) h.0.1)
 
   -- where nothing is written
   pub unbegun_stays : IsClocked old → HoldsNothing old old
-  unbegun_stays clocked = started old (λ image. Holds image (vacant 0)) clocked (λ image is. starting_holds image (inl (u.durable_zero (image 0) (is.left 0))) (λ file apart. is.left file))
+  unbegun_stays clocked = started old (λ image. Holds image (vacant 0)) clocked (λ image is. let same = u.durable_zero (image 0) (is.left 0) in starting_holds image (inl same) (subst (λ (l : Bytes). length l ≤ 39) (sym same) (first_within old.seen u.untouched)) (λ file apart. is.left file))
 
   -- as its first batch is appended
-  module _ (mid : Disk) (s : Starts 0 old mid) (log : LogState) (log_is : log ≡ new_log 0 (Some 1)) (settled : IsSettled log [] mid) (records : Bytes) (records_are : records ≡ spelled_vacant 0) (bytes : All (λ byte. byte < 256) records) where
+  module _ (mid : Disk) (s : Starts 0 old mid) (grows : GrowsTo 0 21 old mid) (size : length (mid.seen 0) ≤ 21) (log : LogState) (log_is : log ≡ new_log 0 (Some 1)) (settled : IsSettled log [] mid) (records : Bytes) (records_are : records ≡ spelled_vacant 0) (bytes : All (λ byte. byte < 256) records) where
     rests : Rests 1 old mid
     rests = s.elsewhere 1 (λ is. absurd (omega arith))
+
+    spelled_is : snapshot_in (beginning 0) ≡ spelled_vacant 0
+    unfolding spelled_snapshot
+    spelled_is = refl
+
+    nine : length records ≡ 9
+    unfolding spelled_vacant
+    nine = subst (λ (l : Bytes). length l ≡ 9) (sym records_are) (omega arith)
 
     short : length records < 2 ^ 32
     unfolding spelled_vacant
     short = subst (λ (l : Bytes). length l < 2 ^ 32) (sym records_are) (omega arith)
 
     begins : Begins records (beginning 0)
-    begins = record {
-      incarnation = 0;
-      reads = (law_vacant records 0 (record { are_bytes = bytes; short = short })).1 (record { allowed = omega arith; bytes_are = records_are });
-      begun_is = refl;
-    }
+    begins =
+        let same : snapshot_in (beginning 0) ≡ records = spelled_is ∙ sym records_are in
+        subst (λ (l : Bytes). Begins l (beginning 0)) same
+        (law_begins.begins (beginning 0) vacant_logged (record { table = table_none; storable = vacant_storable }) (subst IsBatch (sym same) (record { are_bytes = bytes; short = short })))
 
     pub gives : Gives (records ∷ []) (logged (vacant 0) no_blocks)
     gives = (beginning 0, begins, refl)
@@ -130,34 +131,42 @@ module _ (old : Disk) (u : IsUnbegun old) where
     one_of : (image : Files) → Elsewhere 0 mid image → image 1 ≡ old.seen 1
     one_of image e = u.durable_one (image 1) (rests.leaves (image 1) (e 1 (λ is. absurd (omega arith))))
 
-    begun_logs : (image : Files) → image 1 ≡ old.seen 1 → IsLog 1 (records ∷ []) (image 0) → HasLogs image (record { generation = Some 1; batches = records ∷ [] }) u.one
-    begun_logs image stays is = record { in_zero = is; in_one = subst (λ (l : Bytes). HasLog l u.one) (sym stays) u.logs.in_one }
+    begun_logs : (image : Files) → image 1 ≡ old.seen 1 → IsLog 1 (records ∷ []) (image 0) → HasLogs image (record { generation = Some 1; batches = records ∷ [] }) u.none.one
+    begun_logs image stays is = record { in_zero = is; in_one = subst (λ (l : Bytes). HasLog l u.none.one) (sym stays) u.none.logs.in_one }
 
-    is_current : is_first (Some 1) u.one.generation ≡ true
-    is_current = ap (is_first (Some 1)) u.none_in_one
+    is_current : is_first (Some 1) u.none.one.generation ≡ true
+    is_current = ap (is_first (Some 1)) u.none.none_in_one
 
-    appending_holds : (image : Files) → IsWithOrWithout 1 [] records (image 0) → Elsewhere 0 mid image → Holds image (vacant 0)
-    appending_holds image (inl without) e =
-        holds_nothing image nothing_open u.one
-        (record { in_zero = inr (1, without); in_one = subst (λ (l : Bytes). HasLog l u.one) (sym (one_of image e)) u.logs.in_one })
-        refl u.none_in_one
-    appending_holds image (inr longer) e = (
+    elsewhere_of : (image : Files) → Elsewhere 0 mid image → Elsewhere 0 old image
+    elsewhere_of image e file apart = (s.elsewhere file apart).leaves (image file) (e file apart)
+
+    appending_holds : (image : Files) → IsWithOrWithout 1 [] records (image 0) → length (image 0) ≤ 39 → Elsewhere 0 mid image → Holds image (vacant 0)
+    appending_holds image (inl without) few e =
+        holds_none image nothing_open u.none.one
+        (record { in_zero = inr (1, without); in_one = subst (λ (l : Bytes). HasLog l u.none.one) (sym (one_of image e)) u.none.logs.in_one })
+        refl u.none.none_in_one (still_untouched image few (elsewhere_of image e))
+    appending_holds image (inr longer) few e = (
       no_blocks,
       record {
         zero = record { generation = Some 1; batches = records ∷ [] };
-        one = u.one;
+        one = u.none.one;
         logs = begun_logs image (one_of image e) longer;
-        gives = subst (λ (b : Bool). Gives (cond b (record { generation = Some 1; batches = records ∷ [] }) u.one).batches (logged (vacant 0) no_blocks)) (sym is_current) gives;
+        begun = inl (subst (λ (b : Bool). IsSome (cond b (record { generation = Some 1; batches = records ∷ [] }) u.none.one).generation) (sym is_current) refl);
+        gives = subst (λ (b : Bool). Gives (cond b (record { generation = Some 1; batches = records ∷ [] }) u.none.one).batches (logged (vacant 0) no_blocks)) (sym is_current) gives;
         stored = nothing_stored image;
         openable = vacant_opens 0;
       },
     )
 
-    pub appending : (new : Disk) → AppendsTo log records mid new → HoldsNothing old new
-    appending new appends =
+    pub appending : (new : Disk) → AppendsTo log records mid new → GrowsTo log.file (log.end + 10 + length records) mid new → HoldsNothing old new
+    appending new appends more =
         let a = appends [] settled in
         let moments = subst (λ (l : LogState). LeavesOnly mid new (λ image. IfSome l.head (λ g. IsWithOrWithout g [] records (image l.file)) × Elsewhere l.file mid image)) log_is a.any_moment in
-        joined old mid new (λ image. Holds image (vacant 0)) (λ image. IsWithOrWithout 1 [] records (image 0) × Elsewhere 0 mid image) (starting mid s) moments (λ image h. appending_holds image h.0 h.1)
+        let lengths = subst (λ (l : LogState). GrowsTo l.file (l.end + 10 + length records) mid new) log_is more in
+        joined old mid new (λ image. Holds image (vacant 0)) (λ image. (IsWithOrWithout 1 [] records (image 0) × Elsewhere 0 mid image) × (length (image 0) ≤ max (20 + 10 + length records) (length (mid.seen 0))))
+        (starting mid s grows)
+        (both_left mid new (λ image. IsWithOrWithout 1 [] records (image 0) × Elsewhere 0 mid image) (λ image. length (image 0) ≤ max (20 + 10 + length records) (length (mid.seen 0))) moments lengths)
+        (λ image h. let most = h.1 in appending_holds image h.0.0 (omega (arith, most, size, nine)) h.0.1)
 
     pub begun : (after : LogState) (new : Disk) → AppendsTo log records mid new → IsAppended log after records mid new → after ≡ with_batch log (length records) → IsBaseOf after no_blocks (vacant 0) new
     unfolding spelled_vacant
@@ -174,11 +183,11 @@ module _ (old : Disk) (u : IsUnbegun old) where
         let durable_one : IsDurable new 1 = λ bytes left. u.durable_one bytes (rests.leaves bytes (rests_on.leaves bytes left)) ∙ sym one_is in
         let now : IsNow after (records ∷ []) new.seen = record {
           zero = record { generation = Some 1; batches = records ∷ [] };
-          one = u.one;
+          one = u.none.one;
           logs = begun_logs new.seen one_is has;
           file_is = ap (λ (b : Bool). cond b 0 1) is_current ∙ sym file;
-          generation_is = ap (λ (b : Bool). (cond b (record { generation = Some 1; batches = records ∷ [] }) u.one).generation) is_current ∙ sym generation;
-          batches_are = ap (λ (b : Bool). (cond b (record { generation = Some 1; batches = records ∷ [] }) u.one).batches) is_current;
+          generation_is = ap (λ (b : Bool). (cond b (record { generation = Some 1; batches = records ∷ [] }) u.none.one).generation) is_current ∙ sym generation;
+          batches_are = ap (λ (b : Bool). (cond b (record { generation = Some 1; batches = records ∷ [] }) u.none.one).batches) is_current;
         } in
         base_of after (records ∷ []) new no_blocks (vacant 0) now settled_after (subst IsSome (sym generation) refl) (subst (IsDurable new) file settled_after.durable) durable_one gives (vacant_base new)
       where
@@ -198,7 +207,7 @@ begun_rests old mid new log records s file settled appends other apart = rests_o
 
 -- a log that has a generation has it in its head
 pub head_is : (log : LogState) (generation : ℕ) → generation_of log ≡ Some generation → log.head ≡ Some generation
-head_is log generation e = go (log.end == 16) e
+head_is log generation e = go (log.end == 20) e
   where
     go : (b : Bool) → cond b None log.head ≡ Some generation → log.head ≡ Some generation
     go true h = absurd (none_some h)

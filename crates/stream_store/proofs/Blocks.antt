@@ -104,7 +104,7 @@ ends_are (k ∷ ks) apart =
 
 -- where the blocks stand, what begins as they do holds the same
 pub same_fronts : (b : Blocks) (disk : Disk) (image : Files) → IsTable b → BlocksStand b disk → ((file : ℕ) → StartsWith (image file) (front_in b disk.seen file)) → All (IsSame disk.seen image) (blocks b)
-same_fronts b disk image table stand starts = All-weaker (λ (k : Block). end_among (blocks b) k.file ≡ k.end) (IsSame disk.seen image) at (blocks b) (ends_are (blocks b) table.apart)
+same_fronts b disk image table stand starts = All-weaker (λ (k : Block). end_among (blocks b) k.file ≡ k.end) (IsSame disk.seen image) at (blocks b) (ends_are (blocks b) table.blocks_are.apart)
   where
     at : (k : Block) → end_in b k.file ≡ k.end → IsSame disk.seen image k
     at k is =

@@ -1,6 +1,7 @@
 -- What a commit leaves, as it was staged.
-use Rattle.std.proofs.Common.{◌≡◌, inl, inr, ◌+◌, ◌≤◌, ◌^◌, List, length, refl, sym, ap, subst, arith}
+use Rattle.std.proofs.Common.{◌≡◌, ◌<◌, inl, inr, ◌+◌, ◌≤◌, ◌^◌, List, length, refl, sym, ap, subst, arith}
 use Rattle.std.specs.Prelude.{All}
+use Rattle.std.specs.List.{flat_map}
 use Rattle.vol_disk.specs.Disk.{Disk}
 use Rattle.vol_disk.specs.Images.{AreBytes, IsHonest}
 use Rattle.vol_disk.specs.Moments.{LeavesOnly}
@@ -14,6 +15,7 @@ use Rattle.gate_log.specs.Settled.{IsSettled}
 use Rattle.effects.specs.declared.durable.Durable.{Durable}
 use Rattle.effects.specs.declared.effect.Effect.{Effect}
 use Rattle.op_records.specs.Laws.{IsBatch}
+use Rattle.op_records.specs.Spelling.{spelled_record}
 use Rattle.block_table.specs.Blocks.{Blocks}
 use Rattle.block_table.specs.declared.block.Block.{Block}
 use Rattle.block_writing.specs.declared.run.Run.{Run}
@@ -24,7 +26,7 @@ use Rattle.block_writing.proofs.Commits.{law_plans}
 use Rattle.stream_store.specs.Base.{IsBase, IsBaseOf}
 use Rattle.stream_store.specs.Committing.{IsNextBatch}
 use Rattle.stream_store.specs.Holding.{Holds}
-use Rattle.stream_store.specs.Staging.{AreBehindLogs, DropsUnused, IsStaged}
+use Rattle.stream_store.specs.Staging.{AreBehindLogs, DropsUnused, IsPrepared}
 use Rattle.stream_store.specs.Steps.{steps_of, with_steps}
 use Rattle.stream_store.specs.StoreState.{StoreState}
 use Rattle.stream_store.specs.declared.staging.Staged.{Staged}
@@ -32,8 +34,8 @@ use Rattle.stream_store.specs.declared.steps.Step.{Step}
 use Rattle.stream_store.proofs.Committing.{IsPlanned, OneOfBoth, base_dropped, base_late, commits, dropping_leaves, settled_mid, writing_leaves}
 
 module _ (store : StoreState) (effects : List Effect) (staged : Staged) (base next : Durable) (old : Disk) (k : IsBase store base old) (n : IsNextBatch base effects next)
-    (s : IsStaged store.blocks effects staged) where
-  plan : IsPlanned store.log store.blocks base next effects s.made old
+    (s : IsPrepared store.blocks effects staged) where
+  pub plan : IsPlanned store.log store.blocks base next effects s.made old
   plan = record { base_is = k; next_is = n; planned = s.planned }
 
   -- each run begins within its file
@@ -44,20 +46,20 @@ module _ (store : StoreState) (effects : List Effect) (staged : Staged) (base ne
   abbrev after : Blocks
   after = with_steps staged.steps.items store.blocks
 
-  after_is : with_steps (steps_of effects (spots_in s.made.records)) store.blocks ≡ after
+  pub after_is : with_steps (steps_of effects (spots_in s.made.records)) store.blocks ≡ after
   after_is = ap (λ (l : List Step). with_steps l store.blocks) (sym s.steps)
 
   -- ---- the runs are written
 
   module _ (mid : Disk) (changes : ChangesRuns staged.runs.items old mid) where
-    changes_made : ChangesRuns s.made.runs old mid
+    pub changes_made : ChangesRuns s.made.runs old mid
     changes_made = subst (λ (l : List Run). ChangesRuns l old mid) s.runs changes
 
     pub writing : LeavesOnly old mid (OneOfBoth base next)
     writing = writing_leaves store.log store.blocks base next effects s.made old plan mid changes_made
 
     module _ (bytes : All (λ run. AreBytes run.bytes) staged.runs.items) (written : All (IsWritten old mid) staged.runs.items) where
-      has : HasStored store.blocks effects s.made.records old mid
+      pub has : HasStored store.blocks effects s.made.records old mid
       has =
           law_plans.written store.blocks effects s.made old mid s.planned k.stand changes_made (subst (λ (l : List Run). All (λ run. AreBytes run.bytes) l) s.runs bytes)
           (subst (λ (l : List Run). All (IsWritten old mid) l) s.runs written)
@@ -67,20 +69,21 @@ module _ (store : StoreState) (effects : List Effect) (staged : Staged) (base ne
 
       -- ---- the batch is appended
 
-      module _ (honest : IsHonest mid) (fits : store.log.end + 6 + length staged.batch ≤ 2 ^ 31) where
+      module _ (batch_is : staged.batch ≡ flat_map spelled_record s.made.records) (are_bytes : All (λ byte. byte < 256) staged.batch) (honest : IsHonest mid)
+          (fits : store.log.end + 10 + length staged.batch ≤ 2 ^ 31) where
         few : IsBatch staged.batch
-        few = record { are_bytes = s.bytes; short = omega (arith, fits) }
+        few = record { are_bytes = are_bytes; short = omega (arith, fits) }
 
         module _ (late : Disk) (appends : AppendsTo store.log staged.batch mid late) where
           pub appending : LeavesOnly old late (OneOfBoth base next)
-          appending = commits store.log store.blocks base next effects s.made old plan mid changes_made has honest staged.batch s.batch few late appends
+          appending = commits store.log store.blocks base next effects s.made old plan mid changes_made has honest staged.batch batch_is few late appends
 
           module _ (log : LogState) (log_is : log ≡ with_batch store.log (length staged.batch)) (appended : IsAppended store.log log staged.batch mid late) where
             pub late_base : IsBaseOf log after next late
             unfolding settled_then plan
             late_base =
                 subst (λ (b : Blocks). IsBaseOf log b next late) after_is
-                (base_late store.log store.blocks base next effects s.made old plan mid changes_made has honest staged.batch s.batch few late appends log log_is (appended k.settled.0 settled_then.1))
+                (base_late store.log store.blocks base next effects s.made old plan mid changes_made has honest staged.batch batch_is few late appends log log_is (appended k.settled.0 settled_then.1))
 
 -- ---- unused blocks are dropped
 

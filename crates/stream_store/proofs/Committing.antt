@@ -44,9 +44,10 @@ use Rattle.block_writing.proofs.Commits.{end_free, law_plans}
 use Rattle.message_block.specs.Standing.{Stands}
 use Rattle.message_block.proofs.Standing.{stands_at_rest}
 use Rattle.log_records.specs.Batches.{Adds, Gives}
-use Rattle.log_records.specs.Logged.{Logged}
+use Rattle.log_records.specs.Logged.{IsLogged, Logged}
 use Rattle.log_records.specs.Unread.{stored_messages}
 use Rattle.log_records.proofs.Reaching.{add_push}
+use Rattle.log_records.proofs.Following.{law_begins}
 use Rattle.log_records.proofs.Unreading.{law_unread}
 use Rattle.stream_store.specs.Holding.{Holds, last_in, last_of, logged}
 use Rattle.stream_store.specs.Base.{IsBaseOf}
@@ -55,15 +56,15 @@ use Rattle.stream_store.specs.Committing.{IsNextBatch}
 use Rattle.stream_store.specs.Logs.{is_first}
 use Rattle.stream_store.specs.Staging.{AreBehindLogs, DropsUnused}
 use Rattle.stream_store.specs.Steps.{steps_of, with_steps}
-use Rattle.stream_store.proofs.Basing.{IsNow, all_hold, base_of, base_gives, has_logs_by, holds_by, holds_now, now_of, now_with}
+use Rattle.stream_store.proofs.Basing.{IsNow, all_hold, base_begun, base_of, base_gives, has_logs_by, holds_by, holds_now, now_of, now_with}
 use Rattle.stream_store.proofs.Blocks.{IsFirm, IsSame, firm_blocks, same_fronts, stored_moved}
 use Rattle.stream_store.proofs.Folding.{AreNext, goes_on_by}
 use Rattle.stream_store.proofs.Recorded.{IsEnd, IsState, all_states}
 
 -- ---- logs with an open batch
 
-begun_by : (log : LogState) → IsSome (generation_of log) → generation_of log ≡ log.head
-begun_by log begun = go (log.end == 16) begun
+pub begun_by : (log : LogState) → IsSome (generation_of log) → generation_of log ≡ log.head
+begun_by log begun = go (log.end == 20) begun
   where
     go : (b : Bool) → IsSome (cond b None log.head) → cond b None log.head ≡ log.head
     go true h = absurd (true≢false (sym h))
@@ -71,10 +72,10 @@ begun_by log begun = go (log.end == 16) begun
 
 -- the generation stays
 further : (log after : LogState) (batches : List Bytes) (disk : Disk) (count : ℕ) → IsSettled log batches disk → after ≡ with_batch log count → generation_of after ≡ log.head
-further log after batches disk count settled e = ap generation_of e ∙ go (log.end + 5 + count == 16) refl
+further log after batches disk count settled e = ap generation_of e ∙ go (log.end + 9 + count == 20) refl
   where
-    go : (b : Bool) → (log.end + 5 + count == 16) ≡ b → cond b None log.head ≡ log.head
-    go true is = let sum : log.end + 5 + count ≡ 16 = eqb-true (log.end + 5 + count) 16 is in absurd (omega (arith, sum, settled.end))
+    go : (b : Bool) → (log.end + 9 + count == 20) ≡ b → cond b None log.head ≡ log.head
+    go true is = let sum : log.end + 9 + count ≡ 20 = eqb-true (log.end + 9 + count) 20 is in absurd (omega (arith, sum, settled.end))
     go false is = refl
 
 -- ---- the batches with one more
@@ -83,17 +84,17 @@ pub gives_more : (batches : List Bytes) (records : Bytes) (base next : Logged) �
 gives_more [] records base next some gives adds = absurd (some refl)
 gives_more (first ∷ later) records base next some (begun, begins, added) adds = (begun, begins, add_push begun base next later records added adds)
 
-has_some : (bytes : Bytes) (g : Option ℕ) (batches : List Bytes) → HasOpen bytes g batches → IsSome g → batches ≢ []
+pub has_some : (bytes : Bytes) (g : Option ℕ) (batches : List Bytes) → HasOpen bytes g batches → IsSome g → batches ≢ []
 has_some bytes None batches h some e = absurd (true≢false (sym some))
 has_some bytes (Some g) [] h some e = absurd h
 has_some bytes (Some g) (b ∷ bs) h some e = absurd (cc)
 
 -- a log of open batches is read as these
-opens : (bytes : Bytes) (g : ℕ) (batches : List Bytes) → batches ≢ [] → IsLog g batches bytes → HasOpen bytes (Some g) batches
+pub opens : (bytes : Bytes) (g : ℕ) (batches : List Bytes) → batches ≢ [] → IsLog g batches bytes → HasOpen bytes (Some g) batches
 opens bytes g [] some h = absurd (some refl)
 opens bytes g (b ∷ bs) some h = h
 
-pushed_some : (batches : List Bytes) (records : Bytes) → batches ++ records ∷ [] ≢ []
+pub pushed_some : (batches : List Bytes) (records : Bytes) → batches ++ records ∷ [] ≢ []
 pushed_some [] records e = absurd (cc)
 pushed_some (b ∷ bs) records e = absurd (cc)
 
@@ -108,10 +109,10 @@ commits_nothing log b base next old k clocked = started old (OneOfBoth base next
 
 -- ---- files that rest
 
-durable_by : (file : ℕ) (old new : Disk) → Rests file old new → IsDurable old file → IsDurable new file
+pub durable_by : (file : ℕ) (old new : Disk) → Rests file old new → IsDurable old file → IsDurable new file
 durable_by file old new r h bytes left = h bytes (r.leaves bytes left) ∙ sym r.seen
 
-settled_by : (log : LogState) (batches : List Bytes) (old new : Disk) → Rests log.file old new → IsSettled log batches old → IsSettled log batches new
+pub settled_by : (log : LogState) (batches : List Bytes) (old new : Disk) → Rests log.file old new → IsSettled log batches old → IsSettled log batches new
 settled_by log batches old new r s = record {
   read = subst (λ (l : Bytes). HasOpen l (generation_of log) batches) (sym r.seen) s.read;
   head = subst (λ (l : Bytes). IfSome log.head (λ generation. IsLog generation batches l)) (sym r.seen) s.head;
@@ -164,7 +165,7 @@ module _ (log : LogState) (b : Blocks) (base next : Durable) (effects : List Eff
   keeps_base : (image : Files) → KeepsBlocks b old image → Holds image base
   keeps_base image h =
       let k = w.base_is in
-      (b, holds_by old.seen image b base k.table (k.durable_zero (image 0) (h.logs 0 (omega arith))) (k.durable_one (image 1) (h.logs 1 (omega arith))) (same_fronts b old image k.table k.stand h.blocks) k.holds)
+      (b, holds_by old.seen image b base k.table (k.durable_zero (image 0) (h.logs 0 (omega arith))) (k.durable_one (image 1) (h.logs 1 (omega arith))) (same_fronts b old image k.table k.stand h.blocks) (base_begun log old b base k) k.holds)
 
   -- while the runs are written
   pub writing_leaves : (mid : Disk) → ChangesRuns made.runs old mid → LeavesOnly old mid (OneOfBoth base next)
@@ -208,7 +209,7 @@ module _ (log : LogState) (b : Blocks) (base next : Durable) (effects : List Eff
     end_of x h =
         all_states x mid.seen b effects (placing b) made.records made.placing base next b (first_state x h) next_records w.planned.allowed w.next_is.folded h.messages has.read.messages
 
-    here : IsEnd mid.seen mid.seen b made.placing made.records base next b after
+    pub here : IsEnd mid.seen mid.seen b made.placing made.records base next b after
     here = end_of mid.seen has.read
 
     adds : (records : Bytes) → records ≡ flat_map spelled_record made.records → IsBatch records → Adds (logged base b) records (logged next after)
@@ -221,7 +222,7 @@ module _ (log : LogState) (b : Blocks) (base next : Durable) (effects : List Eff
 
     -- ---- on the disk
 
-    rests_low : (file : ℕ) → file < 2 → Rests file old mid
+    pub rests_low : (file : ℕ) → file < 2 → Rests file old mid
     rests_low file low = changes.elsewhere file (untouched file low)
 
     pub settled_mid : (batches : List Bytes) → IsSettled log batches old → IsSettled log batches mid
@@ -253,34 +254,57 @@ module _ (log : LogState) (b : Blocks) (base next : Durable) (effects : List Eff
 
     -- ---- while the batch is appended
 
-    module _ (honest : IsHonest mid) (image : Files) (e : Elsewhere log.file mid image) where
+    module _ (honest : IsHonest mid) (image : Files) (file : ℕ) (low : file < 2) (e : Elsewhere file mid image) where
       -- the same with the log as it reads
       abbrev without_log : Files
-      without_log = λ f. cond (f == log.file) (mid.seen f) (image f)
+      without_log = λ f. cond (f == file) (mid.seen f) (image f)
 
       left_without : (f : ℕ) → mid.leaves f (without_log f)
-      left_without f = go (f == log.file) refl
+      left_without f = go (f == file) refl
         where
-          go : (t : Bool) → (f == log.file) ≡ t → mid.leaves f (cond t (mid.seen f) (image f))
+          go : (t : Bool) → (f == file) ≡ t → mid.leaves f (cond t (mid.seen f) (image f))
           go true is = honest f
-          go false is = e f (λ same. true≢false (sym (eq-eqb f log.file same) ∙ is))
+          go false is = e f (λ same. true≢false (sym (eq-eqb f file same) ∙ is))
 
       -- no block is the log
       same_blocks : (c : Blocks) → IsTable c → All (IsSame without_log image) (blocks c)
       same_blocks c table = λ i d within.
           let k = slice_index_or (blocks c) i d in
-          let file : IsFile k.file = table.files i d within in
-          let low = log_low log b base old w.base_is in
-          let apart : (k.file == log.file) ≡ false = ne_eqb k.file log.file (λ is. omega (arith, is, file.low, low)) in
+          let block : IsFile k.file = table.blocks_are.files i d within in
+          let apart : (k.file == file) ≡ false = ne_eqb k.file file (λ is. omega (arith, is, block.low, low)) in
           ap (λ (t : Bool). take k.end (cond t (mid.seen k.file) (image k.file))) (sym apart)
 
-      stored_base : AreStoredIn image b (last_of base) (stored_messages base)
+      pub stored_base : AreStoredIn image b (last_of base) (stored_messages base)
       stored_base =
           stored_moved without_log image b (last_of base) (stored_messages base) w.base_is.table (same_blocks b w.base_is.table) (first_state without_log (has.left without_log left_without)).stored
 
-      stored_next : AreStoredIn image after (last_of next) (stored_messages next)
+      pub stored_next : AreStoredIn image after (last_of next) (stored_messages next)
       stored_next =
           stored_moved without_log image after (last_of next) (stored_messages next) here.state.table (same_blocks after here.state.table) (end_of without_log (has.left without_log left_without)).state.stored
+
+    -- ---- once a file of a log is written, and no other
+
+    module _ (late : Disk) (file : ℕ) (low : file < 2) (elsewhere : (other : ℕ) → other ≢ file → Rests other mid late) where
+      pub firm_late : IsHonest mid → All (IsFirm late) (blocks after)
+      firm_late honest = λ i d within.
+          let k = slice_index_or (blocks after) i d in
+          let block : IsFile k.file = here.state.table.blocks_are.files i d within in
+          firm_by k mid late (elsewhere k.file (λ is. omega (arith, is, block.low, low))) (firm_mid honest i d within)
+
+      pub stored_late : AreStoredIn late.seen after (last_of next) (stored_messages next)
+      stored_late =
+          stored_moved mid.seen late.seen after (last_of next) (stored_messages next) here.state.table
+          (λ i d within.
+          let k = slice_index_or (blocks after) i d in
+          let block : IsFile k.file = here.state.table.blocks_are.files i d within in
+          ap (take k.end) (elsewhere k.file (λ is. omega (arith, is, block.low, low))).seen) here.state.stored
+
+    log_is_low : log.file < 2
+    log_is_low = log_low log b base old w.base_is
+
+    -- what is told then
+    pub given_next : IsLogged (logged next after)
+    given_next = law_begins.logged made.records (logged base b) (logged next after) here.stand here.folded w.base_is.given
 
     abbrev batches : List Bytes
     batches = w.base_is.settled.0
@@ -305,14 +329,14 @@ module _ (log : LogState) (b : Blocks) (base next : Durable) (effects : List Eff
       one_of_both : (g : ℕ) → log.head ≡ Some g → (image : Files) → IsWithOrWithout g batches records (image log.file) → Elsewhere log.file mid image → OneOfBoth base next image
       one_of_both g head image (inl without) e =
           let open_log = subst (λ (o : Option ℕ). HasOpen (image log.file) o batches) (sym (begun_by log w.base_is.begun ∙ head)) (opens (image log.file) g batches some without) in
-          inl (b, holds_now log batches image b base (now_with log batches batches old.seen image now open_log (other_log image e)) gives (stored_base honest image e) w.base_is.holds.openable)
+          inl (b, holds_now log batches image b base (now_with log batches batches old.seen image now open_log (other_log image e)) w.base_is.begun gives (stored_base honest image log.file log_is_low e) w.base_is.holds.openable)
       one_of_both g head image (inr longer) e =
           let more = batches ++ records ∷ [] in
           let open_log = subst (λ (o : Option ℕ). HasOpen (image log.file) o more) (sym (begun_by log w.base_is.begun ∙ head)) (opens (image log.file) g more (pushed_some batches records) longer) in
           inr (
             after,
-            holds_now log more image after next (now_with log batches more old.seen image now open_log (other_log image e))
-                (gives_more batches records (logged base b) (logged next after) some gives (adds records are few)) (stored_next honest image e) w.next_is.openable,
+            holds_now log more image after next (now_with log batches more old.seen image now open_log (other_log image e)) w.base_is.begun
+                (gives_more batches records (logged base b) (logged next after) some gives (adds records are few)) (stored_next honest image log.file log_is_low e) w.next_is.openable,
           )
 
       by_head : (head : Option ℕ) → log.head ≡ head → (image : Files) → IfSome head (λ g. IsWithOrWithout g batches records (image log.file)) → Elsewhere log.file mid image → OneOfBoth base next image
@@ -335,22 +359,6 @@ module _ (log : LogState) (b : Blocks) (base next : Durable) (effects : List Eff
           (settled : IsSettled log_after (batches ++ records ∷ []) late) where
         elsewhere : (other : ℕ) → other ≢ log.file → Rests other mid late
         elsewhere = (appends batches (settled_mid batches w.base_is.settled.1)).elsewhere
-
-        firm_late : All (IsFirm late) (blocks after)
-        firm_late = λ i d within.
-            let k = slice_index_or (blocks after) i d in
-            let file : IsFile k.file = here.state.table.files i d within in
-            let low = log_low log b base old w.base_is in
-            firm_by k mid late (elsewhere k.file (λ is. omega (arith, is, file.low, low))) (firm_mid honest i d within)
-
-        stored_late : AreStoredIn late.seen after (last_of next) (stored_messages next)
-        stored_late =
-            stored_moved mid.seen late.seen after (last_of next) (stored_messages next) here.state.table
-            (λ i d within.
-            let k = slice_index_or (blocks after) i d in
-            let file : IsFile k.file = here.state.table.files i d within in
-            let low = log_low log b base old w.base_is in
-            ap (take k.end) (elsewhere k.file (λ is. omega (arith, is, file.low, low))).seen) here.state.stored
 
         log_file : log_after.file ≡ log.file
         log_file = ap (λ (l : LogState). l.file) log_is
@@ -389,7 +397,7 @@ module _ (log : LogState) (b : Blocks) (base next : Durable) (effects : List Eff
             base_of log_after (batches ++ records ∷ []) late after next now_late settled (subst IsSome (sym generation_same) w.base_is.begun)
             (both_durable 0 (omega arith) w.base_is.durable_zero) (both_durable 1 (omega arith) w.base_is.durable_one)
             (gives_more batches records (logged base b) (logged next after) some gives (adds records are few))
-            (record { table = here.state.table; stand = firm_blocks after late firm_late; storable = w.next_is.storable; stored = stored_late; openable = w.next_is.openable })
+            (record { table = here.state.table; stand = firm_blocks after late (firm_late late log.file log_is_low elsewhere honest); storable = w.next_is.storable; given = given_next; stored = stored_late late log.file log_is_low elsewhere; openable = w.next_is.openable })
 
 -- a file in which no block is begins with nothing
 starts_none : (b : Blocks) (image seen : Files) (file : ℕ) → has_block b file ≡ false → StartsWith (image file) (front_in b seen file)
@@ -398,29 +406,23 @@ starts_none b image seen file none = subst (λ (n : ℕ). StartsWith (image file
 -- ---- while no log and no block is touched
 
 module _ (log : LogState) (b : Blocks) (d : Durable) (old new : Disk) (k : IsBaseOf log b d old) where
-  starts : (image : Files) → ((file : ℕ) → has_block b file ≡ true → StartsWith (image file) (front_in b old.seen file)) → (file : ℕ) → StartsWith (image file) (front_in b old.seen file)
+  pub starts : (image : Files) → ((file : ℕ) → has_block b file ≡ true → StartsWith (image file) (front_in b old.seen file)) → (file : ℕ) → StartsWith (image file) (front_in b old.seen file)
   starts image used file = go (has_block b file) refl
     where
       go : (t : Bool) → has_block b file ≡ t → StartsWith (image file) (front_in b old.seen file)
       go true e = used file e
       go false e = starts_none b image old.seen file e
 
-  pub spared_leaves : LeavesOnly old new (AreUsedLeft b old) → LeavesOnly old new (λ image. Holds image d)
-  spared_leaves leaves = widened old new (λ image. Holds image d) (AreUsedLeft b old) leaves (λ image h.
+  pub spared_leaves : LeavesOnly old new (AreUsedLeft (IsUsed b) old) → LeavesOnly old new (λ image. Holds image d)
+  spared_leaves leaves = widened old new (λ image. Holds image d) (AreUsedLeft (IsUsed b) old) leaves (λ image h.
       let used = λ (file : ℕ) (has : has_block b file ≡ true). (k.stand.stand file).left (image file) (h file (inr has)) in (
         b,
         holds_by old.seen image b d k.table (k.durable_zero (image 0) (h 0 (inl (omega arith)))) (k.durable_one (image 1) (h 1 (inl (omega arith))))
-            (same_fronts b old image k.table k.stand (starts image used)) k.holds,
+            (same_fronts b old image k.table k.stand (starts image used)) (base_begun log old b d k) k.holds,
       ))
 
-  module _ (spared : (file : ℕ) → IsUsed b file → Rests file old new) where
-    rests_log : (file : ℕ) → file < 2 → Rests file old new
-    rests_log file low = spared file (inl low)
-
-    rests_block : (file : ℕ) → has_block b file ≡ true → Rests file old new
-    rests_block file has = spared file (inr has)
-
-    stand_new : BlocksStand b new
+  module _ (rests_block : (file : ℕ) → has_block b file ≡ true → Rests file old new) where
+    pub stand_new : BlocksStand b new
     stand_new = record { long = long; stand = stand }
       where
         long : (file : ℕ) → end_in b file ≤ length (new.seen file)
@@ -439,14 +441,25 @@ module _ (log : LogState) (b : Blocks) (d : Durable) (old new : Disk) (k : IsBas
                 (stands_at_rest file old new (front_in b old.seen file) (rests_block file e) (k.stand.stand file))
             go false e = record { read = starts_none b new.seen new.seen file e; left = λ bytes is. starts_none b (λ f. bytes) new.seen file e }
 
+    pub used_new : (file : ℕ) → has_block b file ≡ true → StartsWith (new.seen file) (front_in b old.seen file)
+    used_new file has = subst (λ (l : Bytes). StartsWith l (front_in b old.seen file)) (sym (rests_block file has).seen) (k.stand.stand file).read
+
+  module _ (spared : (file : ℕ) → IsUsed b file → Rests file old new) where
+    rests_log : (file : ℕ) → file < 2 → Rests file old new
+    rests_log file low = spared file (inl low)
+
+    rests_block : (file : ℕ) → has_block b file ≡ true → Rests file old new
+    rests_block file has = spared file (inr has)
+
     pub base_spared : IsBaseOf log b d new
     base_spared =
         let zero = rests_log 0 (omega arith) in
         let one = rests_log 1 (omega arith) in
         let durable_zero = durable_by 0 old new zero k.durable_zero in
         let durable_one = durable_by 1 old new one k.durable_one in
-        let used = λ (file : ℕ) (has : has_block b file ≡ true). subst (λ (l : Bytes). StartsWith l (front_in b old.seen file)) (sym (rests_block file has).seen) (k.stand.stand file).read in
-        let holds = holds_by old.seen new.seen b d k.table zero.seen one.seen (same_fronts b old new.seen k.table k.stand (starts new.seen used)) k.holds in
+        let used = used_new rests_block in
+        let stands = stand_new rests_block in
+        let holds = holds_by old.seen new.seen b d k.table zero.seen one.seen (same_fronts b old new.seen k.table k.stand (starts new.seen used)) (base_begun log old b d k) k.holds in
         record {
           settled = (k.settled.0, settled_by log k.settled.0 old new (rests_log log.file (log_low log b d old k)) k.settled.1);
           begun = k.begun;
@@ -454,10 +467,13 @@ module _ (log : LogState) (b : Blocks) (d : Durable) (old new : Disk) (k : IsBas
           durable_zero = durable_zero;
           durable_one = durable_one;
           table = k.table;
-          stand = stand_new;
+          stand = stands;
           storable = k.storable;
+          given = k.given;
           holds = holds;
-          images = all_hold new b d durable_zero durable_one k.table stand_new holds;
+          images =
+              all_hold new b d durable_zero durable_one k.table stands
+              (λ zero_log one_log logs. base_begun log old b d k zero_log one_log (has_logs_by new.seen old.seen zero_log one_log (sym zero.seen) (sym one.seen) logs)) holds;
         }
 
 -- ---- while unused blocks are dropped
@@ -473,7 +489,7 @@ drops_nothing b disk clocked = record {
 }
 
 -- no log and no block is among them
-kept_used : (b : Blocks) (ks : List Block) (file : ℕ) → AreBehindLogs ks → IsUsed b file → is_unused b ks file ≡ false
+pub kept_used : (b : Blocks) (ks : List Block) (file : ℕ) → AreBehindLogs ks → IsUsed b file → is_unused b ks file ≡ false
 kept_used b ks file behind (inl low) = ap (λ (t : Bool). t && not (has_block b file)) (none ks behind)
   where
     none : (ks : List Block) → AreBehindLogs ks → is_among ks file ≡ false
@@ -490,7 +506,7 @@ kept_used b ks file behind (inr has) = go (is_among ks file)
 module _ (log : LogState) (b : Blocks) (d : Durable) (old new : Disk) (ks : List Block) (k : IsBaseOf log b d old) (behind : AreBehindLogs ks) (changes : ChangesUnused b ks old new) where
   pub dropping_leaves : LeavesOnly old new (λ image. Holds image d)
   dropping_leaves =
-      spared_leaves log b d old new k (widened old new (AreUsedLeft b old) (AreUsedKept b ks old) changes.any_moment (λ image h file is. h file (kept_used b ks file behind is)))
+      spared_leaves log b d old new k (widened old new (AreUsedLeft (IsUsed b) old) (AreUsedKept b ks old) changes.any_moment (λ image h file is. h file (kept_used b ks file behind is)))
 
   pub base_dropped : IsBaseOf log b d new
   base_dropped = base_spared log b d old new k (λ file is. changes.elsewhere file (kept_used b ks file behind is))

@@ -1,5 +1,5 @@
 -- The current log as it is found, and the faults of both.
-use Rattle.std.proofs.Common.{◌≡◌, ◌==◌, inl, inr, ℕ, Bool, true, false, cond, List, [], ◌∷◌, Option, Some, None, Result, Err, All, take, option_map, refl, sym, ap, subst, ◌∙◌, arith, length-take}
+use Rattle.std.proofs.Common.{◌≡◌, ◌⊎◌, ◌==◌, inl, inr, ℕ, Bool, true, false, cond, List, [], ◌∷◌, Option, Some, None, Result, Err, All, take, option_map, refl, sym, ap, subst, ◌∙◌, arith, length-take}
 use Rattle.std.specs.Prelude.{IsSome}
 use Rattle.std.proofs.Math.Path.{fun_ext}
 use Rattle.std.proofs.lemmas.Bool.{eq-eqb}
@@ -31,7 +31,7 @@ use Rattle.block_reading.specs.Damage.{AreDamaged}
 use Rattle.block_reading.specs.Standing.{AreStoredIn, IsWhole, written_in}
 use Rattle.block_reading.proofs.Within.{follow_within}
 use Rattle.log_records.specs.Batches.{Gives}
-use Rattle.log_records.specs.Logged.{Logged, beginning}
+use Rattle.log_records.specs.Logged.{IsLogged, Logged, beginning}
 use Rattle.log_records.specs.Unread.{unread, unread_body, stored_messages}
 use Rattle.log_records.proofs.OneBad.{law_batches}
 use Rattle.log_records.specs.Holding.{given_in}
@@ -48,14 +48,16 @@ use Rattle.stream_store.specs.Holding.{Holds, last_of, logged}
 use Rattle.stream_store.specs.Base.{IsBaseOf}
 use Rattle.stream_store.specs.Beginning.{IsUnbegun, IsOutsideFault}
 use Rattle.stream_store.specs.Faults.{blocks_fault, open_fault, records_fault}
-use Rattle.stream_store.specs.Finding.{IsCurrent, IsFaultIn, IsLogFault, IsRecordsFault}
-use Rattle.stream_store.specs.Opening.{IsNoneOpen, IsOpenFault}
+use Rattle.stream_store.specs.Finding.{IsCurrent, IsFaultIn, IsFaultWhere, IsLogFault, IsRecordsFault}
+use Rattle.stream_store.specs.Opening.{IsOpenFault}
+use Rattle.stream_store.specs.Untouched.{AreBlocksGone, IsNoneOpen, IsTouchedAt, IsUntouched}
 use Rattle.stream_store.specs.declared.fault.OpenFault.{OpenFault}
 use Rattle.stream_store.specs.declared.fault.OpenFault.TheVariants.{Fault, Damaged, UnknownVersion, NoMemory as OutOfMemory}
 use Rattle.stream_store.specs.Reading.{AreSynced, IsBlocksFault, IsFound, IsStoredBy}
 use Rattle.stream_store.specs.declared.logs.Current.{Current}
 use Rattle.stream_store.specs.declared.reading.Found.{Found}
 use Rattle.stream_store.proofs.OneReading.{log_same}
+use Rattle.stream_store.proofs.Vacant.{no_batches}
 use Rattle.stream_store.proofs.Basing.{IsNow, base_of, has_logs_by, current_has}
 use Rattle.stream_store.proofs.Blocks.{IsFirm, firm_blocks}
 
@@ -251,13 +253,14 @@ module _ (found : Current) (old mid new : Disk) (c : IsCurrent found old mid) (s
   gives : Gives batches (logged f.durable f.table)
   gives = let last = is.last batches c.settled in law_batches.last batches (logged f.durable f.table) last.0 last.1
 
-  pub found_holds : Holds old.seen f.durable
-  found_holds = (
+  pub found_holds : IsSome (current c.zero c.one).generation ⊎ IsUntouched old.seen → Holds old.seen f.durable
+  found_holds begun = (
     f.table,
     record {
       zero = c.zero;
       one = c.one;
       logs = c.logs;
+      begun = begun;
       gives = gives;
       stored = subst (λ (x : Files). AreStoredIn x f.table (last_of f.durable) (stored_messages f.durable)) (fun_ext still.seen) is.stored;
       openable = is.openable;
@@ -270,11 +273,14 @@ module _ (found : Current) (old mid new : Disk) (c : IsCurrent found old mid) (s
       subst (λ (f : ℕ). HasLog (mid.seen f) (current c.zero c.one)) (sym (c.log_file ∙ c.file_is)) (current_has mid.seen c.zero c.one (has_logs_by old.seen mid.seen c.zero c.one (still.seen 0) (still.seen 1) c.logs)) in
       law.one_generation (mid.seen found.log.file) (current c.zero c.one).generation (generation_of found.log) batches batches has c.settled.read
 
+  pub some_begun : IsSome (generation_of found.log) → IsSome (current c.zero c.one).generation
+  some_begun some = subst IsSome (sym generation_is) some
+
   seen_is : (file : ℕ) → new.seen file ≡ old.seen file
   seen_is file = on.seen file ∙ still.seen file
 
-  pub found_base : IsSome (generation_of found.log) → AreSynced f.table new → IsTable f.table → IsStorable f.durable → IsBaseOf found.log f.table f.durable new
-  found_base begun synced table storable =
+  pub found_base : IsSome (generation_of found.log) → AreSynced f.table new → IsTable f.table → IsStorable f.durable → IsLogged (logged f.durable f.table) → IsBaseOf found.log f.table f.durable new
+  found_base begun synced table storable given =
       let now : IsNow found.log batches new.seen = record {
         zero = c.zero;
         one = c.one;
@@ -290,6 +296,7 @@ module _ (found : Current) (old mid new : Disk) (c : IsCurrent found old mid) (s
         table = table;
         stand = firm_blocks f.table new (firm new (last_of f.durable) f.table synced stored.whole);
         storable = storable;
+        given = given;
         stored = stored;
         openable = is.openable;
       })
@@ -303,30 +310,29 @@ module _ (found : Current) (old mid new : Disk) (c : IsCurrent found old mid) (s
   both_none (Some g) (Some h) true e k = absurd (none_some (sym k))
   both_none (Some g) (Some h) false e k = absurd (none_some (sym k))
 
-  none_current : generation_of found.log ≡ None → (c.zero.generation ≡ None) × (c.one.generation ≡ None)
-  none_current none = go (is_first c.zero.generation c.one.generation) refl (generation_is ∙ none)
+  none_both : generation_of found.log ≡ None → (c.zero.generation ≡ None) × (c.one.generation ≡ None)
+  none_both none = go (is_first c.zero.generation c.one.generation) refl (generation_is ∙ none)
     where
       go : (b : Bool) → is_first c.zero.generation c.one.generation ≡ b → (cond b c.zero c.one).generation ≡ None → (c.zero.generation ≡ None) × (c.one.generation ≡ None)
       go true e k = both_none c.zero.generation c.one.generation true e k
       go false e k = both_none c.zero.generation c.one.generation false e k
 
-  pub found_unbegun : generation_of found.log ≡ None → IsUnbegun new
-  found_unbegun none =
-      let both = none_current none in
+  pub found_unbegun : generation_of found.log ≡ None → IsUntouched old.seen → AreBlocksGone new → IsUnbegun new
+  found_unbegun none untouched gone =
+      let both = none_both none in
       record {
-        zero = c.zero;
-        one = c.one;
-        logs = has_logs_by old.seen new.seen c.zero c.one (seen_is 0) (seen_is 1) c.logs;
-        none_in_zero = both.0;
-        none_in_one = both.1;
+        none = record {
+          zero = c.zero;
+          one = c.one;
+          logs = has_logs_by old.seen new.seen c.zero c.one (seen_is 0) (seen_is 1) c.logs;
+          none_in_zero = both.0;
+          none_in_one = both.1;
+        };
         durable_zero = quiet_durable mid new 0 on c.durable_zero;
         durable_one = quiet_durable mid new 1 on c.durable_one;
+        untouched = subst IsUntouched (sym (fun_ext seen_is)) untouched;
+        gone = gone;
       }
-
-  no_batches : (bytes : Bytes) (g : Option ℕ) (bs : List Bytes) → HasOpen bytes g bs → g ≡ None → bs ≡ []
-  no_batches bytes None [] h e = refl
-  no_batches bytes None (b ∷ bs) h e = absurd h
-  no_batches bytes (Some g) bs h e = absurd (cc)
 
   -- the place is vacant, and has no blocks
   vacant_given : generation_of found.log ≡ None → logged f.durable f.table ≡ beginning 0
@@ -340,7 +346,7 @@ module _ (found : Current) (old mid new : Disk) (c : IsCurrent found old mid) (s
   found_no_blocks none = ap (λ (g : Logged). g.blocks) (vacant_given none)
 
   pub found_none_open : generation_of found.log ≡ None → IsNoneOpen old.seen
-  found_none_open none = let both = none_current none in record { zero = c.zero; one = c.one; logs = c.logs; none_in_zero = both.0; none_in_one = both.1 }
+  found_none_open none = let both = none_both none in record { zero = c.zero; one = c.one; logs = c.logs; none_in_zero = both.0; none_in_one = both.1 }
 
   pub not_begun : IsNoneOpen old.seen → generation_of found.log ≡ None
   not_begun n =
@@ -359,7 +365,7 @@ records_fault_of found old mid still Fault c h = tt
 records_fault_of found old mid still (Damaged file at) c h =
     let batches = (current c.zero c.one).batches in
     let there = subst (λ (n : ℕ). IsBadLogged mid.seen n batches file at) c.file_is (h batches c.settled) in
-    inr (record { zero = c.zero; one = c.one; logs = c.logs; bad = subst (λ (x : Files). IsBadLogged x (current_file c.zero c.one) batches file at) (fun_ext still.seen) there })
+    inr (inl (record { zero = c.zero; one = c.one; logs = c.logs; bad = subst (λ (x : Files). IsBadLogged x (current_file c.zero c.one) batches file at) (fun_ext still.seen) there }))
 records_fault_of found old mid still (UnknownVersion n) c h = absurd h
 records_fault_of found old mid still OutOfMemory c h = tt
 
@@ -368,6 +374,13 @@ log_fault_of image Fault h = tt
 log_fault_of image (Damaged file at) h = inl h
 log_fault_of image (UnknownVersion n) h = h
 log_fault_of image OutOfMemory h = absurd h
+
+-- a stream is missing
+pub touched_of : (image : Files) (fault : OpenFault) → IsNoneOpen image → IsFaultWhere (IsTouchedAt image) fault → IsOpenFault image fault
+touched_of image Fault none h = tt
+touched_of image (Damaged file at) none h = inr (inr (record { none = none; touched = h }))
+touched_of image (UnknownVersion n) none h = absurd h
+touched_of image OutOfMemory none h = absurd h
 
 pub outside_of : (image : Files) (fault : OpenFault) → IsOutsideFault fault → IsOpenFault image fault
 outside_of image Fault h = tt

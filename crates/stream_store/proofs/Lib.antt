@@ -1,4 +1,5 @@
 pub mod OneReading
+pub mod Vacant
 pub mod OneVolume
 pub mod Behind
 pub mod Blocks
@@ -15,7 +16,14 @@ pub mod Recorded
 pub mod Counting
 pub mod Committing
 pub mod Committed
+pub mod Alternated
+pub mod StagedNext
 pub mod Unused
 pub mod Cleared
 pub mod Finding
 pub mod Beginning
+pub mod Alternations
+pub mod Untouched
+pub mod Closed
+pub mod Spots
+pub mod Faults

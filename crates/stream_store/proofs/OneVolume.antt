@@ -1,11 +1,13 @@
 -- An image that holds something is not damaged, and the first fault of a volume is one.
-use Rattle.std.proofs.Common.{◌≡◌, ◌⊎◌, inl, inr, ℕ, List, sym, ap, ◌∙◌, subst}
+use Rattle.std.proofs.Common.{◌≡◌, ◌⊎◌, inl, inr, ℕ, List, [], refl, sym, ap, ◌∙◌, subst}
+use Rattle.std.specs.Prelude.{IsSome}
 use Rattle.vol_disk.specs.Disk.{Files}
 use Rattle.js_base.specs.Bytes.{Bytes}
 use Rattle.gate_log.specs.Faults.{IsDamagedAt}
 use Rattle.gate_log.proofs.OneReading.{law}
+use Rattle.effects.specs.Folding.{vacant}
 use Rattle.effects.specs.declared.durable.Durable.{Durable}
-use Rattle.block_table.specs.Blocks.{Blocks}
+use Rattle.block_table.specs.Blocks.{Blocks, no_blocks}
 use Rattle.block_reading.specs.Damage.{AreDamaged}
 use Rattle.block_reading.specs.Standing.{AreStoredIn}
 use Rattle.block_reading.proofs.OneReading.{law_stored}
@@ -16,10 +18,12 @@ use Rattle.log_records.proofs.OneBad.{law_batches}
 use Rattle.log_records.proofs.OneReading.{gives_same}
 use Rattle.stream_store.specs.Logs.{LogIn, HasLogs, current, current_file}
 use Rattle.stream_store.specs.Holding.{Holds, last_of, logged}
-use Rattle.stream_store.specs.Damage.{IsSomeLog, IsBadLog, IsBadLogged, HasBadBlocks, IsUnopenable, IsDamaged, IsOfAnotherVersion}
+use Rattle.stream_store.specs.Damage.{IsSomeLog, IsBadLog, IsBadLogged, IsBadVolume, HasBadBlocks, IsUnopenable, IsDamaged, IsOfAnotherVersion}
+use Rattle.stream_store.specs.Untouched.{IsNoneOpen, IsUntouched}
 use Rattle.durable_checks.specs.Storable.{IsOpenable}
 use Rattle.stream_store.specs.Laws.{LawHolding}
 use Rattle.stream_store.proofs.OneReading.{log_same, holds_same, known, one_log_fault, last_unread, told_unread, read_one}
+use Rattle.stream_store.proofs.Vacant.{IsOnePlace, holds_nothing, none_batches, none_begun, not_touched, nothing_stored, one_touched, vacant_opens}
 
 not_bad_log : (image : Files) (zero one : LogIn) (file at : ℕ) → HasLogs image zero one → IsBadLog image file (λ bytes. IsDamagedAt bytes at) → ⊥
 not_bad_log image zero one file at h bad = go bad.which
@@ -29,10 +33,6 @@ not_bad_log image zero one file at h bad = go bad.which
     go (inr (is, (log, damage))) = law.whole (image 1) one.generation one.batches at h.in_one damage
 
 -- ---- what is told of one list of batches
-
-record IsOnePlace (file other at place : ℕ) : Type 0 where
-  files : file ≡ other
-  offsets : at ≡ place
 
 module _ (image : Files) (log : ℕ) (batches : List Bytes) where
   -- blocks that have the messages are not damaged
@@ -77,11 +77,22 @@ module _ (image : Files) (log : ℕ) (batches : List Bytes) where
 
 pub no_damage : (image : Files) (d : Durable) (file at : ℕ) → Holds image d → IsDamaged image file at → ⊥
 no_damage image d file at (b, h) (inl bad) = not_bad_log image h.zero h.one file at h.logs bad
-no_damage image d file at (b, h) (inr bad) =
+no_damage image d file at (b, h) (inr (inr missing)) = go h.begun
+  where
+    go : IsSome (current h.zero h.one).generation ⊎ IsUntouched image → ⊥
+    go (inl some) = none_begun image missing.none h.zero h.one h.logs some
+    go (inr untouched) = not_touched image file at untouched missing.touched
+no_damage image d file at (b, h) (inr (inl bad)) =
     let zero = log_same (image 0) h.zero bad.zero h.logs.in_zero bad.logs.in_zero in
     let one = log_same (image 1) h.one bad.one h.logs.in_one bad.logs.in_one in
     let log : current h.zero h.one ≡ current bad.zero bad.one = ap (λ (l : LogIn). current l h.one) zero ∙ ap (λ (l : LogIn). current bad.zero l) one in
     none_bad image (current_file bad.zero bad.one) (current bad.zero bad.one).batches b d file at (subst (λ (l : LogIn). Gives l.batches (logged d b)) log h.gives) h.stored h.openable bad.bad
+
+-- without batches nothing is wrong with what a log tells
+none_bad_there : (image : Files) (file at : ℕ) → IsBadVolume image file at → IsNoneOpen image → ⊥
+none_bad_there image file at v none =
+    none_bad image (current_file v.zero v.one) [] no_blocks (vacant 0) file at refl (nothing_stored image) (vacant_opens 0)
+    (subst (λ (bs : List Bytes). IsBadLogged image (current_file v.zero v.one) bs file at) (none_batches image none v.zero v.one v.logs) v.bad)
 
 one_place : (image : Files) (file other at place : ℕ) → IsDamaged image file at → IsDamaged image other place → IsOnePlace file other at place
 one_place image file other at place (inl bad) (inl worse) = go bad.which worse.which
@@ -92,9 +103,14 @@ one_place image file other at place (inl bad) (inl worse) = go bad.which worse.w
     go (inl (is, d)) (inr (too, ((z, log), e))) = absurd (law.whole (image 0) z.generation z.batches at log d)
     go (inr (is, ((z, log), d))) (inl (too, e)) = absurd (law.whole (image 0) z.generation z.batches place log e)
     go (inr (is, (some, d))) (inr (too, (log, e))) = record { files = is ∙ sym too; offsets = law.one_offset (image 1) at place d e }
-one_place image file other at place (inl bad) (inr v) = absurd (not_bad_log image v.zero v.one file at v.logs bad)
-one_place image file other at place (inr v) (inl bad) = absurd (not_bad_log image v.zero v.one other place v.logs bad)
-one_place image file other at place (inr v) (inr w) =
+one_place image file other at place (inl bad) (inr (inl v)) = absurd (not_bad_log image v.zero v.one file at v.logs bad)
+one_place image file other at place (inl bad) (inr (inr m)) = absurd (not_bad_log image m.none.zero m.none.one file at m.none.logs bad)
+one_place image file other at place (inr (inl v)) (inl bad) = absurd (not_bad_log image v.zero v.one other place v.logs bad)
+one_place image file other at place (inr (inr m)) (inl bad) = absurd (not_bad_log image m.none.zero m.none.one other place m.none.logs bad)
+one_place image file other at place (inr (inl v)) (inr (inr m)) = absurd (none_bad_there image file at v m.none)
+one_place image file other at place (inr (inr m)) (inr (inl v)) = absurd (none_bad_there image other place v m.none)
+one_place image file other at place (inr (inr m)) (inr (inr n)) = one_touched image file other at place m.touched n.touched
+one_place image file other at place (inr (inl v)) (inr (inl w)) =
     let zero = log_same (image 0) v.zero w.zero v.logs.in_zero w.logs.in_zero in
     let one = log_same (image 1) v.one w.one v.logs.in_one w.logs.in_one in
     let log : current v.zero v.one ≡ current w.zero w.one = ap (λ (l : LogIn). current l v.one) zero ∙ ap (λ (l : LogIn). current w.zero l) one in
@@ -104,10 +120,12 @@ one_place image file other at place (inr v) (inr w) =
 
 one_fault : (image : Files) (file at n : ℕ) → IsDamaged image file at → IsOfAnotherVersion image n → ⊥
 one_fault image file at n (inl bad) k = one_log_fault image file at n bad k
-one_fault image file at n (inr bad) k = known image bad.zero bad.one n bad.logs k
+one_fault image file at n (inr (inl bad)) k = known image bad.zero bad.one n bad.logs k
+one_fault image file at n (inr (inr missing)) k = known image missing.none.zero missing.none.one n missing.none.logs k
 
 pub law_holding : LawHolding
 law_holding = record {
+  begins = holds_nothing;
   one = holds_same;
   whole = λ image d file at h k. no_damage image d file at h k;
   known = λ image d n h k. known image h.1.zero h.1.one n h.1.logs k;

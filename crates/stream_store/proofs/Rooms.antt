@@ -165,7 +165,7 @@ pub room_at_end : (b : Blocks) (es : List Effect) (i : ℕ) (p : Placing) (len :
 room_at_end b es i p len past so_far = ap (has_place b len) (sym (at_drop_all (λ (l : List Effect). placings b l (Some p)) es i past) ∙ so_far)
 
 -- the length of the message of these parts
-pub len_is : (seq at : ℕ) (subject headers payload : Bytes) (len : ℕ) → len ≡ 26 + (length subject + length headers + length payload) → len ≡ length (spelled_message (message_by seq at subject headers payload))
+pub len_is : (seq at : ℕ) (subject headers payload : Bytes) (len : ℕ) → len ≡ 30 + (length subject + length headers + length payload) → len ≡ length (spelled_message (message_by seq at subject headers payload))
 len_is seq at subject headers payload len is = is ∙ sym (spelled_len (message_by seq at subject headers payload))
 
 -- what a place that was asked comes to
@@ -180,7 +180,7 @@ short_parts seq at id subject headers payload is =
     let s = sizes (message_by seq at subject headers payload) (put_allowed seq at id subject headers payload is) in
     omega (arith, s.subject, s.content)
 
-pub placed_message : (b : Blocks) (p new : Placing) (seq at : ℕ) (id subject headers payload : Bytes) (len : ℕ) (spot : Option Spot) (some : Bool) → len ≡ 26 + (length subject + length headers + length payload)
+pub placed_message : (b : Blocks) (p new : Placing) (seq at : ℕ) (id subject headers payload : Bytes) (len : ℕ) (spot : Option Spot) (some : Bool) → len ≡ 30 + (length subject + length headers + length payload)
     → spot ≡ option_map (λ r. r.0) (place b len p) → new ≡ unwrap_or (option_map (λ r. r.1) (place b len p)) p → some ≡ is_some spot
     → placing_then b p (PutHere seq at id subject headers payload) ≡ cond some (Some new) None
 placed_message b p new seq at id subject headers payload len spot some is found rest some_is =

@@ -18,7 +18,7 @@ use Rattle.block_writing.specs.Planning.{Planned, begun, planned}
 use Rattle.block_writing.proofs.Commits.{law_plans}
 use Rattle.stream_store.specs.Committing.{batch_length}
 use Rattle.stream_store.specs.Placing.{blocks_by, blocks_then, can_place, plan_of}
-use Rattle.stream_store.specs.Staging.{AreBehindLogs, IsStaged, block_of, blocks_of}
+use Rattle.stream_store.specs.Staging.{AreBehindLogs, IsPrepared, IsStaged, block_of, blocks_of}
 use Rattle.stream_store.specs.Steps.{with_steps}
 use Rattle.stream_store.specs.declared.staging.Staged.{Staged}
 use Rattle.stream_store.specs.declared.steps.Step.{Step}
@@ -63,17 +63,17 @@ past_end fits n value none =
     omega (arith, refused)
 
 -- what was staged
-module _ (b : Blocks) (es : List Effect) (staged : Staged) (s : IsStaged b es staged) where
-  pub staged_length : length staged.batch ≡ batch_length es
-  staged_length = ap length s.batch ∙ plan_length b es s.made s.planned.made_is
+module _ (b : Blocks) (es : List Effect) (staged : Staged) where
+  pub staged_length : IsStaged b es staged → length staged.batch ≡ batch_length es
+  staged_length s = ap length s.batch ∙ plan_length b es s.prepared.made s.prepared.planned.made_is
 
-  pub staged_blocks : with_steps staged.steps.items b ≡ blocks_then b es
-  staged_blocks = ap (λ (l : List Step). with_steps l b) s.steps ∙ blocks_after b es s.made s.planned.made_is
+  pub staged_blocks : IsPrepared b es staged → with_steps staged.steps.items b ≡ blocks_then b es
+  staged_blocks s = ap (λ (l : List Step). with_steps l b) s.steps ∙ blocks_after b es s.made s.planned.made_is
 
 -- ---- the blocks that may be dropped
 
 behind_logs : (b : Blocks) (all : Bool) → IsTable b → AreBehindLogs (blocks_of all b)
-behind_logs b all table = go all (All-weaker (λ (k : Block). IsFile k.file) (λ k. 2 ≤ k.file) (λ k file. file.low) (blocks b) table.files)
+behind_logs b all table = go all (All-weaker (λ (k : Block). IsFile k.file) (λ k. 2 ≤ k.file) (λ k file. file.low) (blocks b) table.blocks_are.files)
   where
     second : (xs ys : List Block) → AreBehindLogs (xs ++ ys) → AreBehindLogs ys
     second [] ys h = h

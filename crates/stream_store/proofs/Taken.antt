@@ -1,7 +1,7 @@
 -- Steps that a table takes, and the steps of changes.
-use Rattle.std.proofs.Common.{◌≡◌, ◌≤◌, ◌<◌, ℕ, ◌+◌, List, [], ◌∷◌, ◌++◌, Option, Some, None, get_or, drop, length, refl, sym, ap, ◌∙◌}
+use Rattle.std.proofs.Common.{◌≡◌, ◌≤◌, ◌<◌, ℕ, ◌+◌, List, [], ◌∷◌, ◌++◌, Option, Some, None, get_or, drop, take, length, refl, sym, ap, ◌∙◌}
 use Rattle.std.specs.Prelude.{unwrap_or}
-use Rattle.std.proofs.lemmas.List.{at_drop_all, at_drop_more, append-nil, append_assoc}
+use Rattle.std.proofs.lemmas.List.{at_drop_all, at_drop_more, append-nil, append_assoc, take_more, take_all}
 use Rattle.js_base.specs.Bytes.{Bytes}
 use Rattle.js_base.specs.declared.spot.Spot.{Spot}
 use Rattle.effects.specs.declared.effect.Effect.{Effect}
@@ -72,3 +72,17 @@ module _ (steps : List Step) (es : List Effect) (i : ℕ) (e : Effect) (spots : 
 pub all_steps : (steps : List Step) (es : List Effect) (i : ℕ) (spots : List Spot) (used : ℕ) → length es ≤ i → AreSteps steps es i spots used → steps ≡ steps_of es spots
 all_steps steps es i spots used past so_far =
     sym (append-nil steps) ∙ sym (at_drop_all (λ (l : List Effect). steps ++ steps_of l (drop used spots)) es i past) ∙ so_far
+
+-- ---- steps that a copy of a table takes
+
+steps_push : (steps : List Step) (s : Step) (b : Blocks) → with_steps (steps ++ s ∷ []) b ≡ with_step s (with_steps steps b)
+steps_push [] s b = refl
+steps_push (x ∷ steps) s b = steps_push steps s (with_step x b)
+
+pub then_one : (steps : List Step) (i : ℕ) (d : Step) (b c new : Blocks) → i < length steps → c ≡ with_steps (take i steps) b → new ≡ with_step (get_or steps i d) c → new ≡ with_steps (take (i + 1) steps) b
+then_one steps i d b c new within so_far taken =
+    taken ∙ ap (with_step (get_or steps i d)) so_far ∙ sym (steps_push (take i steps) (get_or steps i d) b)
+    ∙ ap (λ (l : List Step). with_steps l b) (sym (take_more steps i d within))
+
+pub then_all : (steps : List Step) (i : ℕ) (b c : Blocks) → length steps ≤ i → c ≡ with_steps (take i steps) b → c ≡ with_steps steps b
+then_all steps i b c past so_far = so_far ∙ ap (λ (l : List Step). with_steps l b) (take_all i steps past)

@@ -1,5 +1,5 @@
 -- The files of blocks that a commit leaves without messages.
-use Rattle.std.proofs.Common.{◌≡◌, ◌≢◌, ◌≤◌, ◌<◌, inl, inr, ℕ, ◌==◌, ◌&&◌, ◌||◌, not, Bool, true, false, cond, List, [], ◌∷◌, ◌++◌, Option, Some, None, All, map, refl, sym, ap, subst, ◌∙◌, arith}
+use Rattle.std.proofs.Common.{◌≡◌, ◌≢◌, ◌≤◌, inl, inr, ℕ, ◌==◌, ◌&&◌, ◌||◌, not, Bool, true, false, cond, List, [], ◌∷◌, ◌++◌, Option, Some, None, All, map, refl, sym, ap, subst, ◌∙◌}
 use Rattle.std.specs.Prelude.{unwrap_or}
 use Rattle.std.specs.Option.{option_to_list}
 use Rattle.std.proofs.lemmas.Bool.{true≢false, eqb-true, eq-eqb, or_left, or_right, or_parts, and_from}
@@ -20,7 +20,7 @@ use Rattle.block_writing.specs.Planning.{Planned}
 use Rattle.block_writing.specs.Writing.{IsUntouched}
 use Rattle.block_writing.proofs.Written.{emptied_still}
 use Rattle.stream_store.specs.Committing.{EmptiesUnused, touches, writes_in}
-use Rattle.stream_store.specs.Staging.{AreBehindLogs, HasDropped, IsStaged, block_of, blocks_of, is_written}
+use Rattle.stream_store.specs.Staging.{AreBehindLogs, HasDropped, IsPrepared, block_of, blocks_of, is_written}
 use Rattle.stream_store.specs.Steps.{takes_away, with_steps}
 use Rattle.stream_store.specs.StoreState.{StoreState}
 use Rattle.stream_store.specs.declared.staging.Staged.{Staged}
@@ -119,7 +119,7 @@ module _ (b : Blocks) (steps : List Step) (runs : List Run) (all : Bool) (all_is
 
 -- ---- what is cut behind the commit
 
-module _ (b : Blocks) (es : List Effect) (staged : Staged) (s : IsStaged b es staged) (file : ℕ) where
+module _ (b : Blocks) (es : List Effect) (staged : Staged) (s : IsPrepared b es staged) (file : ℕ) where
   touched_is : touches b es file ≡ (has_block b file || is_written staged.runs.items file)
   touched_is =
       ap (λ (o : Option Planned). has_block b file || writes_in o file) s.planned.made_is
@@ -148,13 +148,13 @@ module _ (b : Blocks) (es : List Effect) (staged : Staged) (s : IsStaged b es st
 pub rests_after : (file : ℕ) (old mid new : Disk) → Rests file old mid → Rests file mid new → Rests file old new
 rests_after file old mid new first second = record { seen = second.seen ∙ first.seen; leaves = λ bytes left. first.leaves bytes (second.leaves bytes left) }
 
-module _ (store after : StoreState) (es : List Effect) (staged : Staged) (log : ℕ) (s : IsStaged store.blocks es staged) (after_is : after.blocks ≡ with_steps staged.steps.items store.blocks) (low : log < 2) (behind : AreBehindLogs store.unused)
+module _ (store after : StoreState) (es : List Effect) (staged : Staged) (s : IsPrepared store.blocks es staged) (after_is : after.blocks ≡ with_steps staged.steps.items store.blocks) (behind : AreBehindLogs store.unused)
     (old begun mid new : Disk) (first : ChangesUnused store.blocks store.unused old begun) (cut : AreEmptied store.blocks store.unused begun)
-    (written : (file : ℕ) → file ≢ log → is_written staged.runs.items file ≡ false → Rests file begun mid)
+    (written : (file : ℕ) → 2 ≤ file → is_written staged.runs.items file ≡ false → Rests file begun mid)
     (dropped : HasDropped after.blocks staged.blocks.items after.unused new) (others : (file : ℕ) → is_among staged.blocks.items file ≡ false → Rests file mid new) where
   rests_then : (file : ℕ) → 2 ≤ file → touches store.blocks es file ≡ false → Rests file begun new
   rests_then file high none =
-      rests_after file begun mid new (written file (λ is. omega (arith, is, low, high)) (not_written store.blocks es staged s file none))
+      rests_after file begun mid new (written file high (not_written store.blocks es staged s file none))
       (others file (not_named store.blocks es staged s file none))
 
   free_before : (file : ℕ) → touches store.blocks es file ≡ false → has_block store.blocks file ≡ false

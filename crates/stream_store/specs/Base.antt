@@ -2,6 +2,7 @@
 use Rattle.std.specs.Prelude.{◌≡◌, List, IsSome}
 use Rattle.vol_disk.specs.Disk.{Disk}
 use Rattle.vol_disk.specs.Images.{IsDurable}
+use Rattle.vol_disk.specs.Moments.{LeavesOnly}
 use Rattle.js_base.specs.Bytes.{Bytes}
 use Rattle.gate_log.specs.LogState.{LogState, generation_of}
 use Rattle.gate_log.specs.Settled.{IsSettled}
@@ -12,7 +13,8 @@ use Rattle.block_table.specs.Tables.{IsTable}
 use Rattle.block_writing.specs.Writing.{BlocksStand}
 use Rattle.stream_store.specs.Logs.{LogIn, HasLogs, current_file}
 use Rattle.stream_store.specs.StoreState.{StoreState}
-use Rattle.stream_store.specs.Holding.{HoldsIn, AllHold}
+use Rattle.log_records.specs.Logged.{IsLogged}
+use Rattle.stream_store.specs.Holding.{Holds, HoldsIn, AllHold, logged}
 
 -- The store's log is the current one, and what is known of it is what its file holds. The blocks are those of what the log gives. Both logs are on the disk,
 -- and each block is up to its end, so a crash now leaves the base.
@@ -25,8 +27,25 @@ pub record IsBaseOf (log : LogState) (b : Blocks) (base : Durable) (disk : Disk)
   pub table : IsTable b
   pub stand : BlocksStand b disk
   pub storable : IsStorable base
+  pub given : IsLogged (logged base b)
   pub holds : HoldsIn disk.seen b base
   pub images : AllHold disk base
 
 abbrev pub IsBase : StoreState → Durable → Disk → Type 0
 IsBase store base disk = IsBaseOf store.log store.blocks base disk
+
+-- ---- what leaves it as it is
+
+-- the base stays, whatever it was
+abbrev pub KeepsBaseOf : LogState → Blocks → Disk → Disk → Type 0
+KeepsBaseOf log b old new = (base : Durable) → IsBaseOf log b base old → IsBaseOf log b base new
+
+-- a crash at any moment of the call leaves it
+abbrev pub LeavesBaseOf : LogState → Blocks → Disk → Disk → Type 0
+LeavesBaseOf log b old new = (base : Durable) → IsBaseOf log b base old → LeavesOnly old new (λ image. Holds image base)
+
+abbrev pub KeepsBase : StoreState → Disk → Disk → Type 0
+KeepsBase store old new = KeepsBaseOf store.log store.blocks old new
+
+abbrev pub LeavesBase : StoreState → Disk → Disk → Type 0
+LeavesBase store old new = LeavesBaseOf store.log store.blocks old new

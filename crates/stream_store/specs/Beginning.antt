@@ -1,23 +1,20 @@
 -- The first log of a volume that never had one.
-use Rattle.std.specs.Prelude.{◌≡◌, None}
 use Rattle.vol_disk.specs.Disk.{Disk}
 use Rattle.vol_disk.specs.Images.{IsDurable}
 use Rattle.vol_disk.specs.Moments.{LeavesOnly}
 use Rattle.effects.specs.Folding.{vacant}
-use Rattle.stream_store.specs.Logs.{LogIn, HasLogs}
 use Rattle.stream_store.specs.Holding.{Holds}
+use Rattle.stream_store.specs.Untouched.{AreBlocksGone, IsNoneOpen, IsUntouched}
 use Rattle.stream_store.specs.declared.fault.OpenFault.{OpenFault}
 use Rattle.stream_store.specs.declared.fault.OpenFault.TheVariants.{Fault, Damaged, UnknownVersion, NoMemory as OutOfMemory}
 
--- no batch is open in either log, and both are on the disk
+-- no batch is open in either log, both are on the disk, and nothing is there that a stream leaves
 pub record IsUnbegun (disk : Disk) : Type 0 where
-  pub zero : LogIn
-  pub one : LogIn
-  pub logs : HasLogs disk.seen zero one
-  pub none_in_zero : zero.generation ≡ None
-  pub none_in_one : one.generation ≡ None
+  pub none : IsNoneOpen disk.seen
   pub durable_zero : IsDurable disk 0
   pub durable_one : IsDurable disk 1
+  pub untouched : IsUntouched disk.seen
+  pub gone : AreBlocksGone disk
 
 -- at any moment of a call a crash leaves a vacant place that never had a stream
 abbrev pub HoldsNothing : Disk → Disk → Type 0

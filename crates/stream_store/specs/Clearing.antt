@@ -1,29 +1,24 @@
--- What the clearing of a volume leaves: of files that are no blocks, in which a crash may have left bytes, by a rule of this server's own.
-use Rattle.std.specs.Prelude.{◌≡◌, ◌≢◌, ◌⊎◌, ◌<◌, ℕ, true, false, []}
+-- What the clearing of a volume leaves: of the log that is not current, and of files that are no blocks, in which a crash may have left bytes. By a rule of this
+-- server's own.
+use Rattle.std.specs.Prelude.{◌≡◌, ◌≢◌, ◌⊎◌, ◌<◌, ◌≤◌, ℕ, true, false, [], length}
 use Rattle.vol_disk.specs.Disk.{Disk, Files}
 use Rattle.vol_disk.specs.Does.{Rests}
 use Rattle.vol_disk.specs.Images.{IsDurable}
 use Rattle.vol_disk.specs.Moments.{LeavesOnly}
-use Rattle.effects.specs.declared.durable.Durable.{Durable}
+use Rattle.js_base.specs.Bytes.{Bytes}
 use Rattle.block_table.specs.Blocks.{Blocks, has_block}
 use Rattle.block_table.specs.Tables.{IsFile}
-use Rattle.stream_store.specs.Base.{IsBase}
-use Rattle.stream_store.specs.Holding.{Holds}
+use Rattle.gate_log.specs.LogState.{LogState}
+use Rattle.stream_store.specs.Alternating.{other_file}
 use Rattle.stream_store.specs.StoreState.{StoreState}
 
--- the file is that of a log or of a block
-abbrev pub IsUsed : Blocks → ℕ → Type 0
-IsUsed b file = (file < 2) ⊎ (has_block b file ≡ true)
+-- ---- the log that is not current
 
--- the logs and the blocks are left as they might have been left before
-abbrev pub AreUsedLeft : Blocks → Disk → Files → Type 0
-AreUsedLeft b old image = (file : ℕ) → IsUsed b file → old.leaves file (image file)
+-- whatever a crash leaves now of its file holds nothing: it has no more than a head and a closed gate
+abbrev pub IsOtherClosed : LogState → Disk → Type 0
+IsOtherClosed log disk = (bytes : Bytes) → disk.leaves (other_file log.file) bytes → length bytes ≤ 21
 
--- no log and no block is touched, whenever a crash comes, and no file that has no bytes
-pub record SparesUsed (b : Blocks) (old new : Disk) : Type 0 where
-  pub used : (file : ℕ) → IsUsed b file → Rests file old new
-  pub empty : (file : ℕ) → old.seen file ≡ [] → Rests file old new
-  pub any_moment : LeavesOnly old new (AreUsedLeft b old)
+-- ---- files that are no blocks
 
 -- the file reads as empty, and a crash leaves nothing of bytes that it had
 pub record IsCleared (old new : Disk) (file : ℕ) : Type 0 where
@@ -34,7 +29,22 @@ pub record IsCleared (old new : Disk) (file : ℕ) : Type 0 where
 abbrev pub AreCleared : Blocks → Disk → Disk → Type 0
 AreCleared b old new = (file : ℕ) → IsFile file → has_block b file ≡ false → IsCleared old new file
 
--- the base stays, and a crash at any moment of the call leaves it
-pub record KeepsBase (store : StoreState) (base : Durable) (old new : Disk) : Type 0 where
-  pub is_base : IsBase store base new
-  pub any_moment : LeavesOnly old new (λ image. Holds image base)
+-- ---- files that are used
+
+-- the file is that of a log or of a block
+abbrev pub IsUsed : Blocks → ℕ → Type 0
+IsUsed b file = (file < 2) ⊎ (has_block b file ≡ true)
+
+-- the file is that of the current log or of a block
+abbrev pub IsUsedBy : StoreState → ℕ → Type 0
+IsUsedBy store file = (file ≡ store.log.file) ⊎ (has_block store.blocks file ≡ true)
+
+-- the used files are left as they might have been left before
+abbrev pub AreUsedLeft : (ℕ → Type 0) → Disk → Files → Type 0
+AreUsedLeft Used old image = (file : ℕ) → Used file → old.leaves file (image file)
+
+-- no used file is touched, whenever a crash comes, and no file that has no bytes
+pub record Spares (Used : ℕ → Type 0) (old new : Disk) : Type 0 where
+  pub used : (file : ℕ) → Used file → Rests file old new
+  pub empty : (file : ℕ) → old.seen file ≡ [] → Rests file old new
+  pub any_moment : LeavesOnly old new (AreUsedLeft Used old)

@@ -55,7 +55,7 @@ batch_length effects = length (flat_map spelled_record (map (recorded_at no_spot
 
 -- how long the log is with a batch of them
 abbrev pub length_with : StoreState → List Effect → ℕ
-length_with store effects = store.log.end + 6 + batch_length effects
+length_with store effects = store.log.end + 10 + batch_length effects
 
 -- ---- what is left
 

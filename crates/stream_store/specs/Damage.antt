@@ -1,5 +1,6 @@
 -- Where an image of a volume is damaged, by a format of this server's own: the first fault of the files 0 and 1 as logs; or else the first fault of the
--- records of the current one; or else that of the blocks that these give; or else, where a stream cannot be restored to all that is read, the last record.
+-- records of the current one; or else that of the blocks that these give; or else, where a stream cannot be restored to all that is read, the last record. Where
+-- no log has an open batch, it is the first file with more than a first start may leave.
 use Rattle.std.specs.Prelude.{◌≡◌, ◌⊎◌, ℕ, List}
 use Rattle.vol_disk.specs.Disk.{Files}
 use Rattle.js_base.specs.Bytes.{Bytes}
@@ -16,6 +17,7 @@ use Rattle.log_records.specs.Logged.{Logged}
 use Rattle.log_records.specs.Unread.{stored_messages}
 use Rattle.stream_store.specs.Holding.{last_of, logged}
 use Rattle.stream_store.specs.Logs.{LogIn, HasLog, HasLogs, current, current_file}
+use Rattle.stream_store.specs.Untouched.{IsMissing}
 
 -- ---- logs
 
@@ -55,7 +57,7 @@ pub record IsBadVolume (image : Files) (file at : ℕ) : Type 0 where
   pub bad : IsBadLogged image (current_file zero one) (current zero one).batches file at
 
 abbrev pub IsDamaged : Files → ℕ → ℕ → Type 0
-IsDamaged image file at = IsBadLog image file (λ bytes. IsDamagedAt bytes at) ⊎ IsBadVolume image file at
+IsDamaged image file at = IsBadLog image file (λ bytes. IsDamagedAt bytes at) ⊎ (IsBadVolume image file at ⊎ IsMissing image file at)
 
 abbrev pub IsOfAnotherVersion : Files → ℕ → Type 0
 IsOfAnotherVersion image n = (file : ℕ) × IsBadLog image file (λ bytes. IsOfUnknownVersion bytes n)

@@ -12,6 +12,8 @@ use Rattle.stream_store.specs.declared.fault.OpenFault.{OpenFault}
 use Rattle.stream_store.specs.declared.fault.OpenFault.TheVariants as opening
 use Rattle.stream_store.specs.declared.fault.CommitFault.{CommitFault}
 use Rattle.stream_store.specs.declared.fault.CommitFault.TheVariants as commit
+use Rattle.stream_store.specs.declared.fault.StageFault.{StageFault}
+use Rattle.stream_store.specs.declared.fault.StageFault.TheVariants as stage
 
 -- the fault of a log in this file; none is full as it is opened
 abbrev pub open_fault : ℕ → LogFault → OpenFault
@@ -34,6 +36,19 @@ blocks_fault (blocks.Damaged file at) = opening.Damaged file at
 blocks_fault blocks.NoMemory = opening.NoMemory
 
 -- why a commit was not planned; there is a place for each message
-abbrev pub plan_fault : PlanFault → CommitFault
-plan_fault plan.NoRoom = commit.NoMemory
-plan_fault plan.NoMemory = commit.NoMemory
+abbrev pub plan_fault : PlanFault → StageFault
+plan_fault plan.NoRoom = stage.NoMemory
+plan_fault plan.NoMemory = stage.NoMemory
+
+-- why it was not staged
+abbrev pub stage_fault : StageFault → CommitFault
+stage_fault stage.Full = commit.Full
+stage_fault stage.NoMemory = commit.NoMemory
+
+-- why the next log was not started; none is full or damaged as it is
+abbrev pub start_fault : LogFault → CommitFault
+start_fault log.Fault = commit.Fault
+start_fault log.Full = commit.NoMemory
+start_fault log.NoMemory = commit.NoMemory
+start_fault (log.Damaged at) = commit.NoMemory
+start_fault (log.UnknownVersion n) = commit.NoMemory

@@ -37,6 +37,13 @@ IsLogFault image (Damaged file at) = IsBadLog image file (λ bytes. IsDamagedAt 
 IsLogFault image (UnknownVersion n) = IsOfAnotherVersion image n
 IsLogFault image OutOfMemory = ⊥
 
+-- the volume failed, or a file is damaged, and this is so
+abbrev pub IsFaultWhere : (ℕ → ℕ → Type 0) → OpenFault → Type 0
+IsFaultWhere P Fault = Unit {0}
+IsFaultWhere P (Damaged file at) = P file at
+IsFaultWhere P (UnknownVersion n) = ⊥
+IsFaultWhere P OutOfMemory = ⊥
+
 -- the volume failed, memory ran out, or what the log in this file tells is wrong
 abbrev pub IsRecordsFault : ℕ → LogState → Disk → OpenFault → Type 0
 IsRecordsFault file log disk Fault = Unit {0}

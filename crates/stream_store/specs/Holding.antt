@@ -1,5 +1,6 @@
--- What an image of a volume holds, by a format of this server's own: its log gives it with its messages unread, and these stand in the blocks.
-use Rattle.std.specs.Prelude.{ℕ, Option, Some, None}
+-- What an image of a volume holds, by a format of this server's own: its log gives it with its messages unread, and these stand in the blocks. Where no log has
+-- an open batch, nothing is there that a stream leaves.
+use Rattle.std.specs.Prelude.{◌⊎◌, ℕ, Option, Some, None, IsSome}
 use Rattle.vol_disk.specs.Disk.{Disk, Files}
 use Rattle.vol_disk.specs.Images.{IsImage}
 use Rattle.effects.specs.declared.durable.Body.{Body}
@@ -11,6 +12,7 @@ use Rattle.log_records.specs.Batches.{Gives}
 use Rattle.log_records.specs.Logged.{Logged}
 use Rattle.log_records.specs.Unread.{unread, stored_messages}
 use Rattle.stream_store.specs.Logs.{LogIn, HasLogs, current}
+use Rattle.stream_store.specs.Untouched.{IsUntouched}
 
 -- the last sequence that its stream gave, 0 if there is none
 abbrev pub last_in : Option Body → ℕ
@@ -29,6 +31,7 @@ pub record HoldsIn (image : Files) (b : Blocks) (d : Durable) : Type 0 where
   pub zero : LogIn
   pub one : LogIn
   pub logs : HasLogs image zero one
+  pub begun : IsSome (current zero one).generation ⊎ IsUntouched image
   pub gives : Gives (current zero one).batches (logged d b)
   pub stored : AreStoredIn image b (last_of d) (stored_messages d)
   pub openable : IsOpenable d

@@ -1,10 +1,11 @@
--- That an image of a volume is read in one way, how changes that wait for a commit have their places, and how many blocks they leave.
+-- What a new volume holds, that an image is read in one way, how changes that wait for a commit have their places, and how many blocks they leave.
 use Rattle.std.specs.Prelude.{◌≡◌, ◌≤◌, ◌<◌, ℕ, ◌+◌, Bool, true, false, List, [], ◌∷◌, ◌++◌, length}
 use Rattle.js_base.specs.Bytes.{Bytes}
 use Rattle.vol_disk.specs.Disk.{Files}
 use Rattle.effects.specs.declared.durable.Durable.{Durable}
 use Rattle.effects.specs.declared.effect.Effect.{Effect}
 use Rattle.effects.specs.declared.effect.Effect.TheVariants.{MakeStream, DropStream, PutHere}
+use Rattle.effects.specs.Folding.{vacant}
 use Rattle.op_records.specs.Allowed.{is_put}
 use Rattle.op_records.specs.Blocks.{spelled_message}
 use Rattle.block_table.specs.Blocks.{Blocks, blocks}
@@ -12,8 +13,10 @@ use Rattle.block_writing.specs.Planning.{message_by}
 use Rattle.stream_store.specs.Placing.{blocks_then, can_place, has_room, used_behind}
 use Rattle.stream_store.specs.Holding.{Holds}
 use Rattle.stream_store.specs.Damage.{IsDamaged, IsOfAnotherVersion}
+use Rattle.stream_store.specs.Untouched.{IsNoneOpen, IsUntouched}
 
 pub record LawHolding : Type 0 where
+  pub begins : (image : Files) → IsNoneOpen image → IsUntouched image → Holds image (vacant 0)
   pub one : (image : Files) (d e : Durable) → Holds image d → Holds image e → d ≡ e
   pub whole : (image : Files) (d : Durable) (file at : ℕ) → Holds image d → ¬ IsDamaged image file at
   pub known : (image : Files) (d : Durable) (n : ℕ) → Holds image d → ¬ IsOfAnotherVersion image n

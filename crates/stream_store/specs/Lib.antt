@@ -1,10 +1,12 @@
 pub mod StoreState
 pub mod Logs
+pub mod Untouched
 pub mod Holding
 pub mod Damage
 pub mod Faults
 pub mod Steps
 pub mod Placing
+pub mod Alternating
 pub mod Staging
 pub mod Reading
 pub mod Opening

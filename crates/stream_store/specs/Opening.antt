@@ -1,15 +1,15 @@
 -- Why a store is not opened, and what its opening leaves.
-use Rattle.std.specs.Prelude.{◌≡◌, ◌≢◌, ◌⊎◌, ℕ, [], ◌∷◌, Some, None}
+use Rattle.std.specs.Prelude.{◌≡◌, ◌≢◌, ◌⊎◌, ℕ, [], ◌∷◌, Some}
 use Rattle.vol_disk.specs.Disk.{Disk, Files}
 use Rattle.vol_disk.specs.Does.{Rests}
 use Rattle.vol_disk.specs.Moments.{LeavesOnly, Quiet}
 use Rattle.gate_log.specs.LogState.{LogState}
 use Rattle.gate_log.specs.Settled.{IsSettled}
 use Rattle.op_records.specs.Spelling.{spelled_vacant}
-use Rattle.stream_store.specs.Logs.{LogIn, HasLogs}
 use Rattle.effects.specs.declared.durable.Durable.{Durable}
 use Rattle.stream_store.specs.Damage.{IsDamaged, IsOfAnotherVersion}
 use Rattle.stream_store.specs.Holding.{Holds, AllHold}
+use Rattle.stream_store.specs.Untouched.{IsNoneOpen, IsUntouched}
 use Rattle.stream_store.specs.declared.fault.OpenFault.{OpenFault}
 use Rattle.stream_store.specs.declared.fault.OpenFault.TheVariants.{Fault, Damaged, UnknownVersion, NoMemory as OutOfMemory}
 
@@ -24,17 +24,9 @@ IsOpenFault image OutOfMemory = Unit {0}
 abbrev pub KeepsHeld : Disk → Disk → Type 0
 KeepsHeld old new = (d : Durable) → Holds old.seen d → AllHold old d → LeavesOnly old new (λ image. Holds image d)
 
--- no log has an open batch
-pub record IsNoneOpen (image : Files) : Type 0 where
-  pub zero : LogIn
-  pub one : LogIn
-  pub logs : HasLogs image zero one
-  pub none_in_zero : zero.generation ≡ None
-  pub none_in_one : one.generation ≡ None
-
--- nothing was written, unless no log had an open batch
+-- nothing was written, unless no log had an open batch and nothing was there that a stream leaves
 abbrev pub LeavesBegun : Disk → Disk → Type 0
-LeavesBegun old new = IsNoneOpen old.seen ⊎ Quiet old new
+LeavesBegun old new = (IsNoneOpen old.seen × IsUntouched old.seen) ⊎ Quiet old new
 
 -- the log of file 0, of generation 1, whose one batch says that the place is vacant and never had a stream
 pub record IsFirstLog (log : LogState) (disk : Disk) : Type 0 where

@@ -3,6 +3,7 @@ use Rattle.std.specs.Prelude.{◌≡◌, ◌<◌, ◌≤◌, ◌⊎◌, ◌==◌
 use Rattle.std.specs.Option.{option_to_list}
 use Rattle.std.specs.List.{flat_map, list_any}
 use Rattle.vol_disk.specs.Disk.{Disk}
+use Rattle.effects.specs.declared.durable.Durable.{Durable}
 use Rattle.effects.specs.declared.effect.Effect.{Effect}
 use Rattle.op_records.specs.Spelling.{spelled_record}
 use Rattle.block_table.specs.declared.block.Block.{Block}
@@ -11,6 +12,7 @@ use Rattle.block_writing.specs.Dropping.{AreEmptied, ChangesUnused}
 use Rattle.block_writing.specs.Laws.{ArePlannedBy}
 use Rattle.block_writing.specs.declared.run.Run.{Run}
 use Rattle.block_writing.specs.Planning.{Planned, spots_in}
+use Rattle.stream_store.specs.Alternating.{first_batch}
 use Rattle.stream_store.specs.Steps.{steps_of, with_steps}
 use Rattle.stream_store.specs.declared.staging.Staged.{Staged}
 
@@ -30,18 +32,34 @@ is_written runs file = list_any (λ run. run.file == file) runs
 abbrev pub AreBehindLogs : List Block → Type 0
 AreBehindLogs ks = All (λ k. 2 ≤ k.file) ks
 
--- What is planned for these changes, and the blocks that they may leave without messages: each that was one and is none behind them, and each in which they write.
-pub record IsStaged (b : Blocks) (es : List Effect) (staged : Staged) : Type 0 where
+-- What is planned for these changes, whatever the batch, and the blocks that they may leave without messages: each that was one and is none behind them, and
+-- each in which they write.
+pub record IsPrepared (b : Blocks) (es : List Effect) (staged : Staged) : Type 0 where
   pub made : Planned
   pub planned : ArePlannedBy b es made
   pub runs : staged.runs.items ≡ made.runs
-  pub batch : staged.batch ≡ flat_map spelled_record made.records
-  pub bytes : All (λ byte. byte < 256) staged.batch
   pub steps : staged.steps.items ≡ steps_of es (spots_in made.records)
   pub behind : AreBehindLogs staged.blocks.items
   pub left : (file : ℕ) → has_block b file ≡ true → has_block (with_steps staged.steps.items b) file ≡ false → is_among staged.blocks.items file ≡ true
   pub begun : (file : ℕ) → is_written staged.runs.items file ≡ true → is_among staged.blocks.items file ≡ true
   pub only : (file : ℕ) → is_among staged.blocks.items file ≡ true → (has_block b file || is_written staged.runs.items file) ≡ true
+
+-- the batch is the records of the changes
+pub record IsStaged (b : Blocks) (es : List Effect) (staged : Staged) : Type 0 where
+  pub prepared : IsPrepared b es staged
+  pub batch : staged.batch ≡ flat_map spelled_record prepared.made.records
+  pub bytes : All (λ byte. byte < 256) staged.batch
+
+-- the batch tells all of what they lead to
+pub record IsStagedFirst (b : Blocks) (es : List Effect) (next : Durable) (staged : Staged) : Type 0 where
+  pub prepared : IsPrepared b es staged
+  pub batch : staged.batch ≡ first_batch next (with_steps staged.steps.items b)
+  pub bytes : All (λ byte. byte < 256) staged.batch
+
+-- what is staged, and where messages lie then
+pub record IsFirstWith (b : Blocks) (es : List Effect) (next : Durable) (staged : Staged) (table : Blocks) : Type 0 where
+  pub staged_is : IsStagedFirst b es next staged
+  pub table_is : table ≡ with_steps staged.steps.items b
 
 -- no file is touched but those of blocks that the table has not, whenever a crash comes
 pub record DropsUnused (b : Blocks) (old new : Disk) : Type 0 where

@@ -1,26 +1,54 @@
-//! Cutting files that are no blocks, and in which a crash left bytes.
+//! Clearing the log that is not current, and files that are no blocks.
 
-ghost use Rattle.std.specs.Prelude.{◌≡◌, ◌≢◌, ◌≤◌, false, IsErr, OnOk};
+ghost use Rattle.std.specs.Prelude.{◌≡◌, ◌≢◌, ◌≤◌, false, IsErr, OnOk, length};
 ghost use Rattle.js_base.specs.Causes.{HasCause};
 ghost use Rattle.vol_disk.specs.Does.{Rests};
-ghost use Rattle.block_table.specs.Blocks.{has_block};
-ghost use Rattle.stream_store.specs.Clearing.{AreCleared, IsCleared, SparesUsed};
+ghost use Rattle.vol_disk.specs.Images.{IsDurable};
+ghost use Rattle.vol_disk.specs.Moments.{Quiet};
+ghost use Rattle.block_table.specs.Blocks.{Blocks, has_block};
+ghost use Rattle.effects.specs.declared.durable.Durable.{Durable};
+ghost use Rattle.gate_log.specs.Starting.{Starts};
+ghost use Rattle.stream_store.specs.Alternating.{other_file as other_in};
+ghost use Rattle.stream_store.specs.Base.{IsBaseOf};
+ghost use Rattle.stream_store.specs.Clearing.{AreCleared, IsCleared, IsOtherClosed, IsUsed, Spares};
 
 use block_table::BlockTable;
+use gate_log::{GateLog, clear_log};
 use message_block::drop_block;
 use vol_disk::{Failed, Vol};
 
 /// The lowest file that can be a block. Those below it are logs.
-const FIRST_FILE: u32 = 2;
+pub(crate) const FIRST_FILE: u32 = 2;
 
 /// The number of files that can be logs or blocks.
-const FILES: u64 = 65_536;
+pub(crate) const FILES: u64 = 65_536;
+
+/// The file of the other log.
+pub(crate) fn other_file(file: u32) -> u32
+    ensures value { result ≡ other_in file }
+{
+    if file == 0 { 1 } else { 0 }
+}
+
+/// Clears the log that is not the current one, if it has more than a head and a closed gate. A crash at any moment leaves it as it was or without an open batch, and
+/// no other file is touched.
+pub(crate) fn close_other<V: Vol>(vol: &mut V, log: &GateLog) -> Result<(), Failed>
+    requires base { V.told → (b : Blocks) × (base : Durable) × IsBaseOf log.now b base (V.disk vol.old) }
+    ensures closed { V.told → OnOk result (IsOtherClosed log.now (V.disk vol.new)) }
+    ensures durable { V.told → OnOk result (IsDurable (V.disk vol.new) (other_in log.now.file)) }
+    ensures any_moment { V.told → Starts (other_in log.now.file) (V.disk vol.old) (V.disk vol.new) }
+    ensures quiet { V.told → length ((V.disk vol.old).seen (other_in log.now.file)) ≤ 21 → Quiet (V.disk vol.old) (V.disk vol.new) }
+    ensures cause { HasCause (V.faults vol.old) (V.faults vol.new) (IsErr result) }
+    ensures later { (V.disk vol.old).moment ≤ (V.disk vol.new).moment }
+{
+    clear_log(vol, other_file(log.file()))
+}
 
 /// Cuts a file that is no log to nothing, if it is no block and has bytes, and syncs it.
 fn clear_file<V: Vol>(vol: &mut V, table: &BlockTable, file: u32) -> Result<(), Failed>
     requires behind { 2 ≤ file }
     ensures cleared { V.told → has_block table.now file ≡ false → OnOk result (IsCleared (V.disk vol.old) (V.disk vol.new) file) }
-    ensures spares { V.told → SparesUsed table.now (V.disk vol.old) (V.disk vol.new) }
+    ensures spares { V.told → Spares (IsUsed table.now) (V.disk vol.old) (V.disk vol.new) }
     ensures elsewhere { V.told → (other : _) → other ≢ file → Rests other (V.disk vol.old) (V.disk vol.new) }
     ensures cause { HasCause (V.faults vol.old) (V.faults vol.new) (IsErr result) }
     ensures later { (V.disk vol.old).moment ≤ (V.disk vol.new).moment }
@@ -38,7 +66,7 @@ fn clear_file<V: Vol>(vol: &mut V, table: &BlockTable, file: u32) -> Result<(), 
 /// one, up to the last with bytes.
 pub(crate) fn clear_files<V: Vol>(vol: &mut V, table: &BlockTable) -> Result<(), Failed>
     ensures cleared { V.told → OnOk result (AreCleared table.now (V.disk vol.old) (V.disk vol.new)) }
-    ensures spares { V.told → SparesUsed table.now (V.disk vol.old) (V.disk vol.new) }
+    ensures spares { V.told → Spares (IsUsed table.now) (V.disk vol.old) (V.disk vol.new) }
     ensures cause { HasCause (V.faults vol.old) (V.faults vol.new) (IsErr result) }
     ensures later { (V.disk vol.old).moment ≤ (V.disk vol.new).moment }
 {

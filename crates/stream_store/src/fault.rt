@@ -18,13 +18,16 @@ pub enum OpenFault {
     #[error("the volume failed")]
     Fault,
     /// The first fault of the volume stands there: a log does not begin as one does, its generation is 2^62 or more, or a batch passes the file's
-    /// end, which is told at its gate; or, in the current log, the first batch is no record of a vacant place, or a record of a later batch is none or
-    /// does not fit. If what the records of a batch make is unsound or more than a volume may hold, the last of them is told. Then come the blocks that
+    /// end or has another checksum, which is told at its gate; or, in the current log, the first batch is not one snapshot, or a record of a later batch is
+    /// none or does not fit. If what the records of a batch make is unsound or more than a volume may hold, the last of them is told. Then come the blocks that
     /// the log tells of: the first message of the first of them that is wrong, or else the first stored message that is not at its spot. If no stream can
     /// be restored to all of that, the last record of the log is told.
+    ///
+    /// If no batch is open in either log, it is the first file with more than the first start of a place leaves if it is cut short: file 0 if it is longer
+    /// than 39 bytes, and any other file if it has bytes. A log that is longer than 20 bytes is told at 20, its first gate, and any other file at 0.
     #[error("file {file} is damaged at {at}")]
     Damaged { file: u32, at: u64 },
-    /// The format of a log has another version than 1.
+    /// The format of a log has another version than 2.
     #[error("unknown version {0}")]
     UnknownVersion(u16),
     #[error("out of memory")]
@@ -93,7 +96,7 @@ impl From<NoMemory> for OpenFault {
     }
 }
 
-/// Why a commit was not made. After `Full` and `NoMemory` all is as it was, and the commit can be tried again.
+/// Why a commit was not made. After `Full`, `Worn` and `NoMemory` all is as it was, and the commit can be tried again.
 #[derive(Clone, Copy, Debug, PartialEq, Eq, Error)]
 pub enum CommitFault {
     /// The volume failed, and its count of faults rose. A crash leaves what the volume held before, or that with the commit: open the store again.
@@ -102,6 +105,9 @@ pub enum CommitFault {
     /// With the commit the log would be longer than 2^31 bytes.
     #[error("log full")]
     Full,
+    /// The log would be left, and the next one would have a generation of 2^62.
+    #[error("numbers used up")]
+    Worn,
     #[error("out of memory")]
     NoMemory,
 }
@@ -116,14 +122,31 @@ impl From<Failed> for CommitFault {
     }
 }
 
-impl From<PlanFault> for CommitFault {
-    ghost use Rattle.stream_store.specs.Faults.{plan_fault};
+impl From<StageFault> for CommitFault {
+    ghost use Rattle.stream_store.specs.Faults.{stage_fault};
 
-    ghost from_gives = { λ fault told. told ≡ plan_fault fault };
+    ghost from_gives = { λ fault told. told ≡ stage_fault fault };
 
-    fn from(fault: PlanFault) -> CommitFault {
+    fn from(fault: StageFault) -> CommitFault {
         match fault {
-            PlanFault::NoRoom | PlanFault::NoMemory => CommitFault::NoMemory,
+            StageFault::Full => CommitFault::Full,
+            StageFault::NoMemory => CommitFault::NoMemory,
+        }
+    }
+}
+
+impl From<LogFault> for CommitFault {
+    ghost use Rattle.stream_store.specs.Faults.{start_fault};
+
+    ghost from_gives = { λ fault told. told ≡ start_fault fault };
+
+    fn from(fault: LogFault) -> CommitFault {
+        match fault {
+            LogFault::Fault => CommitFault::Fault,
+            LogFault::Full
+            | LogFault::NoMemory
+            | LogFault::Damaged(_)
+            | LogFault::UnknownVersion(_) => CommitFault::NoMemory,
         }
     }
 }
@@ -135,5 +158,35 @@ impl From<NoMemory> for CommitFault {
 
     fn from(_refused: NoMemory) -> CommitFault {
         CommitFault::NoMemory
+    }
+}
+
+/// Why a commit was not staged. All is as it was.
+#[derive(Clone, Copy, Debug, PartialEq, Eq)]
+pub(crate) enum StageFault {
+    /// With it the log would be longer than 2^31 bytes.
+    Full,
+    NoMemory,
+}
+
+impl From<PlanFault> for StageFault {
+    ghost use Rattle.stream_store.specs.Faults.{plan_fault};
+
+    ghost from_gives = { λ fault told. told ≡ plan_fault fault };
+
+    fn from(fault: PlanFault) -> StageFault {
+        match fault {
+            PlanFault::NoRoom | PlanFault::NoMemory => StageFault::NoMemory,
+        }
+    }
+}
+
+impl From<NoMemory> for StageFault {
+    ghost use Rattle.stream_store.specs.declared.fault.StageFault.TheVariants.{NoMemory as OutOfMemory};
+
+    ghost from_gives = { λ refused fault. fault ≡ OutOfMemory };
+
+    fn from(_refused: NoMemory) -> StageFault {
+        StageFault::NoMemory
     }
 }

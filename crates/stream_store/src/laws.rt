@@ -3,7 +3,7 @@
 ghost use Rattle.stream_store.specs.Laws.{LawCounting, LawHolding, LawPlacing};
 ghost use Rattle.stream_store.specs.Waiting.{LawWaiting};
 
-/// An image of a volume holds one thing, or has one first fault, and not both.
+/// An image of a volume holds one thing, or has one first fault, and not both; and one that was never begun holds a vacant place.
 pub fn law_holding()
     ensures { LawHolding }
 {}

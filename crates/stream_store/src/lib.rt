@@ -2,11 +2,13 @@
 //! volume whole or not at all.
 #![tactic(auto)]
 
+mod alternating;
 mod clearing;
 mod fault;
 mod late;
 pub mod laws;
 mod logs;
+mod missing;
 mod reading;
 mod room;
 mod staging;

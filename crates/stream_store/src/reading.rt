@@ -13,7 +13,7 @@ ghost use Rattle.log_records.specs.Holding.{given_in};
 ghost use Rattle.log_records.specs.Logged.{IsLogged};
 ghost use Rattle.log_records.specs.Unread.{stored_messages};
 ghost use Rattle.stream_store.specs.Finding.{IsRecordsFault};
-ghost use Rattle.stream_store.specs.Holding.{last_of as last_of_durable};
+ghost use Rattle.stream_store.specs.Holding.{last_of as last_of_durable, logged};
 ghost use Rattle.stream_store.specs.Reading.{AreSynced, IsBlocksFault, IsFound, IsReadOf, IsStoredBy, with_messages as with_messages_in};
 
 use crate::fault::OpenFault;
@@ -64,7 +64,7 @@ fn sync_blocks<V: Vol>(vol: &mut V, table: &BlockTable) -> Result<(), Failed>
 }
 
 /// The messages that it has.
-fn messages_of(durable: &Durable) -> &[Message]
+pub(crate) fn messages_of(durable: &Durable) -> &[Message]
     ensures value { result.now ≡ stored_messages durable.now }
 {
     match &durable.body {
@@ -130,6 +130,7 @@ pub(crate) fn read_current<V: Vol>(
     ensures synced { V.told → IfOk result (λ found. AreSynced found.table (V.disk vol.new)) }
     // Of any volume:
     ensures table { IfOk result (λ found. IsTable found.table) }
+    ensures given { IfOk result (λ found. IsLogged (logged found.durable found.table)) }
     ensures held { IfOk result (λ found. length (blocks found.table) ≤ length (stored_messages found.durable) + 1) }
     ensures formed { IfOk result (λ found. IsFormed found.durable) }
     ensures storable { IfOk result (λ found. IsStorable found.durable) }

@@ -10,12 +10,12 @@ use effects::Effect;
 use js_base::Blob;
 
 /// How many bytes a message takes in a block besides its subject, header block and payload.
-const FIXED_BYTES: usize = 26;
+const FIXED_BYTES: usize = 30;
 
 /// How many bytes a message of these parts takes in a block.
 pub fn message_len(subject: &Blob, headers: &Blob, payload: &Blob) -> u32
     requires short { length subject.now + length headers.now + length payload.now < 2 ^ 31 }
-    ensures value { result ≡ 26 + (length subject.now + length headers.now + length payload.now) }
+    ensures value { result ≡ 30 + (length subject.now + length headers.now + length payload.now) }
 {
     (FIXED_BYTES + subject.len() + headers.len() + payload.len()) as u32
 }

@@ -9,7 +9,7 @@ ghost use Rattle.stream_store.specs.Placing.{can_place};
 ghost use Rattle.stream_store.specs.Staging.{IsStaged, block_of, blocks_of};
 ghost use Rattle.stream_store.specs.Steps.{blocks_in, takes_away};
 
-use crate::fault::CommitFault;
+use crate::fault::StageFault;
 use crate::late::LateTable;
 use crate::logs::law_bytes;
 use crate::steps::{Step, steps_of};
@@ -57,7 +57,7 @@ fn add_files(into: &mut Vec<Block>, runs: &[Run]) -> Result<(), NoMemory>
 }
 
 /// Whether messages go by one of these steps.
-fn take_away(steps: &[Step]) -> bool
+pub(crate) fn take_away(steps: &[Step]) -> bool
     ensures value { result ≡ takes_away steps.now }
 {
     for step in steps {
@@ -70,7 +70,7 @@ fn take_away(steps: &[Step]) -> bool
 }
 
 /// The blocks of a table, all of them if messages go, and else the one being written; and the files of runs.
-fn left_blocks(
+pub(crate) fn left_blocks(
     alloc: Global,
     table: &BlockTable,
     runs: &[Run],
@@ -96,18 +96,17 @@ fn stage_by(
     log: &GateLog,
     table: &BlockTable,
     effects: &[Effect],
-) -> Result<Staged, CommitFault>
+) -> Result<Staged, StageFault>
     requires records { IsTrue (list_all is_record effects.now) }
     requires room { IsTrue (can_place table.now effects.now) }
     ensures staged { IfOk result (IsStaged table.now effects.now) }
-    ensures fits { OnOk result (log.now.end + 6 + batch_length effects.now ≤ 2 ^ 31) }
-    ensures full { IsErrOf result CommitFault.Full → 2 ^ 31 < log.now.end + 6 + batch_length effects.now }
-    ensures fault { IsErrOf result CommitFault.Fault → ⊥ }
+    ensures fits { OnOk result (log.now.end + 10 + batch_length effects.now ≤ 2 ^ 31) }
+    ensures full { IsErrOf result StageFault.Full → 2 ^ 31 < log.now.end + 10 + batch_length effects.now }
 {
     let plan = plan(alloc, table, effects)?;
     let records = plan.batch.as_slice();
     if !log.fits(records.len()) {
-        return Err(CommitFault::Full);
+        return Err(StageFault::Full);
     }
     law_bytes(records);
     let batch = Batch::of(alloc, records)?;
@@ -128,15 +127,14 @@ pub(crate) fn stage(
     log: &GateLog,
     late: &mut LateTable,
     effects: &[Effect],
-) -> Result<Staged, CommitFault>
+) -> Result<Staged, StageFault>
     requires records { IsTrue (list_all is_record effects.now) }
     requires room { IsTrue (can_place (blocks_in late.old) effects.now) }
     ensures staged { IfOk result (IsStaged (blocks_in late.old) effects.now) }
     ensures same { blocks_in late.new ≡ blocks_in late.old }
     ensures none { OnOk result (length late.new.steps.items ≤ late.new.taken) }
-    ensures fits { OnOk result (log.now.end + 6 + batch_length effects.now ≤ 2 ^ 31) }
-    ensures full { IsErrOf result CommitFault.Full → 2 ^ 31 < log.now.end + 6 + batch_length effects.now }
-    ensures fault { IsErrOf result CommitFault.Fault → ⊥ }
+    ensures fits { OnOk result (log.now.end + 10 + batch_length effects.now ≤ 2 ^ 31) }
+    ensures full { IsErrOf result StageFault.Full → 2 ^ 31 < log.now.end + 10 + batch_length effects.now }
 {
     late.catch_up()?;
     stage_by(alloc, log, &late.table, effects)

@@ -2,28 +2,29 @@
 
 ghost use Rattle.std.specs.Prelude.{◌≡◌, ◌≤◌, ◌≢◌, false, IsErr, OnOk, length};
 ghost use Rattle.js_base.specs.Causes.{HasCause};
-ghost use Rattle.effects.specs.declared.durable.Durable.{Durable};
 ghost use Rattle.vol_disk.specs.Does.{Rests};
 ghost use Rattle.gate_log.specs.LogState.{with_batch};
-ghost use Rattle.block_table.specs.Blocks.{Blocks};
 ghost use Rattle.stream_store.specs.Staging.{is_written};
-ghost use Rattle.stream_store.specs.Writing.{IsReady, IsStagedOn, IsWritten, LeavesStaged};
+ghost use Rattle.stream_store.specs.Writing.{IsReady, IsStagedInto, IsWritten, IsWrittenNext, LeavesStaged, LeavesStagedNext};
 
 use crate::staging::Staged;
 use block_writing::write_runs;
 use gate_log::GateLog;
 use vol_disk::{Failed, Vol};
 
-/// Writes the messages into their blocks, and then the batch behind the log. Nothing but a failure of the volume ends it early.
+/// Writes the messages into their blocks, and then the batch behind the log, be it the current one, or the next one, which is started. Nothing but a failure of
+/// the volume ends it early.
 pub(crate) fn write_staged<V: Vol>(
     vol: &mut V,
     log: &mut GateLog,
     staged: &Staged,
 ) -> Result<(), Failed>
     requires ready { IsReady log.old staged.now }
-    requires staged { V.told → (b : Blocks) × (base : Durable) × (next : Durable) × IsStagedOn log.old b base next staged.now (V.disk vol.old) }
+    requires staged { V.told → IsStagedInto log.old staged.now (V.disk vol.old) }
     ensures any_moment { V.told → LeavesStaged log.old staged.now (V.disk vol.old) (V.disk vol.new) }
+    ensures next_any_moment { V.told → LeavesStagedNext log.old staged.now (V.disk vol.old) (V.disk vol.new) }
     ensures written { V.told → OnOk result (IsWritten log.old log.new staged.now (V.disk vol.old) (V.disk vol.new)) }
+    ensures next_written { V.told → OnOk result (IsWrittenNext log.old log.new staged.now (V.disk vol.old) (V.disk vol.new)) }
     ensures elsewhere { V.told → (file : _) → file ≢ log.old.file → is_written staged.now.runs.items file ≡ false → Rests file (V.disk vol.old) (V.disk vol.new) }
     ensures log { OnOk result (log.new ≡ with_batch log.old (length staged.now.batch)) }
     ensures head { log.new.head ≡ log.old.head }

@@ -1,5 +1,5 @@
 -- What it comes to that all that waits is committed.
-use Rattle.std.proofs.Common.{◌≡◌, ◌≢◌, ◌≤◌, ◌<◌, ◌^◌, ◌⊎◌, inl, inr, ℕ, List, [], length, Option, Some, None, refl, sym, ap, subst, ◌∙◌, arith}
+use Rattle.std.proofs.Common.{◌≡◌, ◌≢◌, ◌≤◌, ◌-◌, ◌^◌, ◌⊎◌, inl, inr, ℕ, List, [], length, Option, Some, None, refl, sym, ap, subst, ◌∙◌, arith}
 use Rattle.std.specs.Prelude.{IsTrue, unwrap_or}
 use Rattle.std.specs.List.{list_all}
 use Rattle.std.proofs.Math.Nat.{le_refl}
@@ -17,17 +17,20 @@ use Rattle.vol_disk.specs.Clock.{IsClocked}
 use Rattle.vol_disk.specs.Disk.{Disk}
 use Rattle.vol_disk.specs.Images.{IsImage}
 use Rattle.stream_store.specs.Base.{IsBase}
-use Rattle.stream_store.specs.Committing.{CommitsOrNot, IsCommitted, IsNextBatch, length_with}
+use Rattle.stream_store.specs.Committing.{CommitsOrNot, IsCommitted, IsNextBatch}
 use Rattle.stream_store.specs.Holding.{Holds}
+use Rattle.durable_checks.specs.Storable.{IsFormed, IsStorable}
 use Rattle.stream_store.specs.StoreState.{StoreState}
 use Rattle.stream_store.specs.Waiting.{Waits}
-use Rattle.place_engine.specs.Flushing.{FailsFlush, FillsFlush, Flushed, Unflushed}
+use Rattle.place_engine.specs.Flushing.{FailsFlush, FillsFlush, Flushed, Unflushed, WearsFlush}
 use Rattle.place_engine.specs.Stepping.{Elapses, Image, LeavesVolume}
 use Rattle.volume_place.specs.Contents.{Contents}
 use Rattle.volume_place.specs.Images.{IsLeftNow, base, holds, left}
 use Rattle.volume_place.specs.Laws.{only_held}
+use Rattle.volume_place.specs.Leaving.{IsTooLong}
 use Rattle.volume_place.specs.Seeing.{IsFull, seen_of}
 use Rattle.volume_place.specs.Sound.{IsBacked, IsLeftByBoth, IsOnDisk, IsSoundPlace}
+use Rattle.volume_place.proofs.Formed.{formed}
 use Rattle.volume_place.proofs.Bases.{flushed_base, lasts_twice, left_base, read_base}
 use Rattle.block_table.specs.Blocks.{Blocks, blocks}
 use Rattle.stream_store.specs.Placing.{can_place, used_behind}
@@ -93,6 +96,14 @@ module _ {V : Type 0} (told : Type 0) (disk : V → Disk) (faults : V → ℕ) (
     volume = leaves (record { state = x.state; store = store; vol = vol; waiting = waiting; since = x.since; stored = x.stored; stopped = x.stopped }) same same_store;
   }
 
+  -- the numbers of generations are used up
+  pub wears : (store : StoreState) (vol : V) (waiting : List Effect) → store ≡ x.store → vol ≡ x.vol → waiting ≡ x.waiting → x.store.log.head ≡ Some (2 ^ 62 - 1)
+      → WearsFlush (seen_of told disk faults x) (seen_of told disk faults (record { state = x.state; store = store; vol = vol; waiting = waiting; since = x.since; stored = x.stored; stopped = x.stopped }))
+  wears store vol waiting same_store same waits last = record {
+    unflushed = unbrought store vol waiting same_store same waits;
+    last = ap (λ (s : StoreState). unwrap_or s.log.head 0) same_store ∙ ap (λ (o : Option ℕ). unwrap_or o 0) last;
+  }
+
   pub unbrought_sound : (store : StoreState) (vol : V) (waiting : List Effect) → store ≡ x.store → vol ≡ x.vol → waiting ≡ x.waiting
       → IsSoundPlace told (disk vol) store waiting x.stopped x.state
   unbrought_sound store vol waiting same_store same waits =
@@ -111,6 +122,13 @@ module _ {V : Type 0} (told : Type 0) (disk : V → Disk) (faults : V → ℕ) (
 
   -- ---- what is committed
 
+  -- it may be the first of a log
+  pub formed_of : IsFormed (durable_of x.state)
+  formed_of = formed x.state h.sound h.writable
+
+  pub storable_of : IsStorable (durable_of x.state)
+  storable_of = storable x.state h.sound h.bounded
+
   module _ (effects : List Effect) (are : effects ≡ x.waiting) where
     next_of : (k : Backed) → IsNextBatch (durable_of k.base) effects (durable_of x.state)
     next_of k = record {
@@ -119,18 +137,15 @@ module _ {V : Type 0} (told : Type 0) (disk : V → Disk) (faults : V → ℕ) (
       openable = openable x.state h.sound h.restorable;
     }
 
-    -- a commit may be made
-    pub fits : (t : told) → (base : Durable) × (next : Durable) × IsBase x.store base (disk x.vol) × IsNextBatch base effects next
-    fits t = let k = backed t in (durable_of k.base, durable_of x.state, k.is_base, next_of k)
+    -- a commit may be made, to what outlives a crash of what stands
+    pub fits : (t : told) → (base : Durable) × IsBase x.store base (disk x.vol) × IsNextBatch base effects (durable_of x.state)
+    fits t = let k = backed t in (durable_of k.base, k.is_base, next_of k)
 
     pub records_of : IsTrue (list_all is_record effects)
     records_of = ap (list_all is_record) are ∙ h.records
 
-    fits_in : length_with x.store effects ≤ 2 ^ 31 → ¬ IsFull x.store x.waiting
-    fits_in le full =
-        let short : length_with x.store x.waiting ≤ 2 ^ 31 = subst (λ (l : List Effect). length_with x.store l ≤ 2 ^ 31) are le in
-        let long : 2 ^ 31 < length_with x.store x.waiting = full.1 in
-        omega (arith, short, long)
+    fits_in : ¬ IsTooLong x.store effects → ¬ IsFull x.store x.waiting
+    fits_in short full = short (subst (IsTooLong x.store) (sym are) full.1)
 
     -- of what stands the volume holds what outlives a crash
     holds_next : (image : Image) → Holds image (durable_of x.state) → holds image (lasting x.state)
@@ -160,14 +175,14 @@ module _ {V : Type 0} (told : Type 0) (disk : V → Disk) (faults : V → ℕ) (
 
       pub stopped_sound : (store : StoreState) (waiting : List Effect) (count : ℕ) → waiting ≡ x.waiting → IsSoundPlace told (disk vol) store waiting (Some count) x.state
       stopped_sound store waiting count same = subst (λ (l : List Effect). IsSoundPlace told (disk vol) store l (Some count) x.state) (sym same)
-          (record { sound = h.sound; bounded = h.bounded; restorable = h.restorable; records = h.records; on_disk = both })
+          (record { sound = h.sound; bounded = h.bounded; writable = h.writable; restorable = h.restorable; records = h.records; on_disk = both })
 
-      pub time_goes_on : (n : Contents V) → n.vol ≡ vol → n.state ≡ x.state → n.store.log.head ≡ x.store.log.head → faults x.vol ≤ faults vol
+      pub time_goes_on : (n : Contents V) → n.vol ≡ vol → n.state ≡ x.state → unwrap_or x.store.log.head 0 ≤ unwrap_or n.store.log.head 0 → faults x.vol ≤ faults vol
           → Elapses holds (seen_of told disk faults x) (seen_of told disk faults n)
-      time_goes_on n volume state head rises = record {
+      time_goes_on n volume state generations rises = record {
         faults = subst (λ (v : V). faults x.vol ≤ faults v) (sym volume) rises;
         moments = subst (λ (v : V). (disk x.vol).moment ≤ (disk v).moment) (sym volume) later;
-        generations = subst (λ (o : Option ℕ). unwrap_or x.store.log.head 0 ≤ unwrap_or o 0) (sym head) (le_refl (unwrap_or x.store.log.head 0));
+        generations = generations;
         goes_on = λ t image le is.
             let k = backed is.0 in
             go t image is.0 ((any is.0 (durable_of k.base) (durable_of x.state) k.is_base (next_of k)).before t image le (subst (λ (v : V). (disk v).may_leave t image) volume is.1));
@@ -187,7 +202,7 @@ module _ {V : Type 0} (told : Type 0) (disk : V → Disk) (faults : V → ℕ) (
           go t (inl before) = inl (subst (base told disk x.stopped x.vol) (only_held on.image (backed t).base b before on.held) (on_base t))
           go t (inr next) = inr (only_held on.image b (lasting x.state) on.held next)
 
-      pub fails : (store : StoreState) (waiting : List Effect) (count : ℕ) → count ≡ faults vol → Rose (faults x.vol) (faults vol) → length_with x.store effects ≤ 2 ^ 31
+      pub fails : (store : StoreState) (waiting : List Effect) (count : ℕ) → count ≡ faults vol → Rose (faults x.vol) (faults vol) → ¬ IsTooLong x.store effects
           → FailsFlush (seen_of told disk faults x) (seen_of told disk faults (record { state = x.state; store = store; vol = vol; waiting = waiting; since = x.since; stored = x.stored; stopped = Some count }))
       fails store waiting count is rose short = record {
         keeps = record { going = going; state = refl; stored = refl };
@@ -198,12 +213,12 @@ module _ {V : Type 0} (told : Type 0) (disk : V → Disk) (faults : V → ℕ) (
       }
 
     -- the log is too full for it
-    pub fills : (store : StoreState) (vol : V) (waiting : List Effect) (count : ℕ) → count ≡ faults vol → store ≡ x.store → vol ≡ x.vol → x.waiting ≢ [] → 2 ^ 31 < length_with x.store effects
+    pub fills : (store : StoreState) (vol : V) (waiting : List Effect) (count : ℕ) → count ≡ faults vol → store ≡ x.store → vol ≡ x.vol → x.waiting ≢ [] → IsTooLong x.store effects
         → FillsFlush (seen_of told disk faults x) (seen_of told disk faults (record { state = x.state; store = store; vol = vol; waiting = waiting; since = x.since; stored = x.stored; stopped = Some count }))
     fills store vol waiting count is same_store same some long = record {
       keeps = record { going = going; state = refl; stored = refl };
       stops = ap (λ (n : ℕ). Some n) is;
-      cause = (some, subst (λ (l : List Effect). 2 ^ 31 < length_with x.store l) are long);
+      cause = (some, subst (IsTooLong x.store) are long);
       base = λ b on. keeps b (subst (λ (v : V). IsLeftNow told disk v b) same on);
       volume = leaves (record { state = x.state; store = store; vol = vol; waiting = waiting; since = x.since; stored = x.stored; stopped = Some count }) same same_store;
     }
@@ -226,7 +241,7 @@ module _ {V : Type 0} (told : Type 0) (disk : V → Disk) (faults : V → ℕ) (
             waits = ap (λ (d : Durable). Some d) (held x.state);
           }
 
-      pub brings : (waiting : List Effect) → waiting ≡ [] → length_with x.store effects ≤ 2 ^ 31
+      pub brings : (waiting : List Effect) → waiting ≡ [] → ¬ IsTooLong x.store effects
           → Flushed (seen_of told disk faults x) (seen_of told disk faults (record { state = x.state; store = store; vol = vol; waiting = waiting; since = x.since; stored = x.stored; stopped = x.stopped }))
       brings waiting none short = record {
         keeps = record { going = going; state = refl; stored = refl };
@@ -242,7 +257,7 @@ module _ {V : Type 0} (told : Type 0) (disk : V → Disk) (faults : V → ℕ) (
       brought_sound waiting none =
           subst (λ (l : List Effect). IsSoundPlace told (disk vol) store l x.stopped x.state) (sym none)
           (subst (λ (p : Option ℕ). IsSoundPlace told (disk vol) store [] p x.state) (sym going)
-          (record { sound = h.sound; bounded = h.bounded; restorable = h.restorable; records = refl; on_disk = backs }))
+          (record { sound = h.sound; bounded = h.bounded; writable = h.writable; restorable = h.restorable; records = refl; on_disk = backs }))
 
 -- ---- the places in blocks of what waits
 

@@ -12,7 +12,8 @@ use Rattle.effects.specs.Effects.{delivery_effects}
 use Rattle.effects.specs.declared.effect.Effect.{Effect}
 use Rattle.vol_disk.specs.Disk.{Disk}
 use Rattle.memory_place.specs.Answers.{DeliversNone, DeliversSome, LeftBy}
-use Rattle.place_engine.specs.Delivering.{Delivers, EndsDelivery, TellsDelivery, tick_at}
+use Rattle.place_engine.specs.Delivering.{Delivers, EndsDelivery, HidesDelivery, TellsDelivery, batch_with, tick_at}
+use Rattle.place_engine.specs.Flushing.{Unflushed}
 use Rattle.place_engine.specs.Following.{followed}
 use Rattle.memory_place.specs.Recording.{TellsLeft}
 use Rattle.place_engine.specs.Stepping.{Elapses}
@@ -23,10 +24,11 @@ use Rattle.place_engine.specs.declared.faults.PlaceFault.TheVariants.{NoMemory, 
 use Rattle.volume_place.specs.Bringing.{Confirms, GoesOn}
 use Rattle.volume_place.specs.Contents.{Contents}
 use Rattle.volume_place.specs.Images.{holds}
+use Rattle.volume_place.specs.Leaving.{LogGoes}
 use Rattle.volume_place.specs.Making.{KeepsStore, RecordsDelivery}
 use Rattle.volume_place.specs.Seeing.{seen_of}
 use Rattle.volume_place.specs.Tail.{SharesDelivery, is_small}
-use Rattle.volume_place.proofs.Steps.{no_time, passes, rests_still, told_as, undone}
+use Rattle.volume_place.proofs.Steps.{log_from, no_time, passes, rests_still, told_as, undone}
 
 module _ {V : Type 0} (told : Type 0) (disk : V → Disk) (faults : V → ℕ) (a : Contents V) where
   pub delivery_stopped : (count now : ℕ) (listening : List Bytes) (outs : List Out) → a.stopped ≡ Some count
@@ -130,19 +132,30 @@ module _ {V : Type 0} (told : Type 0) (disk : V → Disk) (faults : V → ℕ) (
         volume = record { volume = held.rests.volume.volume; images = held.rests.volume.images };
       })
 
+      -- what its log comes to
+      log : (n : Contents V) → GoesOn (Some false) (seen_of told disk faults Made) (seen_of told disk faults n) → LogGoes waiting Made n
+          → LogGoes (batch_with now delivery (seen_of told disk faults a) (seen_of told disk faults n)) a n
+      log n (inl all) goes = log_from a Made n (batch_with now delivery (seen_of told disk faults a) (seen_of told disk faults n)) refl (waits_as n.state all.all.keeps.state) goes
+      log n (inr held) goes = log_from a Made n (batch_with now delivery (seen_of told disk faults a) (seen_of told disk faults n)) refl (waits_as n.state held.rests.rests.state) goes
+
+      -- nothing is committed
+      hidden : (n : Contents V) (after : List Out) → Unflushed (seen_of told disk faults Made) (seen_of told disk faults n) → after ≡ middle
+          → HidesDelivery now listening (seen_of told disk faults a) (seen_of told disk faults n) before after
+      hidden n after rests same = record {
+        delivery = delivery;
+        sent = delivers.sent;
+        makes = record { going = going; delivered = delivered_as n.state rests.rests.state };
+        goes = rests.rests.stopped ∙ going;
+        outs = same ∙ delivers.outs_are;
+        put_off = record { base = rests.rests.base; waiting = rests.rests.waiting ∙ waits_as n.state rests.rests.state };
+        volume = record { volume = rests.volume.volume; images = rests.volume.images };
+      }
+
       ends_as : (result : Result (Unit {0}) PlaceFault) (n : Contents V) (after : List Out)
           → Confirms (Some false) false (length before) result (seen_of told disk faults Made) (seen_of told disk faults n) middle after
           → EndsDelivery (told_as (Some delivery) result) now listening (seen_of told disk faults a) (seen_of told disk faults n) before after
       ends_as (Ok done) n after h = tells n after h.1 h.0
-      ends_as (Err (NoMemory (Unsaid refused))) n after h = record {
-        delivery = delivery;
-        sent = delivers.sent;
-        makes = record { going = going; delivered = delivered_as n.state h.0.rests.state };
-        goes = h.0.rests.stopped ∙ going;
-        outs = h.2 ∙ delivers.outs_are;
-        put_off = record { base = h.0.rests.base; waiting = h.0.rests.waiting ∙ waits_as n.state h.0.rests.state };
-        volume = record { volume = h.0.volume.volume; images = h.0.volume.images };
-      }
+      ends_as (Err (NoMemory (Unsaid refused))) n after h = hidden n after h.0 h.2
       ends_as (Err StoreFault) n after h = record {
         delivery = delivery;
         sent = delivers.sent;
@@ -167,7 +180,7 @@ module _ {V : Type 0} (told : Type 0) (disk : V → Disk) (faults : V → ℕ) (
       ends_as (Err (NoMemory Ticked)) n after h = absurd h
       ends_as (Err (Stopped kept)) n after h = absurd h
       ends_as (Err (Gone kept)) n after h = absurd h
-      ends_as (Err (Worn refused)) n after h = absurd h
+      ends_as (Err (Worn refused)) n after h = record { hides = hidden n after h.0.unflushed h.2; last = h.0.last }
 
       kept_stored : (result : Result (Unit {0}) PlaceFault) (n : Contents V) (after : List Out)
           → Confirms (Some false) false (length before) result (seen_of told disk faults Made) (seen_of told disk faults n) middle after → n.stored ≡ a.stored
@@ -183,7 +196,7 @@ module _ {V : Type 0} (told : Type 0) (disk : V → Disk) (faults : V → ℕ) (
       kept_stored (Err (NoMemory Ticked)) n after h = absurd h
       kept_stored (Err (Stopped kept)) n after h = absurd h
       kept_stored (Err (Gone kept)) n after h = absurd h
-      kept_stored (Err (Worn refused)) n after h = absurd h
+      kept_stored (Err (Worn refused)) n after h = h.0.unflushed.rests.stored ∙ counted
 
       delivers_as : (result : Result (Unit {0}) PlaceFault) (n : Contents V) (after : List Out)
           → Confirms (Some false) false (length before) result (seen_of told disk faults Made) (seen_of told disk faults n) middle after
@@ -214,3 +227,14 @@ module _ {V : Type 0} (told : Type 0) (disk : V → Disk) (faults : V → ℕ) (
         let waits = records.waiting ∙ ap (followed a.waiting) records.told in
         shares m.state m.waiting m.stored records.counted delivery now listening before middle delivers waits n
         (subst (λ (p : Contents V). GoesOn (Some false) (seen_of told disk faults p) (seen_of told disk faults n)) rests confirms.0)
+
+    -- and so what its log comes to
+    pub delivery_log : (m n : Contents V) (delivery : Delivery) (now : ℕ) (listening : List Bytes) (before middle after : List Out) (count : ℕ)
+        → KeepsStore a m → DeliversSome a.state now listening delivery before middle m.state → RecordsDelivery (Ok (Some delivery)) now a m
+        → Confirms (Some false) false count (Ok tt) (seen_of told disk faults m) (seen_of told disk faults n) middle after → LogGoes m.waiting m n
+        → LogGoes (batch_with now delivery (seen_of told disk faults a) (seen_of told disk faults n)) a n
+    delivery_log m n delivery now listening before middle after count rests delivers records confirms goes =
+        let waits = records.waiting ∙ ap (followed a.waiting) records.told in
+        log m.state m.waiting m.stored records.counted delivery now listening before middle delivers waits n
+        (subst (λ (p : Contents V). GoesOn (Some false) (seen_of told disk faults p) (seen_of told disk faults n)) rests confirms.0)
+        (subst (λ (p : Contents V). LogGoes p.waiting p n) rests goes)

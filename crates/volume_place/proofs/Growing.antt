@@ -17,6 +17,7 @@ use Rattle.js_model.specs.Events.{answered, kept_incarnation}
 use Rattle.js_model.specs.Proper.{is_proper}
 use Rattle.js_model.specs.Runs.{IsStep, IsDeliverStep}
 use Rattle.model_laws.proofs.Bounded.{law_bounded}
+use Rattle.model_laws.proofs.Writable.{law_writable}
 use Rattle.model_laws.proofs.Sounding.{law_sound}
 use Rattle.effects.specs.Effects.{delivery_effects, event_effects}
 use Rattle.effects.specs.Laws.{Leads}
@@ -77,6 +78,7 @@ module _ (told : Type 0) (disk : Disk) (store : StoreState) (tail : List Effect)
         record {
           sound = law_sound many old new entries h.sound (new, step, refl);
           bounded = law_bounded many old new entries h.sound h.bounded (new, step, refl);
+          writable = law_writable many old new entries h.writable (new, step, refl);
           restorable = restorable_event many old new e now reply outs h.restorable step;
           records = together (left_before (event_effects old e.what now room) tail) (event_effects old e.what now room) (all_left is_record tail (event_effects old e.what now room) h.records) (event_records old e now room proper moment h.sound h.bounded);
           on_disk = λ t. grows_on_disk stopped (event_effects old e.what now room) new goes (law_events many old new e now reply outs step h.sound h.bounded) (h.on_disk t);
@@ -90,6 +92,7 @@ module _ (told : Type 0) (disk : Disk) (store : StoreState) (tail : List Effect)
         record {
           sound = law_sound 0 old new entries h.sound (new, step, refl);
           bounded = law_bounded 0 old new entries h.sound h.bounded (new, step, refl);
+          writable = law_writable 0 old new entries h.writable (new, step, refl);
           restorable = restorable_delivery old new now listening d outs h.restorable delivered;
           records = together (left_before (delivery_effects old now d new) tail) (delivery_effects old now d new) (all_left is_record tail (delivery_effects old now d new) h.records) (delivery_records old new now listening d outs step h.sound h.bounded);
           on_disk = λ t. grows_on_disk stopped (delivery_effects old now d new) new goes (law_deliveries old new now listening d outs delivered h.sound h.bounded) (h.on_disk t);

@@ -6,6 +6,9 @@ mod Apart
 mod Growing
 mod Changing
 mod Measuring
+mod Formed
+mod Committed
+mod Left
 mod Brought
 mod Concluded
 mod Steps

@@ -15,7 +15,7 @@ use Rattle.op_records.specs.declared.record.Record.{Record}
 use Rattle.place_engine.specs.Following.{begins_with_moment, followed, left_before}
 use Rattle.stream_store.proofs.Records.{record_there}
 use Rattle.stream_store.specs.Committing.{batch_length, no_spot, recorded_at}
-use Rattle.volume_place.specs.Measured.{AddUp, HaveLengths, IsLong, IsMeasured}
+use Rattle.volume_place.specs.Measured.{AddUp, HasLengths, HaveLengths, IsMeasured}
 use Rattle.volume_place.specs.Tail.{is_small}
 use Rattle.volume_place.specs.declared.lengths.Lengths.{Lengths}
 use Rattle.volume_place.proofs.Following.{Leaves, leaves, now_in}
@@ -37,7 +37,7 @@ both xs ys first more sum h k adds = record {
   logged = omega (arith, h.logged, k.logged, adds.logged, logged_both xs ys);
 }
 
-one_has : (e : Effect) (lengths : Lengths) → IsLong e lengths → HaveLengths (e ∷ []) lengths
+one_has : (e : Effect) (lengths : Lengths) → HasLengths e lengths → HaveLengths (e ∷ []) lengths
 one_has e lengths h = record {
   waiting = omega (arith, h.waiting, length-append (spelled e) []);
   logged = omega (arith, h.logged, length-append (spelled_record (recorded_at no_spot e)) []);
@@ -136,7 +136,7 @@ pub none_yet : (records : List Effect) (lengths : Lengths) → lengths ≡ recor
 none_yet records lengths is = subst (HaveLengths []) (sym is) (record { waiting = refl; logged = refl })
 
 pub one_more : (records : List Effect) (at : ℕ) (effect : Effect) (before more after : Lengths) → at < length records → effect ≡ get_or records at effect
-    → HaveLengths (take at records) before → IsLong effect more → AddUp before more after → HaveLengths (take (at + 1) records) after
+    → HaveLengths (take at records) before → HasLengths effect more → AddUp before more after → HaveLengths (take (at + 1) records) after
 one_more records at effect before more after within is so_far length_is adds =
     let next : take (at + 1) records ≡ take at records ++ effect ∷ [] = take_more records at effect within ∙ ap (λ (e : Effect). take at records ++ e ∷ []) (sym is) in
     subst (λ (l : List Effect). HaveLengths l after) (sym next) (both (take at records) (effect ∷ []) before more after so_far (one_has effect more length_is) adds)

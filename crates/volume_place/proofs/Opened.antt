@@ -9,9 +9,8 @@ use Rattle.restore_laws.proofs.Holding.{held_opened, restored}
 use Rattle.durable_checks.specs.Storable.{IsFormed, IsOpenable, IsStorable}
 use Rattle.vol_disk.specs.Clock.{IsClocked}
 use Rattle.vol_disk.specs.Disk.{Disk, Files}
-use Rattle.stream_store.specs.Base.{IsBase}
+use Rattle.stream_store.specs.Base.{IsBase, KeepsBase, LeavesBase}
 use Rattle.stream_store.specs.Beginning.{IsOutsideFault}
-use Rattle.stream_store.specs.Clearing.{KeepsBase}
 use Rattle.stream_store.specs.declared.fault.OpenFault.{OpenFault as StoreFault}
 use Rattle.stream_store.specs.declared.fault.OpenFault.TheVariants as of_store
 use Rattle.place_engine.specs.declared.faults.OpenFault.{OpenFault}
@@ -42,12 +41,12 @@ outside_refused image of_store.NoMemory given is outside = subst (IsRefusal imag
 
 -- files that are no blocks are cleared behind the opening of a store
 module _ {V : Type 0} (told : Type 0) (disk : V → Disk) (old mid vol : V) (opened store : StoreState) (d : Durable) (same : store ≡ opened) (found : told → Holds (disk old).seen d)
-    (is_base : told → IsBase opened d (disk mid)) (keeps : told → (base : Durable) → IsBase opened base (disk mid) → KeepsBase opened base (disk mid) (disk vol)) where
-  pub images_cleared : (told → KeepsImages (disk old) (disk mid)) → told → KeepsImages (disk old) (disk vol)
-  images_cleared any t = held_cleared opened d (disk old) (disk mid) (disk vol) (found t) (any t) (keeps t d (is_base t))
+    (is_base : told → IsBase opened d (disk mid)) where
+  pub images_cleared : (told → LeavesBase opened (disk mid) (disk vol)) → (told → KeepsImages (disk old) (disk mid)) → told → KeepsImages (disk old) (disk vol)
+  images_cleared leaves any t = held_cleared opened d (disk old) (disk mid) (disk vol) (found t) (any t) (leaves t d (is_base t))
 
-  pub base_cleared : told → IsBase store d (disk vol)
-  base_cleared t = subst (λ (s : StoreState). IsBase s d (disk vol)) (sym same) (keeps t d (is_base t)).is_base
+  pub base_cleared : (told → KeepsBase opened (disk mid) (disk vol)) → told → IsBase store d (disk vol)
+  base_cleared keeps t = subst (λ (s : StoreState). IsBase s d (disk vol)) (sym same) (keeps t d (is_base t))
 
 module _ {V : Type 0} (told : Type 0) (disk : V → Disk) (faults : V → ℕ) (clocked : (vol : V) → IsClocked (disk vol)) (old vol : V)
     (any : told → KeepsImages (disk old) (disk vol)) where
@@ -101,6 +100,7 @@ module _ {V : Type 0} (told : Type 0) (disk : V → Disk) (faults : V → ℕ) (
           (record {
             sound = kept.sound;
             bounded = kept.bounded;
+            writable = kept.writable;
             restorable = kept.restorable;
             records = refl;
             on_disk = λ t. subst (λ (l : List Effect). IsBacked (disk vol) store l state) none (backs t);

@@ -15,13 +15,16 @@ use Rattle.js_model.specs.Events.{answered, is_refused, kept_incarnation}
 use Rattle.js_model.specs.Firm.{IsFirmStep}
 use Rattle.js_model.specs.Runs.{new_messages}
 use Rattle.model_laws.specs.Sound.{IsSound}
+use Rattle.effects.specs.Durables.{durable_of}
 use Rattle.effects.specs.Effects.{event_effects}
 use Rattle.effects.specs.declared.effect.Effect.{Effect}
 use Rattle.vol_disk.specs.Disk.{Disk}
 use Rattle.place_engine.specs.Following.{followed}
+use Rattle.stream_store.specs.StoreState.{StoreState}
 use Rattle.memory_place.specs.Answers.{LeftBy}
 use Rattle.memory_place.specs.Recording.{TellsLeft}
-use Rattle.place_engine.specs.Stepping.{Elapses, Ends, IsUndone, Passes, Rests, Steps, Tells}
+use Rattle.place_engine.specs.Flushing.{Unflushed}
+use Rattle.place_engine.specs.Stepping.{Elapses, Ends, IsUndone, Passes, Rests, Steps, Tells, Withholds, batch_of}
 use Rattle.place_engine.specs.declared.faults.Left.{Left}
 use Rattle.place_engine.specs.declared.faults.Left.TheVariants.{Nothing, Ticked, Unsaid}
 use Rattle.place_engine.specs.declared.faults.PlaceFault.{PlaceFault}
@@ -29,6 +32,7 @@ use Rattle.place_engine.specs.declared.faults.PlaceFault.TheVariants.{NoMemory, 
 use Rattle.volume_place.specs.Bringing.{Confirms, GoesOn}
 use Rattle.volume_place.specs.Contents.{Contents}
 use Rattle.volume_place.specs.Images.{Keeps, holds}
+use Rattle.volume_place.specs.Leaving.{GoesTo, LogGoes}
 use Rattle.volume_place.specs.Making.{Answers, KeepsStore, RecordsEvent, has_block_for}
 use Rattle.volume_place.specs.Rooms.{room_in, stored_by}
 use Rattle.volume_place.specs.Seeing.{seen_of}
@@ -40,6 +44,12 @@ use Rattle.volume_place.proofs.Storing.{left_plain, none_stored, stored_new}
 abbrev pub told_as : {T : Type 0} → T → Result (Unit {0}) PlaceFault → Result T PlaceFault
 told_as value (Ok done) = Ok value
 told_as value (Err fault) = Err fault
+
+-- the log of a place goes on from what it was before something was made, by which it was not touched
+pub log_from : {V : Type 0} (a m n : Contents V) (effects : List Effect) → m.store ≡ a.store → m.waiting ≡ effects → LogGoes m.waiting m n → LogGoes effects a n
+log_from {V} a m n effects same are (inl rests) = inl (rests ∙ same)
+log_from {V} a m n effects same are (inr goes) =
+    inr (subst (λ (s : StoreState). GoesTo s effects (durable_of n.state) n.store.log) same (subst (λ (l : List Effect). GoesTo m.store l (durable_of n.state) n.store.log) are goes))
 
 module _ {V : Type 0} (told : Type 0) (disk : V → Disk) (faults : V → ℕ) where
   pub keeps_of : (a b : Contents V) → Elapses holds (seen_of told disk faults a) (seen_of told disk faults b) → Keeps disk faults a.vol b.vol
@@ -198,20 +208,25 @@ module _ {V : Type 0} (told : Type 0) (disk : V → Disk) (faults : V → ℕ) w
         volume = record { volume = held.rests.volume.volume; images = held.rests.volume.images };
       })
 
+      -- nothing is committed, and of the reply it is told whether it is a refusal
+      withheld : (refused : Bool) (n : Contents V) (after : List Out) → Unflushed (seen_of told disk faults Made) (seen_of told disk faults n) → refused ≡ is_refused reply → after ≡ middle
+          → Withholds refused e now (seen_of told disk faults a) (seen_of told disk faults n) before after
+      withheld refused n after rests refuses same = record {
+        hides = record {
+          does = record { going = going; kept = kept; state = rests.rests.state ∙ given_state };
+          goes = rests.rests.stopped ∙ going;
+          outs = same ∙ given_outs;
+          put_off = record { base = rests.rests.base; waiting = rests.rests.waiting ∙ waits };
+          volume = record { volume = rests.volume.volume; images = rests.volume.images };
+        };
+        refused_is = refuses ∙ ap is_refused given_reply;
+      }
+
       ends_as : (o : Option Bool) → IfSome o (λ u. Decides u (Urgent state)) → (result : Result (Unit {0}) PlaceFault) (n : Contents V) (after : List Out)
           → Confirms o (is_refused reply) (length before) result (seen_of told disk faults Made) (seen_of told disk faults n) middle after
           → Ends (told_as reply result) e now (seen_of told disk faults a) (seen_of told disk faults n) before after
       ends_as o decides (Ok done) n after h = tells o decides n after h.1 h.0
-      ends_as o decides (Err (NoMemory (Unsaid refused))) n after h = record {
-        hides = record {
-          does = record { going = going; kept = kept; state = h.0.rests.state ∙ given_state };
-          goes = h.0.rests.stopped ∙ going;
-          outs = h.2 ∙ given_outs;
-          put_off = record { base = h.0.rests.base; waiting = h.0.rests.waiting ∙ waits };
-          volume = record { volume = h.0.volume.volume; images = h.0.volume.images };
-        };
-        refused_is = h.1 ∙ ap is_refused given_reply;
-      }
+      ends_as o decides (Err (NoMemory (Unsaid refused))) n after h = withheld refused n after h.0 h.1 h.2
       ends_as o decides (Err StoreFault) n after h = record {
         does = record { going = going; kept = kept; state = h.0.keeps.state ∙ given_state };
         stops = h.0.stops;
@@ -232,7 +247,10 @@ module _ {V : Type 0} (told : Type 0) (disk : V → Disk) (faults : V → ℕ) w
       ends_as o decides (Err (NoMemory Ticked)) n after h = absurd h
       ends_as o decides (Err (Stopped kept)) n after h = absurd h
       ends_as o decides (Err (Gone kept)) n after h = absurd h
-      ends_as o decides (Err (Worn refused)) n after h = absurd h
+      ends_as o decides (Err (Worn refused)) n after h = record {
+        withholds = withheld refused n after h.0.unflushed h.1 h.2;
+        last = h.0.last;
+      }
 
       kept_state : (o : Option Bool) (result : Result (Unit {0}) PlaceFault) (n : Contents V) (after : List Out)
           → Confirms o (is_refused reply) (length before) result (seen_of told disk faults Made) (seen_of told disk faults n) middle after → (n.state ≡ state) × (n.stored ≡ stored)
@@ -249,7 +267,7 @@ module _ {V : Type 0} (told : Type 0) (disk : V → Disk) (faults : V → ℕ) w
       kept_state o (Err (NoMemory Ticked)) n after h = absurd h
       kept_state o (Err (Stopped kept)) n after h = absurd h
       kept_state o (Err (Gone kept)) n after h = absurd h
-      kept_state o (Err (Worn refused)) n after h = absurd h
+      kept_state o (Err (Worn refused)) n after h = (h.0.unflushed.rests.state, h.0.unflushed.rests.stored)
 
       module _ (sound : IsSound a.state) (most : stored ≤ a.stored + stored_by (event_effects a.state e.what now Room)) where
         counts : (n : Contents V) → n.state ≡ state → n.stored ≡ stored → n.stored ≤ a.stored + length (new_messages a.state n.state)
@@ -288,6 +306,12 @@ module _ {V : Type 0} (told : Type 0) (disk : V → Disk) (faults : V → ℕ) w
         let from = subst (λ (p : Contents V). Confirms o (is_refused reply) (length before) result (seen_of told disk faults p) (seen_of told disk faults n) middle after) rests so_many in
         steps_as m.state m.waiting m.stored e now reply before middle kept answers (waits_by m e now reply records) sound (most_by m e now reply records) o decides result n after from
         (subst (λ (p : Contents V). Elapses holds (seen_of told disk faults p) (seen_of told disk faults n)) rests time)
+
+    -- what its log comes to
+    pub log_made : (m n : Contents V) (e : Event) (now : ℕ) (reply : Reply) → KeepsStore a m → RecordsEvent (Ok reply) e.what now a m → LogGoes m.waiting m n
+        → LogGoes (batch_of e now (seen_of told disk faults a)) a n
+    log_made m n e now reply rests records goes =
+        log_from a m n (batch_of e now (seen_of told disk faults a)) (ap (λ (p : Contents V). p.store) rests) (waits_by m e now reply records) goes
 
     pub shares_made : (m n : Contents V) (e : Event) (now : ℕ) (reply : Reply) (before middle after : List Out) (o : Option Bool) (refused : Bool) (count : ℕ)
         → e.incarnation ≡ kept_incarnation a.state → KeepsStore a m → Answers e.what now reply before middle a m → RecordsEvent (Ok reply) e.what now a m

@@ -3,7 +3,7 @@ use Rattle.std.specs.Prelude.{◌≡◌, ◌⊎◌, ℕ, List, take, Option, Non
 use Rattle.js_base.specs.declared.out.Out.{Out}
 use Rattle.stream_store.specs.declared.fault.CommitFault.{CommitFault}
 use Rattle.stream_store.specs.declared.fault.CommitFault.TheVariants as commit
-use Rattle.place_engine.specs.Flushing.{FailsFlush, FillsFlush, Flushed, Unflushed}
+use Rattle.place_engine.specs.Flushing.{FailsFlush, FillsFlush, Flushed, Unflushed, WearsFlush}
 use Rattle.place_engine.specs.Stepping.{Seen}
 use Rattle.place_engine.specs.declared.faults.PlaceFault.{PlaceFault}
 use Rattle.place_engine.specs.declared.faults.PlaceFault.TheVariants.{NoMemory, StoreFault, Full, Stopped, Gone, Worn}
@@ -15,6 +15,7 @@ Brings (Ok done) old new = Flushed old new
 Brings (Err commit.NoMemory) old new = Unflushed old new
 Brings (Err commit.Fault) old new = FailsFlush old new
 Brings (Err commit.Full) old new = FillsFlush old new
+Brings (Err commit.Worn) old new = WearsFlush old new
 
 -- ---- once something was made, which waits as the last and is urgent or not
 
@@ -23,7 +24,7 @@ pub record CommitsAll (urgent : Bool) (old new : Seen) : Type 0 where
   pub cause : (urgent ≡ true) ⊎ (is_small old.waiting ≡ false)
   pub all : Flushed old new
 
--- nothing is, and the log has room for it
+-- nothing is, and the log would not be too long with it
 pub record HoldsBack (urgent : Bool) (old new : Seen) : Type 0 where
   pub patient : urgent ≡ false
   pub small : is_small old.waiting ≡ true
@@ -40,6 +41,7 @@ Concludes urgent (Ok done) old new = GoesOn urgent old new
 Concludes urgent (Err commit.NoMemory) old new = Unflushed old new
 Concludes urgent (Err commit.Fault) old new = FailsFlush old new
 Concludes urgent (Err commit.Full) old new = FillsFlush old new
+Concludes urgent (Err commit.Worn) old new = WearsFlush old new
 
 -- What was made has this for a refusal or not; before it there were so many outputs. They stay, unless the place is stopped.
 abbrev pub Confirms : Option Bool → Bool → ℕ → Result (Unit {0}) PlaceFault → Seen → Seen → List Out → List Out → Type 0
@@ -51,4 +53,4 @@ Confirms urgent refused count (Err (NoMemory Nothing)) old new before after = �
 Confirms urgent refused count (Err (NoMemory Ticked)) old new before after = ⊥
 Confirms urgent refused count (Err (Stopped kept)) old new before after = ⊥
 Confirms urgent refused count (Err (Gone kept)) old new before after = ⊥
-Confirms urgent refused count (Err (Worn told)) old new before after = ⊥
+Confirms urgent refused count (Err (Worn told)) old new before after = WearsFlush old new × (told ≡ refused) × (after ≡ before)

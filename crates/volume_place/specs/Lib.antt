@@ -9,5 +9,7 @@ pub mod Tail
 pub mod Since
 pub mod Moments
 pub mod Measured
+pub mod Leaving
+pub mod Committed
 pub mod Bringing
 pub mod Making

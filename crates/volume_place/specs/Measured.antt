@@ -7,7 +7,7 @@ use Rattle.stream_store.specs.Committing.{batch_length, no_spot, recorded_at}
 use Rattle.volume_place.specs.declared.lengths.Lengths.{Lengths}
 
 -- those of one record
-pub record IsLong (effect : Effect) (lengths : Lengths) : Type 0 where
+pub record HasLengths (effect : Effect) (lengths : Lengths) : Type 0 where
   pub waiting : lengths.waiting ≡ length (spelled effect)
   pub logged : lengths.logged ≡ length (spelled_record (recorded_at no_spot effect))
 

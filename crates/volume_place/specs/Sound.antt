@@ -3,7 +3,7 @@ use Rattle.std.specs.Prelude.{◌≡◌, ◌⊎◌, ℕ, List, IsTrue, Option, N
 use Rattle.std.specs.List.{list_all}
 use Rattle.js_model.specs.declared.stream.State.{State}
 use Rattle.js_model.specs.Lasting.{lasting}
-use Rattle.model_laws.specs.Bounds.{IsBounded}
+use Rattle.model_laws.specs.Bounds.{IsBounded, IsWritable}
 use Rattle.model_laws.specs.Sound.{IsSound}
 use Rattle.effects.specs.Durables.{durable_of}
 use Rattle.effects.specs.Restorable.{IsRestorable}
@@ -37,6 +37,7 @@ IsOnDisk (Some count) disk store waiting state = IsLeftByBoth disk waiting state
 pub record IsSoundPlace (told : Type 0) (disk : Disk) (store : StoreState) (waiting : List Effect) (stopped : Option ℕ) (state : State) : Type 0 where
   pub sound : IsSound state
   pub bounded : IsBounded state
+  pub writable : IsWritable state
   pub restorable : IsRestorable state
   pub records : IsTrue (list_all is_record waiting)
   pub on_disk : told → IsOnDisk stopped disk store waiting state

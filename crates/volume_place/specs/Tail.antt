@@ -19,12 +19,12 @@ use Rattle.volume_place.specs.Since.{IsOverdue}
 abbrev pub is_small : List Effect → Bool
 is_small effects = nat_lt (length effects) 1024 && nat_lt (length (flat_map spelled effects)) (2 ^ 20)
 
--- and a log has room for them with a batch
+-- and the log would not be too long with a batch of them
 pub record MayWait (store : StoreState) (effects : List Effect) : Type 0 where
   pub small : is_small effects ≡ true
   pub fits : ¬ IsFull store effects
 
--- they are not few or not short, or a log has no room for them
+-- they are not few or not short, or the log would be too long
 abbrev pub MustNotWait : StoreState → List Effect → Type 0
 MustNotWait store effects = (is_small effects ≡ false) ⊎ IsFull store effects
 

@@ -5,7 +5,7 @@ ghost use Rattle.std.specs.List.{list_all};
 ghost use Rattle.op_records.specs.Allowed.{is_record};
 ghost use Rattle.op_records.specs.Spelling.{spelled, spelled_record};
 ghost use Rattle.stream_store.specs.Committing.{no_spot, recorded_at};
-ghost use Rattle.volume_place.specs.Measured.{AddUp, HaveLengths, IsLong};
+ghost use Rattle.volume_place.specs.Measured.{AddUp, HasLengths, HaveLengths};
 
 use effects::Effect;
 use js_base::NoMemory;
@@ -61,7 +61,7 @@ pub(crate) fn lengths_of(alloc: Global, records: &[Effect]) -> Result<Lengths, N
 /// How long the record is.
 fn record_lengths(alloc: Global, effect: &Effect) -> Result<Lengths, NoMemory>
     requires record { IsTrue (is_record effect.now) }
-    ensures value { IfOk result (IsLong effect.now) }
+    ensures value { IfOk result (HasLengths effect.now) }
 {
     let mut bytes = Vec::new(alloc);
     write_effect(alloc, effect, &mut bytes)?;

@@ -1,6 +1,7 @@
 //! A place that keeps its stream on a volume, so that it outlives a crash.
 #![tactic(auto)]
 
+mod committing;
 mod firm;
 mod lengths;
 mod outputs;

@@ -7,6 +7,7 @@ ghost use Rattle.op_records.specs.Allowed.{is_record};
 ghost use Rattle.place_engine.specs.Following.{begins_with_moment, followed, is_now};
 ghost use Rattle.place_records.specs.Records.{effects_in};
 ghost use Rattle.stream_store.specs.Committing.{batch_length};
+ghost use Rattle.volume_place.specs.Measured.{HaveLengths};
 ghost use Rattle.volume_place.specs.Since.{is_moment};
 ghost use Rattle.volume_place.specs.Tail.{ends_with_moment, is_small};
 
@@ -84,22 +85,40 @@ impl Tail {
         Ok(more)
     }
 
-    /// In how many bytes a log has the records, if they are so few and so short that they may wait.
-    pub(crate) fn measure(&mut self, alloc: Global) -> Result<Option<usize>, NoMemory>
+    /// How long the records are, each of which is measured once.
+    fn lengths(&mut self, alloc: Global) -> Result<Lengths, NoMemory>
         requires records { IsTrue (list_all is_record self.old) }
         ensures same { self.new ≡ self.old }
-        ensures value { IfOk result (λ bytes. MatchOption bytes (is_small self.old ≡ false) (λ n. (is_small self.old ≡ true) × (n ≡ batch_length self.old))) }
+        ensures value { IfOk result (HaveLengths self.old) }
     {
-        let count = self.records.len();
-        if count >= MAX_RECORDS {
-            return Ok(None);
-        }
         let more = lengths_of(alloc, self.records.as_slice().split_at(self.measured).1)?;
         let Some(lengths) = self.lengths.plus(more) else {
             return Err(NoMemory);
         };
         self.lengths = lengths;
-        self.measured = count;
+        self.measured = self.records.len();
+        Ok(lengths)
+    }
+
+    /// In how many bytes a log has the records.
+    pub(crate) fn logged_len(&mut self, alloc: Global) -> Result<usize, NoMemory>
+        requires records { IsTrue (list_all is_record self.old) }
+        ensures same { self.new ≡ self.old }
+        ensures value { IfOk result (λ bytes. bytes ≡ batch_length self.old) }
+    {
+        Ok(self.lengths(alloc)?.logged)
+    }
+
+    /// The same, if they are so few and so short that they may wait.
+    pub(crate) fn measure(&mut self, alloc: Global) -> Result<Option<usize>, NoMemory>
+        requires records { IsTrue (list_all is_record self.old) }
+        ensures same { self.new ≡ self.old }
+        ensures value { IfOk result (λ bytes. MatchOption bytes (is_small self.old ≡ false) (λ n. (is_small self.old ≡ true) × (n ≡ batch_length self.old))) }
+    {
+        if self.records.len() >= MAX_RECORDS {
+            return Ok(None);
+        }
+        let lengths = self.lengths(alloc)?;
         if lengths.waiting < MAX_BYTES {
             Ok(Some(lengths.logged))
         } else {

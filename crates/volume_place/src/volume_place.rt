@@ -1,28 +1,30 @@
 //! A place on a volume.
 
-ghost use Rattle.std.specs.Prelude.{◌≡◌, Decides, Err, IfErr, IfOk, IfSome, IsTrue, MatchBool, None, Ok};
+ghost use Rattle.std.specs.Prelude.{◌≡◌, Decides, Err, IfErr, IfOk, IfSome, IsTrue, MatchBool, MatchResult, None, Ok};
 ghost use Rattle.js_base.specs.Causes.{Rose};
 ghost use Rattle.js_model.specs.Events.{kept_incarnation};
 ghost use Rattle.js_model.specs.Firm.{IsFirmStep};
 ghost use Rattle.js_model.specs.Proper.{is_proper};
 ghost use Rattle.memory_place.specs.Answers.{LeftBy, MayDeliver};
-ghost use Rattle.place_engine.specs.Delivering.{Delivers};
+ghost use Rattle.place_engine.specs.Delivering.{Delivers, batch_with};
 ghost use Rattle.place_engine.specs.Flushing.{Flushes};
 ghost use Rattle.place_engine.specs.Opening.{IsOpened, IsUnopened};
 ghost use Rattle.place_engine.specs.Places.{IsTold};
 ghost use Rattle.place_engine.specs.Shown.{IsShown};
-ghost use Rattle.place_engine.specs.Stepping.{Elapses, IsKept, Steps};
+ghost use Rattle.place_engine.specs.Stepping.{Elapses, IsKept, Steps, batch_of};
 ghost use Rattle.timers.specs.Bounds.{IsTimerBound};
 ghost use Rattle.timers.specs.Timers.{timers};
-ghost use Rattle.stream_store.specs.Clearing.{AreCleared};
+ghost use Rattle.stream_store.specs.Clearing.{AreCleared, IsOtherClosed};
 ghost use Rattle.volume_place.specs.Bringing.{Brings, Concludes, Confirms};
 ghost use Rattle.volume_place.specs.Images.{Keeps, base, clock, holds, left, reads};
+ghost use Rattle.volume_place.specs.Leaving.{IsLeftIfToldWorn, IsLeftIfWorn, LogGoes};
 ghost use Rattle.volume_place.specs.Making.{Answers, KeepsStore, RecordsDelivery, RecordsEvent};
 ghost use Rattle.volume_place.specs.Opening.{fault_of, opens, refuses};
 ghost use Rattle.volume_place.specs.Seeing.{seen_of};
 ghost use Rattle.volume_place.specs.Since.{KeepsTail, since_by, tail_timers};
 ghost use Rattle.volume_place.specs.Tail.{MayWait, MustNotWait, SharesDelivery, SharesStep};
 
+use crate::committing::{commit, takes};
 use crate::firm::{Answered, is_firm};
 use crate::outputs::{cut_to, is_refused};
 use crate::room::{answer_in, count_with, has_room};
@@ -40,7 +42,8 @@ use timer_bounds::earlier;
 use vol_disk::Vol;
 
 /// A place whose stream is kept on a volume. A step that is firm is committed before it is answered, together with all that waits. What any other step and a
-/// delivery change waits, until there are 1,024 records or 1 MiB of them, or until a tick a second after the first of it was made. In memory it keeps the stream, and the records that wait.
+/// delivery change waits, until there are 1,024 records or 1 MiB of them, or until a tick a second after the first of it was made. A commit that would make the
+/// log long leaves it for the next one, which begins with all that lasts. In memory it keeps the stream, and the records that wait.
 #[derive(Drop)]
 pub struct VolumePlace<V: Vol> {
     alloc: Global,
@@ -171,28 +174,36 @@ impl<V: Vol> VolumePlace<V> {
         sent
     }
 
-    /// Commits all that waits, if anything does. A fault, or a log that is full, stops the place. `NoMemory` leaves all as it was.
+    /// Commits all that waits, if anything does, in the next log if it would make this one long. A fault, or a log that is full, stops the place. `Worn` and
+    /// `NoMemory` leave all as it was.
     #[tactic(none)]
     fn bring(&mut self) -> Result<(), CommitFault>
         requires going { self.old.stopped ≡ None }
         ensures brings { Brings result (seen_of V.told V.disk V.faults self.old) (seen_of V.told V.disk V.faults self.new) }
+        ensures log { MatchResult result (λ done. LogGoes self.old.waiting self.old self.new) (λ fault. IsLeftIfWorn fault self.new) }
         ensures tail { KeepsTail self.old self.new }
         ensures time { Elapses holds (seen_of V.told V.disk V.faults self.old) (seen_of V.told V.disk V.faults self.new) }
     {
         let Ok(_) = self.tail.take(&mut self.made) else {
             return Err(CommitFault::NoMemory);
         };
-        let records = self.tail.records();
-        if records.is_empty() {
+        if self.tail.records().is_empty() {
             return Ok(());
         }
-        match self.store.commit(self.alloc, &mut self.vol, records) {
+        match commit(
+            self.alloc,
+            &self.slot,
+            &mut self.store,
+            &mut self.vol,
+            &mut self.tail,
+        ) {
             Ok(()) => {
                 self.tail.clear();
                 self.since = None;
                 Ok(())
             }
             Err(CommitFault::NoMemory) => Err(CommitFault::NoMemory),
+            Err(CommitFault::Worn) => Err(CommitFault::Worn),
             Err(CommitFault::Fault) => {
                 self.stopped = Some(self.vol.faults());
                 Err(CommitFault::Fault)
@@ -204,7 +215,7 @@ impl<V: Vol> VolumePlace<V> {
         }
     }
 
-    /// Whether all that waits may wait on: it is little, and the log has room for it.
+    /// Whether all that waits may wait on: it is little, and can be committed.
     fn may_wait(&mut self) -> Result<bool, NoMemory>
         ensures same { self.new ≡ self.old }
         ensures waits { IfOk result (λ waits. MatchBool waits (MayWait self.old.store self.old.waiting) (MustNotWait self.old.store self.old.waiting)) }
@@ -213,7 +224,7 @@ impl<V: Vol> VolumePlace<V> {
         let Some(bytes) = self.tail.measure(self.alloc)? else {
             return Ok(false);
         };
-        Ok(self.tail.records().is_empty() || self.store.fits(bytes))
+        Ok(self.tail.records().is_empty() || takes(&self.store, bytes))
     }
 
     /// Commits all that waits once something was made that is urgent, or if it may not wait on. If it is not known whether that is urgent, it is `NoMemory`,
@@ -221,6 +232,7 @@ impl<V: Vol> VolumePlace<V> {
     fn conclude(&mut self, urgent: Option<bool>) -> Result<(), CommitFault>
         requires going { self.old.stopped ≡ None }
         ensures concludes { Concludes urgent result (seen_of V.told V.disk V.faults self.old) (seen_of V.told V.disk V.faults self.new) }
+        ensures log { MatchResult result (λ done. LogGoes self.old.waiting self.old self.new) (λ fault. IsLeftIfWorn fault self.new) }
         ensures tail { KeepsTail self.old self.new }
         ensures time { Elapses holds (seen_of V.told V.disk V.faults self.old) (seen_of V.told V.disk V.faults self.new) }
     {
@@ -243,12 +255,14 @@ impl<V: Vol> VolumePlace<V> {
     ) -> Result<(), PlaceFault>
         requires going { self.old.stopped ≡ None }
         ensures confirms { Confirms urgent refused count result (seen_of V.told V.disk V.faults self.old) (seen_of V.told V.disk V.faults self.new) outs.old outs.new }
+        ensures log { MatchResult result (λ done. LogGoes self.old.waiting self.old self.new) (λ fault. IsLeftIfToldWorn fault self.new) }
         ensures tail { KeepsTail self.old self.new }
         ensures time { Elapses holds (seen_of V.told V.disk V.faults self.old) (seen_of V.told V.disk V.faults self.new) }
     {
         match self.conclude(urgent) {
             Ok(()) => Ok(()),
             Err(CommitFault::NoMemory) => Err(PlaceFault::NoMemory(Left::Unsaid { refused })),
+            Err(CommitFault::Worn) => Err(PlaceFault::Worn { refused }),
             Err(CommitFault::Fault) => {
                 cut_to(self.alloc, count, outs);
                 tell_stopped(&self.slot, &self.vol, false);
@@ -291,8 +305,8 @@ impl<V: Vol> Place for VolumePlace<V> {
 
     ghost refuses = { refuses V.told V.disk };
 
-    /// What the volume holds is read, and a stream restored to it. If the volume never had a place, a log is begun on it that says so. Files that are no blocks, and
-    /// in which a crash left bytes, are cut to nothing.
+    /// What the volume holds is read, and a stream restored to it. If the volume never had a place, a log is begun on it that says so. The log that is not current
+    /// is cleared, and files that are no blocks, and in which a crash left bytes, are cut to nothing.
     fn open(alloc: Global, volume: V) -> Result<VolumePlace<V>, (OpenFault, V)>
         ensures opened { IfOk result (λ place. IsOpened holds (reads V.told V.disk) (left V.told V.disk) (clock V.disk) (opens V.told V.disk) volume (seen_of V.told V.disk V.faults place)) }
         ensures vol { IfOk result (λ place. Keeps V.disk V.faults volume place.vol) }
@@ -301,6 +315,7 @@ impl<V: Vol> Place for VolumePlace<V> {
         ensures unopened { IfErr result (λ stop. IsUnopened holds (reads V.told V.disk) (left V.told V.disk) (clock V.disk) (opens V.told V.disk) volume stop.1) }
         ensures given_back { IfErr result (λ stop. Keeps V.disk V.faults volume stop.1) }
         ensures cleared { V.told → IfOk result (λ place. AreCleared place.store.blocks (V.disk volume) (V.disk place.vol)) }
+        ensures closed { V.told → IfOk result (λ place. IsOtherClosed place.store.log (V.disk place.vol)) }
     {
         let mut vol = volume;
         let (mut store, durable) = match Store::open(alloc, &mut vol) {
@@ -372,6 +387,7 @@ impl<V: Vol> Place for VolumePlace<V> {
         ensures shown { IfOk result IsShown }
         ensures vol { Keeps V.disk V.faults self.old.vol self.new.vol }
         ensures shares { IfOk result (λ reply. SharesStep self.old.since reply event.now now (seen_of V.told V.disk V.faults self.old) (seen_of V.told V.disk V.faults self.new)) }
+        ensures log { MatchResult result (λ reply. LogGoes (batch_of event.now now (seen_of V.told V.disk V.faults self.old)) self.old self.new) (λ fault. IsLeftIfToldWorn fault self.new) }
         ensures since { self.new.since ≡ since_by now self.old.since self.new.waiting }
     {
         if let Some(count) = self.stopped {
@@ -403,6 +419,7 @@ impl<V: Vol> Place for VolumePlace<V> {
         ensures delivers { Delivers holds result now listening.now (seen_of V.told V.disk V.faults self.old) (seen_of V.told V.disk V.faults self.new) outs.old outs.new }
         ensures vol { Keeps V.disk V.faults self.old.vol self.new.vol }
         ensures shares { IfOk result (λ made. IfSome made (λ delivery. SharesDelivery delivery now (seen_of V.told V.disk V.faults self.old) (seen_of V.told V.disk V.faults self.new))) }
+        ensures log { MatchResult result (λ made. IfSome made (λ delivery. LogGoes (batch_with now delivery (seen_of V.told V.disk V.faults self.old) (seen_of V.told V.disk V.faults self.new)) self.old self.new)) (λ fault. IsLeftIfToldWorn fault self.new) }
         ensures since { self.new.since ≡ since_by now self.old.since self.new.waiting }
     {
         if let Some(count) = self.stopped {
@@ -421,6 +438,7 @@ impl<V: Vol> Place for VolumePlace<V> {
 
     fn flush(&mut self) -> Result<(), PlaceFault>
         ensures flushes { Flushes holds result (seen_of V.told V.disk V.faults self.old) (seen_of V.told V.disk V.faults self.new) }
+        ensures log { MatchResult result (λ done. LogGoes self.old.waiting self.old self.new) (λ fault. IsLeftIfToldWorn fault self.new) }
         ensures vol { Keeps V.disk V.faults self.old.vol self.new.vol }
         ensures tail { KeepsTail self.old self.new }
     {
@@ -430,6 +448,7 @@ impl<V: Vol> Place for VolumePlace<V> {
         match self.bring() {
             Ok(()) => Ok(()),
             Err(CommitFault::NoMemory) => Err(PlaceFault::NoMemory(Left::Nothing)),
+            Err(CommitFault::Worn) => Err(PlaceFault::Worn { refused: false }),
             Err(CommitFault::Fault) => {
                 tell_stopped(&self.slot, &self.vol, false);
                 Err(PlaceFault::StoreFault)

@@ -107,9 +107,6 @@ returns-clause-gives g c = λ told.
     gives_before c.args.log.now was mid c.in_ok-read.read (c.loop-made.invariant.quiet told)
     (end_gives c.args.log.now c.loop-made.gate (made_in c.loop-made.made) c.loop-made.last mid c.in_ok-read.read (c.loop-made.invariant.reaches told) read c.in_ok-read.ensures.value c.in_ok-read.ensures.last)
 
-pub into_read-requires : goal.into_read-requires
-into_read-requires g c = record { sound = c.loop-made.invariant.sound }
-
 pub returns-in_err-read-clause-fault : goal.returns-in_err-read-clause-fault
 returns-in_err-read-clause-fault g c = λ told. let p = err_from_is_err_and c.from_residual-in_err-read.result c.from_residual-in_err-read.ensures.1 in rw (p.1, p.2) tt
 

@@ -20,13 +20,10 @@ returns-in_err-first-clause-fault g c = λ told.
     let p = err_from_is_err_and c.from_residual.result c.from_residual.ensures.1 in
     rw (p.1, p.2) (outside_fault c.args.log.now (g.V.Vol.disk c.args.vol.now) c.in_err-first.field-0.0 (c.in_err-first.ensures.only told))
 
-pub into_read-requires : goal.into_read-requires
-into_read-requires g c = record { sound = c.in_ok-vacant.ensures.sound }
-
 pub returns-in_default-clause-gives : goal.returns-in_default-clause-gives
 returns-in_default-clause-gives g c = λ told.
     let was = g.V.Vol.disk c.args.vol.now in
-    none_gives c.args.log.now was c.in_ok-read.read (subst (λ (o : Option (Bytes × ℕ)). IsReadAt c.args.log.now 16 was o) c.in_default.is (c.in_ok-first.ensures.found told)) (c.in_ok-read.ensures.value ∙ c.in_ok-vacant.ensures.value) c.in_ok-read.ensures.last
+    none_gives c.args.log.now was c.in_ok-read.read (subst (λ (o : Option (Bytes × ℕ)). IsReadAt c.args.log.now 20 was o) c.in_default.is (c.in_ok-first.ensures.found told)) (c.in_ok-read.ensures.value ∙ c.in_ok-vacant.ensures.value) c.in_ok-read.ensures.last
 
 pub returns-in_default-clause-logged : goal.returns-in_default-clause-logged
 returns-in_default-clause-logged g c = subst IsLogged (sym c.in_ok-read.ensures.value) c.in_ok-vacant.ensures.sound.logged
@@ -37,14 +34,14 @@ returns-in_default-clause-storable g c =
 
 pub add_first-requires : goal.add_first-requires
 add_first-requires g c =
-    let further = subst (λ (o : Option (Bytes × ℕ)). IsFurther 16 o) c.in-Some.is c.in_ok-first.ensures.further in
+    let further = subst (λ (o : Option (Bytes × ℕ)). IsFurther 20 o) c.in-Some.is c.in_ok-first.ensures.further in
     record { batch = subst (λ (l : Bytes). length l < 2 ^ 32) (sym c.as_slice.ensures) further.0 }
 
 pub returns-in_err-begun-clause-fault : goal.returns-in_err-begun-clause-fault
 returns-in_err-begun-clause-fault g c = λ told.
     let was = g.V.Vol.disk c.args.vol.now in
     let p = err_from_is_err_and c.from_residual-in_err-begun.result c.from_residual-in_err-begun.ensures.1 in
-    let read = subst (λ (o : Option (Bytes × ℕ)). IsReadAt c.args.log.now 16 was o) c.in-Some.is (c.in_ok-first.ensures.found told) in
+    let read = subst (λ (o : Option (Bytes × ℕ)). IsReadAt c.args.log.now 20 was o) c.in-Some.is (c.in_ok-first.ensures.found told) in
     let fault = subst (λ (l : Bytes). IsFirstFault l c.in_err-begun.field-0.0) c.as_slice.ensures c.in_err-begun.ensures.fault in
     rw (p.1, p.2) (first_read_fault c.args.log.now c.in-Some.first c.in-Some.gate was c.in_err-begun.field-0.0 read fault)
 
@@ -64,7 +61,7 @@ read_later-requires g c = record {
       let was = g.V.Vol.disk c.args.vol.now in
       let mid = g.V.Vol.disk c.next_batch.new.vol in
       let settled = c.requires.settled told in
-      let read = subst (λ (o : Option (Bytes × ℕ)). IsReadAt c.args.log.now 16 was o) c.in-Some.is (c.in_ok-first.ensures.found told) in
+      let read = subst (λ (o : Option (Bytes × ℕ)). IsReadAt c.args.log.now 20 was o) c.in-Some.is (c.in_ok-first.ensures.found told) in
       let begins = subst (λ (l : Bytes). Begins l (made_in c.in_ok-begun.begun)) c.as_slice.ensures c.in_ok-begun.ensures.begun in
       first_begun c.args.log.now c.in-Some.first c.in-Some.gate (made_in c.in_ok-begun.begun) was mid settled.0 settled.1 read (c.next_batch.ensures.quiet told) begins;
 }

@@ -1,5 +1,6 @@
 use Rattle.std.proofs.Common.{arith, refl, sym, ◌∙◌}
 use Rattle.std.proofs.lemmas.Bool.{true≢false}
+use Rattle.stream_store.specs.Clearing.{IsUsed}
 use Rattle.stream_store.proofs.Cleared.{dropped_elsewhere, dropped_spares, looked_at, spares_none, spares_quiet}
 use Rattle.stream_store.proofs.clearing.clear_file.Goals as goal
 
@@ -8,7 +9,7 @@ pub returns-then-has_block-clause-cleared : goal.returns-then-has_block-clause-c
 returns-then-has_block-clause-cleared g c = λ told free. absurd (true≢false (sym c.if-has_block.true ∙ c.has_block.ensures ∙ free))
 
 pub returns-then-has_block-clause-spares : goal.returns-then-has_block-clause-spares
-returns-then-has_block-clause-spares g c = λ told. spares_none c.args.table.now (g.V.Vol.disk c.args.vol.now) (g.met.V.Vol.clocked c.args.vol.now)
+returns-then-has_block-clause-spares g c = λ told. spares_none (IsUsed c.args.table.now) (g.V.Vol.disk c.args.vol.now) (g.met.V.Vol.clocked c.args.vol.now)
 
 pub returns-then-has_block-clause-elsewhere : goal.returns-then-has_block-clause-elsewhere
 returns-then-has_block-clause-elsewhere g c = λ told other apart. record { seen = refl; leaves = λ bytes left. left }
@@ -18,7 +19,7 @@ pub returns-in_err-len-clause-spares : goal.returns-in_err-len-clause-spares
 returns-in_err-len-clause-spares g c = λ told.
     let old = g.V.Vol.disk c.args.vol.now in
     let new = g.V.Vol.disk c.len.new.self in
-    spares_quiet c.args.table.now old new (looked_at c.args.file old new (g.met.V.Vol.clocked c.args.vol.now) (c.len.ensures.does told) (c.len.ensures.seen told))
+    spares_quiet (IsUsed c.args.table.now) old new (looked_at c.args.file old new (g.met.V.Vol.clocked c.args.vol.now) (c.len.ensures.does told) (c.len.ensures.seen told))
 
 pub returns-in_err-len-clause-elsewhere : goal.returns-in_err-len-clause-elsewhere
 returns-in_err-len-clause-elsewhere g c = λ told other apart. (c.len.ensures.does told).elsewhere other apart
@@ -28,7 +29,7 @@ pub returns-then-branch-eq0-clause-spares : goal.returns-then-branch-eq0-clause-
 returns-then-branch-eq0-clause-spares g c = λ told.
     let old = g.V.Vol.disk c.args.vol.now in
     let new = g.V.Vol.disk c.len.new.self in
-    spares_quiet c.args.table.now old new (looked_at c.args.file old new (g.met.V.Vol.clocked c.args.vol.now) (c.len.ensures.does told) (c.len.ensures.seen told))
+    spares_quiet (IsUsed c.args.table.now) old new (looked_at c.args.file old new (g.met.V.Vol.clocked c.args.vol.now) (c.len.ensures.does told) (c.len.ensures.seen told))
 
 pub returns-then-branch-eq0-clause-elsewhere : goal.returns-then-branch-eq0-clause-elsewhere
 returns-then-branch-eq0-clause-elsewhere g c = λ told other apart. (c.len.ensures.does told).elsewhere other apart

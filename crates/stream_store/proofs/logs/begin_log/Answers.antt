@@ -23,18 +23,18 @@ returns-in-Ok-append-clause-base g c = λ told.
     let old = g.V.Vol.disk c.args.vol.now in
     let mid = g.V.Vol.disk c.start.new.vol in
     let new = g.V.Vol.disk c.append.new.vol in
-    begun old (c.requires.unbegun told) mid (c.start.ensures.any_moment told) c.in-Ok.log c.in-Ok.ensures.log (c.in-Ok.ensures.settled told) c.as_slice-bytes.result.now (c.as_slice-bytes.ensures.value ∙ c.in_ok-records.ensures.bytes) c.law_bytes.ensures.law
+    begun old (c.requires.unbegun told) mid (c.start.ensures.any_moment told) (c.start.ensures.grows told) (c.in-Ok.ensures.size told) c.in-Ok.log c.in-Ok.ensures.log (c.in-Ok.ensures.settled told) c.as_slice-bytes.result.now (c.as_slice-bytes.ensures.value ∙ c.in_ok-records.ensures.bytes) c.law_bytes.ensures.law
     c.append.new.self new (c.append.ensures.any_moment told) (c.in-Ok-append.ensures.appended told) c.in-Ok-append.ensures.log
 
 pub returns-in-Ok-append-clause-any_moment : goal.returns-in-Ok-append-clause-any_moment
 returns-in-Ok-append-clause-any_moment g c = λ told.
     let old = g.V.Vol.disk c.args.vol.now in
     let mid = g.V.Vol.disk c.start.new.vol in
-    appending old (c.requires.unbegun told) mid (c.start.ensures.any_moment told) c.in-Ok.log c.in-Ok.ensures.log (c.in-Ok.ensures.settled told) c.as_slice-bytes.result.now (c.as_slice-bytes.ensures.value ∙ c.in_ok-records.ensures.bytes) c.law_bytes.ensures.law
-    (g.V.Vol.disk c.append.new.vol) (c.append.ensures.any_moment told)
+    appending old (c.requires.unbegun told) mid (c.start.ensures.any_moment told) (c.start.ensures.grows told) (c.in-Ok.ensures.size told) c.in-Ok.log c.in-Ok.ensures.log (c.in-Ok.ensures.settled told) c.as_slice-bytes.result.now (c.as_slice-bytes.ensures.value ∙ c.in_ok-records.ensures.bytes) c.law_bytes.ensures.law
+    (g.V.Vol.disk c.append.new.vol) (c.append.ensures.any_moment told) (c.append.ensures.grows told)
 
 pub returns-in-Err-clause-any_moment : goal.returns-in-Err-clause-any_moment
-returns-in-Err-clause-any_moment g c = λ told. starting (g.V.Vol.disk c.args.vol.now) (c.requires.unbegun told) (g.V.Vol.disk c.start.new.vol) (c.start.ensures.any_moment told)
+returns-in-Err-clause-any_moment g c = λ told. starting (g.V.Vol.disk c.args.vol.now) (c.requires.unbegun told) (g.V.Vol.disk c.start.new.vol) (c.start.ensures.any_moment told) (c.start.ensures.grows told)
 
 pub returns-in-Err-clause-elsewhere : goal.returns-in-Err-clause-elsewhere
 returns-in-Err-clause-elsewhere g c = λ told. (c.start.ensures.any_moment told).elsewhere
@@ -53,8 +53,8 @@ pub returns-clause-any_moment : goal.returns-clause-any_moment
 returns-clause-any_moment g c = λ told.
     let old = g.V.Vol.disk c.args.vol.now in
     let mid = g.V.Vol.disk c.start.new.vol in
-    appending old (c.requires.unbegun told) mid (c.start.ensures.any_moment told) c.in-Ok.log c.in-Ok.ensures.log (c.in-Ok.ensures.settled told) c.as_slice-bytes.result.now (c.as_slice-bytes.ensures.value ∙ c.in_ok-records.ensures.bytes) c.law_bytes.ensures.law
-    (g.V.Vol.disk c.append.new.vol) (c.append.ensures.any_moment told)
+    appending old (c.requires.unbegun told) mid (c.start.ensures.any_moment told) (c.start.ensures.grows told) (c.in-Ok.ensures.size told) c.in-Ok.log c.in-Ok.ensures.log (c.in-Ok.ensures.settled told) c.as_slice-bytes.result.now (c.as_slice-bytes.ensures.value ∙ c.in_ok-records.ensures.bytes) c.law_bytes.ensures.law
+    (g.V.Vol.disk c.append.new.vol) (c.append.ensures.any_moment told) (c.append.ensures.grows told)
 
 pub returns-in-Err-clause-only : goal.returns-in-Err-clause-only
 returns-in-Err-clause-only g c = start_outside c.in-Err.fault c.of_log.result c.of_log.ensures.value c.in-Err.ensures.only

@@ -4,12 +4,13 @@ use Rattle.std.proofs.lemmas.Result.{err_from_is_err_and}
 use Rattle.vol_disk.proofs.Moments.{quiet_then}
 use Rattle.block_table.specs.Blocks.{blocks}
 use Rattle.block_table.proofs.Rooms.{law_room}
+use Rattle.log_records.specs.Logged.{IsLogged}
 use Rattle.log_records.specs.declared.fault.ReadFault.{ReadFault}
 use Rattle.stream_store.specs.Finding.{IsRecordsFault}
 use Rattle.stream_store.specs.declared.fault.OpenFault.{OpenFault}
 use Rattle.stream_store.specs.declared.fault.OpenFault.TheVariants.{Fault}
 use Rattle.stream_store.proofs.Finding.{bad_blocks, blocks_back, read_cause, read_fault_of, stored_back, told_as}
-use Rattle.stream_store.proofs.Messages.{found_last, not_openable}
+use Rattle.stream_store.proofs.Messages.{found_last, logged_found, not_openable}
 use Rattle.stream_store.proofs.reading.read_current.Goals as goal
 
 pub returns-in-Err-clause-fault : goal.returns-in-Err-clause-fault
@@ -59,6 +60,9 @@ returns-then-branch-clause-found g c = λ told.
       stored = stored_back old mid f (c.read_log.ensures.quiet told) (c.in_ok-found.ensures.stored told);
       openable = c.in_ok-is_openable.ensures.value.0 c.if-branch.true;
     }
+
+pub returns-then-branch-clause-given : goal.returns-then-branch-clause-given
+returns-then-branch-clause-given g c = subst IsLogged (sym (logged_found c.in-Ok.read c.in_ok-found.found c.in-Ok.ensures.logged c.in_ok-found.ensures.read)) c.in-Ok.ensures.logged
 
 pub returns-then-branch-clause-held : goal.returns-then-branch-clause-held
 returns-then-branch-clause-held g c =

@@ -1,8 +1,5 @@
 use Rattle.std.proofs.Common.{refl}
 use Rattle.log_records.proofs.made.Made.into_read.Goals as goal
 
-pub into_durable-requires : goal.into_durable-requires
-into_durable-requires c = record { sound = c.requires.sound.replay }
-
 pub returns-clause-value : goal.returns-clause-value
 returns-clause-value c = rw c.in_ok-durable.ensures.value refl

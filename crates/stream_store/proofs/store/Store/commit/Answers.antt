@@ -1,4 +1,4 @@
-use Rattle.std.proofs.Common.{List, ◌≡◌, ◌≤◌, ◌+◌, ◌^◌, ◌∙◌, ℕ, IsSome, true, length, ap, refl, subst, sym}
+use Rattle.std.proofs.Common.{arith, Err, List, ◌≡◌, ◌<◌, ◌≤◌, ◌+◌, ◌^◌, ◌∙◌, inl, ℕ, IsSome, true, length, ap, refl, subst, sym}
 use Rattle.std.specs.Prelude.{All}
 use Rattle.gate_log.specs.LogState.{LogState, with_batch}
 use Rattle.block_table.specs.declared.block.Block.{Block}
@@ -7,15 +7,17 @@ use Rattle.block_writing.specs.Dropping.{AreEmptied, ChangesUnused}
 use Rattle.block_writing.specs.Runs.{AreApart, IsShort}
 use Rattle.block_writing.proofs.Commits.{law_plans}
 use Rattle.stream_store.specs.Base.{IsBase, IsBaseOf}
-use Rattle.stream_store.specs.Committing.{EmptiesUnused, batch_length}
+use Rattle.stream_store.specs.Committing.{EmptiesUnused, batch_length, length_with}
 use Rattle.stream_store.specs.Placing.{blocks_then, can_place, used_behind}
 use Rattle.stream_store.specs.Staging.{HasDropped}
 use Rattle.stream_store.specs.Steps.{blocks_in, with_steps}
 use Rattle.stream_store.specs.StoreState.{StoreState}
 use Rattle.stream_store.specs.Writing.{IsStagedOn}
+use Rattle.stream_store.specs.declared.fault.StageFault.{StageFault}
 use Rattle.stream_store.proofs.Committed.{all_leaves, first_base, first_leaves, new_base, then_leaves}
 use Rattle.stream_store.proofs.Committing.{commits_nothing, log_low}
 use Rattle.stream_store.proofs.Counting.{law_counting}
+use Rattle.stream_store.proofs.Faults.{staged_fault, staged_full, staged_worn}
 use Rattle.stream_store.proofs.Stages.{staged_blocks, staged_length}
 use Rattle.stream_store.proofs.Taken.{table_then}
 use Rattle.stream_store.proofs.Unused.{empties}
@@ -57,14 +59,15 @@ write_staged-requires g c =
     let es = c.args.effects.now in
     let staged = c.in_ok-staged.staged in
     let s = c.in_ok-staged.ensures.staged in
-    let runs = law_plans.runs b es s.made s.planned in
+    let p = s.prepared in
+    let runs = law_plans.runs b es p.made p.planned in
     let size = staged_length b es staged s in
     record {
       ready = record {
-        short = subst (All IsShort) (sym s.runs) runs.short;
-        apart = subst AreApart (sym s.runs) runs.apart;
+        short = subst (All IsShort) (sym p.runs) runs.short;
+        apart = subst AreApart (sym p.runs) runs.apart;
         head = subst IsSome (sym c.self.invariant.0) refl;
-        fits = subst (λ (n : ℕ). c.self.inside.log.end + 6 + n ≤ 2 ^ 31) (sym size) c.in_ok-staged.ensures.fits;
+        fits = subst (λ (n : ℕ). c.self.inside.log.end + 10 + n ≤ 2 ^ 31) (sym size) c.in_ok-staged.ensures.fits;
       };
       staged = λ told.
           let f = c.requires.fits told in
@@ -73,7 +76,8 @@ write_staged-requires g c =
           let ks = c.self.inside.unused.items in
           let changes : ChangesUnused b ks old begun =
           subst (λ (l : List Block). ChangesUnused b l old begun) c.as_slice.ensures.value
-          (subst (λ (x : Blocks). ChangesUnused x c.as_slice.result.now old begun) (table_then late c.stage.new.late c.stage.ensures.same c.in_ok-staged.ensures.none) (c.drop_unused.ensures.changes told)) in (
+          (subst (λ (x : Blocks). ChangesUnused x c.as_slice.result.now old begun) (table_then late c.stage.new.late c.stage.ensures.same c.in_ok-staged.ensures.none) (c.drop_unused.ensures.changes told)) in
+          inl (
             b,
             f.0,
             f.1,
@@ -197,7 +201,7 @@ returns-clause-blocks g c =
     let es = c.args.effects.now in
     let staged = c.in_ok-staged.staged in
     let s = c.in_ok-staged.ensures.staged in
-    c.drop_left.ensures.blocks ∙ c.wait.ensures.value ∙ ap (with_steps staged.steps.items) c.stage.ensures.same ∙ staged_blocks b es staged s
+    c.drop_left.ensures.blocks ∙ c.wait.ensures.value ∙ ap (with_steps staged.steps.items) c.stage.ensures.same ∙ staged_blocks b es staged s.prepared
     ∙ ap (λ (t : StoreState). blocks_then t.blocks es) c.self.view_is
 
 pub returns-clause-fewer : goal.returns-clause-fewer
@@ -208,7 +212,7 @@ returns-clause-fewer g c =
     let staged = c.in_ok-staged.staged in
     let s = c.in_ok-staged.ensures.staged in
     let made : c.drop_left.new.self.blocks ≡ blocks_then c.args.self.now.blocks es =
-    c.drop_left.ensures.blocks ∙ c.wait.ensures.value ∙ ap (with_steps staged.steps.items) c.stage.ensures.same ∙ staged_blocks b es staged s
+    c.drop_left.ensures.blocks ∙ c.wait.ensures.value ∙ ap (with_steps staged.steps.items) c.stage.ensures.same ∙ staged_blocks b es staged s.prepared
     ∙ ap (λ (t : StoreState). blocks_then t.blocks es) c.self.view_is in
     subst (λ (x : Blocks). length (blocks x) ≤ used_behind c.args.self.now.blocks es) (sym made) (law_counting.commit c.args.self.now.blocks es c.requires.room)
 
@@ -236,4 +240,21 @@ returns-clause-emptied g c = λ told.
     let dropped : HasDropped c.drop_left.new.self.blocks staged.blocks.items c.drop_left.new.self.unused new =
     subst (λ (x : Blocks). HasDropped x staged.blocks.items c.drop_left.new.self.unused new) (sym c.drop_left.ensures.blocks) (c.in_ok-drop_left.ensures.emptied told) in
     subst (λ (t : StoreState). EmptiesUnused t c.drop_left.new.self es old new) c.self.view_is
-    (empties store c.drop_left.new.self es staged c.self.inside.log.file s (c.drop_left.ensures.blocks ∙ after) low c.self.invariant.1 old begun mid new changes cut (c.write_staged.ensures.elsewhere told) dropped (c.drop_left.ensures.elsewhere told))
+    (empties store c.drop_left.new.self es staged s.prepared (c.drop_left.ensures.blocks ∙ after) c.self.invariant.1 old begun mid new changes cut
+    (λ file high none. c.write_staged.ensures.elsewhere told file (λ is. omega (arith, is, high, low)) none) dropped (c.drop_left.ensures.elsewhere told))
+
+-- ---- it was not staged
+
+pub returns-in_err-staged-clause-full : goal.returns-in_err-staged-clause-full
+returns-in_err-staged-clause-full g c = λ is.
+    let full = c.in_err-staged.ensures.full (ap (λ (fault : StageFault). Err fault) (staged_full c.from_residual.result c.in_err-staged.field-0.0 c.from_residual.ensures.1 is)) in
+    subst (λ (t : StoreState). 2 ^ 31 < length_with t c.args.effects.now) c.self.view_is full
+
+pub returns-in_err-staged-clause-fault_fits : goal.returns-in_err-staged-clause-fault_fits
+returns-in_err-staged-clause-fault_fits g c = λ is. absurd (staged_fault c.from_residual.result c.in_err-staged.field-0.0 c.from_residual.ensures.1 is)
+
+pub returns-in_err-staged-clause-worn : goal.returns-in_err-staged-clause-worn
+returns-in_err-staged-clause-worn g c = λ is. staged_worn c.from_residual.result c.in_err-staged.field-0.0 c.from_residual.ensures.1 is
+
+pub returns-in_err-staged-clause-cause : goal.returns-in_err-staged-clause-cause
+returns-in_err-staged-clause-cause g c = record { later = omega arith; failed = λ is. absurd (staged_fault c.from_residual.result c.in_err-staged.field-0.0 c.from_residual.ensures.1 is) }

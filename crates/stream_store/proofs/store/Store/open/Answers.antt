@@ -1,5 +1,7 @@
-use Rattle.std.proofs.Common.{inl, inr, IsSome, refl, sym, subst, ◌∙◌}
+use Rattle.std.proofs.Common.{◌≡◌, inl, inr, IsSome, refl, sym, subst, ◌∙◌}
 use Rattle.std.proofs.lemmas.Result.{err_from_is_err_and}
+use Rattle.std.proofs.Math.Path.{fun_ext}
+use Rattle.vol_disk.specs.Disk.{Files}
 use Rattle.vol_disk.proofs.Moments.{quiet_then}
 use Rattle.js_model.proofs.Named.{none_some}
 use Rattle.effects.specs.declared.durable.Durable.{Durable}
@@ -7,7 +9,9 @@ use Rattle.block_table.specs.Blocks.{Blocks, no_blocks}
 use Rattle.stream_store.specs.Base.{IsBase, IsBaseOf}
 use Rattle.stream_store.specs.Opening.{IsFirstLog}
 use Rattle.stream_store.specs.StoreState.{StoreState}
-use Rattle.stream_store.proofs.Finding.{found_holds, found_base, found_unbegun, found_vacant, found_no_blocks, found_none_open, not_begun, log_fault_of, records_fault_of, outside_of}
+use Rattle.stream_store.specs.Finding.{IsFaultWhere}
+use Rattle.stream_store.specs.Untouched.{IsTouchedAt, IsUntouched}
+use Rattle.stream_store.proofs.Finding.{found_holds, found_base, found_unbegun, found_vacant, found_no_blocks, found_none_open, not_begun, log_fault_of, records_fault_of, outside_of, some_begun, touched_of}
 use Rattle.stream_store.proofs.Beginning.{head_is, still_rests, rests_then, held_quiet, held_begun}
 use Rattle.stream_store.proofs.store.Store.open.Goals as goal
 
@@ -59,14 +63,23 @@ returns-in-Some-clause-any_moment g c = λ told.
 
 pub returns-in-Some-clause-found : goal.returns-in-Some-clause-found
 returns-in-Some-clause-found g c = λ told.
-    found_holds c.in_ok-current.current (g.V.Vol.disk c.args.vol.now) (g.V.Vol.disk c.open_current.new.vol) (g.V.Vol.disk c.read_current.new.vol) (c.in_ok-current.ensures.current told) (c.open_current.ensures.quiet told) (c.read_current.ensures.quiet told) c.in_ok-found.found (c.in_ok-found.ensures.found told)
+    let current = c.in_ok-current.current in
+    let old = g.V.Vol.disk c.args.vol.now in
+    let mid = g.V.Vol.disk c.open_current.new.vol in
+    let new = g.V.Vol.disk c.read_current.new.vol in
+    let is = c.in_ok-current.ensures.current told in
+    let still = c.open_current.ensures.quiet told in
+    let on = c.read_current.ensures.quiet told in
+    let f = c.in_ok-found.found in
+    let found = c.in_ok-found.ensures.found told in
+    found_holds current old mid new is still on f found (inl (some_begun current old mid new is still on f found (subst IsSome c.in-Some.ensures.value refl)))
 
 pub returns-in-Some-clause-base : goal.returns-in-Some-clause-base
 returns-in-Some-clause-base g c = λ told.
     let f = c.in_ok-found.found in
     subst (λ (s : StoreState). IsBase s f.durable (g.V.Vol.disk c.read_current.new.vol)) (sym c.with_table-store.ensures.value)
     (found_base c.in_ok-current.current (g.V.Vol.disk c.args.vol.now) (g.V.Vol.disk c.open_current.new.vol) (g.V.Vol.disk c.read_current.new.vol) (c.in_ok-current.ensures.current told) (c.open_current.ensures.quiet told) (c.read_current.ensures.quiet told) f (c.in_ok-found.ensures.found told)
-    (subst IsSome c.in-Some.ensures.value refl) (c.in_ok-found.ensures.synced told) c.in_ok-found.ensures.table c.in_ok-found.ensures.storable)
+    (subst IsSome c.in-Some.ensures.value refl) (c.in_ok-found.ensures.synced told) c.in_ok-found.ensures.table c.in_ok-found.ensures.storable c.in_ok-found.ensures.given)
 
 pub returns-in-Some-clause-first_log : goal.returns-in-Some-clause-first_log
 returns-in-Some-clause-first_log g c = λ told none.
@@ -76,46 +89,223 @@ pub with_table-store-requires : goal.with_table-store-requires
 with_table-store-requires g c = record { head = head_is c.in_ok-current.current.log c.in-Some.generation (sym c.in-Some.ensures.value) }
 
 pub begin_log-requires : goal.begin_log-requires
-begin_log-requires g c = record { unbegun = λ told. found_unbegun c.in_ok-current.current (g.V.Vol.disk c.args.vol.now) (g.V.Vol.disk c.open_current.new.vol) (g.V.Vol.disk c.read_current.new.vol) (c.in_ok-current.ensures.current told) (c.open_current.ensures.quiet told) (c.read_current.ensures.quiet told) c.in_ok-found.found (c.in_ok-found.ensures.found told) (sym c.in-None.ensures.value) }
+begin_log-requires g c = record {
+  unbegun = λ told.
+      let current = c.in_ok-current.current in
+      let old = g.V.Vol.disk c.args.vol.now in
+      let mid = g.V.Vol.disk c.open_current.new.vol in
+      let read = g.V.Vol.disk c.read_current.new.vol in
+      let looked = g.V.Vol.disk c.check_untouched.new.vol in
+      let is = c.in_ok-current.ensures.current told in
+      let still = c.open_current.ensures.quiet told in
+      let on = quiet_then mid read looked (c.read_current.ensures.quiet told) (c.check_untouched.ensures.quiet told) in
+      let f = c.in_ok-found.found in
+      let found = c.in_ok-found.ensures.found told in
+      let none = sym c.in-None.ensures.value in
+      let seen : read.seen ≡ old.seen = fun_ext (quiet_then old mid read still (c.read_current.ensures.quiet told)).seen in
+      let untouched : IsUntouched old.seen = subst IsUntouched seen (c.in_ok-check_untouched-in-None.ensures.untouched told) in
+      found_unbegun current old mid looked is still on f found none untouched (c.in_ok-check_untouched-in-None.ensures.gone told);
+}
 
-pub returns-in_err-log-in-None-clause-quiet : goal.returns-in_err-log-in-None-clause-quiet
-returns-in_err-log-in-None-clause-quiet g c = λ told.
-    inl (found_none_open c.in_ok-current.current (g.V.Vol.disk c.args.vol.now) (g.V.Vol.disk c.open_current.new.vol) (g.V.Vol.disk c.read_current.new.vol) (c.in_ok-current.ensures.current told) (c.open_current.ensures.quiet told) (c.read_current.ensures.quiet told) c.in_ok-found.found (c.in_ok-found.ensures.found told) (sym c.in-None.ensures.value))
+-- ---- a stream is missing, or is not known to be
 
-pub returns-in_err-log-in-None-clause-elsewhere : goal.returns-in_err-log-in-None-clause-elsewhere
-returns-in_err-log-in-None-clause-elsewhere g c = λ told.
-    rests_then (g.V.Vol.disk c.args.vol.now) (g.V.Vol.disk c.read_current.new.vol) (g.V.Vol.disk c.begin_log.new.vol) (quiet_then (g.V.Vol.disk c.args.vol.now) (g.V.Vol.disk c.open_current.new.vol) (g.V.Vol.disk c.read_current.new.vol) (c.open_current.ensures.quiet told) (c.read_current.ensures.quiet told)) (c.begin_log.ensures.elsewhere told)
-
-pub returns-in_err-log-in-None-clause-any_moment : goal.returns-in_err-log-in-None-clause-any_moment
-returns-in_err-log-in-None-clause-any_moment g c = λ told.
-    held_begun (g.V.Vol.disk c.args.vol.now) (g.V.Vol.disk c.read_current.new.vol) (g.V.Vol.disk c.begin_log.new.vol) (quiet_then (g.V.Vol.disk c.args.vol.now) (g.V.Vol.disk c.open_current.new.vol) (g.V.Vol.disk c.read_current.new.vol) (c.open_current.ensures.quiet told) (c.read_current.ensures.quiet told)) (found_unbegun c.in_ok-current.current (g.V.Vol.disk c.args.vol.now) (g.V.Vol.disk c.open_current.new.vol) (g.V.Vol.disk c.read_current.new.vol) (c.in_ok-current.ensures.current told) (c.open_current.ensures.quiet told) (c.read_current.ensures.quiet told) c.in_ok-found.found (c.in_ok-found.ensures.found told) (sym c.in-None.ensures.value)) (c.begin_log.ensures.any_moment told)
-
-pub returns-in_ok-log-in-None-clause-quiet : goal.returns-in_ok-log-in-None-clause-quiet
-returns-in_ok-log-in-None-clause-quiet g c = λ told.
-    inl (found_none_open c.in_ok-current.current (g.V.Vol.disk c.args.vol.now) (g.V.Vol.disk c.open_current.new.vol) (g.V.Vol.disk c.read_current.new.vol) (c.in_ok-current.ensures.current told) (c.open_current.ensures.quiet told) (c.read_current.ensures.quiet told) c.in_ok-found.found (c.in_ok-found.ensures.found told) (sym c.in-None.ensures.value))
-
-pub returns-in_ok-log-in-None-clause-elsewhere : goal.returns-in_ok-log-in-None-clause-elsewhere
-returns-in_ok-log-in-None-clause-elsewhere g c = λ told.
-    rests_then (g.V.Vol.disk c.args.vol.now) (g.V.Vol.disk c.read_current.new.vol) (g.V.Vol.disk c.begin_log.new.vol) (quiet_then (g.V.Vol.disk c.args.vol.now) (g.V.Vol.disk c.open_current.new.vol) (g.V.Vol.disk c.read_current.new.vol) (c.open_current.ensures.quiet told) (c.read_current.ensures.quiet told)) (c.begin_log.ensures.elsewhere told)
-
-pub returns-in_ok-log-in-None-clause-any_moment : goal.returns-in_ok-log-in-None-clause-any_moment
-returns-in_ok-log-in-None-clause-any_moment g c = λ told.
-    held_begun (g.V.Vol.disk c.args.vol.now) (g.V.Vol.disk c.read_current.new.vol) (g.V.Vol.disk c.begin_log.new.vol) (quiet_then (g.V.Vol.disk c.args.vol.now) (g.V.Vol.disk c.open_current.new.vol) (g.V.Vol.disk c.read_current.new.vol) (c.open_current.ensures.quiet told) (c.read_current.ensures.quiet told)) (found_unbegun c.in_ok-current.current (g.V.Vol.disk c.args.vol.now) (g.V.Vol.disk c.open_current.new.vol) (g.V.Vol.disk c.read_current.new.vol) (c.in_ok-current.ensures.current told) (c.open_current.ensures.quiet told) (c.read_current.ensures.quiet told) c.in_ok-found.found (c.in_ok-found.ensures.found told) (sym c.in-None.ensures.value)) (c.begin_log.ensures.any_moment told)
-
-pub returns-in_ok-log-in-None-clause-found : goal.returns-in_ok-log-in-None-clause-found
-returns-in_ok-log-in-None-clause-found g c = λ told.
-    found_holds c.in_ok-current.current (g.V.Vol.disk c.args.vol.now) (g.V.Vol.disk c.open_current.new.vol) (g.V.Vol.disk c.read_current.new.vol) (c.in_ok-current.ensures.current told) (c.open_current.ensures.quiet told) (c.read_current.ensures.quiet told) c.in_ok-found.found (c.in_ok-found.ensures.found told)
-
-pub returns-in_ok-log-in-None-clause-base : goal.returns-in_ok-log-in-None-clause-base
-returns-in_ok-log-in-None-clause-base g c = λ told.
-    let f = c.in_ok-found.found in
-    let log = c.in_ok-log-in-None.log in
+pub returns-in_err-check_untouched-in-None-clause-quiet : goal.returns-in_err-check_untouched-in-None-clause-quiet
+returns-in_err-check_untouched-in-None-clause-quiet g c = λ told.
+    let current = c.in_ok-current.current in
     let old = g.V.Vol.disk c.args.vol.now in
     let mid = g.V.Vol.disk c.open_current.new.vol in
     let read = g.V.Vol.disk c.read_current.new.vol in
+    let looked = g.V.Vol.disk c.check_untouched.new.vol in
+    let is = c.in_ok-current.ensures.current told in
+    let still = c.open_current.ensures.quiet told in
+    let on = quiet_then mid read looked (c.read_current.ensures.quiet told) (c.check_untouched.ensures.quiet told) in
+    let f = c.in_ok-found.found in
+    let found = c.in_ok-found.ensures.found told in
+    let none = sym c.in-None.ensures.value in
+    inr (quiet_then old mid looked still on)
+
+pub returns-in_err-check_untouched-in-None-clause-elsewhere : goal.returns-in_err-check_untouched-in-None-clause-elsewhere
+returns-in_err-check_untouched-in-None-clause-elsewhere g c = λ told.
+    let current = c.in_ok-current.current in
+    let old = g.V.Vol.disk c.args.vol.now in
+    let mid = g.V.Vol.disk c.open_current.new.vol in
+    let read = g.V.Vol.disk c.read_current.new.vol in
+    let looked = g.V.Vol.disk c.check_untouched.new.vol in
+    let is = c.in_ok-current.ensures.current told in
+    let still = c.open_current.ensures.quiet told in
+    let on = quiet_then mid read looked (c.read_current.ensures.quiet told) (c.check_untouched.ensures.quiet told) in
+    let f = c.in_ok-found.found in
+    let found = c.in_ok-found.ensures.found told in
+    let none = sym c.in-None.ensures.value in
+    still_rests old looked (quiet_then old mid looked still on)
+
+pub returns-in_err-check_untouched-in-None-clause-any_moment : goal.returns-in_err-check_untouched-in-None-clause-any_moment
+returns-in_err-check_untouched-in-None-clause-any_moment g c = λ told.
+    let current = c.in_ok-current.current in
+    let old = g.V.Vol.disk c.args.vol.now in
+    let mid = g.V.Vol.disk c.open_current.new.vol in
+    let read = g.V.Vol.disk c.read_current.new.vol in
+    let looked = g.V.Vol.disk c.check_untouched.new.vol in
+    let is = c.in_ok-current.ensures.current told in
+    let still = c.open_current.ensures.quiet told in
+    let on = quiet_then mid read looked (c.read_current.ensures.quiet told) (c.check_untouched.ensures.quiet told) in
+    let f = c.in_ok-found.found in
+    let found = c.in_ok-found.ensures.found told in
+    let none = sym c.in-None.ensures.value in
+    held_quiet old looked (quiet_then old mid looked still on)
+
+pub returns-in_err-check_untouched-in-None-clause-fault : goal.returns-in_err-check_untouched-in-None-clause-fault
+returns-in_err-check_untouched-in-None-clause-fault g c = λ told.
+    let current = c.in_ok-current.current in
+    let old = g.V.Vol.disk c.args.vol.now in
+    let mid = g.V.Vol.disk c.open_current.new.vol in
+    let read = g.V.Vol.disk c.read_current.new.vol in
+    let looked = g.V.Vol.disk c.check_untouched.new.vol in
+    let is = c.in_ok-current.ensures.current told in
+    let still = c.open_current.ensures.quiet told in
+    let on = quiet_then mid read looked (c.read_current.ensures.quiet told) (c.check_untouched.ensures.quiet told) in
+    let f = c.in_ok-found.found in
+    let found = c.in_ok-found.ensures.found told in
+    let none = sym c.in-None.ensures.value in
+    let seen : read.seen ≡ old.seen = fun_ext (quiet_then old mid read still (c.read_current.ensures.quiet told)).seen in
+    let p = err_from_is_err_and c.from_residual-in_err-check_untouched-in-None.result c.from_residual-in_err-check_untouched-in-None.ensures.1 in
+    let fault = c.in_err-check_untouched-in-None.field-0.0 in
+    rw (p.1, p.2) (touched_of old.seen fault (found_none_open current old mid looked is still on f found none) (subst (λ (x : Files). IsFaultWhere (IsTouchedAt x) fault) seen (c.in_err-check_untouched-in-None.ensures.fault told)))
+
+-- ---- a log is made
+
+pub returns-in_err-log-in-None-clause-quiet : goal.returns-in_err-log-in-None-clause-quiet
+returns-in_err-log-in-None-clause-quiet g c = λ told.
+    let current = c.in_ok-current.current in
+    let old = g.V.Vol.disk c.args.vol.now in
+    let mid = g.V.Vol.disk c.open_current.new.vol in
+    let read = g.V.Vol.disk c.read_current.new.vol in
+    let looked = g.V.Vol.disk c.check_untouched.new.vol in
+    let is = c.in_ok-current.ensures.current told in
+    let still = c.open_current.ensures.quiet told in
+    let on = quiet_then mid read looked (c.read_current.ensures.quiet told) (c.check_untouched.ensures.quiet told) in
+    let f = c.in_ok-found.found in
+    let found = c.in_ok-found.ensures.found told in
+    let none = sym c.in-None.ensures.value in
+    let seen : read.seen ≡ old.seen = fun_ext (quiet_then old mid read still (c.read_current.ensures.quiet told)).seen in
+    inl (found_none_open current old mid looked is still on f found none, subst IsUntouched seen (c.in_ok-check_untouched-in-None.ensures.untouched told))
+
+pub returns-in_err-log-in-None-clause-elsewhere : goal.returns-in_err-log-in-None-clause-elsewhere
+returns-in_err-log-in-None-clause-elsewhere g c = λ told.
+    let current = c.in_ok-current.current in
+    let old = g.V.Vol.disk c.args.vol.now in
+    let mid = g.V.Vol.disk c.open_current.new.vol in
+    let read = g.V.Vol.disk c.read_current.new.vol in
+    let looked = g.V.Vol.disk c.check_untouched.new.vol in
+    let is = c.in_ok-current.ensures.current told in
+    let still = c.open_current.ensures.quiet told in
+    let on = quiet_then mid read looked (c.read_current.ensures.quiet told) (c.check_untouched.ensures.quiet told) in
+    let f = c.in_ok-found.found in
+    let found = c.in_ok-found.ensures.found told in
+    let none = sym c.in-None.ensures.value in
+    rests_then old looked (g.V.Vol.disk c.begin_log.new.vol) (quiet_then old mid looked still on) (c.begin_log.ensures.elsewhere told)
+
+pub returns-in_err-log-in-None-clause-any_moment : goal.returns-in_err-log-in-None-clause-any_moment
+returns-in_err-log-in-None-clause-any_moment g c = λ told.
+    let current = c.in_ok-current.current in
+    let old = g.V.Vol.disk c.args.vol.now in
+    let mid = g.V.Vol.disk c.open_current.new.vol in
+    let read = g.V.Vol.disk c.read_current.new.vol in
+    let looked = g.V.Vol.disk c.check_untouched.new.vol in
+    let is = c.in_ok-current.ensures.current told in
+    let still = c.open_current.ensures.quiet told in
+    let on = quiet_then mid read looked (c.read_current.ensures.quiet told) (c.check_untouched.ensures.quiet told) in
+    let f = c.in_ok-found.found in
+    let found = c.in_ok-found.ensures.found told in
+    let none = sym c.in-None.ensures.value in
+    let seen : read.seen ≡ old.seen = fun_ext (quiet_then old mid read still (c.read_current.ensures.quiet told)).seen in
+    let untouched : IsUntouched old.seen = subst IsUntouched seen (c.in_ok-check_untouched-in-None.ensures.untouched told) in
+    let unbegun = found_unbegun current old mid looked is still on f found none untouched (c.in_ok-check_untouched-in-None.ensures.gone told) in
+    held_begun old looked (g.V.Vol.disk c.begin_log.new.vol) (quiet_then old mid looked still on) unbegun (c.begin_log.ensures.any_moment told)
+
+pub returns-in_ok-log-in-None-clause-quiet : goal.returns-in_ok-log-in-None-clause-quiet
+returns-in_ok-log-in-None-clause-quiet g c = λ told.
+    let current = c.in_ok-current.current in
+    let old = g.V.Vol.disk c.args.vol.now in
+    let mid = g.V.Vol.disk c.open_current.new.vol in
+    let read = g.V.Vol.disk c.read_current.new.vol in
+    let looked = g.V.Vol.disk c.check_untouched.new.vol in
+    let is = c.in_ok-current.ensures.current told in
+    let still = c.open_current.ensures.quiet told in
+    let on = quiet_then mid read looked (c.read_current.ensures.quiet told) (c.check_untouched.ensures.quiet told) in
+    let f = c.in_ok-found.found in
+    let found = c.in_ok-found.ensures.found told in
+    let none = sym c.in-None.ensures.value in
+    let seen : read.seen ≡ old.seen = fun_ext (quiet_then old mid read still (c.read_current.ensures.quiet told)).seen in
+    inl (found_none_open current old mid looked is still on f found none, subst IsUntouched seen (c.in_ok-check_untouched-in-None.ensures.untouched told))
+
+pub returns-in_ok-log-in-None-clause-elsewhere : goal.returns-in_ok-log-in-None-clause-elsewhere
+returns-in_ok-log-in-None-clause-elsewhere g c = λ told.
+    let current = c.in_ok-current.current in
+    let old = g.V.Vol.disk c.args.vol.now in
+    let mid = g.V.Vol.disk c.open_current.new.vol in
+    let read = g.V.Vol.disk c.read_current.new.vol in
+    let looked = g.V.Vol.disk c.check_untouched.new.vol in
+    let is = c.in_ok-current.ensures.current told in
+    let still = c.open_current.ensures.quiet told in
+    let on = quiet_then mid read looked (c.read_current.ensures.quiet told) (c.check_untouched.ensures.quiet told) in
+    let f = c.in_ok-found.found in
+    let found = c.in_ok-found.ensures.found told in
+    let none = sym c.in-None.ensures.value in
+    rests_then old looked (g.V.Vol.disk c.begin_log.new.vol) (quiet_then old mid looked still on) (c.begin_log.ensures.elsewhere told)
+
+pub returns-in_ok-log-in-None-clause-any_moment : goal.returns-in_ok-log-in-None-clause-any_moment
+returns-in_ok-log-in-None-clause-any_moment g c = λ told.
+    let current = c.in_ok-current.current in
+    let old = g.V.Vol.disk c.args.vol.now in
+    let mid = g.V.Vol.disk c.open_current.new.vol in
+    let read = g.V.Vol.disk c.read_current.new.vol in
+    let looked = g.V.Vol.disk c.check_untouched.new.vol in
+    let is = c.in_ok-current.ensures.current told in
+    let still = c.open_current.ensures.quiet told in
+    let on = quiet_then mid read looked (c.read_current.ensures.quiet told) (c.check_untouched.ensures.quiet told) in
+    let f = c.in_ok-found.found in
+    let found = c.in_ok-found.ensures.found told in
+    let none = sym c.in-None.ensures.value in
+    let seen : read.seen ≡ old.seen = fun_ext (quiet_then old mid read still (c.read_current.ensures.quiet told)).seen in
+    let untouched : IsUntouched old.seen = subst IsUntouched seen (c.in_ok-check_untouched-in-None.ensures.untouched told) in
+    let unbegun = found_unbegun current old mid looked is still on f found none untouched (c.in_ok-check_untouched-in-None.ensures.gone told) in
+    held_begun old looked (g.V.Vol.disk c.begin_log.new.vol) (quiet_then old mid looked still on) unbegun (c.begin_log.ensures.any_moment told)
+
+pub returns-in_ok-log-in-None-clause-found : goal.returns-in_ok-log-in-None-clause-found
+returns-in_ok-log-in-None-clause-found g c = λ told.
+    let current = c.in_ok-current.current in
+    let old = g.V.Vol.disk c.args.vol.now in
+    let mid = g.V.Vol.disk c.open_current.new.vol in
+    let read = g.V.Vol.disk c.read_current.new.vol in
+    let looked = g.V.Vol.disk c.check_untouched.new.vol in
+    let is = c.in_ok-current.ensures.current told in
+    let still = c.open_current.ensures.quiet told in
+    let on = quiet_then mid read looked (c.read_current.ensures.quiet told) (c.check_untouched.ensures.quiet told) in
+    let f = c.in_ok-found.found in
+    let found = c.in_ok-found.ensures.found told in
+    let none = sym c.in-None.ensures.value in
+    let seen : read.seen ≡ old.seen = fun_ext (quiet_then old mid read still (c.read_current.ensures.quiet told)).seen in
+    let untouched : IsUntouched old.seen = subst IsUntouched seen (c.in_ok-check_untouched-in-None.ensures.untouched told) in
+    found_holds current old mid looked is still on f found (inr untouched)
+
+pub returns-in_ok-log-in-None-clause-base : goal.returns-in_ok-log-in-None-clause-base
+returns-in_ok-log-in-None-clause-base g c = λ told.
+    let current = c.in_ok-current.current in
+    let old = g.V.Vol.disk c.args.vol.now in
+    let mid = g.V.Vol.disk c.open_current.new.vol in
+    let read = g.V.Vol.disk c.read_current.new.vol in
+    let looked = g.V.Vol.disk c.check_untouched.new.vol in
+    let is = c.in_ok-current.ensures.current told in
+    let still = c.open_current.ensures.quiet told in
+    let on = quiet_then mid read looked (c.read_current.ensures.quiet told) (c.check_untouched.ensures.quiet told) in
+    let f = c.in_ok-found.found in
+    let found = c.in_ok-found.ensures.found told in
+    let none = sym c.in-None.ensures.value in
+    let log = c.in_ok-log-in-None.log in
     let new = g.V.Vol.disk c.begin_log.new.vol in
-    let vacant_is = found_vacant c.in_ok-current.current old mid read (c.in_ok-current.ensures.current told) (c.open_current.ensures.quiet told) (c.read_current.ensures.quiet told) f (c.in_ok-found.ensures.found told) (sym c.in-None.ensures.value) in
-    let no_blocks_is = found_no_blocks c.in_ok-current.current old mid read (c.in_ok-current.ensures.current told) (c.open_current.ensures.quiet told) (c.read_current.ensures.quiet told) f (c.in_ok-found.ensures.found told) (sym c.in-None.ensures.value) in
+    let vacant_is = found_vacant current old mid looked is still on f found none in
+    let no_blocks_is = found_no_blocks current old mid looked is still on f found none in
     subst (λ (s : StoreState). IsBase s f.durable new) (sym c.with_table-begun.ensures.value)
     (subst (λ (b : Blocks). IsBaseOf log b f.durable new) (sym no_blocks_is) (subst (λ (d : Durable). IsBaseOf log no_blocks d new) (sym vacant_is) (c.in_ok-log-in-None.ensures.base told)))
 

@@ -1,12 +1,14 @@
 use Rattle.std.proofs.Common.{◌≢◌, inl, inr, List, [], length, None, Some, Err, ap, refl, sym, ◌∙◌, rules}
+use Rattle.effects.specs.Durables.{durable_of}
 use Rattle.effects.specs.declared.effect.Effect.{Effect}
 use Rattle.place_engine.specs.Following.{followed}
 use Rattle.place_records.specs.Records.{effects_in}
 use Rattle.stream_store.specs.declared.fault.CommitFault.{CommitFault}
 use Rattle.volume_place.specs.declared.volume_place.VolumePlace.TheView.{view}
-use Rattle.volume_place.proofs.Brought.{brings_none, brought_blocks, places_of, unbrought, unbrought_blocks, unbrought_sound, stands_still, fits, records_of, brings, brought_sound, fails, fills, stopped_sound, time_goes_on}
+use Rattle.volume_place.proofs.Brought.{brings_none, brought_blocks, places_of, unbrought, unbrought_blocks, unbrought_sound, stands_still, fits, formed_of, storable_of, records_of, brings, brought_sound, fails, fills, stopped_sound, time_goes_on, wears}
 use Rattle.volume_place.proofs.Dated.{dated_as}
 use Rattle.volume_place.proofs.Empty.{nothing_in, something_in}
+use Rattle.volume_place.proofs.Left.{goes_as, left_as}
 use Rattle.volume_place.proofs.Moved.{joined, unmoved}
 use Rattle.volume_place.proofs.volume_place.VolumePlace.bring.Goals as goal
 
@@ -16,8 +18,8 @@ take-requires g c = search rules
 pub is_empty-requires : goal.is_empty-requires
 is_empty-requires g c κs = search rules
 
-pub records-records-requires : goal.records-records-requires
-records-records-requires g c = search rules
+pub records-requires : goal.records-requires
+records-requires g c = search rules
 
 pub clear-requires : goal.clear-requires
 clear-requires g c = search rules
@@ -60,6 +62,9 @@ returns-in_default-clause-brings g c =
     rw (← c.self.view_is)
     (unbrought V.told V.disk V.faults g.met.V.Vol.clocked x going c.self.invariant.0 x.store x.vol (followed c.take.new.self (effects_in c.take.new.made)) refl refl same)
 
+pub returns-in_default-clause-log : goal.returns-in_default-clause-log
+returns-in_default-clause-log g c = tt
+
 pub returns-in_default-clause-tail : goal.returns-in_default-clause-tail
 returns-in_default-clause-tail g c =
     let x = view _ g.V.Vol c.self.inside in
@@ -91,11 +96,14 @@ returns-then-is_empty-clause-brings g c =
     let x = view _ V c.self.inside in
     let going = rw (← c.self.view_is) at c.requires.going in
     let given = c.take.new.self in
-    let none = nothing_in (length c.records-records.result.now) given (ap (λ (l : List Effect). length l) c.records-records.ensures.value) c.if-is_empty.ensures in
+    let none = nothing_in (length c.records.result.now) given (ap (λ (l : List Effect). length l) c.records.ensures.value) c.if-is_empty.ensures in
     let same = joined c.take.new.self c.take.new.made x.waiting c.in-Ok.ensures.ok c.in-Ok.ensures.none in
     rw (← c.self.view_is)
     (brings_none V.told V.disk V.faults g.met.V.Vol.clocked x going c.self.invariant.0 (followed c.take.new.self (effects_in c.take.new.made))
     (sym c.in-Ok.ensures.ok ∙ none) (joined given c.take.new.made [] none c.in-Ok.ensures.none))
+
+pub returns-then-is_empty-clause-log : goal.returns-then-is_empty-clause-log
+returns-then-is_empty-clause-log g c = rw (← c.self.view_is) (inl refl)
 
 pub returns-then-is_empty-clause-tail : goal.returns-then-is_empty-clause-tail
 returns-then-is_empty-clause-tail g c =
@@ -116,36 +124,50 @@ commit-requires-clause-records g c =
     let V = g.V.Vol in
     let x = view _ V c.self.inside in
     let going = rw (← c.self.view_is) at c.requires.going in
-    let are = c.records-records.ensures.value ∙ c.in-Ok.ensures.ok in
-    records_of V.told V.disk V.faults g.met.V.Vol.clocked x going c.self.invariant.0 c.records-records.result.now are
+    let are = c.in-Ok.ensures.ok in
+    records_of V.told V.disk V.faults g.met.V.Vol.clocked x going c.self.invariant.0 c.take.new.self are
 
 pub commit-requires-clause-fits : goal.commit-requires-clause-fits
 commit-requires-clause-fits g c =
     let V = g.V.Vol in
     let x = view _ V c.self.inside in
     let going = rw (← c.self.view_is) at c.requires.going in
-    let are = c.records-records.ensures.value ∙ c.in-Ok.ensures.ok in
-    λ told. fits V.told V.disk V.faults g.met.V.Vol.clocked x going c.self.invariant.0 c.records-records.result.now are told
+    let are = c.in-Ok.ensures.ok in
+    λ told. fits V.told V.disk V.faults g.met.V.Vol.clocked x going c.self.invariant.0 c.take.new.self are told
+
+pub commit-requires-clause-formed : goal.commit-requires-clause-formed
+commit-requires-clause-formed g c =
+    let V = g.V.Vol in
+    let x = view _ V c.self.inside in
+    let going = rw (← c.self.view_is) at c.requires.going in
+    formed_of V.told V.disk V.faults g.met.V.Vol.clocked x going c.self.invariant.0
+
+pub commit-requires-clause-storable : goal.commit-requires-clause-storable
+commit-requires-clause-storable g c =
+    let V = g.V.Vol in
+    let x = view _ V c.self.inside in
+    let going = rw (← c.self.view_is) at c.requires.going in
+    storable_of V.told V.disk V.faults g.met.V.Vol.clocked x going c.self.invariant.0
 
 pub commit-requires-clause-room : goal.commit-requires-clause-room
 commit-requires-clause-room g c =
     let V = g.V.Vol in
     let x = view _ V c.self.inside in
     let going = rw (← c.self.view_is) at c.requires.going in
-    let are = c.records-records.ensures.value ∙ c.in-Ok.ensures.ok in
-    places_of x.store.blocks c.records-records.result.now x.waiting x.stored x.stopped going c.self.invariant.1 are
+    let are = c.in-Ok.ensures.ok in
+    places_of x.store.blocks c.take.new.self x.waiting x.stored x.stopped going c.self.invariant.1 are
 
 pub invariant_of-self-in-Ok-commit : goal.invariant_of-self-in-Ok-commit
 invariant_of-self-in-Ok-commit g c =
     let V = g.V.Vol in
     let x = view _ V c.self.inside in
     let going = rw (← c.self.view_is) at c.requires.going in
-    let are = c.records-records.ensures.value ∙ c.in-Ok.ensures.ok in
+    let are = c.in-Ok.ensures.ok in
     let nothing = joined c.clear.new.self c.take.new.made [] c.clear.ensures.none c.in-Ok.ensures.none in (
-      brought_sound V.told V.disk V.faults g.met.V.Vol.clocked x going c.self.invariant.0 c.records-records.result.now are c.commit.new.vol c.commit.new.self
-          c.in-Ok-commit.ensures.committed (followed c.clear.new.self (effects_in c.take.new.made)) nothing,
-      brought_blocks x.store.blocks c.commit.new.self c.records-records.result.now (followed c.clear.new.self (effects_in c.take.new.made)) x.waiting x.stored x.stopped going c.self.invariant.1 are
-          nothing c.in-Ok-commit.ensures.fewer,
+      brought_sound V.told V.disk V.faults g.met.V.Vol.clocked x going c.self.invariant.0 c.take.new.self are c.commit.new.vol c.commit.new.store
+          c.in-Ok-commit.ensures.commits.committed (followed c.clear.new.self (effects_in c.take.new.made)) nothing,
+      brought_blocks x.store.blocks c.commit.new.store c.take.new.self (followed c.clear.new.self (effects_in c.take.new.made)) x.waiting x.stored x.stopped going c.self.invariant.1 are
+          nothing c.in-Ok-commit.ensures.commits.fewer,
       dated_as (followed c.clear.new.self (effects_in c.take.new.made)) [] None nothing refl,
     )
 
@@ -154,11 +176,16 @@ returns-in-Ok-commit-clause-brings g c =
     let V = g.V.Vol in
     let x = view _ V c.self.inside in
     let going = rw (← c.self.view_is) at c.requires.going in
-    let are = c.records-records.ensures.value ∙ c.in-Ok.ensures.ok in
+    let are = c.in-Ok.ensures.ok in
     let nothing = joined c.clear.new.self c.take.new.made [] c.clear.ensures.none c.in-Ok.ensures.none in
     rw (← c.self.view_is)
-    (brings V.told V.disk V.faults g.met.V.Vol.clocked x going c.self.invariant.0 c.records-records.result.now are c.commit.new.vol c.commit.new.self
-    c.in-Ok-commit.ensures.committed (followed c.clear.new.self (effects_in c.take.new.made)) nothing c.in-Ok-commit.ensures.fits_in)
+    (brings V.told V.disk V.faults g.met.V.Vol.clocked x going c.self.invariant.0 c.take.new.self are c.commit.new.vol c.commit.new.store
+    c.in-Ok-commit.ensures.commits.committed (followed c.clear.new.self (effects_in c.take.new.made)) nothing c.in-Ok-commit.ensures.commits.fits)
+
+pub returns-in-Ok-commit-clause-log : goal.returns-in-Ok-commit-clause-log
+returns-in-Ok-commit-clause-log g c =
+    let x = view _ g.V.Vol c.self.inside in
+    rw (← c.self.view_is) (inr (goes_as x.store c.take.new.self x.waiting (durable_of x.state) c.commit.new.store.log c.in-Ok.ensures.ok c.in-Ok-commit.ensures.commits.goes))
 
 pub returns-in-Ok-commit-clause-tail : goal.returns-in-Ok-commit-clause-tail
 returns-in-Ok-commit-clause-tail g c =
@@ -171,24 +198,24 @@ returns-in-Ok-commit-clause-time g c =
     let V = g.V.Vol in
     let x = view _ V c.self.inside in
     let going = rw (← c.self.view_is) at c.requires.going in
-    let are = c.records-records.ensures.value ∙ c.in-Ok.ensures.ok in
+    let are = c.in-Ok.ensures.ok in
     rw (← c.self.view_is)
-    (time_goes_on V.told V.disk V.faults g.met.V.Vol.clocked x going c.self.invariant.0 c.records-records.result.now are c.commit.new.vol
-    c.commit.ensures.later c.commit.ensures.any_moment
-    (view _ V (record c.self.inside { store = c.commit.new.self; vol = c.commit.new.vol; tail = c.clear.new.self; made = c.take.new.made; since = None }))
-    refl refl c.commit.ensures.head c.commit.ensures.cause.later)
+    (time_goes_on V.told V.disk V.faults g.met.V.Vol.clocked x going c.self.invariant.0 c.take.new.self are c.commit.new.vol
+    c.commit.ensures.commits.later c.commit.ensures.commits.any_moment
+    (view _ V (record c.self.inside { store = c.commit.new.store; vol = c.commit.new.vol; tail = c.clear.new.self; made = c.take.new.made; since = None }))
+    refl refl c.commit.ensures.commits.generations c.commit.ensures.commits.cause.later)
 
 pub invariant_of-self-in-Err-NoMemory : goal.invariant_of-self-in-Err-NoMemory
 invariant_of-self-in-Err-NoMemory g c =
     let V = g.V.Vol in
     let x = view _ V c.self.inside in
     let going = rw (← c.self.view_is) at c.requires.going in
-    let same = joined c.take.new.self c.take.new.made x.waiting c.in-Ok.ensures.ok c.in-Ok.ensures.none in
-    let kept = c.in-Err-NoMemory.ensures.no_memory (ap (λ (f : CommitFault). Err f) c.in-Err-NoMemory.field-0-is) in (
-      unbrought_sound V.told V.disk V.faults g.met.V.Vol.clocked x going c.self.invariant.0 c.commit.new.self c.commit.new.vol
-          (followed c.take.new.self (effects_in c.take.new.made)) kept.1 kept.0 same,
-      unbrought_blocks x.store c.commit.new.self x.waiting (followed c.take.new.self (effects_in c.take.new.made)) x.stored x.stopped kept.1 same c.self.invariant.1,
-      dated_as (followed c.take.new.self (effects_in c.take.new.made)) x.waiting x.since same c.self.invariant.2,
+    let same = joined c.commit.new.tail c.take.new.made x.waiting (c.commit.ensures.same ∙ c.in-Ok.ensures.ok) c.in-Ok.ensures.none in
+    let kept = c.in-Err-NoMemory.ensures.commits.no_memory (ap (λ (f : CommitFault). Err f) c.in-Err-NoMemory.field-0-is) in (
+      unbrought_sound V.told V.disk V.faults g.met.V.Vol.clocked x going c.self.invariant.0 c.commit.new.store c.commit.new.vol
+          (followed c.commit.new.tail (effects_in c.take.new.made)) kept.store_is kept.vol_is same,
+      unbrought_blocks x.store c.commit.new.store x.waiting (followed c.commit.new.tail (effects_in c.take.new.made)) x.stored x.stopped kept.store_is same c.self.invariant.1,
+      dated_as (followed c.commit.new.tail (effects_in c.take.new.made)) x.waiting x.since same c.self.invariant.2,
     )
 
 pub returns-in-Err-NoMemory-clause-brings : goal.returns-in-Err-NoMemory-clause-brings
@@ -196,16 +223,19 @@ returns-in-Err-NoMemory-clause-brings g c =
     let V = g.V.Vol in
     let x = view _ V c.self.inside in
     let going = rw (← c.self.view_is) at c.requires.going in
-    let same = joined c.take.new.self c.take.new.made x.waiting c.in-Ok.ensures.ok c.in-Ok.ensures.none in
-    let kept = c.in-Err-NoMemory.ensures.no_memory (ap (λ (f : CommitFault). Err f) c.in-Err-NoMemory.field-0-is) in
+    let same = joined c.commit.new.tail c.take.new.made x.waiting (c.commit.ensures.same ∙ c.in-Ok.ensures.ok) c.in-Ok.ensures.none in
+    let kept = c.in-Err-NoMemory.ensures.commits.no_memory (ap (λ (f : CommitFault). Err f) c.in-Err-NoMemory.field-0-is) in
     rw (← c.self.view_is)
-    (unbrought V.told V.disk V.faults g.met.V.Vol.clocked x going c.self.invariant.0 c.commit.new.self c.commit.new.vol
-    (followed c.take.new.self (effects_in c.take.new.made)) kept.1 kept.0 same)
+    (unbrought V.told V.disk V.faults g.met.V.Vol.clocked x going c.self.invariant.0 c.commit.new.store c.commit.new.vol
+    (followed c.commit.new.tail (effects_in c.take.new.made)) kept.store_is kept.vol_is same)
+
+pub returns-in-Err-NoMemory-clause-log : goal.returns-in-Err-NoMemory-clause-log
+returns-in-Err-NoMemory-clause-log g c = tt
 
 pub returns-in-Err-NoMemory-clause-tail : goal.returns-in-Err-NoMemory-clause-tail
 returns-in-Err-NoMemory-clause-tail g c =
     let x = view _ g.V.Vol c.self.inside in
-    let same = joined c.take.new.self c.take.new.made x.waiting c.in-Ok.ensures.ok c.in-Ok.ensures.none in
+    let same = joined c.commit.new.tail c.take.new.made x.waiting (c.commit.ensures.same ∙ c.in-Ok.ensures.ok) c.in-Ok.ensures.none in
     rw (← c.self.view_is) (inr (same, refl))
 
 pub returns-in-Err-NoMemory-clause-time : goal.returns-in-Err-NoMemory-clause-time
@@ -213,25 +243,76 @@ returns-in-Err-NoMemory-clause-time g c =
     let V = g.V.Vol in
     let x = view _ V c.self.inside in
     let going = rw (← c.self.view_is) at c.requires.going in
-    let are = c.records-records.ensures.value ∙ c.in-Ok.ensures.ok in
+    let are = c.in-Ok.ensures.ok in
     rw (← c.self.view_is)
-    (time_goes_on V.told V.disk V.faults g.met.V.Vol.clocked x going c.self.invariant.0 c.records-records.result.now are c.commit.new.vol
-    c.commit.ensures.later c.commit.ensures.any_moment
-    (view _ V (record c.self.inside { store = c.commit.new.self; vol = c.commit.new.vol; tail = c.take.new.self; made = c.take.new.made }))
-    refl refl c.commit.ensures.head c.commit.ensures.cause.later)
+    (time_goes_on V.told V.disk V.faults g.met.V.Vol.clocked x going c.self.invariant.0 c.take.new.self are c.commit.new.vol
+    c.commit.ensures.commits.later c.commit.ensures.commits.any_moment
+    (view _ V (record c.self.inside { store = c.commit.new.store; vol = c.commit.new.vol; tail = c.commit.new.tail; made = c.take.new.made }))
+    refl refl c.commit.ensures.commits.generations c.commit.ensures.commits.cause.later)
+
+pub invariant_of-self-in-Err-Worn : goal.invariant_of-self-in-Err-Worn
+invariant_of-self-in-Err-Worn g c =
+    let V = g.V.Vol in
+    let x = view _ V c.self.inside in
+    let going = rw (← c.self.view_is) at c.requires.going in
+    let same = joined c.commit.new.tail c.take.new.made x.waiting (c.commit.ensures.same ∙ c.in-Ok.ensures.ok) c.in-Ok.ensures.none in
+    let kept = c.in-Err-Worn.ensures.commits.worn_leaves (ap (λ (f : CommitFault). Err f) c.in-Err-Worn.field-0-is) in (
+      unbrought_sound V.told V.disk V.faults g.met.V.Vol.clocked x going c.self.invariant.0 c.commit.new.store c.commit.new.vol
+          (followed c.commit.new.tail (effects_in c.take.new.made)) kept.store_is kept.vol_is same,
+      unbrought_blocks x.store c.commit.new.store x.waiting (followed c.commit.new.tail (effects_in c.take.new.made)) x.stored x.stopped kept.store_is same c.self.invariant.1,
+      dated_as (followed c.commit.new.tail (effects_in c.take.new.made)) x.waiting x.since same c.self.invariant.2,
+    )
+
+pub returns-in-Err-Worn-clause-brings : goal.returns-in-Err-Worn-clause-brings
+returns-in-Err-Worn-clause-brings g c =
+    let V = g.V.Vol in
+    let x = view _ V c.self.inside in
+    let going = rw (← c.self.view_is) at c.requires.going in
+    let same = joined c.commit.new.tail c.take.new.made x.waiting (c.commit.ensures.same ∙ c.in-Ok.ensures.ok) c.in-Ok.ensures.none in
+    let is = ap (λ (f : CommitFault). Err f) c.in-Err-Worn.field-0-is in
+    let kept = c.in-Err-Worn.ensures.commits.worn_leaves is in
+    rw (← c.self.view_is)
+    (wears V.told V.disk V.faults g.met.V.Vol.clocked x going c.self.invariant.0 c.commit.new.store c.commit.new.vol
+    (followed c.commit.new.tail (effects_in c.take.new.made)) kept.store_is kept.vol_is same (c.in-Err-Worn.ensures.commits.worn is).last)
+
+pub returns-in-Err-Worn-clause-log : goal.returns-in-Err-Worn-clause-log
+returns-in-Err-Worn-clause-log g c =
+    let x = view _ g.V.Vol c.self.inside in
+    let same = joined c.commit.new.tail c.take.new.made x.waiting (c.commit.ensures.same ∙ c.in-Ok.ensures.ok) c.in-Ok.ensures.none in
+    let is = ap (λ (f : CommitFault). Err f) c.in-Err-Worn.field-0-is in
+    let kept = c.in-Err-Worn.ensures.commits.worn_leaves is in
+    left_as x.store c.commit.new.store c.take.new.self (followed c.commit.new.tail (effects_in c.take.new.made)) kept.store_is (same ∙ sym c.in-Ok.ensures.ok) (c.in-Err-Worn.ensures.commits.worn is).left
+
+pub returns-in-Err-Worn-clause-tail : goal.returns-in-Err-Worn-clause-tail
+returns-in-Err-Worn-clause-tail g c =
+    let x = view _ g.V.Vol c.self.inside in
+    let same = joined c.commit.new.tail c.take.new.made x.waiting (c.commit.ensures.same ∙ c.in-Ok.ensures.ok) c.in-Ok.ensures.none in
+    rw (← c.self.view_is) (inr (same, refl))
+
+pub returns-in-Err-Worn-clause-time : goal.returns-in-Err-Worn-clause-time
+returns-in-Err-Worn-clause-time g c =
+    let V = g.V.Vol in
+    let x = view _ V c.self.inside in
+    let going = rw (← c.self.view_is) at c.requires.going in
+    let are = c.in-Ok.ensures.ok in
+    rw (← c.self.view_is)
+    (time_goes_on V.told V.disk V.faults g.met.V.Vol.clocked x going c.self.invariant.0 c.take.new.self are c.commit.new.vol
+    c.commit.ensures.commits.later c.commit.ensures.commits.any_moment
+    (view _ V (record c.self.inside { store = c.commit.new.store; vol = c.commit.new.vol; tail = c.commit.new.tail; made = c.take.new.made }))
+    refl refl c.commit.ensures.commits.generations c.commit.ensures.commits.cause.later)
 
 pub invariant_of-self-in-Err-Fault : goal.invariant_of-self-in-Err-Fault
 invariant_of-self-in-Err-Fault g c =
     let V = g.V.Vol in
     let x = view _ V c.self.inside in
     let going = rw (← c.self.view_is) at c.requires.going in
-    let are = c.records-records.ensures.value ∙ c.in-Ok.ensures.ok in
-    let same = joined c.take.new.self c.take.new.made x.waiting c.in-Ok.ensures.ok c.in-Ok.ensures.none in (
-      stopped_sound V.told V.disk V.faults g.met.V.Vol.clocked x going c.self.invariant.0 c.records-records.result.now are c.commit.new.vol
-          c.commit.ensures.later c.commit.ensures.any_moment c.commit.new.self (followed c.take.new.self (effects_in c.take.new.made))
+    let are = c.in-Ok.ensures.ok in
+    let same = joined c.commit.new.tail c.take.new.made x.waiting (c.commit.ensures.same ∙ c.in-Ok.ensures.ok) c.in-Ok.ensures.none in (
+      stopped_sound V.told V.disk V.faults g.met.V.Vol.clocked x going c.self.invariant.0 c.take.new.self are c.commit.new.vol
+          c.commit.ensures.commits.later c.commit.ensures.commits.any_moment c.commit.new.store (followed c.commit.new.tail (effects_in c.take.new.made))
           c.faults.result same,
       tt,
-      dated_as (followed c.take.new.self (effects_in c.take.new.made)) x.waiting x.since same c.self.invariant.2,
+      dated_as (followed c.commit.new.tail (effects_in c.take.new.made)) x.waiting x.since same c.self.invariant.2,
     )
 
 pub returns-in-Err-Fault-clause-brings : goal.returns-in-Err-Fault-clause-brings
@@ -239,17 +320,20 @@ returns-in-Err-Fault-clause-brings g c =
     let V = g.V.Vol in
     let x = view _ V c.self.inside in
     let going = rw (← c.self.view_is) at c.requires.going in
-    let are = c.records-records.ensures.value ∙ c.in-Ok.ensures.ok in
+    let are = c.in-Ok.ensures.ok in
     rw (← c.self.view_is)
-    (fails V.told V.disk V.faults g.met.V.Vol.clocked x going c.self.invariant.0 c.records-records.result.now are c.commit.new.vol c.commit.ensures.later
-    c.commit.ensures.any_moment c.commit.new.self (followed c.take.new.self (effects_in c.take.new.made)) c.faults.result
-    c.faults.ensures.value (c.in-Err-Fault.ensures.cause.failed (ap (λ (f : CommitFault). Err f) c.in-Err-Fault.field-0-is))
-    (c.in-Err-Fault.ensures.fault_fits (ap (λ (f : CommitFault). Err f) c.in-Err-Fault.field-0-is)))
+    (fails V.told V.disk V.faults g.met.V.Vol.clocked x going c.self.invariant.0 c.take.new.self are c.commit.new.vol c.commit.ensures.commits.later
+    c.commit.ensures.commits.any_moment c.commit.new.store (followed c.commit.new.tail (effects_in c.take.new.made)) c.faults.result
+    c.faults.ensures.value (c.in-Err-Fault.ensures.commits.cause.failed (ap (λ (f : CommitFault). Err f) c.in-Err-Fault.field-0-is))
+    (c.in-Err-Fault.ensures.commits.fault_fits (ap (λ (f : CommitFault). Err f) c.in-Err-Fault.field-0-is)))
+
+pub returns-in-Err-Fault-clause-log : goal.returns-in-Err-Fault-clause-log
+returns-in-Err-Fault-clause-log g c = tt
 
 pub returns-in-Err-Fault-clause-tail : goal.returns-in-Err-Fault-clause-tail
 returns-in-Err-Fault-clause-tail g c =
     let x = view _ g.V.Vol c.self.inside in
-    let same = joined c.take.new.self c.take.new.made x.waiting c.in-Ok.ensures.ok c.in-Ok.ensures.none in
+    let same = joined c.commit.new.tail c.take.new.made x.waiting (c.commit.ensures.same ∙ c.in-Ok.ensures.ok) c.in-Ok.ensures.none in
     rw (← c.self.view_is) (inr (same, refl))
 
 pub returns-in-Err-Fault-clause-time : goal.returns-in-Err-Fault-clause-time
@@ -257,25 +341,25 @@ returns-in-Err-Fault-clause-time g c =
     let V = g.V.Vol in
     let x = view _ V c.self.inside in
     let going = rw (← c.self.view_is) at c.requires.going in
-    let are = c.records-records.ensures.value ∙ c.in-Ok.ensures.ok in
+    let are = c.in-Ok.ensures.ok in
     rw (← c.self.view_is)
-    (time_goes_on V.told V.disk V.faults g.met.V.Vol.clocked x going c.self.invariant.0 c.records-records.result.now are c.commit.new.vol
-    c.commit.ensures.later c.commit.ensures.any_moment
-    (view _ V (record c.self.inside { store = c.commit.new.self; vol = c.commit.new.vol; tail = c.take.new.self; made = c.take.new.made; stopped = Some c.faults.result }))
-    refl refl c.commit.ensures.head c.commit.ensures.cause.later)
+    (time_goes_on V.told V.disk V.faults g.met.V.Vol.clocked x going c.self.invariant.0 c.take.new.self are c.commit.new.vol
+    c.commit.ensures.commits.later c.commit.ensures.commits.any_moment
+    (view _ V (record c.self.inside { store = c.commit.new.store; vol = c.commit.new.vol; tail = c.commit.new.tail; made = c.take.new.made; stopped = Some c.faults.result }))
+    refl refl c.commit.ensures.commits.generations c.commit.ensures.commits.cause.later)
 
 pub invariant_of-self-in-Err-Full : goal.invariant_of-self-in-Err-Full
 invariant_of-self-in-Err-Full g c =
     let V = g.V.Vol in
     let x = view _ V c.self.inside in
     let going = rw (← c.self.view_is) at c.requires.going in
-    let are = c.records-records.ensures.value ∙ c.in-Ok.ensures.ok in
-    let same = joined c.take.new.self c.take.new.made x.waiting c.in-Ok.ensures.ok c.in-Ok.ensures.none in (
-      stopped_sound V.told V.disk V.faults g.met.V.Vol.clocked x going c.self.invariant.0 c.records-records.result.now are c.commit.new.vol
-          c.commit.ensures.later c.commit.ensures.any_moment c.commit.new.self (followed c.take.new.self (effects_in c.take.new.made))
+    let are = c.in-Ok.ensures.ok in
+    let same = joined c.commit.new.tail c.take.new.made x.waiting (c.commit.ensures.same ∙ c.in-Ok.ensures.ok) c.in-Ok.ensures.none in (
+      stopped_sound V.told V.disk V.faults g.met.V.Vol.clocked x going c.self.invariant.0 c.take.new.self are c.commit.new.vol
+          c.commit.ensures.commits.later c.commit.ensures.commits.any_moment c.commit.new.store (followed c.commit.new.tail (effects_in c.take.new.made))
           c.faults-in-Err-Full.result same,
       tt,
-      dated_as (followed c.take.new.self (effects_in c.take.new.made)) x.waiting x.since same c.self.invariant.2,
+      dated_as (followed c.commit.new.tail (effects_in c.take.new.made)) x.waiting x.since same c.self.invariant.2,
     )
 
 pub returns-in-Err-Full-clause-brings : goal.returns-in-Err-Full-clause-brings
@@ -283,19 +367,22 @@ returns-in-Err-Full-clause-brings g c =
     let V = g.V.Vol in
     let x = view _ V c.self.inside in
     let going = rw (← c.self.view_is) at c.requires.going in
-    let are = c.records-records.ensures.value ∙ c.in-Ok.ensures.ok in
-    let some : x.waiting ≢ [] = λ none. something_in (length c.records-records.result.now) c.take.new.self (ap (λ (l : List Effect). length l) c.records-records.ensures.value) c.if-is_empty.ensures (c.in-Ok.ensures.ok ∙ none) in
-    let kept = c.in-Err-Full.ensures.full_leaves (ap (λ (f : CommitFault). Err f) c.in-Err-Full.field-0-is) in
+    let are = c.in-Ok.ensures.ok in
+    let some : x.waiting ≢ [] = λ none. something_in (length c.records.result.now) c.take.new.self (ap (λ (l : List Effect). length l) c.records.ensures.value) c.if-is_empty.ensures (c.in-Ok.ensures.ok ∙ none) in
+    let kept = c.in-Err-Full.ensures.commits.full_leaves (ap (λ (f : CommitFault). Err f) c.in-Err-Full.field-0-is) in
     rw (← c.self.view_is)
-    (fills V.told V.disk V.faults g.met.V.Vol.clocked x going c.self.invariant.0 c.records-records.result.now are c.commit.new.self c.commit.new.vol
-    (followed c.take.new.self (effects_in c.take.new.made)) c.faults-in-Err-Full.result c.faults-in-Err-Full.ensures.value
-    kept.1 kept.0 some
-    (c.in-Err-Full.ensures.full (ap (λ (f : CommitFault). Err f) c.in-Err-Full.field-0-is)))
+    (fills V.told V.disk V.faults g.met.V.Vol.clocked x going c.self.invariant.0 c.take.new.self are c.commit.new.store c.commit.new.vol
+    (followed c.commit.new.tail (effects_in c.take.new.made)) c.faults-in-Err-Full.result c.faults-in-Err-Full.ensures.value
+    kept.store_is kept.vol_is some
+    (c.in-Err-Full.ensures.commits.full (ap (λ (f : CommitFault). Err f) c.in-Err-Full.field-0-is)))
+
+pub returns-in-Err-Full-clause-log : goal.returns-in-Err-Full-clause-log
+returns-in-Err-Full-clause-log g c = tt
 
 pub returns-in-Err-Full-clause-tail : goal.returns-in-Err-Full-clause-tail
 returns-in-Err-Full-clause-tail g c =
     let x = view _ g.V.Vol c.self.inside in
-    let same = joined c.take.new.self c.take.new.made x.waiting c.in-Ok.ensures.ok c.in-Ok.ensures.none in
+    let same = joined c.commit.new.tail c.take.new.made x.waiting (c.commit.ensures.same ∙ c.in-Ok.ensures.ok) c.in-Ok.ensures.none in
     rw (← c.self.view_is) (inr (same, refl))
 
 pub returns-in-Err-Full-clause-time : goal.returns-in-Err-Full-clause-time
@@ -303,9 +390,9 @@ returns-in-Err-Full-clause-time g c =
     let V = g.V.Vol in
     let x = view _ V c.self.inside in
     let going = rw (← c.self.view_is) at c.requires.going in
-    let are = c.records-records.ensures.value ∙ c.in-Ok.ensures.ok in
+    let are = c.in-Ok.ensures.ok in
     rw (← c.self.view_is)
-    (time_goes_on V.told V.disk V.faults g.met.V.Vol.clocked x going c.self.invariant.0 c.records-records.result.now are c.commit.new.vol
-    c.commit.ensures.later c.commit.ensures.any_moment
-    (view _ V (record c.self.inside { store = c.commit.new.self; vol = c.commit.new.vol; tail = c.take.new.self; made = c.take.new.made; stopped = Some c.faults-in-Err-Full.result }))
-    refl refl c.commit.ensures.head c.commit.ensures.cause.later)
+    (time_goes_on V.told V.disk V.faults g.met.V.Vol.clocked x going c.self.invariant.0 c.take.new.self are c.commit.new.vol
+    c.commit.ensures.commits.later c.commit.ensures.commits.any_moment
+    (view _ V (record c.self.inside { store = c.commit.new.store; vol = c.commit.new.vol; tail = c.commit.new.tail; made = c.take.new.made; stopped = Some c.faults-in-Err-Full.result }))
+    refl refl c.commit.ensures.commits.generations c.commit.ensures.commits.cause.later)

@@ -24,7 +24,7 @@ returns-clause-waits g c =
           (nothing_waits x.store given little.0 (nothing_in (length c.records.result.now) given there w.if-is_empty.ensures))
       | else-is_empty w ↦
           subst (λ b. MatchBool b (MayWait x.store given) (MustNotWait x.store given)) (sym w.result-is)
-          (room_tells x.store given little.0 c.in-Some.bytes w.fits.result little.1 (something_in (length c.records.result.now) given there w.if-is_empty.ensures) w.fits.ensures.value)
+          (room_tells x.store given little.0 c.in-Some.bytes w.takes.result little.1 (something_in (length c.records.result.now) given there w.if-is_empty.ensures) w.takes.ensures.value)
     ] in
     rw (← c.self.view_is)
     (subst (λ (l : List Effect). MatchBool c.if-is_empty.result (MayWait x.store l) (MustNotWait x.store l)) c.in_ok-take.ensures.ok decided)

@@ -6,7 +6,7 @@ use Rattle.js_model.specs.Events.{kept_incarnation}
 use Rattle.model_laws.specs.Sound.{IsSound}
 use Rattle.volume_place.specs.Contents.{Contents}
 use Rattle.volume_place.specs.Since.{IsOverdue}
-use Rattle.volume_place.proofs.Steps.{shares_made, starves, steps_made}
+use Rattle.volume_place.proofs.Steps.{log_made, shares_made, starves, steps_made}
 use Rattle.volume_place.proofs.Urgent.{urgent_decides}
 use Rattle.volume_place.proofs.volume_place.VolumePlacePlace.step.Goals as goal
 
@@ -52,6 +52,17 @@ returns-in_ok-confirm-in-Ok-clause-shares g c =
     shares_made g.V.Vol.told g.V.Vol.disk g.V.Vol.faults c.args.self.now going c.answer.new.self c.confirm.new.self c.args.event.now c.args.now c.in-Ok.said.reply c.args.outs.now
     c.answer.new.outs c.confirm.new.outs c.is_urgent-urgent.result c.is_refused.result c.len-count.result kept c.in-Ok.ensures.rests c.in-Ok.ensures.answers
     c.in-Ok.ensures.recorded decides c.in_ok-confirm-in-Ok.ensures.confirms
+
+pub returns-in_ok-confirm-in-Ok-clause-log : goal.returns-in_ok-confirm-in-Ok-clause-log
+returns-in_ok-confirm-in-Ok-clause-log g c =
+    let going : c.args.self.now.stopped ≡ None = search rules in
+    log_made g.V.Vol.told g.V.Vol.disk g.V.Vol.faults c.args.self.now going c.answer.new.self c.confirm.new.self c.args.event.now c.args.now c.in-Ok.said.reply c.in-Ok.ensures.rests
+    c.in-Ok.ensures.recorded c.in_ok-confirm-in-Ok.ensures.log
+
+pub returns-in_err-confirm-in-Ok-clause-log : goal.returns-in_err-confirm-in-Ok-clause-log
+returns-in_err-confirm-in-Ok-clause-log g c =
+    let p = err_from_is_err_and c.from_residual.result c.from_residual.ensures.1 in
+    rw (p.1, p.2) c.in_err-confirm-in-Ok.ensures.log
 
 pub returns-in-Err-clause-steps : goal.returns-in-Err-clause-steps
 returns-in-Err-clause-steps g c =

@@ -1,0 +1,39 @@
+use Rattle.std.proofs.Common.{◌≡◌, ◌≤◌, ◌∙◌, ℕ, ap, length, subst, sym}
+use Rattle.vol_disk.specs.Images.{IsDurable}
+use Rattle.vol_disk.specs.Moments.{Quiet}
+use Rattle.gate_log.specs.Starting.{Starts}
+use Rattle.stream_store.specs.Alternating.{other_file}
+use Rattle.stream_store.proofs.Alternated.{durable_log, other_low}
+use Rattle.stream_store.proofs.Closed.{closed_firm, closed_short}
+use Rattle.stream_store.proofs.clearing.close_other.Goals as goal
+
+pub clear_log-requires : goal.clear_log-requires
+clear_log-requires g c =
+    let log = c.args.log.now in
+    let old = g.V.Vol.disk c.args.vol.now in
+    let other_is : c.other_file.result ≡ other_file log.file = c.other_file.ensures.value ∙ ap other_file c.file.ensures.value in
+    record { durable = λ told. let f = c.requires.base told in subst (IsDurable old) (sym other_is) (durable_log log f.0 f.1 old f.2 (other_file log.file) (other_low log.file)) }
+
+pub returns-clause-closed : goal.returns-clause-closed
+returns-clause-closed g c = λ told.
+    let other_is : c.other_file.result ≡ other_file c.args.log.now.file = c.other_file.ensures.value ∙ ap other_file c.file.ensures.value in
+    closed_short c.clear_log.result c.args.log.now c.other_file.result other_is (g.V.Vol.disk c.clear_log.new.vol) (c.clear_log.ensures.durable told) (c.clear_log.ensures.short told)
+
+pub returns-clause-durable : goal.returns-clause-durable
+returns-clause-durable g c = λ told.
+    let other_is : c.other_file.result ≡ other_file c.args.log.now.file = c.other_file.ensures.value ∙ ap other_file c.file.ensures.value in
+    closed_firm c.clear_log.result c.args.log.now c.other_file.result other_is (g.V.Vol.disk c.clear_log.new.vol) (c.clear_log.ensures.durable told)
+
+pub returns-clause-any_moment : goal.returns-clause-any_moment
+returns-clause-any_moment g c = λ told.
+    let old = g.V.Vol.disk c.args.vol.now in
+    let new = g.V.Vol.disk c.clear_log.new.vol in
+    let other_is : c.other_file.result ≡ other_file c.args.log.now.file = c.other_file.ensures.value ∙ ap other_file c.file.ensures.value in
+    subst (λ (n : ℕ). Starts n old new) other_is (c.clear_log.ensures.any_moment told)
+
+pub returns-clause-quiet : goal.returns-clause-quiet
+returns-clause-quiet g c = λ told.
+    let old = g.V.Vol.disk c.args.vol.now in
+    let new = g.V.Vol.disk c.clear_log.new.vol in
+    let other_is : c.other_file.result ≡ other_file c.args.log.now.file = c.other_file.ensures.value ∙ ap other_file c.file.ensures.value in
+    subst (λ (n : ℕ). length (old.seen n) ≤ 21 → Quiet old new) other_is (c.clear_log.ensures.quiet told)
