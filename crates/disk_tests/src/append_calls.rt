@@ -13,11 +13,11 @@ fn write_len(call: &Call) -> Option<usize> {
     }
 }
 
-/// Whether the calls write a batch of so many bytes of records with its length and a closed gate, and then open its gate, each with a sync.
+/// Whether the calls write a batch of so many bytes of records with its length, its checksum and a closed gate, and then open its gate, each with a sync.
 fn are_an_append(calls: &[Call], records: usize) -> bool {
     match calls {
         [batch, batch_sync, gate, gate_sync] => {
-            write_len(batch) == Some(records.saturating_add(5))
+            write_len(batch) == Some(records.saturating_add(9))
                 && write_len(gate) == Some(1)
                 && matches!(&batch_sync.deed, Deed::Sync)
                 && matches!(&gate_sync.deed, Deed::Sync)

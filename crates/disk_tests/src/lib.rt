@@ -13,10 +13,14 @@ mod blocks;
 #[cfg(test)]
 mod contents;
 #[cfg(test)]
+mod damaged_logs;
+#[cfg(test)]
 mod folder;
 #[cfg(test)]
 mod locked_folder;
 #[cfg(test)]
 mod stopped_appends;
+#[cfg(test)]
+mod stopped_clearings;
 #[cfg(test)]
 mod volumes;

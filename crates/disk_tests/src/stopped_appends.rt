@@ -22,10 +22,10 @@ fn stopped(alloc: Global, at: u64) -> Result<(bool, MemVol), Fail> {
 
 /// The records of the first batches of a log, a bar behind each.
 fn records(alloc: Global, vol: &mut MemVol, log: &GateLog) -> Result<Vec<u8>, Fail>
-    requires first { IsSomeGate log.now 16 (disk_of vol.old) }
+    requires first { IsSomeGate log.now 20 (disk_of vol.old) }
 {
     let mut text = Vec::new(alloc);
-    let mut at = 16;
+    let mut at = 20;
     for _ in 0..4 {
         let Some((records, next)) = log.batch(alloc, vol, at)? else {
             return Ok(text);

@@ -1,6 +1,7 @@
 //! A log file as its fields.
 
 use crate::line::{LineFault, spelled_bytes, split_word};
+use crate::spelling::Spelling;
 use js_base::Blob;
 use std::alloc::Global;
 
@@ -9,8 +10,14 @@ use std::alloc::Global;
 pub(crate) enum Role {
     /// A gate, before a batch.
     Gate,
-    /// The length of the batch behind it.
+    /// The length of the records of a batch.
     Length,
+    /// The length of a message, where it begins.
+    Message,
+    /// The checksum of what stands before it.
+    Head,
+    /// The checksum of what stands behind it, up to the next gate, message or checksum.
+    Sum,
     /// The length of the field behind it.
     Size,
     Field,
@@ -21,17 +28,22 @@ pub(crate) enum Role {
 pub(crate) struct Part {
     pub(crate) name: Blob,
     pub(crate) role: Role,
-    /// `None` for a length that is counted.
+    /// `None` for a length or a checksum that is counted.
     pub(crate) bytes: Option<Blob>,
 }
 
 impl Part {
-    /// How many bytes it has: a counted length has four.
+    /// How many bytes it has: what is counted has four.
     pub(crate) fn len(&self) -> usize {
         match &self.bytes {
             Some(bytes) => bytes.len(),
             None => 4,
         }
+    }
+
+    /// Whether what a checksum before it covers ends there.
+    fn ends_checksum(&self) -> bool {
+        matches!(self.role, Role::Gate | Role::Message | Role::Sum)
     }
 
     pub(crate) fn try_clone(&self) -> Result<Part, LineFault> {
@@ -80,7 +92,10 @@ impl LogFile {
             b"field" => self.add(name, Role::Field, Some(spelled_bytes(alloc, text)?)),
             b"text" => self.add(name, Role::Field, Some(Blob::of(alloc, text)?)),
             b"gate" => self.add(name, Role::Gate, Some(spelled_bytes(alloc, text)?)),
+            b"message" => self.add(name, Role::Message, Some(spelled_bytes(alloc, text)?)),
+            b"head" if text.is_empty() => self.add(name, Role::Head, None),
             b"length" if text.is_empty() => self.add(name, Role::Length, None),
+            b"sum" if text.is_empty() => self.add(name, Role::Sum, None),
             b"size" if text.is_empty() => self.add(name, Role::Size, None),
             _ => Err(LineFault::Bad),
         }
@@ -109,15 +124,21 @@ impl LogFile {
         })
     }
 
-    /// The bytes of the file, in which a length that is counted tells what stands behind it.
+    /// The bytes of the file, with the lengths and the checksums that are counted.
     pub(crate) fn bytes(&self, alloc: Global) -> Result<Vec<u8>, LineFault> {
-        let mut bytes = Vec::new(alloc);
+        let mut spelling = Spelling::new(alloc);
         for (place, part) in self.parts.iter().enumerate() {
-            match &part.bytes {
-                Some(own) => bytes.extend_from_slice(own.as_slice())?,
-                None => bytes.extend_from_slice(&counted(&self.parts, place).to_be_bytes())?,
+            if part.ends_checksum() {
+                spelling.settle()?;
+            }
+            match (&part.bytes, part.role) {
+                (Some(own), _) => spelling.add(own.as_slice())?,
+                (None, Role::Head) => spelling.add_checksum()?,
+                (None, Role::Sum) => spelling.begin_checksum(),
+                (None, _) => spelling.add(&counted(&self.parts, place).to_be_bytes())?,
             }
         }
+        let mut bytes = spelling.into_bytes()?;
         bytes.truncate(self.limit);
         Ok(bytes)
     }
@@ -135,7 +156,7 @@ impl LogFile {
     }
 }
 
-/// The length that is counted at this place: of the next part, or of all up to the next gate.
+/// The length that is counted at this place: of the next part, or of the batch behind it.
 fn counted(parts: &[Part], place: usize) -> u32 {
     let behind = place.saturating_add(1);
     match parts.get(place) {
@@ -149,14 +170,15 @@ fn short_len(part: &Part) -> u32 {
     u32::try_from(part.len()).unwrap_or(u32::MAX)
 }
 
-/// How many bytes stand from a place to the next gate.
+/// How many bytes stand from a place to the next gate, but for a checksum.
 fn batch_len(parts: &[Part], place: usize) -> u32 {
     let mut len: u32 = 0;
     for part in parts.iter().skip(place) {
-        if part.role == Role::Gate {
-            return len;
+        match part.role {
+            Role::Gate => return len,
+            Role::Sum => {}
+            _ => len = len.saturating_add(short_len(part)),
         }
-        len = len.saturating_add(short_len(part));
     }
     len
 }

@@ -9,8 +9,11 @@
 //! | `file NUMBER` | the next lines tell of the file with this number |
 //! | `field NAME BYTES`, `text NAME TEXT` | the file has a field with these bytes next |
 //! | `gate NAME BYTES` | a gate comes next, before the batch that the next fields are |
-//! | `length NAME` | the length of that batch comes next: the bytes from there to the next gate, as they are counted when a row has changed them |
+//! | `message NAME BYTES` | the length of a message comes next, which the next fields are |
+//! | `length NAME` | the length of a batch comes next: the bytes from there to the next gate but for a checksum, as they are counted when a row has changed them |
 //! | `size NAME` | the length of the next field comes next, counted in the same way |
+//! | `sum NAME` | the checksum of the batch or the message comes next: of the bytes from there to the next gate, message or checksum, counted in the same way |
+//! | `head NAME` | the checksum of the bytes before it comes next |
 //! | `row CHANGE; CHANGE` | of the sound volume with these changes, one after the other, the log in its first file is read, and the records of each batch |
 //! | `open CHANGE; CHANGE` | the volume with these changes is opened as a store |
 //!
@@ -26,6 +29,7 @@ mod line;
 mod log_file;
 mod naming;
 mod opening;
+mod spelling;
 mod telling;
 mod volume;
 

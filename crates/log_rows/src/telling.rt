@@ -6,9 +6,16 @@ ghost use Rattle.gate_log.specs.Reading.{IsSomeGate};
 use crate::line::LineFault;
 use crate::naming::kind_name;
 use gate_log::{GateLog, LogFault};
-use op_records::{Record, RecordFault, read_records, read_vacant};
+use op_records::{Record, RecordFault, read_records};
+use state_snapshot::{Snapshot, read_snapshot};
 use std::alloc::Global;
 use vol_disk::{MemVol, Vol};
+
+/// The offset of a log's first gate.
+const FIRST_GATE: u64 = 20;
+
+/// The bytes of a batch before its records: its gate, their length and their checksum.
+const BEFORE_RECORDS: u64 = 9;
 
 /// On a volume in memory a call fails of memory alone.
 impl From<LogFault> for LineFault {
@@ -49,8 +56,8 @@ impl Batch {
 
     /// The first batch, whose records begin at an offset of the file.
     fn first(alloc: Global, begin: u64, bytes: &[u8]) -> Result<Batch, LineFault> {
-        match read_vacant(alloc, bytes) {
-            Ok(incarnation) => Ok(Batch::sound(format!(in alloc; "vacant {incarnation}")?)),
+        match read_snapshot(alloc, bytes) {
+            Ok(snapshot) => Ok(Batch::sound(snapshot_text(alloc, &snapshot)?)),
             Err(fault) => Batch::wrong(alloc, begin, fault),
         }
     }
@@ -65,12 +72,27 @@ impl Batch {
 
     /// The batch whose gate is at an offset of the file.
     fn read(alloc: Global, gate: u64, bytes: &[u8]) -> Result<Batch, LineFault> {
-        let begin = gate.saturating_add(5);
-        if gate == 16 {
+        let begin = gate.saturating_add(BEFORE_RECORDS);
+        if gate == FIRST_GATE {
             Batch::first(alloc, begin, bytes)
         } else {
             Batch::later(alloc, begin, bytes)
         }
+    }
+}
+
+/// Which place the snapshot tells of, and how much of its stream.
+fn snapshot_text(alloc: Global, snapshot: &Snapshot) -> Result<String, LineFault> {
+    let incarnation = snapshot.incarnation;
+    match &snapshot.body {
+        Some(body) => Ok(format!(in alloc;
+            "stream {incarnation}: messages {}, older blocks {}, ids {}, consumers {}",
+            body.messages.len(),
+            body.older.len(),
+            body.ids.len(),
+            body.consumers.len()
+        )?),
+        None => Ok(format!(in alloc; "vacant {incarnation}")?),
     }
 }
 
@@ -88,13 +110,13 @@ fn kinds_text(alloc: Global, records: &[Record]) -> Result<String, LineFault> {
 
 /// The generation of the log, and what each of its batches has, up to the first that is wrong.
 fn batches_text(alloc: Global, vol: &mut MemVol, log: &GateLog) -> Result<String, LineFault>
-    requires first { IsSomeGate log.now 16 (disk_of vol.old) }
+    requires first { IsSomeGate log.now 20 (disk_of vol.old) }
 {
     let Some(generation) = log.generation() else {
         return Ok(format!(in alloc; "nothing")?);
     };
     let mut text = format!(in alloc; "generation {generation}")?;
-    let mut at = 16;
+    let mut at = FIRST_GATE;
     for _ in 0..u64::MAX {
         let Some((bytes, next)) = log.batch(alloc, vol, at)? else {
             return Ok(text);

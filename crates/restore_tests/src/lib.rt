@@ -5,6 +5,7 @@ ghost use Rattle.std.specs.Prelude.{All};
 ghost use Rattle.consumer_state.specs.Keeping.{IsRestorable};
 ghost use Rattle.durable_checks.specs.Storable.{IsFormed, IsOpenable, IsStorable};
 
+use checksum::crc32c;
 use consumer_state::Consumer;
 use effects::Durable;
 use js_base::NoMemory;
@@ -24,16 +25,32 @@ const CONSUMER: &[u8] =
     br#"{"ack_policy":"explicit","ack_wait":30000000000,"deliver_policy":"all","durable_name":"C","max_ack_pending":1000,"max_deliver":-1,"max_waiting":512,"name":"C","replay_policy":"instant"}"#;
 
 /// A log's head, and a batch that says that no stream was there.
-const BEGUN: &[u8] = b"JSLOG\0\0\x01\0\0\0\0\0\0\0\x01\x01\0\0\0\x09\x20\0\0\0\0\0\0\0\0";
+const BEGUN: &[u8] =
+    b"JSLOG\0\0\x02\0\0\0\0\0\0\0\x01\x6A\x50\xFE\xEE\x01\0\0\0\x09\x51\xF2\x4F\x1D\x20\0\0\0\0\0\0\0\0";
 
 /// The block of file 2, with one message.
-const BLOCK: &[u8] = b"\0\0\0\x1C\0\0\0\0\0\0\0\x01\0\0\0\0\0\0\x03\xE8\0\x01A\0\0\0\0hello";
+const BLOCK: &[u8] =
+    b"\0\0\0\x1C\x29\x56\xA1\x8A\0\0\0\0\0\0\0\x01\0\0\0\0\0\0\x03\xE8\0\x01A\0\0\0\0hello";
 
-/// Adds the text behind its length, of which the last four bytes are written.
-fn add_text(bytes: &mut Vec<u8>, text: &[u8]) -> Result<(), NoMemory> {
+/// Adds the length of the text, of which the last four bytes are written.
+fn add_len(bytes: &mut Vec<u8>, text: &[u8]) -> Result<(), NoMemory> {
     let len = (text.len() as u64).to_be_bytes();
     bytes.extend_from_slice(&len[4..])?;
+    Ok(())
+}
+
+/// Adds the text behind its length.
+fn add_text(bytes: &mut Vec<u8>, text: &[u8]) -> Result<(), NoMemory> {
+    add_len(bytes, text)?;
     bytes.extend_from_slice(text)?;
+    Ok(())
+}
+
+/// Adds the records behind their length and their checksum.
+fn add_batch(bytes: &mut Vec<u8>, records: &[u8]) -> Result<(), NoMemory> {
+    add_len(bytes, records)?;
+    bytes.extend_from_slice(&crc32c(records).to_be_bytes())?;
+    bytes.extend_from_slice(records)?;
     Ok(())
 }
 
@@ -42,7 +59,7 @@ fn records(alloc: Global) -> Result<Vec<u8>, NoMemory> {
     let mut bytes = Vec::from_slice(alloc, b"\x01\0\0\0\0\0\0\0\x01\0\0\0\0\0\0\x03\xE8")?;
     add_text(&mut bytes, STREAM)?;
     bytes.extend_from_slice(
-        b"\x0E\0\0\0\0\0\0\0\x01\0\0\0\0\0\0\x03\xE8\0\0\0\x02\0\0\0\0\0\0\0\x20",
+        b"\x0E\0\0\0\0\0\0\0\x01\0\0\0\0\0\0\x03\xE8\0\0\0\x02\0\0\0\0\0\0\0\x24",
     )?;
     bytes.extend_from_slice(b"\x07\x01C\0\0\0\0\0\0\x03\xE8")?;
     add_text(&mut bytes, CONSUMER)?;
@@ -57,7 +74,7 @@ fn records(alloc: Global) -> Result<Vec<u8>, NoMemory> {
 fn volume(alloc: Global) -> Result<MemVol, Fail> {
     let mut bytes = Vec::from_slice(alloc, BEGUN)?;
     bytes.extend_from_slice(b"\x01")?;
-    add_text(&mut bytes, records(alloc)?.as_slice())?;
+    add_batch(&mut bytes, records(alloc)?.as_slice())?;
     bytes.extend_from_slice(b"\0")?;
     let mut vol = MemVol::new(alloc);
     vol.write_at(0, 0, bytes.as_slice())?;

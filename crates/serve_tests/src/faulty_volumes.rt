@@ -86,9 +86,10 @@ fn run_over_bytes(
 #[test]
 fn bytes_that_no_server_wrote_are_told(rt: HostRuntime) -> Result<(), Fail> {
     let alloc = rt.alloc();
-    let damaged = run_over_bytes(&rt, alloc, &[0; 18])?;
+    let damaged = run_over_bytes(&rt, alloc, &[0; 22])?;
     assert!(rt; refuses(&damaged, 5, b"damaged place-00/f00000 at 0\n"));
-    let newer = run_over_bytes(&rt, alloc, b"JSLOG\0\0\x03\0\0\0\0\0\0\0\0\0\0")?;
+    let newer = b"JSLOG\0\0\x03\0\0\0\0\0\0\0\0\0\0\0\0\0\0";
+    let newer = run_over_bytes(&rt, alloc, newer)?;
     assert!(rt; refuses(&newer, 5, b"unknown version 3 in place-00\n"));
     Ok(())
 }

@@ -61,20 +61,28 @@ fn run_over_bytes(
 fn bytes_that_no_server_wrote_are_told(rt: HostRuntime) -> Result<(), Fail> {
     for (bytes, line) in [
         (
-            [0; 18].as_slice(),
+            [0; 22].as_slice(),
             b"damaged place-00/f00000 at 0\n".as_slice(),
         ),
         (
-            b"JSLOG\0\0\x03\0\0\0\0\0\0\0\0\0\0".as_slice(),
+            b"JSLOG\0\0\x03\0\0\0\0\0\0\0\0\0\0\0\0\0\0".as_slice(),
             b"unknown version 3 in place-00\n".as_slice(),
         ),
         (
-            b"JSLOG\0\0\x01\x40\0\0\0\0\0\0\0\0\0".as_slice(),
+            b"JSLOG\0\0\x02\x40\0\0\0\0\0\0\0\0\0\0\0\0\0".as_slice(),
             b"damaged place-00/f00000 at 8\n".as_slice(),
         ),
         (
-            b"JSLOG\0\0\x01\0\0\0\0\0\0\0\x01\x01\0\0\0\x01\xff\0".as_slice(),
-            b"damaged place-00/f00000 at 21\n".as_slice(),
+            b"JSLOG\0\0\x02\0\0\0\0\0\0\0\x01\x6a\x50\xfe\xef\0\0".as_slice(),
+            b"damaged place-00/f00000 at 16\n".as_slice(),
+        ),
+        (
+            b"JSLOG\0\0\x02\0\0\0\0\0\0\0\x01\x6a\x50\xfe\xee\x01\0\0\0\x01\xff\0\0\x01\xff\0".as_slice(),
+            b"damaged place-00/f00000 at 20\n".as_slice(),
+        ),
+        (
+            b"JSLOG\0\0\x02\0\0\0\0\0\0\0\x01\x6a\x50\xfe\xee\x01\0\0\0\x01\xff\0\0\0\xff\0".as_slice(),
+            b"damaged place-00/f00000 at 29\n".as_slice(),
         ),
     ] {
         assert!(rt; refuses(&run_over_bytes(&rt, rt.alloc(), bytes)?, 5, line));
@@ -83,8 +91,16 @@ fn bytes_that_no_server_wrote_are_told(rt: HostRuntime) -> Result<(), Fail> {
 }
 
 #[test]
+fn log_of_the_format_before_is_of_an_unknown_version(rt: HostRuntime) -> Result<(), Fail> {
+    let log = b"JSLOG\0\0\x01\0\0\0\0\0\0\0\x01\x01\0\0\0\x09\x20\0\0\0\0\0\0\0\0\0";
+    let ran = run_over_bytes(&rt, rt.alloc(), log)?;
+    assert!(rt; refuses(&ran, 5, b"unknown version 1 in place-00\n"));
+    Ok(())
+}
+
+#[test]
 fn file_without_a_whole_head_is_as_good_as_empty(rt: HostRuntime) -> Result<(), Fail> {
-    let ran = run_over_bytes(&rt, rt.alloc(), &[0xff; 17])?;
+    let ran = run_over_bytes(&rt, rt.alloc(), &[0xff; 21])?;
     assert!(rt; ran.status == 0 && ran.printed.is_empty());
     Ok(())
 }

@@ -27,7 +27,7 @@ put_allowed change seq payload is low fits =
 
 -- where there is room
 module _ (law : LawPlacing) (old new : Blocks) (change : Effect) (seq : ℕ) (payload : Bytes) (len : ℕ) (room : Bool) where
-  pub put_placed : new ≡ old → change ≡ put_of seq payload → len ≡ 34 + length payload → room ≡ has_room old [] len → room ≡ true → IsTrue (can_place new (change ∷ []))
+  pub put_placed : new ≡ old → change ≡ put_of seq payload → len ≡ 38 + length payload → room ≡ has_room old [] len → room ≡ true → IsTrue (can_place new (change ∷ []))
   put_placed same is long told there_is =
       let m : Message = record { seq = seq; at = 1000; subject = codes "orders.a"; headers = []; payload = payload } in
       let size : length (spelled_message m) ≡ len = omega (arith, long, spelled_len m) in

@@ -2,17 +2,17 @@
 //! and of a drop.
 
 use crate::store_calls::{
-    Counts, Ended, check_images, count_in_image, drop_stream, filled, message_count, opened, purge,
-    with_messages, with_two,
+    Counts, Ended, check_images, clear, count_in_image, drop_stream, filled, message_count, opened,
+    purge, with_messages, with_two,
 };
 use disk_tests::Blind;
 use std::alloc::Global;
 use std::process::Abort;
 use std::test::Fail;
-use stream_store::{OpenFault, Store};
+use stream_store::Store;
 use vol_disk::{Failed, MemVol, Vol};
 
-/// The bytes of a large payload. With its subject, a message of it takes 1,048,610 bytes in a block.
+/// The bytes of a large payload. With its subject, a message of it takes 1,048,614 bytes in a block.
 const LARGE: usize = 1_048_576;
 
 /// A store and its volume, with seven messages of large payloads and one of so many bytes.
@@ -29,7 +29,7 @@ fn has_lengths<V: Vol>(vol: &mut V, second: u64, third: u64) -> Result<bool, Fai
 
 #[test]
 fn block_is_filled_to_its_last_byte(rt: HostRuntime) -> Result<(), Fail> {
-    let (_, mut vol) = filled_largely(rt.alloc(), 1_048_304)?;
+    let (_, mut vol) = filled_largely(rt.alloc(), 1_048_272)?;
     assert!(rt; has_lengths(&mut vol, 8_388_608, 0)?);
     Ok(())
 }
@@ -41,11 +41,11 @@ fn check_purges(
     store: &mut Store,
     vol: &mut Blind,
 ) -> Result<(), Fail> {
-    assert!(rt; has_lengths(vol, 7_340_270, 1_048_610)?);
+    assert!(rt; has_lengths(vol, 7_340_298, 1_048_614)?);
     assert!(rt; purge(alloc, store, vol, 7)? == Ended::Done);
-    assert!(rt; has_lengths(vol, 7_340_270, 1_048_610)?);
+    assert!(rt; has_lengths(vol, 7_340_298, 1_048_614)?);
     assert!(rt; purge(alloc, store, vol, 8)? == Ended::Done);
-    assert!(rt; has_lengths(vol, 0, 1_048_610)?);
+    assert!(rt; has_lengths(vol, 0, 1_048_614)?);
     assert!(rt; message_count(alloc, vol)? == Some(1));
     Ok(())
 }
@@ -87,7 +87,7 @@ fn check_left(
 fn block_being_written_stays_without_messages(rt: HostRuntime) -> Result<(), Fail> {
     let (ended, mut vol) = purged(rt.alloc(), None)?;
     assert!(rt; ended == Ended::Done);
-    check_left(&rt, rt.alloc(), &mut vol, 78, Some(0))
+    check_left(&rt, rt.alloc(), &mut vol, 86, Some(0))
 }
 
 #[test]
@@ -184,16 +184,7 @@ fn with_leftovers(alloc: Global) -> Result<MemVol, Fail> {
     Ok(vol)
 }
 
-/// Cuts the files to nothing that are no blocks.
-fn clear(store: &mut Store, vol: &mut Blind) -> Result<Ended, Fail> {
-    match store.clear(vol) {
-        Ok(()) => Ok(Ended::Done),
-        Err(OpenFault::Fault) => Ok(Ended::Failed),
-        Err(fault) => Err(fault)?,
-    }
-}
-
-/// Opens a volume and does that, and stops at the call with this number.
+/// Opens a volume and clears what is not used, and stops at the call with this number.
 fn cleared(alloc: Global, vol: MemVol, stop: Option<u64>) -> Result<(Ended, MemVol), Fail> {
     let (mut store, mut vol) = opened(alloc, vol, &[], stop)?;
     let ended = clear(&mut store, &mut vol)?;
@@ -209,7 +200,7 @@ fn are_empty(vol: &mut MemVol) -> Result<bool, Failed> {
 fn check_cleared(rt: &impl Abort, alloc: Global, vol: &MemVol, pick: u64) -> Result<(), Fail> {
     let mut image = vol.image(pick)?;
     assert!(rt; are_empty(&mut image)?, "{pick}");
-    check_left(rt, alloc, &mut image, 78, Some(2))
+    check_left(rt, alloc, &mut image, 86, Some(2))
 }
 
 #[test]
@@ -243,7 +234,7 @@ fn check_left_by_drop(rt: &impl Abort, alloc: Global, vol: &MemVol, pick: u64) -
     let (_, mut vol) = cleared(alloc, vol.image(pick)?, None)?;
     match message_count(alloc, &mut vol)? {
         None => check_left(rt, alloc, &mut vol, 0, None),
-        count => check_left(rt, alloc, &mut vol, 78, count),
+        count => check_left(rt, alloc, &mut vol, 86, count),
     }
 }
 

@@ -3,8 +3,14 @@
 #![tactic(auto)]
 
 #[cfg(test)]
+mod alternations;
+#[cfg(test)]
 mod block_files;
+#[cfg(test)]
+mod missing;
 #[cfg(test)]
 mod store_calls;
 #[cfg(test)]
 mod stores;
+#[cfg(test)]
+mod updates;

@@ -2,6 +2,7 @@
 //! small functions and lent to the others, since the prover writes out each place in which one may be dropped.
 
 ghost use Rattle.std.specs.Prelude.{◌≡◌, ◌∷◌, ◌+◌, ◌≤◌, [], false, length, IfOk, IsTrue};
+ghost use Rattle.durable_checks.specs.Storable.{IsFormed, IsStorable};
 ghost use Rattle.op_records.specs.Allowed.{is_put, is_record};
 ghost use Rattle.store_tests.specs.Puts.{put_of};
 ghost use Rattle.stream_store.specs.Placing.{can_place};
@@ -15,14 +16,14 @@ use std::process::Abort;
 use std::test::Fail;
 use stream_config::read;
 use stream_store::laws::law_placing;
-use stream_store::{CommitFault, Store};
+use stream_store::{CommitFault, OpenFault, Store};
 use vol_disk::{Failed, MemVol, Vol};
 
 /// The subject of each message.
 const SUBJECT: &[u8] = b"orders.a";
 
 /// How many bytes a message takes in a block besides its payload.
-const BESIDES_PAYLOAD: usize = 34;
+const BESIDES_PAYLOAD: usize = 38;
 
 /// How many bytes a payload has at most.
 const MAX_PAYLOAD: usize = 1_048_576;
@@ -97,19 +98,16 @@ fn put(alloc: Global, seq: u64, payload: &[u8]) -> Result<Effect, Fail>
 /// How many bytes a message with this payload takes in a block.
 fn len_of(payload: &[u8]) -> u32
     requires fits { length payload.now ≤ 1048576 }
-    ensures value { result ≡ 34 + length payload.now }
+    ensures value { result ≡ 38 + length payload.now }
 {
     (BESIDES_PAYLOAD + payload.len()) as u32
 }
 
-/// Stores a message with the stream's next sequence, which is the number.
-pub fn publish(
-    alloc: Global,
-    store: &mut Store,
-    vol: &mut Blind,
-    seq: u64,
-    payload: &[u8],
-) -> Result<Ended, Fail> {
+/// The record of a message with the stream's next sequence, which is the number, if it has a place.
+fn placed(alloc: Global, store: &mut Store, seq: u64, payload: &[u8]) -> Result<Effect, Fail>
+    ensures allowed { IfOk result (λ change. IsTrue (is_record change)) }
+    ensures placed { IfOk result (λ change. IsTrue (can_place store.new.blocks (change ∷ []))) }
+{
     if seq >= 1 << 62 || payload.len() > MAX_PAYLOAD {
         return Err(Failed)?;
     }
@@ -120,7 +118,94 @@ pub fn publish(
         return Err(Failed)?;
     }
     let change = put(alloc, seq, payload)?;
+    Ok(change)
+}
+
+/// Stores a message with the stream's next sequence, which is the number.
+pub fn publish(
+    alloc: Global,
+    store: &mut Store,
+    vol: &mut Blind,
+    seq: u64,
+    payload: &[u8],
+) -> Result<Ended, Fail> {
+    let change = placed(alloc, store, seq, payload)?;
     commit(alloc, store, vol, change)
+}
+
+/// Commits a change alone, in the other log, which begins with all of this.
+fn alternate(
+    alloc: Global,
+    store: &mut Store,
+    vol: &mut Blind,
+    change: Effect,
+    next: &Durable,
+) -> Result<Ended, Fail>
+    requires allowed { IsTrue (is_record change) }
+    requires placed { IsTrue (can_place store.old.blocks (change ∷ [])) }
+    requires formed { IsFormed next.now }
+    requires storable { IsStorable next.now }
+{
+    match store.alternate(alloc, vol, &[change], next) {
+        Ok(()) => Ok(Ended::Done),
+        Err(CommitFault::Fault) => Ok(Ended::Failed),
+        Err(fault) => Err(fault)?,
+    }
+}
+
+/// Stores a message as [`publish`] does, in the other log, which begins with all of this.
+pub fn publish_in_next(
+    alloc: Global,
+    store: &mut Store,
+    vol: &mut Blind,
+    seq: u64,
+    payload: &[u8],
+    next: &Durable,
+) -> Result<Ended, Fail>
+    requires formed { IsFormed next.now }
+    requires storable { IsStorable next.now }
+{
+    let change = placed(alloc, store, seq, payload)?;
+    alternate(alloc, store, vol, change, next)
+}
+
+/// The record of an update of the stream by this configuration.
+fn changing(alloc: Global, text: &[u8]) -> Result<Effect, Fail>
+    ensures allowed { IfOk result (λ change. IsTrue (is_record change)) }
+    ensures other { IfOk result (λ change. is_put change ≡ false) }
+{
+    let name = Name::read(alloc, b"ORDERS")?;
+    let fields = object(alloc, text)?;
+    let config = read(alloc, &fields, &name)?;
+    Ok(Effect::ChangeStream { config })
+}
+
+/// Updates the stream.
+pub fn update(
+    alloc: Global,
+    store: &mut Store,
+    vol: &mut Blind,
+    text: &[u8],
+) -> Result<Ended, Fail> {
+    law_placing();
+    let change = changing(alloc, text)?;
+    commit(alloc, store, vol, change)
+}
+
+/// Updates the stream, in the other log, which begins with all of this.
+pub fn update_in_next(
+    alloc: Global,
+    store: &mut Store,
+    vol: &mut Blind,
+    text: &[u8],
+    next: &Durable,
+) -> Result<Ended, Fail>
+    requires formed { IsFormed next.now }
+    requires storable { IsStorable next.now }
+{
+    law_placing();
+    let change = changing(alloc, text)?;
+    alternate(alloc, store, vol, change, next)
 }
 
 /// Removes the messages of the stream in front of a sequence.
@@ -143,6 +228,24 @@ pub fn drop_stream(alloc: Global, store: &mut Store, vol: &mut Blind) -> Result<
 fn store_of(alloc: Global, vol: &mut Blind) -> Result<Store, Fail> {
     let (store, _) = Store::open(alloc, vol)?;
     Ok(store)
+}
+
+/// What a volume holds.
+pub fn held<V: Vol>(alloc: Global, vol: &mut V) -> Result<Durable, Fail>
+    ensures formed { IfOk result IsFormed }
+    ensures storable { IfOk result IsStorable }
+{
+    let (_, durable) = Store::open(alloc, vol)?;
+    Ok(durable)
+}
+
+/// Clears the log that is not current, and the files that are no blocks.
+pub fn clear(store: &mut Store, vol: &mut Blind) -> Result<Ended, Fail> {
+    match store.clear(vol) {
+        Ok(()) => Ok(Ended::Done),
+        Err(OpenFault::Fault) => Ok(Ended::Failed),
+        Err(fault) => Err(fault)?,
+    }
 }
 
 /// Opens the store of a volume, of which then the calls with these numbers fail, and all from the stop on.

@@ -11,10 +11,11 @@ use stream_store::{OpenFault, Store};
 use vol_disk::{Deed, MemVol, Vol};
 
 /// A log of generation 1 that says that no stream was ever there.
-const BEGUN: &[u8] = b"JSLOG\0\0\x01\0\0\0\0\0\0\0\x01\x01\0\0\0\x09\x20\0\0\0\0\0\0\0\0\0";
+const BEGUN: &[u8] =
+    b"JSLOG\0\0\x02\0\0\0\0\0\0\0\x01\x6a\x50\xfe\xee\x01\0\0\0\x09\x51\xf2\x4f\x1d\x20\0\0\0\0\0\0\0\0\0";
 
 /// The bytes of a file.
-fn bytes_of(alloc: Global, vol: &mut MemVol, file: u32) -> Result<Vec<u8>, Fail> {
+pub fn bytes_of(alloc: Global, vol: &mut MemVol, file: u32) -> Result<Vec<u8>, Fail> {
     let len = vol.len(file)?;
     let mut bytes = vec![in alloc; 0u8; len as usize]?;
     vol.read_at(file, 0, &mut bytes)?;
@@ -22,7 +23,7 @@ fn bytes_of(alloc: Global, vol: &mut MemVol, file: u32) -> Result<Vec<u8>, Fail>
 }
 
 /// Why a volume does not open, if it does not.
-fn open_fault(alloc: Global, vol: &mut Blind) -> Option<OpenFault> {
+pub fn open_fault(alloc: Global, vol: &mut Blind) -> Option<OpenFault> {
     match Store::open(alloc, vol) {
         Ok(_) => None,
         Err(fault) => Some(fault),
@@ -30,7 +31,7 @@ fn open_fault(alloc: Global, vol: &mut Blind) -> Option<OpenFault> {
 }
 
 /// Whether a volume opens at generation 1 as one that never had a stream.
-fn opens_as_new(alloc: Global, vol: &mut MemVol) -> Result<bool, Fail> {
+pub fn opens_as_new(alloc: Global, vol: &mut MemVol) -> Result<bool, Fail> {
     let opened = Store::open(alloc, vol)?;
     Ok(opened.0.generation() == 1 && opened.1.incarnation == 0 && opened.1.body.is_none())
 }
@@ -54,7 +55,7 @@ fn new_volume_gets_a_log_that_says_so(rt: HostRuntime) -> Result<(), Fail> {
 }
 
 /// Whether nothing was written by the calls from a number on.
-fn is_unwritten(vol: &MemVol, from: usize) -> bool {
+pub fn is_unwritten(vol: &MemVol, from: usize) -> bool {
     let calls = vol.calls().get(from..).unwrap_or_default();
     calls.iter().all(|call| !matches!(&call.deed, Deed::Write { .. } | Deed::Cut { .. }))
 }
@@ -238,7 +239,7 @@ fn check_cut(
 }
 
 /// What a file of the volume reads as.
-fn read_file(alloc: Global, vol: &MemVol, file: u32) -> Result<Vec<u8>, Fail> {
+pub fn read_file(alloc: Global, vol: &MemVol, file: u32) -> Result<Vec<u8>, Fail> {
     let mut image = vol.image(1)?;
     bytes_of(alloc, &mut image, file)
 }

@@ -4,6 +4,7 @@ use Rattle.std.specs.Prelude.{codes, nat_le, IfSome, IsUtf8}
 use Rattle.std.specs.Str.{is_utf8, chars}
 use Rattle.std.proofs.lemmas.Bool.{and_from, le-leb}
 use lib.Utf8.{encode}
+use Rattle.js_base.specs.Bytes.{Bytes}
 use Rattle.js_base.specs.Subjects.{is_subject_text}
 use Rattle.js_model.specs.declared.stream_config.StreamConfig.{StreamConfig}
 use Rattle.js_model.specs.declared.stream_config.Discard.TheVariants.{Old}
@@ -17,24 +18,24 @@ use Rattle.place_drive.specs.Asked.{IsAsked}
 
 -- ---- the message with an id
 
-abbrev marked : Publish
-marked = record {
+abbrev marked : Bytes → Publish
+marked id = record {
   reply = None;
   subject = codes "orders.b";
   headers = [];
   payload = codes "with an id";
-  wants = record { bad = None; id = codes "k1"; stream = None; last = None; subject_last = None; last_id = None };
+  wants = record { bad = None; id = id; stream = None; last = None; subject_last = None; last_id = None };
 }
 
-marked_is : is_proper_publish marked ≡ true
+marked_is : (id : Bytes) → is_proper_publish (marked id) ≡ true
 unfolding is_utf8 chars encode
-marked_is = refl
+marked_is id = refl
 
-pub marked_asked : IsAsked (whats.Publish marked)
-marked_asked = record { reply = refl; proper = marked_is; told = told }
+pub marked_asked : (id : Bytes) → IsAsked (whats.Publish (marked id))
+marked_asked id = record { reply = refl; proper = marked_is id; told = told }
   where
-    told : (publish : Publish) → whats.Publish marked ≡ whats.Publish publish → IfSome publish.wants.bad IsUtf8
-    told publish is = let same : marked ≡ publish = cc in subst (λ (p : Publish). IfSome p.wants.bad IsUtf8) same tt
+    told : (publish : Publish) → whats.Publish (marked id) ≡ whats.Publish publish → IfSome publish.wants.bad IsUtf8
+    told publish is = let same : marked id ≡ publish = cc in subst (λ (p : Publish). IfSome p.wants.bad IsUtf8) same tt
 
 -- ---- a stream that keeps one message
 

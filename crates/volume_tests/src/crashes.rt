@@ -26,7 +26,7 @@ const CHANGES: [Deed; 5] = [
 ];
 
 /// More than the calls of an opening and a deed.
-const MANY: u64 = 60;
+pub const MANY: u64 = 60;
 
 /// The volume after such a deed, and what is told of it.
 fn next(alloc: Global, start: &MemVol, deed: Deed) -> Result<(MemVol, Told), Fail> {
@@ -36,7 +36,7 @@ fn next(alloc: Global, start: &MemVol, deed: Deed) -> Result<(MemVol, Told), Fai
 }
 
 /// Whether each image holds what stood before or after the deed: the latter if it was answered, and the former if the volume was not opened.
-fn holds_one(
+pub fn holds_one(
     alloc: Global,
     vol: &MemVol,
     came: Came,
@@ -60,7 +60,7 @@ fn holds_one(
 
 /// Which calls fail, for one number after the other.
 #[derive(Clone, Copy)]
-enum Turn {
+pub enum Turn {
     Once,
     From,
 }
@@ -75,7 +75,7 @@ impl Turn {
 }
 
 /// Does it again and again, while each call of the volume from one on fails in turn, until it is answered. How many of them did.
-fn failures(
+pub fn failures(
     rt: &impl Abort,
     alloc: Global,
     start: &MemVol,

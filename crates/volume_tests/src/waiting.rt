@@ -101,6 +101,13 @@ fn opened(alloc: Global) -> Result<Kept, Fail> {
     }
 }
 
+/// A place on a volume of its own, with the stream.
+pub fn made(alloc: Global) -> Result<Kept, Fail> {
+    let mut kept = opened(alloc)?;
+    take_steps(&mut kept, &MADE)?;
+    Ok(kept)
+}
+
 /// The volume of a place to which that was done.
 fn volume_after(alloc: Global, script: &Script<'_>) -> Result<MemVol, Fail> {
     let mut kept = opened(alloc)?;

@@ -1,14 +1,14 @@
 use Rattle.std.proofs.Common.{ap, arith}
 use Rattle.stream_store.specs.StoreState.{StoreState}
 use Rattle.store_tests.proofs.Changes.{put_allowed, put_placed}
-use Rattle.store_tests.proofs.store_calls.publish.Goals as goal
+use Rattle.store_tests.proofs.store_calls.placed.Goals as goal
 
-pub commit-requires-clause-allowed : goal.commit-requires-clause-allowed
-commit-requires-clause-allowed c =
+pub returns-clause-allowed : goal.returns-clause-allowed
+returns-clause-allowed c =
     put_allowed c.in_ok-change.change c.args.seq c.args.payload.now c.in_ok-change.ensures.value
     (omega (arith, c.if-seq.false)) (omega (arith, c.if-payload-gt-MAX_PAYLOAD.false))
 
-pub commit-requires-clause-placed : goal.commit-requires-clause-placed
-commit-requires-clause-placed c =
+pub returns-clause-placed : goal.returns-clause-placed
+returns-clause-placed c =
     put_placed c.law_placing.ensures c.args.store.now.blocks c.room.new.self.blocks c.in_ok-change.change c.args.seq c.args.payload.now c.len_of-len.result c.in_ok-room.room
     (ap (λ (s : StoreState). s.blocks) c.room.ensures.same) c.in_ok-change.ensures.value c.len_of-len.ensures.value c.in_ok-room.ensures.value c.if-not-room.false
