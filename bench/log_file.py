@@ -8,6 +8,26 @@ PAYLOAD = 100 * b"x"
 SECOND = 1_000_000_000
 # The length of a block.
 MOST_BYTES = 8_388_608
+POLYNOMIAL = 0x82F63B78
+
+
+def after_byte(register):
+    """What becomes of a register of eight bits as they fall out."""
+    for _ in range(8):
+        register = register >> 1 ^ (POLYNOMIAL if register & 1 else 0)
+    return register
+
+
+AFTER_BYTE = [after_byte(byte) for byte in range(256)]
+
+
+def crc32c(data):
+    """The checksum of the bytes."""
+    register = 0xFFFFFFFF
+    for byte in data:
+        register = register >> 8 ^ AFTER_BYTE[(register ^ byte) & 255]
+    return register ^ 0xFFFFFFFF
+
 
 
 def number(n):
@@ -16,6 +36,11 @@ def number(n):
 
 def long(data):
     return struct.pack(">I", len(data)) + data
+
+
+def checked(data):
+    """The bytes behind their length and their checksum."""
+    return struct.pack(">II", len(data), crc32c(data)) + data
 
 
 def text(data):
@@ -27,7 +52,7 @@ def name(data):
 
 
 def batch(*records):
-    return b"\1" + long(b"".join(records))
+    return b"\1" + checked(b"".join(records))
 
 
 def stream(**config):
@@ -76,7 +101,7 @@ class Volume:
 
     def put(self, seq, at, message_id=b""):
         """Writes a message into a block, and returns its record."""
-        message = long(number(seq) + number(at) + text(b"A") + long(b"") + PAYLOAD)
+        message = checked(number(seq) + number(at) + text(b"A") + long(b"") + PAYLOAD)
         if self.end + len(message) > MOST_BYTES:
             self.blocks.append(open(f"{self.place}/f{len(self.blocks) + 2:05}", "wb"))
             self.end = 0
@@ -88,7 +113,8 @@ class Volume:
     def write(self, batches):
         """Writes the log, and returns how long it and the blocks are."""
         with open(f"{self.place}/f00000", "wb") as log:
-            log.write(b"JSLOG\0\0\1" + number(1) + batch(b"\x20" + number(0)))
+            title = b"JSLOG\0\0\2" + number(1)
+            log.write(title + struct.pack(">I", crc32c(title)) + batch(b"\x20" + number(0)))
             log.writelines(batches)
             log.write(b"\0")
             size = log.tell()

@@ -1,25 +1,29 @@
 //! Logs and stores as they are opened.
 
 use gate_log::GateLog;
-use op_records::{read_records, read_vacant};
+use op_records::read_records;
+use state_snapshot::read_snapshot;
 use std::alloc::Global;
 use stream_store::Store;
 use vol_disk::DirVol;
 
-/// How many records the batch has whose gate is at an offset.
+/// The offset of a log's first gate.
+const FIRST_GATE: u64 = 20;
+
+/// How many records the batch has whose gate is at an offset. The first batch has a snapshot, which is not counted.
 fn records(alloc: Global, gate: u64, bytes: &[u8]) -> Option<u64> {
-    if gate == 16 {
-        read_vacant(alloc, bytes).ok()?;
+    if gate == FIRST_GATE {
+        let _snapshot = read_snapshot(alloc, bytes).ok()?;
         return Some(0);
     }
     Some(read_records(alloc, bytes).ok()?.len() as u64)
 }
 
-/// Opens the log in file 0, reads all its records, and tells how many they are behind the first.
+/// Opens the log in file 0, reads all its batches, and tells how many records they have behind the snapshot.
 pub(crate) fn open(alloc: Global, vol: &mut DirVol) -> Option<u64> {
     let log = GateLog::open(vol, 0).ok()?;
     let mut count: u64 = 0;
-    let mut at = 16;
+    let mut at = FIRST_GATE;
     for _ in 0..u64::MAX {
         let Some((bytes, next)) = log.batch(alloc, vol, at).ok()? else {
             return Some(count);

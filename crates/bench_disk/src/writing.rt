@@ -44,7 +44,7 @@ fn put_message(into: &mut Vec<u8>, seq: u64) -> Result<(), NoMemory> {
     put_u16(into, 0)?;
     put_u16(into, 2)?;
     put_u32(into, 0)?;
-    put_u32(into, 127)
+    put_u32(into, 131)
 }
 
 /// The records of messages, from a sequence up to another one.
