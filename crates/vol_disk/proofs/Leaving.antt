@@ -2,7 +2,7 @@
 use Rattle.std.proofs.Common.{◌≡◌, ◌⊎◌, inl, inr, ℕ, ◌+◌, ◌<◌, ◌≤◌, max, min, Bool, true, false, get_or, List, [], ◌∷◌, ◌++◌, length, take, drop, refl, sym, ◌∙◌, ap, subst, arith, length-take}
 use Rattle.std.proofs.lemmas.Bool.{or_parts, and_cases, leb-false, ltb-false}
 use Rattle.std.proofs.lemmas.Bool.Decides.{nat_tests}
-use Rattle.std.proofs.lemmas.List.{take_all, drop_all, take-take, get_or-take, ext_get_or}
+use Rattle.std.proofs.lemmas.List.{take_all, drop_all, take-take, get_or-take, ext_get_or, length-replicate}
 use Rattle.std.proofs.lemmas.List.Folds.{list_any-append}
 use Rattle.std.specs.Prelude.{if◌then◌else◌}
 use Rattle.vol_disk.specs.Steps.{written, Torn, CutTo}
@@ -10,10 +10,10 @@ use Rattle.vol_disk.specs.Does.{Follows}
 use Rattle.vol_disk.specs.FileState.{FileState, at_rest, IsSound}
 use Rattle.vol_disk.specs.Left.{is_in, is_written, IsLeft, IsReached}
 use Rattle.vol_disk.specs.Sound.{sound_after}
-use Rattle.vol_disk.specs.Calls.{CanDo, step_of, after, after_write, after_cut}
+use Rattle.vol_disk.specs.Calls.{CanDo, step_of, after, after_write, after_cut, overwritten, zeros}
 use Rattle.vol_disk.specs.declared.span.Span.{Span}
 use Rattle.vol_disk.specs.declared.call.Deed.{Deed}
-use Rattle.vol_disk.specs.declared.call.Deed.TheVariants.{Len, Read, Write, Cut, Sync, End}
+use Rattle.vol_disk.specs.declared.call.Deed.TheVariants.{Len, Read, Write, Grow, Cut, Sync, End}
 use Rattle.vol_disk.proofs.Overlays.{mend, length-mend, take-mend, drop-mend, mend_in, mend_out, written_out, length-written, uncut, length-uncut, take-uncut, uncut_at}
 
 -- a place outside of a range
@@ -144,12 +144,19 @@ only_at_rest bytes c left =
 pub left_as_read : (s : FileState) → IsSound s → IsLeft s s.bytes
 left_as_read s sound = record { no_shorter = sound.no_shorter; no_longer = sound.no_longer; stays = λ k low none. refl }
 
--- what a crash leaves after a call follows by its step
-pub follows_after : (deed : Deed) (is_done : Bool) (s : FileState) → CanDo deed s → IsSound s → Follows (step_of deed) (IsLeft s) (IsLeft (after deed is_done s))
+-- what a crash leaves after a write follows by its step
+follows_write : (at : ℕ) (bytes : List ℕ) (is_done : Bool) (s : FileState) → at ≤ length s.bytes → IsSound s → Follows (Torn at (length bytes)) (IsLeft s) (IsLeft (overwritten at bytes is_done s))
+follows_write at bytes true s can sound = λ c left. torn_from s at (length bytes) c can sound (by_write s at bytes c can sound (unseen s at bytes c can left))
+follows_write at bytes false s can sound = λ c left. torn_from s at (length bytes) c can sound (by_write s at bytes c can sound left)
+
+-- and so after any call
+pub follows_after : (deed : Deed) (is_done : Bool) (s : FileState) → CanDo deed s → IsSound s → Follows (step_of (length s.bytes) deed) (IsLeft s) (IsLeft (after deed is_done s))
 follows_after Len is_done s can sound = λ c left. (c, left, record { same = refl })
 follows_after (Read at count) is_done s can sound = λ c left. (c, left, record { same = refl })
-follows_after (Write at bytes) true s can sound = λ c left. torn_from s at (length bytes) c can sound (by_write s at bytes c can sound (unseen s at bytes c can left))
-follows_after (Write at bytes) false s can sound = λ c left. torn_from s at (length bytes) c can sound (by_write s at bytes c can sound left)
+follows_after (Write at bytes) is_done s can sound = follows_write at bytes is_done s can sound
+follows_after (Grow count) is_done s can sound =
+    subst (λ (n : ℕ). Follows (Torn (length s.bytes) n) (IsLeft s) (IsLeft (overwritten (length s.bytes) (zeros count) is_done s))) (length-replicate {A = ℕ} count 0)
+    (follows_write (length s.bytes) (zeros count) is_done s (omega arith) sound)
 follows_after (Cut to) true s can sound = λ c left. cut_from s to c sound (by_cut s to c can sound (uncut_left s to c left))
 follows_after (Cut to) false s can sound = λ c left. cut_from s to c sound (by_cut s to c can sound left)
 follows_after Sync true s can sound = λ c left. (s.bytes, left_as_read s sound, record { same = only_at_rest s.bytes c left })
@@ -157,13 +164,14 @@ follows_after Sync false s can sound = λ c left. (c, left, record { same = refl
 follows_after End is_done s can sound = λ c left. (c, left, record { same = refl })
 
 -- each step may leave all as it is
-pub step_same : (deed : Deed) (bytes : List ℕ) → step_of deed bytes bytes
-step_same Len bytes = record { same = refl }
-step_same (Read at count) bytes = record { same = refl }
-step_same (Write at w) bytes = record { before = refl; after = refl; no_shorter = omega arith; no_longer = omega arith }
-step_same (Cut to) bytes = record { front = refl; no_longer = omega arith }
-step_same Sync bytes = record { same = refl }
-step_same End bytes = record { same = refl }
+pub step_same : (len : ℕ) (deed : Deed) (bytes : List ℕ) → step_of len deed bytes bytes
+step_same len Len bytes = record { same = refl }
+step_same len (Read at count) bytes = record { same = refl }
+step_same len (Write at w) bytes = record { before = refl; after = refl; no_shorter = omega arith; no_longer = omega arith }
+step_same len (Grow count) bytes = record { before = refl; after = refl; no_shorter = omega arith; no_longer = omega arith }
+step_same len (Cut to) bytes = record { front = refl; no_longer = omega arith }
+step_same len Sync bytes = record { same = refl }
+step_same len End bytes = record { same = refl }
 
 -- ---- how a file is reached
 
@@ -188,16 +196,21 @@ reached_rest bytes =
     let sound : IsSound (at_rest bytes) = record { no_shorter = omega arith; no_longer = omega arith } in
     record { sound = sound; synced = left_as_read (at_rest bytes) sound }
 
--- a call that could be made keeps it
+-- a write keeps it
+reached_over : (at : ℕ) (bytes : List ℕ) (is_done : Bool) (s : FileState) → at ≤ length s.bytes → IsReached s → IsReached (overwritten at bytes is_done s)
+reached_over at bytes true s can was =
+    reached_by s (overwritten at bytes true s) (sound_after (Write at bytes) true s was.sound) refl (omega arith) (omega arith)
+    (λ k low none. (less_written s.written (record { from = at; to = at + length bytes }) k none, written_out at k bytes s.bytes can (outside at (at + length bytes) k (in_none s.written (record { from = at; to = at + length bytes }) k none)))) was
+reached_over at bytes false s can was =
+    reached_by s (overwritten at bytes false s) (sound_after (Write at bytes) false s was.sound) refl (omega arith) (omega arith)
+    (λ k low none. (less_written s.written (record { from = at; to = at + length bytes }) k none, refl)) was
+
+-- and so does any call that could be made
 pub reached_after : (deed : Deed) (is_done : Bool) (s : FileState) → CanDo deed s → IsReached s → IsReached (after deed is_done s)
 reached_after Len is_done s can was = was
 reached_after (Read at count) is_done s can was = was
-reached_after (Write at bytes) true s can was =
-    reached_by s (after (Write at bytes) true s) (sound_after (Write at bytes) true s was.sound) refl (omega arith) (omega arith)
-    (λ k low none. (less_written s.written (record { from = at; to = at + length bytes }) k none, written_out at k bytes s.bytes can (outside at (at + length bytes) k (in_none s.written (record { from = at; to = at + length bytes }) k none)))) was
-reached_after (Write at bytes) false s can was =
-    reached_by s (after (Write at bytes) false s) (sound_after (Write at bytes) false s was.sound) refl (omega arith) (omega arith)
-    (λ k low none. (less_written s.written (record { from = at; to = at + length bytes }) k none, refl)) was
+reached_after (Write at bytes) is_done s can was = reached_over at bytes is_done s can was
+reached_after (Grow count) is_done s can was = reached_over (length s.bytes) (zeros count) is_done s (omega arith) was
 reached_after (Cut to) true s can was =
     reached_by s (after (Cut to) true s) (sound_after (Cut to) true s was.sound) refl (omega arith) (omega arith)
     (λ k low none. (none, get_or-take to s.bytes k 0 (omega (arith, low, length-take to s.bytes)))) was

@@ -1,4 +1,5 @@
 pub mod Moments
+pub mod Growing
 mod Overlays
 mod Leaving
 pub mod Replays

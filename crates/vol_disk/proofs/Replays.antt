@@ -20,7 +20,7 @@ use Rattle.vol_disk.specs.MemDisk.{AreLeft, disk_after}
 use Rattle.vol_disk.specs.Held.{state_in, IsReplayed, IsPicked, ArePicked}
 use Rattle.vol_disk.specs.declared.call.Call.{Call}
 use Rattle.vol_disk.specs.declared.call.Deed.{Deed}
-use Rattle.vol_disk.specs.declared.call.Deed.TheVariants.{Len, Read, Write, Cut, Sync, End}
+use Rattle.vol_disk.specs.declared.call.Deed.TheVariants.{Len, Read, Write, Grow, Cut, Sync, End}
 use Rattle.vol_disk.proofs.Leaving.{follows_after}
 
 -- one call more
@@ -68,9 +68,9 @@ module _ (start : List (ℕ × List ℕ)) (calls : List Call) (call : Call) wher
 
   -- a call does to the disk what its step says
   pub does_call : CanDo call.deed (state_of start calls call.file) →
-      Does call.file (step_of call.deed) (disk_after start calls) (disk_after start more)
+      Does call.file (step_of (length (state_of start calls call.file).bytes) call.deed) (disk_after start calls) (disk_after start more)
   does_call can = record {
-    leaves = subst (λ s. Follows (step_of call.deed) (IsLeft (state_of start calls call.file)) (IsLeft s)) (sym (state_here call.file refl)) (follows_after call.deed call.is_done (state_of start calls call.file) can (sound_of start calls call.file));
+    leaves = subst (λ s. Follows (step_of (length (state_of start calls call.file).bytes) call.deed) (IsLeft (state_of start calls call.file)) (IsLeft s)) (sym (state_here call.file refl)) (follows_after call.deed call.is_done (state_of start calls call.file) can (sound_of start calls call.file));
     elsewhere = λ other ne. record {
       seen = ap (λ (s : FileState). s.bytes) (state_there other ne);
       leaves = λ bytes left. subst (λ s. IsLeft s bytes) (state_there other ne) left;
@@ -99,11 +99,17 @@ pub replayed_same : (files next : List (ℕ × FileState)) (start : List (ℕ ×
     ((file : ℕ) → state_in next file ≡ state_in files file) → IsReplayed next start calls
 replayed_same files next start calls kept same = λ file. same file ∙ kept file
 
+-- a deed that writes no bytes
+pub record WritesNone (deed : Deed) : Type 0 where
+  pub no_write : (at : ℕ) (bytes : List ℕ) → deed ≡ Write at bytes → ⊥
+  pub no_zeros : (count : ℕ) → deed ≡ Grow count → ⊥
+
 -- a call on a file that is not held, and writes nothing
-empty_after : (deed : Deed) (is_done : Bool) → CanDo deed (at_rest []) → ((at : ℕ) (bytes : List ℕ) → deed ≡ Write at bytes → ⊥) → after deed is_done (at_rest []) ≡ at_rest []
+empty_after : (deed : Deed) (is_done : Bool) → CanDo deed (at_rest []) → WritesNone deed → after deed is_done (at_rest []) ≡ at_rest []
 empty_after Len is_done can none = refl
 empty_after (Read at count) is_done can none = refl
-empty_after (Write at bytes) is_done can none = absurd (none at bytes refl)
+empty_after (Write at bytes) is_done can none = absurd (none.no_write at bytes refl)
+empty_after (Grow count) is_done can none = absurd (none.no_zeros count refl)
 empty_after (Cut zero) true can none = refl
 empty_after (Cut zero) false can none = refl
 empty_after (Cut (suc to)) is_done can none = absurd (omega (arith, can))
@@ -231,7 +237,7 @@ applied_at files next call state here there is file = elim (cases_eq file call.f
 
 -- a file that is not held stays so, where the call writes nothing
 pub unheld_after : (files : List (ℕ × FileState)) (call : Call) → lookup (is_at (nat_cmp call.file)) files ≡ None → CanDo call.deed (at_rest []) →
-    ((at : ℕ) (bytes : List ℕ) → call.deed ≡ Write at bytes → ⊥) → (file : ℕ) → state_in files file ≡ after_call call file (state_in files file)
+    WritesNone call.deed → (file : ℕ) → state_in files file ≡ after_call call file (state_in files file)
 unheld_after files call absent can none file = elim (cases_eq file call.file) [
   | inl same ↦
       let empty : state_in files file ≡ at_rest [] = ap (state_in files) same ∙ ap (λ (o : Option FileState). unwrap_or o (at_rest [])) absent in

@@ -1,18 +1,23 @@
 -- What a call on a volume in memory does to its disk.
-use Rattle.std.proofs.Common.{◌≡◌, ◌≤◌, inl, inr, ℕ, Bool, true, false, List, [], Result, Ok, Err, OnOk, OnErr, length, take, refl, sym, ◌∙◌, ap, subst}
+use Rattle.std.proofs.Common.{◌≡◌, ◌≤◌, inl, inr, ℕ, Bool, true, false, List, [], ◌++◌, Result, Ok, Err, IfOk, OnOk, OnErr, length, take, refl, sym, ◌∙◌, ap, subst, arith, drop, ◌+◌}
+use Rattle.std.proofs.lemmas.List.{take_all, drop_all, append-nil}
 use Rattle.vol_disk.specs.Disk.{IsLeftBelow}
 use Rattle.vol_disk.specs.Images.{IsImage, IsDurable, IsAllDurable}
 use Rattle.vol_disk.specs.Steps.{written, Torn, CutTo}
 use Rattle.vol_disk.specs.Does.{Does}
 use Rattle.vol_disk.specs.FileState.{FileState, at_rest}
 use Rattle.vol_disk.specs.Left.{IsLeft}
-use Rattle.vol_disk.specs.Calls.{CanDo, step_of, after}
+use Rattle.vol_disk.specs.Calls.{CanDo, step_of, after, zeros}
 use Rattle.vol_disk.specs.Replay.{bytes_in}
 use Rattle.vol_disk.specs.MemDisk.{AreLeft, disk_after}
-use Rattle.vol_disk.specs.MemVol.{VolState, disk_of, file_of, IsDone, IsFailed, IsCall}
+use Rattle.vol_disk.specs.Growing.{IsGrown}
+use Rattle.vol_disk.specs.MemVol.{VolState, disk_of, file_of, IsDone, IsFailed, IsCall, IsGrowCall}
 use Rattle.vol_disk.specs.declared.call.Call.{Call}
 use Rattle.vol_disk.specs.declared.call.Deed.{Deed}
-use Rattle.vol_disk.specs.declared.call.Deed.TheVariants.{Len, Read, Write, Cut, Sync, End}
+use Rattle.vol_disk.specs.declared.call.Deed.TheVariants.{Len, Read, Write, Grow, Cut, Sync, End}
+use Rattle.vol_disk.specs.declared.failed.Failed.{Failed}
+use Rattle.vol_disk.specs.declared.room.Room.{Room}
+use Rattle.vol_disk.specs.declared.room.Room.TheVariants.{Made, Refused}
 use Rattle.vol_disk.proofs.Leaving.{only_at_rest, step_same}
 use Rattle.vol_disk.proofs.Replays.{state_here, does_call, does_nothing}
 use Rattle.vol_disk.specs.Laws.{clocked}
@@ -33,6 +38,7 @@ unseen : (deed : Deed) (s : FileState) → (after deed false s).bytes ≡ s.byte
 unseen Len s = refl
 unseen (Read at count) s = refl
 unseen (Write at bytes) s = refl
+unseen (Grow count) s = refl
 unseen (Cut to) s = refl
 unseen Sync s = refl
 unseen End s = refl
@@ -75,13 +81,13 @@ pub torn_write : {T E : Type 0} (old new : VolState) (result : Result T E) (file
     OnErr result (Torn at (length bytes) (file_of old file).bytes (file_of new file).bytes)
 torn_write old new (Ok value) file at bytes h = tt
 torn_write old new (Err failed) file at bytes h =
-    subst (λ (b : List ℕ). Torn at (length bytes) (file_of old file).bytes b) (sym (bytes_failed old new file (Write at bytes) h)) (step_same (Write at bytes) (file_of old file).bytes)
+    subst (λ (b : List ℕ). Torn at (length bytes) (file_of old file).bytes b) (sym (bytes_failed old new file (Write at bytes) h)) (step_same 0 (Write at bytes) (file_of old file).bytes)
 
 pub torn_cut : {T E : Type 0} (old new : VolState) (result : Result T E) (file to : ℕ) → IsCall old new result file (Cut to) →
     OnErr result (CutTo to (file_of old file).bytes (file_of new file).bytes)
 torn_cut old new (Ok value) file to h = tt
 torn_cut old new (Err failed) file to h =
-    subst (λ (b : List ℕ). CutTo to (file_of old file).bytes b) (sym (bytes_failed old new file (Cut to) h)) (step_same (Cut to) (file_of old file).bytes)
+    subst (λ (b : List ℕ). CutTo to (file_of old file).bytes b) (sym (bytes_failed old new file (Cut to) h)) (step_same 0 (Cut to) (file_of old file).bytes)
 
 -- after a sync a crash leaves what a read gives
 pub durable_sync : {T E : Type 0} (old new : VolState) (result : Result T E) (file : ℕ) → IsCall old new result file Sync →
@@ -91,15 +97,49 @@ durable_sync old new (Ok value) file h = λ bytes left.
     only_at_rest (file_of old file).bytes bytes (subst (λ s. IsLeft s bytes) here left) ∙ sym (ap (λ (s : FileState). s.bytes) here)
 durable_sync old new (Err failed) file h = tt
 
+-- the step that a call makes
+abbrev step_at : VolState → ℕ → Deed → List ℕ → List ℕ → Type 0
+step_at vol file deed = step_of (length (file_of vol file).bytes) deed
+
 -- the call does what its step says
 pub does_of : {T E : Type 0} (old new : VolState) (result : Result T E) (file : ℕ) (deed : Deed) → IsCall old new result file deed →
-    CanDo deed (file_of old file) → Does file (step_of deed) (disk_of old) (disk_of new)
+    CanDo deed (file_of old file) → Does file (step_at old file deed) (disk_of old) (disk_of new)
 does_of old new (Ok value) file deed h can =
-    subst (λ (v : VolState). Does file (step_of deed) (disk_of old) (disk_of v)) (sym h.1) (does_call old.start old.calls (call_of file deed true) can)
+    subst (λ (v : VolState). Does file (step_at old file deed) (disk_of old) (disk_of v)) (sym h.1) (does_call old.start old.calls (call_of file deed true) can)
 does_of old new (Err failed) file deed (inl h) can =
-    subst (λ (v : VolState). Does file (step_of deed) (disk_of old) (disk_of v)) (sym h.1) (does_call old.start old.calls (call_of file deed false) can)
+    subst (λ (v : VolState). Does file (step_at old file deed) (disk_of old) (disk_of v)) (sym h.1) (does_call old.start old.calls (call_of file deed false) can)
 does_of old new (Err failed) file deed (inr h) can =
-    subst (λ (v : VolState). Does file (step_of deed) (disk_of old) (disk_of v)) (sym h) (does_nothing (disk_of old) file (step_of deed) (step_same deed))
+    subst (λ (v : VolState). Does file (step_at old file deed) (disk_of old) (disk_of v)) (sym h) (does_nothing (disk_of old) file (step_at old file deed) (step_same (length (file_of old file).bytes) deed))
+
+-- ---- room
+
+-- zeros at the end stand behind the bytes
+written_end : (bytes more : List ℕ) → written (length bytes) more bytes ≡ bytes ++ more
+written_end bytes more =
+    ap (λ (front : List ℕ). (front ++ more) ++ drop (length bytes + length more) bytes) (take_all (length bytes) bytes (omega arith))
+    ∙ ap (λ (behind : List ℕ). (bytes ++ more) ++ behind) (drop_all (length bytes + length more) bytes (omega arith)) ∙ append-nil (bytes ++ more)
+
+-- it is seen if it was made
+pub seen_grow : (old new : VolState) (result : Result Room Failed) (file count : ℕ) → IsGrowCall old new result file count →
+    IfOk result (λ room. IsGrown room count (file_of old file).bytes (file_of new file).bytes)
+seen_grow old new (Ok Made) file count h = ap (λ (s : FileState). s.bytes) (file_done old new file (Grow count) h) ∙ written_end (file_of old file).bytes (zeros count)
+seen_grow old new (Ok Refused) file count h =
+    ap (λ (v : VolState). (file_of v file).bytes) h.2 ∙ ap (λ (s : FileState). s.bytes) (state_here old.start old.calls (call_of file (Grow count) false) file refl)
+seen_grow old new (Err failed) file count h = tt
+
+pub torn_grow : (old new : VolState) (result : Result Room Failed) (file count : ℕ) → IsGrowCall old new result file count →
+    OnErr result (Torn (length (file_of old file).bytes) count (file_of old file).bytes (file_of new file).bytes)
+torn_grow old new (Ok room) file count h = tt
+torn_grow old new (Err failed) file count h =
+    let len = length (file_of old file).bytes in
+    subst (λ (b : List ℕ). Torn len count (file_of old file).bytes b) (sym (bytes_failed old new file (Grow count) h)) (step_same len (Grow count) (file_of old file).bytes)
+
+pub does_grow : (old new : VolState) (result : Result Room Failed) (file count : ℕ) → IsGrowCall old new result file count →
+    Does file (Torn (length (file_of old file).bytes) count) (disk_of old) (disk_of new)
+does_grow old new (Ok Made) file count h = does_of {T = Unit {0}} {E = Failed} old new (Ok tt) file (Grow count) h tt
+does_grow old new (Ok Refused) file count h =
+    subst (λ (v : VolState). Does file (step_at old file (Grow count)) (disk_of old) (disk_of v)) (sym h.2) (does_call old.start old.calls (call_of file (Grow count) false) tt)
+does_grow old new (Err failed) file count h = does_of {T = Unit {0}} {E = Failed} old new (Err failed) file (Grow count) h tt
 
 -- a look at all files writes nothing
 pub kept_end : {T E : Type 0} (old new : VolState) (result : Result T E) → IsCall old new result 0 End → Quiet (disk_of old) (disk_of new)

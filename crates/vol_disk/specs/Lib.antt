@@ -2,6 +2,7 @@ pub mod Disk
 pub mod Images
 pub mod Steps
 pub mod Does
+pub mod Growing
 pub mod Clock
 pub mod Moments
 pub mod Synced

@@ -8,19 +8,28 @@ use Rattle.vol_disk.specs.Replay.{state_of}
 use Rattle.vol_disk.specs.MemDisk.{disk_after}
 use Rattle.vol_disk.specs.declared.call.Call.{Call}
 use Rattle.vol_disk.specs.declared.call.Deed.{Deed}
+use Rattle.vol_disk.specs.declared.call.Deed.TheVariants.{Grow}
+use Rattle.vol_disk.specs.declared.failed.Failed.{Failed}
+use Rattle.vol_disk.specs.declared.room.Room.{Room}
+use Rattle.vol_disk.specs.declared.room.Room.TheVariants.{Made, Refused}
 
--- the bytes that its files held at first, the record of calls, which calls fail, and how often one failed
 pub record VolState : Type 0 where
+  -- the bytes that its files held at first
   pub start : List (ℕ × List ℕ)
   pub calls : List Call
+  -- which calls fail, and from which on all do
   pub failing : List ℕ
   pub stop : Option ℕ
+  -- whether its files may have only so many bytes together as a budget says
+  pub is_bounded : Bool
+  -- how often a call failed, and how often there was no room
   pub faults : ℕ
+  pub refusals : ℕ
 
 -- a volume whose files hold these bytes at rest, of whose calls those with these numbers fail, and all from
 -- the stop on
 abbrev pub vol_of : List (ℕ × List ℕ) → List ℕ → Option ℕ → VolState
-vol_of start failing stop = record { start = start; calls = []; failing = failing; stop = stop; faults = 0 }
+vol_of start failing stop = record { start = start; calls = []; failing = failing; stop = stop; is_bounded = false; faults = 0; refusals = 0 }
 
 abbrev pub disk_of : VolState → Disk
 disk_of vol = disk_after vol.start vol.calls
@@ -60,3 +69,18 @@ IsFailed old new file deed =
 abbrev pub IsCall : {T E : Type 0} → VolState → VolState → Result T E → ℕ → Deed → Type 0
 IsCall old new (Ok value) file deed = IsDone old new file deed
 IsCall old new (Err failed) file deed = IsFailed old new file deed
+
+-- the volume with one refusal more
+abbrev pub with_refusal : VolState → VolState
+with_refusal vol = record vol { refusals = raised vol.refusals }
+
+-- A call for room that was refused was recorded as one that was not done. A volume without a budget has no such call.
+abbrev pub IsRefusedCall : VolState → VolState → ℕ → Deed → Type 0
+IsRefusedCall old new file deed =
+    (old.is_bounded ≡ true) × (next_fails old ≡ false) × (new ≡ with_refusal (with_call old file deed false))
+
+-- what a call for room that was answered so did
+abbrev pub IsGrowCall : VolState → VolState → Result Room Failed → ℕ → ℕ → Type 0
+IsGrowCall old new (Ok Made) file count = IsDone old new file (Grow count)
+IsGrowCall old new (Ok Refused) file count = IsRefusedCall old new file (Grow count)
+IsGrowCall old new (Err failed) file count = IsFailed old new file (Grow count)

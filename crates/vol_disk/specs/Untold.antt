@@ -1,5 +1,5 @@
--- What stands for the disk of a volume of which nothing is told: an empty one, of which no clause speaks.
-use Rattle.std.specs.Prelude.{[]}
+-- A volume of which nothing is told but its counts. What stands for its disk is an empty one, of which no clause speaks.
+use Rattle.std.specs.Prelude.{ℕ, []}
 use Rattle.vol_disk.specs.Clock.{IsClocked}
 use Rattle.vol_disk.specs.Disk.{Disk}
 use Rattle.vol_disk.specs.Laws.{clocked}
@@ -10,3 +10,9 @@ untold = disk_after [] []
 
 pub untold_clocked : IsClocked untold
 untold_clocked = clocked [] []
+
+pub record Counts : Type 0 where
+  -- how often it failed
+  pub faults : ℕ
+  -- how often it had no room
+  pub refusals : ℕ

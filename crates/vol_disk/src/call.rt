@@ -11,6 +11,8 @@ pub enum Deed {
     Read { at: u64, count: u64 },
     /// Writes these bytes at an offset.
     Write { at: u64, bytes: List<u8> },
+    /// Makes the file longer by so many zeros.
+    Grow { count: u64 },
     /// Cuts the file to a length.
     Cut { to: u64 },
     /// Brings what was written to the disk.
@@ -19,7 +21,7 @@ pub enum Deed {
     End,
 }
 
-/// A call on a file, and whether it was done or failed. Whatever else it answered, a length or bytes, follows
+/// A call on a file, and whether it was done; else it failed, or there was no room. Whatever else it answered, a length or bytes, follows
 /// from the calls before it.
 #[derive(Drop, Debug)]
 pub struct Call {

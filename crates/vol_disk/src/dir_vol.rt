@@ -1,34 +1,38 @@
 //! A volume over a folder.
 
-ghost use Rattle.std.specs.Prelude.{◌≡◌, IsErr};
+ghost use Rattle.std.specs.Prelude.{◌≡◌, Ok, IsErr};
 ghost use Rattle.js_base.specs.Causes.{HasCause};
+ghost use Rattle.vol_disk.specs.Growing.{IsRefused};
 
 use crate::failed::Failed;
-use crate::folder::Folder;
+use crate::folder::{Folder, Growth};
+use crate::room::Room;
 use crate::vol::Vol;
 use std::io::{self, ErrorKind};
 use std::marker::Model;
 
 /// A volume that keeps file n of a place as `dir/place-NN/fNNNNN`, with the numbers in decimal. Of what its
-/// files hold nothing is known to contracts, which see how often it failed.
+/// files hold nothing is known to contracts, which see how often it failed, and how often it had no room.
 ///
-/// Nobody else may write the folder. A `write_at` past the end fills what is between with zeros; a `read_at` past
-/// the end and a `cut` to more than the length fail. After a `sync` that failed each later one fails.
+/// Nobody else may write the folder. A `read_at` or a `write_at` past the end and a `cut` to more than the length fail. After a `sync` that failed each
+/// later one fails. A file that is cut to 0 is removed.
 ///
-/// The first call that fails is told by a line on standard error, with the file and the system's reason; and so is a stream that is stopped, with its name.
+/// The first call that fails is told by a line on standard error, with the file and the system's reason; so is the first time that there is no room, and a stream
+/// that is stopped, with its name.
 #[derive(Drop)]
 pub struct DirVol {
     rt: HostRuntime,
     folder: Option<Folder>,
     faults: u64,
+    refusals: u64,
 }
 
 impl Model for DirVol {
-    ghost use Rattle.std.specs.Prelude.{ℕ};
+    ghost use Rattle.vol_disk.specs.Untold.{Counts};
 
-    ghost Value = { ℕ };
+    ghost Value = { Counts };
 
-    ghost view = { λ s. s.faults };
+    ghost view = { λ s. record { faults = s.faults; refusals = s.refusals } };
 }
 
 /// The folder, if it could be opened.
@@ -43,7 +47,7 @@ impl DirVol {
     /// The volume of a place in the folder `dir`. Both folders are made if they are not there, but not what `dir`
     /// lies in. If a folder can't be made or opened, that is told on standard error, and each call on the volume fails.
     pub fn open(rt: &HostRuntime, dir: &str, place: u32) -> DirVol
-        ensures unfailed { result ≡ 0 }
+        ensures fresh { result ≡ record { faults = 0; refusals = 0 } }
     {
         let folder = match Folder::open(rt, dir, place) {
             Ok(folder) => Some(folder),
@@ -56,6 +60,7 @@ impl DirVol {
             rt: *rt,
             folder,
             faults: 0,
+            refusals: 0,
         }
     }
 
@@ -66,7 +71,8 @@ impl DirVol {
         file: Option<u32>,
         answer: io::Result<T>,
     ) -> Result<T, Failed>
-        ensures cause { HasCause self.old self.new (IsErr result) }
+        ensures cause { HasCause self.old.faults self.new.faults (IsErr result) }
+        ensures refusals { self.new.refusals ≡ self.old.refusals }
     {
         match answer {
             Ok(value) => Ok(value),
@@ -76,6 +82,23 @@ impl DirVol {
                 }
                 self.faults = self.faults.saturating_add(1);
                 Err(Failed)
+            }
+        }
+    }
+
+    /// The answer of a call for room, which is counted if there was none. The first time is told.
+    fn room(&mut self, file: u32, growth: Growth) -> Room
+        ensures faults { self.new.faults ≡ self.old.faults }
+        ensures refused { HasCause self.old.refusals self.new.refusals (IsRefused (Ok result)) }
+    {
+        match growth {
+            Growth::Made => Room::Made,
+            Growth::Refused(error) => {
+                if self.refusals == 0 {
+                    self.tell_refused(file, &error);
+                }
+                self.refusals = self.refusals.saturating_add(1);
+                Room::Refused
             }
         }
     }
@@ -92,6 +115,14 @@ impl DirVol {
             };
         }
     }
+
+    /// Tells on standard error that there is no room for a file to get longer.
+    fn tell_refused(&self, file: u32, error: &io::Error) {
+        if let Some(folder) = &self.folder {
+            let path = folder.path();
+            let _ = eprintln!(self.rt; "jsblock: {path}/f{file:05}: no room: {error}");
+        }
+    }
 }
 
 /// Tells on standard error that the folder of a place can't be made or opened.
@@ -106,7 +137,9 @@ impl Vol for DirVol {
 
     ghost told = { ⊥ };
 
-    ghost faults = { λ faults. faults };
+    ghost faults = { λ counts. counts.faults };
+
+    ghost refusals = { λ counts. counts.refusals };
 
     ghost clocked = { λ _. untold_clocked };
 
@@ -127,6 +160,16 @@ impl Vol for DirVol {
         self.counted("write", Some(file), written)
     }
 
+    fn grow(&mut self, file: u32, count: u32) -> Result<Room, Failed> {
+        let growth = opened(&mut self.folder).and_then(|folder| folder.grow(file, count));
+        let growth = self.counted("grow", Some(file), growth)?;
+        Ok(self.room(file, growth))
+    }
+
+    fn chunk(&self) -> u32 {
+        1 << 20
+    }
+
     fn cut(&mut self, file: u32, to: u64) -> Result<(), Failed> {
         let cut = opened(&mut self.folder).and_then(|folder| folder.cut(file, to));
         self.counted("cut", Some(file), cut)
@@ -142,22 +185,21 @@ impl Vol for DirVol {
         self.counted("list", None, end)
     }
 
-    fn tell_stopped(&self, stream: &[u8], full: bool) {
+    fn tell_stopped(&self, stream: &[u8]) {
         if let Some(folder) = &self.folder {
             let path = folder.path();
             let name = str::from_utf8(stream).unwrap_or("?");
-            let why = if full {
-                "its log is full"
-            } else {
-                "its disk failed"
-            };
             let _ = eprintln!(self.rt;
-                "jsblock: the stream {name} in {path} is stopped until the next start: {why}"
+                "jsblock: the stream {name} in {path} is stopped until the next start: its disk failed"
             );
         }
     }
 
     fn faults(&self) -> u64 {
         self.faults
+    }
+
+    fn refusals(&self) -> u64 {
+        self.refusals
     }
 }

@@ -5,7 +5,7 @@
 ghost use Rattle.std.specs.Prelude.{◌≡◌, ◌<◌, ◌≤◌};
 
 use crate::call::{Call, Deed};
-use crate::mem_file::write_over;
+use crate::mem_file::{write_over, zeros};
 use js_base::NoMemory;
 use std::alloc::Global;
 
@@ -88,6 +88,10 @@ fn draft_call(
             bytes.as_slice(),
             drawn,
         ),
+        Deed::Grow { count } => {
+            let zeros = zeros(alloc, *count)?;
+            draft_write(alloc, draft, draft.len(), zeros.as_slice(), drawn)
+        }
         Deed::Cut { to } => {
             if draw(drawn) % 2 == 0 {
                 draft.truncate(*to as usize);

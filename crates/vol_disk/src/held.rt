@@ -37,7 +37,7 @@ impl Model for Held {
     ghost invariant = { λ s. IsReplayed s.files.entries s.start s.calls.items };
 }
 
-/// Does to a file what a write does to an empty one that is not held. An `Err` changes nothing.
+/// Does to a file what a call does to an empty one that is not held, and holds it. An `Err` changes nothing.
 fn write_first(
     alloc: Global,
     files: &mut BTreeMap<u32, MemFile>,
@@ -55,7 +55,7 @@ fn write_first(
     Ok(())
 }
 
-/// Does to a file that is not held what a call does. Only a write needs that it is held. An `Err` changes nothing.
+/// Does to a file that is not held what a call does. Only a write, or zeros, need that it is held. An `Err` changes nothing.
 fn apply_first(
     alloc: Global,
     files: &mut BTreeMap<u32, MemFile>,
@@ -68,7 +68,9 @@ fn apply_first(
     ensures err { OnErr result (files.new.entries ≡ files.old.entries) }
 {
     match &call.deed {
-        Deed::Write { at: _, bytes: _ } => write_first(alloc, files, call),
+        Deed::Write { at: _, bytes: _ } | Deed::Grow { count: _ } => write_first(
+            alloc, files, call,
+        ),
         Deed::Len | Deed::Read { at: _, count: _ } | Deed::Cut { to: _ } | Deed::Sync | Deed::End =>
             Ok(()),
     }
@@ -182,6 +184,15 @@ impl Held {
             Some(held) => held.bytes(),
             None => &[],
         }
+    }
+
+    /// How many bytes the files have together.
+    pub fn total(&self) -> u64 {
+        let mut total: u64 = 0;
+        for file in self.files.values() {
+            total = total.saturating_add(file.bytes().len() as u64);
+        }
+        total
     }
 
     /// A number behind that of every file that is held.

@@ -1,9 +1,10 @@
 //! A volume in memory that holds its syncs.
 
-ghost use Rattle.std.specs.Prelude.{◌≡◌, ◌+◌, ◌≤◌, ℕ, length, take, drop, IfOk, OnOk, OnErr, IsErr};
+ghost use Rattle.std.specs.Prelude.{◌≡◌, ◌+◌, ◌≤◌, ◌^◌, ℕ, length, take, drop, IfOk, OnOk, OnErr, IsErr};
 ghost use Rattle.vol_disk.specs.Images.{IsDurable};
 ghost use Rattle.vol_disk.specs.Steps.{written, Torn, CutTo, Kept};
 ghost use Rattle.vol_disk.specs.Does.{Does};
+ghost use Rattle.vol_disk.specs.Growing.{IsGrown, IsRefused};
 ghost use Rattle.vol_disk.specs.Disk.{IsLeftBelow};
 ghost use Rattle.vol_disk.specs.Moments.{Quiet};
 ghost use Rattle.js_base.specs.Causes.{HasCause};
@@ -11,6 +12,7 @@ ghost use Rattle.vol_disk.specs.declared.call.Deed.{Deed};
 
 use crate::failed::Failed;
 use crate::mem_vol::MemVol;
+use crate::room::Room;
 use crate::vol::Vol;
 use std::alloc::Global;
 use std::marker::Model;
@@ -68,7 +70,7 @@ impl HoldVol {
 }
 
 impl Vol for HoldVol {
-    ghost use Rattle.vol_disk.specs.MemVol.{disk_of, IsCall};
+    ghost use Rattle.vol_disk.specs.MemVol.{disk_of, IsCall, IsGrowCall};
     ghost use Rattle.vol_disk.specs.Laws.{clocked, honest};
 
     ghost disk = { disk_of };
@@ -76,6 +78,8 @@ impl Vol for HoldVol {
     ghost told = { Unit {0} };
 
     ghost faults = { λ vol. vol.faults };
+
+    ghost refusals = { λ vol. vol.refusals };
 
     ghost clocked = { λ vol. clocked vol.start vol.calls };
 
@@ -87,6 +91,7 @@ impl Vol for HoldVol {
         ensures seen { (disk_of self.new).seen file ≡ (disk_of self.old).seen file }
         ensures does { Does file Kept (disk_of self.old) (disk_of self.new) }
         ensures cause { HasCause self.old.faults self.new.faults (IsErr result) }
+        ensures refusals { self.old.refusals ≤ self.new.refusals }
         ensures later { (disk_of self.old).moment ≤ (disk_of self.new).moment }
     {
         self.vol.len(file)
@@ -99,6 +104,7 @@ impl Vol for HoldVol {
         ensures seen { (disk_of self.new).seen file ≡ (disk_of self.old).seen file }
         ensures does { Does file Kept (disk_of self.old) (disk_of self.new) }
         ensures cause { HasCause self.old.faults self.new.faults (IsErr result) }
+        ensures refusals { self.old.refusals ≤ self.new.refusals }
         ensures later { (disk_of self.old).moment ≤ (disk_of self.new).moment }
     {
         self.vol.read_at(file, at, into)
@@ -111,9 +117,27 @@ impl Vol for HoldVol {
         ensures torn { OnErr result (Torn at (length bytes.now) ((disk_of self.old).seen file) ((disk_of self.new).seen file)) }
         ensures does { Does file (Torn at (length bytes.now)) (disk_of self.old) (disk_of self.new) }
         ensures cause { HasCause self.old.faults self.new.faults (IsErr result) }
+        ensures refusals { self.old.refusals ≤ self.new.refusals }
         ensures later { (disk_of self.old).moment ≤ (disk_of self.new).moment }
     {
         self.vol.write_at(file, at, bytes)
+    }
+
+    fn grow(&mut self, file: u32, count: u32) -> Result<Room, Failed>
+        requires few { count ≤ 2 ^ 20 }
+        ensures call { IsGrowCall self.old self.new result file count }
+        ensures grown { IfOk result (λ room. IsGrown room count ((disk_of self.old).seen file) ((disk_of self.new).seen file)) }
+        ensures torn { OnErr result (Torn (length ((disk_of self.old).seen file)) count ((disk_of self.old).seen file) ((disk_of self.new).seen file)) }
+        ensures does { Does file (Torn (length ((disk_of self.old).seen file)) count) (disk_of self.old) (disk_of self.new) }
+        ensures cause { HasCause self.old.faults self.new.faults (IsErr result) }
+        ensures refused { HasCause self.old.refusals self.new.refusals (IsRefused result) }
+        ensures later { (disk_of self.old).moment ≤ (disk_of self.new).moment }
+    {
+        self.vol.grow(file, count)
+    }
+
+    fn chunk(&self) -> u32 {
+        self.vol.chunk()
     }
 
     fn cut(&mut self, file: u32, to: u64) -> Result<(), Failed>
@@ -123,6 +147,7 @@ impl Vol for HoldVol {
         ensures torn { OnErr result (CutTo to ((disk_of self.old).seen file) ((disk_of self.new).seen file)) }
         ensures does { Does file (CutTo to) (disk_of self.old) (disk_of self.new) }
         ensures cause { HasCause self.old.faults self.new.faults (IsErr result) }
+        ensures refusals { self.old.refusals ≤ self.new.refusals }
         ensures later { (disk_of self.old).moment ≤ (disk_of self.new).moment }
     {
         self.vol.cut(file, to)
@@ -135,6 +160,7 @@ impl Vol for HoldVol {
         ensures seen { (disk_of self.new).seen file ≡ (disk_of self.old).seen file }
         ensures does { Does file Kept (disk_of self.old) (disk_of self.new) }
         ensures cause { HasCause self.old.faults self.new.faults (IsErr result) }
+        ensures refusals { self.old.refusals ≤ self.new.refusals }
         ensures later { (disk_of self.old).moment ≤ (disk_of self.new).moment }
     {
         if file == self.held {
@@ -148,15 +174,20 @@ impl Vol for HoldVol {
         ensures left { IfOk result (λ end. IsLeftBelow end (disk_of self.new)) }
         ensures quiet { Quiet (disk_of self.old) (disk_of self.new) }
         ensures cause { HasCause self.old.faults self.new.faults (IsErr result) }
+        ensures refusals { self.old.refusals ≤ self.new.refusals }
         ensures later { (disk_of self.old).moment ≤ (disk_of self.new).moment }
     {
         self.vol.files_end()
     }
 
     /// It tells nobody.
-    fn tell_stopped(&self, _stream: &[u8], _full: bool) {}
+    fn tell_stopped(&self, _stream: &[u8]) {}
 
     fn faults(&self) -> u64 {
         self.vol.faults()
+    }
+
+    fn refusals(&self) -> u64 {
+        self.vol.refusals()
     }
 }

@@ -3,7 +3,7 @@
 ghost use Rattle.std.specs.Prelude.{◌≡◌, ◌⊎◌, ◌<◌, ◌≤◌, if◌then◌else◌, [], ◌∷◌, ◌++◌, false, length, slice_index, IfOk, OnOk, OnErr, vec_len, vec_capacity};
 ghost use Rattle.vol_disk.specs.Images.{AreBytes};
 ghost use Rattle.vol_disk.specs.Steps.{written};
-ghost use Rattle.vol_disk.specs.Calls.{CanDo, after};
+ghost use Rattle.vol_disk.specs.Calls.{CanDo, after, zeros};
 ghost use Rattle.vol_disk.specs.FileState.{at_rest};
 ghost use Rattle.vol_disk.specs.Left.{IsLeft, is_written};
 ghost use Rattle.vol_disk.specs.Held.{IsPicked};
@@ -94,6 +94,16 @@ fn copy_of(alloc: Global, bytes: &[u8]) -> Result<Vec<u8>, NoMemory>
 {
     match Vec::from_slice(alloc, bytes) {
         Ok(copy) => Ok(copy),
+        Err(_) => Err(NoMemory),
+    }
+}
+
+/// So many zeros.
+pub(crate) fn zeros(alloc: Global, count: u64) -> Result<Vec<u8>, NoMemory>
+    ensures ok { IfOk result (λ vec. vec.items ≡ zeros count) }
+{
+    match vec![in alloc; 0u8; count as usize] {
+        Ok(zeros) => Ok(zeros),
         Err(_) => Err(NoMemory),
     }
 }
@@ -219,6 +229,16 @@ impl MemFile {
         Ok(())
     }
 
+    /// Grows by so many zeros, or fails at some part of it. An `Err` leaves the file as it was.
+    fn grow(&mut self, alloc: Global, count: u64, is_done: bool) -> Result<(), NoMemory>
+        ensures ok { OnOk result (self.new ≡ after (Deed.Grow count) is_done self.old) }
+        ensures err { OnErr result (self.new ≡ self.old) }
+    {
+        let zeros = zeros(alloc, count)?;
+        let len = self.bytes.len() as u64;
+        self.write(len, zeros.as_slice(), is_done)
+    }
+
     /// Cuts, or fails at some part of it.
     fn cut(&mut self, to: u64, is_done: bool)
         requires within { to ≤ length self.old.bytes }
@@ -253,6 +273,7 @@ impl MemFile {
             Deed::Len | Deed::End => Ok(()),
             Deed::Read { at: _, count: _ } => Ok(()),
             Deed::Write { at, bytes } => self.write(*at, bytes.as_slice(), is_done),
+            Deed::Grow { count } => self.grow(alloc, *count, is_done),
             Deed::Cut { to } => {
                 self.cut(*to, is_done);
                 Ok(())
