@@ -28,6 +28,7 @@ pub(crate) fn load<V: Vol>(
     ensures only { IfErr result IsOutside }
     ensures quiet { V.told → Quiet (V.disk vol.old) (V.disk vol.new) }
     ensures cause { HasCause (V.faults vol.old) (V.faults vol.new) (IsErrOf result MessagesFault.Fault) }
+    ensures refusals { V.refusals vol.old ≤ V.refusals vol.new }
     ensures later { (V.disk vol.old).moment ≤ (V.disk vol.new).moment }
 {
     let len = vol.len(file)?;
@@ -51,6 +52,7 @@ fn check_block<V: Vol>(
     ensures fault { V.told → IfErr result (IsBlockFault (V.disk vol.old).seen last block) }
     ensures quiet { V.told → Quiet (V.disk vol.old) (V.disk vol.new) }
     ensures cause { HasCause (V.faults vol.old) (V.faults vol.new) (IsErrOf result MessagesFault.Fault) }
+    ensures refusals { V.refusals vol.old ≤ V.refusals vol.new }
     ensures later { (V.disk vol.old).moment ≤ (V.disk vol.new).moment }
 {
     let bytes = load(alloc, vol, block.file, block.end)?;
@@ -76,6 +78,7 @@ pub(crate) fn check_blocks<V: Vol>(
     ensures table { IsTable table.now }
     ensures quiet { V.told → Quiet (V.disk vol.old) (V.disk vol.new) }
     ensures cause { HasCause (V.faults vol.old) (V.faults vol.new) (IsErrOf result MessagesFault.Fault) }
+    ensures refusals { V.refusals vol.old ≤ V.refusals vol.new }
     ensures later { (V.disk vol.old).moment ≤ (V.disk vol.new).moment }
 {
     for block in table.older() {

@@ -36,6 +36,7 @@ fn read_one<V: Vol>(
     ensures fault { V.told → IfErr result (IsLostFault (V.disk vol.old).seen spot told.now) }
     ensures quiet { V.told → Quiet (V.disk vol.old) (V.disk vol.new) }
     ensures cause { HasCause (V.faults vol.old) (V.faults vol.new) (IsErrOf result MessagesFault.Fault) }
+    ensures refusals { V.refusals vol.old ≤ V.refusals vol.new }
     ensures later { (V.disk vol.old).moment ≤ (V.disk vol.new).moment }
 {
     let bytes = message_block::read(alloc, vol, spot)?;
@@ -67,6 +68,7 @@ fn read_all<V: Vol>(
     ensures fault { V.told → IfErr result (AreLostFault (V.disk vol.old).seen table.now.placed told.now) }
     ensures quiet { V.told → Quiet (V.disk vol.old) (V.disk vol.new) }
     ensures cause { HasCause (V.faults vol.old) (V.faults vol.new) (IsErrOf result MessagesFault.Fault) }
+    ensures refusals { V.refusals vol.old ≤ V.refusals vol.new }
     ensures later { (V.disk vol.old).moment ≤ (V.disk vol.new).moment }
 {
     let mut messages = List::new(alloc);
@@ -100,6 +102,7 @@ pub fn read_messages<V: Vol>(
     ensures fault { V.told → IfErr result (IsMessagesFault (V.disk vol.old).seen table.now last told.now) }
     ensures quiet { V.told → Quiet (V.disk vol.old) (V.disk vol.new) }
     ensures cause { HasCause (V.faults vol.old) (V.faults vol.new) (IsErrOf result MessagesFault.Fault) }
+    ensures refusals { V.refusals vol.old ≤ V.refusals vol.new }
     ensures later { (V.disk vol.old).moment ≤ (V.disk vol.new).moment }
 {
     check_blocks(alloc, vol, table, last)?;

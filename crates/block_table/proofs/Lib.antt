@@ -8,3 +8,4 @@ pub mod InUse
 pub mod Batches
 pub mod Rooms
 pub mod Restored
+pub mod Closing

@@ -74,10 +74,10 @@ rising_kept t (p ∷ ps) h = go (t p) (rising_kept t ps h.1)
 
 -- ---- what is true of a block
 
-abbrev InFile : Block → Type 0
+abbrev pub InFile : Block → Type 0
 InFile k = IsFile k.file
 
-abbrev EndsLow : Block → Type 0
+abbrev pub EndsLow : Block → Type 0
 EndsLow k = k.end < 2 ^ 32
 
 -- ---- no blocks
@@ -93,7 +93,7 @@ table_none = record {
 
 -- ---- inside
 
-both : {X : Type 0} (P Q R : X → Type 0) (xs : List X) → ((x : X) → P x → Q x → R x) → All P xs → All Q xs → All R xs
+pub both : {X : Type 0} (P Q R : X → Type 0) (xs : List X) → ((x : X) → P x → Q x → R x) → All P xs → All Q xs → All R xs
 both P Q R xs f p q = λ k d within. f (slice_index_or xs k d) (p k d within) (q k d within)
 
 -- what lies in blocks still does once some of the first ones go that do not hold it
@@ -118,11 +118,11 @@ each_kept P t (k ∷ ks) more h = go (t k) (each_kept P t ks more (All-tail P k 
 blocks_kept : (t : ℕ → Bool) (ks more : List Block) → AreBlocks (ks ++ more) → AreBlocks (filter (λ k. t k.file) ks ++ more)
 blocks_kept t ks more h = record { apart = apart_kept (λ k. t k.file) ks more h.apart; files = each_kept InFile (λ k. t k.file) ks more h.files; ends = each_kept EndsLow (λ k. t k.file) ks more h.ends }
 
-each_first : (P : Block → Type 0) (ks more : List Block) → All P (ks ++ more) → All P ks
+pub each_first : (P : Block → Type 0) (ks more : List Block) → All P (ks ++ more) → All P ks
 each_first P [] more h = All-nil P
 each_first P (k ∷ ks) more h = All-cons P k ks (All-head P k (ks ++ more) h) (each_first P ks more (All-tail P k (ks ++ more) h))
 
-files_last : (ks : List Block) (k : Block) → All InFile (ks ++ k ∷ []) → IsFile k.file
+pub files_last : (ks : List Block) (k : Block) → All InFile (ks ++ k ∷ []) → IsFile k.file
 files_last [] k h = All-head InFile k [] h
 files_last (j ∷ ks) k h = files_last ks k (All-tail InFile j (ks ++ k ∷ []) h)
 

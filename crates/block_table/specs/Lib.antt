@@ -2,6 +2,7 @@ pub mod Blocks
 pub mod Puts
 pub mod Tables
 pub mod Placings
+pub mod Closing
 pub mod Rooms
 pub mod Batches
 pub mod Counts

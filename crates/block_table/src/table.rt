@@ -3,6 +3,7 @@
 ghost use Rattle.std.specs.Prelude.{◌≡◌, ◌-◌, ◌^◌, ◌<◌, ◌≤◌, ◌↔◌, ◌++◌, true, false, Some, None, find, nat_le, IfOk, IfSome, OnOk, OnErr, Err};
 ghost use Rattle.std.specs.Option.{option_to_list};
 ghost use Rattle.std.specs.Vec.{vec_len, vec_capacity};
+ghost use Rattle.block_table.specs.Closing.{closed, is_left};
 ghost use Rattle.block_table.specs.Blocks.{has_block, is_among, no_blocks, spot_of, used};
 ghost use Rattle.block_table.specs.Placings.{free_from, lowest_from, placing};
 ghost use Rattle.block_table.specs.Puts.{begins, end_of, fits, goes_on, is_above, put, put_at, removed};
@@ -23,8 +24,11 @@ pub(crate) const FIRST_FILE: u32 = 2;
 /// The number of files in a volume.
 pub(crate) const FILES: u32 = 65_536;
 
+/// From how many bytes on a block that holds no message is left behind a batch.
+const LEFT_FROM: u32 = 1 << 20;
+
 /// Where the stored messages of a stream lie in the blocks of a volume, and how far each block is written. A block is a file that holds a stored
-/// message, or the one being written, which is the file of the message that was put last. A call costs the logarithm of how many messages and files
+/// message, or the one being written, which is the file of the message that was put last, unless `close` left it. A call costs the logarithm of how many messages and files
 /// there are; only `remove` may look at each block, and so does the first message that begins one after that.
 #[derive(Drop)]
 pub struct BlockTable {
@@ -135,6 +139,18 @@ impl BlockTable {
             let messages = &self.messages;
             self.older.retain(|block| messages.is_used(block.file));
             self.free = FIRST_FILE;
+        }
+    }
+
+    /// Ends a batch: the block being written is none any more if it has 1 MiB or more and holds no message. It takes no memory.
+    pub fn close(&mut self)
+        ensures { self.new ≡ closed self.old }
+    {
+        if let Some(block) = self.writing
+            && is_left(block, &self.messages)
+        {
+            self.writing = None;
+            self.free = self.free.min(block.file);
         }
     }
 
@@ -270,6 +286,13 @@ fn ends_low(spot: Spot) -> bool
     ensures { result ≡ nat_le (end_of spot) (2 ^ 32 - 1) }
 {
     spot.at <= u32::MAX - spot.len
+}
+
+/// Whether the block is so long that it is left once it holds none of the messages, and holds none.
+fn is_left(block: Block, messages: &Messages) -> bool
+    ensures { result ≡ is_left messages.now block }
+{
+    block.end >= LEFT_FROM && !messages.is_used(block.file)
 }
 
 /// Up to where each file is a block still, from 2 on, once the block that was being written is none if it holds none of the messages.

@@ -24,17 +24,20 @@ use Rattle.vol_disk.proofs.Moments.{widened}
 use Rattle.message_block.specs.Standing.{Stands}
 use Rattle.message_block.proofs.Standing.{spot_among}
 use Rattle.block_table.specs.declared.block.Block.{Block}
+use Rattle.block_table.specs.declared.placing.Placing.{Placing}
 use Rattle.block_table.specs.Blocks.{Blocks, blocks, has_block, is_among}
-use Rattle.block_table.specs.Puts.{goes_on, begins}
+use Rattle.block_table.specs.Closing.{closed, is_left, written_on}
+use Rattle.block_table.specs.Placings.{place}
+use Rattle.block_table.specs.Puts.{end_of, goes_on, begins}
 use Rattle.block_table.specs.Tables.{IsTable, AreApart as ApartBlocks}
 use Rattle.block_table.proofs.Apart.{apart_last}
 use Rattle.block_reading.specs.Standing.{StandsAt, bytes_at}
 use Rattle.block_writing.specs.declared.run.Run.{Run}
-use Rattle.block_writing.specs.Planning.{Planned, message_by}
+use Rattle.block_writing.specs.Planning.{Planned, message_by, with_message}
 use Rattle.block_writing.specs.Runs.{IsPlaced, HasAt, SomeRun, LiesIn, IsStoredBy, AreStoredBy, spot_of}
-use Rattle.block_writing.specs.Writing.{end_in, front_in, BlocksStand, IsUntouched, AreKept, ChangesRuns, HasMessages, HasStored, IsWritten, KeepsBlocks}
+use Rattle.block_writing.specs.Writing.{AreWithin, end_in, front_in, BlocksStand, IsUntouched, AreKept, ChangesRuns, HasMessages, HasStored, IsWritten, KeepsBlocks}
 use Rattle.block_writing.specs.Laws.{ArePlannedBy, AreRuns, LawPlans}
-use Rattle.block_writing.proofs.Runs.{put_allowed, runs_of}
+use Rattle.block_writing.proofs.Runs.{put_allowed, runs_of, sound_of, spot_is, within_put}
 
 -- ---- how far a file is written
 
@@ -82,10 +85,59 @@ end_placed b run table placed = go (or_cases (goes_on (spot_of run) b.writing) (
         let low = and_parts _ _ high.0 in
         end_free b run.file (not-true (has_block b run.file) free.1) ∙ sym (eqb-true run.at 0 low.0)
 
+-- ---- behind a batch
+
+-- a block that is not written any more, or the same one
+find_less : (t : Block → Bool) (xs : List Block) (k : Block) → (find t (xs ++ []) ≡ find t (xs ++ k ∷ [])) ⊎ (find t (xs ++ []) ≡ None)
+find_less t [] k = inr refl
+find_less t (x ∷ xs) k = go (t x) (find_less t xs k)
+  where
+    go : (c : Bool) → (find t (xs ++ []) ≡ find t (xs ++ k ∷ [])) ⊎ (find t (xs ++ []) ≡ None)
+        → (cond c (Some x) (find t (xs ++ [])) ≡ cond c (Some x) (find t (xs ++ k ∷ []))) ⊎ (cond c (Some x) (find t (xs ++ [])) ≡ None)
+    go true rest = inl refl
+    go false rest = rest
+
+ends_closed : (b : Blocks) (file : ℕ) → (end_in (closed b) file ≡ end_in b file) ⊎ (end_in (closed b) file ≡ 0)
+ends_closed b file = go b.writing
+  where
+    ends : Option Block → ℕ
+    ends w = end_of_found (find (λ (k : Block). k.file == file) (b.older ++ option_to_list w))
+
+    left : (k : Block) (c : Bool) → (ends (cond c None (Some k)) ≡ ends (Some k)) ⊎ (ends (cond c None (Some k)) ≡ 0)
+    left k false = inl refl
+    left k true = elim (find_less (λ (x : Block). x.file == file) b.older k) [
+      | inl is ↦ inl (ap end_of_found is)
+      | inr none ↦ inr (ap end_of_found none)
+    ]
+
+    go : (w : Option Block) → (ends (written_on b.placed w) ≡ ends w) ⊎ (ends (written_on b.placed w) ≡ 0)
+    go None = inl refl
+    go (Some k) = left k (is_left b.placed k)
+
+pub closed_of : (b : Blocks) (disk : Disk) → BlocksStand b disk → BlocksStand (closed b) disk
+closed_of b disk stand = record { long = long; stand = stood }
+  where
+    long : (file : ℕ) → end_in (closed b) file ≤ length (disk.seen file)
+    long file = elim (ends_closed b file) [
+      | inl is ↦ subst (λ (n : ℕ). n ≤ length (disk.seen file)) (sym is) (stand.long file)
+      | inr none ↦ omega (arith, none)
+    ]
+
+    stood : (file : ℕ) → Stands disk file (front_in (closed b) disk.seen file)
+    stood file = elim (ends_closed b file) [
+      | inl is ↦ subst (λ (n : ℕ). Stands disk file (take n (disk.seen file))) (sym is) (stand.stand file)
+      | inr none ↦ subst (λ (n : ℕ). Stands disk file (take n (disk.seen file))) (sym none) (record { read = refl; left = λ image left. refl })
+    ]
+
 -- ---- while the runs are written
 
-pub within_of : (b : Blocks) (es : List Effect) (made : Planned) (disk : Disk) → ArePlannedBy b es made → BlocksStand b disk → All (λ run. run.at ≤ length (disk.seen run.file)) made.runs
-within_of b es made disk h stand =
+pub within_of : (b : Blocks) (es : List Effect) (made : Planned) (m : Message) (spot : Spot) (p : Placing) (disk : Disk) → ArePlannedBy b es made → place b (length (spelled_message m)) made.placing ≡ Some (spot, p)
+    → AreWithin disk made.runs → end_of spot ≤ length (disk.seen spot.file) → AreWithin disk (with_message made.runs spot (spelled_message m))
+within_of b es made m spot p disk h placed within room =
+    within_put b disk made.runs made.placing (spelled_message m) spot p (sound_of b es made h).runs (spot_is b (length (spelled_message m)) made.placing spot p placed) within room
+
+begins_of : (b : Blocks) (es : List Effect) (made : Planned) (disk : Disk) → ArePlannedBy b es made → BlocksStand b disk → All (λ run. run.at ≤ length (disk.seen run.file)) made.runs
+begins_of b es made disk h stand =
     All-weaker (IsPlaced b) (λ (run : Run). run.at ≤ length (disk.seen run.file))
     (λ run placed. (let long = stand.long run.file in let is = end_placed b run h.table placed in omega (arith, long, is)))
     made.runs (runs_of b es made h).placed
@@ -221,7 +273,7 @@ written_of b es made old new h stand changes bytes written = record {
     runs = runs_of b es made h
 
     within : All (λ run. run.at ≤ length (old.seen run.file)) made.runs
-    within = within_of b es made old h stand
+    within = begins_of b es made old h stand
 
     stood : (file : ℕ) → Stands new file (front_in b old.seen file)
     stood file = changes.stands file (front_in b old.seen file) (before file) (stand.stand file)
@@ -239,7 +291,11 @@ written_of b es made old new h stand changes bytes written = record {
 
 pub record Plans : Type 1 where
   pub runs : (b : Blocks) (es : List Effect) (made : Planned) → ArePlannedBy b es made → AreRuns b es made
-  pub within : (b : Blocks) (es : List Effect) (made : Planned) (disk : Disk) → ArePlannedBy b es made → BlocksStand b disk → All (λ run. run.at ≤ length (disk.seen run.file)) made.runs
+  pub within :
+      (b : Blocks) (es : List Effect) (made : Planned) (m : Message) (spot : Spot) (p : Placing) (disk : Disk) → ArePlannedBy b es made
+      → place b (length (spelled_message m)) made.placing ≡ Some (spot, p) → AreWithin disk made.runs → end_of spot ≤ length (disk.seen spot.file)
+      → AreWithin disk (with_message made.runs spot (spelled_message m))
+  pub closed : (b : Blocks) (disk : Disk) → BlocksStand b disk → BlocksStand (closed b) disk
   pub kept :
       (b : Blocks) (es : List Effect) (made : Planned) (old new : Disk) → ArePlannedBy b es made → BlocksStand b old → ChangesRuns made.runs old new
       → LeavesOnly old new (KeepsBlocks b old)
@@ -248,13 +304,14 @@ pub record Plans : Type 1 where
       → All (λ run. AreBytes run.bytes) made.runs → All (IsWritten old new) made.runs → HasStored b es made.records old new
 
 abbrev pub law_plans : Plans
-law_plans = record { runs = runs_of; within = within_of; kept = kept_of; written = written_of }
+law_plans = record { runs = runs_of; within = within_of; closed = closed_of; kept = kept_of; written = written_of }
 
 -- and of two of them
 pub plans_of : (old new : Disk) → LawPlans old new
 plans_of old new = record {
   runs = runs_of;
-  within = λ b es made h stand. within_of b es made old h stand;
+  within = λ b es made m spot p h placed within room. within_of b es made m spot p old h placed within room;
+  closed = λ b stand. closed_of b old stand;
   kept = λ b es made h stand changes. kept_of b es made old new h stand changes;
   written = λ b es made h stand changes bytes written. written_of b es made old new h stand changes bytes written;
 }

@@ -22,13 +22,15 @@ use Rattle.op_records.proofs.BlockSizes.{spelled_size}
 use Rattle.block_table.specs.declared.block.Block.{Block}
 use Rattle.block_table.specs.declared.placing.Placing.{Placing}
 use Rattle.block_table.specs.Blocks.{Blocks, blocks, has_block, is_among}
-use Rattle.block_table.specs.Puts.{goes_on, begins}
+use Rattle.block_table.specs.Puts.{end_of, goes_on, begins}
 use Rattle.block_table.specs.Placings.{placing, free_from, stays, place_on, place_at, place, restarted}
 use Rattle.block_table.proofs.Batches.{found_free}
 use Rattle.block_writing.specs.declared.run.Run.{Run}
 use Rattle.block_writing.specs.Planning.{Planned, begun, run_at, with_bytes, with_message, with_put, with_change, message_by, plan_message, planned_one, then_planned, planned}
 use Rattle.block_writing.specs.Runs.{IsPlaced, IsShort, AreApart, HasAt, LiesIn, IsStoredBy, AreStoredBy, spot_of}
 use Rattle.block_table.specs.Tables.{IsFile, IsTable}
+use Rattle.vol_disk.specs.Disk.{Disk}
+use Rattle.block_writing.specs.Writing.{AreWithin, IsWithin}
 use Rattle.block_writing.specs.Laws.{AreRuns, ArePlannedBy}
 use Rattle.block_writing.proofs.Messages.{all_front, all_last, some_front, some_last, apart_push, apart_same, new_run, same_run, lies_longer, has_first, has_last}
 
@@ -215,6 +217,30 @@ module _ (b : Blocks) where
       with_message runs (spot_at h.file len) bytes ≡ runs ++ run_at (spot_at h.file len) bytes ∷ []
   new_at runs p len spot q bytes s h =
       new_run runs (spot_at h.file len) bytes (All-weaker (IsBelow b p.from) (λ (run : Run). (run.file == h.file) ≡ false) (λ run below. ne_eqb run.file h.file (untouched p.from h.file run h.free h.above below)) runs s.below)
+
+  -- it ends within its file, if that reaches so far
+  pub within_put : (disk : Disk) (runs : List Run) (p : Placing) (bytes : Bytes) (spot : Spot) (q : Placing) → AreSound b runs p → IsSpot b (length bytes) p spot q → AreWithin disk runs
+      → end_of spot ≤ length (disk.seen spot.file) → AreWithin disk (with_message runs spot bytes)
+  within_put disk runs p bytes spot q s (inl h) within room =
+      subst (λ (x : Spot). AreWithin disk (with_message runs x bytes)) (sym h.spot_is) (go (subst (IsEnd b runs) h.writes s.end))
+    where
+      here : Spot
+      here = spot_on h.block (length bytes)
+
+      reaches : h.block.end + length bytes ≤ length (disk.seen h.block.file)
+      reaches = subst (λ (x : Spot). end_of x ≤ length (disk.seen x.file)) h.spot_is room
+
+      go : IsEnd b runs (Some h.block) → AreWithin disk (with_message runs here bytes)
+      go (inl e) = subst (λ (l : List Run). AreWithin disk (with_message l here bytes)) (sym e.0) (All-cons (IsWithin disk) (run_at here bytes) [] reaches (All-nil (IsWithin disk)))
+      go (inr e) =
+          let same = ap (λ (f : ℕ). length (disk.seen f)) e.3 in
+          subst (AreWithin disk) (sym (ap (λ (l : List Run). with_message l here bytes) e.2 ∙ same_run e.0 e.1 here bytes (eq-eqb e.1.file h.block.file e.3)))
+          (All-push (IsWithin disk) e.0 (with_bytes e.1 bytes) (all_front (IsWithin disk) e.0 e.1 (subst (AreWithin disk) e.2 within)) (omega (arith, length-append e.1.bytes bytes, e.4, reaches, same)))
+  within_put disk runs p bytes spot q s (inr h) within room =
+      let here : Spot = spot_at h.file (length bytes) in
+      let reaches = subst (λ (x : Spot). end_of x ≤ length (disk.seen x.file)) h.spot_is room in
+      subst (λ (x : Spot). AreWithin disk (with_message runs x bytes)) (sym h.spot_is)
+      (subst (AreWithin disk) (sym (new_at runs p (length bytes) spot q bytes s h)) (All-push (IsWithin disk) runs (run_at here bytes) within reaches))
 
   lies_put : (runs : List Run) (p : Placing) (m : Message) (spot : Spot) (q : Placing) → AreSound b runs p → IsSpot b (length (spelled_message m)) p spot q → LiesIn (with_message runs spot (spelled_message m)) spot m
   lies_put runs p m spot q s (inl h) = subst (λ (x : Spot). LiesIn (with_message runs x (spelled_message m)) x m) (sym h.spot_is) (go (subst (IsEnd b runs) h.writes s.end))
@@ -434,9 +460,12 @@ file_of b table run placed = go (or_cases (goes_on (spot_of run) b.writing) (beg
         let high = and_parts _ _ free.0 in
         leb-true 2 run.file (and_parts _ _ high.0).1
 
+pub sound_of : (b : Blocks) (es : List Effect) (made : Planned) → ArePlannedBy b es made → IsSound b es made
+sound_of b es made h = sound_all b es [] (begun b) made h.allowed (record { runs = sound_first b; stored = tt }) h.made_is
+
 pub runs_of : (b : Blocks) (es : List Effect) (made : Planned) → ArePlannedBy b es made → AreRuns b es made
 runs_of b es made h =
-    let s = sound_all b es [] (begun b) made h.allowed (record { runs = sound_first b; stored = tt }) h.made_is in
+    let s = sound_of b es made h in
     record {
       placed = s.runs.placed;
       files = All-weaker (IsPlaced b) (λ (run : Run). 2 ≤ run.file) (file_of b h.table) made.runs s.runs.placed;

@@ -19,7 +19,7 @@ use Rattle.block_table.specs.declared.block.Block.{Block}
 use Rattle.block_table.specs.Blocks.{Blocks, has_block, is_among}
 use Rattle.block_writing.specs.declared.run.Run.{Run}
 use Rattle.block_writing.specs.Runs.{AreApart}
-use Rattle.block_writing.specs.Writing.{IsUntouched, IsInFront, AreKept, ChangesRuns, IsWritten}
+use Rattle.block_writing.specs.Writing.{IsWithin, AreWithin, AreAsLong, IsUntouched, IsInFront, AreKept, ChangesRuns, IsWritten}
 use Rattle.block_writing.specs.Dropping.{is_unused, AreUsedKept, ChangesUnused, IsEmptied, AreEmptied}
 use Rattle.block_writing.proofs.Messages.{all_front, all_last}
 
@@ -120,6 +120,14 @@ written_on (x ∷ xs) run old mid new changes ne h =
     (stands_at_rest x.file mid new (take x.at (old.seen x.file) ++ x.bytes) (changes.elsewhere x.file (All-head (λ (r : Run). r.file ≢ run.file) x xs ne)) (All-head (IsWritten old mid) x xs h))
     (written_on xs run old mid new changes (All-tail (λ (r : Run). r.file ≢ run.file) x xs ne) (All-tail (IsWritten old mid) x xs h))
 
+-- a write that leaves its file as long leaves them all so
+pub stay_as_long : (file at : ℕ) (old mid new : Disk) → AreAsLong old mid → ChangesFrom file at mid new → length (new.seen file) ≡ length (mid.seen file) → AreAsLong old new
+stay_as_long file at old mid new so_far changes same other = go (cases_eq other file)
+  where
+    go : (other ≡ file) ⊎ (other ≢ file) → length (new.seen other) ≡ length (old.seen other)
+    go (inl is) = subst (λ (f : ℕ). length (new.seen f) ≡ length (mid.seen f)) (sym is) same ∙ so_far other
+    go (inr ne) = ap length (changes.elsewhere other ne).seen ∙ so_far other
+
 -- ---- as they are written
 
 pub record AreWrittenSo (runs : List Run) (i : ℕ) (old now : Disk) : Type 0 where
@@ -134,10 +142,10 @@ module _ (runs : List Run) (i : ℕ) (run : Run) (old mid : Disk) (within : i < 
   pub rests : Rests run.file old mid
   rests = so_far.changes.elsewhere run.file before
 
-  pub begins_within : All (λ r. r.at ≤ length (old.seen r.file)) runs → run.at ≤ length (mid.seen run.file)
-  begins_within h =
-      let one = all_there (λ (r : Run). r.at ≤ length (old.seen r.file)) (take i runs) run (drop (suc i) runs) (subst (All (λ (r : Run). r.at ≤ length (old.seen r.file))) (sym (parts runs i run within is)) h) in
-      subst (λ (l : Bytes). run.at ≤ length l) (sym rests.seen) one
+  pub ends_within : AreWithin old runs → run.at + length run.bytes ≤ length (mid.seen run.file)
+  ends_within h =
+      let one = all_there (IsWithin old) (take i runs) run (drop (suc i) runs) (subst (AreWithin old) (sym (parts runs i run within is)) h) in
+      subst (λ (l : Bytes). run.at + length run.bytes ≤ length l) (sym rests.seen) one
 
   pub failed : (new : Disk) → ChangesFrom run.file run.at mid new → ChangesRuns runs old new
   failed new changes =

@@ -1,5 +1,5 @@
 -- What the blocks of a volume hold while a commit writes them, and then.
-use Rattle.std.specs.Prelude.{◌≡◌, ◌≢◌, ◌≤◌, ◌<◌, ℕ, ◌==◌, ◌++◌, List, All, length, take, find, option_map, unwrap_or}
+use Rattle.std.specs.Prelude.{◌≡◌, ◌≢◌, ◌≤◌, ◌<◌, ℕ, ◌+◌, ◌==◌, ◌++◌, List, All, length, take, find, option_map, unwrap_or}
 use Rattle.std.specs.Io.{StartsWith}
 use Rattle.js_base.specs.Bytes.{Bytes}
 use Rattle.effects.specs.declared.effect.Effect.{Effect}
@@ -29,6 +29,18 @@ pub record BlocksStand (b : Blocks) (disk : Disk) : Type 0 where
   pub stand : (file : ℕ) → Stands disk file (front_in b disk.seen file)
 
 -- ---- runs
+
+-- the run ends within its file
+abbrev pub IsWithin : Disk → Run → Type 0
+IsWithin disk run = run.at + length run.bytes ≤ length (disk.seen run.file)
+
+-- each of them does
+abbrev pub AreWithin : Disk → List Run → Type 0
+AreWithin disk runs = All (IsWithin disk) runs
+
+-- no file became longer or shorter
+abbrev pub AreAsLong : Disk → Disk → Type 0
+AreAsLong old new = (file : ℕ) → length (new.seen file) ≡ length (old.seen file)
 
 -- no run is in the file
 abbrev pub IsUntouched : List Run → ℕ → Type 0

@@ -15,6 +15,7 @@ pub fn drop_unused<V: Vol>(vol: &mut V, table: &BlockTable, blocks: &[Block]) ->
     ensures emptied { V.told → OnOk result (AreEmptied table.now blocks.now (V.disk vol.new)) }
     ensures changes { V.told → ChangesUnused table.now blocks.now (V.disk vol.old) (V.disk vol.new) }
     ensures cause { HasCause (V.faults vol.old) (V.faults vol.new) (IsErr result) }
+    ensures refusals { V.refusals vol.old ≤ V.refusals vol.new }
     ensures later { (V.disk vol.old).moment ≤ (V.disk vol.new).moment }
 {
     for block in blocks {

@@ -1,5 +1,5 @@
 -- What an append makes of its disk, write by write.
-use Rattle.std.proofs.Common.{◌≡◌, inl, ℕ, ◌+◌, ◌<◌, ◌≤◌, ◌^◌, List, [], ◌∷◌, ◌++◌, Option, None, Some, IfSome, IsSome, length, drop, refl, sym, ◌∙◌, ap, subst, arith}
+use Rattle.std.proofs.Common.{◌≡◌, inl, ℕ, ◌+◌, ◌<◌, ◌^◌, List, [], ◌∷◌, ◌++◌, Option, None, Some, IfSome, IsSome, length, drop, refl, sym, ◌∙◌, ap, subst, arith}
 use Rattle.std.proofs.lemmas.Bool.{false≢true}
 use Rattle.vol_disk.specs.Disk.{Disk, Files}
 use Rattle.vol_disk.specs.Images.{IsDurable}
@@ -15,7 +15,7 @@ use Rattle.gate_log.specs.LogState.{LogState, with_batch}
 use Rattle.gate_log.specs.Settled.{IsSettled}
 use Rattle.gate_log.specs.Staging.{behind_gate, StagesTo}
 use Rattle.gate_log.specs.Appending.{IsWithOrWithout, AppendsTo, IsAppended}
-use Rattle.gate_log.proofs.Spelling.{size, end_of-push}
+use Rattle.gate_log.proofs.Spelling.{end_of-push}
 use Rattle.gate_log.proofs.Crash.{torn_behind, written_behind, torn_gate, written_gate}
 use Rattle.gate_log.proofs.Walks.{first_more}
 use Rattle.gate_log.proofs.Openings.{settled_log}
@@ -80,21 +80,6 @@ module _ (log : LogState) (records : Bytes) (old : Disk) (clocked : IsClocked ol
     where
       there : mid.seen log.file ≡ written (end_of batches + 1) (behind_gate records) (old.seen log.file)
       there = holds ∙ ap (λ (k : ℕ). written k w (old.seen log.file)) (is ∙ ap (λ (e : ℕ). e + 1) settled.end) ∙ ap (λ (l : Bytes). written (end_of batches + 1) l (old.seen log.file)) w_is
-
-  -- where the batch is written
-  pub behind_inside : (batches : List Bytes) → IsSettled log batches old → IsSome log.head → log.end + 1 ≤ length (old.seen log.file)
-  behind_inside batches settled some =
-      let g = some_head log.head some in
-      let is_log = at_head log.head (λ generation. IsLog generation batches (old.seen log.file)) g.0 g.1 settled.head in
-      omega (arith, settled.end, size (old.seen log.file) g.0 batches is_log.gate is_log.rest is_log.spells)
-
-  -- where the gate is
-  pub gate_inside : (batches : List Bytes) (mid : Disk) → IsSettled log batches old → IsSome log.head → StagesTo log records old mid → log.end ≤ length (mid.seen log.file)
-  gate_inside batches mid settled some stages =
-      let g = some_head log.head some in
-      let stage = stages batches settled in
-      let there = at_head log.head (λ generation. (gate : ℕ) × Spells (mid.seen log.file) generation batches gate (behind_gate records ++ stage.tail)) g.0 g.1 stage.file in
-      omega (arith, settled.end, size (mid.seen log.file) g.0 batches there.0 (behind_gate records ++ stage.tail) there.1)
 
   -- the write of the gate
   pub opening : (mid new : Disk) → length records < 2 ^ 32 → AppendsTo log records old mid → StagesTo log records old mid → DoesSynced log.file (Torn log.end 1) mid new → AppendsTo log records old new

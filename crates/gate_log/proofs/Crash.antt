@@ -1,5 +1,5 @@
 -- What a crash leaves of a log in each of the two writes of an append.
-use Rattle.std.proofs.Common.{◌≡◌, inl, inr, ℕ, ◌+◌, ◌<◌, ◌^◌, List, [], ◌∷◌, ◌++◌, length, drop, get_or, sym, ◌∙◌, ap, subst, arith, append_assoc, take-append-drop}
+use Rattle.std.proofs.Common.{◌≡◌, inl, inr, ℕ, ◌+◌, ◌<◌, ◌^◌, List, [], ◌∷◌, ◌++◌, length, take, drop, get_or, sym, ◌∙◌, ap, subst, arith, append_assoc, take-append-drop}
 use Rattle.std.proofs.lemmas.Bool.{cases_eq}
 use Rattle.std.proofs.lemmas.List.{drop_more}
 use Rattle.vol_disk.specs.Steps.{written, Torn}
@@ -38,10 +38,14 @@ module _ (bytes : Bytes) (g : ℕ) (batches : List Bytes) (gate : ℕ) (rest : B
     lengths = s.lengths;
   }
 
-  -- the gate stands in each outcome of a write behind it
+  -- the gate stands where all is the same up to behind it
+  pub same_front : (c : Bytes) → take (end_of batches + 1) c ≡ take (end_of batches + 1) bytes → Spells c g batches gate (drop (end_of batches + 1) c)
+  same_front c same =
+      with_rest (drop (end_of batches + 1) c) c (sym (take-append-drop (end_of batches + 1) c) ∙ ap (λ (l : Bytes). l ++ drop (end_of batches + 1) c) (same ∙ gate_is bytes g batches gate rest s))
+
+  -- so it is in each outcome of a write behind it
   pub torn_behind : (n : ℕ) (c : Bytes) → Torn (end_of batches + 1) n bytes c → Spells c g batches gate (drop (end_of batches + 1) c)
-  torn_behind n c torn =
-      with_rest (drop (end_of batches + 1) c) c (sym (take-append-drop (end_of batches + 1) c) ∙ ap (λ (l : Bytes). l ++ drop (end_of batches + 1) c) (torn.before ∙ gate_is bytes g batches gate rest s))
+  torn_behind n c torn = same_front c torn.before
 
   pub written_behind : (w c : Bytes) → c ≡ written (end_of batches + 1) w bytes → Spells c g batches gate (w ++ drop (end_of batches + 1 + length w) bytes)
   written_behind w c is =

@@ -1,86 +1,102 @@
--- What a crash leaves of a file while way is made for a new log.
-use Rattle.std.proofs.Common.{◌≡◌, ◌≢◌, ◌⊎◌, inl, inr, ℕ, ◌<◌, ◌≤◌, [], ◌∷◌, ◌++◌, length, take, drop, get_or, sym, ◌∙◌, ap, subst, arith, append_assoc, length-append, length-take, length-drop, take-append-drop}
+-- What a crash leaves of a file while its log is shut, or way is made for a new one.
+use Rattle.std.proofs.Common.{◌≡◌, ◌≢◌, ◌⊎◌, inl, inr, ℕ, ◌+◌, ◌<◌, ◌≤◌, ◌^◌, [], ◌∷◌, ◌++◌, None, length, take, drop, get_or, sym, ◌∙◌, ap, subst, arith, append_assoc, length-take, take-append-drop}
+use Rattle.std.specs.Int.{w16, to_be_bytes}
 use Rattle.std.proofs.lemmas.Bool.{cases_eq}
-use Rattle.std.proofs.lemmas.List.{drop_more, take_at, drop_at, get_or-drop, get_or-take, take-take}
+use Rattle.std.proofs.lemmas.List.{drop_more, take_at, drop_at, drop-drop, get_or-drop, take-take}
 use Rattle.vol_disk.specs.Disk.{Disk, Files}
 use Rattle.vol_disk.specs.Images.{IsDurable, IsImage}
-use Rattle.vol_disk.specs.Steps.{written, Torn, CutTo}
+use Rattle.vol_disk.specs.Steps.{written, Torn}
 use Rattle.vol_disk.specs.Moments.{Elsewhere, Quiet}
 use Rattle.vol_disk.specs.Synced.{DoesSynced}
 use Rattle.vol_disk.proofs.Moments.{joined, widened, rests_on}
 use Rattle.js_base.specs.Bytes.{Bytes}
-use Rattle.gate_log.specs.Starting.{IsEmptied, Starts, IsShut}
-use Rattle.gate_log.proofs.Spelling.{spelled, head_is}
-use Rattle.gate_log.proofs.OneReading.{long_log}
+use Rattle.gate_log.specs.Head.{mark, version, head}
+use Rattle.gate_log.specs.LogFile.{IsLog, HasOpen}
+use Rattle.gate_log.specs.Starting.{IsClosed, IsEmptied, Starts}
+use Rattle.gate_log.proofs.Growing.{torn_long, written_long}
+use Rattle.gate_log.proofs.OneReading.{format_of}
 
 pub emptied_short : (old new : Bytes) → length new ≤ 21 → IsEmptied old new
 emptied_short old new short g batches open_ = inl short
 
-pub emptied_shut : (old new : Bytes) → 21 < length old → IsShut old new → IsEmptied old new
-emptied_shut old new long shut g batches open_ =
-    let log = long_log old g batches long open_ in
-    let first = shut.head ∙ head_is old log.0 batches log.1.gate log.1.rest log.1.spells in
-    inr (
-      log.0,
-      record {
-        gate = get_or new 20 0;
-        rest = drop 21 new;
-        spells = spelled new log.0 [] (get_or new 20 0) (drop 21 new) first log.1.spells.below tt (drop_more new 20 0 (omega (arith, shut.long)));
-        closed = shut.closed;
-      },
-    )
+-- with its first gate closed, a log file is shut
+pub emptied_closed : (old new : Bytes) → 21 < length old → IsClosed old new → IsEmptied old new
+emptied_closed old new long closed g batches open_ =
+    inr (record {
+      marked = sym (take-take 8 20 new (omega arith)) ∙ ap (λ (l : Bytes). take 8 l) closed.before ∙ take-take 8 20 old (omega arith) ∙ format_of old g batches long open_;
+      long = omega (arith, closed.as_long);
+      closed = closed.closed;
+    })
 
 -- a write of the first gate leaves the file as it was, or closed
-pub torn_gate : (old c : Bytes) → 21 < length old → get_or old 20 0 ≡ 1 → Torn 20 1 old c → (c ≡ old) ⊎ IsShut old c
+pub torn_gate : (old c : Bytes) → 21 < length old → get_or old 20 0 ≡ 1 → Torn 20 1 old c → (c ≡ old) ⊎ IsClosed old c
 torn_gate old c long was torn = elim (cases_eq (get_or c 20 0) 1) [
   | inl same ↦ inl (sym (take-append-drop 20 c) ∙ ap (λ (l : Bytes). l ++ drop 20 c) torn.before ∙ ap (λ (l : Bytes). take 20 old ++ l) (back same) ∙ take-append-drop 20 old)
-  | inr shut ↦ inr (record { head = torn.before; closed = shut; long = omega (arith, torn.no_shorter) })
+  | inr shut ↦ inr (record { before = torn.before; closed = shut; behind = torn.after; as_long = torn_long 20 1 old c (omega arith) torn })
 ]
   where
     back : get_or c 20 0 ≡ 1 → drop 20 c ≡ drop 20 old
     back same =
         drop_more c 20 0 (omega (arith, torn.no_shorter)) ∙ ap (λ (g : ℕ). g ∷ drop 21 c) (same ∙ sym was) ∙ ap (λ (l : Bytes). get_or old 20 0 ∷ l) torn.after ∙ sym (drop_more old 20 0 (omega arith))
 
-pub written_gate : (old new : Bytes) → 21 < length old → new ≡ written 20 (0 ∷ []) old → IsShut old new
+pub written_gate : (old new : Bytes) → 21 < length old → new ≡ written 20 (0 ∷ []) old → IsClosed old new
 written_gate old new long is =
     let size : length (take 20 old) ≡ 20 = omega (arith, length-take 20 old) in
     let whole : new ≡ take 20 old ++ 0 ∷ drop 21 old = is ∙ append_assoc (take 20 old) (0 ∷ []) (drop 21 old) in
+    let back : drop 20 new ≡ 0 ∷ drop 21 old = ap (λ (l : Bytes). drop 20 l) whole ∙ drop_at (take 20 old) (0 ∷ drop 21 old) 20 size in
     record {
-      head = ap (λ (l : Bytes). take 20 l) whole ∙ take_at (take 20 old) (0 ∷ drop 21 old) 20 size;
-      closed = λ one. absurd (omega (arith, one, gate whole size));
-      long = omega (arith, ap length whole, length-append (take 20 old) (0 ∷ drop 21 old), size, length-drop 21 old);
+      before = ap (λ (l : Bytes). take 20 l) whole ∙ take_at (take 20 old) (0 ∷ drop 21 old) 20 size;
+      closed = λ one. absurd (omega (arith, one, sym (get_or-drop 20 new 0 0) ∙ ap (λ (l : Bytes). get_or l 0 0) back));
+      behind = sym (drop-drop 1 20 new) ∙ ap (λ (l : Bytes). drop 1 l) back;
+      as_long = written_long 20 (0 ∷ []) old new (omega arith) is;
     }
-  where
-    gate : new ≡ take 20 old ++ 0 ∷ drop 21 old → length (take 20 old) ≡ 20 → get_or new 20 0 ≡ 0
-    gate whole size = sym (get_or-drop 20 new 0 0) ∙ ap (λ (l : Bytes). get_or l 0 0) (ap (λ (l : Bytes). drop 20 l) whole ∙ drop_at (take 20 old) (0 ∷ drop 21 old) 20 size)
 
 -- a gate that was closed before
-pub shut_already : (old new : Bytes) (gate : ℕ) → 21 < length old → drop 20 old ≡ gate ∷ drop 21 old → gate ≢ 1 → new ≡ old → IsShut old new
-shut_already old new gate long is shut same = record {
-  head = ap (λ (l : Bytes). take 20 l) same;
+pub closed_already : (old new : Bytes) (gate : ℕ) → drop 20 old ≡ gate ∷ drop 21 old → gate ≢ 1 → new ≡ old → IsClosed old new
+closed_already old new gate is shut same = record {
+  before = ap (λ (l : Bytes). take 20 l) same;
   closed = λ one. shut (sym (ap (λ (l : Bytes). get_or l 0 0) is) ∙ get_or-drop 20 old 0 0 ∙ ap (λ (l : Bytes). get_or l 20 0) (sym same) ∙ one);
-  long = omega (arith, ap length same);
+  behind = ap (λ (l : Bytes). drop 21 l) same;
+  as_long = ap length same;
 }
 
 pub gate_of : (old : Bytes) (gate : ℕ) → drop 20 old ≡ gate ∷ drop 21 old → gate ≡ 1 → get_or old 20 0 ≡ 1
 gate_of old gate is one = sym (get_or-drop 20 old 0 0) ∙ ap (λ (l : Bytes). get_or l 0 0) is ∙ one
 
--- behind a closed gate the file is cut
-pub cut_shut : (old mid c : Bytes) → 21 < length old → IsShut old mid → CutTo 21 mid c → IsEmptied old c
-cut_shut old mid c long shut cut = elim (short_or (length c)) [
-  | inl short ↦ emptied_short old c short
-  | inr more ↦ emptied_shut old c long (record { head = first; closed = λ one. shut.closed (sym (get_or-take 21 mid 20 0 (omega arith)) ∙ ap (λ (l : Bytes). get_or l 20 0) (sym cut.front) ∙ get_or-take 21 c 20 0 (omega arith) ∙ one); long = more })
-]
+-- an open gate is none of a file that holds nothing
+pub open_none : (old : Bytes) → 21 < length old → get_or old 20 0 ≡ 1 → HasOpen old None [] → ⊥
+open_none old long open_ (inl short) = absurd (omega arith)
+open_none old long open_ (inr shut) = shut.closed open_
+
+-- ---- a new head
+
+-- in front of a closed gate any generation and any checksum may stand
+pub torn_number : (old mid c : Bytes) → 21 < length old → IsClosed old mid → Torn 8 12 mid c → IsEmptied old c
+torn_number old mid c long closed torn g batches open_ =
+    inr (record {
+      marked = torn.before ∙ sym (take-take 8 20 mid (omega arith)) ∙ ap (λ (l : Bytes). take 8 l) closed.before ∙ take-take 8 20 old (omega arith) ∙ format_of old g batches long open_;
+      long = omega (arith, closed.as_long, torn.no_shorter);
+      closed = λ one. closed.closed (sym (get_or-drop 20 mid 0 0) ∙ ap (λ (l : Bytes). get_or l 0 0) (sym torn.after) ∙ get_or-drop 20 c 0 0 ∙ one);
+    })
+
+-- with its own they make a log without batches
+pub written_number : (g : ℕ) (old mid new w : Bytes) → g < 2 ^ 62 → 21 < length old → take 8 old ≡ mark ++ to_be_bytes w16 version → IsClosed old mid →
+    w ≡ take 12 (drop 8 (head g ++ 0 ∷ [])) → new ≡ written 8 w mid → IsLog g [] new
+written_number g old mid new w below long marked closed w_is is = record {
+  gate = get_or mid 20 0;
+  rest = drop 21 mid;
+  spells = record { bytes_are = whole; below = below; lengths = tt };
+  closed = closed.closed;
+}
   where
-    short_or : (n : ℕ) → (n ≤ 21) ⊎ (21 < n)
-    short_or n = grind arith
+    front : take 8 mid ≡ mark ++ to_be_bytes w16 version
+    front = sym (take-take 8 20 mid (omega arith)) ∙ ap (λ (l : Bytes). take 8 l) closed.before ∙ take-take 8 20 old (omega arith) ∙ marked
 
-    first : take 20 c ≡ take 20 old
-    first = sym (take-take 20 21 c (omega arith)) ∙ ap (λ (l : Bytes). take 20 l) cut.front ∙ take-take 20 21 mid (omega arith) ∙ shut.head
+    back : drop 20 mid ≡ get_or mid 20 0 ∷ drop 21 mid
+    back = drop_more mid 20 0 (omega (arith, closed.as_long))
 
--- a write over a short file
-pub torn_short : (old mid c : Bytes) → length mid ≤ 21 → Torn 0 21 mid c → IsEmptied old c
-torn_short old mid c short torn = emptied_short old c (omega (arith, torn.no_longer))
+    whole : new ≡ head g ++ (get_or mid 20 0 ∷ drop 21 mid)
+    whole = is ∙ ap (λ (l : Bytes). take 8 mid ++ l ++ drop (8 + length l) mid) w_is ∙ ap (λ (l : Bytes). l ++ take 12 (drop 8 (head g ++ 0 ∷ [])) ++ drop 20 mid) front ∙ ap (λ (l : Bytes). head g ++ l) back
 
 -- ---- disks
 
@@ -112,9 +128,6 @@ starts_after file old mid new durable still then_ =
     }
 
 -- a file as it was, or with its first gate closed
-pub shut_of : (a b : Bytes) → (b ≡ a) ⊎ IsShut a b → 21 < length a → (b ≡ a) ⊎ IsEmptied a b
-shut_of a b (inl same) long = inl same
-shut_of a b (inr shut) long = inr (emptied_shut a b long shut)
-
-pub cut_short : (old new : Bytes) → new ≡ take 21 old → length new ≤ 21
-cut_short old new is = omega (arith, ap length is, length-take 21 old)
+pub closed_of : (a b : Bytes) → (b ≡ a) ⊎ IsClosed a b → 21 < length a → (b ≡ a) ⊎ IsEmptied a b
+closed_of a b (inl same) long = inl same
+closed_of a b (inr closed) long = inr (emptied_closed a b long closed)

@@ -10,3 +10,4 @@ mod Appendings
 pub mod GateReads
 pub mod Heads
 pub mod Growing
+pub mod Rooms

@@ -1,7 +1,7 @@
 -- A log file is read in one way.
 use Rattle.std.proofs.Common.{◌≡◌, ◌≢◌, ◌⊎◌, inl, inr, ℕ, ◌<◌, ◌≤◌, ◌^◌, List, [], ◌∷◌, ◌++◌, Option, Some, None, length, take, drop, get_or, refl, sym, ◌∙◌, ap, arith, append_assoc, length-append}
 use Rattle.std.specs.Int.{w16, w32, w64, to_be_bytes, from_be_bytes}
-use Rattle.std.proofs.lemmas.List.{take_at, drop_at, drop-drop}
+use Rattle.std.proofs.lemmas.List.{take_at, drop_at, drop-drop, drop-take, get_or-drop, take-take}
 use Rattle.std.proofs.lemmas.Nat.{from_be_bytes-to_be_bytes_4, from_be_bytes-to_be_bytes_8}
 use Rattle.js_base.specs.Bytes.{Bytes}
 use Rattle.js_base.specs.Numbers.{number_at}
@@ -10,7 +10,7 @@ use Rattle.checksum.proofs.Registers.{crc32c_lt}
 use Rattle.checksum.proofs.Checking.{checked-append}
 use Rattle.gate_log.specs.Head.{mark, version, title, head}
 use Rattle.gate_log.specs.Batches.{open_batch, open_batches, end_of, HaveLengths}
-use Rattle.gate_log.specs.LogFile.{Spells, IsLog, HasOpen}
+use Rattle.gate_log.specs.LogFile.{Spells, IsLog, IsShut, HasOpen}
 use Rattle.gate_log.specs.Faults.{HasNoMark, HasUnknownVersion, HasBadGeneration, HasBadChecksum, IsHeadDamagedAt, told_length, IsDamagedBatch, HasDamagedBatch, IsDamagedAt, IsOfUnknownVersion}
 use Rattle.gate_log.specs.Laws.{LawReading}
 use Rattle.gate_log.proofs.Spelling as spelling
@@ -137,6 +137,13 @@ module _ (bytes : Bytes) (generation : ℕ) (batches : List Bytes) (gate : ℕ) 
   has_generation =
       number_here w64 bytes 8 (omega (arith, long_head)) ∙ ap (λ (l : Bytes). Some (from_be_bytes w64 (take 8 (drop 8 l)))) s.bytes_are ∙ ap (λ (n : ℕ). Some n) (from_be_bytes-to_be_bytes_8 generation (omega (arith, s.below)))
 
+  pub has_format : take 8 bytes ≡ mark ++ to_be_bytes w16 version
+  has_format = ap (λ (l : Bytes). take 8 l) s.bytes_are
+
+  -- what stands at its first gate
+  pub first_gate : get_or bytes 20 0 ≡ get_or (open_batches batches ++ gate ∷ rest) 0 0
+  first_gate = sym (get_or-drop 20 bytes 0 0) ∙ ap (λ (l : Bytes). get_or l 0 0) (spelling.behind_head bytes generation batches gate rest s)
+
   no_bad_mark : HasNoMark bytes → ⊥
   no_bad_mark bad = bad has_mark
 
@@ -180,16 +187,13 @@ logs_list bytes g h bs cs one other =
     same_closed bs cs one.gate other.gate one.rest other.rest one.spells.lengths other.spells.lengths (one_tail bytes g h bs cs one.gate other.gate one.rest other.rest one.spells other.spells) one.closed other.closed
 
 -- a file of 21 bytes or fewer has no open batch
-short_none : (bytes : Bytes) (g : ℕ) (b : Bytes) (bs : List Bytes) → length bytes ≤ 21 → IsLog g (b ∷ bs) bytes → ⊥
+pub short_none : (bytes : Bytes) (g : ℕ) (b : Bytes) (bs : List Bytes) → length bytes ≤ 21 → IsLog g (b ∷ bs) bytes → ⊥
 short_none bytes g b bs short log = absurd (omega (arith, short, spelling.size bytes g (b ∷ bs) log.gate log.rest log.spells, spelling.end_of-some b bs))
 
 -- none and some
 none_some : (bytes : Bytes) (g : ℕ) (b : Bytes) (bs : List Bytes) → HasOpen bytes None [] → IsLog g (b ∷ bs) bytes → ⊥
 none_some bytes g b bs (inl short) log = short_none bytes g b bs short log
-none_some bytes g b bs (inr none) log = differ (logs_list bytes none.0 g [] (b ∷ bs) none.1 log)
-  where
-    differ : {x : Bytes} {xs : List Bytes} → [] ≡ x ∷ xs → ⊥
-    differ e = cc
+none_some bytes g b bs (inr shut) log = shut.closed (first_gate bytes g (b ∷ bs) log.gate log.rest log.spells)
 
 pub one_generation : (bytes : Bytes) (g h : Option ℕ) (bs cs : List Bytes) → HasOpen bytes g bs → HasOpen bytes h cs → g ≡ h
 one_generation bytes None None bs cs one other = refl
@@ -217,28 +221,59 @@ one_list bytes (Some g) (Some h) [] cs one other = absurd one
 one_list bytes (Some g) (Some h) (b ∷ bs) [] one other = absurd other
 one_list bytes (Some g) (Some h) (b ∷ bs) (c ∷ cs) one other = logs_list bytes g h (b ∷ bs) (c ∷ cs) one other
 
--- a long file that is read is a log
-pub long_log : (bytes : Bytes) (g : Option ℕ) (bs : List Bytes) → 21 < length bytes → HasOpen bytes g bs → (generation : ℕ) × IsLog generation bs bytes
-long_log bytes None [] long (inl short) = absurd (omega arith)
-long_log bytes None [] long (inr log) = log
-long_log bytes None (b ∷ bs) long open_ = absurd open_
-long_log bytes (Some g) [] long open_ = absurd open_
-long_log bytes (Some g) (b ∷ bs) long open_ = (g, open_)
+-- a log without batches is shut
+pub none_shut : (bytes : Bytes) (g : ℕ) → IsLog g [] bytes → IsShut bytes
+none_shut bytes g log = record {
+  marked = has_format bytes g [] log.gate log.rest log.spells;
+  long = long_head bytes g [] log.gate log.rest log.spells;
+  closed = λ one. log.closed (sym (first_gate bytes g [] log.gate log.rest log.spells) ∙ one);
+}
+
+-- a long file that is read has the format
+pub format_of : (bytes : Bytes) (g : Option ℕ) (bs : List Bytes) → 21 < length bytes → HasOpen bytes g bs → take 8 bytes ≡ mark ++ to_be_bytes w16 version
+format_of bytes None [] long (inl short) = absurd (omega arith)
+format_of bytes None [] long (inr shut) = shut.marked
+format_of bytes None (b ∷ bs) long open_ = absurd open_
+format_of bytes (Some g) [] long open_ = absurd open_
+format_of bytes (Some g) (b ∷ bs) long log = has_format bytes g (b ∷ bs) log.gate log.rest log.spells
 
 log_whole : (bytes : Bytes) (g : ℕ) (bs : List Bytes) (at : ℕ) → IsLog g bs bytes → IsHeadDamagedAt bytes at ⊎ HasDamagedBatch bytes at → ⊥
 log_whole bytes g bs at log (inl bad) = no_bad_head bytes g bs log.gate log.rest log.spells at bad
 log_whole bytes g bs at log (inr cut) =
     no_damage_after bs cut.batches log.gate log.rest cut.rest log.spells.lengths cut.spells.lengths (one_tail bytes g cut.generation bs cut.batches log.gate 1 log.rest cut.rest log.spells cut.spells) log.closed cut.damaged
 
+-- a batch that is damaged stands behind open gates
+open_first : (bs : List Bytes) (r : Bytes) → get_or (open_batches bs ++ 1 ∷ r) 0 0 ≡ 1
+open_first [] r = refl
+open_first (b ∷ bs) r = refl
+
+shut_whole : (bytes : Bytes) (at : ℕ) → IsShut bytes → IsHeadDamagedAt bytes at ⊎ HasDamagedBatch bytes at → ⊥
+shut_whole bytes at shut (inl (inl bad)) = bad.1 (sym (take-take 6 8 bytes (omega arith)) ∙ ap (λ (l : Bytes). take 6 l) shut.marked)
+shut_whole bytes at shut (inl (inr (inl bad))) = shut.closed bad.1.first_open
+shut_whole bytes at shut (inl (inr (inr bad))) = shut.closed bad.1.first_open
+shut_whole bytes at shut (inr cut) = shut.closed (first_gate bytes cut.generation cut.batches 1 cut.rest cut.spells ∙ open_first cut.batches cut.rest)
+
 pub whole : (bytes : Bytes) (g : Option ℕ) (bs : List Bytes) (at : ℕ) → HasOpen bytes g bs → ¬ IsDamagedAt bytes at
-whole bytes g bs at open_ damaged =
-    let log = long_log bytes g bs damaged.long open_ in
-    log_whole bytes log.0 bs at log.1 damaged.damage
+whole bytes None [] at (inl short) damaged = absurd (omega (arith, short, damaged.long))
+whole bytes None [] at (inr shut) damaged = shut_whole bytes at shut damaged.damage
+whole bytes None (b ∷ bs) at open_ damaged = absurd open_
+whole bytes (Some g) [] at open_ damaged = absurd open_
+whole bytes (Some g) (b ∷ bs) at log damaged = log_whole bytes g (b ∷ bs) at log damaged.damage
+
+-- another version
+other_version : (bytes : Bytes) (n : ℕ) → number_at w16 bytes 6 ≡ Some version → HasUnknownVersion bytes n → ⊥
+other_version bytes n known bad = bad.unknown (some_same (sym bad.is ∙ known))
+  where
+    some_same : {m k : ℕ} → Some m ≡ Some k → m ≡ k
+    some_same e = cc
+
+-- the version behind a mark
+version_there : (bytes : Bytes) → 20 < length bytes → take 8 bytes ≡ mark ++ to_be_bytes w16 version → number_at w16 bytes 6 ≡ Some version
+version_there bytes long marked =
+    number_here w16 bytes 6 (omega (arith, long)) ∙ ap (λ (l : Bytes). Some (from_be_bytes w16 l)) (sym (drop-take 6 2 bytes)) ∙ ap (λ (l : Bytes). Some (from_be_bytes w16 (drop 6 l))) marked
 
 pub known : (bytes : Bytes) (g : Option ℕ) (bs : List Bytes) (n : ℕ) → HasOpen bytes g bs → ¬ IsOfUnknownVersion bytes n
-known bytes g bs n open_ bad =
-    let log = long_log bytes g bs bad.long open_ in
-    no_bad_version bytes log.0 bs log.1.gate log.1.rest log.1.spells n bad.version
+known bytes g bs n open_ bad = other_version bytes n (version_there bytes (omega (arith, bad.long)) (format_of bytes g bs bad.long open_)) bad.version
 
 -- a head that has two faults would have a generation that is too great and small enough
 small_and_great : (bytes : Bytes) → HasBadGeneration bytes → HasBadChecksum bytes → ⊥
@@ -268,12 +303,6 @@ damage_at bytes at other (inr one) (inr two) =
 
 pub one_offset : (bytes : Bytes) (at other : ℕ) → IsDamagedAt bytes at → IsDamagedAt bytes other → at ≡ other
 one_offset bytes at other one two = damage_at bytes at other one.damage two.damage
-
-other_version : (bytes : Bytes) (n : ℕ) → number_at w16 bytes 6 ≡ Some version → HasUnknownVersion bytes n → ⊥
-other_version bytes n known bad = bad.unknown (some_same (sym bad.is ∙ known))
-  where
-    some_same : {m k : ℕ} → Some m ≡ Some k → m ≡ k
-    some_same e = cc
 
 damage_known : (bytes : Bytes) (at n : ℕ) → IsHeadDamagedAt bytes at ⊎ HasDamagedBatch bytes at → HasUnknownVersion bytes n → ⊥
 damage_known bytes at n (inl (inl one)) bad = one.1 bad.marked

@@ -14,7 +14,7 @@ use Rattle.gate_log.specs.Batches.{open_batches, end_of}
 use Rattle.gate_log.specs.Faults.{told_length}
 use Rattle.gate_log.specs.Walking.{IsNextGate, IsDamagedGate, IsWalked, IsGateFault, IsWalkFault}
 use Rattle.gate_log.specs.declared.fault.LogFault.{LogFault}
-use Rattle.gate_log.specs.declared.fault.LogFault.TheVariants.{Fault, Full, NoMemory, Damaged, UnknownVersion}
+use Rattle.gate_log.specs.declared.fault.LogFault.TheVariants.{Fault, NoMemory, Damaged, UnknownVersion}
 use Rattle.gate_log.proofs.OneReading.{same_number}
 use Rattle.gate_log.proofs.Spelling.{length-be4, open_batches-push, lengths-push, end_of-push, first-push}
 
@@ -129,7 +129,6 @@ walks_on bytes mid first last next f l found same is walked gate at which =
 -- the fault at the gate is that of the walk
 pub walk_fault : (bytes mid : Bytes) (fault : LogFault) (first last : ℕ) → mid ≡ bytes → WalkedTo bytes first last → IsGateFault mid last fault → IsWalkFault bytes fault
 walk_fault bytes mid Fault first last same walked h = tt
-walk_fault bytes mid Full first last same walked h = h
 walk_fault bytes mid NoMemory first last same walked h = h
 walk_fault bytes mid (Damaged place) first last same walked h = (
   walked.0,

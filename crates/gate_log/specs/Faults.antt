@@ -1,5 +1,5 @@
 -- The first fault of a log file of more than 21 bytes, in the order of the offsets. Own.
-use Rattle.std.specs.Prelude.{◌≡◌, ◌≢◌, ◌⊎◌, ℕ, ◌+◌, ◌<◌, ◌≤◌, ◌^◌, List, length, take, drop, Some}
+use Rattle.std.specs.Prelude.{◌≡◌, ◌≢◌, ◌⊎◌, ℕ, ◌+◌, ◌<◌, ◌≤◌, ◌^◌, List, length, take, drop, slice_index, Some}
 use Rattle.std.specs.Int.{w16, w32, w64, to_be_bytes, from_be_bytes}
 use Rattle.js_base.specs.Bytes.{Bytes}
 use Rattle.js_base.specs.Numbers.{number_at}
@@ -18,8 +18,13 @@ pub record HasUnknownVersion (bytes : Bytes) (n : ℕ) : Type 0 where
   pub is : number_at w16 bytes 6 ≡ Some n
   pub unknown : n ≢ version
 
+-- The first gate is open. In front of a closed one neither the generation counts nor its checksum.
+abbrev pub IsFirstOpen : Bytes → Type 0
+IsFirstOpen bytes = slice_index bytes 20 ≡ 1
+
 -- at offset 8: its generation is too great
 pub record HasBadGeneration (bytes : Bytes) : Type 0 where
+  pub first_open : IsFirstOpen bytes
   pub marked : take 6 bytes ≡ mark
   pub known : number_at w16 bytes 6 ≡ Some version
   pub generation : ℕ
@@ -28,6 +33,7 @@ pub record HasBadGeneration (bytes : Bytes) : Type 0 where
 
 -- at offset 16: its checksum is not that of the bytes before
 pub record HasBadChecksum (bytes : Bytes) : Type 0 where
+  pub first_open : IsFirstOpen bytes
   pub marked : take 6 bytes ≡ mark
   pub known : number_at w16 bytes 6 ≡ Some version
   pub generation : ℕ

@@ -10,7 +10,7 @@ mark = 74 ∷ 83 ∷ 76 ∷ 79 ∷ 71 ∷ 0 ∷ []
 
 -- the version of the format that is written, and the only one that is read
 abbrev pub version : ℕ
-version = 2
+version = 3
 
 -- the mark, the version and the generation
 abbrev pub title : ℕ → Bytes

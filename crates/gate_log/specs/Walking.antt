@@ -4,7 +4,7 @@ use Rattle.js_base.specs.Bytes.{Bytes}
 use Rattle.gate_log.specs.Batches.{open_batch, open_batches, end_of, HaveLengths}
 use Rattle.gate_log.specs.Faults.{IsDamagedBatch}
 use Rattle.gate_log.specs.declared.fault.LogFault.{LogFault}
-use Rattle.gate_log.specs.declared.fault.LogFault.TheVariants.{Fault, Full, NoMemory, Damaged, UnknownVersion}
+use Rattle.gate_log.specs.declared.fault.LogFault.TheVariants.{Fault, NoMemory, Damaged, UnknownVersion}
 
 -- what stands at a gate: it is closed, or opens a batch with another gate after it
 abbrev pub IsNextGate : Bytes → ℕ → Option ℕ → Type 0
@@ -32,7 +32,6 @@ pub record AreEnds (bytes : Bytes) (first_end end : ℕ) : Type 0 where
 -- at the gate to which open batches lead
 abbrev pub IsGateFault : Bytes → ℕ → LogFault → Type 0
 IsGateFault bytes at Fault = Unit {0}
-IsGateFault bytes at Full = ⊥
 IsGateFault bytes at NoMemory = ⊥
 IsGateFault bytes at (Damaged place) = (place ≡ at) × IsDamagedGate bytes at
 IsGateFault bytes at (UnknownVersion n) = ⊥
@@ -40,7 +39,6 @@ IsGateFault bytes at (UnknownVersion n) = ⊥
 -- at the first gate to which open batches lead and that opens none
 abbrev pub IsWalkFault : Bytes → LogFault → Type 0
 IsWalkFault bytes Fault = Unit {0}
-IsWalkFault bytes Full = ⊥
 IsWalkFault bytes NoMemory = ⊥
 IsWalkFault bytes (Damaged at) = (batches : List Bytes) × IsWalked bytes batches at × IsDamagedGate bytes at
 IsWalkFault bytes (UnknownVersion n) = ⊥

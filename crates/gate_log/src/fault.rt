@@ -6,22 +6,19 @@ use js_base::NoMemory;
 use thiserror::Error;
 use vol_disk::Failed;
 
-/// Why a log was not opened or started, or a batch not read or appended. Offsets are those in the file.
+/// Why a log was not opened, or a batch not read. Offsets are those in the file.
 #[derive(Clone, Copy, Debug, PartialEq, Eq, Error)]
 pub enum LogFault {
     /// The volume failed, and its count of faults rose.
     #[error("the volume failed")]
     Fault,
-    /// With the batch the log would be longer than 2^31 bytes.
-    #[error("log full")]
-    Full,
     #[error("out of memory")]
     NoMemory,
-    /// The file does not begin as a log does, at 0; its generation is 2^62 or more, at 8; the checksum of its head is not that of the bytes
-    /// before, at 16; or the batch of an open gate passes the file's end, or its checksum is not that of its records, at that gate.
+    /// The file does not begin as a log does, at 0; its first gate is open and its generation 2^62 or more, at 8, or the checksum of its head
+    /// not that of the bytes before, at 16; or the batch of an open gate passes the file's end, or its checksum is not that of its records, at that gate.
     #[error("damaged at {0}")]
     Damaged(u64),
-    /// The format has another version than 2.
+    /// The format has another version than 3.
     #[error("unknown version {0}")]
     UnknownVersion(u16),
 }

@@ -24,6 +24,7 @@ pub fn read<V: Vol>(vol: &mut V, file: u32, at: u64, into: &mut [u8]) -> Result<
     ensures value { V.told → OnOk result (into.new ≡ take (length into.old) (drop at ((V.disk vol.old).seen file))) }
     ensures quiet { V.told → Quiet (V.disk vol.old) (V.disk vol.new) }
     ensures cause { HasCause (V.faults vol.old) (V.faults vol.new) (IsErr result) }
+    ensures refusals { V.refusals vol.old ≤ V.refusals vol.new }
     ensures later { (V.disk vol.old).moment ≤ (V.disk vol.new).moment }
 {
     vol.read_at(file, at, into)
@@ -35,6 +36,7 @@ pub fn byte_at<V: Vol>(vol: &mut V, file: u32, at: u64) -> Result<u8, Failed>
     ensures value { V.told → IfOk result (λ byte. drop at ((V.disk vol.old).seen file) ≡ byte ∷ drop (at + 1) ((V.disk vol.old).seen file)) }
     ensures quiet { V.told → Quiet (V.disk vol.old) (V.disk vol.new) }
     ensures cause { HasCause (V.faults vol.old) (V.faults vol.new) (IsErr result) }
+    ensures refusals { V.refusals vol.old ≤ V.refusals vol.new }
     ensures later { (V.disk vol.old).moment ≤ (V.disk vol.new).moment }
 {
     let mut byte = [0];
@@ -55,6 +57,7 @@ pub fn number_at<V: Vol>(vol: &mut V, file: u32, at: u64) -> Result<u32, Failed>
     ensures value { V.told → IfOk result (λ n. drop at ((V.disk vol.old).seen file) ≡ to_be_bytes w32 n ++ drop (at + 4) ((V.disk vol.old).seen file)) }
     ensures quiet { V.told → Quiet (V.disk vol.old) (V.disk vol.new) }
     ensures cause { HasCause (V.faults vol.old) (V.faults vol.new) (IsErr result) }
+    ensures refusals { V.refusals vol.old ≤ V.refusals vol.new }
     ensures later { (V.disk vol.old).moment ≤ (V.disk vol.new).moment }
 {
     let mut bytes = [0; 4];
@@ -68,6 +71,7 @@ pub fn synced_len<V: Vol>(vol: &mut V, file: u32) -> Result<u64, Failed>
     ensures durable { V.told → OnOk result (IsDurable (V.disk vol.new) file) }
     ensures quiet { V.told → Quiet (V.disk vol.old) (V.disk vol.new) }
     ensures cause { HasCause (V.faults vol.old) (V.faults vol.new) (IsErr result) }
+    ensures refusals { V.refusals vol.old ≤ V.refusals vol.new }
     ensures later { (V.disk vol.old).moment ≤ (V.disk vol.new).moment }
 {
     vol.sync(file)?;
@@ -83,6 +87,7 @@ fn next_gate<V: Vol>(vol: &mut V, file: u32, len: u64, at: u64) -> Result<Option
     ensures fault { V.told → IfErr result (IsGateFault ((V.disk vol.old).seen file) at) }
     ensures quiet { V.told → Quiet (V.disk vol.old) (V.disk vol.new) }
     ensures cause { HasCause (V.faults vol.old) (V.faults vol.new) (IsErrOf result LogFault.Fault) }
+    ensures refusals { V.refusals vol.old ≤ V.refusals vol.new }
     ensures later { (V.disk vol.old).moment ≤ (V.disk vol.new).moment }
 {
     if byte_at(vol, file, at)? != OPEN {
@@ -110,6 +115,7 @@ pub fn walk<V: Vol>(vol: &mut V, file: u32, len: u64) -> Result<Ends, LogFault>
     ensures fault { V.told → IfErr result (IsWalkFault ((V.disk vol.old).seen file)) }
     ensures quiet { V.told → Quiet (V.disk vol.old) (V.disk vol.new) }
     ensures cause { HasCause (V.faults vol.old) (V.faults vol.new) (IsErrOf result LogFault.Fault) }
+    ensures refusals { V.refusals vol.old ≤ V.refusals vol.new }
     ensures later { (V.disk vol.old).moment ≤ (V.disk vol.new).moment }
 {
     let mut ends = Ends::none();

@@ -1,24 +1,24 @@
 //! The head of a log file.
 
-ghost use Rattle.std.specs.Prelude.{◌≡◌, ◌<◌, ◌^◌, ◌++◌, ◌∷◌, [], length, IfOk, IfErr};
+ghost use Rattle.std.specs.Prelude.{◌≡◌, ◌++◌, ◌∷◌, [], IfOk, IfErr};
 ghost use Rattle.gate_log.specs.Head.{head};
-ghost use Rattle.gate_log.specs.Opening.{IsHeadFault};
+ghost use Rattle.gate_log.specs.Opening.{IsHeadRead, IsHeadFault};
 
 use crate::fault::LogFault;
+use crate::gates::OPEN;
 use checksum::crc32c;
-use js_base::{NoMemory, get_u16, get_u32, get_u64, put_bytes, put_u16, put_u32, put_u64};
-use std::alloc::Global;
+use js_base::{get_u16, get_u32, get_u64};
 
 const MARK: &[u8; 6] = b"JSLOG\0";
 
-const VERSION: u16 = 2;
+const VERSION: u16 = 3;
 
 /// Where in a head its checksum begins, which is that of the bytes before.
 const CHECKSUM_AT: usize = 16;
 
-/// The generation of a log by its head, or the first fault of the head.
-pub fn read_head(bytes: &[u8; 20]) -> Result<u64, LogFault>
-    ensures ok { IfOk result (λ generation. (bytes.now ≡ head generation) × (generation < 2 ^ 62)) }
+/// The generation of a log by its head and its first gate, or `None` if the gate is closed; or the first fault of the head.
+pub fn read_head(bytes: &[u8; 21]) -> Result<Option<u64>, LogFault>
+    ensures ok { IfOk result (IsHeadRead bytes.now) }
     ensures err { IfErr result (IsHeadFault bytes.now) }
 {
     if !bytes.starts_with(MARK) {
@@ -28,6 +28,10 @@ pub fn read_head(bytes: &[u8; 20]) -> Result<u64, LogFault>
     if version != VERSION {
         return Err(LogFault::UnknownVersion(version));
     }
+    let gate = bytes[20];
+    if gate != OPEN {
+        return Ok(None);
+    }
     let generation = get_u64(bytes, 8).unwrap_or(0);
     if generation >= 1 << 62 {
         return Err(LogFault::Damaged(8));
@@ -36,19 +40,18 @@ pub fn read_head(bytes: &[u8; 20]) -> Result<u64, LogFault>
     if sum != crc32c(&bytes[..CHECKSUM_AT]) {
         return Err(LogFault::Damaged(16));
     }
-    Ok(generation)
+    Ok(Some(generation))
 }
 
 /// The bytes of a log without batches: its head and a closed gate.
-pub fn empty_log(alloc: Global, generation: u64) -> Result<Vec<u8>, NoMemory>
-    ensures bytes { IfOk result (λ bytes. bytes.items ≡ head generation ++ 0 ∷ []) }
+pub fn empty_log(generation: u64) -> [u8; 21]
+    ensures bytes { result ≡ head generation ++ 0 ∷ [] }
 {
-    let mut bytes = Vec::new(alloc);
-    put_bytes(&mut bytes, MARK)?;
-    put_u16(&mut bytes, VERSION)?;
-    put_u64(&mut bytes, generation)?;
-    let sum = crc32c(bytes.as_slice());
-    put_u32(&mut bytes, sum)?;
-    put_bytes(&mut bytes, &[0])?;
-    Ok(bytes)
+    let mut bytes = [0; 21];
+    bytes[..6].copy_from_slice(MARK);
+    bytes[6..8].copy_from_slice(&VERSION.to_be_bytes());
+    bytes[8..CHECKSUM_AT].copy_from_slice(&generation.to_be_bytes());
+    let sum = crc32c(&bytes[..CHECKSUM_AT]);
+    bytes[CHECKSUM_AT..20].copy_from_slice(&sum.to_be_bytes());
+    bytes
 }

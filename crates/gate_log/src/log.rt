@@ -1,34 +1,30 @@
 //! Logs of batches.
 
-ghost use Rattle.std.specs.Prelude.{◌≡◌, ◌↔◌, ◌+◌, ◌<◌, ◌≤◌, ◌^◌, ◌++◌, ◌∷◌, [], List, None, Some, OnOk, OnErr, IfOk, IfErr, IsErrOf, IsNone, IsSome, IsTrue, length, max, take, drop};
-ghost use Rattle.vol_disk.specs.Images.{IsDurable};
+ghost use Rattle.std.specs.Prelude.{◌≡◌, ◌↔◌, ◌+◌, ◌<◌, ◌≤◌, ◌^◌, List, OnOk, OnErr, IfOk, IfErr, IsErr, IsErrOf, IsNone, IsSome, length, take, drop};
 ghost use Rattle.vol_disk.specs.Moments.{Quiet};
 ghost use Rattle.js_base.specs.Bytes.{Bytes};
 ghost use Rattle.js_base.specs.Causes.{HasCause};
-ghost use Rattle.gate_log.specs.Head.{head};
 ghost use Rattle.gate_log.specs.LogState.{generation_of, new_log, with_batch};
 ghost use Rattle.gate_log.specs.Settled.{IsSettled};
 ghost use Rattle.gate_log.specs.Opening.{IsOpenFault, IsHeadRead, IsHeadFaultOf, IsOutside};
 ghost use Rattle.gate_log.specs.Reading.{IsSomeGate, IsReadAt};
-ghost use Rattle.gate_log.specs.Growing.{GrowsTo};
-ghost use Rattle.gate_log.specs.Starting.{Starts};
+ghost use Rattle.gate_log.specs.Growing.{StaysAsLong};
 ghost use Rattle.gate_log.specs.Staging.{StagesTo};
-ghost use Rattle.gate_log.specs.Appending.{AppendsTo, IsAppended, IsAppendFault, IsBatchFault, IsVolumeFault};
+ghost use Rattle.gate_log.specs.Appending.{AppendsTo, IsAppended};
 
 use crate::ends::{Ends, FIRST_GATE};
 use crate::fault::LogFault;
 use crate::gates::{OPEN, number_at, read, synced_len, walk};
-use crate::head::{empty_log, read_head};
-use crate::staging::{Batch, fits};
-use crate::starting::clear_log;
-use js_base::{Blob, NoMemory};
+use crate::head::read_head;
+use crate::staging::Batch;
+use js_base::Blob;
 use std::alloc::Global;
 use std::marker::Model;
-use vol_disk::{Vol, write_synced};
+use vol_disk::{Failed, Vol, write_synced};
 
 /// A log in a file of a volume: open batches of records, one after the other. Each that was appended is there in whatever a crash leaves.
 ///
-/// It keeps where its batches end and reads them from the volume, which is handed to each call. After a `Fault` nothing is known of the file
+/// It keeps where its batches end and reads them from the volume, which is handed to each call. Once the volume failed nothing is known of the file
 /// but what a crash may leave of it: open the log again.
 #[derive(Drop, Debug)]
 pub struct GateLog {
@@ -46,16 +42,17 @@ impl Model for GateLog {
     ghost view = { λ s. record { file = s.file; head = s.head; first_end = s.ends.first; end = s.ends.last } };
 }
 
-/// The generation of a log file that is longer than its head.
-fn head_of<V: Vol>(vol: &mut V, file: u32) -> Result<u64, LogFault>
+/// The generation of a log file that is longer than its head, or `None` if its first gate is closed.
+fn head_of<V: Vol>(vol: &mut V, file: u32) -> Result<Option<u64>, LogFault>
     requires long { V.told → 21 < length ((V.disk vol.old).seen file) }
     ensures ok { V.told → IfOk result (IsHeadRead ((V.disk vol.old).seen file)) }
     ensures err { V.told → IfErr result (IsHeadFaultOf ((V.disk vol.old).seen file)) }
     ensures quiet { V.told → Quiet (V.disk vol.old) (V.disk vol.new) }
     ensures cause { HasCause (V.faults vol.old) (V.faults vol.new) (IsErrOf result LogFault.Fault) }
+    ensures refusals { V.refusals vol.old ≤ V.refusals vol.new }
     ensures later { (V.disk vol.old).moment ≤ (V.disk vol.new).moment }
 {
-    let mut bytes = [0; 20];
+    let mut bytes = [0; 21];
     read(vol, file, 0, &mut bytes)?;
     read_head(&bytes)
 }
@@ -73,6 +70,7 @@ fn bytes_at<V: Vol>(
     ensures quiet { V.told → Quiet (V.disk vol.old) (V.disk vol.new) }
     ensures only { IfErr result IsOutside }
     ensures cause { HasCause (V.faults vol.old) (V.faults vol.new) (IsErrOf result LogFault.Fault) }
+    ensures refusals { V.refusals vol.old ≤ V.refusals vol.new }
     ensures later { (V.disk vol.old).moment ≤ (V.disk vol.new).moment }
 {
     let mut bytes = Vec::new(alloc);
@@ -85,7 +83,7 @@ fn bytes_at<V: Vol>(
 
 impl GateLog {
     /// Reads where the batches of a log file end. The file is synced before, and nothing is written. It reads the batches in small pieces to
-    /// compare their checksums, takes no memory, and never answers `Full` or `NoMemory`.
+    /// compare their checksums, takes no memory, and never answers `NoMemory`.
     pub fn open<V: Vol>(vol: &mut V, file: u32) -> Result<GateLog, LogFault>
         ensures file { IfOk result (λ log. log.file ≡ file) }
         // What is found is what the file holds, and a crash leaves just that.
@@ -95,13 +93,16 @@ impl GateLog {
         ensures fault { V.told → IfErr result (IsOpenFault ((V.disk vol.old).seen file)) }
         ensures quiet { V.told → Quiet (V.disk vol.old) (V.disk vol.new) }
         ensures cause { HasCause (V.faults vol.old) (V.faults vol.new) (IsErrOf result LogFault.Fault) }
+        ensures refusals { V.refusals vol.old ≤ V.refusals vol.new }
         ensures later { (V.disk vol.old).moment ≤ (V.disk vol.new).moment }
     {
         let len = synced_len(vol, file)?;
         if len <= FIRST_GATE + 1 {
             return Ok(GateLog::without_batches(file, None));
         }
-        let generation = head_of(vol, file)?;
+        let Some(generation) = head_of(vol, file)? else {
+            return Ok(GateLog::without_batches(file, None));
+        };
         let ends = walk(vol, file, len)?;
         let head = if ends.last == FIRST_GATE {
             None
@@ -112,7 +113,7 @@ impl GateLog {
     }
 
     /// A log without batches.
-    fn without_batches(file: u32, head: Option<u64>) -> GateLog
+    pub(crate) fn without_batches(file: u32, head: Option<u64>) -> GateLog
         ensures value { result ≡ new_log file head }
     {
         GateLog {
@@ -120,32 +121,6 @@ impl GateLog {
             head,
             ends: Ends::none(),
         }
-    }
-
-    /// Starts a log without batches in the file, to which batches may be appended. What the file held is gone, and a crash leaves it or nothing. It
-    /// answers `Fault` or `NoMemory` alone, and changes nothing at `NoMemory`.
-    pub fn start<V: Vol>(
-        alloc: Global,
-        vol: &mut V,
-        file: u32,
-        generation: u64,
-    ) -> Result<GateLog, LogFault>
-        requires durable { V.told → IsDurable (V.disk vol.old) file }
-        requires below { generation < 2 ^ 62 }
-        ensures log { IfOk result (λ log. log ≡ new_log file (Some generation)) }
-        ensures settled { V.told → IfOk result (λ log. IsSettled log [] (V.disk vol.new)) }
-        ensures any_moment { V.told → Starts file (V.disk vol.old) (V.disk vol.new) }
-        ensures grows { V.told → GrowsTo file 21 (V.disk vol.old) (V.disk vol.new) }
-        ensures size { V.told → OnOk result (length ((V.disk vol.new).seen file) ≤ 21) }
-        ensures only { IfErr result IsOutside }
-        ensures no_memory { IsErrOf result LogFault.NoMemory → vol.new ≡ vol.old }
-        ensures cause { HasCause (V.faults vol.old) (V.faults vol.new) (IsErrOf result LogFault.Fault) }
-        ensures later { (V.disk vol.old).moment ≤ (V.disk vol.new).moment }
-    {
-        let bytes = empty_log(alloc, generation)?;
-        clear_log(vol, file)?;
-        write_synced(vol, file, 0, bytes.as_slice())?;
-        Ok(GateLog::without_batches(file, Some(generation)))
     }
 
     /// The number of its file.
@@ -180,13 +155,6 @@ impl GateLog {
         self.ends.last
     }
 
-    /// Whether it has room for a batch of so many bytes more, for which `append` does not answer `Full`.
-    pub fn fits(&self, count: usize) -> bool
-        ensures value { IsTrue result ↔ (self.now.end + 10 + count ≤ 2 ^ 31) }
-    {
-        fits(self.ends.last, count)
-    }
-
     /// The records of the open batch whose gate is at the offset, and the offset of the next gate; `None` exactly if the offset is the end.
     /// The offset is 20, or one that was answered so. It answers `Fault` or `NoMemory` alone.
     pub fn batch<V: Vol>(
@@ -201,6 +169,7 @@ impl GateLog {
         ensures quiet { V.told → Quiet (V.disk vol.old) (V.disk vol.new) }
         ensures only { IfErr result IsOutside }
         ensures cause { HasCause (V.faults vol.old) (V.faults vol.new) (IsErrOf result LogFault.Fault) }
+        ensures refusals { V.refusals vol.old ≤ V.refusals vol.new }
         ensures later { (V.disk vol.old).moment ≤ (V.disk vol.new).moment }
     {
         if at == self.ends.last {
@@ -213,77 +182,45 @@ impl GateLog {
     }
 
     /// Writes a batch behind the closed gate at the end, and syncs it.
-    fn stage<V: Vol>(&self, vol: &mut V, batch: &Batch) -> Result<(), LogFault>
+    fn stage<V: Vol>(&self, vol: &mut V, batch: &Batch) -> Result<(), Failed>
         requires settled { V.told → (batches : List Bytes) × IsSettled self.now batches (V.disk vol.old) }
         requires head { IsSome self.now.head }
-        requires fits { self.now.end + 10 + length batch.now ≤ 2 ^ 31 }
+        requires room { V.told → self.now.end + 10 + length batch.now ≤ length ((V.disk vol.old).seen self.now.file) }
+        requires end { self.now.end + 10 + length batch.now < 2 ^ 64 }
         ensures staged { V.told → OnOk result (StagesTo self.now batch.now (V.disk vol.old) (V.disk vol.new)) }
         ensures any_moment { V.told → AppendsTo self.now batch.now (V.disk vol.old) (V.disk vol.new) }
-        ensures grows { V.told → GrowsTo self.now.file (self.now.end + 10 + length batch.now) (V.disk vol.old) (V.disk vol.new) }
-        ensures size { V.told → OnOk result (length ((V.disk vol.new).seen self.now.file) ≤ max (self.now.end + 10 + length batch.now) (length ((V.disk vol.old).seen self.now.file))) }
-        ensures only { IfErr result IsVolumeFault }
-        ensures cause { HasCause (V.faults vol.old) (V.faults vol.new) (IsErrOf result LogFault.Fault) }
+        ensures as_long { V.told → OnOk result (length ((V.disk vol.new).seen self.now.file) ≡ length ((V.disk vol.old).seen self.now.file)) }
+        ensures lengths { V.told → StaysAsLong self.now.file (V.disk vol.old) (V.disk vol.new) }
+        ensures cause { HasCause (V.faults vol.old) (V.faults vol.new) (IsErr result) }
+        ensures refusals { V.refusals vol.old ≤ V.refusals vol.new }
         ensures later { (V.disk vol.old).moment ≤ (V.disk vol.new).moment }
     {
-        write_synced(vol, self.file, self.ends.last + 1, batch.staged())?;
-        Ok(())
+        write_synced(vol, self.file, self.ends.last + 1, batch.staged())
     }
 
-    /// Appends a batch, and takes no memory. At `Ok` each crash leaves a log that has it; one during the call leaves the batches from before, with the new
-    /// one or without. `Full` comes exactly if the log would be longer than 2^31 bytes, and else an error is `Fault`. An error leaves the log as it was,
-    /// `Full` the volume too.
+    /// Appends a batch, for which the file has room, and takes no memory. At `Ok` each crash leaves a log that has it; one during the call leaves the batches from
+    /// before, with the new one or without. `Failed` comes if the volume fails, and leaves the log as it was.
     ///
     /// The log has a generation, or was given by `start`.
-    pub fn append_batch<V: Vol>(&mut self, vol: &mut V, batch: &Batch) -> Result<(), LogFault>
+    pub fn append_batch<V: Vol>(&mut self, vol: &mut V, batch: &Batch) -> Result<(), Failed>
         requires settled { V.told → (batches : List Bytes) × IsSettled self.old batches (V.disk vol.old) }
         requires head { IsSome self.old.head }
+        requires room { V.told → self.old.end + 10 + length batch.now ≤ length ((V.disk vol.old).seen self.old.file) }
+        requires end { self.old.end + 10 + length batch.now < 2 ^ 64 }
         ensures appended { V.told → OnOk result (IsAppended self.old self.new batch.now (V.disk vol.old) (V.disk vol.new)) }
         ensures any_moment { V.told → AppendsTo self.old batch.now (V.disk vol.old) (V.disk vol.new) }
-        ensures grows { V.told → GrowsTo self.old.file (self.old.end + 10 + length batch.now) (V.disk vol.old) (V.disk vol.new) }
+        ensures as_long { V.told → OnOk result (length ((V.disk vol.new).seen self.old.file) ≡ length ((V.disk vol.old).seen self.old.file)) }
+        ensures lengths { V.told → StaysAsLong self.old.file (V.disk vol.old) (V.disk vol.new) }
         ensures log { OnOk result (self.new ≡ with_batch self.old (length batch.now)) }
         ensures err { OnErr result (self.new ≡ self.old) }
-        ensures full { IsErrOf result LogFault.Full ↔ (2 ^ 31 < self.old.end + 10 + length batch.now) }
-        ensures full_leaves { IsErrOf result LogFault.Full → vol.new ≡ vol.old }
-        ensures only { IfErr result IsBatchFault }
-        ensures cause { HasCause (V.faults vol.old) (V.faults vol.new) (IsErrOf result LogFault.Fault) }
+        ensures cause { HasCause (V.faults vol.old) (V.faults vol.new) (IsErr result) }
+        ensures refusals { V.refusals vol.old ≤ V.refusals vol.new }
         ensures later { (V.disk vol.old).moment ≤ (V.disk vol.new).moment }
     {
         let count = batch.len();
-        if !fits(self.ends.last, count) {
-            return Err(LogFault::Full);
-        }
         self.stage(vol, batch)?;
         write_synced(vol, self.file, self.ends.last, &[OPEN])?;
         self.ends = self.ends.before(self.ends.last + 9 + count as u64);
         Ok(())
-    }
-
-    /// Appends a batch of these records, for which it takes memory first. `NoMemory` leaves the log and the volume as they were; all else is as
-    /// `append_batch` says.
-    pub fn append<V: Vol>(
-        &mut self,
-        alloc: Global,
-        vol: &mut V,
-        bytes: &[u8],
-    ) -> Result<(), LogFault>
-        requires settled { V.told → (batches : List Bytes) × IsSettled self.old batches (V.disk vol.old) }
-        requires head { IsSome self.old.head }
-        ensures appended { V.told → OnOk result (IsAppended self.old self.new bytes.now (V.disk vol.old) (V.disk vol.new)) }
-        ensures any_moment { V.told → AppendsTo self.old bytes.now (V.disk vol.old) (V.disk vol.new) }
-        ensures grows { V.told → GrowsTo self.old.file (self.old.end + 10 + length bytes.now) (V.disk vol.old) (V.disk vol.new) }
-        ensures log { OnOk result (self.new ≡ with_batch self.old (length bytes.now)) }
-        ensures err { OnErr result (self.new ≡ self.old) }
-        ensures full { IsErrOf result LogFault.Full ↔ (2 ^ 31 < self.old.end + 10 + length bytes.now) }
-        ensures full_leaves { IsErrOf result LogFault.Full → vol.new ≡ vol.old }
-        ensures no_memory { IsErrOf result LogFault.NoMemory → vol.new ≡ vol.old }
-        ensures only { IfErr result IsAppendFault }
-        ensures cause { HasCause (V.faults vol.old) (V.faults vol.new) (IsErrOf result LogFault.Fault) }
-        ensures later { (V.disk vol.old).moment ≤ (V.disk vol.new).moment }
-    {
-        if !fits(self.ends.last, bytes.len()) {
-            return Err(LogFault::Full);
-        }
-        let batch = Batch::of(alloc, bytes)?;
-        self.append_batch(vol, &batch)
     }
 }

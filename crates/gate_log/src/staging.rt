@@ -1,6 +1,6 @@
 //! A batch behind its closed gate.
 
-ghost use Rattle.std.specs.Prelude.{◌≡◌, ◌↔◌, ◌+◌, ◌≤◌, ◌<◌, ◌^◌, ◌++◌, ◌∷◌, [], List, length, IfOk, IsTrue};
+ghost use Rattle.std.specs.Prelude.{◌≡◌, ◌<◌, ◌^◌, ◌++◌, ◌∷◌, [], List, length, IfOk};
 ghost use Rattle.gate_log.specs.Staging.{behind_gate as behind_gate_in};
 
 use checksum::crc32c;
@@ -8,19 +8,8 @@ use js_base::{NoMemory, put_bytes, put_u32};
 use std::alloc::Global;
 use std::marker::Model;
 
-/// How long a log may be, with the closed gate at its end.
-const MAX_LEN: u64 = 1 << 31;
-
 /// The bytes behind a gate that are no records: their length, their checksum, and the gate behind them.
 const AROUND_RECORDS: usize = 9;
-
-/// Whether a log that ends at this gate may have so many bytes of records more.
-pub fn fits(end: u64, count: usize) -> bool
-    ensures value { IsTrue result ↔ (end + 10 + count ≤ 2 ^ 31) }
-{
-    let count = count as u64;
-    end <= MAX_LEN && count <= MAX_LEN && end + 10 + count <= MAX_LEN
-}
 
 /// What is written behind the closed gate: the records behind their length and their checksum, and a closed gate for the next batch.
 pub fn behind_gate(alloc: Global, records: &[u8]) -> Result<Vec<u8>, NoMemory>
@@ -67,6 +56,7 @@ impl Batch {
     /// How many bytes its records have.
     pub fn len(&self) -> usize
         ensures value { result ≡ length self.now }
+        ensures short { length self.now < 2 ^ 32 }
     {
         self.staged.len() - AROUND_RECORDS
     }

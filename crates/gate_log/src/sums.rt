@@ -26,6 +26,7 @@ fn add_piece<V: Vol>(
     ensures value { V.told → IfOk result (λ size. sum.new ≡ added sum.old (take size (drop at ((V.disk vol.old).seen file)))) }
     ensures quiet { V.told → Quiet (V.disk vol.old) (V.disk vol.new) }
     ensures cause { HasCause (V.faults vol.old) (V.faults vol.new) (IsErr result) }
+    ensures refusals { V.refusals vol.old ≤ V.refusals vol.new }
     ensures later { (V.disk vol.old).moment ≤ (V.disk vol.new).moment }
 {
     let size = count.min(PIECE as u64);
@@ -43,6 +44,7 @@ pub fn checksum_at<V: Vol>(vol: &mut V, file: u32, at: u64, count: u64) -> Resul
     ensures value { V.told → IfOk result (λ sum. sum ≡ crc32c (take count (drop at ((V.disk vol.old).seen file)))) }
     ensures quiet { V.told → Quiet (V.disk vol.old) (V.disk vol.new) }
     ensures cause { HasCause (V.faults vol.old) (V.faults vol.new) (IsErr result) }
+    ensures refusals { V.refusals vol.old ≤ V.refusals vol.new }
     ensures later { (V.disk vol.old).moment ≤ (V.disk vol.new).moment }
 {
     let mut sum = Checksum::new();

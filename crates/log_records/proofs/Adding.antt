@@ -5,6 +5,7 @@ use Rattle.op_records.specs.declared.record.Record.{Record}
 use Rattle.op_records.specs.Reading.{Stand, record_at}
 use Rattle.durable_checks.specs.Storable.{IsStorable}
 use Rattle.log_records.specs.Logged.{Logged, fold_record, fold_records}
+use Rattle.log_records.specs.Batches.{closed_in}
 use Rattle.log_records.specs.Damage.{IsFolded, HasBadRecord}
 use Rattle.log_records.specs.Reading.{IsWrongNext, IsNext, IsNextFault, IsLastOf, AreRead, IsAdded, IsBatchFault}
 use Rattle.log_records.specs.declared.batch.BatchFault.{BatchFault}
@@ -61,8 +62,11 @@ batch_fault old bytes at d last batch.NoMemory more r h = tt
 
 -- ---- at the end of the batch
 
-pub added : (old : Logged) (bytes : Bytes) (new : Logged) (last : Option ℕ) → AreRead old bytes new last → IsStorable new.durable → IsAdded old bytes new last
-added old bytes new last r storable = record { adds = record { records = r.records; stand = r.stand; folded = r.folded; storable = storable }; last_is = r.last_is }
+pub added : (old : Logged) (bytes : Bytes) (made new : Logged) (last : Option ℕ) → AreRead old bytes made last → new ≡ closed_in made → IsStorable made.durable → IsAdded old bytes new last
+added old bytes made new last r is storable = record {
+  adds = record { records = r.records; stand = r.stand; made = made; folded = r.folded; new_is = is; storable = subst (λ (g : Logged). IsStorable g.durable) (sym is) storable };
+  last_is = r.last_is;
+}
 
 pub stays_storable : (old : Logged) (bytes : Bytes) (new : Logged) → AreRead old bytes new None → IsStorable old.durable → IsStorable new.durable
 stays_storable old bytes new r storable = subst (λ (g : Logged). IsStorable g.durable) (sym r.last_is.1) storable

@@ -1,11 +1,13 @@
 -- Records make of what a log has made such a thing again.
-use Rattle.std.proofs.Common.{◌≡◌, Bool, true, false, cond, List, [], ◌∷◌, Option, Some, None, IsTrue, refl, sym, subst, ◌∙◌}
+use Rattle.std.proofs.Common.{◌≡◌, Bool, true, false, cond, List, [], ◌∷◌, Option, Some, None, IsTrue, refl, sym, ap, subst, ◌∙◌}
 use Rattle.std.specs.List.{list_all}
 use Rattle.std.proofs.lemmas.Bool.{and_parts}
 use Rattle.js_model.proofs.Named.{some_is, none_some}
+use Rattle.effects.specs.declared.durable.Body.{Body}
 use Rattle.effects.specs.declared.effect.Effect.{Effect}
 use Rattle.effects.specs.declared.effect.Effect.TheVariants.{MakeStream, ChangeStream, DropStream, PutHere, Skip, Remove, MakeConsumer, DropConsumer, Deliver, Acked, Due, GivenUp, Now}
 use Rattle.block_table.specs.Blocks.{Blocks}
+use Rattle.block_table.specs.Closing.{closed}
 use Rattle.block_table.specs.Puts.{fits, put_at}
 use Rattle.block_table.specs.Tables.{IsTable}
 use Rattle.block_table.proofs.Tables.{table_none, table_put, table_removed}
@@ -16,9 +18,9 @@ use Rattle.op_records.specs.Laws.{IsBatch}
 use Rattle.state_snapshot.specs.Snapshots.{snapshot_of}
 use Rattle.state_snapshot.proofs.SnapshotsExact.{law_snapshot}
 use Rattle.state_snapshot.proofs.Writable.{law_writable}
-use Rattle.log_records.specs.Logged.{Logged, IsLogged, blocks_by, blocks_after, fold_record, fold_records}
+use Rattle.log_records.specs.Logged.{Logged, HasBlocksOf, IsLogged, blocks_by, blocks_after, fold_record, fold_records}
 use Rattle.log_records.specs.Beginnings.{CanBegin}
-use Rattle.log_records.specs.Batches.{Begins}
+use Rattle.log_records.specs.Batches.{Begins, closed_in}
 use Rattle.log_records.specs.Laws.{LawBegins, snapshot_in}
 use Rattle.log_records.proofs.Begun.{snapshot_unread, told_again}
 use Rattle.log_records.proofs.Keeping.{stays_logged}
@@ -74,6 +76,15 @@ table_kept (r ∷ rs) g h e t = go (fold_record g r) refl e (λ mid f q. table_k
     go None is e on = absurd (none_some (sym (no_records rs) ∙ e))
     go (Some mid) is e on = on mid e (table_after r g.blocks mid.blocks (fold_parts g r mid is).blocks t)
 
+-- ---- at the end of a batch
+
+pub logged_closed : (g : Logged) → IsLogged g → IsLogged (closed_in g)
+logged_closed g l = record { formed = l.formed; vacant = still g.durable.body l.vacant; messages = l.messages; placed = l.placed }
+  where
+    still : (o : Option Body) → HasBlocksOf o g.blocks → HasBlocksOf o (closed g.blocks)
+    still None none = ap closed none
+    still (Some body) none = tt
+
 -- ---- a snapshot begins another log
 
 begins : (g : Logged) → IsLogged g → CanBegin g → IsBatch (snapshot_in g) → Begins (snapshot_in g) g
@@ -88,6 +99,7 @@ pub law_begins : LawBegins
 law_begins = record {
   logged = each_keeps IsLogged logged_kept;
   table = table_kept;
+  closed = logged_closed;
   begins = begins;
   unread = snapshot_unread;
 }

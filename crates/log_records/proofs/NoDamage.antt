@@ -1,6 +1,5 @@
 -- Where batches give something, none of them is wrong.
-use Rattle.std.proofs.Common.{◌≡◌, inl, inr, ℕ, suc, ◌<◌, List, [], ◌∷◌, ◌++◌, Some, None, Ok, length, refl, sym, ap, ◌∙◌, subst, arith}
-use Rattle.std.specs.Prelude.{All}
+use Rattle.std.proofs.Common.{◌≡◌, inl, inr, ℕ, ◌<◌, List, [], ◌∷◌, ◌++◌, Some, None, Ok, length, refl, sym, ap, ◌∙◌, subst, arith}
 use Rattle.js_base.specs.Bytes.{Bytes}
 use Rattle.op_records.specs.declared.record.Record.{Record}
 use Rattle.op_records.specs.Reading.{Stand, record_at}
@@ -38,7 +37,7 @@ module _ (old : Logged) (bytes : Bytes) (new : Logged) (adds : Adds old bytes ne
   record Goes (here : ℕ) (mid : Logged) : Type 0 where
     rest : List Record
     stand : Stand bytes here rest (length bytes)
-    folded : fold_records rest (Some mid) ≡ Some new
+    folded : fold_records rest (Some mid) ≡ Some adds.made
 
   goes : (here : ℕ) (mid : Logged) → IsFolded old bytes here mid → Goes here mid
   goes here mid f =
@@ -61,22 +60,22 @@ module _ (old : Logged) (bytes : Bytes) (new : Logged) (adds : Adds old bytes ne
   not_misfit : (at : ℕ) → IsMisfit old bytes at → ⊥
   not_misfit at m = let g = goes m.here m.mid m.so_far in go g.rest g.stand g.folded
     where
-      go : (rest : List Record) → Stand bytes m.here rest (length bytes) → fold_records rest (Some m.mid) ≡ Some new → ⊥
+      go : (rest : List Record) → Stand bytes m.here rest (length bytes) → fold_records rest (Some m.mid) ≡ Some adds.made → ⊥
       go [] e folded = no_record bytes m.here m.next m.behind e m.reads
       go (f ∷ rest) (behind, reads, more) folded =
           let first = value_is f behind m.next m.behind (sym reads ∙ m.reads) in
           let none : fold_records rest (fold_record m.mid f) ≡ None = ap (λ (e : Record). fold_records rest (fold_record m.mid e)) first ∙ ap (fold_records rest) m.unfit ∙ no_records rest in
           absurd (cc)
 
-  -- the last record makes what the batch makes
-  pub last_makes : (here : ℕ) (other : Logged) → IsLast old bytes here other → other ≡ new
+  -- the last record makes what all of them make
+  pub last_makes : (here : ℕ) (other : Logged) → IsLast old bytes here other → other ≡ adds.made
   last_makes here other l = let g = goes here l.mid l.so_far in go g.rest g.stand g.folded
     where
-      go : (rest : List Record) → Stand bytes here rest (length bytes) → fold_records rest (Some l.mid) ≡ Some new → other ≡ new
+      go : (rest : List Record) → Stand bytes here rest (length bytes) → fold_records rest (Some l.mid) ≡ Some adds.made → other ≡ adds.made
       go [] e folded = no_record bytes here l.next (length bytes) e l.reads
       go (f ∷ []) (behind, reads, e) folded =
           let first = value_is f behind l.next (length bytes) (sym reads ∙ l.reads) in
-          let made : Some other ≡ Some new = sym l.fits ∙ ap (fold_record l.mid) (sym first) ∙ folded in
+          let made : Some other ≡ Some adds.made = sym l.fits ∙ ap (fold_record l.mid) (sym first) ∙ folded in
           cc
       go (f ∷ (g ∷ rest)) (behind, reads, (next, others, more)) folded =
           let place = place_is f behind l.next (length bytes) (sym reads ∙ l.reads) in
@@ -85,7 +84,7 @@ module _ (old : Logged) (bytes : Bytes) (new : Logged) (adds : Adds old bytes ne
   pub no_bad_record : (at : ℕ) → HasBadRecord old bytes at → ⊥
   no_bad_record at (inl m) = not_misread at m
   no_bad_record at (inr (inl m)) = not_misfit at m
-  no_bad_record at (inr (inr u)) = u.bad (subst (λ (g : Logged). IsStorable g.durable) (sym (last_makes at u.new u.last)) adds.storable)
+  no_bad_record at (inr (inr u)) = u.bad (subst (λ (g : Logged). IsStorable g.durable) (sym (last_makes at u.new u.last)) (subst (λ (g : Logged). IsStorable g.durable) adds.new_is adds.storable))
 
 -- ---- batches
 
@@ -102,20 +101,6 @@ cut begun [] bytes rest end (after, adds, leads) = record { before = begun; afte
 cut begun (b ∷ front) bytes rest end (mid, adds, leads) =
     let c = cut mid front bytes rest end leads in
     record { before = c.before; after = c.after; led = (mid, adds, c.led); adds = c.adds; leads = c.leads }
-
--- a batch without records changes nothing
-empty_adds : (old new : Logged) → Adds old [] new → new ≡ old
-empty_adds old new adds = go adds.records adds.stand adds.folded
-  where
-    go : (es : List Record) → Stand [] 0 es 0 → fold_records es (Some old) ≡ Some new → new ≡ old
-    go [] h folded = cc
-    go (e ∷ es) (behind, reads, more) folded = no_record [] 0 e behind refl reads
-
-empties_add : (old end : Logged) (batches : List Bytes) → All (λ batch. batch ≡ []) batches → AddAll old batches end → end ≡ old
-empties_add old end [] all h = sym h
-empties_add old end (b ∷ batches) all (mid, adds, leads) =
-    empties_add mid end batches (λ k batch within. all (suc k) batch (omega (arith, within))) leads
-    ∙ empty_adds old mid (subst (λ (l : Bytes). Adds old l mid) (all 0 b (omega arith)) adds)
 
 module _ (batches : List Bytes) (d : Logged) (gives : Gives batches d) where
   -- the batches after the first one lead to what all of them give

@@ -146,27 +146,27 @@ pub last_gives : (batches : List Bytes) (g : Logged) (at : ℕ) → IsLastIn bat
 last_gives [] g at h = h.0
 last_gives (first ∷ later) g at (begun, begins, adds, last) = (begun, begins, adds)
 
-none_and_last : {A : Type 0} (first : Bytes) (begun : Logged) (later : List Bytes) (g : Logged) (at : ℕ) → All (λ batch. batch ≡ []) later → IsLastAt first begun later g at → A
-none_and_last first begun later g at none l =
-    none_is_last l.old l.bytes l.place g (is_empty_in l.before l.bytes l.empty (subst (λ (list : List Bytes). All (λ batch. batch ≡ []) list) l.later_is none)) l.last
+none_and_last : {A : Type 0} (first : Bytes) (begun : Logged) (later : List Bytes) (at : ℕ) → All (λ batch. batch ≡ []) later → IsLastAt first begun later at → A
+none_and_last first begun later at none l =
+    none_is_last l.old l.bytes l.place l.made (is_empty_in l.before l.bytes l.empty (subst (λ (list : List Bytes). All (λ batch. batch ≡ []) list) l.later_is none)) l.last
 
-last_last : (first : Bytes) (begun : Logged) (later : List Bytes) (g h : Logged) (at other : ℕ) → IsLastAt first begun later g at → IsLastAt first begun later h other → at ≡ other
-last_last first begun later g h at other l m =
+last_last : (first : Bytes) (begun : Logged) (later : List Bytes) (at other : ℕ) → IsLastAt first begun later at → IsLastAt first begun later other → at ≡ other
+last_last first begun later at other l m =
     l.here
     ∙ offsets_same first first l.before m.before l.place m.place refl
-    (both_end begun l.old m.old g h l.before m.before l.bytes m.bytes l.empty m.empty l.place m.place (sym l.later_is ∙ m.later_is) l.are_empty m.are_empty l.so_far m.so_far l.last m.last)
+    (both_end begun l.old m.old l.made m.made l.before m.before l.bytes m.bytes l.empty m.empty l.place m.place (sym l.later_is ∙ m.later_is) l.are_empty m.are_empty l.so_far m.so_far l.last m.last)
     ∙ sym m.here
 
-behind_same : (first : Bytes) (begun : Logged) (later : List Bytes) (g h : Logged) (at other : ℕ) → IsLastBehind first begun later g at → IsLastBehind first begun later h other → at ≡ other
-behind_same first begun later g h at other (inl l) (inl m) = l.here ∙ sym m.here
-behind_same first begun later g h at other (inl l) (inr m) = none_and_last first begun later h other l.are_empty m
-behind_same first begun later g h at other (inr l) (inl m) = none_and_last first begun later g at m.are_empty l
-behind_same first begun later g h at other (inr l) (inr m) = last_last first begun later g h at other l m
+behind_same : (first : Bytes) (begun : Logged) (later : List Bytes) (at other : ℕ) → IsLastBehind first begun later at → IsLastBehind first begun later other → at ≡ other
+behind_same first begun later at other (inl l) (inl m) = l.here ∙ sym m.here
+behind_same first begun later at other (inl l) (inr m) = none_and_last first begun later other l.are_empty m
+behind_same first begun later at other (inr l) (inl m) = none_and_last first begun later at m.are_empty l
+behind_same first begun later at other (inr l) (inr m) = last_last first begun later at other l m
 
 pub one_last_in : (batches : List Bytes) (g h : Logged) (at other : ℕ) → IsLastIn batches g at → IsLastIn batches h other → at ≡ other
 one_last_in [] g h at other l m = l.1 ∙ sym m.1
 one_last_in (first ∷ later) g h at other (b, begins, adds, l) (c, begun, more, m) =
-    behind_same first b later g h at other l (subst (λ (d : Logged). IsLastBehind first d later h other) (begins_same first c b begun begins) m)
+    behind_same first b later at other l (subst (λ (d : Logged). IsLastBehind first d later other) (begins_same first c b begun begins) m)
 
 pub law_batches : LawBatches
 law_batches = record {

@@ -15,7 +15,7 @@ use Rattle.state_snapshot.specs.declared.snapshot.Snapshot.{Snapshot}
 use Rattle.log_records.specs.Logged.{Logged, fold_records}
 use Rattle.log_records.specs.Beginnings.{CanBegin, logged_in}
 use Rattle.log_records.specs.Damage.{IsNoFirst}
-use Rattle.log_records.specs.Batches.{Adds, AddAll, Begins, Gives}
+use Rattle.log_records.specs.Batches.{Adds, AddAll, Begins, Gives, closed_in}
 
 -- ---- records
 
@@ -62,8 +62,9 @@ begins_well first begun at b (inr (inr u)) =
 pub adds_same : (old : Logged) (bytes : Bytes) (d e : Logged) → Adds old bytes d → Adds old bytes e → d ≡ e
 adds_same old bytes d e h k =
     let records = stand_same bytes 0 h.records k.records h.stand k.stand in
-    let same : Some d ≡ Some e = sym h.folded ∙ ap (λ (rs : List Record). fold_records rs (Some old)) records ∙ k.folded in
-    cc
+    let same : Some h.made ≡ Some k.made = sym h.folded ∙ ap (λ (rs : List Record). fold_records rs (Some old)) records ∙ k.folded in
+    let made : h.made ≡ k.made = cc in
+    h.new_is ∙ ap closed_in made ∙ sym k.new_is
 
 pub add_all_same : (old : Logged) (batches : List Bytes) (d e : Logged) → AddAll old batches d → AddAll old batches e → d ≡ e
 add_all_same old [] d e h k = sym h ∙ k

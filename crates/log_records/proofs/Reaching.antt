@@ -64,7 +64,7 @@ reaches_first log gate begun disk b = record {
   first = b.first;
   begun = begun;
   begins = b.begins;
-  read = record { front = []; rest = b.rest; gate_is = b.gate_is; added = refl; last_is = inl (record { are_empty = All-nil IsEmpty; same = refl; here = refl }) };
+  read = record { front = []; rest = b.rest; gate_is = b.gate_is; added = refl; last_is = inl (record { are_empty = All-nil IsEmpty; here = refl }) };
 }
 
 pub add_push : (begun mid new : Logged) (front : List Bytes) (records : Bytes) → AddAll begun front mid → Adds mid records new → AddAll begun (front ++ records ∷ []) new
@@ -72,10 +72,9 @@ add_push begun mid new [] records h adds = (new, subst (λ (d : Logged). Adds d 
 add_push begun mid new (b ∷ front) records (d, first, h) adds = (d, first, add_push d mid new front records h adds)
 
 -- an empty batch more
-last_stays : (first : Bytes) (begun : Logged) (front : List Bytes) (old new : Logged) (records : Bytes) (last : ℕ) → records ≡ [] → new ≡ old → IsLastBehind first begun front old last
-    → IsLastBehind first begun (front ++ records ∷ []) new last
-last_stays first begun front old new records last none same (inl h) = inl (record { are_empty = All-push IsEmpty front records h.are_empty none; same = same ∙ h.same; here = h.here })
-last_stays first begun front old new records last none same (inr h) = inr (record {
+last_stays : (first : Bytes) (begun : Logged) (front : List Bytes) (records : Bytes) (last : ℕ) → records ≡ [] → IsLastBehind first begun front last → IsLastBehind first begun (front ++ records ∷ []) last
+last_stays first begun front records last none (inl h) = inl (record { are_empty = All-push IsEmpty front records h.are_empty none; here = h.here })
+last_stays first begun front records last none (inr h) = inr (record {
   before = h.before;
   bytes = h.bytes;
   empty = h.empty ++ records ∷ [];
@@ -84,13 +83,14 @@ last_stays first begun front old new records last none same (inr h) = inr (recor
   old = h.old;
   so_far = h.so_far;
   place = h.place;
-  last = subst (λ (d : Logged). IsLast h.old h.bytes h.place d) (sym same) h.last;
+  made = h.made;
+  last = h.last;
   here = h.here;
 })
 
-last_moves : (first : Bytes) (begun : Logged) (front : List Bytes) (old new : Logged) (records : Bytes) (gate place last : ℕ) → gate ≡ end_of (first ∷ front) → AddAll begun front old → IsLast old records place new
-    → last ≡ gate + 9 + place → IsLastBehind first begun (front ++ records ∷ []) new last
-last_moves first begun front old new records gate place last gate_is added is here = inr (record {
+last_moves : (first : Bytes) (begun : Logged) (front : List Bytes) (old made : Logged) (records : Bytes) (gate place last : ℕ) → gate ≡ end_of (first ∷ front) → AddAll begun front old → IsLast old records place made
+    → last ≡ gate + 9 + place → IsLastBehind first begun (front ++ records ∷ []) last
+last_moves first begun front old made records gate place last gate_is added is here = inr (record {
   before = front;
   bytes = records;
   empty = [];
@@ -99,14 +99,15 @@ last_moves first begun front old new records gate place last gate_is added is he
   old = old;
   so_far = added;
   place = place;
+  made = made;
   last = is;
   here = here ∙ ap (λ (n : ℕ). n + 9 + place) gate_is;
 })
 
-last_then : (first : Bytes) (begun : Logged) (front : List Bytes) (old new : Logged) (records : Bytes) (gate last : ℕ) (more : Option ℕ) → gate ≡ end_of (first ∷ front) → AddAll begun front old
-    → IsLastBehind first begun front old last → IsLastFrom gate old records new more → IsLastBehind first begun (front ++ records ∷ []) new (unwrap_or more last)
-last_then first begun front old new records gate last None here added h is = last_stays first begun front old new records last is.0 is.1 h
-last_then first begun front old new records gate last (Some at) here added h is = last_moves first begun front old new records gate is.0 at here added is.1 is.2
+last_then : (first : Bytes) (begun : Logged) (front : List Bytes) (old made : Logged) (records : Bytes) (gate last : ℕ) (more : Option ℕ) → gate ≡ end_of (first ∷ front) → AddAll begun front old
+    → IsLastBehind first begun front last → IsLastFrom gate old records made more → IsLastBehind first begun (front ++ records ∷ []) (unwrap_or more last)
+last_then first begun front old made records gate last None here added h is = last_stays first begun front records last is h
+last_then first begun front old made records gate last (Some at) here added h is = last_moves first begun front old made records gate is.0 at here added is.1 is.2
 
 pub reaches_next : (log : LogState) (gate next : ℕ) (d new : Logged) (last : ℕ) (records : Bytes) (more : Option ℕ) (old disk : Disk) → Reaches log gate d last old → IsReadAt log gate old (Some (records, next)) → Quiet old disk
     → IsAddedAt gate d records new more → Reaches log next new (unwrap_or more last) disk
@@ -122,7 +123,7 @@ reaches_next log gate next d new last records more old disk r read still adds =
         rest = step.0;
         gate_is = step.1;
         added = add_push r.begun d new r.read.front records r.read.added adds.adds;
-        last_is = last_then r.first r.begun r.read.front d new records gate last more at.here r.read.added r.read.last_is adds.last_is;
+        last_is = last_then r.first r.begun r.read.front d adds.adds.made records gate last more at.here r.read.added r.read.last_is adds.last_is;
       };
     }
 

@@ -29,8 +29,8 @@ without_records = record { first = []; later = []; batches_are = refl; bad = inl
 -- ---- the last record
 
 -- a snapshot alone is told where it begins
-snapshot_alone : (first : Bytes) (begun : Logged) → IsLastBehind first begun [] begun 29
-snapshot_alone first begun = inl (record { are_empty = All-nil (λ (batch : Bytes). batch ≡ []); same = refl; here = refl })
+snapshot_alone : (first : Bytes) (begun : Logged) → IsLastBehind first begun [] 29
+snapshot_alone first begun = inl (record { are_empty = All-nil (λ (batch : Bytes). batch ≡ []); here = refl })
 
 -- ---- the field of a record that does not fit
 

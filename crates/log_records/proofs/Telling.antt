@@ -30,5 +30,5 @@ later_told gate old bytes fault (Damaged at) h (place, is, here) = (place, subst
 later_told gate old bytes fault OutOfMemory h t = tt
 
 pub placed_added : (gate : ℕ) (old : Logged) (bytes : Bytes) (new : Logged) (last at : Option ℕ) → IsAdded old bytes new last → IsOffsetOf gate last at → IsAddedAt gate old bytes new at
-placed_added gate old bytes new None at a is = record { adds = a.adds; last_is = subst (IsLastFrom gate old bytes new) (sym is) a.last_is }
-placed_added gate old bytes new (Some place) at a is = record { adds = a.adds; last_is = subst (IsLastFrom gate old bytes new) (sym is) (place, a.last_is, refl) }
+placed_added gate old bytes new None at a is = record { adds = a.adds; last_is = subst (IsLastFrom gate old bytes a.adds.made) (sym is) a.last_is.0 }
+placed_added gate old bytes new (Some place) at a is = record { adds = a.adds; last_is = subst (IsLastFrom gate old bytes a.adds.made) (sym is) (place, a.last_is, refl) }

@@ -6,15 +6,22 @@ use Rattle.op_records.specs.declared.record.Record.{Record}
 use Rattle.op_records.specs.Reading.{AreRecords}
 use Rattle.state_snapshot.specs.Reading.{snapshot_field}
 use Rattle.state_snapshot.specs.declared.snapshot.Snapshot.{Snapshot}
+use Rattle.block_table.specs.Closing.{closed}
 use Rattle.durable_checks.specs.Storable.{IsStorable}
 use Rattle.log_records.specs.Logged.{Logged, beginning, fold_records}
 use Rattle.log_records.specs.Beginnings.{CanBegin, logged_in}
+
+-- behind a batch the block being written is left, if it may be
+abbrev pub closed_in : Logged → Logged
+closed_in g = record g { blocks = closed g.blocks }
 
 -- the bytes of a batch are records that lead from the one to the other
 pub record Adds (old : Logged) (bytes : Bytes) (new : Logged) : Type 0 where
   pub records : List Record
   pub stand : AreRecords bytes records
-  pub folded : fold_records records (Some old) ≡ Some new
+  pub made : Logged
+  pub folded : fold_records records (Some old) ≡ Some made
+  pub new_is : new ≡ closed_in made
   pub storable : IsStorable new.durable
 
 -- one batch after the other

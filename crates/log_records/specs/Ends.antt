@@ -7,7 +7,7 @@ use Rattle.log_records.specs.Batches.{AddAll, Begins}
 use Rattle.log_records.specs.Damage.{IsLast, offset}
 
 -- behind the first batch, one of these has the last record; it begins at this offset of the file
-pub record IsLastAt (first : Bytes) (begun : Logged) (later : List Bytes) (given : Logged) (at : ℕ) : Type 0 where
+pub record IsLastAt (first : Bytes) (begun : Logged) (later : List Bytes) (at : ℕ) : Type 0 where
   pub before : List Bytes
   pub bytes : Bytes
   pub empty : List Bytes
@@ -16,19 +16,19 @@ pub record IsLastAt (first : Bytes) (begun : Logged) (later : List Bytes) (given
   pub old : Logged
   pub so_far : AddAll begun before old
   pub place : ℕ
-  pub last : IsLast old bytes place given
+  pub made : Logged
+  pub last : IsLast old bytes place made
   pub here : at ≡ offset (first ∷ before) place
 
 -- none of them has a record, and the last one is the snapshot with which the log begins
-pub record IsLastOfNone (begun : Logged) (later : List Bytes) (given : Logged) (at : ℕ) : Type 0 where
+pub record IsLastOfNone (later : List Bytes) (at : ℕ) : Type 0 where
   pub are_empty : All (λ batch. batch ≡ []) later
-  pub same : given ≡ begun
   pub here : at ≡ offset [] 0
 
-abbrev pub IsLastBehind : Bytes → Logged → List Bytes → Logged → ℕ → Type 0
-IsLastBehind first begun later given at = IsLastOfNone begun later given at ⊎ IsLastAt first begun later given at
+abbrev pub IsLastBehind : Bytes → Logged → List Bytes → ℕ → Type 0
+IsLastBehind first begun later at = IsLastOfNone later at ⊎ IsLastAt first begun later at
 
 -- The batches give it, and their last record stands there. Where no batch is open, the first gate stands for it: the place is vacant, which can always be opened.
 abbrev pub IsLastIn : List Bytes → Logged → ℕ → Type 0
 IsLastIn [] given at = (given ≡ beginning 0) × (at ≡ end_of [])
-IsLastIn (first ∷ later) given at = (begun : Logged) × Begins first begun × AddAll begun later given × IsLastBehind first begun later given at
+IsLastIn (first ∷ later) given at = (begun : Logged) × Begins first begun × AddAll begun later given × IsLastBehind first begun later at

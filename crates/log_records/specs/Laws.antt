@@ -17,7 +17,7 @@ use Rattle.state_snapshot.specs.Spelling.{spelled_snapshot}
 use Rattle.log_records.specs.Unread.{unread, unread_effect, stored_messages}
 use Rattle.log_records.specs.Logged.{IsLogged, Logged, fold_records}
 use Rattle.log_records.specs.Beginnings.{CanBegin}
-use Rattle.log_records.specs.Batches.{Begins, Gives}
+use Rattle.log_records.specs.Batches.{Begins, Gives, closed_in}
 use Rattle.log_records.specs.Damage.{HasBadBatch}
 use Rattle.log_records.specs.Ends.{IsLastIn}
 
@@ -44,5 +44,6 @@ snapshot_in g = spelled_snapshot (snapshot_of g.durable g.blocks)
 pub record LawBegins : Type 0 where
   pub logged : (records : List Record) (g h : Logged) → IsTrue (list_all may_stand records) → fold_records records (Some g) ≡ Some h → IsLogged g → IsLogged h
   pub table : (records : List Record) (g h : Logged) → fold_records records (Some g) ≡ Some h → IsTable g.blocks → IsTable h.blocks
+  pub closed : (g : Logged) → IsLogged g → IsLogged (closed_in g)
   pub begins : (g : Logged) → IsLogged g → CanBegin g → IsBatch (snapshot_in g) → Begins (snapshot_in g) g
   pub unread : (d : Durable) (b : Blocks) → snapshot_of (unread d) b ≡ snapshot_of d b

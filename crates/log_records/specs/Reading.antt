@@ -81,12 +81,12 @@ abbrev pub IsStartFault : Bytes → BatchFault → Type 0
 IsStartFault first (batch.Wrong at) = IsWrongStart first at
 IsStartFault first batch.NoMemory = Unit {0}
 
--- where the last record of the batch stands; it may have none
+-- where the last record of the batch stands, with which it makes this; it may have none
 abbrev pub IsLastOf : Logged → Bytes → Logged → Option ℕ → Type 0
 IsLastOf old bytes new None = (bytes ≡ []) × (new ≡ old)
 IsLastOf old bytes new (Some here) = IsLast old bytes here new
 
--- the records of a batch lead from the one to the other
+-- the records of a batch make this of it
 pub record AreRead (old : Logged) (bytes : Bytes) (new : Logged) (last : Option ℕ) : Type 0 where
   pub records : List Record
   pub stand : AreRecords bytes records
@@ -96,7 +96,7 @@ pub record AreRead (old : Logged) (bytes : Bytes) (new : Logged) (last : Option 
 -- the batch leads from the one to the other
 pub record IsAdded (old : Logged) (bytes : Bytes) (new : Logged) (last : Option ℕ) : Type 0 where
   pub adds : Adds old bytes new
-  pub last_is : IsLastOf old bytes new last
+  pub last_is : IsLastOf old bytes adds.made last
 
 -- a record of the batch is wrong, or memory ran out
 abbrev pub IsBatchFault : Logged → Bytes → BatchFault → Type 0
@@ -133,14 +133,15 @@ IsLaterFault gate old bytes Fault = ⊥
 IsLaterFault gate old bytes (Damaged at) = (place : ℕ) × HasBadRecord old bytes place × (at ≡ gate + 9 + place)
 IsLaterFault gate old bytes OutOfMemory = Unit {0}
 
--- the batch behind a gate leads from the one to the other, and its last record stands at this offset; it may have none
+-- the last record of the batch behind a gate, with which it makes this, stands at this offset; it may have none
 abbrev pub IsLastFrom : ℕ → Logged → Bytes → Logged → Option ℕ → Type 0
-IsLastFrom gate old bytes new None = (bytes ≡ []) × (new ≡ old)
-IsLastFrom gate old bytes new (Some at) = (place : ℕ) × IsLast old bytes place new × (at ≡ gate + 9 + place)
+IsLastFrom gate old bytes made None = bytes ≡ []
+IsLastFrom gate old bytes made (Some at) = (place : ℕ) × IsLast old bytes place made × (at ≡ gate + 9 + place)
 
+-- the batch leads from the one to the other
 pub record IsAddedAt (gate : ℕ) (old : Logged) (bytes : Bytes) (new : Logged) (last : Option ℕ) : Type 0 where
   pub adds : Adds old bytes new
-  pub last_is : IsLastFrom gate old bytes new last
+  pub last_is : IsLastFrom gate old bytes adds.made last
 
 -- what can be a batch was found, and a gate further on
 abbrev pub IsFurther : ℕ → Option (Bytes × ℕ) → Type 0
@@ -159,7 +160,7 @@ pub record IsReadTo (log : LogState) (first : Bytes) (begun : Logged) (gate : �
   pub rest : List Bytes
   pub gate_is : IsGate log (first ∷ front) rest gate disk
   pub added : AddAll begun front g
-  pub last_is : IsLastBehind first begun front g last
+  pub last_is : IsLastBehind first begun front last
 
 -- the gate stands behind the first batch, which tells this
 pub record IsBegun (log : LogState) (gate : ℕ) (begun : Logged) (disk : Disk) : Type 0 where

@@ -120,7 +120,7 @@ fn add_records(
     Ok((made, last))
 }
 
-/// Adds a later batch, and tells the place of its last record, if there is any.
+/// Adds a later batch, behind which a block of some size that holds no message is written no more, and tells the place of its last record, if there is any.
 pub(crate) fn add_batch(
     alloc: Global,
     records: &[u8],
@@ -136,10 +136,10 @@ pub(crate) fn add_batch(
     let (made, last) = add_records(alloc, records, old)?;
     let storable = made.is_storable(alloc)?;
     if storable {
-        return Ok((made, last));
+        return Ok((made.closed(), last));
     }
     match last {
         Some(at) => Err(BatchFault::Wrong(at)),
-        None => Ok((made, None)),
+        None => Ok((made.closed(), None)),
     }
 }

@@ -13,7 +13,7 @@ pub fn law_unread()
     ensures { LawUnread }
 {}
 
-/// Records make of what a log has made what a log can make, and a snapshot of it begins another log.
+/// Records make of what a log has made what a log can make, and so it is at the end of a batch; and a snapshot of it begins another log.
 pub fn law_begins()
     ensures { LawBegins }
 {}

@@ -96,7 +96,6 @@ fn add_first(alloc: Global, records: &[u8]) -> Result<Made, ReadFault>
 }
 
 /// Adds the later batch behind a gate, and tells the offset of its last record, if there is any.
-#[tactic(auto, using(crate::proofs::Telling::placed_added))]
 fn add_later(
     alloc: Global,
     gate: u64,
@@ -141,6 +140,7 @@ fn next_batch<V: Vol>(
     ensures quiet { V.told → Quiet (V.disk vol.old) (V.disk vol.new) }
     ensures only { V.told → IfErr result IsOutside }
     ensures cause { HasCause (V.faults vol.old) (V.faults vol.new) (IsErrOf result ReadFault.Fault) }
+    ensures refusals { V.refusals vol.old ≤ V.refusals vol.new }
     ensures later { (V.disk vol.old).moment ≤ (V.disk vol.new).moment }
 {
     match log.batch(alloc, vol, gate) {
@@ -153,12 +153,9 @@ fn next_batch<V: Vol>(
             }
         }
         Err(LogFault::Fault) => Err(ReadFault::Fault),
-        Err(
-            LogFault::Full
-            | LogFault::NoMemory
-            | LogFault::Damaged(_)
-            | LogFault::UnknownVersion(_),
-        ) => Err(ReadFault::NoMemory),
+        Err(LogFault::NoMemory | LogFault::Damaged(_) | LogFault::UnknownVersion(_)) => {
+            Err(ReadFault::NoMemory)
+        }
     }
 }
 
@@ -180,6 +177,7 @@ fn read_later<V: Vol>(
     ensures fault { V.told → IfErr result (IsReadFault log.now (V.disk vol.old)) }
     ensures quiet { V.told → Quiet (V.disk vol.old) (V.disk vol.new) }
     ensures cause { HasCause (V.faults vol.old) (V.faults vol.new) (IsErrOf result ReadFault.Fault) }
+    ensures refusals { V.refusals vol.old ≤ V.refusals vol.new }
     ensures later { (V.disk vol.old).moment ≤ (V.disk vol.new).moment }
 {
     let mut made = begun;
@@ -206,6 +204,7 @@ pub fn read_log<V: Vol>(alloc: Global, vol: &mut V, log: &GateLog) -> Result<Log
     ensures fault { V.told → IfErr result (IsReadFault log.now (V.disk vol.old)) }
     ensures quiet { V.told → Quiet (V.disk vol.old) (V.disk vol.new) }
     ensures cause { HasCause (V.faults vol.old) (V.faults vol.new) (IsErrOf result ReadFault.Fault) }
+    ensures refusals { V.refusals vol.old ≤ V.refusals vol.new }
     ensures later { (V.disk vol.old).moment ≤ (V.disk vol.new).moment }
 {
     let Some((first, gate)) = next_batch(alloc, vol, log, FIRST_GATE)? else {

@@ -6,6 +6,7 @@ ghost use Rattle.op_records.specs.declared.record.Record.TheVariants.{Put as Put
 ghost use Rattle.durable_checks.specs.Storable.{IsStorable};
 ghost use Rattle.effects.specs.declared.effect.Effect.TheVariants.{PutHere};
 ghost use Rattle.log_records.specs.Unread.{unread_subject};
+ghost use Rattle.log_records.specs.Batches.{closed_in};
 ghost use Rattle.log_records.specs.Logged.{beginning, blocks_by};
 ghost use Rattle.log_records.specs.Holding.{IsSoundMade, given_in, made_in};
 ghost use Rattle.log_records.specs.Reading.{IsTaken, IsTakeFault};
@@ -137,6 +138,21 @@ impl Made {
             table,
             subject: self.subject,
         })
+    }
+
+    /// At the end of a batch: a block of some size that holds no message is written no more.
+    pub(crate) fn closed(self) -> Made
+        requires sound { IsSoundMade self }
+        ensures value { made_in result ≡ closed_in (made_in self) }
+        ensures sound { IsSoundMade result }
+    {
+        let mut table = self.table;
+        table.close();
+        Made {
+            held: self.held,
+            table,
+            subject: self.subject,
+        }
     }
 
     /// Whether it is storable. What a replay made is.

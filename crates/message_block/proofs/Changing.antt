@@ -1,5 +1,5 @@
 -- How calls on a block file leave what stands in it.
-use Rattle.std.proofs.Common.{◌≡◌, ℕ, ◌+◌, ◌≤◌, [], ◌++◌, length, take, drop, refl, ◌∙◌, ap, arith, length-take-le, take_at, append_assoc}
+use Rattle.std.proofs.Common.{◌≡◌, ℕ, ◌+◌, ◌≤◌, [], ◌++◌, length, take, drop, refl, ◌∙◌, ap, arith, length-append, length-drop, length-take-le, take_at, append_assoc}
 use Rattle.vol_disk.specs.Disk.{Disk}
 use Rattle.vol_disk.specs.Steps.{written, Torn, CutTo, Kept}
 use Rattle.vol_disk.specs.Does.{Does}
@@ -9,6 +9,11 @@ use Rattle.js_base.specs.Bytes.{Bytes}
 use Rattle.message_block.specs.Standing.{Stands}
 use Rattle.message_block.specs.Changing.{ChangesOnly, ChangesFrom}
 use Rattle.message_block.proofs.Standing.{starts_as}
+
+-- bytes that end where others end leave these as long
+pub written_long : (at : ℕ) (bytes old : Bytes) → at + length bytes ≤ length old → length (written at bytes old) ≡ length old
+written_long at bytes old within =
+    omega (arith, within, length-append (take at old ++ bytes) (drop (at + length bytes) old), length-append (take at old) bytes, length-take-le at old (omega (arith, within)), length-drop (at + length bytes) old)
 
 module _ (file at : ℕ) where
   -- before the first call

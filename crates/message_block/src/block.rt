@@ -13,18 +13,20 @@ use js_base::{Blob, NoMemory, Spot};
 use std::alloc::Global;
 use vol_disk::{Failed, Vol};
 
-/// Writes the bytes of one or more messages at an offset of the block, which may be its end, syncs it, and tells their spot. The bytes end
-/// below 2^32.
+/// Writes the bytes of one or more messages at an offset of the block, in which there is room for them, syncs it, and tells their spot. The bytes end below
+/// 2^32.
 ///
 /// At `Ok` a crash leaves what the block read as in front of the offset, and the bytes behind that. `Failed` comes only if the volume's count of
 /// faults rose, and the block may then hold anything from the offset on. What stood in front of it stands at each moment of the call.
 pub fn write<V: Vol>(vol: &mut V, file: u32, at: u32, bytes: &[u8]) -> Result<Spot, Failed>
-    requires within { V.told → at ≤ length ((V.disk vol.old).seen file) }
+    requires within { V.told → at + length bytes.now ≤ length ((V.disk vol.old).seen file) }
     requires short { at + length bytes.now < 2 ^ 32 }
     ensures spot { IfOk result (λ spot. spot ≡ record { file = file; at = at; len = length bytes.now }) }
     ensures stands { V.told → OnOk result (Stands (V.disk vol.new) file (take at ((V.disk vol.old).seen file) ++ bytes.now)) }
+    ensures as_long { V.told → OnOk result (length ((V.disk vol.new).seen file) ≡ length ((V.disk vol.old).seen file)) }
     ensures changes { V.told → ChangesFrom file at (V.disk vol.old) (V.disk vol.new) }
     ensures cause { HasCause (V.faults vol.old) (V.faults vol.new) (IsErr result) }
+    ensures refusals { V.refusals vol.old ≤ V.refusals vol.new }
     ensures later { (V.disk vol.old).moment ≤ (V.disk vol.new).moment }
 {
     vol.write_at(file, at as u64, bytes)?;
@@ -44,6 +46,7 @@ pub fn read<V: Vol>(alloc: Global, vol: &mut V, spot: Spot) -> Result<Blob, Bloc
     ensures len { IfOk result (λ bytes. length bytes ≡ spot.len) }
     ensures quiet { V.told → Quiet (V.disk vol.old) (V.disk vol.new) }
     ensures cause { HasCause (V.faults vol.old) (V.faults vol.new) (IsErrOf result BlockFault.Fault) }
+    ensures refusals { V.refusals vol.old ≤ V.refusals vol.new }
     ensures later { (V.disk vol.old).moment ≤ (V.disk vol.new).moment }
 {
     let mut bytes = Vec::new(alloc);
@@ -64,6 +67,7 @@ pub fn drop_block<V: Vol>(vol: &mut V, file: u32) -> Result<(), Failed>
     ensures durable { V.told → OnOk result (IsDurable (V.disk vol.new) file) }
     ensures changes { V.told → ChangesOnly file (V.disk vol.old) (V.disk vol.new) }
     ensures cause { HasCause (V.faults vol.old) (V.faults vol.new) (IsErr result) }
+    ensures refusals { V.refusals vol.old ≤ V.refusals vol.new }
     ensures later { (V.disk vol.old).moment ≤ (V.disk vol.new).moment }
 {
     vol.cut(file, 0)?;

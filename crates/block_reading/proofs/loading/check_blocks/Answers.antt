@@ -16,6 +16,7 @@ loop-block-init g c = record {
   whole = λ told. All-nil (IsWhole (g.V.Vol.disk c.args.vol.now).seen c.args.last);
   quiet = λ told. quiet (g.V.Vol.disk c.args.vol.now) (g.met.V.Vol.clocked c.args.vol.now);
   faults = omega arith;
+  refusals = omega arith;
   moments = omega arith;
 }
 
@@ -49,6 +50,7 @@ loop-block-preserved g c =
           (subst (λ (image : Files). IsWhole image c.args.last k) (same_seen was mid (c.loop-block.invariant.quiet told)) (c.in_ok-check_block.ensures.whole told));
       quiet = λ told. quiet_then was mid (g.V.Vol.disk c.check_block.new.vol) (c.loop-block.invariant.quiet told) (c.check_block.ensures.quiet told);
       faults = omega (arith, c.loop-block.invariant.faults, c.check_block.ensures.cause.later);
+      refusals = omega (arith, c.loop-block.invariant.refusals, c.check_block.ensures.refusals);
       moments = omega (arith, c.loop-block.invariant.moments, c.check_block.ensures.later);
     }
 

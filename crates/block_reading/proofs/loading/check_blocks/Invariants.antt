@@ -9,5 +9,6 @@ invariant-loop-block g l = record {
   whole : g.V.Vol.told → All (IsWhole (g.V.Vol.disk l.fn.vol).seen l.last) (take l.block-index l.table.older);
   quiet : g.V.Vol.told → Quiet (g.V.Vol.disk l.fn.vol) (g.V.Vol.disk l.vol);
   faults : g.V.Vol.faults l.fn.vol ≤ g.V.Vol.faults l.vol;
+  refusals : g.V.Vol.refusals l.fn.vol ≤ g.V.Vol.refusals l.vol;
   moments : (g.V.Vol.disk l.fn.vol).moment ≤ (g.V.Vol.disk l.vol).moment;
 }

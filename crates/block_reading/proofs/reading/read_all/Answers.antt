@@ -18,6 +18,7 @@ loop-one-init g c = record {
   allowed = rw c.new-messages.ensures refl;
   quiet = λ told. quiet (g.V.Vol.disk c.args.vol.now) (g.met.V.Vol.clocked c.args.vol.now);
   faults = omega arith;
+  refusals = omega arith;
   moments = omega arith;
 }
 
@@ -70,6 +71,7 @@ loop-one-preserved g c =
       allowed = rw pushed (one_allowed c.loop-one.messages m c.loop-one.invariant.allowed c.in_ok-message.ensures.allowed);
       quiet = λ told. quiet_then was mid (g.V.Vol.disk c.read_one.new.vol) (c.loop-one.invariant.quiet told) (c.read_one.ensures.quiet told);
       faults = omega (arith, c.loop-one.invariant.faults, c.read_one.ensures.cause.later);
+      refusals = omega (arith, c.loop-one.invariant.refusals, c.read_one.ensures.refusals);
       moments = omega (arith, c.loop-one.invariant.moments, c.read_one.ensures.later);
     }
 

@@ -14,5 +14,6 @@ invariant-loop-one g l = record {
   allowed : IsTrue (list_all is_block_message l.messages);
   quiet : g.V.Vol.told → Quiet (g.V.Vol.disk l.fn.vol) (g.V.Vol.disk l.vol);
   faults : g.V.Vol.faults l.fn.vol ≤ g.V.Vol.faults l.vol;
+  refusals : g.V.Vol.refusals l.fn.vol ≤ g.V.Vol.refusals l.vol;
   moments : (g.V.Vol.disk l.fn.vol).moment ≤ (g.V.Vol.disk l.vol).moment;
 }

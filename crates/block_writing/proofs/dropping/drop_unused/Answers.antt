@@ -19,6 +19,7 @@ loop-block-preserved g c =
             emptied_more c.args.table.now c.args.blocks.now c.loop-block.block-index (record { file = 0; end = 0 }) c.loop-block-test.true (g.V.Vol.disk c.loop-block.vol) (g.V.Vol.disk w.drop_block.new.vol)
             (c.loop-block.invariant.emptied told) (w.drop_block.ensures.changes told) (w.in_ok-drop_block.ensures.empty told) (w.in_ok-drop_block.ensures.durable told);
         faults = omega (arith, c.loop-block.invariant.faults, w.drop_block.ensures.cause.later);
+        refusals = omega (arith, c.loop-block.invariant.refusals, w.drop_block.ensures.refusals);
         moments = omega (arith, c.loop-block.invariant.moments, w.drop_block.ensures.later);
       })
       | else-not-has_block w ↦ rw w.vol-is (record {
@@ -27,6 +28,7 @@ loop-block-preserved g c =
             emptied_on c.args.table.now c.args.blocks.now c.loop-block.block-index (record { file = 0; end = 0 }) c.loop-block-test.true (g.V.Vol.disk c.loop-block.vol)
             (c.loop-block.invariant.emptied told) (sym c.has_block.ensures ∙ w.if-not-has_block.false);
         faults = c.loop-block.invariant.faults;
+        refusals = c.loop-block.invariant.refusals;
         moments = c.loop-block.invariant.moments;
       })
     ]

@@ -8,5 +8,6 @@ invariant-loop-block g l = record {
   changes : g.V.Vol.told → ChangesUnused l.table l.blocks (g.V.Vol.disk l.fn.vol) (g.V.Vol.disk l.vol);
   emptied : g.V.Vol.told → AreEmptied l.table (take l.block-index l.blocks) (g.V.Vol.disk l.vol);
   faults : g.V.Vol.faults l.fn.vol ≤ g.V.Vol.faults l.vol;
+  refusals : g.V.Vol.refusals l.fn.vol ≤ g.V.Vol.refusals l.vol;
   moments : (g.V.Vol.disk l.fn.vol).moment ≤ (g.V.Vol.disk l.vol).moment;
 }

@@ -18,6 +18,7 @@ loop-next-preserved g c = record {
   walked = λ told.
       walks_on ((g.V.Vol.disk c.args.vol.now).seen c.args.file) ((g.V.Vol.disk c.loop-next.vol).seen c.args.file) c.loop-next.ends.first c.loop-next.ends.last c.in-Some.next c.before-ends.result.first c.before-ends.result.last c.in_ok-next.field-0 ((c.loop-next.invariant.quiet told).seen c.args.file) c.in-Some.is (c.loop-next.invariant.walked told) (c.in_ok-next.ensures.next told) (ap (λ (e : Ends). e.last) c.before-ends.ensures.value) (ap (λ (e : Ends). e.first) c.before-ends.ensures.value);
   faults = omega (arith, c.loop-next.invariant.faults, c.next_gate.ensures.cause.later);
+  refusals = omega (arith, c.loop-next.invariant.refusals, c.next_gate.ensures.refusals);
   moments = omega (arith, c.loop-next.invariant.moments, c.next_gate.ensures.later);
   inside = subst (λ n. n < c.args.len) (sym (ap (λ (e : Ends). e.last) c.before-ends.ensures.value)) (next_inside c.in_ok-next.field-0 c.loop-next.ends.last c.in-Some.next c.args.len c.in-Some.is c.in_ok-next.ensures.within);
 }

@@ -10,6 +10,7 @@ loop-done-init g c = record {
   sum = λ told. c.new-sum.ensures.value ∙ sym (added_none started);
   quiet = λ told. quiet (g.V.Vol.disk c.args.vol.now) (g.met.V.Vol.clocked c.args.vol.now);
   faults = omega arith;
+  refusals = omega arith;
   moments = omega arith;
   inside = omega arith;
 }
@@ -25,6 +26,7 @@ loop-done-preserved g c = record {
       ((c.loop-done.invariant.quiet told).seen c.args.file) (c.loop-done.invariant.sum told) (c.in_ok-done.ensures.value told);
   quiet = λ told. quiet_then (g.V.Vol.disk c.args.vol.now) (g.V.Vol.disk c.loop-done.vol) (g.V.Vol.disk c.add_piece.new.vol) (c.loop-done.invariant.quiet told) (c.add_piece.ensures.quiet told);
   faults = omega (arith, c.loop-done.invariant.faults, c.add_piece.ensures.cause.later);
+  refusals = omega (arith, c.loop-done.invariant.refusals, c.add_piece.ensures.refusals);
   moments = omega (arith, c.loop-done.invariant.moments, c.add_piece.ensures.later);
   inside = omega (arith, c.loop-done.invariant.inside, c.in_ok-done.ensures.size);
 }

@@ -13,7 +13,7 @@ returns-in_err-made-clause-fault c =
 
 pub returns-then-storable-clause-added : goal.returns-then-storable-clause-added
 returns-then-storable-clause-added c =
-    added (made_in c.args.old) c.args.records.now (made_in c.in_ok-made.made) c.in_ok-made.last c.in_ok-made.ensures.read (c.in_ok-storable.ensures.value.0 c.if-storable.true)
+    added (made_in c.args.old) c.args.records.now (made_in c.in_ok-made.made) (made_in c.closed.result) c.in_ok-made.last c.in_ok-made.ensures.read c.closed.ensures.value (c.in_ok-storable.ensures.value.0 c.if-storable.true)
 
 pub returns-in-Some-clause-fault : goal.returns-in-Some-clause-fault
 returns-in-Some-clause-fault c =
@@ -24,4 +24,4 @@ returns-in-Some-clause-fault c =
 pub returns-in-None-clause-added : goal.returns-in-None-clause-added
 returns-in-None-clause-added c =
     let read = subst (λ (last : Option ℕ). AreRead (made_in c.args.old) c.args.records.now (made_in c.in_ok-made.made) last) c.in-None.is c.in_ok-made.ensures.read in
-    added (made_in c.args.old) c.args.records.now (made_in c.in_ok-made.made) _ read (stays_storable (made_in c.args.old) c.args.records.now (made_in c.in_ok-made.made) read c.requires.storable)
+    added (made_in c.args.old) c.args.records.now (made_in c.in_ok-made.made) (made_in c.closed-in-None.result) _ read c.closed-in-None.ensures.value (stays_storable (made_in c.args.old) c.args.records.now (made_in c.in_ok-made.made) read c.requires.storable)

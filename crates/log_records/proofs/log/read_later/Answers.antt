@@ -19,6 +19,7 @@ loop-made-init g c =
       sound = c.requires.sound;
       storable = c.requires.storable;
       faults = omega arith;
+      refusals = omega arith;
       moments = omega arith;
     }
 
@@ -77,6 +78,7 @@ loop-made-preserved-in_ok-added g c =
       sound = c.in_ok-added.ensures.sound;
       storable = added.adds.storable;
       faults = omega (arith, before.faults, c.next_batch.ensures.cause.later);
+      refusals = omega (arith, before.refusals, c.next_batch.ensures.refusals);
       moments = omega (arith, before.moments, c.next_batch.ensures.later);
     }
 
@@ -96,6 +98,7 @@ loop-made-preserved g c =
       sound = c.in_ok-added.ensures.sound;
       storable = added.adds.storable;
       faults = omega (arith, before.faults, c.next_batch.ensures.cause.later);
+      refusals = omega (arith, before.refusals, c.next_batch.ensures.refusals);
       moments = omega (arith, before.moments, c.next_batch.ensures.later);
     }
 

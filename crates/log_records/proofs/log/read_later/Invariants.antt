@@ -13,6 +13,7 @@ invariant-loop-made g l = record {
   sound : IsSoundMade l.made;
   storable : IsStorable (made_in l.made).durable;
   faults : g.V.Vol.faults l.fn.vol ≤ g.V.Vol.faults l.vol;
+  refusals : g.V.Vol.refusals l.fn.vol ≤ g.V.Vol.refusals l.vol;
   moments : (g.V.Vol.disk l.fn.vol).moment ≤ (g.V.Vol.disk l.vol).moment;
 }
 
