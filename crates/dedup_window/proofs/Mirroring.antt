@@ -1,11 +1,12 @@
 -- The map follows the list of the ids.
-use Rattle.std.proofs.Common.{◌≡◌, ℕ, ◌^◌, ◌≤◌, ◌<◌, Bool, true, false, cond, List, [], ◌∷◌, ◌++◌, Option, Some, None, length, refl, sym, ap, subst, ◌∙◌, ◌-◌, arith}
-use Rattle.std.specs.Prelude.{nat_lt, option_map}
+use Rattle.std.proofs.Common.{◌≡◌, ℕ, ◌^◌, ◌≤◌, ◌<◌, Bool, true, false, cond, List, [], ◌∷◌, ◌++◌, Option, Some, None, length, refl, sym, ap, subst, ◌∙◌, ◌+◌, ◌-◌, arith}
+use Rattle.std.specs.Prelude.{nat_lt, option_map, sum_by}
 use Rattle.std.specs.Option.{option_or}
 use Rattle.std.specs.Cmp.Lexicographic.{nat_list_eq_equiv}
 use Rattle.std.proofs.lemmas.List.{length-append}
 use Rattle.std.proofs.lemmas.List.Elements.{All-get_or}
 use Rattle.std.proofs.lemmas.List.Folds.{find-append}
+use Rattle.std.proofs.lemmas.List.Sums.{sum_by-cons, sum_by_push}
 use Rattle.std.proofs.lemmas.List.Sorted.{IsNonDecreasingBy-push, IsNonDecreasingBy-drop}
 use Rattle.js_base.specs.Bytes.{Bytes, same}
 use Rattle.js_base.specs.Moments.{plus}
@@ -15,7 +16,7 @@ use Rattle.dedup_window.specs.declared.known.Added.{Added}
 use Rattle.dedup_window.specs.declared.known.KnownIds.{KnownIds}
 use Rattle.dedup_window.specs.Window.{Window, id_of, seq_of, remembered, IsLatest}
 use Rattle.dedup_window.specs.Known.{added_in, Sets}
-use Rattle.dedup_window.specs.Mirrors.{AreApart, added_of, Mirrors}
+use Rattle.dedup_window.specs.Mirrors.{AreApart, added_of, IsWindow, Mirrors}
 use Rattle.dedup_window.proofs.Ids.{seen_of, seen_is}
 
 -- ---- an id is looked up
@@ -91,4 +92,24 @@ mirrors_more ids i known known' m absent latest room sets = record {
   ascending = IsNonDecreasingBy-push (λ j. j.at) ids i m.ascending
       (λ d some. All-get_or (λ j. j.at ≤ i.at) ids (length ids - 1) d (omega arith) latest);
   found = λ text. sets.at text ∙ more_found ids i known text (same i.id text) m absent refl;
+}
+
+-- ---- with the bytes of all texts
+
+-- those of the oldest are among them
+pub bytes_of_oldest : (i : Id) (ids later : List Id) (known : KnownIds) (bytes : ℕ) → ids ≡ i ∷ later → IsWindow ids known bytes → bytes ≡ length i.id + sum_by (λ j. length j.id) later
+bytes_of_oldest i ids later known bytes is w = w.bytes_are ∙ ap (λ (js : List Id). sum_by (λ (j : Id). length j.id) js) is ∙ sum_by-cons (λ (j : Id). length j.id) i later
+
+pub window_rest : (i : Id) (ids later : List Id) (known known' : KnownIds) (bytes left : ℕ) → ids ≡ i ∷ later → IsWindow ids known bytes → Sets known known' i.id None → left + length i.id ≡ bytes
+    → IsWindow later known' left
+window_rest i ids later known known' bytes left is w sets minus =
+    let whole : bytes ≡ length i.id + sum_by (λ (j : Id). length j.id) later = bytes_of_oldest i ids later known bytes is w in
+    record { mirrors = mirrors_rest i ids later known known' is w.mirrors sets; bytes_are = omega (arith, whole, minus); bytes_most = omega (arith, minus, w.bytes_most) }
+
+pub window_more : (ids : List Id) (i : Id) (known known' : KnownIds) (bytes more : ℕ) → IsWindow ids known bytes → id_of ids i.id ≡ None → IsLatest i.at ids → length ids < 2 ^ 20
+    → Sets known known' i.id (Some (added_of i)) → more ≡ bytes + length i.id → more ≤ 2 ^ 40 → IsWindow (ids ++ i ∷ []) known' more
+window_more ids i known known' bytes more w absent latest room sets plus most = record {
+  mirrors = mirrors_more ids i known known' w.mirrors absent latest room sets;
+  bytes_are = omega (arith, plus, w.bytes_are, sum_by_push (λ (j : Id). length j.id) ids i);
+  bytes_most = most;
 }

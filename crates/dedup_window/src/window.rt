@@ -1,6 +1,6 @@
 //! A duplicate window.
 
-ghost use Rattle.std.specs.Prelude.{◌≡◌, ◌<◌, ◌≤◌, ◌↔◌, ◌^◌, [], ◌∷◌, ◌++◌, length, drop, option_map, option_to_list, nat_lt, slice_get, All, IfSome, None, OnOk, OnErr};
+ghost use Rattle.std.specs.Prelude.{◌≡◌, ◌<◌, ◌≤◌, ◌↔◌, ◌+◌, ◌^◌, [], ◌∷◌, ◌++◌, length, drop, option_map, option_to_list, nat_lt, slice_get, sum_by, All, IfOk, IfSome, None, OnOk, OnErr};
 ghost use Rattle.std.specs.Bool.{OnTrue, OnFalse};
 ghost use Rattle.std.specs.List.{last_or};
 ghost use Rattle.std.specs.Option.{option_copied};
@@ -18,6 +18,9 @@ use std::marker::Model;
 /// How many ids a window may have.
 const MAX_IDS: usize = 1 << 20;
 
+/// How many bytes the texts of its ids may have together.
+const MAX_BYTES: u64 = 1 << 40;
+
 /// The message ids of a stream, each with the sequence and the moment at which it was added, and for how many nanoseconds an id counts from then
 /// on. The cost of a call grows with the logarithm of the number of ids.
 #[derive(Drop)]
@@ -27,17 +30,19 @@ pub struct DedupWindow {
     pub(crate) ids: VecDeque<Id>,
     /// The same, by their texts.
     known: KnownIds,
+    /// How many bytes their texts have together.
+    bytes: u64,
 }
 
 impl Model for DedupWindow {
     ghost use Rattle.dedup_window.specs.Window.{Window};
-    ghost use Rattle.dedup_window.specs.Mirrors.{Mirrors};
+    ghost use Rattle.dedup_window.specs.Mirrors.{IsWindow};
 
     ghost Value = { Window };
 
     ghost view = { λ w. record { window = w.window; ids = w.ids.items } };
 
-    ghost invariant = { λ w. Mirrors w.ids.items w.known };
+    ghost invariant = { λ w. IsWindow w.ids.items w.known w.bytes };
 }
 
 impl DedupWindow {
@@ -49,6 +54,7 @@ impl DedupWindow {
             window,
             ids: VecDeque::new(alloc),
             known: KnownIds::new(alloc),
+            bytes: 0,
         }
     }
 
@@ -72,6 +78,14 @@ impl DedupWindow {
         ensures bound { result ≤ 2 ^ 20 }
     {
         self.ids.len() as u64
+    }
+
+    /// How many bytes the texts of its ids have together, whether or not they still count.
+    pub fn bytes(&self) -> u64
+        ensures value { result ≡ sum_by (λ i. length i.id) self.now.ids }
+        ensures bound { result ≤ 2 ^ 40 }
+    {
+        self.bytes
     }
 
     /// The sequence of the id that has this text, whether or not it still counts.
@@ -112,7 +126,7 @@ impl DedupWindow {
     }
 
     /// Adds an id whose text no other has, at a moment no earlier than any of theirs. It is `Full` exactly with 2^20 ids, and else `NoMemory` if an
-    /// allocation is refused; either changes nothing.
+    /// allocation is refused, or if the texts would have more than 2^40 bytes together; either changes nothing.
     pub fn add(&mut self, id: &Blob, seq: u64, at: Moment) -> Result<(), WindowFault>
         requires absent { id_of self.old.ids id.now ≡ None }
         requires latest { IsLatest at self.old.ids }
@@ -134,9 +148,11 @@ impl DedupWindow {
         ensures ok { OnOk result (self.new ≡ record self.old { ids = self.old.ids ++ record { id = id.now; seq = seq; at = at } ∷ [] }) }
         ensures err { OnErr result (self.new ≡ self.old) }
     {
+        let bytes = more_bytes(self.bytes, id.len())?;
         let shared = id.clone()?;
         self.ids.reserve(1)?;
         self.known.put(id.as_slice(), Added { seq, at })?;
+        self.bytes = bytes;
         self.ids.push_back_reserved(Id {
             id: shared,
             seq,
@@ -175,7 +191,19 @@ impl DedupWindow {
             return None;
         };
         self.known.remove(oldest.id.as_slice());
+        self.bytes -= oldest.id.len() as u64;
         Some(oldest)
+    }
+}
+
+/// So many bytes and those of one text more, if a window may have them.
+fn more_bytes(bytes: u64, more: usize) -> Result<u64, NoMemory>
+    ensures sum { IfOk result (λ sum. sum ≡ bytes + more) }
+    ensures bound { IfOk result (λ sum. sum ≤ 2 ^ 40) }
+{
+    match bytes.checked_add(more as u64) {
+        Some(sum) if sum <= MAX_BYTES => Ok(sum),
+        _ => Err(NoMemory),
     }
 }
 

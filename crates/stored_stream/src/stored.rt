@@ -1,6 +1,6 @@
 //! A stream's messages, ids and numbers, whether or not its limits hold.
 
-ghost use Rattle.std.specs.Prelude.{◌≡◌, ◌+◌, ◌^◌, ◌<◌, ◌≤◌, [], ◌∷◌, ◌++◌, None, false, find, is_some, length, nat_le, IfOk, IfSome, IsTrue, IsUtf8, OnOk, OnErr};
+ghost use Rattle.std.specs.Prelude.{◌≡◌, ◌+◌, ◌^◌, ◌<◌, ◌≤◌, [], ◌∷◌, ◌++◌, None, false, find, is_some, length, nat_le, sum_by, IfOk, IfSome, IsTrue, IsUtf8, OnOk, OnErr};
 ghost use Rattle.std.specs.Bool.{OnTrue};
 ghost use Rattle.std.specs.List.{last_or};
 ghost use Rattle.std.specs.Option.{option_copied};
@@ -101,6 +101,14 @@ impl StoredStream {
         ensures bound { result ≤ 2 ^ 20 }
     {
         self.ids.len()
+    }
+
+    /// How many bytes these ids have together.
+    pub fn id_bytes(&self) -> u64
+        ensures value { result ≡ sum_by (λ i. length i.id) self.now.ids }
+        ensures bound { result ≤ 2 ^ 40 }
+    {
+        self.ids.bytes()
     }
 
     /// The first message.

@@ -82,6 +82,17 @@ impl StreamState {
         Ok(None)
     }
 
+    /// Whether a consumer of a name that none has may be made. It is refused exactly if a rule forbids it, by the first one that does. It goes through the
+    /// messages.
+    pub fn may_make(&self, name: &Blob, config: &ConsumerConfig) -> Result<(), MakeFault>
+        requires valid { IsTrue (is_consumer_config config.now) }
+        ensures allowed { OnOk result (first_refusal (making_checks self.now name.now config.now) ≡ None) }
+        ensures refused { IfErr result (IsRefusal (making_checks self.now name.now config.now)) }
+    {
+        let _ = self.new_consumer(name, config)?;
+        Ok(())
+    }
+
     /// Makes a consumer of a name that none has, and lets the messages go that the retention then does not keep. Gives its information after that. It is
     /// refused exactly if a rule forbids it, by the first one that does. An `Err` changes nothing. It goes through the messages.
     pub fn make_consumer(

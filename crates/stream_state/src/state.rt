@@ -1,6 +1,6 @@
 //! A stream whose limits hold.
 
-ghost use Rattle.std.specs.Prelude.{◌≡◌, ◌+◌, ◌^◌, ◌<◌, ◌≤◌, None, Some, is_some, length, max, false, true, All, IfOk, IfSome, IsTrue, IsUtf8, OnOk, OnErr};
+ghost use Rattle.std.specs.Prelude.{◌≡◌, ◌+◌, ◌^◌, ◌<◌, ◌≤◌, None, Some, is_some, length, max, sum_by, false, true, All, IfOk, IfSome, IsTrue, IsUtf8, OnOk, OnErr};
 ghost use Rattle.std.specs.List.{last_or};
 ghost use Rattle.std.specs.Option.{option_copied, option_to_list};
 ghost use Rattle.js_model.specs.declared.reply.Verdict.TheVariants.{Take};
@@ -110,6 +110,14 @@ impl StreamState {
         ensures value { result ≡ length self.now.ids }
     {
         self.stream.stored().id_count()
+    }
+
+    /// How many bytes these ids have together.
+    pub fn id_bytes(&self) -> u64
+        ensures value { result ≡ sum_by (λ i. length i.id) self.now.ids }
+        ensures bound { result ≤ 2 ^ 40 }
+    {
+        self.stream.stored().id_bytes()
     }
 
     /// The moment at which it was made.

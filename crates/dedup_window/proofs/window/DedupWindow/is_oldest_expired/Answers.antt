@@ -12,4 +12,4 @@ returns-in-Some-clause-all c =
     let oldest = c.in-Some.oldest.now in
     OnFalse_from (not c.counts.result) (remembered c.args.self.now c.args.now ≡ c.args.self.now.ids)
     (λ no. rw (← c.self.view_is)
-    (all_remembered w c.args.now oldest c.in-Some.ensures.lookup (sym c.counts.ensures.value ∙ not-false _ no) c.self.invariant.ascending))
+    (all_remembered w c.args.now oldest c.in-Some.ensures.lookup (sym c.counts.ensures.value ∙ not-false _ no) c.self.invariant.mirrors.ascending))

@@ -6,4 +6,4 @@ pub returns-clause-first : goal.returns-clause-first
 returns-clause-first c =
     let i = c.self.inside in
     let w : Window = record { window = i.window; ids = i.ids.items } in
-    rw (c.plus.ensures, ← c.self.view_is) (oldest_first w c.in_ok-oldest.oldest.now c.in_ok-oldest.ensures.lookup c.self.invariant.ascending)
+    rw (c.plus.ensures, ← c.self.view_is) (oldest_first w c.in_ok-oldest.oldest.now c.in_ok-oldest.ensures.lookup c.self.invariant.mirrors.ascending)

@@ -8,7 +8,7 @@ returns-in_err-added c =
     let i = c.self.inside in
     let w : Window = record { window = i.window; ids = i.ids.items } in
     let found = sym c.in_err-added.was ∙ c.get.ensures.value in
-    record { value = rw (← c.self.view_is) (c.from_residual.ensures ∙ seen_none w i.known c.args.now c.args.id.now c.self.invariant found) }
+    record { value = rw (← c.self.view_is) (c.from_residual.ensures ∙ seen_none w i.known c.args.now c.args.id.now c.self.invariant.mirrors found) }
 
 pub returns-then-counts : goal.returns-then-counts
 returns-then-counts c =
@@ -17,7 +17,7 @@ returns-then-counts c =
     let added = c.in_ok-added.added in
     let found = sym c.in_ok-added.was ∙ c.get.ensures.value in
     let counts = c.if-counts.ensures.value in
-    record { value = rw (← c.self.view_is) (seen_some w i.known c.args.now c.args.id.now c.self.invariant added true found counts) }
+    record { value = rw (← c.self.view_is) (seen_some w i.known c.args.now c.args.id.now c.self.invariant.mirrors added true found counts) }
 
 pub returns-else-counts : goal.returns-else-counts
 returns-else-counts c =
@@ -26,4 +26,4 @@ returns-else-counts c =
     let added = c.in_ok-added.added in
     let found = sym c.in_ok-added.was ∙ c.get.ensures.value in
     let counts = c.if-counts.ensures.value in
-    record { value = rw (← c.self.view_is) (seen_some w i.known c.args.now c.args.id.now c.self.invariant added false found counts) }
+    record { value = rw (← c.self.view_is) (seen_some w i.known c.args.now c.args.id.now c.self.invariant.mirrors added false found counts) }

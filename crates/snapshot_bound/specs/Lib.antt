@@ -1,0 +1,4 @@
+pub mod Bounds
+pub mod Growth
+pub mod Asking
+pub mod Laws
